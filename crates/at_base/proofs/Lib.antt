@@ -1,0 +1,4 @@
+pub mod Ranges
+pub mod Fields
+pub mod Items
+pub mod Laws

@@ -1,0 +1,9 @@
+pub mod Range
+pub mod Text
+pub mod Checksum
+pub mod ErrorNumber
+pub mod Grammar
+pub mod Spelling
+pub mod FirstFault
+pub mod Reading
+pub mod Lawful

@@ -1,0 +1,6 @@
+//! Routing tables: what a router knows of the ranges of an internet.
+#![tactic(auto)]
+
+mod state;
+
+pub use state::State;
