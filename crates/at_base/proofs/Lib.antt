@@ -1,4 +1,5 @@
 pub mod Ranges
+pub mod Texts
 pub mod Fields
 pub mod Items
 pub mod Laws

@@ -1,1 +1,4 @@
 pub mod Internet
+pub mod Places
+pub mod Seats
+pub mod Routing

@@ -1,6 +1,7 @@
 //! The image of an internet's tables.
 
 ghost use Rattle.std.specs.Prelude.{◌≡◌};
+ghost use Rattle.table_image.specs.Internet.{IsBounded};
 
 use crate::cable::Cable;
 use crate::listed::Listed;
@@ -17,31 +18,36 @@ pub struct Image {
 }
 
 impl Model for Image {
-    ghost use Rattle.table_image.specs.Internet.{Internet};
+    ghost use Rattle.table_image.specs.Internet.{Internet, IsBounded};
 
     ghost Value = { Internet };
 
     ghost view = { λ i. record { cables = i.cables; routers = i.routers; nodes = i.nodes } };
+
+    ghost invariant = { λ i. IsBounded (record { cables = i.cables; routers = i.routers; nodes = i.nodes }) };
 }
 
 impl Image {
     /// The cables, in order.
     pub fn cables(&self) -> &[Cable]
-        ensures { result.now ≡ self.now.cables }
+        ensures value { result.now ≡ self.now.cables }
+        ensures bounded { IsBounded self.now }
     {
         self.cables.as_slice()
     }
 
     /// The routers, in order.
     pub fn routers(&self) -> &[Router]
-        ensures { result.now ≡ self.now.routers }
+        ensures value { result.now ≡ self.now.routers }
+        ensures bounded { IsBounded self.now }
     {
         self.routers.as_slice()
     }
 
     /// The nodes, in order.
     pub fn nodes(&self) -> &[Node]
-        ensures { result.now ≡ self.now.nodes }
+        ensures value { result.now ≡ self.now.nodes }
+        ensures bounded { IsBounded self.now }
     {
         self.nodes.as_slice()
     }

@@ -1,0 +1,191 @@
+-- The rules of the audit, as tests on places: whether a place breaks a rule. Places count from 1, and where nothing
+-- stands at a place, it breaks no rule. docs/RULES.md says what each rule is for. (own)
+use Rattle.std.specs.Prelude.{◌≡◌, ℕ, zero, suc, ◌+◌, ◌%◌, Bool, true, false, not, ◌&&◌, ◌||◌, if◌then◌else◌, List, [], ◌∷◌, Option, Some, None, length, take, slice_get, slice_index, find, nat_le, nat_lt, ◌==◌, is_some, option_and_then}
+use Rattle.std.specs.List.{list_any}
+use Rattle.at_base.specs.Text.{same_name, same_bytes}
+use Rattle.at_base.specs.declared.address.Addr.{Addr}
+use Rattle.at_base.specs.declared.address.Hw.{Hw}
+use Rattle.at_base.specs.declared.error.Place.{Place}
+use Rattle.at_base.specs.declared.error.Place.TheVariants as place
+use Rattle.table_image.specs.Internet.{Internet}
+use Rattle.table_image.specs.Places.{on, index_of}
+use Rattle.table_image.specs.Seats.{same_address}
+use Rattle.table_image.specs.Routing.{is_between, is_usable, is_direct, owner}
+use Rattle.table_image.specs.declared.cable.Cable.{Cable}
+use Rattle.table_image.specs.declared.router.Port.{Port}
+use Rattle.table_image.specs.declared.router.Row.{Row}
+use Rattle.table_image.specs.declared.router.Router.{Router}
+use Rattle.table_image.specs.declared.node.Node.{Node}
+
+-- ---- C1: cables stand in order
+
+-- a name that stands twice, without regard to case
+abbrev pub has_double : List (List ℕ) → Bool
+has_double [] = false
+has_double (name ∷ names) = list_any (same_name name) names || has_double names
+
+-- the last network of the cable before, and 0 before the first
+abbrev pub end_before : List Cable → ℕ → ℕ
+end_before cables zero = 0
+end_before cables (suc k) = end_of (slice_get cables k)
+  where
+    end_of : Option Cable → ℕ
+    end_of None = 0
+    end_of (Some c) = c.end
+
+-- A cable whose start is 0 or above its end, whose end is above FEFF, whose start is at most the end of the cable
+-- before, that has no zone, or a zone twice.
+abbrev pub bad_cable : ℕ → Cable → Bool
+bad_cable before c =
+    c.start == 0 || nat_lt c.end c.start || nat_lt 0xFEFF c.end || nat_le c.start before || length c.zones == 0 || has_double c.zones
+
+abbrev pub c1 : Internet → Place → Bool
+c1 i (place.Cable (suc k)) = on (slice_get i.cables k) (bad_cable (end_before i.cables k))
+c1 i _ = false
+
+-- ---- C2: stations are addressed
+
+-- the two are one hardware address
+abbrev pub same_hardware : Hw → Hw → Bool
+same_hardware a b = same_bytes a.0 b.0
+
+-- the address isn't in the range of its cable, its node isn't 1 to 253, or the hardware address has an odd first byte
+abbrev pub bad_address : Internet → ℕ → Addr → Hw → Bool
+bad_address i cable a hardware =
+    not (on (slice_get i.cables cable) (λ c. is_between c.start c.end a.net)) || a.node == 0 || nat_lt 253 a.node || slice_index hardware.0 0 % 2 == 1
+
+-- one of the router's ports has the address or the hardware address
+abbrev pub router_has : Addr → Hw → Router → Bool
+router_has a hardware router = list_any (λ p. same_address a p.address || same_hardware hardware p.hardware) router.ports
+
+-- the node has the address or the hardware address
+abbrev pub node_has : Addr → Hw → Node → Bool
+node_has a hardware node = same_address a node.address || same_hardware hardware node.hardware
+
+-- the port is badly addressed, an earlier router has one of its addresses, or an earlier port is on its cable
+abbrev pub bad_port : Internet → ℕ → ℕ → Router → Port → Bool
+bad_port i r p router port =
+    bad_address i port.cable port.address port.hardware
+    || list_any (router_has port.address port.hardware) (take r i.routers)
+    || list_any (λ q. q.cable == port.cable) (take p router.ports)
+
+-- the node is badly addressed, or a router or an earlier node has one of its addresses
+abbrev pub bad_node : Internet → ℕ → Node → Bool
+bad_node i k node =
+    bad_address i node.cable node.address node.hardware
+    || list_any (router_has node.address node.hardware) i.routers
+    || list_any (node_has node.address node.hardware) (take k i.nodes)
+
+abbrev pub c2 : Internet → Place → Bool
+c2 i (place.Port (suc r) (suc p)) = on (slice_get i.routers r) (λ router. on (slice_get router.ports p) (bad_port i r p router))
+c2 i (place.Node (suc k)) = on (slice_get i.nodes k) (bad_node i k)
+c2 i _ = false
+
+-- ---- Rows
+
+-- the test at a router's row
+abbrev pub at_row : Internet → ℕ → ℕ → (Router → Row → Bool) → Bool
+at_row i r k test = on (slice_get i.routers r) (λ router. on (slice_get router.rows k) (test router))
+
+-- the row is for the networks of the cable, both ends
+abbrev pub is_for : Row → Cable → Bool
+is_for row c = row.start == c.start && row.end == c.end
+
+-- the cable that the row is for
+abbrev pub cable_of : Internet → Row → Option ℕ
+cable_of i row = index_of (is_for row) i.cables
+
+-- ---- C3: rows cover the cables
+
+-- the row isn't usable, or its range is no cable's
+abbrev pub bad_range : Internet → Router → Row → Bool
+bad_range i router row = not (is_usable row.state && is_some (cable_of i row))
+
+-- the router has no row for the cable
+abbrev pub lacks_row : Router → Cable → Bool
+lacks_row router c = not (list_any (λ row. is_for row c) router.rows)
+
+abbrev pub c3 : Internet → Place → Bool
+c3 i (place.Row (suc r) (suc k)) = at_row i r k (bad_range i)
+c3 i (place.Missing (suc r) (suc k)) = on (slice_get i.routers r) (λ router. on (slice_get i.cables k) (lacks_row router))
+c3 i _ = false
+
+-- ---- C4: direct rows are direct
+
+-- the router's port on the cable
+abbrev pub port_on : Router → ℕ → Option ℕ
+port_on router cable = index_of (λ p. p.cable == cable) router.ports
+
+-- Where the router has a port on the row's cable, the row isn't of distance 0 and direct by that port; elsewhere it has
+-- distance 0 or is direct.
+abbrev pub bad_direct : Row → Option ℕ → Bool
+bad_direct row (Some p) = not (row.distance == 0 && row.port == p && is_direct row)
+bad_direct row None = row.distance == 0 || is_direct row
+
+abbrev pub c4 : Internet → Place → Bool
+c4 i (place.Row (suc r) (suc k)) = at_row i r k (λ router row. on (cable_of i row) (λ c. bad_direct row (port_on router c)))
+c4 i _ = false
+
+-- ---- C5: distances fit
+
+abbrev pub c5 : Internet → Place → Bool
+c5 i (place.Row (suc r) (suc k)) = at_row i r k (λ router row. nat_lt 14 row.distance)
+c5 i _ = false
+
+-- ---- C6: next routers are there
+
+-- the router whose port the row's next address is, on the cable of the row's port
+abbrev pub next_router : Internet → Router → Row → Option ℕ
+next_router i router row = option_and_then (λ port. owner i port.cable row.next) (slice_get router.ports row.port)
+
+-- there is no other router than r
+abbrev pub is_no_other : ℕ → Option ℕ → Bool
+is_no_other r None = true
+is_no_other r (Some s) = r == s
+
+abbrev pub c6 : Internet → Place → Bool
+c6 i (place.Row (suc r) (suc k)) = at_row i r k (λ router row. not (is_direct row) && is_no_other r (next_router i router row))
+c6 i _ = false
+
+-- ---- C7: distances fall
+
+-- the router's row of the same range
+abbrev pub same_row : Option Router → Row → Option Row
+same_row None row = None
+same_row (Some router) row = find (λ other. other.start == row.start && other.end == row.end) router.rows
+
+-- the other row isn't there, or isn't of distance one less
+abbrev pub not_one_less : Row → Option Row → Bool
+not_one_less row None = true
+not_one_less row (Some other) = not (other.distance + 1 == row.distance)
+
+-- the next router's row of the same range isn't of distance one less
+abbrev pub bad_step : Internet → Row → Option ℕ → Bool
+bad_step i row None = true
+bad_step i row (Some s) = not_one_less row (same_row (slice_get i.routers s) row)
+
+abbrev pub c7 : Internet → Place → Bool
+c7 i (place.Row (suc r) (suc k)) = at_row i r k (λ router row. not (is_direct row) && bad_step i row (next_router i router row))
+c7 i _ = false
+
+-- ---- All rules
+
+-- whether the place breaks the rule
+abbrev pub breaks : Internet → ℕ → Place → Bool
+breaks i rule p =
+    if rule == 1 then c1 i p
+    else if rule == 2 then c2 i p
+    else if rule == 3 then c3 i p
+    else if rule == 4 then c4 i p
+    else if rule == 5 then c5 i p
+    else if rule == 6 then c6 i p
+    else if rule == 7 then c7 i p
+    else false
+
+-- no place breaks the rule
+abbrev pub Keeps : Internet → ℕ → Type 0
+Keeps i rule = (p : Place) → breaks i rule p ≡ false
+
+-- the internet passes: no place breaks a rule
+abbrev pub Passes : Internet → Type 0
+Passes i = (rule : ℕ) → Keeps i rule

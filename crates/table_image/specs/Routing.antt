@@ -1,0 +1,84 @@
+-- Where routers hand a datagram on, by their tables. (Inside AppleTalk, the chapters on DDP and RTMP)
+use Rattle.std.specs.Prelude.{ℕ, Bool, true, false, ◌&&◌, cond, List, Option, Some, None, length, slice_get, find, nat_le, nat_lt, ◌==◌, option_and_then}
+use Rattle.at_base.specs.declared.address.Addr.{Addr}
+use Rattle.rtmp.specs.declared.state.State.{State}
+use Rattle.rtmp.specs.declared.state.State.TheVariants.{Good, Suspect, Bad, Last}
+use Rattle.table_image.specs.Internet.{Internet}
+use Rattle.table_image.specs.Places.{index_of}
+use Rattle.table_image.specs.Seats.{Seat, seat_at}
+use Rattle.table_image.specs.declared.cable.Cable.{Cable}
+use Rattle.table_image.specs.declared.router.Port.{Port}
+use Rattle.table_image.specs.declared.router.Row.{Row}
+use Rattle.table_image.specs.declared.router.Router.{Router}
+
+-- the network is one of those from start to end
+abbrev pub is_between : ℕ → ℕ → ℕ → Bool
+is_between start end n = nat_le start n && nat_le n end
+
+-- the home of a network: the cable whose range holds it
+abbrev pub home : Internet → ℕ → Option ℕ
+home i n = index_of (λ c. is_between c.start c.end n) i.cables
+
+-- a row is used for forwarding while it is good or suspect
+abbrev pub is_usable : State → Bool
+is_usable Good = true
+is_usable Suspect = true
+is_usable Bad = false
+is_usable Last = false
+
+-- a direct row has no next router
+abbrev pub is_direct : Row → Bool
+is_direct row = row.next.net == 0 && row.next.node == 0
+
+-- the usable row whose range holds the network
+abbrev pub row_for : List Row → ℕ → Option Row
+row_for rows n = find (λ row. is_usable row.state && is_between row.start row.end n) rows
+
+-- the router whose seat this is
+abbrev pub router_of : Internet → Option Seat → Option ℕ
+router_of i None = None
+router_of i (Some s) = cond (nat_lt s.station (length i.routers)) (Some s.station) None
+
+-- the owner of an address on a cable: the router that has a port there with that address
+abbrev pub owner : Internet → ℕ → Addr → Option ℕ
+owner i cable a = router_of i (seat_at i cable a)
+
+-- what a router does with a datagram: it puts it on the cable where it ends, or hands it to a next router over a cable,
+-- by that router's address there, or has nowhere to send it
+pub data Hand : Type 0 where
+  Here : (cable : ℕ) → Hand
+  On : (router cable : ℕ) (address : Addr) → Hand
+  Nowhere : Hand
+
+-- handing on to the owner of an address, where there is one
+abbrev pub hand_to : Option ℕ → ℕ → Addr → Hand
+hand_to None cable a = Nowhere
+hand_to (Some r) cable a = On r cable a
+
+-- handing on by a row, over its port
+abbrev pub hand_over : Internet → Row → Option Port → Hand
+hand_over i row None = Nowhere
+hand_over i row (Some port) = cond (is_direct row) (Here port.cable) (hand_to (owner i port.cable row.next) port.cable row.next)
+
+-- handing on by the row that a router uses
+abbrev pub hand_by : Internet → Router → Option Row → Hand
+hand_by i router None = Nowhere
+hand_by i router (Some row) = hand_over i row (slice_get router.ports row.port)
+
+-- handing on at a router, where there is one
+abbrev pub hand_at : Internet → Option Router → ℕ → Hand
+hand_at i None n = Nowhere
+hand_at i (Some router) n = hand_by i router (row_for router.rows n)
+
+-- what router r does with a datagram to network n
+abbrev pub hand : Internet → ℕ → ℕ → Hand
+hand i r n = hand_at i (slice_get i.routers r) n
+
+-- the distance of a row, and 0 without one
+abbrev pub distance_in : Option Row → ℕ
+distance_in None = 0
+distance_in (Some row) = row.distance
+
+-- how many routers away network n is from router r, by its table
+abbrev pub distance : Internet → ℕ → ℕ → ℕ
+distance i r n = distance_in (option_and_then (λ router. row_for router.rows n) (slice_get i.routers r))

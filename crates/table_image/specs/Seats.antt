@@ -1,0 +1,41 @@
+-- The seats of an internet: which station is on which cable, by which addresses. (own)
+use Rattle.std.specs.Prelude.{ℕ, suc, Bool, ◌&&◌, List, [], ◌∷◌, ◌++◌, Option, length, map, find, ◌==◌}
+use Rattle.at_base.specs.declared.address.Addr.{Addr}
+use Rattle.at_base.specs.declared.address.Hw.{Hw}
+use Rattle.table_image.specs.Internet.{Internet}
+use Rattle.table_image.specs.declared.router.Port.{Port}
+use Rattle.table_image.specs.declared.router.Router.{Router}
+use Rattle.table_image.specs.declared.node.Node.{Node}
+
+-- A station on a cable. Stations are the routers, then the nodes, and are numbered from 0; so are cables.
+pub record Seat : Type 0 where
+  pub station : ℕ
+  pub cable : ℕ
+  pub address : Addr
+  pub hardware : Hw
+
+-- the two are one address
+abbrev pub same_address : Addr → Addr → Bool
+same_address a b = a.net == b.net && a.node == b.node
+
+-- the seat that router r has by a port
+abbrev pub port_seat : ℕ → Port → Seat
+port_seat r port = record { station = r; cable = port.cable; address = port.address; hardware = port.hardware }
+
+-- the seats of routers that are numbered from r on
+abbrev pub router_seats : ℕ → List Router → List Seat
+router_seats r [] = []
+router_seats r (router ∷ routers) = map (port_seat r) router.ports ++ router_seats (suc r) routers
+
+-- the seats of nodes whose stations are numbered from s on
+abbrev pub node_seats : ℕ → List Node → List Seat
+node_seats s [] = []
+node_seats s (node ∷ nodes) = record { station = s; cable = node.cable; address = node.address; hardware = node.hardware } ∷ node_seats (suc s) nodes
+
+-- the seats of an internet, in the stations' order
+abbrev pub seats : Internet → List Seat
+seats i = router_seats 0 i.routers ++ node_seats (length i.routers) i.nodes
+
+-- the first seat on the cable that has the address
+abbrev pub seat_at : Internet → ℕ → Addr → Option Seat
+seat_at i cable a = find (λ s. s.cable == cable && same_address s.address a) (seats i)
