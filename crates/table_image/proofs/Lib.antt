@@ -1,0 +1,6 @@
+pub mod Loop
+pub mod Writing
+pub mod Shape
+pub mod Extents
+pub mod Whole
+pub mod Bounds

@@ -2,3 +2,9 @@ pub mod Internet
 pub mod Places
 pub mod Seats
 pub mod Routing
+pub mod Limits
+pub mod Flaws
+pub mod Tests
+pub mod Spelling
+pub mod Reading
+pub mod Same

@@ -1,7 +1,16 @@
 //! Cables, as an image has them.
 
+ghost use Rattle.std.specs.Prelude.{◌≡◌};
+ghost use Rattle.table_image.specs.Spelling.{cable_spelling};
+
+use crate::flaw::{Flaw, Stop};
+use crate::input::u16_at;
+use crate::item::{Item, ReadItem, WriteItem};
 use crate::listed::Listed;
+use crate::output::put_u16;
+use crate::zones::{pass_zones, put_zones, zones_at};
 use at_base::Name;
+use std::alloc::{AllocError, Global};
 
 /// A cable: its first and last network, and its zones, of which the first is the default.
 #[derive(Debug, Drop)]
@@ -9,4 +18,50 @@ pub struct Cable {
     pub start: u16,
     pub end: u16,
     pub zones: Listed<Name>,
+}
+
+impl Item for Cable {
+    ghost use Rattle.table_image.specs.Same.{cable_same};
+
+    ghost spelling = { λ known low. cable_spelling };
+
+    ghost next = { λ _. 0 };
+
+    fn next_low(&self) -> u32 {
+        0
+    }
+
+    ghost same = { cable_same };
+}
+
+impl ReadItem for Cable {
+    #[tactic(auto, unfolding(crate::specs::Spelling::cable_spelling))]
+    fn read_one(
+        alloc: Global,
+        _known: usize,
+        _low: u32,
+        bytes: &[u8],
+    ) -> Result<(Cable, &[u8]), Stop> {
+        let (start, rest) = u16_at(bytes)?;
+        let (end, rest) = u16_at(rest)?;
+        let (zones, rest) = zones_at(alloc, rest)?;
+        Ok((Cable { start, end, zones }, rest))
+    }
+
+    #[tactic(auto, unfolding(crate::specs::Spelling::cable_spelling))]
+    fn pass_one(_known: usize, _low: u32, bytes: &[u8]) -> Result<(u32, &[u8]), Flaw> {
+        let (_start, rest) = u16_at(bytes)?;
+        let (_end, rest) = u16_at(rest)?;
+        let (_zones, rest) = pass_zones(rest)?;
+        Ok((0, rest))
+    }
+}
+
+impl WriteItem for Cable {
+    #[tactic(auto, unfolding(crate::specs::Spelling::cable_spelling))]
+    fn write_one(&self, out: &mut Vec<u8>) -> Result<(), AllocError> {
+        put_u16(out, self.start)?;
+        put_u16(out, self.end)?;
+        put_zones(out, &self.zones)
+    }
 }

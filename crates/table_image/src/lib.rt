@@ -2,10 +2,16 @@
 #![tactic(auto)]
 
 mod cable;
+mod flaw;
 mod image;
+mod input;
+mod item;
+mod limits;
 mod listed;
 mod node;
+mod output;
 mod router;
+mod zones;
 
 pub use cable::Cable;
 pub use image::Image;

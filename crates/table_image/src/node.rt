@@ -1,7 +1,21 @@
-//! Nodes, as an image has them.
+//! Nodes, as an image has them, and their names.
 
+ghost use Rattle.std.specs.Prelude.{◌≡◌, ◌+◌, ◌++◌, OnOk};
+ghost use Rattle.at_base.specs.Spelling.{bytes_of};
+ghost use Rattle.at_base.specs.Reading.{Gives, read};
+ghost use Rattle.table_image.specs.Flaws.{flaws, GoesPast};
+ghost use Rattle.table_image.specs.Spelling.{node_spelling, name_spelling, own_router_spelling};
+
+use crate::flaw::{Flaw, Stop};
+use crate::input::{
+    address_at, byte_within, entity_at, enumerator_at, hardware_at, index_at, name_at,
+};
+use crate::item::{Item, ReadItem, WriteItem, counted_of, pass_counted, put_counted};
+use crate::limits::MOST_NAMES;
 use crate::listed::Listed;
-use at_base::{Addr, Hw, Name, Text32};
+use crate::output::{put_address, put_byte, put_text};
+use at_base::{Addr, Cause, Hw, Name, Text32};
+use std::alloc::{AllocError, Global};
 
 /// A name that a node has registered; `kind` is the name's type.
 #[derive(Clone, Copy, Debug)]
@@ -22,4 +36,170 @@ pub struct Node {
     pub zone: Name,
     pub router: Option<Addr>,
     pub names: Listed<NodeName>,
+}
+
+impl Item for NodeName {
+    ghost use Rattle.table_image.specs.Same.{name_same};
+
+    ghost spelling = { λ known low. name_spelling low };
+
+    ghost next = { λ n. n.enumerator + 1 };
+
+    fn next_low(&self) -> u32 {
+        u32::from(self.enumerator) + 1
+    }
+
+    ghost same = { name_same };
+}
+
+#[tactic(auto, unfolding(crate::specs::Spelling::name_spelling))]
+fn node_name_at(low: u32, bytes: &[u8]) -> Result<(NodeName, &[u8]), Flaw>
+    ensures { Gives (λ x. (x.0, x.1.now)) result (read flaws (name_spelling low) bytes.now) }
+{
+    let (socket, rest) = byte_within(bytes, 1, 254, Cause::Value)?;
+    let (enumerator, rest) = enumerator_at(rest, low)?;
+    let (object, rest) = match entity_at(rest) {
+        Ok(found) => found,
+        Err(flaw) => return Err(flaw),
+    };
+    let (kind, rest) = match entity_at(rest) {
+        Ok(found) => found,
+        Err(flaw) => return Err(flaw),
+    };
+    Ok((
+        NodeName {
+            socket,
+            enumerator,
+            object,
+            kind,
+        },
+        rest,
+    ))
+}
+
+impl ReadItem for NodeName {
+    fn read_one(
+        _alloc: Global,
+        _known: usize,
+        low: u32,
+        bytes: &[u8],
+    ) -> Result<(NodeName, &[u8]), Stop> {
+        match node_name_at(low, bytes) {
+            Ok(found) => Ok(found),
+            Err(flaw) => Err(Stop::Refused(flaw)),
+        }
+    }
+
+    fn pass_one(_known: usize, low: u32, bytes: &[u8]) -> Result<(u32, &[u8]), Flaw> {
+        match node_name_at(low, bytes) {
+            Ok((found, rest)) => Ok((found.next_low(), rest)),
+            Err(flaw) => Err(flaw),
+        }
+    }
+}
+
+impl WriteItem for NodeName {
+    #[tactic(auto, unfolding(crate::specs::Spelling::name_spelling, crate::specs::Spelling::text_spelling))]
+    fn write_one(&self, out: &mut Vec<u8>) -> Result<(), AllocError> {
+        put_byte(out, self.socket)?;
+        put_byte(out, self.enumerator)?;
+        put_text(out, self.object.as_slice())?;
+        put_text(out, self.kind.as_slice())
+    }
+}
+
+#[tactic(auto, unfolding(crate::specs::Spelling::own_router_spelling))]
+fn own_router_at(bytes: &[u8]) -> Result<(Option<Addr>, &[u8]), Flaw>
+    ensures { Gives (λ x. (x.0, x.1.now)) result (read flaws own_router_spelling bytes.now) }
+{
+    let (flag, rest) = byte_within(bytes, 0, 1, Cause::Value)?;
+    if flag == 0 {
+        return Ok((None, rest));
+    }
+    let (router, rest) = address_at(rest)?;
+    Ok((Some(router), rest))
+}
+
+#[tactic(auto, unfolding(crate::specs::Spelling::own_router_spelling))]
+fn put_own_router(out: &mut Vec<u8>, router: Option<Addr>) -> Result<(), AllocError>
+    ensures { OnOk result (out.new.items ≡ out.old.items ++ bytes_of own_router_spelling router) }
+{
+    match router {
+        None => put_byte(out, 0),
+        Some(router) => {
+            put_byte(out, 1)?;
+            put_address(out, router)
+        }
+    }
+}
+
+impl Item for Node {
+    ghost use Rattle.table_image.specs.Same.{node_same};
+
+    ghost spelling = { λ known low. node_spelling known };
+
+    ghost next = { λ _. 0 };
+
+    fn next_low(&self) -> u32 {
+        0
+    }
+
+    ghost same = { node_same };
+}
+
+impl ReadItem for Node {
+    #[tactic(auto, unfolding(crate::specs::Spelling::node_spelling))]
+    fn read_one(
+        alloc: Global,
+        known: usize,
+        _low: u32,
+        bytes: &[u8],
+    ) -> Result<(Node, &[u8]), Stop> {
+        let (cable, rest) = index_at(bytes, known)?;
+        let (address, rest) = address_at(rest)?;
+        let (hardware, rest) = hardware_at(rest)?;
+        let (zone, rest) = match name_at(rest) {
+            Ok(found) => found,
+            Err(flaw) => return Err(Stop::Refused(flaw)),
+        };
+        let (router, rest) = own_router_at(rest)?;
+        let (names, rest) = counted_of::<NodeName>(alloc, MOST_NAMES, 0, rest)?;
+        Ok((
+            Node {
+                cable,
+                address,
+                hardware,
+                zone,
+                router,
+                names,
+            },
+            rest,
+        ))
+    }
+
+    #[tactic(auto, unfolding(crate::specs::Spelling::node_spelling))]
+    fn pass_one(known: usize, _low: u32, bytes: &[u8]) -> Result<(u32, &[u8]), Flaw> {
+        let (_cable, rest) = index_at(bytes, known)?;
+        let (_address, rest) = address_at(rest)?;
+        let (_hardware, rest) = hardware_at(rest)?;
+        let (_zone, rest) = match name_at(rest) {
+            Ok(found) => found,
+            Err(flaw) => return Err(flaw),
+        };
+        let (_router, rest) = own_router_at(rest)?;
+        let (_names, rest) = pass_counted::<NodeName>(MOST_NAMES, 0, rest)?;
+        Ok((0, rest))
+    }
+}
+
+impl WriteItem for Node {
+    #[tactic(auto, unfolding(crate::specs::Spelling::node_spelling, crate::specs::Spelling::text_spelling))]
+    fn write_one(&self, out: &mut Vec<u8>) -> Result<(), AllocError> {
+        put_byte(out, self.cable)?;
+        put_address(out, self.address)?;
+        out.extend_from_slice(&self.hardware.0)?;
+        put_text(out, self.zone.as_slice())?;
+        put_own_router(out, self.router)?;
+        put_counted(out, MOST_NAMES, 0, &self.names)
+    }
 }

@@ -1,0 +1,180 @@
+-- Each part of an image stands where its projection finds it.
+use Rattle.std.proofs.Common.{◌≡◌, ℕ, zero, suc, ◌≤◌, Bool, true, false, ◌&&◌, cond, ltb, List, length, Option, Some, None, refl, sym, arith}
+use Rattle.std.proofs.lemmas.Bool.{ltb-false}
+use Rattle.at_base.specs.Text.{is_name, same_bytes}
+use Rattle.at_base.specs.declared.error.Cause.{Cause}
+use Rattle.at_base.specs.declared.error.Cause.TheVariants.{Magic, Value, Version}
+use Rattle.at_base.specs.Grammar.{Grammar}
+use Rattle.at_base.specs.Lawful.{Has, IsLawful}
+use Rattle.at_base.proofs.Texts.{same_bytes_is}
+use Rattle.table_image.specs.Limits.{most, most_ports, most_zones, most_names}
+use Rattle.table_image.specs.Flaws.{Wrong, Here}
+use Rattle.table_image.specs.Tests.{within, magic, is_magic, is_entity}
+use Rattle.table_image.specs.Spelling.{counted, text_spelling, zone_spelling, zones_spelling, address_spelling, cable_spelling, port_spelling, row_spelling, state_number, state_of, zone_list_spelling, flag_number, flag_of, router_spelling, own_router_number, behind_flag, own_router_spelling, name_spelling, node_spelling, front_spelling, image_spelling}
+
+test_passed : (b : Bool) (w : Wrong) (o : Option Wrong) → cond b (Some w) o ≡ None → (b ≡ false) × (o ≡ None)
+test_passed true w o e = absurd cc
+test_passed false w o e = (refl, e)
+
+pub within_bounds : (least most : ℕ) (c : Cause) (n : ℕ) → within least most c n ≡ None → (least ≤ n) × (n ≤ most)
+within_bounds least most c n e =
+    let a = test_passed (ltb n least) (Here c) (cond (ltb most n) (Some (Here c)) None) e in
+    let b = test_passed (ltb most n) (Here c) None a.1 in
+    (ltb-false _ _ a.0, ltb-false _ _ b.0)
+
+test_true : (b : Bool) (w : Wrong) → cond b None (Some w) ≡ None → b ≡ true
+test_true true w e = refl
+test_true false w e = absurd cc
+
+magic_is : (s : List ℕ) → is_magic s ≡ None → magic ≡ s
+magic_is s e = sym (same_bytes_is s magic (test_true (same_bytes s magic) (Here Magic) e))
+
+counted_lawful : {B : Type 0} (limit : ℕ) (item : ℕ → Grammar Wrong true B) (next : B → ℕ) → ((low : ℕ) → IsLawful (item low)) → IsLawful (counted limit item next)
+unfolding counted
+counted_lawful limit item next items = λ count p. (λ xs len. len, (items, λ xs len. (refl, tt)))
+
+text_lawful : (good : List ℕ → Bool) → IsLawful (text_spelling good)
+unfolding text_spelling
+text_lawful good = λ len p. (λ s q. q.0, λ s q. (refl, tt))
+
+zone_lawful : IsLawful zone_spelling
+zone_lawful = text_lawful is_name
+
+zones_lawful : IsLawful zones_spelling
+unfolding zones_spelling
+zones_lawful = counted_lawful most_zones (λ low. zone_spelling) (λ name. 0) (λ low. zone_lawful)
+
+address_lawful : IsLawful address_spelling
+unfolding address_spelling
+address_lawful = λ net p. (λ node q. refl, λ node q. (refl, tt))
+
+cable_lawful : IsLawful cable_spelling
+unfolding cable_spelling
+cable_lawful = λ start p. (λ end q. λ names r. refl, λ end q. (λ names r. refl, (zones_lawful, λ names r. (refl, tt))))
+
+port_lawful : (cables : ℕ) → IsLawful (port_spelling cables)
+unfolding port_spelling
+port_lawful cables = λ cable p. (λ address r. λ hardware q. refl, (address_lawful, λ address r. (λ hardware q. refl, λ hardware q. (refl, tt))))
+
+state_is : (n : ℕ) → n ≤ 3 → state_number (state_of n) ≡ n
+state_is zero h = refl
+state_is (suc zero) h = refl
+state_is (suc (suc zero)) h = refl
+state_is (suc (suc (suc zero))) h = refl
+state_is (suc (suc (suc (suc n)))) h = absurd (omega arith)
+
+flag_is : (n : ℕ) → n ≤ 1 → flag_number (flag_of n) ≡ n
+flag_is zero h = refl
+flag_is (suc zero) h = refl
+flag_is (suc (suc n)) h = absurd (omega arith)
+
+row_lawful : (ports low : ℕ) → IsLawful (row_spelling ports low)
+unfolding row_spelling
+row_lawful ports low =
+    λ start p. (
+      λ end q distance r port s next u state t. refl,
+      λ end q. (
+        λ distance r port s next u state t. refl,
+        λ distance r. (
+          λ port s next u state t. refl,
+          λ port s. (
+            λ next u state t. refl,
+            (address_lawful, λ next u. (λ state t. refl, λ state t. (state_is state (within_bounds 0 3 Value state t.1).1, tt))),
+          ),
+        ),
+      ),
+    )
+
+zone_list_lawful : (low : ℕ) → IsLawful (zone_list_spelling low)
+unfolding zone_list_spelling
+zone_list_lawful low =
+    λ start p. (
+      λ end q complete r names u. refl,
+      λ end q. (
+        λ complete r names u. refl,
+        λ complete r. (λ names u. flag_is complete (within_bounds 0 1 Value complete r.1).1, (zones_lawful, λ names u. (refl, tt))),
+      ),
+    )
+
+router_lawful : (cables : ℕ) → IsLawful (router_spelling cables)
+unfolding router_spelling
+router_lawful cables = (
+  counted_lawful most_ports (λ low. port_spelling cables) (λ p. 0) (λ low. port_lawful cables),
+  λ ports p. (
+    λ rows q lists r. refl,
+    (
+      counted_lawful most (row_spelling (length ports)) _ (row_lawful (length ports)),
+      λ rows q. (λ lists r. refl, (counted_lawful most zone_list_spelling _ zone_list_lawful, λ lists r. (refl, tt))),
+    ),
+  ),
+)
+
+behind_lawful : (flag : ℕ) → flag ≤ 1 → Has own_router_number flag (behind_flag flag) × IsLawful (behind_flag flag)
+behind_lawful zero h = (refl, tt)
+behind_lawful (suc zero) h = (λ a q. refl, (address_lawful, λ a q. (refl, tt)))
+behind_lawful (suc (suc n)) h = absurd (omega arith)
+
+own_router_lawful : IsLawful own_router_spelling
+unfolding own_router_spelling
+own_router_lawful = λ flag p. behind_lawful flag (within_bounds 0 1 Value flag p.1).1
+
+name_lawful : (low : ℕ) → IsLawful (name_spelling low)
+unfolding name_spelling
+name_lawful low =
+    λ socket p. (
+      λ number q object r kind s. refl,
+      λ number q. (
+        λ object r kind s. refl,
+        (text_lawful is_entity, λ object r. (λ kind s. refl, (text_lawful is_entity, λ kind s. (refl, tt)))),
+      ),
+    )
+
+node_lawful : (cables : ℕ) → IsLawful (node_spelling cables)
+unfolding node_spelling
+node_lawful cables =
+    λ cable p. (
+      λ address p1 hardware q zone p2 router p3 names p4. refl,
+      (
+        address_lawful,
+        λ address p1. (
+          λ hardware q zone p2 router p3 names p4. refl,
+          λ hardware q. (
+            λ zone p2 router p3 names p4. refl,
+            (
+              zone_lawful,
+              λ zone p2. (
+                λ router p3 names p4. refl,
+                (own_router_lawful, λ router p3. (λ names p4. refl, (counted_lawful most_names name_spelling _ name_lawful, λ names p4. (refl, tt)))),
+              ),
+            ),
+          ),
+        ),
+      ),
+    )
+
+front_lawful : IsLawful front_spelling
+unfolding front_spelling
+front_lawful =
+    λ s p. (
+      λ version q cables r. magic_is s p.1,
+      λ version q. (
+        λ cables r. (let h = within_bounds 1 1 Version version q.1 in omega arith),
+        (counted_lawful most (λ low. cable_spelling) (λ c. 0) (λ low. cable_lawful), λ cables r. (refl, tt)),
+      ),
+    )
+
+pub image_lawful : IsLawful image_spelling
+unfolding image_spelling
+image_lawful = (
+  front_lawful,
+  λ cables p. (
+    λ routers q nodes r. refl,
+    (
+      counted_lawful most (λ low. router_spelling (length cables)) (λ r. 0) (λ low. router_lawful (length cables)),
+      λ routers q. (
+        λ nodes r. refl,
+        (counted_lawful most (λ low. node_spelling (length cables)) (λ n. 0) (λ low. node_lawful (length cables)), λ nodes r. (refl, tt)),
+      ),
+    ),
+  ),
+)

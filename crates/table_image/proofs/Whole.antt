@@ -1,0 +1,82 @@
+-- Whole images: what is read, what is accepted, what is refused, and where.
+use Rattle.std.proofs.Common.{◌≡◌, ℕ, ◌+◌, ◌≤◌, ◌<◌, true, cond, eqb, List, [], ◌∷◌, ◌++◌, length, Result, Ok, Err, refl, sym, ap, subst, ◌∙◌, inl, inr, arith}
+use Rattle.std.specs.Prelude.{◌≢◌, ◌⊎◌}
+use Rattle.std.proofs.lemmas.Bool.{eqb-true, cases_eq}
+use Rattle.std.proofs.lemmas.List.{append-nil, nil_from_length}
+use Rattle.at_base.specs.declared.error.Cause.TheVariants.{Trailing}
+use Rattle.at_base.specs.Spelling.{bytes_of, IsValue, Spells}
+use Rattle.at_base.specs.FirstFault.{FirstFault}
+use Rattle.at_base.specs.Reading.{read}
+use Rattle.at_base.proofs.Fields.{IsBytes, ok_is, err_is, bind_ok, bind_err, pass_ok, pass_err}
+use Rattle.at_base.proofs.Laws.{read_takes, read_again, read_fault, read_refused, follows_all}
+use Rattle.table_image.specs.Internet.{Internet}
+use Rattle.table_image.specs.Flaws.{Here, flaw_of, flaws}
+use Rattle.table_image.specs.Spelling.{image_spelling}
+use Rattle.table_image.specs.Reading.{image_at, IsFirstFlaw}
+use Rattle.table_image.specs.declared.flaw.Flaw.{Flaw}
+use Rattle.table_image.proofs.Shape.{image_lawful}
+use Rattle.table_image.proofs.Extents.{most_bytes, image_reaches}
+
+-- what is read is spelled so
+pub all_takes : (bytes : List ℕ) (x : Internet) → IsBytes bytes → image_at bytes ≡ Ok x → Spells image_spelling bytes x
+unfolding image_at
+all_takes bytes x fits e =
+    let a = bind_ok (read flaws image_spelling bytes) (λ y. cond (eqb (length y.1) 0) (Ok y.0) (Err (flaw_of (length y.1) (Here Trailing)))) x e in
+    let p = pass_ok (eqb (length a.0.1) 0) (flaw_of (length a.0.1) (Here Trailing)) a.0.0 x a.2 in
+    let nothing : a.0.1 ≡ [] = nil_from_length a.0.1 (eqb-true _ _ p.0) in
+    let t = read_takes flaws image_spelling image_lawful bytes a.0 fits a.1 in
+    let whole : bytes ≡ bytes_of image_spelling a.0.0 = t.0.parts ∙ ap (λ (r : List ℕ). bytes_of image_spelling a.0.0 ++ r) nothing ∙ append-nil (bytes_of image_spelling a.0.0) in
+    subst (λ (y : Internet). Spells image_spelling bytes y) p.1 (t.1, whole)
+
+-- what is spelled so is read
+pub all_again : (bytes : List ℕ) (x : Internet) → Spells image_spelling bytes x → image_at bytes ≡ Ok x
+unfolding image_at
+all_again bytes x s =
+    let whole : bytes ≡ bytes_of image_spelling x ++ [] = s.1 ∙ sym (append-nil (bytes_of image_spelling x)) in
+    rw (whole, read_again flaws image_spelling image_lawful x [] s.0 (follows_all image_spelling x [])) refl
+
+-- a refusal is the first flaw
+pub all_refuses : (bytes : List ℕ) (f : Flaw) → IsBytes bytes → image_at bytes ≡ Err f → IsFirstFlaw bytes f
+unfolding image_at
+all_refuses bytes f fits e =
+    elim (bind_err (read flaws image_spelling bytes) (λ y. cond (eqb (length y.1) 0) (Ok y.0) (Err (flaw_of (length y.1) (Here Trailing)))) f e) [
+      | inl p ↦ inl (read_fault flaws image_spelling image_lawful bytes f fits p)
+      | inr a ↦
+          let p = pass_err (eqb (length a.0.1) 0) (flaw_of (length a.0.1) (Here Trailing)) f a.0.0 a.2 in
+          let t = read_takes flaws image_spelling image_lawful bytes a.0 fits a.1 in
+          let some : a.0.1 ≢ [] = λ nil. (let no : eqb (length a.0.1) 0 ≡ true = ap (λ (r : List ℕ). eqb (length r) 0) nil in cc) in
+          inr (a.0.0, a.0.1, t.0.parts, t.1, some, p.1)
+    ]
+
+behind : (x : Internet) (rest : List ℕ) (f : Flaw) → rest ≢ [] → f ≡ flaw_of (length rest) (Here Trailing) → cond (eqb (length rest) 0) (Ok x) (Err (flaw_of (length rest) (Here Trailing))) ≡ Err f
+behind x [] f some is = absurd (some refl)
+behind x (b ∷ rest) f some is = ap (λ (g : Flaw). Err g) (sym is)
+
+-- where there is a flaw, reading answers it
+pub all_refused : (bytes : List ℕ) (f : Flaw) → IsFirstFlaw bytes f → image_at bytes ≡ Err f
+unfolding image_at
+all_refused bytes f (inl h) = rw (read_refused flaws image_spelling image_lawful bytes f h) refl
+all_refused bytes f (inr (x, rest, parts, value, some, is)) =
+    let taken : read flaws image_spelling bytes ≡ Ok (x, rest) = rw parts (read_again flaws image_spelling image_lawful x rest value (follows_all image_spelling x rest)) in
+    rw taken (behind x rest f some is)
+
+-- two images with the same bytes are one
+pub one_reading : (bytes : List ℕ) (x y : Internet) → image_at bytes ≡ Ok x → Spells image_spelling bytes y → x ≡ y
+one_reading bytes x y e s = let f : image_at bytes ≡ Ok y = all_again bytes y s in cc
+
+-- bytes that spell an image have no flaw
+pub no_flaw : (bytes : List ℕ) (x : Internet) (f : Flaw) → Spells image_spelling bytes x → image_at bytes ≡ Err f → ⊥
+no_flaw bytes x f s e = let g : image_at bytes ≡ Ok x = all_again bytes x s in cc
+
+-- a flaw is told at most so many bytes from the start
+pub told_early : (bytes : List ℕ) (f : Flaw) → IsBytes bytes → image_at bytes ≡ Err f → length bytes ≤ f.left + most_bytes
+unfolding image_at
+told_early bytes f fits e =
+    elim (bind_err (read flaws image_spelling bytes) (λ y. cond (eqb (length y.1) 0) (Ok y.0) (Err (flaw_of (length y.1) (Here Trailing)))) f e) [
+      | inl p ↦ image_reaches.within_it.err_within bytes f fits p
+      | inr a ↦
+          let p = pass_err (eqb (length a.0.1) 0) (flaw_of (length a.0.1) (Here Trailing)) f a.0.0 a.2 in
+          let told = ap (λ (g : Flaw). g.left) p.1 in
+          let taken = (image_reaches.within_it.ok_within bytes a.0 fits a.1).0 in
+          omega (arith, told, taken)
+    ]

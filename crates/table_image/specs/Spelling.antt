@@ -1,0 +1,169 @@
+-- The image of an internet's tables, version 1, as a format: its parts, their order and their tests. docs/FORMATS.md has
+-- the same as a table. (own)
+use Rattle.std.specs.Prelude.{ℕ, zero, suc, ◌+◌, Bool, true, false, ◌==◌, List, length, Option, Some, None, if◌then◌else◌, unwrap_or}
+use Rattle.at_base.specs.declared.address.Addr.{Addr}
+use Rattle.at_base.specs.declared.error.Cause.TheVariants.{Count, Name, Value, Version}
+use Rattle.at_base.specs.Text.{is_name}
+use Rattle.at_base.specs.Grammar.{Grammar, done, field, part, list, number, run, one, two}
+use Rattle.rtmp.specs.declared.state.State.{State}
+use Rattle.rtmp.specs.declared.state.State.TheVariants.{Good, Suspect, Bad, Last}
+use Rattle.table_image.specs.Internet.{Internet}
+use Rattle.table_image.specs.Limits.{most, most_ports, most_zones, most_names}
+use Rattle.table_image.specs.Flaws.{Wrong, Before}
+use Rattle.table_image.specs.Tests.{any, within, below, rising, enumerator, magic, is_magic, is_entity}
+use Rattle.table_image.specs.declared.cable.Cable.{Cable}
+use Rattle.table_image.specs.declared.router.Port.{Port}
+use Rattle.table_image.specs.declared.router.Row.{Row}
+use Rattle.table_image.specs.declared.router.ZoneList.{ZoneList}
+use Rattle.table_image.specs.declared.router.Router.{Router}
+use Rattle.table_image.specs.declared.node.NodeName.{NodeName}
+use Rattle.table_image.specs.declared.node.Node.{Node}
+
+-- a count up to a limit, and so many parts
+unfoldable pub counted : {B : Type 0} → ℕ → (ℕ → Grammar Wrong true B) → (B → ℕ) → Grammar Wrong true (List B)
+counted limit item next =
+    field (number one (within 0 limit Count)) (λ xs. length xs) (λ count.
+    list item next count (λ xs. xs) (λ xs. done xs))
+
+-- 1 to 32 bytes behind their number, at which the fault is where they break their test
+unfoldable pub text_spelling : (List ℕ → Bool) → Grammar Wrong true (List ℕ)
+text_spelling good =
+    field (number one (within 1 32 Name)) (λ s. length s) (λ len.
+    field (run len (λ s. if good s then None else Some (Before Name))) (λ s. s) (λ s.
+    done s))
+
+-- a zone's name
+abbrev pub zone_spelling : Grammar Wrong true (List ℕ)
+zone_spelling = text_spelling is_name
+
+-- zones behind their count
+unfoldable pub zones_spelling : Grammar Wrong true (List (List ℕ))
+zones_spelling = counted most_zones (λ low. zone_spelling) (λ name. 0)
+
+-- a network and a node
+unfoldable pub address_spelling : Grammar Wrong true Addr
+address_spelling =
+    field (number two any) (λ a. a.net) (λ net.
+    field (number one any) (λ a. a.node) (λ node.
+    done (record { net = net; node = node })))
+
+-- a cable: start, end, zones
+unfoldable pub cable_spelling : Grammar Wrong true Cable
+cable_spelling =
+    field (number two any) (λ c. c.start) (λ start.
+    field (number two any) (λ c. c.end) (λ end.
+    part zones_spelling (λ c. c.zones) (λ names.
+    done (record { start = start; end = end; zones = names }))))
+
+-- a port, where there are so many cables: cable, address, hardware address
+unfoldable pub port_spelling : ℕ → Grammar Wrong true Port
+port_spelling cables =
+    field (number one (below cables)) (λ p. p.cable) (λ cable.
+    part address_spelling (λ p. p.address) (λ address.
+    field (run 6 any) (λ p. p.hardware.0) (λ hardware.
+    done (record { cable = cable; address = address; hardware = record { 0 = hardware } }))))
+
+-- the number of a state
+abbrev pub state_number : State → ℕ
+state_number Good = 0
+state_number Suspect = 1
+state_number Bad = 2
+state_number Last = 3
+
+-- the state of a number
+abbrev pub state_of : ℕ → State
+state_of zero = Good
+state_of (suc zero) = Suspect
+state_of (suc (suc zero)) = Bad
+state_of (suc (suc (suc n))) = Last
+
+-- a row of a router with so many ports, above the row before it: start, end, distance, port, next address, state
+unfoldable pub row_spelling : ℕ → ℕ → Grammar Wrong true Row
+row_spelling ports low =
+    field (number two (rising low)) (λ r. r.start) (λ start.
+    field (number two any) (λ r. r.end) (λ end.
+    field (number one (within 0 31 Value)) (λ r. r.distance) (λ distance.
+    field (number one (below ports)) (λ r. r.port) (λ port.
+    part address_spelling (λ r. r.next) (λ next.
+    field (number one (within 0 3 Value)) (λ r. state_number r.state) (λ state.
+    done (record { start = start; end = end; distance = distance; port = port; next = next; state = state_of state })))))))
+
+-- the number of a flag
+abbrev pub flag_number : Bool → ℕ
+flag_number false = 0
+flag_number true = 1
+
+-- the flag of a number
+abbrev pub flag_of : ℕ → Bool
+flag_of n = n == 1
+
+-- a zone list above the one before it: start, end, whether it is complete, zones
+unfoldable pub zone_list_spelling : ℕ → Grammar Wrong true ZoneList
+zone_list_spelling low =
+    field (number two (rising low)) (λ l. l.start) (λ start.
+    field (number two any) (λ l. l.end) (λ end.
+    field (number one (within 0 1 Value)) (λ l. flag_number l.complete) (λ complete.
+    part zones_spelling (λ l. l.zones) (λ names.
+    done (record { start = start; end = end; complete = flag_of complete; zones = names })))))
+
+-- a router, where there are so many cables: ports, rows, zone lists
+unfoldable pub router_spelling : ℕ → Grammar Wrong true Router
+router_spelling cables =
+    part (counted most_ports (λ low. port_spelling cables) (λ p. 0)) (λ r. r.ports) (λ ports.
+    part (counted most (row_spelling (length ports)) (λ r. r.start + 1)) (λ r. r.rows) (λ rows.
+    part (counted most zone_list_spelling (λ l. l.start + 1)) (λ r. r.lists) (λ lists.
+    done (record { ports = ports; rows = rows; lists = lists }))))
+
+-- no address
+abbrev pub nowhere : Addr
+nowhere = record { net = 0; node = 0 }
+
+-- the flag before a node's router
+abbrev pub own_router_number : Option Addr → ℕ
+own_router_number None = 0
+own_router_number (Some a) = 1
+
+-- what stands behind that flag
+abbrev pub behind_flag : ℕ → Grammar Wrong true (Option Addr)
+behind_flag zero = done None
+behind_flag (suc n) = part address_spelling (λ o. unwrap_or o nowhere) (λ a. done (Some a))
+
+-- a node's router: a flag, and an address where it is 1
+unfoldable pub own_router_spelling : Grammar Wrong true (Option Addr)
+own_router_spelling = field (number one (within 0 1 Value)) own_router_number behind_flag
+
+-- a node's name above the one before it: socket, enumerator, object, type
+unfoldable pub name_spelling : ℕ → Grammar Wrong true NodeName
+name_spelling low =
+    field (number one (within 1 254 Value)) (λ n. n.socket) (λ socket.
+    field (number one (enumerator low)) (λ n. n.enumerator) (λ number.
+    part (text_spelling is_entity) (λ n. n.object) (λ object.
+    part (text_spelling is_entity) (λ n. n.kind) (λ kind.
+    done (record { socket = socket; enumerator = number; object = object; kind = kind })))))
+
+-- a node, where there are so many cables: cable, address, hardware address, zone, router, names
+unfoldable pub node_spelling : ℕ → Grammar Wrong true Node
+node_spelling cables =
+    field (number one (below cables)) (λ n. n.cable) (λ cable.
+    part address_spelling (λ n. n.address) (λ address.
+    field (run 6 any) (λ n. n.hardware.0) (λ hardware.
+    part zone_spelling (λ n. n.zone) (λ zone.
+    part own_router_spelling (λ n. n.router) (λ router.
+    part (counted most_names name_spelling (λ n. n.enumerator + 1)) (λ n. n.names) (λ names.
+    done (record { cable = cable; address = address; hardware = record { 0 = hardware }; zone = zone; router = router; names = names })))))))
+
+-- the head and the cables
+unfoldable pub front_spelling : Grammar Wrong true (List Cable)
+front_spelling =
+    field (run 4 is_magic) (λ c. magic) (λ s.
+    field (number one (within 1 1 Version)) (λ c. 1) (λ version.
+    part (counted most (λ low. cable_spelling) (λ c. 0)) (λ c. c) (λ cables.
+    done cables)))
+
+-- an image: the head and the cables, the routers, the nodes
+unfoldable pub image_spelling : Grammar Wrong true Internet
+image_spelling =
+    part front_spelling (λ i. i.cables) (λ cables.
+    part (counted most (λ low. router_spelling (length cables)) (λ r. 0)) (λ i. i.routers) (λ routers.
+    part (counted most (λ low. node_spelling (length cables)) (λ n. 0)) (λ i. i.nodes) (λ nodes.
+    done (record { cables = cables; routers = routers; nodes = nodes }))))

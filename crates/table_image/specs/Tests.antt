@@ -1,0 +1,39 @@
+-- The tests of an image's fields. (own)
+use Rattle.std.specs.Prelude.{ℕ, Bool, ◌&&◌, not, ◌==◌, List, [], ◌∷◌, Option, Some, None, nat_lt, if◌then◌else◌}
+use Rattle.std.specs.List.{list_all}
+use Rattle.at_base.specs.declared.error.Cause.{Cause}
+use Rattle.at_base.specs.declared.error.Cause.TheVariants.{Index, Magic, Order, Value}
+use Rattle.at_base.specs.Text.{is_only, same_bytes}
+use Rattle.table_image.specs.Flaws.{Wrong, Here}
+
+-- any value
+abbrev pub any : {V : Type 0} → V → Option Wrong
+any n = None
+
+-- at least, and at most
+abbrev pub within : ℕ → ℕ → Cause → ℕ → Option Wrong
+within least most cause n = if nat_lt n least then Some (Here cause) else if nat_lt most n then Some (Here cause) else None
+
+-- a place in a list of so many
+abbrev pub below : ℕ → ℕ → Option Wrong
+below count n = if nat_lt n count then None else Some (Here Index)
+
+-- above the one before it, which leaves one more than itself
+abbrev pub rising : ℕ → ℕ → Option Wrong
+rising low n = if nat_lt n low then Some (Here Order) else None
+
+-- 1 or more, and above the one before it
+abbrev pub enumerator : ℕ → ℕ → Option Wrong
+enumerator low n = if nat_lt n 1 then Some (Here Value) else rising low n
+
+-- the four bytes with which an image begins
+abbrev pub magic : List ℕ
+magic = 0x41 ∷ 0x54 ∷ 0x49 ∷ 0x4D ∷ []
+
+-- those four bytes
+abbrev pub is_magic : List ℕ → Option Wrong
+is_magic s = if same_bytes s magic then None else Some (Here Magic)
+
+-- an object or a type that a node may have: no wildcard in it, and not the equals sign alone
+abbrev pub is_entity : List ℕ → Bool
+is_entity s = list_all (λ b. not (b == 0xC5)) s && not (is_only 61 s)

@@ -1,0 +1,46 @@
+//! Why reading an image stops.
+
+ghost use Rattle.std.specs.Prelude.{◌≡◌};
+ghost use Rattle.table_image.specs.declared.flaw.Stop.TheVariants.{Memory, Refused};
+
+use at_base::Cause;
+use std::alloc::{AllocError, AllocFailed};
+
+/// What is wrong with an image. A reader of a part knows how many bytes are `left` of the input from the place on where
+/// the flaw is told, and not the place itself.
+#[derive(Clone, Copy, Debug, PartialEq, Eq)]
+pub struct Flaw {
+    pub left: usize,
+    pub cause: Cause,
+}
+
+/// Memory ran out, or the image has a flaw.
+#[derive(Clone, Copy, Debug, PartialEq, Eq)]
+pub enum Stop {
+    Memory,
+    Refused(Flaw),
+}
+
+impl From<AllocError> for Stop {
+    ghost from_gives = { λ _ e. e ≡ Memory };
+
+    fn from(_e: AllocError) -> Stop {
+        Stop::Memory
+    }
+}
+
+impl<T: Drop> From<AllocFailed<T>> for Stop {
+    ghost from_gives = { λ _ e. e ≡ Memory };
+
+    fn from(_e: AllocFailed<T>) -> Stop {
+        Stop::Memory
+    }
+}
+
+impl From<Flaw> for Stop {
+    ghost from_gives = { λ f e. e ≡ Refused f };
+
+    fn from(flaw: Flaw) -> Stop {
+        Stop::Refused(flaw)
+    }
+}

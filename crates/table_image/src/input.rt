@@ -1,0 +1,189 @@
+//! Fields at the front of bytes: each function gives a field's value and the bytes after it, or the flaw.
+
+ghost use Rattle.std.specs.Prelude.{◌≡◌, ◌==◌, ◌+◌, not, length};
+ghost use Rattle.std.specs.List.{list_all};
+ghost use Rattle.at_base.specs.Grammar.{number, run, one, two};
+ghost use Rattle.at_base.specs.Reading.{Gives, bytes_at, field_at, read};
+ghost use Rattle.at_base.specs.Text.{is_name, is_only};
+ghost use Rattle.table_image.specs.Flaws.{flaws};
+ghost use Rattle.table_image.specs.Tests.{any, within, below, rising, enumerator, is_entity, is_magic};
+ghost use Rattle.table_image.specs.Spelling.{address_spelling, text_spelling};
+
+use crate::flaw::Flaw;
+use at_base::{Addr, Cause, Hw, Name, Text32};
+
+fn cut() -> Flaw
+    ensures { result ≡ record { left = 0; cause = Cause.Cut } }
+{
+    Flaw {
+        left: 0,
+        cause: Cause::Cut,
+    }
+}
+
+/// The flaw of the field with which the bytes begin.
+pub fn wrong(bytes: &[u8], cause: Cause) -> Flaw
+    ensures { result ≡ record { left = length bytes.now; cause = cause } }
+{
+    Flaw {
+        left: bytes.len(),
+        cause,
+    }
+}
+
+fn split(bytes: &[u8], len: usize) -> Result<(&[u8], &[u8]), Flaw>
+    ensures { Gives (λ x. (x.0.now, x.1.now)) result (bytes_at flaws.cut len bytes.now) }
+{
+    if bytes.len() < len {
+        return Err(cut());
+    }
+    Ok(bytes.split_at(len))
+}
+
+/// A byte from `least` to `most`.
+pub fn byte_within(bytes: &[u8], least: u8, most: u8, cause: Cause) -> Result<(u8, &[u8]), Flaw>
+    ensures { Gives (λ x. (x.0, x.1.now)) result (field_at flaws (number one (within least most cause)) bytes.now) }
+{
+    let (front, rest) = split(bytes, 1)?;
+    let byte = u8::from_be_bytes([front[0]]);
+    if byte < least || most < byte {
+        return Err(wrong(bytes, cause));
+    }
+    Ok((byte, rest))
+}
+
+fn byte_at(bytes: &[u8]) -> Result<(u8, &[u8]), Flaw>
+    ensures { Gives (λ x. (x.0, x.1.now)) result (field_at flaws (number one any) bytes.now) }
+{
+    let (front, rest) = split(bytes, 1)?;
+    Ok((u8::from_be_bytes([front[0]]), rest))
+}
+
+/// A place in a list of so many.
+pub fn index_at(bytes: &[u8], count: usize) -> Result<(u8, &[u8]), Flaw>
+    ensures { Gives (λ x. (x.0, x.1.now)) result (field_at flaws (number one (below count)) bytes.now) }
+{
+    let (index, rest) = byte_at(bytes)?;
+    if index as usize >= count {
+        return Err(wrong(bytes, Cause::Index));
+    }
+    Ok((index, rest))
+}
+
+/// An enumerator that is not below `low`.
+pub fn enumerator_at(bytes: &[u8], low: u32) -> Result<(u8, &[u8]), Flaw>
+    ensures { Gives (λ x. (x.0, x.1.now)) result (field_at flaws (number one (enumerator low)) bytes.now) }
+{
+    let (number, rest) = byte_at(bytes)?;
+    if number < 1 {
+        return Err(wrong(bytes, Cause::Value));
+    }
+    if u32::from(number) < low {
+        return Err(wrong(bytes, Cause::Order));
+    }
+    Ok((number, rest))
+}
+
+/// A number of two bytes.
+pub fn u16_at(bytes: &[u8]) -> Result<(u16, &[u8]), Flaw>
+    ensures { Gives (λ x. (x.0, x.1.now)) result (field_at flaws (number two any) bytes.now) }
+{
+    let (front, rest) = split(bytes, 2)?;
+    Ok((u16::from_be_bytes([front[0], front[1]]), rest))
+}
+
+/// A number of two bytes that is not below `low`.
+pub fn rising_at(bytes: &[u8], low: u32) -> Result<(u16, &[u8]), Flaw>
+    ensures { Gives (λ x. (x.0, x.1.now)) result (field_at flaws (number two (rising low)) bytes.now) }
+{
+    let (number, rest) = u16_at(bytes)?;
+    if u32::from(number) < low {
+        return Err(wrong(bytes, Cause::Order));
+    }
+    Ok((number, rest))
+}
+
+/// The four bytes with which an image begins.
+pub fn magic_at(bytes: &[u8]) -> Result<(&[u8], &[u8]), Flaw>
+    ensures { Gives (λ x. (x.0.now, x.1.now)) result (field_at flaws (run 4 is_magic) bytes.now) }
+{
+    let (front, rest) = split(bytes, 4)?;
+    if front[0] != 0x41 || front[1] != 0x54 || front[2] != 0x49 || front[3] != 0x4D {
+        return Err(wrong(bytes, Cause::Magic));
+    }
+    Ok((front, rest))
+}
+
+/// A hardware address.
+pub fn hardware_at(bytes: &[u8]) -> Result<(Hw, &[u8]), Flaw>
+    ensures { Gives (λ x. (x.0.0, x.1.now)) result (field_at flaws (run 6 any) bytes.now) }
+{
+    let (front, rest) = split(bytes, 6)?;
+    let mut hardware = [0; 6];
+    hardware.copy_from_slice(front);
+    Ok((Hw(hardware), rest))
+}
+
+/// A network address.
+#[tactic(auto, unfolding(crate::specs::Spelling::address_spelling))]
+pub fn address_at(bytes: &[u8]) -> Result<(Addr, &[u8]), Flaw>
+    ensures { Gives (λ x. (x.0, x.1.now)) result (read flaws address_spelling bytes.now) }
+{
+    let (net, rest) = u16_at(bytes)?;
+    let (node, rest) = byte_at(rest)?;
+    Ok((Addr { net, node }, rest))
+}
+
+// A text is refused at its length byte, which is the one before its first.
+fn wrong_text(after: &[u8]) -> Flaw
+    ensures { result ≡ record { left = 1 + length after.now; cause = Cause.Name } }
+{
+    Flaw {
+        left: 1 + after.len(),
+        cause: Cause::Name,
+    }
+}
+
+/// A zone's name.
+#[tactic(auto, unfolding(crate::specs::Spelling::text_spelling))]
+pub fn name_at(bytes: &[u8]) -> Result<(Name, &[u8]), Flaw>
+    ensures { Gives (λ x. (x.0, x.1.now)) result (read flaws (text_spelling is_name) bytes.now) }
+{
+    let (len, after) = byte_within(bytes, 1, 32, Cause::Name)?;
+    let (text, rest) = split(after, len as usize)?;
+    match Name::new(text) {
+        Ok(name) => Ok((name, rest)),
+        Err(_) => Err(wrong_text(after)),
+    }
+}
+
+fn has_no_wildcard(text: &[u8]) -> bool
+    ensures { result ≡ list_all (λ b. not (b == 0xC5)) text.now }
+{
+    text.iter().all(|b| *b != 0xC5)
+}
+
+fn is_equals(text: &[u8]) -> bool
+    ensures { result ≡ is_only 61 text.now }
+{
+    match text {
+        [b] => *b == b'=',
+        _ => false,
+    }
+}
+
+/// An object or a type that a node may have.
+#[tactic(auto, unfolding(crate::specs::Spelling::text_spelling))]
+pub fn entity_at(bytes: &[u8]) -> Result<(Text32, &[u8]), Flaw>
+    ensures { Gives (λ x. (x.0, x.1.now)) result (read flaws (text_spelling is_entity) bytes.now) }
+{
+    let (len, after) = byte_within(bytes, 1, 32, Cause::Name)?;
+    let (text, rest) = split(after, len as usize)?;
+    if is_equals(text) || !has_no_wildcard(text) {
+        return Err(wrong_text(after));
+    }
+    match Text32::new(text) {
+        Ok(kept) => Ok((kept, rest)),
+        Err(_) => Err(wrong_text(after)),
+    }
+}

@@ -1,0 +1,135 @@
+//! Parts of which there are several, one after the other, behind their count.
+
+ghost use Rattle.std.specs.Prelude.{◌≡◌, ◌++◌, ℕ, true, length, OnOk};
+ghost use Rattle.std.specs.List.{flat_map};
+ghost use Rattle.at_base.specs.Grammar.{Grammar};
+ghost use Rattle.at_base.specs.Spelling.{bytes_of};
+ghost use Rattle.at_base.specs.Reading.{read, list_at};
+ghost use Rattle.table_image.specs.Flaws.{Wrong, flaws, GivesOrStops, GoesPast};
+ghost use Rattle.table_image.specs.Spelling.{counted};
+
+use crate::flaw::{Flaw, Stop};
+use crate::input::byte_within;
+use crate::listed::Listed;
+use crate::output::put_count;
+use at_base::Cause;
+use std::alloc::{AllocError, Global};
+
+/// A part of which an image has several.
+pub trait Item: Drop {
+    // The part's format, by how many parts it may refer to, and by the number that the part before it leaves.
+    ghost spelling: { ℕ → ℕ → Grammar Wrong true Self };
+
+    // The number that the part leaves to the one after it.
+    ghost next: { Self → ℕ };
+
+    /// The number that the part leaves to the one after it, which may not be below it.
+    fn next_low(&self) -> u32
+        ensures { result ≡ next self.now };
+
+    // What a part is written as doesn't depend on the parts around it.
+    ghost same: { (known low : ℕ) (x : Self) → bytes_of (spelling known low) x ≡ bytes_of (spelling 0 0) x };
+}
+
+/// A part that can be read.
+pub trait ReadItem: Item {
+    /// The part at the front of the bytes, and the bytes after it.
+    fn read_one(alloc: Global, known: usize, low: u32, bytes: &[u8]) -> Result<(Self, &[u8]), Stop>
+        ensures { GivesOrStops (λ x. (x.0, x.1.now)) result (read flaws (Self.spelling known low) bytes.now) };
+
+    /// Goes past the part at the front of the bytes, without memory: the number that it leaves, and the bytes after it.
+    fn pass_one(known: usize, low: u32, bytes: &[u8]) -> Result<(u32, &[u8]), Flaw>
+        ensures { GoesPast Self.next (λ x. (x.0, x.1.now)) result (read flaws (Self.spelling known low) bytes.now) };
+}
+
+/// A part that can be written.
+pub trait WriteItem: Item {
+    /// Writes the part at the end of the bytes.
+    fn write_one(&self, out: &mut Vec<u8>) -> Result<(), AllocError>
+        ensures { OnOk result (out.new.items ≡ out.old.items ++ bytes_of (Self.spelling 0 0) self.now) };
+}
+
+// The count tells how much room the list needs, so it is made once.
+fn list_of<T: ReadItem>(
+    alloc: Global,
+    known: usize,
+    count: u8,
+    bytes: &[u8],
+) -> Result<(Listed<T>, &[u8]), Stop>
+    ensures { GivesOrStops (λ x. (x.0, x.1.now)) result (list_at (λ low. read flaws (T.spelling known low)) T.next 0 count bytes.now) }
+{
+    let mut items = Vec::with_capacity(alloc, count as usize)?;
+    let mut rest = bytes;
+    let mut low = 0;
+    for _ in 0..count {
+        let (item, after) = T::read_one(alloc, known, low, rest)?;
+        low = item.next_low();
+        items.push(item)?;
+        rest = after;
+    }
+    Ok((Listed::from_vec(items), rest))
+}
+
+/// As many parts as the count says, which is at most the limit.
+#[tactic(auto, unfolding(crate::specs::Spelling::counted))]
+pub fn counted_of<T: ReadItem>(
+    alloc: Global,
+    limit: u8,
+    known: usize,
+    bytes: &[u8],
+) -> Result<(Listed<T>, &[u8]), Stop>
+    ensures { GivesOrStops (λ x. (x.0, x.1.now)) result (read flaws (counted limit (T.spelling known) T.next) bytes.now) }
+{
+    let (count, rest) = byte_within(bytes, 0, limit, Cause::Count)?;
+    list_of(alloc, known, count, rest)
+}
+
+fn pass_list<T: ReadItem>(known: usize, count: u8, bytes: &[u8]) -> Result<(usize, &[u8]), Flaw>
+    ensures { GoesPast (λ xs. length xs) (λ x. (x.0, x.1.now)) result (list_at (λ low. read flaws (T.spelling known low)) T.next 0 count bytes.now) }
+{
+    let mut rest = bytes;
+    let mut low = 0;
+    for _ in 0..count {
+        let (next, after) = T::pass_one(known, low, rest)?;
+        low = next;
+        rest = after;
+    }
+    Ok((count as usize, rest))
+}
+
+/// Goes past as many parts as the count says, and tells how many there were.
+#[tactic(auto, unfolding(crate::specs::Spelling::counted))]
+pub fn pass_counted<T: ReadItem>(
+    limit: u8,
+    known: usize,
+    bytes: &[u8],
+) -> Result<(usize, &[u8]), Flaw>
+    ensures { GoesPast (λ xs. length xs) (λ x. (x.0, x.1.now)) result (read flaws (counted limit (T.spelling known) T.next) bytes.now) }
+{
+    let (count, rest) = byte_within(bytes, 0, limit, Cause::Count)?;
+    pass_list::<T>(known, count, rest)
+}
+
+fn put_list<T: WriteItem>(out: &mut Vec<u8>, items: &[T]) -> Result<(), AllocError>
+    ensures { OnOk result (out.new.items ≡ out.old.items ++ flat_map (bytes_of (T.spelling 0 0)) items.now) }
+{
+    for item in items {
+        item.write_one(out)?;
+    }
+    Ok(())
+}
+
+/// Writes the count and the parts. The limit and the number of parts that they may refer to change nothing that is
+/// written; they tell which format it is.
+pub fn put_counted<T: WriteItem>(
+    out: &mut Vec<u8>,
+    _limit: u8,
+    _known: usize,
+    items: &Listed<T>,
+) -> Result<(), AllocError>
+    ensures { OnOk result (out.new.items ≡ out.old.items ++ bytes_of (counted _limit (T.spelling _known) T.next) items.now) }
+{
+    put_count(out, items.len())?;
+    put_list(out, items.as_slice())?;
+    Ok(())
+}

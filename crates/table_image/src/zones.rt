@@ -1,0 +1,82 @@
+//! Zones behind their count.
+
+ghost use Rattle.std.specs.Prelude.{◌≡◌, ◌++◌, length, OnOk};
+ghost use Rattle.at_base.specs.Spelling.{bytes_of};
+ghost use Rattle.at_base.specs.Reading.{read};
+ghost use Rattle.table_image.specs.Flaws.{flaws, GivesOrStops, GoesPast};
+ghost use Rattle.table_image.specs.Spelling.{zone_spelling, zones_spelling};
+
+use crate::flaw::{Flaw, Stop};
+use crate::input::name_at;
+use crate::item::{Item, ReadItem, WriteItem, counted_of, pass_counted, put_counted};
+use crate::limits::MOST_ZONES;
+use crate::listed::Listed;
+use crate::output::put_text;
+use at_base::Name;
+use std::alloc::{AllocError, Global};
+
+impl Item for Name {
+    ghost use Rattle.table_image.specs.Same.{zone_same};
+
+    ghost spelling = { λ known low. zone_spelling };
+
+    ghost next = { λ _. 0 };
+
+    fn next_low(&self) -> u32 {
+        0
+    }
+
+    ghost same = { zone_same };
+}
+
+impl ReadItem for Name {
+    fn read_one(
+        _alloc: Global,
+        _known: usize,
+        _low: u32,
+        bytes: &[u8],
+    ) -> Result<(Name, &[u8]), Stop> {
+        match name_at(bytes) {
+            Ok(found) => Ok(found),
+            Err(flaw) => Err(Stop::Refused(flaw)),
+        }
+    }
+
+    fn pass_one(_known: usize, _low: u32, bytes: &[u8]) -> Result<(u32, &[u8]), Flaw> {
+        match name_at(bytes) {
+            Ok((_, rest)) => Ok((0, rest)),
+            Err(flaw) => Err(flaw),
+        }
+    }
+}
+
+impl WriteItem for Name {
+    #[tactic(auto, unfolding(crate::specs::Spelling::text_spelling))]
+    fn write_one(&self, out: &mut Vec<u8>) -> Result<(), AllocError> {
+        put_text(out, self.as_slice())
+    }
+}
+
+/// Zones behind their count.
+#[tactic(auto, unfolding(crate::specs::Spelling::zones_spelling))]
+pub fn zones_at(alloc: Global, bytes: &[u8]) -> Result<(Listed<Name>, &[u8]), Stop>
+    ensures { GivesOrStops (λ x. (x.0, x.1.now)) result (read flaws zones_spelling bytes.now) }
+{
+    counted_of(alloc, MOST_ZONES, 0, bytes)
+}
+
+/// Goes past zones behind their count, and tells how many there were.
+#[tactic(auto, unfolding(crate::specs::Spelling::zones_spelling))]
+pub fn pass_zones(bytes: &[u8]) -> Result<(usize, &[u8]), Flaw>
+    ensures { GoesPast (λ xs. length xs) (λ x. (x.0, x.1.now)) result (read flaws zones_spelling bytes.now) }
+{
+    pass_counted::<Name>(MOST_ZONES, 0, bytes)
+}
+
+/// Writes zones behind their count.
+#[tactic(auto, unfolding(crate::specs::Spelling::zones_spelling))]
+pub fn put_zones(out: &mut Vec<u8>, names: &Listed<Name>) -> Result<(), AllocError>
+    ensures { OnOk result (out.new.items ≡ out.old.items ++ bytes_of zones_spelling names.now) }
+{
+    put_counted(out, MOST_ZONES, 0, names)
+}
