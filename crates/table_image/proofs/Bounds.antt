@@ -80,7 +80,7 @@ image_bounded i h = record {
   routers = counted_few most (λ low. router_spelling (length i.cables)) (λ r. 0) i.routers h.1.0;
   nodes = counted_few most (λ low. node_spelling (length i.cables)) (λ n. 0) i.nodes h.1.1.0;
   each = λ r router e. (
-    let one = one_passes (λ low. IsValue (router_spelling (length i.cables))) (λ r. 0) 0 i.routers r router (counted_each most (λ low. router_spelling (length i.cables)) (λ r. 0) i.routers h.1.0) e in
-    router_limits (length i.cables) router one.1
-  );
+      let one = one_passes (λ low. IsValue (router_spelling (length i.cables))) (λ r. 0) 0 i.routers r router (counted_each most (λ low. router_spelling (length i.cables)) (λ r. 0) i.routers h.1.0) e in
+      router_limits (length i.cables) router one.1
+      );
 }

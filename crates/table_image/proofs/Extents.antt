@@ -36,11 +36,11 @@ placed_left left (Before cause) = omega arith
 field_at_within : {V : Type 0} (fd : Field Wrong V) → Within (field_at flaws fd) (field_len fd)
 field_at_within {V} fd = record {
   ok_within = λ bytes x fits e. (
-    let t = field_takes flaws fd bytes x fits e in
-    let len = length-field_bytes fd x.0 t.1.0 in
-    let parts = ap (λ (b : List ℕ). length b) t.0.parts in
-    (omega (arith, len, parts, length-append {A = ℕ}), t.0.rest_fits)
-  );
+      let t = field_takes flaws fd bytes x fits e in
+      let len = length-field_bytes fd x.0 t.1.0 in
+      let parts = ap (λ (b : List ℕ). length b) t.0.parts in
+      (omega (arith, len, parts, length-append {A = ℕ}), t.0.rest_fits)
+      );
   err_within = λ bytes f fits e. elim (field_fault flaws fd bytes f fits e) [
     | inl h ↦ (let l = h.0 in omega (arith, l))
     | inr h ↦ (let told = ap (λ (g : Flaw). g.left) h.6 in let far = placed_left (length bytes) h.2 in omega (arith, told, far))
@@ -52,28 +52,28 @@ then_within : {A B : Type 0} (reading : List ℕ → Result (A × List ℕ) Flaw
     → ((bytes : List ℕ) (x : A × List ℕ) → IsBytes bytes → reading bytes ≡ Ok x → Within (after x.0) m) → Within (λ bytes. reading bytes >>= λ x. after x.0 x.1) (n + m)
 then_within reading after n m w more = record {
   ok_within = λ bytes x fits e. (
-    let a = bind_ok (reading bytes) (λ y. after y.0 y.1) x e in
-    let first = w.ok_within bytes a.0 fits a.1 in
-    let second = (more bytes a.0 fits a.1).ok_within a.0.1 x first.1 a.2 in
-    (omega (arith, first.0, second.0), second.1)
-  );
+      let a = bind_ok (reading bytes) (λ y. after y.0 y.1) x e in
+      let first = w.ok_within bytes a.0 fits a.1 in
+      let second = (more bytes a.0 fits a.1).ok_within a.0.1 x first.1 a.2 in
+      (omega (arith, first.0, second.0), second.1)
+      );
   err_within = λ bytes f fits e. elim (bind_err (reading bytes) (λ y. after y.0 y.1) f e) [
     | inl h ↦ (let first = w.err_within bytes f fits h in omega (arith, first))
     | inr a ↦ (
-      let first = w.ok_within bytes a.0 fits a.1 in
-      let second = (more bytes a.0 fits a.1).err_within a.0.1 f first.1 a.2 in
-      omega (arith, first.0, second)
-    )
+        let first = w.ok_within bytes a.0 fits a.1 in
+        let second = (more bytes a.0 fits a.1).err_within a.0.1 f first.1 a.2 in
+        omega (arith, first.0, second)
+        )
   ];
 }
 
 done_within : {A : Type 0} (x : A) → Within (λ bytes. Ok (x, bytes)) 0
 done_within {A} x = record {
   ok_within = λ bytes y fits e. (
-    let same = ok_is {E = Flaw} (x, bytes) y e in
-    let rest = ap (λ (z : A × List ℕ). length z.1) same in
-    (omega (arith, rest), subst (λ (z : A × List ℕ). IsBytes z.1) same fits)
-  );
+      let same = ok_is {E = Flaw} (x, bytes) y e in
+      let rest = ap (λ (z : A × List ℕ). length z.1) same in
+      (omega (arith, rest), subst (λ (z : A × List ℕ). IsBytes z.1) same fits)
+      );
   err_within = λ bytes f fits e. absurd (let impossible : ok {E = Flaw} (x, bytes) ≡ Err f = e in cc);
 }
 
@@ -110,7 +110,7 @@ list_reaches : {A B : Type 0} (item : ℕ → Grammar Wrong true B) (next : B �
     → Reaches (list item next count get after) (count * n + m)
 list_reaches item next count get after n m each more = record {
   within_it = then_within (list_at (λ low. read flaws (item low)) next 0 count) (λ v. read flaws (after v)) (count * n) m
-  (list_within (λ low. read flaws (item low)) next n (λ low. (each low).within_it) count 0) (λ bytes x fits e. (more x.0).within_it);
+      (list_within (λ low. read flaws (item low)) next n (λ low. (each low).within_it) count 0) (λ bytes x fits e. (more x.0).within_it);
 }
 
 -- ---- the parts of an image
@@ -119,16 +119,16 @@ counted_reaches : {B : Type 0} (limit n : ℕ) (item : ℕ → Grammar Wrong tru
 unfolding counted
 counted_reaches limit n item next each =
     field_reaches (number one (within 0 limit Count)) (λ xs. length xs) (λ count. list item next count (λ xs. xs) (λ xs. done xs)) (limit * n + 0) (λ count p.
-      let few = (within_bounds 0 limit Count count p.1).1 in
-      less_reaches (list item next count (λ xs. xs) (λ xs. done xs)) (count * n + 0) (limit * n + 0) (omega (arith, mul-le-mul_right n few))
-      (list_reaches item next count (λ xs. xs) (λ xs. done xs) n 0 each (λ xs. done_reaches xs)))
+    let few = (within_bounds 0 limit Count count p.1).1 in
+    less_reaches (list item next count (λ xs. xs) (λ xs. done xs)) (count * n + 0) (limit * n + 0) (omega (arith, mul-le-mul_right n few))
+    (list_reaches item next count (λ xs. xs) (λ xs. done xs) n 0 each (λ xs. done_reaches xs)))
 
 text_reaches : (good : List ℕ → Bool) → Reaches (text_spelling good) 33
 unfolding text_spelling
 text_reaches good =
     field_reaches (number one (within 1 32 Name)) (λ s. length s) _ 32 (λ len p.
-      less_reaches _ (len + 0) 32 (let few = (within_bounds 1 32 Name len p.1).1 in omega (arith, few))
-      (field_reaches (run len (λ s. cond (good s) None (Some (Before Name)))) (λ s. s) (λ s. done s) 0 (λ s q. done_reaches s)))
+    less_reaches _ (len + 0) 32 (let few = (within_bounds 1 32 Name len p.1).1 in omega (arith, few))
+    (field_reaches (run len (λ s. cond (good s) None (Some (Before Name)))) (λ s. s) (λ s. done s) 0 (λ s q. done_reaches s)))
 
 zones_reaches : Reaches zones_spelling 2113
 unfolding zones_spelling

@@ -1,9 +1,11 @@
 -- Whole images: what is read, what is accepted, what is refused, and where.
-use Rattle.std.proofs.Common.{◌≡◌, ℕ, ◌+◌, ◌≤◌, ◌<◌, true, cond, eqb, List, [], ◌∷◌, ◌++◌, length, Result, Ok, Err, refl, sym, ap, subst, ◌∙◌, inl, inr, arith}
+use Rattle.std.proofs.Common.{◌≡◌, ℕ, ◌+◌, ◌^◌, ◌≤◌, ◌<◌, Bool, true, false, cond, eqb, List, [], ◌∷◌, ◌++◌, length, Result, Ok, Err, refl, sym, ap, subst, ◌∙◌, inl, inr, arith}
 use Rattle.std.specs.Prelude.{◌≢◌, ◌⊎◌}
 use Rattle.std.proofs.lemmas.Bool.{eqb-true, cases_eq}
 use Rattle.std.proofs.lemmas.List.{append-nil, nil_from_length}
 use Rattle.at_base.specs.declared.error.Cause.TheVariants.{Trailing}
+use Rattle.at_base.specs.declared.error.Error.{Error}
+use Rattle.at_base.specs.declared.error.Error.TheVariants.{Memory}
 use Rattle.at_base.specs.Spelling.{bytes_of, IsValue, Spells}
 use Rattle.at_base.specs.FirstFault.{FirstFault}
 use Rattle.at_base.specs.Reading.{read}
@@ -12,7 +14,7 @@ use Rattle.at_base.proofs.Laws.{read_takes, read_again, read_fault, read_refused
 use Rattle.table_image.specs.Internet.{Internet}
 use Rattle.table_image.specs.Flaws.{Here, flaw_of, flaws}
 use Rattle.table_image.specs.Spelling.{image_spelling}
-use Rattle.table_image.specs.Reading.{image_at, IsFirstFlaw}
+use Rattle.table_image.specs.Reading.{image_at, IsFirstFlaw, Refuses}
 use Rattle.table_image.specs.declared.flaw.Flaw.{Flaw}
 use Rattle.table_image.proofs.Shape.{image_lawful}
 use Rattle.table_image.proofs.Extents.{most_bytes, image_reaches}
@@ -49,8 +51,11 @@ all_refuses bytes f fits e =
     ]
 
 behind : (x : Internet) (rest : List ℕ) (f : Flaw) → rest ≢ [] → f ≡ flaw_of (length rest) (Here Trailing) → cond (eqb (length rest) 0) (Ok x) (Err (flaw_of (length rest) (Here Trailing))) ≡ Err f
-behind x [] f some is = absurd (some refl)
-behind x (b ∷ rest) f some is = ap (λ (g : Flaw). Err g) (sym is)
+behind x rest f some is = go (eqb (length rest) 0) refl
+  where
+    go : (b : Bool) → eqb (length rest) 0 ≡ b → cond b (Ok x) (Err (flaw_of (length rest) (Here Trailing))) ≡ Err f
+    go true e = absurd (some (nil_from_length rest (eqb-true _ _ e)))
+    go false e = ap (λ (g : Flaw). Err g) (sym is)
 
 -- where there is a flaw, reading answers it
 pub all_refused : (bytes : List ℕ) (f : Flaw) → IsFirstFlaw bytes f → image_at bytes ≡ Err f
@@ -80,3 +85,20 @@ told_early bytes f fits e =
           let taken = (image_reaches.within_it.ok_within bytes a.0 fits a.1).0 in
           omega (arith, told, taken)
     ]
+
+-- so its place fits 32 bits
+pub place_fits : (bytes : List ℕ) (f : Flaw) → IsBytes bytes → image_at bytes ≡ Err f → length bytes < f.left + 2 ^ 32
+place_fits bytes f fits e = let early = told_early bytes f fits e in omega (arith, early)
+
+-- there is one flaw
+pub one_flaw : (bytes : List ℕ) (f g : Flaw) → image_at bytes ≡ Err f → IsFirstFlaw bytes g → f ≡ g
+one_flaw bytes f g e h = err_is {A = Internet} f g (sym e ∙ all_refused bytes g h)
+
+-- bytes that are read have no flaw
+pub read_no_flaw : (bytes : List ℕ) (x : Internet) (f : Flaw) → image_at bytes ≡ Ok x → IsFirstFlaw bytes f → ⊥
+read_no_flaw bytes x f e h = let g : image_at bytes ≡ Err f = all_refused bytes f h in cc
+
+-- what refuses bytes that spell an image is want of memory
+pub only_memory : (bytes : List ℕ) (x : Internet) (e : Error) → Spells image_spelling bytes x → Refuses bytes e → e ≡ Memory
+only_memory bytes x e s (inl h) = h.0
+only_memory bytes x e s (inr (f, h, is)) = absurd (no_flaw bytes x f s (all_refused bytes f h))

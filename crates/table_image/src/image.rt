@@ -1,14 +1,13 @@
 //! The image of an internet's tables.
 
-ghost use Rattle.std.specs.Prelude.{◌≡◌, ◌++◌, ◌⊎◌, ℕ, List, length, OnOk, IfOk, IfErr, IsOkUnless, MatchResult};
+ghost use Rattle.std.specs.Prelude.{◌≡◌, ◌+◌, ◌^◌, ◌<◌, ◌++◌, ◌⊎◌, ℕ, List, length, OnOk, IfOk, IfErr, IsOkUnless, MatchResult};
 ghost use Rattle.at_base.specs.Spelling.{bytes_of, Spells};
 ghost use Rattle.at_base.specs.Reading.{read as read_by, Gives};
-ghost use Rattle.table_image.specs.Internet.{IsBounded};
+ghost use Rattle.table_image.specs.Internet.{Internet, IsBounded};
 ghost use Rattle.table_image.specs.Flaws.{flaws, GivesOrStops, GoesPast};
 ghost use Rattle.table_image.specs.Spelling.{counted, front_spelling, router_spelling, node_spelling, image_spelling};
 ghost use Rattle.table_image.specs.Reading.{image_at, IsFirstFlaw, refusal, Refuses};
 ghost use Rattle.table_image.specs.declared.flaw.Flaw.{Flaw as ImageFlaw};
-ghost use Rattle.table_image.specs.declared.image.Image.{Image as Tables};
 
 use crate::cable::Cable;
 use crate::flaw::{Flaw, Stop};
@@ -152,3 +151,93 @@ fn pass_image(bytes: &[u8]) -> Result<(usize, &[u8]), Flaw>
     let (_nodes, rest) = pass_counted::<Node>(MOST, cables, rest)?;
     Ok((cables, rest))
 }
+
+#[tactic(auto, unfolding(crate::specs::Reading::image_at))]
+fn look_through(bytes: &[u8]) -> Result<(), Flaw>
+    ensures spells { OnOk result ((i : Internet) × (image_at bytes.now ≡ Ok i)) }
+    ensures flawed { IfErr result (λ f. image_at bytes.now ≡ Err f) }
+{
+    let (_, rest) = pass_image(bytes)?;
+    if !rest.is_empty() {
+        return Err(wrong(rest, Cause::Trailing));
+    }
+    Ok(())
+}
+
+// The limits of an image keep the place of a flaw below 2 ^ 32.
+fn refused(bytes: &[u8], flaw: Flaw) -> Error
+    requires { length bytes.now < flaw.left + 2 ^ 32 }
+    ensures { result ≡ refusal bytes.now flaw }
+{
+    let place = bytes.len().saturating_sub(flaw.left);
+    Error::BadImage(place as u32, flaw.cause)
+}
+
+// Memory ran out. Whether it is the answer is told by the rest of the input, which is looked through without memory.
+fn refused_for_memory(bytes: &[u8]) -> Error
+    ensures refused { Refuses bytes.now result }
+    ensures first { (f : ImageFlaw) → IsFirstFlaw bytes.now f → result ≡ refusal bytes.now f }
+{
+    match look_through(bytes) {
+        Ok(()) => Error::Memory,
+        Err(flaw) => refused(bytes, flaw),
+    }
+}
+
+/// The image that the bytes spell. Errors: `BadImage`, the first flaw of bytes that spell no image; `Memory`, only where
+/// they spell one. (own)
+pub fn read(alloc: Global, bytes: &[u8]) -> Result<Image, Error>
+    // What is read is spelled so.
+    ensures found { IfOk result (λ i. Spells image_spelling bytes.now i) }
+    // What is spelled so is read, unless memory runs out.
+    ensures only { (i : Internet) → Spells image_spelling bytes.now i → MatchResult result (λ j. j ≡ i) (λ e. e ≡ Error.Memory) }
+    // Where the bytes have a flaw, it is the answer.
+    ensures first { (f : ImageFlaw) → IsFirstFlaw bytes.now f → result ≡ Err (refusal bytes.now f) }
+    // A refusal is the first flaw, or for want of memory, and that only where the bytes spell an image.
+    ensures refused { IfErr result (Refuses bytes.now) }
+{
+    match whole(alloc, bytes) {
+        Ok(parts) => {
+            let Parts {
+                cables,
+                routers,
+                nodes,
+            } = parts;
+            Ok(Image {
+                cables,
+                routers,
+                nodes,
+            })
+        }
+        Err(Stop::Memory) => Err(refused_for_memory(bytes)),
+        Err(Stop::Refused(flaw)) => Err(refused(bytes, flaw)),
+    }
+}
+
+#[tactic(auto, unfolding(crate::specs::Spelling::image_spelling, crate::specs::Spelling::front_spelling))]
+fn put_image(out: &mut Vec<u8>, image: &Image) -> Result<(), AllocError>
+    ensures { OnOk result (out.new.items ≡ out.old.items ++ bytes_of image_spelling image.now) }
+{
+    out.extend_from_slice(&[0x41, 0x54, 0x49, 0x4D])?;
+    put_byte(out, 1)?;
+    put_counted(out, MOST, 0, &image.cables)?;
+    put_counted(out, MOST, image.cables.len(), &image.routers)?;
+    put_counted(out, MOST, image.cables.len(), &image.nodes)
+}
+
+/// The one spelling of an image. Error: `Memory`. (own)
+pub fn write(alloc: Global, image: &Image) -> Result<Bytes, Error>
+    ensures spelled { IfOk result (λ bytes. Spells image_spelling bytes image.now) }
+    ensures refused { IsOkUnless result Error.Memory }
+{
+    let mut out = Vec::new(alloc);
+    let _opened = &image.cables;
+    put_image(&mut out, image)?;
+    Ok(Bytes::from_vec(out))
+}
+
+/// No image has two spellings, and no bytes spell two images.
+pub fn one_spelling()
+    ensures spelling { (a b : List ℕ) (i : Internet) → Spells image_spelling a i → Spells image_spelling b i → a ≡ b }
+    ensures image { (a : List ℕ) (i j : Internet) → Spells image_spelling a i → Spells image_spelling a j → i ≡ j }
+{}

@@ -14,7 +14,7 @@ mod router;
 mod zones;
 
 pub use cable::Cable;
-pub use image::Image;
+pub use image::{Image, one_spelling, read, write};
 pub use listed::Listed;
 pub use node::{Node, NodeName};
 pub use router::{Port, Router, Row, ZoneList};

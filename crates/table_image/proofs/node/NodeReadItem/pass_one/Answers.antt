@@ -5,8 +5,7 @@ use Rattle.table_image.proofs.node.NodeReadItem.pass_one.Goals as goal
 pub returns : goal.returns
 unfolding node_spelling
 returns c =
-    let names = c.in_ok-_names.ensures in
-    (
+    let names = c.in_ok-_names.ensures in (
       record {
         cable = c.in_ok-_cable._cable;
         address = c.in_ok-_address._address;
