@@ -1,0 +1,5 @@
+pub mod WalkLists
+pub mod WalkFacts
+pub mod WalkSteps
+pub mod WalkHome
+pub mod SeatPlaces

@@ -1,0 +1,30 @@
+//! Laws of internets that pass, for contracts and proofs of other crates. The functions do nothing: what they ensure is
+//! the law.
+
+ghost use Rattle.std.specs.Prelude.{◌≡◌, ℕ, ◌<◌, ◌≤◌, length};
+ghost use Rattle.table_image.specs.Internet.{Internet};
+ghost use Rattle.table_image.specs.Routing.{Nowhere, home, hand, distance};
+ghost use Rattle.audit.specs.Rules.{Passes};
+ghost use Rattle.audit.specs.Walks.{WalksHome, Steps};
+
+/// One walk home: from each router a datagram to a listed network has exactly one walk over the tables. It ends at the
+/// network's home, visits no router twice, and has at most 15 routers. (own)
+pub fn one_walk_home()
+    ensures { (i : Internet) → Passes i → WalksHome i }
+{}
+
+/// Each router puts a datagram to a listed network on the network's home, where it has a port, or hands it on to a next
+/// router that is one nearer, over another cable where both have a port. (own)
+pub fn each_step()
+    ensures { (i : Internet) (r n c : ℕ) → Passes i → r < length i.routers → home i n ≡ Some c → Steps i n c r }
+{}
+
+/// A listed network is at most 14 routers away by each router's table, so a datagram's hops suffice. (own)
+pub fn distances_fit()
+    ensures { (i : Internet) (r n c : ℕ) → Passes i → r < length i.routers → home i n ≡ Some c → distance i r n ≤ 14 }
+{}
+
+/// A router has nowhere to send a datagram to a network that no cable has. (own)
+pub fn unlisted_is_nowhere()
+    ensures { (i : Internet) (r n : ℕ) → Passes i → r < length i.routers → home i n ≡ None → hand i r n ≡ Nowhere }
+{}
