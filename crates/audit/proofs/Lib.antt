@@ -3,3 +3,4 @@ pub mod WalkFacts
 pub mod WalkSteps
 pub mod WalkHome
 pub mod SeatPlaces
+pub mod SeatUnique

@@ -5,7 +5,7 @@ ghost use Rattle.std.specs.Prelude.{◌≡◌, ℕ, ◌<◌, ◌≤◌, length};
 ghost use Rattle.table_image.specs.Internet.{Internet};
 ghost use Rattle.table_image.specs.Routing.{Nowhere, home, hand, distance};
 ghost use Rattle.audit.specs.Rules.{Passes};
-ghost use Rattle.audit.specs.Walks.{WalksHome, Steps};
+ghost use Rattle.audit.specs.Walks.{WalksHome, Steps, SeatsAreUnique};
 
 /// One walk home: from each router a datagram to a listed network has exactly one walk over the tables. It ends at the
 /// network's home, visits no router twice, and has at most 15 routers. (own)
@@ -27,4 +27,10 @@ pub fn distances_fit()
 /// A router has nowhere to send a datagram to a network that no cable has. (own)
 pub fn unlisted_is_nowhere()
     ensures { (i : Internet) (r n : ℕ) → Passes i → r < length i.routers → home i n ≡ None → hand i r n ≡ Nowhere }
+{}
+
+/// No two stations share an address, a router has no address twice, and on a cable no hardware address is there twice:
+/// an address has one owner. (own)
+pub fn seats_are_unique()
+    ensures { (i : Internet) → Passes i → SeatsAreUnique i }
 {}

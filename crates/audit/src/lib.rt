@@ -4,5 +4,5 @@
 mod laws;
 mod verdict;
 
-pub use laws::{distances_fit, each_step, one_walk_home, unlisted_is_nowhere};
+pub use laws::{distances_fit, each_step, one_walk_home, seats_are_unique, unlisted_is_nowhere};
 pub use verdict::{Summary, Verdict};
