@@ -4,3 +4,5 @@ pub mod WalkSteps
 pub mod WalkHome
 pub mod SeatPlaces
 pub mod SeatUnique
+pub mod ExamplePlaces
+pub mod ExampleWalks

@@ -1,11 +1,12 @@
 //! Laws of internets that pass, for contracts and proofs of other crates. The functions do nothing: what they ensure is
 //! the law.
 
-ghost use Rattle.std.specs.Prelude.{◌≡◌, ℕ, ◌<◌, ◌≤◌, length};
+ghost use Rattle.std.specs.Prelude.{◌≡◌, ◌≢◌, ℕ, ◌<◌, ◌≤◌, List, [], ◌∷◌, length};
 ghost use Rattle.table_image.specs.Internet.{Internet};
 ghost use Rattle.table_image.specs.Routing.{Nowhere, home, hand, distance};
-ghost use Rattle.audit.specs.Rules.{Passes};
-ghost use Rattle.audit.specs.Walks.{WalksHome, Steps, SeatsAreUnique};
+ghost use Rattle.audit.specs.Example.{three_cables, pointing_at_each_other};
+ghost use Rattle.audit.specs.Rules.{Keeps, Passes};
+ghost use Rattle.audit.specs.Walks.{IsWalk, WalksHome, Steps, SeatsAreUnique};
 
 /// One walk home: from each router a datagram to a listed network has exactly one walk over the tables. It ends at the
 /// network's home, visits no router twice, and has at most 15 routers. (own)
@@ -33,4 +34,19 @@ pub fn unlisted_is_nowhere()
 /// an address has one owner. (own)
 pub fn seats_are_unique()
     ensures { (i : Internet) → Passes i → SeatsAreUnique i }
+{}
+
+/// Two routers that join three cables, with a node on the first and a printer on the last, pass. A datagram from the
+/// first router to the last cable goes by way of the second router. (own)
+pub fn the_example_passes()
+    ensures passes { Passes three_cables }
+    ensures walk { IsWalk three_cables 30 0 (1 ∷ []) 2 }
+{}
+
+/// Where two routers each hold that the other is nearer to a listed network, a datagram to it goes round and round: no
+/// walk ends. The tables keep every rule but C7. (own)
+pub fn loops_have_no_walk()
+    ensures no_walk { (rest : List ℕ) (c : ℕ) → ¬ IsWalk pointing_at_each_other 30 0 rest c }
+    ensures listed { home pointing_at_each_other 30 ≡ Some 2 }
+    ensures others { (rule : ℕ) → rule ≢ 7 → Keeps pointing_at_each_other rule }
 {}
