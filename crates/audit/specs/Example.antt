@@ -1,0 +1,88 @@
+-- Two small internets: one that passes, and one whose routers send a datagram round and round. (own)
+use Rattle.std.specs.Prelude.{ℕ, true, List, [], ◌∷◌, Some, codes}
+use Rattle.at_base.specs.declared.address.Addr.{Addr}
+use Rattle.at_base.specs.declared.address.Hw.{Hw}
+use Rattle.rtmp.specs.declared.state.State.TheVariants.{Good}
+use Rattle.table_image.specs.Internet.{Internet}
+use Rattle.table_image.specs.declared.cable.Cable.{Cable}
+use Rattle.table_image.specs.declared.router.Port.{Port}
+use Rattle.table_image.specs.declared.router.Row.{Row}
+use Rattle.table_image.specs.declared.router.ZoneList.{ZoneList}
+use Rattle.table_image.specs.declared.router.Router.{Router}
+
+abbrev pub addr : ℕ → ℕ → Addr
+addr net node = record { net = net; node = node }
+
+-- the hardware address 02:00:00:00:00 and this byte
+abbrev pub hardware : ℕ → Hw
+hardware byte = record { 0 = 2 ∷ 0 ∷ 0 ∷ 0 ∷ 0 ∷ byte ∷ [] }
+
+abbrev pub port : ℕ → Addr → ℕ → Port
+port cable address byte = record { cable = cable; address = address; hardware = hardware byte }
+
+-- the direct row for the networks from start to end, by a port
+abbrev pub direct : ℕ → ℕ → ℕ → Row
+direct start end port = record { start = start; end = end; distance = 0; port = port; next = addr 0 0; state = Good }
+
+-- the row by way of a next router that is on the cable
+abbrev pub by_way_of : Addr → ℕ → ℕ → ℕ → Row
+by_way_of next start end port = record { start = start; end = end; distance = 1; port = port; next = next; state = Good }
+
+-- the networks 10 to 19 in zone Red, 20 to 29 in both, and 30 to 39 in zone Blue
+abbrev pub example_cables : List Cable
+example_cables =
+    record { start = 10; end = 19; zones = codes "Red" ∷ [] }
+    ∷ record { start = 20; end = 29; zones = codes "Red" ∷ codes "Blue" ∷ [] }
+    ∷ record { start = 30; end = 39; zones = codes "Blue" ∷ [] } ∷ []
+
+-- the zones of these cables, as each router knows them
+abbrev pub example_lists : List ZoneList
+example_lists =
+    record { start = 10; end = 19; complete = true; zones = codes "Red" ∷ [] }
+    ∷ record { start = 20; end = 29; complete = true; zones = codes "Red" ∷ codes "Blue" ∷ [] }
+    ∷ record { start = 30; end = 39; complete = true; zones = codes "Blue" ∷ [] } ∷ []
+
+-- a router on the cables 0 and 1, which reaches the third by way of 20.2
+abbrev pub first_router : Router
+first_router = record {
+  ports = port 0 (addr 10 1) 1 ∷ port 1 (addr 20 1) 2 ∷ [];
+  rows = direct 10 19 0 ∷ direct 20 29 1 ∷ by_way_of (addr 20 2) 30 39 1 ∷ [];
+  lists = example_lists;
+}
+
+-- a router on the cables 1 and 2, which reaches the first by way of 20.1
+abbrev pub second_router : Router
+second_router = record {
+  ports = port 1 (addr 20 2) 3 ∷ port 2 (addr 30 1) 4 ∷ [];
+  rows = by_way_of (addr 20 1) 10 19 0 ∷ direct 20 29 0 ∷ direct 30 39 1 ∷ [];
+  lists = example_lists;
+}
+
+-- Three cables in a line: two routers join them, and there is a node on the first and one, a printer, on the last.
+abbrev pub three_cables : Internet
+three_cables = record {
+  cables = example_cables;
+  routers = first_router ∷ second_router ∷ [];
+  nodes =
+      record { cable = 0; address = addr 10 7; hardware = hardware 5; zone = codes "Red"; router = Some (addr 10 1); names = [] }
+      ∷ record {
+        cable = 2;
+        address = addr 30 5;
+        hardware = hardware 6;
+        zone = codes "Blue";
+        router = Some (addr 30 1);
+        names = record { socket = 129; enumerator = 1; object = codes "lab"; kind = codes "LaserWriter" } ∷ [];
+      } ∷ [];
+}
+
+-- a router on the cable 1 alone, which sends datagrams for the first and for the last by way of 20.1
+abbrev pub turned_router : Router
+turned_router = record {
+  ports = port 1 (addr 20 2) 3 ∷ [];
+  rows = by_way_of (addr 20 1) 10 19 0 ∷ direct 20 29 0 ∷ by_way_of (addr 20 1) 30 39 0 ∷ [];
+  lists = example_lists;
+}
+
+-- The same cables, but neither router is on the last, and each holds that the other is.
+abbrev pub pointing_at_each_other : Internet
+pointing_at_each_other = record { cables = example_cables; routers = first_router ∷ turned_router ∷ []; nodes = [] }
