@@ -1,0 +1,2 @@
+pub mod CableOrder
+pub mod Firsts

@@ -1,3 +1,4 @@
+pub mod Firsts
 pub mod Rules
 pub mod Verdicts
 pub mod Walks
