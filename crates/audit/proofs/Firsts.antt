@@ -1,9 +1,8 @@
--- The first of a list, of a router's places and of all places: what a scan has shown.
-use Rattle.std.proofs.Common.{◌≡◌, ℕ, zero, suc, ◌+◌, ◌<◌, ◌≤◌, ◌⊎◌, inl, inr, Bool, true, false, List, [], ◌∷◌, Option, Some, None, length, get_or, refl, sym, ap, ◌∙◌, subst, arith, slice_get, position, nat_lt, below_more}
+-- The first of a list: what a scan has shown.
+use Rattle.std.proofs.Common.{◌≡◌, ℕ, ◌+◌, ◌<◌, ◌≤◌, ◌⊎◌, inl, inr, Bool, true, false, List, Option, Some, None, length, get_or, refl, sym, ap, ◌∙◌, subst, arith, slice_get, below_more}
 use Rattle.std.proofs.lemmas.Option.{slice_get_within, slice_get_past, slice_get-get_or}
 use Rattle.std.proofs.lemmas.Bool.{cases_lt}
 use Rattle.table_image.specs.Places.{on}
-use Rattle.audit.specs.Firsts.{FirstOf}
 
 -- a test at an element that is there
 pub on_some : {X : Type 0} (xs : List X) (k : ℕ) (x : X) (test : X → Bool) (b : Bool) → slice_get xs k ≡ Some x → test x ≡ b → on (slice_get xs k) test ≡ b
@@ -13,20 +12,27 @@ on_some xs k x test b at t = ap (λ o. on o test) at ∙ t
 pub on_past : {X : Type 0} (xs : List X) (k : ℕ) (test : X → Bool) → length xs ≤ k → on (slice_get xs k) test ≡ false
 on_past xs k test past = ap (λ o. on o test) (slice_get_past xs k past)
 
--- the element that a loop holds stands at its index
+-- no element passes a test that none can
+pub on_never : {X : Type 0} (o : Option X) (test : X → Bool) → ((x : X) → test x ≡ false) → on o test ≡ false
+on_never None test never = refl
+on_never (Some x) test never = never x
+
+-- a test at a part of a router, or of the like
+pub part_at : {X Y : Type 0} (xs : List X) (r : ℕ) (x : X) (parts : X → List Y) (k : ℕ) (y : Y) (test : X → Y → Bool) (b : Bool) → slice_get xs r ≡ Some x → slice_get (parts x) k ≡ Some y → test x y ≡ b → on (slice_get xs r) (λ x. on (slice_get (parts x) k) (test x)) ≡ b
+part_at xs r x parts k y test b at there t = on_some xs r x (λ x. on (slice_get (parts x) k) (test x)) b at (on_some (parts x) k y (test x) b there t)
+
+-- no test passes past the last part
+pub part_past : {X Y : Type 0} (xs : List X) (r : ℕ) (x : X) (parts : X → List Y) (k : ℕ) (test : X → Y → Bool) → slice_get xs r ≡ Some x → length (parts x) ≤ k → on (slice_get xs r) (λ x. on (slice_get (parts x) k) (test x)) ≡ false
+part_past xs r x parts k test at past = on_some xs r x (λ x. on (slice_get (parts x) k) (test x)) false at (on_past (parts x) k (test x) past)
+
+-- the element that a loop over ys, which are xs, holds stands at its index
 pub item_at : {X : Type 0} (xs ys : List X) (k : ℕ) (x : X) → ys ≡ xs → k < length ys → x ≡ get_or ys k x → slice_get xs k ≡ Some x
 item_at xs ys k x same lt e = ap (λ l. slice_get l k) (sym same) ∙ (slice_get-get_or ys k x lt ∙ ap Some (sym e))
 
--- a scan came to an element that passes
-pub first_here : {X : Type 0} (test : ℕ → X → Bool) (xs : List X) (k : ℕ) (x : X) → slice_get xs k ≡ Some x → test k x ≡ true → ((j : ℕ) → j < k → on (slice_get xs j) (test j) ≡ false) → FirstOf test xs (Some k)
-first_here test xs k x at t before = (slice_get_within xs k x at, on_some xs k x (test k) true at t, before)
+-- where a loop over ys, which are xs, has ended
+pub end_of : {X : Type 0} (xs ys : List X) (k : ℕ) → ys ≡ xs → length ys ≤ k → length xs ≤ k
+end_of xs ys k same past = subst (λ l. length l ≤ k) same past
 
--- a scan came to an element that doesn't pass
-pub one_more : {X : Type 0} (test : ℕ → X → Bool) (xs : List X) (k : ℕ) (x : X) → slice_get xs k ≡ Some x → test k x ≡ false → ((j : ℕ) → j < k → on (slice_get xs j) (test j) ≡ false) → (j : ℕ) → j < k + 1 → on (slice_get xs j) (test j) ≡ false
-one_more test xs k x at t before = below_more _ _ before (on_some xs k x (test k) false at t)
-
--- a scan came to the end
-pub none_passes : {X : Type 0} (test : ℕ → X → Bool) (xs ys : List X) (k : ℕ) → ys ≡ xs → length ys ≤ k → ((j : ℕ) → j < k → on (slice_get xs j) (test j) ≡ false) → FirstOf test xs None
-none_passes test xs ys k same past before j =
-    let end : length xs ≤ k = subst (λ l. length l ≤ k) same past in
-    elim (cases_lt j k) [ inl lt ↦ before j lt | inr ge ↦ on_past xs j (test j) (omega arith) ]
+-- what no number below n passes, nor one from n on, none passes
+pub none_at_all : (test : ℕ → Bool) (n : ℕ) → ((k : ℕ) → n ≤ k → test k ≡ false) → ((j : ℕ) → j < n → test j ≡ false) → (k : ℕ) → test k ≡ false
+none_at_all test n past before k = elim (cases_lt k n) [ inl lt ↦ before k lt | inr ge ↦ past k ge ]

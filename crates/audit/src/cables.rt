@@ -1,9 +1,9 @@
 //! Rule C1: the cables stand in order.
 
-ghost use Rattle.std.specs.Prelude.{◌≡◌, ◌+◌, ◌<◌, suc};
+ghost use Rattle.std.specs.Prelude.{◌≡◌, ◌+◌, ◌<◌, suc, IfSome};
 ghost use Rattle.std.specs.List.{list_any};
 ghost use Rattle.at_base.specs.Text.{same_name};
-ghost use Rattle.audit.specs.Firsts.{FirstPlace};
+ghost use Rattle.audit.specs.Firsts.{FirstNumber, FirstPlace};
 ghost use Rattle.audit.specs.Rules.{bad_cable as bad, c1, has_double as doubled};
 
 use at_base::{Name, Place};
@@ -43,16 +43,23 @@ fn is_bad(before: u16, cable: &Cable) -> bool
         || has_double(cable.zones.as_slice())
 }
 
-/// The first cable that breaks rule C1.
-pub fn bad_cable(image: &Image) -> Option<Place>
-    ensures { FirstPlace (c1 image.now) result }
+fn first_cable(image: &Image) -> Option<usize>
+    ensures first { FirstNumber (λ k. c1 image.now (Place.Cable (suc k))) result }
+    ensures low { IfSome result (λ k. k < 200) }
 {
     let mut before = 0;
     for (k, cable) in image.cables().iter().enumerate() {
         if is_bad(before, cable) {
-            return Some(Place::Cable(from_one(k)));
+            return Some(k);
         }
         before = cable.end;
     }
     None
+}
+
+/// The first cable that breaks rule C1.
+pub fn bad_cable(image: &Image) -> Option<Place>
+    ensures { FirstPlace (c1 image.now) result }
+{
+    first_cable(image).map(|k| Place::Cable(from_one(k)))
 }

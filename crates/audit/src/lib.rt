@@ -2,6 +2,7 @@
 #![tactic(auto)]
 
 mod cables;
+mod stations;
 mod verdict;
 
 pub use verdict::{Summary, Verdict};
