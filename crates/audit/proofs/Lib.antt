@@ -1,2 +1,5 @@
 pub mod CableOrder
+pub mod Finding
 pub mod Firsts
+pub mod Owners
+pub mod RowOrder

@@ -2,6 +2,8 @@
 #![tactic(auto)]
 
 mod cables;
+mod lookups;
+mod rows;
 mod stations;
 mod verdict;
 
