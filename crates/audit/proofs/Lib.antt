@@ -3,3 +3,4 @@ pub mod Finding
 pub mod Firsts
 pub mod Owners
 pub mod RowOrder
+pub mod RowPlaces
