@@ -4,3 +4,5 @@ pub mod Firsts
 pub mod Owners
 pub mod RowOrder
 pub mod RowPlaces
+pub mod RuleOrder
+pub mod Summaries

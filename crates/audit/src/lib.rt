@@ -2,9 +2,12 @@
 #![tactic(auto)]
 
 mod cables;
+mod judge;
 mod lookups;
 mod rows;
 mod stations;
+mod summary;
 mod verdict;
 
+pub use judge::audit;
 pub use verdict::{Summary, Verdict};
