@@ -1,10 +1,10 @@
 -- Rule C1, and what it gives: cables in rising order.
-use Rattle.std.proofs.Common.{◌≡◌, ℕ, zero, suc, ◌+◌, ◌<◌, ◌≤◌, ◌⊎◌, inl, inr, ◌&&◌, ◌||◌, true, false, List, Some, None, slice_get, length, add-one, arith, ap, sym, ◌∙◌, refl, subst}
-use Rattle.std.proofs.lemmas.Bool.{or_parts, eqb-false, eqb-true, ltb-false, leb-false, and_parts, cases_order, false_from_ne_true}
+use Rattle.std.proofs.Common.{◌≡◌, ℕ, zero, suc, ◌+◌, ◌<◌, ◌≤◌, inl, inr, true, false, List, Some, None, slice_get, add-one, arith, ap, sym, ◌∙◌}
+use Rattle.std.proofs.lemmas.Bool.{or_parts, eqb-true, ltb-false, leb-false, and_parts, cases_order, false_from_ne_true}
 use Rattle.std.proofs.lemmas.Option.{slice_get_within, slice_get-get_or}
 use Rattle.at_base.specs.declared.error.Place.TheVariants as place
 use Rattle.table_image.specs.Internet.{Internet}
-use Rattle.table_image.specs.Places.{on, index_of}
+use Rattle.table_image.specs.Places.{on}
 use Rattle.table_image.specs.declared.cable.Cable.{Cable}
 use Rattle.table_image.specs.declared.router.Row.{Row}
 use Rattle.audit.specs.Firsts.{FirstPlace}

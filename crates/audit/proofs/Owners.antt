@@ -3,13 +3,12 @@ use Rattle.std.proofs.Common.{◌≡◌, ℕ, zero, suc, ◌+◌, ◌<◌, ◌�
 use Rattle.std.specs.List.{list_any}
 use Rattle.std.proofs.lemmas.List.{append_assoc}
 use Rattle.std.proofs.lemmas.Bool.{false_from_ne_true, lt-ltb, le-ltb, and_parts, or_left, or_right, both_ways, or_parts, eqb-true, eq-eqb, and_from}
-use Rattle.std.proofs.lemmas.Option.{slice_get_within}
 use Rattle.at_base.specs.declared.address.Addr.{Addr}
 use Rattle.at_base.specs.declared.error.Place.TheVariants as place
 use Rattle.table_image.specs.Internet.{Internet}
-use Rattle.table_image.specs.Places.{on, index_of}
+use Rattle.table_image.specs.Places.{index_of}
 use Rattle.table_image.specs.Routing.{owner, router_of}
-use Rattle.table_image.specs.Seats.{Seat, same_address, port_seat, router_seats, node_seats, seats, seat_at}
+use Rattle.table_image.specs.Seats.{Seat, same_address, port_seat, router_seats, node_seats}
 use Rattle.table_image.specs.declared.router.Port.{Port}
 use Rattle.table_image.specs.declared.router.Router.{Router}
 use Rattle.table_image.specs.declared.node.Node.{Node}

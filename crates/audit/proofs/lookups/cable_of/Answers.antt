@@ -1,4 +1,4 @@
-use Rattle.std.proofs.Common.{◌≡◌, ◌∙◌, ap, sym, position}
+use Rattle.std.proofs.Common.{◌∙◌, ap, sym, position}
 use Rattle.audit.specs.Rules.{is_for}
 use Rattle.audit.proofs.CableOrder.{only_cable}
 use Rattle.audit.proofs.Finding.{index_position}

@@ -1,4 +1,4 @@
-use Rattle.std.proofs.Common.{◌≡◌, ◌∙◌, ap, sym, position}
+use Rattle.std.proofs.Common.{◌∙◌, ap, sym, position}
 use Rattle.audit.proofs.Finding.{index_position}
 use Rattle.audit.proofs.Firsts.{item_at}
 use Rattle.audit.proofs.Owners.{has_seat, owner_is, only_router}

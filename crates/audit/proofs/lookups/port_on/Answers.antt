@@ -1,4 +1,4 @@
-use Rattle.std.proofs.Common.{◌≡◌, ◌∙◌, ap, position, ◌==◌}
+use Rattle.std.proofs.Common.{◌∙◌, ap, position, ◌==◌}
 use Rattle.audit.proofs.Finding.{index_position}
 use Rattle.audit.proofs.lookups.port_on.Goals as goal
 

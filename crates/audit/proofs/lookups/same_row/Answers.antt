@@ -1,4 +1,4 @@
-use Rattle.std.proofs.Common.{◌≡◌, ◌∙◌, sym, refl}
+use Rattle.std.proofs.Common.{◌∙◌, sym}
 use Rattle.audit.proofs.Firsts.{item_at}
 use Rattle.audit.proofs.RowOrder.{only_row}
 use Rattle.audit.proofs.lookups.same_row.Goals as goal

@@ -1,4 +1,4 @@
-use Rattle.std.proofs.Common.{◌≡◌, ◌∙◌, ap, sym, subst, suc, arith, Some}
+use Rattle.std.proofs.Common.{◌∙◌, ap, sym, subst, suc, arith, Some}
 use Rattle.at_base.specs.declared.error.Place.{Place}
 use Rattle.at_base.specs.declared.error.Place.TheVariants as place
 use Rattle.audit.specs.Firsts.{FirstPlace}

@@ -1,4 +1,4 @@
-use Rattle.std.proofs.Common.{◌≡◌, ◌∙◌, ap, sym, slice_get}
+use Rattle.std.proofs.Common.{◌∙◌, ap, sym}
 use Rattle.std.proofs.lemmas.Option.{slice_get_past}
 use Rattle.audit.specs.Rules.{same_row}
 use Rattle.audit.proofs.Firsts.{item_at, end_of}

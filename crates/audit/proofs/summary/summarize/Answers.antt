@@ -1,4 +1,4 @@
-use Rattle.std.proofs.Common.{ℕ, ◌≡◌, ◌∙◌, ap, length, max, fold, sum_by, List, arith}
+use Rattle.std.proofs.Common.{◌∙◌, ap, length, max, fold, sum_by, arith}
 use Rattle.table_image.specs.declared.router.Router.{Router}
 use Rattle.audit.proofs.Summaries.{few_rows, greatest_is, same_summary}
 use Rattle.audit.proofs.summary.summarize.Goals as goal
