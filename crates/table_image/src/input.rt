@@ -10,7 +10,7 @@ ghost use Rattle.table_image.specs.Tests.{any, within, below, rising, enumerator
 ghost use Rattle.table_image.specs.Spelling.{address_spelling, text_spelling};
 
 use crate::flaw::Flaw;
-use at_base::{Addr, Cause, Hw, Name, Text32};
+use at_base::{Addr, Cause, Hw, Name, Text32, is_zone_name};
 
 fn cut() -> Flaw
     ensures { result ≡ record { left = 0; cause = Cause.Cut } }
@@ -151,10 +151,10 @@ pub fn name_at(bytes: &[u8]) -> Result<(Name, &[u8]), Flaw>
 {
     let (len, after) = byte_within(bytes, 1, 32, Cause::Name)?;
     let (text, rest) = split(after, len as usize)?;
-    match Name::new(text) {
-        Ok(name) => Ok((name, rest)),
-        Err(_) => Err(wrong_text(after)),
+    if !is_zone_name(text) {
+        return Err(wrong_text(after));
     }
+    Ok((Name::of(text), rest))
 }
 
 fn has_no_wildcard(text: &[u8]) -> bool
