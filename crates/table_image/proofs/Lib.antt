@@ -4,3 +4,4 @@ pub mod Shape
 pub mod Extents
 pub mod Whole
 pub mod Bounds
+pub mod Flawed

@@ -8,3 +8,5 @@ pub mod Tests
 pub mod Spelling
 pub mod Reading
 pub mod Same
+pub mod Short
+pub mod Checking

@@ -2,6 +2,7 @@
 #![tactic(auto)]
 
 mod cable;
+mod checking;
 mod flaw;
 mod image;
 mod input;
