@@ -2,5 +2,7 @@
 #![tactic(auto)]
 
 mod header;
+mod view;
 
 pub use header::Header;
+pub use view::View;
