@@ -1,3 +1,5 @@
 pub mod Shape
 pub mod Places
 pub mod Extents
+pub mod Bodies
+pub mod Agreement
