@@ -3,3 +3,4 @@ pub mod Places
 pub mod Extents
 pub mod Bodies
 pub mod Agreement
+pub mod Written

@@ -1,7 +1,9 @@
 -- The datagram that bytes are, each field found by its place. (Inside AppleTalk, the chapter on DDP)
-use Rattle.std.specs.Prelude.{ℕ, ◌+◌, ◌*◌, ◌/◌, ◌%◌, ◌≤◌, List, length, take, drop, slice_index, Result, Ok, Err, nat_lt, if◌then◌else◌}
+use Rattle.std.specs.Prelude.{ℕ, ◌+◌, ◌*◌, ◌/◌, ◌%◌, ◌≤◌, List, ◌++◌, length, take, drop, slice_index, Result, Ok, Err, nat_lt, if◌then◌else◌}
+use Rattle.std.specs.Int.{w16, to_be_bytes}
 use Rattle.at_base.specs.declared.error.Error.{Error}
 use Rattle.at_base.specs.declared.error.Error.TheVariants.{Truncated, BadLength}
+use Rattle.at_base.specs.Checksum.{sum_of}
 use Rattle.at_base.specs.Spelling.{Spells}
 use Rattle.ddp.specs.Datagram.{Datagram, datagram}
 use Rattle.ddp.specs.Bodies.{named_length, hops}
@@ -38,3 +40,7 @@ extent bytes =
     else if nat_lt 599 (named_length bytes) then Err BadLength
     else if nat_lt (length bytes) (named_length bytes) then Err Truncated
     else Ok (named_length bytes)
+
+-- the bytes with the sum of those after the checksum field in it, and nothing else changed
+abbrev pub with_sum : List ℕ → List ℕ
+with_sum bytes = take 2 bytes ++ (to_be_bytes w16 (sum_of (drop 4 bytes)) ++ drop 4 bytes)

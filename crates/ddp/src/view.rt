@@ -17,6 +17,7 @@ const HEADER: usize = 13;
 const LONGEST: usize = 599;
 
 /// A datagram in place. It borrows the input; what follows its length is padding and no part of it.
+#[derive(Debug, Drop)]
 pub struct View<'a> {
     bytes: &'a [u8],
 }
