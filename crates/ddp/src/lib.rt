@@ -15,3 +15,6 @@ pub use laws::{
 };
 pub use view::View;
 pub use writer::write;
+
+#[cfg(test)]
+mod tests;
