@@ -3,8 +3,8 @@
 ghost use Rattle.std.specs.Prelude.{◌≡◌, ◌≤◌, length};
 ghost use Rattle.ddp.specs.Bodies.{with_hops};
 
-/// Changes the hop count, the routers come through, and nothing else (Inside AppleTalk, the chapter
-/// on DDP). Takes no memory.
+/// Sets the hop count of a datagram, how many routers it has come through, and changes nothing else
+/// (Inside AppleTalk, the chapter on DDP). Takes no memory.
 #[tactic(auto, using(crate::proofs::Bodies::hops_set))]
 pub fn set_hops(bytes: &mut [u8], hops: u8)
     requires there { 13 ≤ length bytes.old }

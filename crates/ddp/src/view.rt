@@ -16,7 +16,8 @@ const HEADER: usize = 13;
 /// The bytes of the longest datagram.
 const LONGEST: usize = 599;
 
-/// A datagram in place. It borrows the input; what follows its length is padding and no part of it.
+/// A datagram in place, with a long header (Inside AppleTalk, the chapter on DDP). It borrows the
+/// input; what follows its length is padding and no part of it.
 #[derive(Debug, Drop)]
 pub struct View<'a> {
     bytes: &'a [u8],
@@ -51,7 +52,7 @@ fn extent_of(bytes: &[u8]) -> Result<usize, Error>
 }
 
 impl<'a> View<'a> {
-    /// The datagram with which the bytes begin (Inside AppleTalk, the chapter on DDP).
+    /// The datagram with which the bytes begin. The two top bits of its first byte are ignored.
     ///
     /// Errors: `Truncated` where the input ends before the header does, or before the length that
     /// the header names; `BadLength` where that length isn't 13 to 599 bytes.
@@ -59,21 +60,21 @@ impl<'a> View<'a> {
         ensures { Reads packets datagram (λ d. d) (λ v. v) bytes.now result }
     {
         match extent_of(bytes) {
-            Ok(len) => Ok(View {
-                bytes: &bytes[..len],
+            Ok(end) => Ok(View {
+                bytes: &bytes[..end],
             }),
             Err(error) => Err(error),
         }
     }
 
-    /// The bytes of header and data.
+    /// How many bytes header and data have together.
     pub fn length(&self) -> u16
         ensures { result ≡ length_of self.now }
     {
         self.bytes.len() as u16
     }
 
-    /// The routers that the datagram has come through.
+    /// How many routers the datagram has come through, 0 to 15.
     pub fn hops(&self) -> u8
         ensures { result ≡ self.now.hops }
     {
@@ -87,6 +88,7 @@ impl<'a> View<'a> {
         BigEndian::read_u16(&self.bytes[2..])
     }
 
+    /// The node that the datagram is for.
     pub fn target(&self) -> Addr
         ensures { result ≡ self.now.target }
     {
@@ -96,6 +98,7 @@ impl<'a> View<'a> {
         }
     }
 
+    /// The node that sent the datagram.
     pub fn source(&self) -> Addr
         ensures { result ≡ self.now.source }
     {
@@ -105,19 +108,21 @@ impl<'a> View<'a> {
         }
     }
 
+    /// The socket that the datagram is for.
     pub fn target_socket(&self) -> u8
         ensures { result ≡ self.now.target_socket }
     {
         self.bytes[10]
     }
 
+    /// The socket that sent the datagram.
     pub fn source_socket(&self) -> u8
         ensures { result ≡ self.now.source_socket }
     {
         self.bytes[11]
     }
 
-    /// The protocol whose packet the data is.
+    /// The number of the protocol whose packet the data is.
     pub fn kind(&self) -> u8
         ensures { result ≡ self.now.kind }
     {
