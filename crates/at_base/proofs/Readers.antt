@@ -1,8 +1,7 @@
 -- Whole readers: from what reading gives, what a reader promises of its answer.
-use Rattle.std.proofs.Common.{◌≡◌, ℕ, Bool, true, List, ◌++◌, Result, Ok, Err, refl, sym, ap, ◌∙◌}
+use Rattle.std.proofs.Common.{◌≡◌, ℕ, Bool, true, List, ◌++◌, Ok, Err, sym, ap, ◌∙◌}
 use Rattle.at_base.specs.Grammar.{Grammar, Refusals}
 use Rattle.at_base.specs.Spelling.{Spells, Begins}
-use Rattle.at_base.specs.FirstFault.{FirstFault}
 use Rattle.at_base.specs.Reading.{read, Reads}
 use Rattle.at_base.specs.Lawful.{IsLawful}
 use Rattle.at_base.proofs.Fields.{IsBytes, ok, ok_is}
