@@ -1,10 +1,9 @@
 -- A datagram and the bytes that begin with it have one hop count, one target and one body.
-use Rattle.std.proofs.Common.{◌≡◌, ℕ, ◌≤◌, ◌<◌, ◌+◌, ◌-◌, ◌*◌, ◌/◌, ◌%◌, List, [], ◌∷◌, ◌++◌, length, take, refl, sym, ap, subst, ◌∙◌, arith}
+use Rattle.std.proofs.Common.{◌≡◌, ℕ, ◌<◌, ◌+◌, ◌*◌, ◌/◌, ◌%◌, List, [], ◌++◌, length, take, refl, sym, ap, subst, ◌∙◌, arith}
 use Rattle.std.specs.Int.{byte_at}
 use Rattle.std.proofs.lemmas.List.{take_at, append-nil}
 use Rattle.at_base.specs.declared.address.Addr.{Addr}
 use Rattle.at_base.specs.Spelling.{bytes_of, Spells, Begins}
-use Rattle.at_base.proofs.Laws.{follows_all}
 use Rattle.at_base.proofs.Readers.{spelled_begins, begins_one}
 use Rattle.ddp.specs.declared.header.Header.{Header}
 use Rattle.ddp.specs.Refusing.{packets}

@@ -1,7 +1,6 @@
 -- The hop count, the length and the body, as functions of the bytes.
-use Rattle.std.proofs.Common.{◌≡◌, ℕ, zero, suc, ◌≤◌, ◌<◌, ◌+◌, ◌-◌, ◌*◌, ◌/◌, ◌%◌, List, [], ◌∷◌, ◌++◌, length, get_or, set, take, drop, refl, sym, ap, ◌∙◌, arith}
-use Rattle.std.proofs.lemmas.List.{take-append-le, take_at}
-use Rattle.ddp.specs.Bodies.{named_length, hops, target, with_hops, body}
+use Rattle.std.proofs.Common.{◌≡◌, ℕ, ◌≤◌, ◌+◌, ◌*◌, ◌/◌, ◌%◌, List, [], ◌∷◌, length, get_or, set, refl, arith}
+use Rattle.ddp.specs.Bodies.{with_hops}
 
 -- a set hop count is a first byte that is set
 pub hops_set : (n : ℕ) (bytes : List ℕ) → 13 ≤ length bytes → with_hops n bytes ≡ set bytes 0 (get_or bytes 0 0 / 64 * 64 + n * 4 + get_or bytes 0 0 % 4)

@@ -1,5 +1,5 @@
 -- What the extent of bytes says of reading a datagram there.
-use Rattle.std.proofs.Common.{◌≡◌, ℕ, ◌≤◌, ◌<◌, ◌+◌, ◌-◌, ◌*◌, ◌%◌, ◌⊎◌, Bool, true, false, cond, ltb, List, [], ◌∷◌, ◌++◌, length, get_or, take, drop, Option, Some, None, Result, Ok, Err, refl, sym, ap, subst, ◌∙◌, inl, inr, arith, drop-cons}
+use Rattle.std.proofs.Common.{◌≡◌, ℕ, ◌≤◌, ◌<◌, ◌-◌, ◌%◌, true, false, ltb, List, ◌∷◌, ◌++◌, length, get_or, take, drop, Some, None, Ok, Err, refl, sym, subst, ◌∙◌, inl, inr, arith, drop-cons}
 use Rattle.std.specs.Int.{w16, to_be_bytes}
 use Rattle.std.proofs.lemmas.Bool.{ltb-true, ltb-false, lt-ltb, le-ltb}
 use Rattle.std.proofs.lemmas.List.{length-drop, length-take, take-append-drop, get_or-take}
@@ -7,9 +7,9 @@ use Rattle.at_base.specs.declared.error.Error.{Error}
 use Rattle.at_base.specs.declared.error.Error.TheVariants.{Truncated, BadLength}
 use Rattle.at_base.specs.Spelling.{Begins}
 use Rattle.at_base.specs.FirstFault.{FirstFault}
-use Rattle.at_base.specs.Reading.{read, Reads}
+use Rattle.at_base.specs.Reading.{Reads}
 use Rattle.at_base.proofs.Fields.{IsBytes, ok, ok_is, IsBytes-take, guard_ok, guard_err}
-use Rattle.at_base.proofs.Laws.{read_refused, read_again}
+use Rattle.at_base.proofs.Laws.{read_refused}
 use Rattle.at_base.proofs.Readers.{spelled_begins, begins_read, reads_ok, reads_err}
 use Rattle.ddp.specs.Refusing.{packets}
 use Rattle.ddp.specs.Datagram.{Datagram, datagram, wrong_word}

@@ -1,9 +1,9 @@
 -- Bytes of the length that their header names are the bytes of the datagram that stands in them.
-use Rattle.std.proofs.Common.{◌≡◌, ℕ, suc, ◌≤◌, ◌<◌, ◌+◌, ◌-◌, ◌*◌, ◌/◌, ◌%◌, List, [], ◌∷◌, length, get_or, drop, refl, sym, ap, ◌∙◌, arith, drop-cons}
+use Rattle.std.proofs.Common.{◌≡◌, ℕ, ◌≤◌, ◌<◌, ◌+◌, ◌*◌, List, ◌∷◌, length, get_or, drop, refl, sym, ap, ◌∙◌, arith, drop-cons}
 use Rattle.std.specs.Int.{byte_at}
 use Rattle.std.proofs.lemmas.List.{length-drop}
 use Rattle.at_base.proofs.Fields.{IsBytes}
-use Rattle.ddp.specs.Datagram.{Datagram, datagram, first_word}
+use Rattle.ddp.specs.Datagram.{first_word}
 use Rattle.ddp.specs.Bodies.{named_length}
 use Rattle.ddp.specs.InPlace.{word_at, datagram_in, IsDatagram}
 use Rattle.ddp.proofs.Shape.{laid, bytes_laid, IsLaid, laid_value}

@@ -1,12 +1,12 @@
 -- The format of a datagram: each part stands where its projection finds it; and the bytes of a datagram, one by one.
-use Rattle.std.proofs.Common.{◌≡◌, ℕ, ◌≤◌, ◌<◌, ◌+◌, ◌-◌, ◌*◌, ◌/◌, ◌%◌, Bool, true, false, cond, ltb, List, [], ◌∷◌, ◌++◌, length, Option, Some, None, refl, ap, ◌∙◌, arith}
+use Rattle.std.proofs.Common.{◌≡◌, ℕ, ◌≤◌, ◌<◌, ◌-◌, ◌/◌, ◌%◌, Bool, true, false, cond, ltb, List, [], ◌∷◌, length, Option, Some, None, refl, ap, ◌∙◌, arith}
 use Rattle.std.specs.Int.{byte_at}
 use Rattle.std.proofs.lemmas.Bool.{ltb-false}
 use Rattle.std.proofs.lemmas.List.{append-nil, length-append}
 use Rattle.at_base.specs.declared.error.Error.{Error}
 use Rattle.at_base.specs.Spelling.{IsValue, bytes_of}
 use Rattle.at_base.specs.Lawful.{IsLawful}
-use Rattle.ddp.specs.Datagram.{Datagram, datagram, first_word, wrong_word, length_of}
+use Rattle.ddp.specs.Datagram.{Datagram, datagram, first_word, wrong_word}
 
 unless : (b : Bool) (e : Error) (o : Option Error) → cond b (Some e) o ≡ None → (b ≡ false) × (o ≡ None)
 unless true e o h = absurd cc

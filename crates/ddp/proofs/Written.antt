@@ -1,8 +1,8 @@
 -- The bytes of a header and data, without a sum and with it.
-use Rattle.std.proofs.Common.{◌≡◌, ℕ, ◌≤◌, ◌<◌, ◌+◌, ◌-◌, ◌*◌, ◌/◌, ◌%◌, Bool, true, false, cond, IsTrue, List, [], ◌∷◌, ◌++◌, length, take, drop, refl, sym, ap, subst, ◌∙◌, arith}
-use Rattle.std.specs.Int.{w16, to_be_bytes, byte_at}
+use Rattle.std.proofs.Common.{◌≡◌, ℕ, ◌≤◌, ◌<◌, ◌+◌, Bool, true, false, cond, IsTrue, List, ◌∷◌, length, drop, refl, sym, ap, ◌∙◌, arith}
+use Rattle.std.specs.Int.{byte_at}
 use Rattle.at_base.specs.Checksum.{sum_of}
-use Rattle.at_base.specs.Spelling.{bytes_of, IsValue, Spells}
+use Rattle.at_base.specs.Spelling.{IsValue, Spells}
 use Rattle.ddp.specs.declared.header.Header.{Header}
 use Rattle.ddp.specs.Datagram.{Datagram, datagram, unsummed, datagram_of, first_word, checksum_of}
 use Rattle.ddp.specs.InPlace.{with_sum}
