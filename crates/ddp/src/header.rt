@@ -2,6 +2,9 @@
 
 use at_base::Addr;
 
+/// How many bytes a long header has.
+pub(crate) const HEADER: usize = 13;
+
 /// The header of a datagram to be written (Inside AppleTalk, the chapter on DDP). Its hop count is
 /// 0, and its length is that of the data.
 #[derive(Clone, Copy, Debug, PartialEq, Eq)]

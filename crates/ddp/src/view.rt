@@ -6,14 +6,12 @@ ghost use Rattle.ddp.specs.Datagram.{datagram, length_of, checksum_of};
 ghost use Rattle.ddp.specs.Refusing.{packets};
 ghost use Rattle.ddp.specs.InPlace.{extent};
 
+use crate::header::HEADER;
 use at_base::{Addr, Error, sum};
 use byteorder::{BigEndian, ByteOrder};
 use std::marker::Model;
 
-/// The bytes of a long header.
-const HEADER: usize = 13;
-
-/// The bytes of the longest datagram.
+/// How many bytes the longest datagram has.
 const LONGEST: usize = 599;
 
 /// A datagram in place, with a long header (Inside AppleTalk, the chapter on DDP). It borrows the

@@ -6,19 +6,16 @@ ghost use Rattle.at_base.specs.Checksum.{sum_of};
 ghost use Rattle.ddp.specs.Datagram.{datagram, unsummed, datagram_of};
 ghost use Rattle.ddp.specs.InPlace.{with_sum};
 
-use crate::header::Header;
+use crate::header::{HEADER, Header};
 use at_base::{Bytes, Error, sum};
 use byteorder::{BigEndian, ByteOrder};
 use std::alloc::Global;
 
-/// The bytes of a long header.
-const HEADER: usize = 13;
-
-/// The most bytes of data.
+/// How many bytes of data there are at most.
 const MOST: usize = 586;
 
 /// The bytes of the header, with hop count and checksum 0.
-fn header_bytes(header: &Header, payload: &[u8]) -> [u8; 13]
+fn header_bytes(header: &Header, payload: &[u8]) -> [u8; HEADER]
     requires { length payload.now ≤ 586 }
     ensures { Spells datagram (result ++ payload.now) (unsummed header.now payload.now) }
 {
