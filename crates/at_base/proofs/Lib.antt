@@ -3,3 +3,4 @@ pub mod Texts
 pub mod Fields
 pub mod Items
 pub mod Laws
+pub mod Readers

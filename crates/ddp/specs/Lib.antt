@@ -1,3 +1,4 @@
 pub mod Refusing
 pub mod Datagram
 pub mod Bodies
+pub mod InPlace

@@ -1,5 +1,4 @@
 -- What a reader of packets refuses: an input that ends too early, and a field with a wrong value, by its error. (own)
-use Rattle.std.specs.Prelude.{ℕ}
 use Rattle.at_base.specs.Grammar.{Refusals}
 use Rattle.at_base.specs.declared.error.Error.{Error}
 use Rattle.at_base.specs.declared.error.Error.TheVariants.{Truncated}

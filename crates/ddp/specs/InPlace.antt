@@ -1,0 +1,46 @@
+-- The datagram that bytes are, each field found by its place. (Inside AppleTalk, the chapter on DDP)
+use Rattle.std.specs.Prelude.{ℕ, ◌+◌, ◌*◌, ◌/◌, ◌≤◌, List, ◌++◌, length, take, drop, slice_index, Result, Ok, Err, nat_lt, if◌then◌else◌}
+use Rattle.std.specs.Int.{w16, to_be_bytes}
+use Rattle.at_base.specs.declared.error.Error.{Error}
+use Rattle.at_base.specs.declared.error.Error.TheVariants.{Truncated, BadLength}
+use Rattle.at_base.specs.Checksum.{sum_of}
+use Rattle.at_base.specs.Spelling.{Spells}
+use Rattle.ddp.specs.Datagram.{Datagram, datagram}
+use Rattle.ddp.specs.Bodies.{named_length, hops}
+
+-- the number in the two bytes from a place on
+abbrev pub word_at : ℕ → List ℕ → ℕ
+word_at i bytes = slice_index bytes i * 256 + slice_index bytes (i + 1)
+
+-- the datagram, where the bytes end with its data
+abbrev pub datagram_in : List ℕ → Datagram
+datagram_in bytes = record {
+  reserved = slice_index bytes 0 / 64;
+  hops = hops bytes;
+  checksum = word_at 2 bytes;
+  target = record { net = word_at 4 bytes; node = slice_index bytes 8 };
+  source = record { net = word_at 6 bytes; node = slice_index bytes 9 };
+  target_socket = slice_index bytes 10;
+  source_socket = slice_index bytes 11;
+  kind = slice_index bytes 12;
+  payload = drop 13 bytes;
+}
+
+-- the bytes are one datagram, and nothing more
+pub record IsDatagram (bytes : List ℕ) : Type 0 where
+  pub whole : Spells datagram bytes (datagram_in bytes)
+  pub least : 13 ≤ length bytes
+  pub most : length bytes ≤ 599
+
+-- how long the datagram is with which the bytes begin, or what is wrong with its length
+abbrev pub extent : List ℕ → Result ℕ Error
+extent bytes =
+    if nat_lt (length bytes) 13 then Err Truncated
+    else if nat_lt (named_length bytes) 13 then Err BadLength
+    else if nat_lt 599 (named_length bytes) then Err BadLength
+    else if nat_lt (length bytes) (named_length bytes) then Err Truncated
+    else Ok (named_length bytes)
+
+-- the bytes with the sum of those after the checksum field in it, and nothing else changed
+abbrev pub with_sum : List ℕ → List ℕ
+with_sum bytes = take 2 bytes ++ (to_be_bytes w16 (sum_of (drop 4 bytes)) ++ drop 4 bytes)

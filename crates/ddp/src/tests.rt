@@ -1,0 +1,164 @@
+//! Datagrams worked out by hand.
+
+use super::*;
+use at_base::{Addr, Bytes, Error};
+use std::alloc::Global;
+use std::test::*;
+
+/// The datagram from 10.7, socket 128, to 30.5, socket 4, without a checksum.
+const PING: [u8; 18] = [
+    0x00, 0x12, 0x00, 0x00, 0x00, 0x1E, 0x00, 0x0A, 0x05, 0x07, 0x04, 0x80, 0x04, 0x01, 0x70, 0x69,
+    0x6E, 0x67,
+];
+
+fn ping_header(summed: bool) -> Header {
+    Header {
+        summed,
+        target: Addr { net: 30, node: 5 },
+        source: Addr { net: 10, node: 7 },
+        target_socket: 4,
+        source_socket: 128,
+        kind: 4,
+    }
+}
+
+/// What `write` gives, called again where its memory was refused.
+fn write_again(alloc: Global, header: &Header, payload: &[u8]) -> Result<Bytes, Error> {
+    match write(alloc, header, payload) {
+        Err(Error::Memory) => write(alloc, header, payload),
+        answer => answer,
+    }
+}
+
+#[test]
+fn an_empty_datagram_of_zeros_has_the_sum_ffff(rt: HostRuntime) -> Result<(), Fail> {
+    let nobody = Addr { net: 0, node: 0 };
+    let header = Header {
+        summed: true,
+        target: nobody,
+        source: nobody,
+        target_socket: 0,
+        source_socket: 0,
+        kind: 0,
+    };
+    let bytes = write_again(rt.alloc(), &header, &[])?;
+    let expected: [u8; 13] = [0x00, 0x0D, 0xFF, 0xFF, 0, 0, 0, 0, 0, 0, 0, 0, 0];
+    assert_eq!(rt; bytes.as_slice(), expected.as_slice());
+    Ok(())
+}
+
+#[test]
+fn a_header_is_written_field_by_field(rt: HostRuntime) -> Result<(), Fail> {
+    let bytes = write_again(rt.alloc(), &ping_header(false), &PING[13..])?;
+    assert_eq!(rt; bytes.as_slice(), PING.as_slice());
+    Ok(())
+}
+
+#[test]
+fn a_sum_is_written_where_the_header_says_so(rt: HostRuntime) -> Result<(), Fail> {
+    let bytes = write_again(rt.alloc(), &ping_header(true), &PING[13..])?;
+    let mut expected = PING;
+    expected[2] = 0x83;
+    expected[3] = 0xF2;
+    assert_eq!(rt; bytes.as_slice(), expected.as_slice());
+    Ok(())
+}
+
+#[test]
+fn the_longest_data_is_586_bytes(rt: HostRuntime) -> Result<(), Fail> {
+    let data = [0u8; 587];
+    let bytes = write_again(rt.alloc(), &ping_header(true), &data[1..])?;
+    assert_eq!(rt; View::read(bytes.as_slice())?.length(), 599);
+    let longer = write_again(rt.alloc(), &ping_header(true), &data);
+    assert!(rt; matches!(longer, Err(Error::TooLong)));
+    Ok(())
+}
+
+#[test]
+fn each_field_is_read_in_place(rt: HostRuntime) -> Result<(), Fail> {
+    let view = View::read(&PING)?;
+    assert_eq!(rt; view.length(), 18);
+    assert_eq!(rt; view.hops(), 0);
+    assert_eq!(rt; view.checksum(), 0);
+    assert_eq!(rt; view.target(), Addr { net: 30, node: 5 });
+    assert_eq!(rt; view.source(), Addr { net: 10, node: 7 });
+    assert_eq!(rt; view.target_socket(), 4);
+    assert_eq!(rt; view.source_socket(), 128);
+    assert_eq!(rt; view.kind(), 4);
+    assert_eq!(rt; view.payload(), [0x01, 0x70, 0x69, 0x6E, 0x67].as_slice());
+    Ok(())
+}
+
+#[test]
+fn a_cut_datagram_is_truncated(rt: HostRuntime) {
+    for len in [0, 12, 17] {
+        let answer = View::read(&PING[..len]);
+        assert!(rt; matches!(answer, Err(Error::Truncated)), "at {len}");
+    }
+}
+
+#[test]
+fn a_length_below_13_or_above_599_is_refused(rt: HostRuntime) {
+    let mut bytes = [0; 600];
+    for (high, low) in [(0x00, 0x0C), (0x02, 0x58)] {
+        bytes[0] = high;
+        bytes[1] = low;
+        assert!(rt;
+            matches!(View::read(&bytes), Err(Error::BadLength)),
+            "at {high} {low}"
+        );
+    }
+}
+
+#[test]
+fn padding_is_no_part_of_the_data(rt: HostRuntime) -> Result<(), Fail> {
+    let mut bytes = [0x55; 19];
+    bytes[..18].copy_from_slice(&PING);
+    assert_eq!(rt; View::read(&bytes)?.payload(), &PING[13..]);
+    Ok(())
+}
+
+#[test]
+fn a_hop_count_is_set_and_nothing_else(rt: HostRuntime) -> Result<(), Fail> {
+    let mut bytes = PING;
+    for (hops, first) in [(1, 0x04), (2, 0x08)] {
+        set_hops(&mut bytes, hops);
+        let mut expected = PING;
+        expected[0] = first;
+        assert_eq!(rt; bytes, expected);
+        assert_eq!(rt; View::read(&bytes)?.hops(), hops);
+    }
+    Ok(())
+}
+
+#[test]
+fn a_checksum_is_0_or_the_sum(rt: HostRuntime) -> Result<(), Fail> {
+    let mut bytes = PING;
+    assert!(rt; View::read(&bytes)?.check().is_ok());
+    bytes[2] = 0x83;
+    bytes[3] = 0xF2;
+    assert!(rt; View::read(&bytes)?.check().is_ok());
+    bytes[3] = 0xF3;
+    assert_eq!(rt; View::read(&bytes)?.check(), Err(Error::BadChecksum));
+    Ok(())
+}
+
+#[test]
+fn data_is_copied_as_it_stands(rt: HostRuntime) -> Result<(), Fail> {
+    let data = View::read(&PING)?.payload();
+    let copy = match Bytes::copy(rt.alloc(), data) {
+        Err(Error::Memory) => Bytes::copy(rt.alloc(), data),
+        answer => answer,
+    };
+    assert_eq!(rt; copy?.as_slice(), [0x01, 0x70, 0x69, 0x6E, 0x67].as_slice());
+    Ok(())
+}
+
+#[test]
+fn each_law_can_be_called(_rt: HostRuntime) {
+    written_is_read();
+    hops_leave_the_body();
+    padding_leaves_the_body();
+    value_agrees_with_bytes();
+    written_has_no_hops();
+}
