@@ -13,11 +13,11 @@ use Rattle.table_image.specs.declared.router.Row.{Row}
 use Rattle.table_image.specs.declared.router.Router.{Router}
 use Rattle.table_image.proofs.Shape.{within_bounds}
 
-counted_few : {B : Type 0} (limit : ℕ) (item : ℕ → Grammar Wrong true B) (next : B → ℕ) (xs : List B) → IsValue (counted limit item next) xs → length xs ≤ limit
+pub counted_few : {B : Type 0} (limit : ℕ) (item : ℕ → Grammar Wrong true B) (next : B → ℕ) (xs : List B) → IsValue (counted limit item next) xs → length xs ≤ limit
 unfolding counted
 counted_few limit item next xs h = (within_bounds 0 limit Count (length xs) h.0.1).1
 
-counted_each : {B : Type 0} (limit : ℕ) (item : ℕ → Grammar Wrong true B) (next : B → ℕ) (xs : List B) → IsValue (counted limit item next) xs → ListPasses (λ low. IsValue (item low)) next 0 xs
+pub counted_each : {B : Type 0} (limit : ℕ) (item : ℕ → Grammar Wrong true B) (next : B → ℕ) (xs : List B) → IsValue (counted limit item next) xs → ListPasses (λ low. IsValue (item low)) next 0 xs
 unfolding counted
 counted_each limit item next xs h = h.1.1
 

@@ -5,3 +5,7 @@ pub mod Extents
 pub mod Whole
 pub mod Bounds
 pub mod Flawed
+pub mod CheckLoop
+pub mod Checked
+pub mod CheckedParts
+pub mod Made

@@ -3,12 +3,13 @@
 ghost use Rattle.std.specs.Prelude.{◌≡◌};
 ghost use Rattle.table_image.specs.Spelling.{cable_spelling};
 
+use crate::checking::{CheckItem, Misfit};
 use crate::flaw::{Flaw, Stop};
 use crate::input::u16_at;
 use crate::item::{Item, ReadItem, WriteItem};
 use crate::listed::Listed;
 use crate::output::put_u16;
-use crate::zones::{pass_zones, put_zones, zones_at};
+use crate::zones::{check_zones, pass_zones, put_zones, zones_at};
 use at_base::Name;
 use std::alloc::{AllocError, Global};
 
@@ -63,5 +64,18 @@ impl WriteItem for Cable {
         put_u16(out, self.start)?;
         put_u16(out, self.end)?;
         put_zones(out, &self.zones)
+    }
+}
+
+impl CheckItem for Cable {
+    ghost use Rattle.table_image.specs.Short.{short_cable};
+
+    ghost short = { short_cable };
+
+    ghost most = { 2117 };
+
+    fn check_one(&self, _known: usize, _low: u32, at: usize) -> Result<usize, Misfit> {
+        let (_start, _end) = (self.start, self.end);
+        check_zones(at + 4, &self.zones)
     }
 }

@@ -1,7 +1,9 @@
 //! The image of an internet's tables.
 
-ghost use Rattle.std.specs.Prelude.{◌≡◌, ◌+◌, ◌^◌, ◌<◌, ◌++◌, ◌⊎◌, ℕ, List, length, OnOk, IfOk, IfErr, IsOkUnless, MatchResult};
-ghost use Rattle.at_base.specs.Spelling.{bytes_of, Spells};
+ghost use Rattle.std.specs.Prelude.{◌≡◌, ◌+◌, ◌^◌, ◌<◌, ◌++◌, ◌⊎◌, ℕ, List, length, OnOk, IfOk, IfErr, IsOkUnless, IsTrue, false, MatchResult};
+ghost use Rattle.std.specs.Result.{OkIff};
+ghost use Rattle.table_image.specs.Short.{is_short};
+ghost use Rattle.at_base.specs.Spelling.{bytes_of, IsValue, Spells};
 ghost use Rattle.at_base.specs.Reading.{read as read_by, Gives};
 ghost use Rattle.table_image.specs.Internet.{Internet, IsBounded};
 ghost use Rattle.table_image.specs.Flaws.{flaws, GivesOrStops, GoesPast};
@@ -15,6 +17,7 @@ use crate::input::{byte_within, magic_at, wrong};
 use crate::item::{counted_of, pass_counted, put_counted};
 use crate::limits::MOST;
 use crate::listed::Listed;
+use crate::making::{are_short, check_parts};
 use crate::node::Node;
 use crate::output::put_byte;
 use crate::router::Router;
@@ -43,6 +46,31 @@ impl Model for Image {
 }
 
 impl Image {
+    /// The image of these parts, which takes no memory. Errors: `Full` where a list is longer than an image may have it;
+    /// else `BadImage`, the first flaw of the parts if they were spelled in order. (own)
+    pub fn make(cables: Vec<Cable>, routers: Vec<Router>, nodes: Vec<Node>) -> Result<Image, Error>
+        ensures made { OkIff result (IsValue image_spelling (record { cables = cables.items; routers = routers.items; nodes = nodes.items })) (record { cables = cables.items; routers = routers.items; nodes = nodes.items }) }
+        ensures full { is_short (record { cables = cables.items; routers = routers.items; nodes = nodes.items }) ≡ false → result ≡ Err Error.Full }
+        // Parts within the limits are judged as reading judges their bytes.
+        ensures first { IsTrue (is_short (record { cables = cables.items; routers = routers.items; nodes = nodes.items })) → (f : ImageFlaw) → IsFirstFlaw (bytes_of image_spelling (record { cables = cables.items; routers = routers.items; nodes = nodes.items })) f → result ≡ Err (refusal (bytes_of image_spelling (record { cables = cables.items; routers = routers.items; nodes = nodes.items })) f) }
+        ensures flaw { IsTrue (is_short (record { cables = cables.items; routers = routers.items; nodes = nodes.items })) → IfErr result (λ e. (f : ImageFlaw) × IsFirstFlaw (bytes_of image_spelling (record { cables = cables.items; routers = routers.items; nodes = nodes.items })) f × (e ≡ refusal (bytes_of image_spelling (record { cables = cables.items; routers = routers.items; nodes = nodes.items })) f)) }
+    {
+        let cables = Listed::from_vec(cables);
+        let routers = Listed::from_vec(routers);
+        let nodes = Listed::from_vec(nodes);
+        if !are_short(&cables, &routers, &nodes) {
+            return Err(Error::Full);
+        }
+        match check_parts(&cables, &routers, &nodes) {
+            Ok(_) => Ok(Image {
+                cables,
+                routers,
+                nodes,
+            }),
+            Err(misfit) => Err(Error::BadImage(misfit.place as u32, misfit.cause)),
+        }
+    }
+
     /// The cables, in order.
     pub fn cables(&self) -> &[Cable]
         ensures value { result.now ≡ self.now.cables }

@@ -6,7 +6,7 @@ ghost use Rattle.at_base.specs.Grammar.{number, run, one, two};
 ghost use Rattle.at_base.specs.Reading.{Gives, bytes_at, field_at, read};
 ghost use Rattle.at_base.specs.Text.{is_name, is_only};
 ghost use Rattle.table_image.specs.Flaws.{flaws};
-ghost use Rattle.table_image.specs.Tests.{any, within, below, rising, enumerator, is_entity, is_magic};
+ghost use Rattle.table_image.specs.Tests.{any, within, below, rising, enumerator, is_entity as entity, is_magic};
 ghost use Rattle.table_image.specs.Spelling.{address_spelling, text_spelling};
 
 use crate::flaw::Flaw;
@@ -172,14 +172,21 @@ fn is_equals(text: &[u8]) -> bool
     }
 }
 
+/// Whether the bytes may be an object or a type that a node has.
+pub fn is_entity(text: &[u8]) -> bool
+    ensures { result ≡ entity text.now }
+{
+    !is_equals(text) && has_no_wildcard(text)
+}
+
 /// An object or a type that a node may have.
 #[tactic(auto, unfolding(crate::specs::Spelling::text_spelling))]
 pub fn entity_at(bytes: &[u8]) -> Result<(Text32, &[u8]), Flaw>
-    ensures { Gives (λ x. (x.0, x.1.now)) result (read flaws (text_spelling is_entity) bytes.now) }
+    ensures { Gives (λ x. (x.0, x.1.now)) result (read flaws (text_spelling entity) bytes.now) }
 {
     let (len, after) = byte_within(bytes, 1, 32, Cause::Name)?;
     let (text, rest) = split(after, len as usize)?;
-    if is_equals(text) || !has_no_wildcard(text) {
+    if !is_entity(text) {
         return Err(wrong_text(after));
     }
     match Text32::new(text) {

@@ -9,6 +9,7 @@ mod input;
 mod item;
 mod limits;
 mod listed;
+mod making;
 mod node;
 mod output;
 mod router;

@@ -1,14 +1,17 @@
 //! Nodes, as an image has them, and their names.
 
-ghost use Rattle.std.specs.Prelude.{◌≡◌, ◌+◌, ◌++◌, OnOk};
-ghost use Rattle.at_base.specs.Spelling.{bytes_of};
+ghost use Rattle.std.specs.Prelude.{◌≡◌, ◌+◌, ◌^◌, ◌<◌, ◌≤◌, ◌++◌, length, OnOk, MatchResult};
+ghost use Rattle.at_base.specs.Spelling.{bytes_of, IsValue};
 ghost use Rattle.at_base.specs.Reading.{Gives, read};
+ghost use Rattle.table_image.specs.Checking.{Checks};
+ghost use Rattle.table_image.specs.Tests.{is_entity as is_entity_text};
 ghost use Rattle.table_image.specs.Flaws.{flaws, GoesPast};
-ghost use Rattle.table_image.specs.Spelling.{node_spelling, name_spelling, own_router_spelling};
+ghost use Rattle.table_image.specs.Spelling.{node_spelling, name_spelling, own_router_spelling, text_spelling};
 
+use crate::checking::{CheckItem, Misfit, check_counted};
 use crate::flaw::{Flaw, Stop};
 use crate::input::{
-    address_at, byte_within, entity_at, enumerator_at, hardware_at, index_at, name_at,
+    address_at, byte_within, entity_at, enumerator_at, hardware_at, index_at, is_entity, name_at,
 };
 use crate::item::{Item, ReadItem, WriteItem, counted_of, pass_counted, put_counted};
 use crate::limits::MOST_NAMES;
@@ -201,5 +204,97 @@ impl WriteItem for Node {
         put_text(out, self.zone.as_slice())?;
         put_own_router(out, self.router)?;
         put_counted(out, MOST_NAMES, 0, &self.names)
+    }
+}
+
+fn check_entity(text: &Text32, at: usize) -> Result<usize, Misfit>
+    requires { at + 33 < 2 ^ 40 }
+    ensures checked { Checks (text_spelling is_entity_text) text.now at result }
+    ensures near { MatchResult result (λ end. end ≤ at + 33) (λ m. m.place ≤ at + 33) }
+{
+    let bytes = text.as_slice();
+    let wrong = Misfit {
+        place: at,
+        cause: Cause::Name,
+    };
+    if bytes.len() < 1 {
+        return Err(wrong);
+    }
+    if !is_entity(bytes) {
+        return Err(wrong);
+    }
+    Ok(at + 1 + bytes.len())
+}
+
+impl CheckItem for NodeName {
+    ghost use Rattle.std.specs.Prelude.{true};
+
+    ghost short = { λ name. true };
+
+    ghost most = { 68 };
+
+    fn check_one(&self, _known: usize, low: u32, at: usize) -> Result<usize, Misfit> {
+        let wrong = Misfit {
+            place: at,
+            cause: Cause::Value,
+        };
+        if self.socket < 1 {
+            return Err(wrong);
+        }
+        if self.socket > 254 {
+            return Err(wrong);
+        }
+        if self.enumerator < 1 {
+            return Err(Misfit {
+                place: at + 1,
+                cause: Cause::Value,
+            });
+        }
+        if u32::from(self.enumerator) < low {
+            return Err(Misfit {
+                place: at + 1,
+                cause: Cause::Order,
+            });
+        }
+        match check_entity(&self.object, at + 2) {
+            Ok(end) => check_entity(&self.kind, end),
+            Err(misfit) => Err(misfit),
+        }
+    }
+}
+
+fn own_router_size(router: Option<Addr>) -> usize
+    ensures size { result ≡ length (bytes_of own_router_spelling router) }
+    ensures value { IsValue own_router_spelling router }
+    ensures few { result ≤ 4 }
+{
+    match router {
+        None => 1,
+        Some(address) => {
+            let (_net, _node) = (address.net, address.node);
+            4
+        }
+    }
+}
+
+impl CheckItem for Node {
+    ghost use Rattle.table_image.specs.Short.{short_node};
+
+    ghost short = { short_node };
+
+    ghost most = { 2224 };
+
+    fn check_one(&self, known: usize, _low: u32, at: usize) -> Result<usize, Misfit> {
+        let (_net, _node) = (self.address.net, self.address.node);
+        let _hardware = self.hardware.as_slice();
+        if self.cable as usize >= known {
+            return Err(Misfit {
+                place: at,
+                cause: Cause::Index,
+            });
+        }
+        let zone = self.zone.as_slice();
+        let end = at + 11 + zone.len() + own_router_size(self.router);
+        check_counted(MOST_NAMES, 0, end, &self.names)
     }
 }

@@ -5,13 +5,14 @@ ghost use Rattle.at_base.specs.Reading.{Gives, read};
 ghost use Rattle.table_image.specs.Flaws.{flaws, GoesPast};
 ghost use Rattle.table_image.specs.Spelling.{port_spelling, row_spelling, zone_list_spelling, router_spelling, state_of, state_number};
 
+use crate::checking::{CheckItem, Misfit, check_counted};
 use crate::flaw::{Flaw, Stop};
 use crate::input::{address_at, byte_within, hardware_at, index_at, rising_at, u16_at};
 use crate::item::{Item, ReadItem, WriteItem, counted_of, pass_counted, put_counted};
 use crate::limits::{MOST, MOST_PORTS};
 use crate::listed::Listed;
 use crate::output::{put_address, put_byte, put_u16};
-use crate::zones::{pass_zones, put_zones, zones_at};
+use crate::zones::{check_zones, pass_zones, put_zones, zones_at};
 use at_base::{Addr, Cause, Hw, Name};
 use rtmp::State;
 use std::alloc::{AllocError, Global};
@@ -306,5 +307,94 @@ impl WriteItem for Router {
         put_counted(out, MOST_PORTS, 0, &self.ports)?;
         put_counted(out, MOST, self.ports.len(), &self.rows)?;
         put_counted(out, MOST, 0, &self.lists)
+    }
+}
+
+impl CheckItem for Port {
+    ghost use Rattle.std.specs.Prelude.{true};
+
+    ghost short = { λ port. true };
+
+    ghost most = { 10 };
+
+    fn check_one(&self, known: usize, _low: u32, at: usize) -> Result<usize, Misfit> {
+        let (_net, _node) = (self.address.net, self.address.node);
+        let _hardware = self.hardware.as_slice();
+        if self.cable as usize >= known {
+            return Err(Misfit {
+                place: at,
+                cause: Cause::Index,
+            });
+        }
+        Ok(at + 10)
+    }
+}
+
+impl CheckItem for Row {
+    ghost use Rattle.std.specs.Prelude.{true};
+
+    ghost short = { λ row. true };
+
+    ghost most = { 10 };
+
+    fn check_one(&self, known: usize, low: u32, at: usize) -> Result<usize, Misfit> {
+        let (_end, _net, _node) = (self.end, self.next.net, self.next.node);
+        if u32::from(self.start) < low {
+            return Err(Misfit {
+                place: at,
+                cause: Cause::Order,
+            });
+        }
+        if self.distance > 31 {
+            return Err(Misfit {
+                place: at + 4,
+                cause: Cause::Value,
+            });
+        }
+        if self.port as usize >= known {
+            return Err(Misfit {
+                place: at + 5,
+                cause: Cause::Index,
+            });
+        }
+        Ok(at + 10)
+    }
+}
+
+impl CheckItem for ZoneList {
+    ghost use Rattle.table_image.specs.Short.{short_list};
+
+    ghost short = { short_list };
+
+    ghost most = { 2118 };
+
+    fn check_one(&self, _known: usize, low: u32, at: usize) -> Result<usize, Misfit> {
+        let _end = self.end;
+        if u32::from(self.start) < low {
+            return Err(Misfit {
+                place: at,
+                cause: Cause::Order,
+            });
+        }
+        check_zones(at + 5, &self.zones)
+    }
+}
+
+impl CheckItem for Router {
+    ghost use Rattle.table_image.specs.Short.{short_router};
+
+    ghost short = { short_router };
+
+    ghost most = { 425763 };
+
+    fn check_one(&self, known: usize, _low: u32, at: usize) -> Result<usize, Misfit> {
+        let end = match check_counted(MOST_PORTS, known, at, &self.ports) {
+            Ok(end) => end,
+            Err(misfit) => return Err(misfit),
+        };
+        match check_counted(MOST, self.ports.len(), end, &self.rows) {
+            Ok(end) => check_counted(MOST, 0, end, &self.lists),
+            Err(misfit) => Err(misfit),
+        }
     }
 }

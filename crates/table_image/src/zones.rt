@@ -1,11 +1,13 @@
 //! Zones behind their count.
 
-ghost use Rattle.std.specs.Prelude.{◌≡◌, ◌++◌, length, OnOk};
+ghost use Rattle.std.specs.Prelude.{◌≡◌, ◌++◌, ◌+◌, ◌^◌, ◌<◌, ◌≤◌, length, OnOk, MatchResult};
 ghost use Rattle.at_base.specs.Spelling.{bytes_of};
 ghost use Rattle.at_base.specs.Reading.{read};
+ghost use Rattle.table_image.specs.Checking.{Checks};
 ghost use Rattle.table_image.specs.Flaws.{flaws, GivesOrStops, GoesPast};
 ghost use Rattle.table_image.specs.Spelling.{zone_spelling, zones_spelling};
 
+use crate::checking::{CheckItem, Misfit, check_counted};
 use crate::flaw::{Flaw, Stop};
 use crate::input::name_at;
 use crate::item::{Item, ReadItem, WriteItem, counted_of, pass_counted, put_counted};
@@ -79,4 +81,27 @@ pub fn put_zones(out: &mut Vec<u8>, names: &Listed<Name>) -> Result<(), AllocErr
     ensures { OnOk result (out.new.items ≡ out.old.items ++ bytes_of zones_spelling names.now) }
 {
     put_counted(out, MOST_ZONES, 0, names)
+}
+
+impl CheckItem for Name {
+    ghost use Rattle.std.specs.Prelude.{true};
+
+    ghost short = { λ name. true };
+
+    ghost most = { 33 };
+
+    fn check_one(&self, _known: usize, _low: u32, at: usize) -> Result<usize, Misfit> {
+        Ok(at + 1 + self.as_slice().len())
+    }
+}
+
+/// Checks zones behind their count.
+#[tactic(auto, unfolding(crate::specs::Spelling::zones_spelling))]
+pub fn check_zones(at: usize, names: &Listed<Name>) -> Result<usize, Misfit>
+    requires few { length names.now ≤ 64 }
+    requires room { at + 2113 < 2 ^ 40 }
+    ensures checked { Checks zones_spelling names.now at result }
+    ensures near { MatchResult result (λ end. end ≤ at + 2113) (λ m. m.place ≤ at + 2113) }
+{
+    check_counted(MOST_ZONES, 0, at, names)
 }

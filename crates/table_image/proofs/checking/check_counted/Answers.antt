@@ -1,0 +1,8 @@
+use Rattle.std.proofs.Common.{arith}
+use Rattle.table_image.proofs.Checked.{counted_checks}
+use Rattle.table_image.proofs.checking.check_counted.Goals as goal
+
+pub returns-clause-checked : goal.returns-clause-checked
+returns-clause-checked g c =
+    counted_checks c.args.limit (g.T.Item.spelling c.args.known) g.T.Item.next c.args.items.now c.args.at c.check_list.result c.requires.few (omega arith)
+    (rw (← c.as_slice.ensures) c.check_list.ensures.checked)

@@ -1,0 +1,45 @@
+use Rattle.std.proofs.Common.{◌≡◌, ap, sym, ◌∙◌, arith, Err, true, false}
+use Rattle.at_base.specs.declared.error.Error.{Error}
+use Rattle.table_image.specs.Internet.{Internet}
+use Rattle.table_image.specs.Short.{is_short}
+use Rattle.table_image.proofs.Made.{value_short, misfits, fits_no_flaw, same_refusal}
+use Rattle.table_image.proofs.image.Image.make.Goals as goal
+
+pub returns-then-not-are_short-clause-made : goal.returns-then-not-are_short-clause-made
+returns-then-not-are_short-clause-made c =
+    λ h.
+    let i : Internet = record { cables = c.args.cables.items; routers = c.args.routers.items; nodes = c.args.nodes.items } in
+    let short : is_short i ≡ true = value_short i h in
+    let long = rw (c.from_vec-cables.ensures, c.from_vec-routers.ensures, c.from_vec-nodes.ensures) at c.are_short.ensures in
+    let impossible : false ≡ true = sym c.if-not-are_short.true ∙ (long ∙ short) in
+    cc
+
+pub returns-in-Ok-clause-first : goal.returns-in-Ok-clause-first
+returns-in-Ok-clause-first c =
+    λ short f h.
+    let i : Internet = record { cables = c.args.cables.items; routers = c.args.routers.items; nodes = c.args.nodes.items } in
+    let checked = rw (c.from_vec-cables.ensures, c.from_vec-routers.ensures, c.from_vec-nodes.ensures) at c.in-Ok.ensures.checked in
+    absurd (fits_no_flaw i f checked.0 h)
+
+pub returns-in-Err-clause-made : goal.returns-in-Err-clause-made
+returns-in-Err-clause-made c =
+    λ h.
+    let i : Internet = record { cables = c.args.cables.items; routers = c.args.routers.items; nodes = c.args.nodes.items } in
+    let checked = rw (c.from_vec-cables.ensures, c.from_vec-routers.ensures, c.from_vec-nodes.ensures) at c.in-Err.ensures.checked in
+    let m = misfits i c.in-Err.misfit checked in
+    fits_no_flaw i m.flaw h m.first
+
+pub returns-in-Err-clause-first : goal.returns-in-Err-clause-first
+returns-in-Err-clause-first c =
+    λ short f h.
+    let i : Internet = record { cables = c.args.cables.items; routers = c.args.routers.items; nodes = c.args.nodes.items } in
+    let checked = rw (c.from_vec-cables.ensures, c.from_vec-routers.ensures, c.from_vec-nodes.ensures) at c.in-Err.ensures.checked in
+    ap (λ (e : Error). Err e) (same_refusal i c.in-Err.misfit f (misfits i c.in-Err.misfit checked) h)
+
+pub returns-in-Err-clause-flaw : goal.returns-in-Err-clause-flaw
+returns-in-Err-clause-flaw c =
+    λ short.
+    let i : Internet = record { cables = c.args.cables.items; routers = c.args.routers.items; nodes = c.args.nodes.items } in
+    let checked = rw (c.from_vec-cables.ensures, c.from_vec-routers.ensures, c.from_vec-nodes.ensures) at c.in-Err.ensures.checked in
+    let m = misfits i c.in-Err.misfit checked in
+    (m.flaw, m.first, m.is_told)

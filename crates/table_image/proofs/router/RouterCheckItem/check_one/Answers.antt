@@ -1,0 +1,21 @@
+use Rattle.std.proofs.Common.{sym, subst, ap, arith}
+use Rattle.table_image.proofs.CheckedParts.{router_ports, router_rows, router_checks, router_short, all_true}
+use Rattle.table_image.proofs.router.RouterCheckItem.check_one.Goals as goal
+
+pub check_counted-requires-clause-short : goal.check_counted-requires-clause-short
+check_counted-requires-clause-short c = all_true c.args.self.now.ports
+
+pub check_counted-requires-2-clause-short : goal.check_counted-requires-2-clause-short
+check_counted-requires-2-clause-short c = all_true c.args.self.now.rows
+
+pub returns-in-Err-clause-checked : goal.returns-in-Err-clause-checked
+returns-in-Err-clause-checked c = router_ports c.args.known c.args.self.now c.args.at c.in-Err.misfit c.in-Err.ensures.checked
+
+pub returns-in-Err-check_counted-clause-checked : goal.returns-in-Err-check_counted-clause-checked
+returns-in-Err-check_counted-clause-checked c =
+    router_rows c.args.known c.args.self.now c.args.at c.in-Ok.end c.in-Err-check_counted.misfit c.in-Ok.ensures.checked (rw (← c.len.ensures) c.in-Err-check_counted.ensures.checked)
+
+pub returns-in-Ok-check_counted-clause-checked : goal.returns-in-Ok-check_counted-clause-checked
+returns-in-Ok-check_counted-clause-checked c =
+    router_checks c.args.known c.args.self.now c.args.at c.in-Ok.end c.in-Ok-check_counted.end c.check_counted-in-Ok-check_counted.result c.in-Ok.ensures.checked (rw (← c.len.ensures) c.in-Ok-check_counted.ensures.checked)
+    c.check_counted-in-Ok-check_counted.ensures.checked

@@ -1,0 +1,86 @@
+//! Images of parts that are handed in.
+
+ghost use Rattle.std.specs.Prelude.{◌≡◌, ◌+◌, ◌^◌, ◌<◌, ◌≤◌, ◌&&◌, IsTrue, IfErr, length};
+ghost use Rattle.std.specs.List.{list_all};
+ghost use Rattle.table_image.specs.Internet.{Internet};
+ghost use Rattle.table_image.specs.Short.{short_cable, short_list, short_router, short_node, is_short};
+ghost use Rattle.table_image.specs.Spelling.{cable_spelling, counted, image_spelling};
+ghost use Rattle.table_image.specs.Checking.{Checks};
+
+use crate::cable::Cable;
+use crate::checking::{Misfit, check_counted};
+use crate::limits::{MOST, MOST_NAMES, MOST_PORTS, MOST_ZONES};
+use crate::listed::Listed;
+use crate::node::Node;
+use crate::router::{Router, ZoneList};
+
+fn lists_are_short(lists: &[ZoneList]) -> bool
+    ensures { result ≡ list_all short_list lists.now }
+{
+    lists
+        .iter()
+        .all(|list| list.zones.len() <= MOST_ZONES as usize)
+}
+
+fn cables_are_short(cables: &[Cable]) -> bool
+    ensures { result ≡ list_all short_cable cables.now }
+{
+    cables
+        .iter()
+        .all(|cable| cable.zones.len() <= MOST_ZONES as usize)
+}
+
+fn router_is_short(router: &Router) -> bool
+    ensures { result ≡ short_router router.now }
+{
+    router.ports.len() <= MOST_PORTS as usize
+        && router.rows.len() <= MOST as usize
+        && router.lists.len() <= MOST as usize
+        && lists_are_short(router.lists.as_slice())
+}
+
+fn routers_are_short(routers: &[Router]) -> bool
+    ensures { result ≡ list_all short_router routers.now }
+{
+    routers.iter().all(|router| router_is_short(router))
+}
+
+fn nodes_are_short(nodes: &[Node]) -> bool
+    ensures { result ≡ list_all short_node nodes.now }
+{
+    nodes
+        .iter()
+        .all(|node| node.names.len() <= MOST_NAMES as usize)
+}
+
+/// Whether every list is no longer than an image may have it.
+pub fn are_short(cables: &Listed<Cable>, routers: &Listed<Router>, nodes: &Listed<Node>) -> bool
+    ensures { result ≡ is_short (record { cables = cables.now; routers = routers.now; nodes = nodes.now }) }
+{
+    cables.len() <= MOST as usize
+        && routers.len() <= MOST as usize
+        && nodes.len() <= MOST as usize
+        && cables_are_short(cables.as_slice())
+        && routers_are_short(routers.as_slice())
+        && nodes_are_short(nodes.as_slice())
+}
+
+/// Checks the parts, as reading would judge them if they were spelled in order.
+pub fn check_parts(
+    cables: &Listed<Cable>,
+    routers: &Listed<Router>,
+    nodes: &Listed<Node>,
+) -> Result<usize, Misfit>
+    requires { IsTrue (is_short (record { cables = cables.now; routers = routers.now; nodes = nodes.now })) }
+    ensures checked { Checks image_spelling (record { cables = cables.now; routers = routers.now; nodes = nodes.now }) 0 result }
+    ensures near { IfErr result (λ m. m.place < 2 ^ 32) }
+{
+    let end = match check_counted(MOST, 0, 5, cables) {
+        Ok(end) => end,
+        Err(misfit) => return Err(misfit),
+    };
+    match check_counted(MOST, cables.len(), end, routers) {
+        Ok(end) => check_counted(MOST, cables.len(), end, nodes),
+        Err(misfit) => Err(misfit),
+    }
+}
