@@ -4,6 +4,9 @@
 mod cables;
 mod judge;
 mod lookups;
+mod next;
+mod places;
+mod ranges;
 mod rows;
 mod stations;
 mod summary;

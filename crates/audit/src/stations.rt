@@ -6,7 +6,7 @@ ghost use Rattle.table_image.specs.Seats.{same_address as same};
 ghost use Rattle.audit.specs.Firsts.{FirstNumber, FirstPlace};
 ghost use Rattle.audit.specs.Rules.{same_hardware as same_hw, bad_address as badly, router_has as router_uses, node_has as node_uses, bad_port as port_bad, bad_node as node_bad, c2};
 
-use crate::cables::from_one;
+use crate::places::from_one;
 use at_base::{Addr, Hw, Place};
 use table_image::{Image, Node, Port, Router};
 
