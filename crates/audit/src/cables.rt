@@ -1,6 +1,6 @@
 //! Rule C1: the cables stand in order.
 
-ghost use Rattle.std.specs.Prelude.{◌≡◌, ◌+◌, ◌<◌, suc, IfSome};
+ghost use Rattle.std.specs.Prelude.{◌≡◌, ◌<◌, suc, IfSome};
 ghost use Rattle.std.specs.List.{list_any};
 ghost use Rattle.at_base.specs.Text.{same_name};
 ghost use Rattle.audit.specs.Firsts.{FirstNumber, FirstPlace};

@@ -1,6 +1,5 @@
 //! The judge of an internet: the rules, one after the other.
 
-ghost use Rattle.std.specs.Prelude.{◌≡◌};
 ghost use Rattle.audit.specs.Verdicts.{Judges};
 
 use crate::cables::bad_cable;

@@ -5,7 +5,6 @@ ghost use Rattle.std.specs.Prelude.{◌≡◌, ◌==◌, ◌&&◌, None, Some, p
 ghost use Rattle.std.specs.List.{list_any};
 ghost use Rattle.std.specs.Option.{option_copied};
 ghost use Rattle.table_image.specs.Internet.{AreRising};
-ghost use Rattle.table_image.specs.Places.{index_of};
 ghost use Rattle.table_image.specs.Routing.{owner as owner_at};
 ghost use Rattle.table_image.specs.Seats.{same_address as same};
 ghost use Rattle.audit.specs.Firsts.{FirstPlace};

@@ -1,6 +1,6 @@
 //! Rule C2: stations are addressed.
 
-ghost use Rattle.std.specs.Prelude.{◌≡◌, ◌<◌, ◌≤◌, ℕ, suc, false, Some, length, slice_get, ◌==◌, take, MatchOption, IfSome};
+ghost use Rattle.std.specs.Prelude.{◌≡◌, ◌<◌, ◌≤◌, ℕ, suc, false, Some, length, slice_get, ◌==◌, MatchOption, IfSome};
 ghost use Rattle.std.specs.List.{list_any};
 ghost use Rattle.table_image.specs.Seats.{same_address as same};
 ghost use Rattle.audit.specs.Firsts.{FirstNumber, FirstPlace};
