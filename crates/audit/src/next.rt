@@ -1,6 +1,6 @@
 //! Next routers: rule C6, that they are there, and rule C7, that they are one nearer.
 
-ghost use Rattle.std.specs.Prelude.{◌≡◌, ◌&&◌, not, None, slice_get};
+ghost use Rattle.std.specs.Prelude.{◌≡◌, ◌<◌, ◌&&◌, not, None, slice_get};
 ghost use Rattle.table_image.specs.Routing.{is_direct as direct};
 ghost use Rattle.audit.specs.Firsts.{FirstPlace};
 ghost use Rattle.audit.specs.Rules.{bad_step, is_no_other as no_other, next_router as next, same_row as same, not_one_less, c2};
@@ -9,38 +9,47 @@ use crate::lookups::{owner, same_row};
 use crate::ranges::is_direct;
 use table_image::{Image, Router, Row};
 
-/// The router that was found last for each of 256 kinds of next address; what it says is looked at before it is used.
+/// For a cable and a node's number there, a router that may have the address: what it says is looked at before it is
+/// used. A network is left out, since a cable seldom has one node's number on two of its networks.
 #[derive(Drop)]
 pub struct Hints {
-    routers: [u8; 256],
+    routers: [u8; 65536],
+}
+
+fn slot(cable: u8, node: u8) -> usize
+    ensures { result < 65536 }
+{
+    cable as usize * 256 + node as usize
 }
 
 impl Hints {
-    /// No router was found yet.
-    pub fn new() -> Hints {
-        Hints { routers: [0; 256] }
+    /// The hints for the routers of the image.
+    pub fn of(image: &Image) -> Hints {
+        let mut routers = [0; 65536];
+        for (s, router) in image.routers().iter().enumerate() {
+            for port in router.ports.as_slice() {
+                routers[slot(port.cable, port.address.node)] = (s % 256) as u8;
+            }
+        }
+        Hints { routers }
     }
 }
 
-fn next_router(image: &Image, hints: &mut Hints, router: &Router, row: &Row) -> Option<usize>
+fn next_router(image: &Image, hints: &Hints, router: &Router, row: &Row) -> Option<usize>
     requires { FirstPlace (c2 image.now) None }
     ensures { result ≡ next image.now router.now row.now }
 {
     match router.ports.as_slice().get(row.port as usize) {
         Some(port) => {
-            let slot = (row.next.node as usize + 37 * row.port as usize) % 256;
-            let found = owner(image, hints.routers[slot] as usize, port.cable, row.next);
-            if let Some(s) = found {
-                hints.routers[slot] = (s % 256) as u8;
-            }
-            found
+            let hint = hints.routers[slot(port.cable, row.next.node)];
+            owner(image, hint as usize, port.cable, row.next)
         }
         None => None,
     }
 }
 
 /// Whether the row breaks rule C6.
-pub fn breaks_next(image: &Image, hints: &mut Hints, r: usize, router: &Router, row: &Row) -> bool
+pub fn breaks_next(image: &Image, hints: &Hints, r: usize, router: &Router, row: &Row) -> bool
     requires { FirstPlace (c2 image.now) None }
     ensures { result ≡ (not (direct row.now) && no_other r (next image.now router.now row.now)) }
 {
@@ -81,7 +90,7 @@ fn is_bad_step(image: &Image, k: usize, row: &Row, next: Option<usize>) -> bool
 }
 
 /// Whether the row breaks rule C7.
-pub fn breaks_steps(image: &Image, hints: &mut Hints, router: &Router, k: usize, row: &Row) -> bool
+pub fn breaks_steps(image: &Image, hints: &Hints, router: &Router, k: usize, row: &Row) -> bool
     requires { FirstPlace (c2 image.now) None }
     ensures { result ≡ (not (direct row.now) && bad_step image.now row.now (next image.now router.now row.now)) }
 {

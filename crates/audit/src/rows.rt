@@ -30,7 +30,7 @@ pub enum RowRule {
 fn breaks(
     rule: RowRule,
     image: &Image,
-    hints: &mut Hints,
+    hints: &Hints,
     r: usize,
     router: &Router,
     k: usize,
@@ -49,16 +49,21 @@ fn breaks(
     }
 }
 
-fn first_row(image: &Image, rule: RowRule, r: usize, router: &Router) -> Option<usize>
+fn first_row(
+    image: &Image,
+    hints: &Hints,
+    rule: RowRule,
+    r: usize,
+    router: &Router,
+) -> Option<usize>
     requires cables { FirstPlace (c1 image.now) None }
     requires stations { FirstPlace (c2 image.now) None }
     requires at { slice_get image.now.routers r ≡ Some router.now }
     ensures first { FirstNumber (λ k. breaks_rows rule image.now (Place.Row (suc r) (suc k))) result }
     ensures low { IfSome result (λ k. k < length router.now.rows) }
 {
-    let mut hints = Hints::new();
     for (k, row) in router.rows.as_slice().iter().enumerate() {
-        if breaks(rule, image, &mut hints, r, router, k, row) {
+        if breaks(rule, image, hints, r, router, k, row) {
             return Some(k);
         }
     }
@@ -96,13 +101,13 @@ fn first_missing(image: &Image, rule: RowRule, r: usize, router: &Router) -> Opt
 }
 
 /// The first place that breaks the rule.
-pub fn bad_row(image: &Image, rule: RowRule) -> Option<Place>
+pub fn bad_row(image: &Image, hints: &Hints, rule: RowRule) -> Option<Place>
     requires cables { FirstPlace (c1 image.now) None }
     requires stations { FirstPlace (c2 image.now) None }
     ensures { FirstPlace (breaks_rows rule image.now) result }
 {
     for (r, router) in image.routers().iter().enumerate() {
-        if let Some(k) = first_row(image, rule, r, router) {
+        if let Some(k) = first_row(image, hints, rule, r, router) {
             return Some(Place::Row(from_one(r), from_one(k)));
         }
         if let Some(k) = first_missing(image, rule, r, router) {
