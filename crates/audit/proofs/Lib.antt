@@ -1,4 +1,5 @@
 pub mod CableOrder
+pub mod Filter
 pub mod Finding
 pub mod Firsts
 pub mod Owners

@@ -1,5 +1,6 @@
 pub mod Firsts
 pub mod RowRules
 pub mod Rules
+pub mod Seen
 pub mod Verdicts
 pub mod Walks

@@ -8,6 +8,7 @@ mod next;
 mod places;
 mod ranges;
 mod rows;
+mod seen;
 mod stations;
 mod summary;
 mod verdict;
