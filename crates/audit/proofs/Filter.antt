@@ -8,7 +8,7 @@ use Rattle.at_base.specs.declared.address.Hw.{Hw}
 use Rattle.table_image.specs.Seats.{same_address}
 use Rattle.table_image.specs.declared.router.Router.{Router}
 use Rattle.audit.specs.Rules.{router_has, same_hardware}
-use Rattle.audit.specs.Seen.{HasSeenBelow, address_slot, hardware_slot}
+use Rattle.audit.specs.Seen.{HasSeenBelow, address_slot, hardware_slot, may_have}
 use Rattle.audit.specs.declared.seen.Seen.{Seen}
 use Rattle.audit.proofs.Finding.{any_at, from_take}
 
@@ -33,7 +33,7 @@ same_hardware_slots : (g h : Hw) → same_hardware g h ≡ true → hardware_slo
 same_hardware_slots g h e = ap (λ l. slice_index l 5 + 256 * slice_index l 4) (equal_bytes g.0 h.0 e)
 
 -- an address without a mark is no earlier router's
-pub not_seen : (seen : Seen) (routers : List Router) (r : ℕ) (a : Addr) (h : Hw) → HasSeenBelow seen routers r → (slice_index_or seen.addresses (address_slot a) false || slice_index_or seen.hardware (hardware_slot h) false) ≡ false → list_any (router_has a h) (take r routers) ≡ false
+pub not_seen : (seen : Seen) (routers : List Router) (r : ℕ) (a : Addr) (h : Hw) → HasSeenBelow seen routers r → may_have seen a h ≡ false → list_any (router_has a h) (take r routers) ≡ false
 not_seen seen routers r a h below unmarked = false_from_ne_true (list_any (router_has a h) (take r routers)) (λ any.
     let one = any_at (router_has a h) (take r routers) any in
     let there = from_take routers r one.0 one.1 one.2 in

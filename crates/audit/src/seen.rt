@@ -1,8 +1,9 @@
 //! A filter of the addresses that stations have: it says of almost every new address that no station before has it, so
 //! that few pairs of stations are compared.
 
-ghost use Rattle.std.specs.Prelude.{◌≡◌, ◌<◌, ◌||◌, false, slice_index_or};
-ghost use Rattle.audit.specs.Seen.{HasSeen, HasSeenPorts, SeesMore, address_slot, hardware_slot};
+ghost use Rattle.std.specs.Prelude.{◌≡◌, ◌<◌};
+ghost use Rattle.audit.specs.Seen.{HasSeen, HasSeenPorts, SeesMore};
+ghost use Rattle.audit.specs.Seen.{address_slot, hardware_slot, may_have as has_mark};
 
 use at_base::{Addr, Hw};
 use table_image::Port;
@@ -39,7 +40,7 @@ impl Seen {
 
     /// Whether one of the two may have been seen.
     pub fn may_have(&self, a: Addr, h: &Hw) -> bool
-        ensures { result ≡ (slice_index_or self.now.addresses (address_slot a) false || slice_index_or self.now.hardware (hardware_slot h.now) false) }
+        ensures { result ≡ has_mark self.now a h.now }
     {
         self.addresses[slot_of(a)] || self.hardware[hardware_slot_of(h)]
     }

@@ -1,11 +1,14 @@
 //! Rule C2: stations are addressed.
 
-ghost use Rattle.std.specs.Prelude.{◌≡◌, ◌<◌, ◌≤◌, ℕ, suc, false, Some, length, slice_get, take, ◌==◌, MatchOption, IfNone, IfSome};
+ghost use Rattle.std.specs.Prelude.{◌≡◌, ◌<◌, ◌≤◌, ◌==◌, ℕ, suc, false, Some, IfNone, IfSome};
+ghost use Rattle.std.specs.Prelude.{length, slice_get, take};
 ghost use Rattle.std.specs.List.{list_any};
 ghost use Rattle.table_image.specs.Seats.{same_address as same};
 ghost use Rattle.audit.specs.Firsts.{FirstNumber, FirstPlace};
 ghost use Rattle.audit.specs.Seen.{HasSeenBelow};
-ghost use Rattle.audit.specs.Rules.{same_hardware as same_hw, bad_address as badly, router_has as router_uses, node_has as node_uses, bad_port as port_bad, bad_node as node_bad, c2};
+ghost use Rattle.audit.specs.Rules.{same_hardware as same_hw, bad_address as badly, c2};
+ghost use Rattle.audit.specs.Rules.{router_has as router_uses, bad_port as port_bad};
+ghost use Rattle.audit.specs.Rules.{node_has as node_uses, bad_node as node_bad};
 
 use crate::places::from_one;
 use crate::seen::Seen;
@@ -22,7 +25,7 @@ pub fn same_address(a: Addr, b: Addr) -> bool
 fn same_hardware(a: &Hw, b: &Hw) -> bool
     ensures { result ≡ same_hw a.now b.now }
 {
-    // The last byte first: stations of one make differ there, and every pair of ports comes by here.
+    // The last byte first: stations of one make differ there.
     a.0[5] == b.0[5] && a.0 == b.0
 }
 
@@ -124,7 +127,8 @@ fn first_port(image: &Image, seen: &Seen, r: usize, router: &Router) -> Option<u
 
 fn bad_port(image: &Image, seen: &mut Seen) -> Option<Place>
     ensures seen { IfNone result (HasSeenBelow seen.new image.now.routers (length image.now.routers)) }
-    ensures first { MatchOption result ((r p : ℕ) → c2 image.now (Place.Port (suc r) (suc p)) ≡ false) (λ place. FirstPlace (c2 image.now) (Some place)) }
+    ensures none { IfNone result ((r p : ℕ) → c2 image.now (Place.Port (suc r) (suc p)) ≡ false) }
+    ensures found { IfSome result (λ place. FirstPlace (c2 image.now) (Some place)) }
 {
     for (r, router) in image.routers().iter().enumerate() {
         if let Some(p) = first_port(image, seen, r, router) {

@@ -24,8 +24,8 @@ returns-clause-seen c s lt =
     let past = end_of c.args.image.now.routers _ c.loop-r.r c.routers-router-items.ensures.value c.loop-r-test.false in
     c.loop-r.invariant.0 s (omega (arith, past))
 
-pub returns-clause-first : goal.returns-clause-first
-returns-clause-first c r p =
+pub returns-clause-none : goal.returns-clause-none
+returns-clause-none c r p =
     let routers = c.args.image.now.routers in
     let past = end_of routers _ c.loop-r.r c.routers-router-items.ensures.value c.loop-r-test.false in
     none_at_all (λ r. c2 c.args.image.now (place.Port (suc r) (suc p))) c.loop-r.r (λ s ge. on_past routers s (λ router. on (slice_get router.ports p) (bad_port c.args.image.now s p router)) (omega (arith, past))) (λ s lt. c.loop-r.invariant.1 s lt p) r
