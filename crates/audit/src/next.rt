@@ -3,14 +3,16 @@
 ghost use Rattle.std.specs.Prelude.{◌≡◌, ◌<◌, ◌&&◌, not, None, slice_get};
 ghost use Rattle.table_image.specs.Routing.{is_direct as direct};
 ghost use Rattle.audit.specs.Firsts.{FirstPlace};
-ghost use Rattle.audit.specs.Rules.{bad_step, is_no_other as no_other, next_router as next, same_row as same, not_one_less, c2};
+ghost use Rattle.audit.specs.Rules.{bad_step, is_no_other as no_other, next_router as next};
+ghost use Rattle.audit.specs.Rules.{same_row as same, not_one_less, c2};
 
 use crate::lookups::{owner, same_row};
 use crate::ranges::is_direct;
 use table_image::{Image, Router, Row};
 
-/// For a cable and a node's number there, a router that may have the address: what it says is looked at before it is
-/// used. A network is left out, since a cable seldom has one node's number on two of its networks.
+/// For a cable and a node's number there, a router that may have the address: what it says is looked
+/// at before it is used. The network is left out, since a cable seldom has one node's number on two of
+/// its networks.
 #[derive(Drop)]
 pub struct Hints {
     routers: [u8; 65536],

@@ -1,5 +1,5 @@
-//! A filter of the addresses that stations have: it says of almost every new address that no station before has it, so
-//! that few pairs of stations are compared.
+//! A filter of the addresses that stations have: it says of almost every new address that no station
+//! before has it, so that few pairs of stations are compared.
 
 ghost use Rattle.std.specs.Prelude.{◌≡◌, ◌<◌};
 ghost use Rattle.audit.specs.Seen.{HasSeen, HasSeenPorts, SeesMore};
