@@ -83,3 +83,10 @@ index_within test (x ∷ xs) k e =
     later : (o : Option ℕ) → option_map suc o ≡ Some k → ((j : ℕ) → o ≡ Some j → j < length xs) → k < suc (length xs)
     later None e within = cc
     later (Some j) e within = let s : suc j ≡ k = cc in let h = within j refl in omega (arith, h, s)
+
+-- an element of a front is one of the list
+pub from_take : {X : Type 0} (xs : List X) (n k : ℕ) (x : X) → slice_get (take n xs) k ≡ Some x → (k < n) × (slice_get xs k ≡ Some x)
+from_take xs zero k x at = cc
+from_take [] (suc n) k x at = cc
+from_take (y ∷ xs) (suc n) zero x at = (omega arith, at)
+from_take (y ∷ xs) (suc n) (suc k) x at = let h = from_take xs n k x at in (let lt = h.0 in omega (arith, lt), h.1)

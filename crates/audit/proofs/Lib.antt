@@ -7,6 +7,7 @@ pub mod SeatUnique
 pub mod ExamplePlaces
 pub mod ExampleWalks
 pub mod CableOrder
+pub mod Filter
 pub mod Finding
 pub mod Firsts
 pub mod Owners

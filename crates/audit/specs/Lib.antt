@@ -1,6 +1,7 @@
 pub mod Firsts
 pub mod RowRules
 pub mod Rules
+pub mod Seen
 pub mod Verdicts
 pub mod Walks
 pub mod Example

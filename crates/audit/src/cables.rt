@@ -1,21 +1,14 @@
 //! Rule C1: the cables stand in order.
 
-ghost use Rattle.std.specs.Prelude.{◌≡◌, ◌+◌, ◌<◌, suc, IfSome};
+ghost use Rattle.std.specs.Prelude.{◌≡◌, ◌<◌, suc, IfSome};
 ghost use Rattle.std.specs.List.{list_any};
 ghost use Rattle.at_base.specs.Text.{same_name};
 ghost use Rattle.audit.specs.Firsts.{FirstNumber, FirstPlace};
 ghost use Rattle.audit.specs.Rules.{bad_cable as bad, c1, has_double as doubled};
 
+use crate::places::from_one;
 use at_base::{Name, Place};
 use table_image::{Cable, Image};
-
-/// The number by which a place names the thing that stands at `k` from 0.
-pub fn from_one(k: usize) -> u32
-    requires { k < 256 }
-    ensures { result ≡ suc k }
-{
-    k as u32 + 1
-}
 
 fn is_among(name: &Name, others: &[Name]) -> bool
     ensures { result ≡ list_any (same_name name.now) others.now }

@@ -1,10 +1,10 @@
 //! The judge of an internet: the rules, one after the other.
 
-ghost use Rattle.std.specs.Prelude.{◌≡◌};
 ghost use Rattle.audit.specs.Verdicts.{Judges, OnYes};
 ghost use Rattle.audit.specs.Walks.{WalksHome};
 
 use crate::cables::bad_cable;
+use crate::next::Hints;
 use crate::rows::{RowRule, bad_row};
 use crate::stations::bad_station;
 use crate::summary::summarize;
@@ -25,19 +25,20 @@ pub fn audit(image: &Image) -> Verdict
     if let Some(place) = bad_station(image) {
         return Verdict::No(Fault { rule: 2, place });
     }
-    if let Some(place) = bad_row(image, RowRule::Ranges) {
+    let hints = Hints::of(image);
+    if let Some(place) = bad_row(image, &hints, RowRule::Ranges) {
         return Verdict::No(Fault { rule: 3, place });
     }
-    if let Some(place) = bad_row(image, RowRule::Direct) {
+    if let Some(place) = bad_row(image, &hints, RowRule::Direct) {
         return Verdict::No(Fault { rule: 4, place });
     }
-    if let Some(place) = bad_row(image, RowRule::Distances) {
+    if let Some(place) = bad_row(image, &hints, RowRule::Distances) {
         return Verdict::No(Fault { rule: 5, place });
     }
-    if let Some(place) = bad_row(image, RowRule::Next) {
+    if let Some(place) = bad_row(image, &hints, RowRule::Next) {
         return Verdict::No(Fault { rule: 6, place });
     }
-    if let Some(place) = bad_row(image, RowRule::Steps) {
+    if let Some(place) = bad_row(image, &hints, RowRule::Steps) {
         return Verdict::No(Fault { rule: 7, place });
     }
     Verdict::Yes(summarize(image))

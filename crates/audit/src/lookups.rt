@@ -1,15 +1,15 @@
-//! What the rules about rows look up. Each look-up tries a hint first, since after rule C3 a router's row k is that of
-//! cable k, and since many rows have one next router; a wrong hint costs a search, and changes no answer.
+//! What the rules about rows look up. Each look-up tries a hint first, since after rule C3 a router's
+//! row k is that of cable k; a wrong hint costs a search, and changes no answer.
 
 ghost use Rattle.std.specs.Prelude.{◌≡◌, ◌==◌, ◌&&◌, None, Some, position, find};
 ghost use Rattle.std.specs.List.{list_any};
 ghost use Rattle.std.specs.Option.{option_copied};
 ghost use Rattle.table_image.specs.Internet.{AreRising};
-ghost use Rattle.table_image.specs.Places.{index_of};
 ghost use Rattle.table_image.specs.Routing.{owner as owner_at};
 ghost use Rattle.table_image.specs.Seats.{same_address as same};
 ghost use Rattle.audit.specs.Firsts.{FirstPlace};
-ghost use Rattle.audit.specs.Rules.{is_for as fits, cable_of as cable, port_on as port, same_row as row_of, c1, c2};
+ghost use Rattle.audit.specs.Rules.{is_for as fits, cable_of as cable, port_on as port};
+ghost use Rattle.audit.specs.Rules.{same_row as row_of, c1, c2};
 
 use crate::stations::same_address;
 use at_base::Addr;

@@ -1,12 +1,17 @@
 //! Rule C2: stations are addressed.
 
-ghost use Rattle.std.specs.Prelude.{◌≡◌, ◌<◌, ◌≤◌, ℕ, suc, false, Some, length, slice_get, ◌==◌, take, MatchOption, IfSome};
+ghost use Rattle.std.specs.Prelude.{◌≡◌, ◌<◌, ◌≤◌, ◌==◌, ℕ, suc, false, Some, IfNone, IfSome};
+ghost use Rattle.std.specs.Prelude.{length, slice_get, take};
 ghost use Rattle.std.specs.List.{list_any};
 ghost use Rattle.table_image.specs.Seats.{same_address as same};
 ghost use Rattle.audit.specs.Firsts.{FirstNumber, FirstPlace};
-ghost use Rattle.audit.specs.Rules.{same_hardware as same_hw, bad_address as badly, router_has as router_uses, node_has as node_uses, bad_port as port_bad, bad_node as node_bad, c2};
+ghost use Rattle.audit.specs.Seen.{HasSeenBelow};
+ghost use Rattle.audit.specs.Rules.{same_hardware as same_hw, bad_address as badly, c2};
+ghost use Rattle.audit.specs.Rules.{router_has as router_uses, bad_port as port_bad};
+ghost use Rattle.audit.specs.Rules.{node_has as node_uses, bad_node as node_bad};
 
-use crate::cables::from_one;
+use crate::places::from_one;
+use crate::seen::Seen;
 use at_base::{Addr, Hw, Place};
 use table_image::{Image, Node, Port, Router};
 
@@ -20,7 +25,8 @@ pub fn same_address(a: Addr, b: Addr) -> bool
 fn same_hardware(a: &Hw, b: &Hw) -> bool
     ensures { result ≡ same_hw a.now b.now }
 {
-    a.0 == b.0
+    // The last byte first: stations of one make differ there.
+    a.0[5] == b.0[5] && a.0 == b.0
 }
 
 fn has_bad_address(image: &Image, cable: u8, address: Addr, hardware: &Hw) -> bool
@@ -66,55 +72,80 @@ fn one_port_is_on(cable: u8, ports: &[Port]) -> bool
     ports.iter().any(|q| q.cable == cable)
 }
 
-fn is_bad_port(image: &Image, r: usize, p: usize, router: &Router, port: &Port) -> bool
+fn earlier_router_has(image: &Image, seen: &Seen, r: usize, address: Addr, hardware: &Hw) -> bool
+    requires seen { HasSeenBelow seen.now image.now.routers r }
+    requires within { r ≤ length image.now.routers }
+    ensures { result ≡ list_any (router_uses address hardware.now) (take r image.now.routers) }
+{
+    if !seen.may_have(address, hardware) {
+        return false;
+    }
+    one_router_has(address, hardware, &image.routers()[..r])
+}
+
+fn is_bad_port(image: &Image, seen: &Seen, r: usize, p: usize, router: &Router, port: &Port) -> bool
+    requires seen { HasSeenBelow seen.now image.now.routers r }
     requires router { r ≤ length image.now.routers }
     requires port { p ≤ length router.now.ports }
     ensures { result ≡ port_bad image.now r p router.now port.now }
 {
     has_bad_address(image, port.cable, port.address, &port.hardware)
-        || one_router_has(port.address, &port.hardware, &image.routers()[..r])
+        || earlier_router_has(image, seen, r, port.address, &port.hardware)
         || one_port_is_on(port.cable, &router.ports.as_slice()[..p])
 }
 
-fn is_bad_node(image: &Image, k: usize, node: &Node) -> bool
-    requires { k ≤ length image.now.nodes }
+fn a_router_has(image: &Image, seen: &Seen, address: Addr, hardware: &Hw) -> bool
+    requires { HasSeenBelow seen.now image.now.routers (length image.now.routers) }
+    ensures { result ≡ list_any (router_uses address hardware.now) image.now.routers }
+{
+    earlier_router_has(image, seen, image.routers().len(), address, hardware)
+}
+
+fn is_bad_node(image: &Image, seen: &Seen, k: usize, node: &Node) -> bool
+    requires seen { HasSeenBelow seen.now image.now.routers (length image.now.routers) }
+    requires node { k ≤ length image.now.nodes }
     ensures { result ≡ node_bad image.now k node.now }
 {
     has_bad_address(image, node.cable, node.address, &node.hardware)
-        || one_router_has(node.address, &node.hardware, image.routers())
+        || a_router_has(image, seen, node.address, &node.hardware)
         || one_node_has(node.address, &node.hardware, &image.nodes()[..k])
 }
 
-fn first_port(image: &Image, r: usize, router: &Router) -> Option<usize>
-    requires { slice_get image.now.routers r ≡ Some router.now }
+fn first_port(image: &Image, seen: &Seen, r: usize, router: &Router) -> Option<usize>
+    requires seen { HasSeenBelow seen.now image.now.routers r }
+    requires at { slice_get image.now.routers r ≡ Some router.now }
     ensures first { FirstNumber (λ p. c2 image.now (Place.Port (suc r) (suc p))) result }
     ensures low { IfSome result (λ p. p < length router.now.ports) }
 {
     for (p, port) in router.ports.as_slice().iter().enumerate() {
-        if is_bad_port(image, r, p, router, port) {
+        if is_bad_port(image, seen, r, p, router, port) {
             return Some(p);
         }
     }
     None
 }
 
-fn bad_port(image: &Image) -> Option<Place>
-    ensures { MatchOption result ((r p : ℕ) → c2 image.now (Place.Port (suc r) (suc p)) ≡ false) (λ place. FirstPlace (c2 image.now) (Some place)) }
+fn bad_port(image: &Image, seen: &mut Seen) -> Option<Place>
+    ensures seen { IfNone result (HasSeenBelow seen.new image.now.routers (length image.now.routers)) }
+    ensures none { IfNone result ((r p : ℕ) → c2 image.now (Place.Port (suc r) (suc p)) ≡ false) }
+    ensures found { IfSome result (λ place. FirstPlace (c2 image.now) (Some place)) }
 {
     for (r, router) in image.routers().iter().enumerate() {
-        if let Some(p) = first_port(image, r, router) {
+        if let Some(p) = first_port(image, seen, r, router) {
             return Some(Place::Port(from_one(r), from_one(p)));
         }
+        seen.add_ports(router.ports.as_slice());
     }
     None
 }
 
-fn first_node(image: &Image) -> Option<usize>
+fn first_node(image: &Image, seen: &Seen) -> Option<usize>
+    requires { HasSeenBelow seen.now image.now.routers (length image.now.routers) }
     ensures first { FirstNumber (λ k. c2 image.now (Place.Node (suc k))) result }
     ensures low { IfSome result (λ k. k < 200) }
 {
     for (k, node) in image.nodes().iter().enumerate() {
-        if is_bad_node(image, k, node) {
+        if is_bad_node(image, seen, k, node) {
             return Some(k);
         }
     }
@@ -125,8 +156,9 @@ fn first_node(image: &Image) -> Option<usize>
 pub fn bad_station(image: &Image) -> Option<Place>
     ensures { FirstPlace (c2 image.now) result }
 {
-    match bad_port(image) {
+    let mut seen = Seen::new();
+    match bad_port(image, &mut seen) {
         Some(place) => Some(place),
-        None => first_node(image).map(|k| Place::Node(from_one(k))),
+        None => first_node(image, &seen).map(|k| Place::Node(from_one(k))),
     }
 }

@@ -1,7 +1,7 @@
 //! What an internet has.
 
-ghost use Rattle.std.specs.Prelude.{◌≡◌, ◌<◌, ◌≤◌, ◌^◌, fold, length, max, sum_by};
-ghost use Rattle.audit.specs.Verdicts.{greatest_distance as greatest_of_all, row_count, summary_of};
+ghost use Rattle.std.specs.Prelude.{◌≡◌, ◌<◌, ◌^◌, fold, length, max, sum_by};
+ghost use Rattle.audit.specs.Verdicts.{summary_of};
 
 use crate::verdict::Summary;
 use table_image::{Image, Router, Row};

@@ -2,7 +2,7 @@ use Rattle.std.proofs.Common.{◌∙◌, ap, sym}
 use Rattle.std.proofs.lemmas.Option.{slice_get_past}
 use Rattle.audit.specs.Rules.{same_row}
 use Rattle.audit.proofs.Firsts.{item_at, end_of}
-use Rattle.audit.proofs.rows.row_at.Goals as goal
+use Rattle.audit.proofs.next.row_at.Goals as goal
 
 pub same_row-requires : goal.same_row-requires
 same_row-requires c =

@@ -1,0 +1,36 @@
+-- What a filter of addresses has seen. (own)
+use Rattle.std.specs.Prelude.{◌≡◌, ℕ, ◌+◌, ◌*◌, ◌%◌, ◌<◌, ◌||◌, Bool, true, false, List, Some, slice_get, slice_index, slice_index_or}
+use Rattle.at_base.specs.declared.address.Addr.{Addr}
+use Rattle.at_base.specs.declared.address.Hw.{Hw}
+use Rattle.table_image.specs.declared.router.Port.{Port}
+use Rattle.table_image.specs.declared.router.Router.{Router}
+use Rattle.audit.specs.declared.seen.Seen.{Seen}
+
+-- where the mark of an address is
+abbrev pub address_slot : Addr → ℕ
+address_slot a = (a.net + 256 * a.node) % 65536
+
+-- where the mark of a hardware address is
+abbrev pub hardware_slot : Hw → ℕ
+hardware_slot h = slice_index h.0 5 + 256 * slice_index h.0 4
+
+-- one of the two has its mark
+abbrev pub may_have : Seen → Addr → Hw → Bool
+may_have seen a h = slice_index_or seen.addresses (address_slot a) false || slice_index_or seen.hardware (hardware_slot h) false
+
+-- the filter has seen both
+pub record HasSeen (seen : Seen) (a : Addr) (h : Hw) : Type 0 where
+  pub address : slice_index_or seen.addresses (address_slot a) false ≡ true
+  pub hardware : slice_index_or seen.hardware (hardware_slot h) false ≡ true
+
+-- the filter has seen each port
+abbrev pub HasSeenPorts : Seen → List Port → Type 0
+HasSeenPorts seen ports = (p : ℕ) (port : Port) → slice_get ports p ≡ Some port → HasSeen seen port.address port.hardware
+
+-- the filter has seen each port of the routers below n
+abbrev pub HasSeenBelow : Seen → List Router → ℕ → Type 0
+HasSeenBelow seen routers n = (s : ℕ) → s < n → (router : Router) → slice_get routers s ≡ Some router → HasSeenPorts seen router.ports
+
+-- what one filter has seen the other has seen
+abbrev pub SeesMore : Seen → Seen → Type 0
+SeesMore old new = (a : Addr) (h : Hw) → HasSeen old a h → HasSeen new a h

@@ -1,0 +1,65 @@
+//! A filter of the addresses that stations have: it says of almost every new address that no station
+//! before has it, so that few pairs of stations are compared.
+
+ghost use Rattle.std.specs.Prelude.{◌≡◌, ◌<◌};
+ghost use Rattle.audit.specs.Seen.{HasSeen, HasSeenPorts, SeesMore};
+ghost use Rattle.audit.specs.Seen.{address_slot, hardware_slot, may_have as has_mark};
+
+use at_base::{Addr, Hw};
+use table_image::Port;
+
+/// A mark for each address and each hardware address that was seen; others may have the same mark.
+#[derive(Drop)]
+pub struct Seen {
+    addresses: [bool; 65536],
+    hardware: [bool; 65536],
+}
+
+fn slot_of(a: Addr) -> usize
+    ensures value { result ≡ address_slot a }
+    ensures low { result < 65536 }
+{
+    (a.net as usize + 256 * a.node as usize) % 65536
+}
+
+fn hardware_slot_of(h: &Hw) -> usize
+    ensures value { result ≡ hardware_slot h.now }
+    ensures low { result < 65536 }
+{
+    h.0[5] as usize + 256 * h.0[4] as usize
+}
+
+impl Seen {
+    /// Nothing was seen yet.
+    pub fn new() -> Seen {
+        Seen {
+            addresses: [false; 65536],
+            hardware: [false; 65536],
+        }
+    }
+
+    /// Whether one of the two may have been seen.
+    pub fn may_have(&self, a: Addr, h: &Hw) -> bool
+        ensures { result ≡ has_mark self.now a h.now }
+    {
+        self.addresses[slot_of(a)] || self.hardware[hardware_slot_of(h)]
+    }
+
+    fn add(&mut self, a: Addr, h: &Hw)
+        ensures seen { HasSeen self.new a h.now }
+        ensures more { SeesMore self.old self.new }
+    {
+        self.addresses[slot_of(a)] = true;
+        self.hardware[hardware_slot_of(h)] = true;
+    }
+
+    /// Sees the ports of a router.
+    pub fn add_ports(&mut self, ports: &[Port])
+        ensures seen { HasSeenPorts self.new ports.now }
+        ensures more { SeesMore self.old self.new }
+    {
+        for port in ports {
+            self.add(port.address, &port.hardware);
+        }
+    }
+}
