@@ -1,0 +1,78 @@
+//! The command line: what its words ask for, and the help that it answers.
+
+use clap::{Arg, ArgAction, ArgMatches, Command, Error};
+use std::alloc::{AllocError, Global};
+use std::convert::AsStr;
+
+/// Where an image is read from.
+#[derive(Clone, Copy, Debug, PartialEq, Eq)]
+pub enum Source<'a> {
+    StandardInput,
+    File(&'a str),
+}
+
+/// What the command line asks for.
+#[derive(Clone, Copy, Debug, PartialEq, Eq)]
+pub enum Job<'a> {
+    Audit(Source<'a>),
+}
+
+const ABOUT: &str = "Audits the routing tables of an AppleTalk internet, frozen in an image.";
+
+const AFTER_HELP: &str = "Without a command, atalk audits the image on standard input.
+
+Exit status:
+  0  yes: the tables keep every rule
+  1  no: the line printed names the first rule that is broken, and where
+  2  the input is refused: it is no image; or the words are wrong
+  3  memory ran out, or reading or writing failed
+A refusal prints `refused: N` on standard error, N being the error's number.
+
+Example:
+  atalk audit three-cables.image";
+
+const AUDIT: &str = "Judges an image and prints one line: yes with a summary, or no with the first fault";
+
+const FILE: &str = "The image; - is standard input";
+
+/// `atalk audit FILE`.
+fn audit_command<'a>(alloc: Global) -> Result<Command<'a>, AllocError> {
+    let file = Arg::new(alloc, "FILE")
+        .help(FILE)
+        .required(true)
+        .action(ArgAction::Set);
+    Command::new(alloc, "audit").about(AUDIT).arg(file)
+}
+
+/// `atalk`, with its commands.
+fn atalk_command<'a>(alloc: Global) -> Result<Command<'a>, AllocError> {
+    Command::new(alloc, "atalk")
+        .version("1.0")
+        .about(ABOUT)
+        .after_help(AFTER_HELP)
+        .disable_help_subcommand(true)
+        .subcommand(audit_command(alloc)?)
+}
+
+/// Reads the words, of which the first is the program's own name.
+pub fn read_words<'a, S: AsStr>(alloc: Global, words: &'a [S]) -> Result<Job<'a>, Error> {
+    let matches = atalk_command(alloc)?.try_get_matches_from(words)?;
+    Ok(job_of(&matches))
+}
+
+/// The job that was matched: without a command, an audit of standard input.
+fn job_of<'a>(matches: &ArgMatches<'a>) -> Job<'a> {
+    match matches.subcommand() {
+        Some((_, audit)) => Job::Audit(source_of(audit.get_str("FILE").unwrap_or("-"))),
+        None => Job::Audit(Source::StandardInput),
+    }
+}
+
+/// The source that a word names.
+fn source_of(word: &str) -> Source<'_> {
+    if word == "-" {
+        Source::StandardInput
+    } else {
+        Source::File(word)
+    }
+}
