@@ -31,7 +31,8 @@ A refusal prints `refused: N` on standard error, N being the error's number.
 Example:
   atalk audit three-cables.image";
 
-const AUDIT: &str = "Judges an image and prints one line: yes with a summary, or no with the first fault";
+const AUDIT: &str =
+    "Judges an image and prints one line: yes with a summary, or no with the first fault";
 
 const FILE: &str = "The image; - is standard input";
 
