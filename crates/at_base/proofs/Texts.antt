@@ -1,6 +1,7 @@
 -- Texts compared as a test, and as a fact.
 use Rattle.std.proofs.Common.{◌≡◌, ℕ, Bool, true, false, ◌&&◌, eqb, List, [], ◌∷◌, map, refl, sym, ap, ◌∙◌, eqb-true, eq-eqb}
-use Rattle.std.specs.Prelude.{IsTrue, ◌↔◌}
+use Rattle.std.specs.Prelude.{IsTrue, ◌↔◌, fold}
+use Rattle.std.specs.List.{list_all}
 use Rattle.std.proofs.lemmas.Bool.{and_parts}
 use Rattle.std.specs.Char.{to_ascii_lowercase}
 use Rattle.at_base.specs.Text.{same_bytes, same_name, SameName}
@@ -33,3 +34,16 @@ test_is false x y h =
       | true ↦ λ e. h.1 (same_name_is x y e)
       | false ↦ λ e. refl
     ] refl
+
+and_assoc : (a b c : Bool) → ((a && b) && c) ≡ (a && (b && c))
+and_assoc true b c = refl
+and_assoc false b c = refl
+
+and_true : (a : Bool) → a ≡ (a && true)
+and_true true = refl
+and_true false = refl
+
+-- a test of all bytes that never stops early
+pub fold_and : (p : ℕ → Bool) (good : Bool) (bytes : List ℕ) → fold (λ g b. g && p b) good bytes ≡ (good && list_all p bytes)
+fold_and p good [] = and_true good
+fold_and p good (b ∷ bytes) = fold_and p (good && p b) bytes ∙ and_assoc good (p b) (list_all p bytes)

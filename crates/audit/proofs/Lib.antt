@@ -6,3 +6,11 @@ pub mod SeatPlaces
 pub mod SeatUnique
 pub mod ExamplePlaces
 pub mod ExampleWalks
+pub mod CableOrder
+pub mod Finding
+pub mod Firsts
+pub mod Owners
+pub mod RowOrder
+pub mod RowPlaces
+pub mod RuleOrder
+pub mod Summaries

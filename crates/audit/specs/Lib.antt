@@ -1,3 +1,5 @@
+pub mod Firsts
+pub mod RowRules
 pub mod Rules
 pub mod Verdicts
 pub mod Walks

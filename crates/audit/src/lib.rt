@@ -1,9 +1,18 @@
-//! The audit of an internet's tables.
+//! The audit of an internet's tables: the rules, the verdict, and what a yes means for the ways of datagrams.
 #![tactic(auto)]
 
+mod bytes;
+mod cables;
+mod judge;
 mod laws;
+mod lookups;
+mod rows;
+mod stations;
+mod summary;
 mod verdict;
 
+pub use bytes::audit_bytes;
+pub use judge::audit;
 pub use laws::{
     distances_fit, each_step, loops_have_no_walk, one_walk_home, seats_are_unique,
     the_example_passes, unlisted_is_nowhere,

@@ -1,0 +1,43 @@
+use Rattle.audit.proofs.WalkHome.{walks_home}
+use Rattle.audit.proofs.RuleOrder.{none_yet, and_next, all_kept, first_fault}
+use Rattle.audit.proofs.judge.audit.Goals as goal
+
+pub returns-in-Some-bad_row-2 : goal.returns-in-Some-bad_row-2
+returns-in-Some-bad_row-2 c =
+    let i = c.args.image.now in
+    let below_3 = and_next i 2 (and_next i 1 (none_yet i) c.in_default.ensures) c.in_default-bad_station.ensures in
+    let below_4 = and_next i 3 below_3 c.in_default-bad_row.ensures in
+    record { judged = first_fault i 4 c.in-Some-bad_row-2.place below_4 c.in-Some-bad_row-2.ensures; walks = tt }
+
+pub returns-in-Some-bad_row-3 : goal.returns-in-Some-bad_row-3
+returns-in-Some-bad_row-3 c =
+    let i = c.args.image.now in
+    let below_3 = and_next i 2 (and_next i 1 (none_yet i) c.in_default.ensures) c.in_default-bad_station.ensures in
+    let below_5 = and_next i 4 (and_next i 3 below_3 c.in_default-bad_row.ensures) c.in_default-bad_row-2.ensures in
+    record { judged = first_fault i 5 c.in-Some-bad_row-3.place below_5 c.in-Some-bad_row-3.ensures; walks = tt }
+
+pub returns-in-Some-bad_row-4 : goal.returns-in-Some-bad_row-4
+returns-in-Some-bad_row-4 c =
+    let i = c.args.image.now in
+    let below_3 = and_next i 2 (and_next i 1 (none_yet i) c.in_default.ensures) c.in_default-bad_station.ensures in
+    let below_5 = and_next i 4 (and_next i 3 below_3 c.in_default-bad_row.ensures) c.in_default-bad_row-2.ensures in
+    let below_6 = and_next i 5 below_5 c.in_default-bad_row-3.ensures in
+    record { judged = first_fault i 6 c.in-Some-bad_row-4.place below_6 c.in-Some-bad_row-4.ensures; walks = tt }
+
+pub returns-in-Some-bad_row-5 : goal.returns-in-Some-bad_row-5
+returns-in-Some-bad_row-5 c =
+    let i = c.args.image.now in
+    let below_3 = and_next i 2 (and_next i 1 (none_yet i) c.in_default.ensures) c.in_default-bad_station.ensures in
+    let below_5 = and_next i 4 (and_next i 3 below_3 c.in_default-bad_row.ensures) c.in_default-bad_row-2.ensures in
+    let below_7 = and_next i 6 (and_next i 5 below_5 c.in_default-bad_row-3.ensures) c.in_default-bad_row-4.ensures in
+    record { judged = first_fault i 7 c.in-Some-bad_row-5.place below_7 c.in-Some-bad_row-5.ensures; walks = tt }
+
+pub returns : goal.returns
+returns c =
+    let i = c.args.image.now in
+    let below_3 = and_next i 2 (and_next i 1 (none_yet i) c.in_default.ensures) c.in_default-bad_station.ensures in
+    let below_5 = and_next i 4 (and_next i 3 below_3 c.in_default-bad_row.ensures) c.in_default-bad_row-2.ensures in
+    let below_7 = and_next i 6 (and_next i 5 below_5 c.in_default-bad_row-3.ensures) c.in_default-bad_row-4.ensures in
+    let below_8 = and_next i 7 below_7 c.in_default-bad_row-5.ensures in
+    let passes = all_kept i below_8 in
+    record { judged = (passes, c.summarize.ensures); walks = walks_home i passes }

@@ -1,0 +1,65 @@
+//! Rule C1: the cables stand in order.
+
+ghost use Rattle.std.specs.Prelude.{◌≡◌, ◌+◌, ◌<◌, suc, IfSome};
+ghost use Rattle.std.specs.List.{list_any};
+ghost use Rattle.at_base.specs.Text.{same_name};
+ghost use Rattle.audit.specs.Firsts.{FirstNumber, FirstPlace};
+ghost use Rattle.audit.specs.Rules.{bad_cable as bad, c1, has_double as doubled};
+
+use at_base::{Name, Place};
+use table_image::{Cable, Image};
+
+/// The number by which a place names the thing that stands at `k` from 0.
+pub fn from_one(k: usize) -> u32
+    requires { k < 256 }
+    ensures { result ≡ suc k }
+{
+    k as u32 + 1
+}
+
+fn is_among(name: &Name, others: &[Name]) -> bool
+    ensures { result ≡ list_any (same_name name.now) others.now }
+{
+    others.iter().any(|other| name.same(other))
+}
+
+fn has_double(zones: &[Name]) -> bool
+    ensures { result ≡ doubled zones.now }
+{
+    match zones {
+        [] => false,
+        [name, rest @ ..] => is_among(name, rest) || has_double(rest),
+    }
+}
+
+fn is_bad(before: u16, cable: &Cable) -> bool
+    ensures { result ≡ bad before cable.now }
+{
+    cable.start == 0
+        || cable.end < cable.start
+        || 0xFEFF < cable.end
+        || cable.start <= before
+        || cable.zones.is_empty()
+        || has_double(cable.zones.as_slice())
+}
+
+fn first_cable(image: &Image) -> Option<usize>
+    ensures first { FirstNumber (λ k. c1 image.now (Place.Cable (suc k))) result }
+    ensures low { IfSome result (λ k. k < 200) }
+{
+    let mut before = 0;
+    for (k, cable) in image.cables().iter().enumerate() {
+        if is_bad(before, cable) {
+            return Some(k);
+        }
+        before = cable.end;
+    }
+    None
+}
+
+/// The first cable that breaks rule C1.
+pub fn bad_cable(image: &Image) -> Option<Place>
+    ensures { FirstPlace (c1 image.now) result }
+{
+    first_cable(image).map(|k| Place::Cable(from_one(k)))
+}

@@ -1,0 +1,126 @@
+//! What the rules about rows look up. Each look-up tries a hint first, since after rule C3 a router's row k is that of
+//! cable k, and since many rows have one next router; a wrong hint costs a search, and changes no answer.
+
+ghost use Rattle.std.specs.Prelude.{◌≡◌, ◌==◌, ◌&&◌, None, Some, position, find};
+ghost use Rattle.std.specs.List.{list_any};
+ghost use Rattle.std.specs.Option.{option_copied};
+ghost use Rattle.table_image.specs.Internet.{AreRising};
+ghost use Rattle.table_image.specs.Places.{index_of};
+ghost use Rattle.table_image.specs.Routing.{owner as owner_at};
+ghost use Rattle.table_image.specs.Seats.{same_address as same};
+ghost use Rattle.audit.specs.Firsts.{FirstPlace};
+ghost use Rattle.audit.specs.Rules.{is_for as fits, cable_of as cable, port_on as port, same_row as row_of, c1, c2};
+
+use crate::stations::same_address;
+use at_base::Addr;
+use table_image::{Cable, Image, Port, Router, Row};
+
+fn is_for(row: &Row, cable: &Cable) -> bool
+    ensures { result ≡ fits row.now cable.now }
+{
+    row.start == cable.start && row.end == cable.end
+}
+
+fn search_cables(cables: &[Cable], row: &Row) -> Option<usize>
+    ensures { result ≡ position (fits row.now) cables.now }
+{
+    cables.iter().position(|c| is_for(row, c))
+}
+
+/// The cable that the row is for.
+pub fn cable_of(image: &Image, hint: usize, row: &Row) -> Option<usize>
+    requires { FirstPlace (c1 image.now) None }
+    ensures { result ≡ cable image.now row.now }
+{
+    let cables = image.cables();
+    if let Some(c) = cables.get(hint) {
+        if is_for(row, c) {
+            return Some(hint);
+        }
+    }
+    search_cables(cables, row)
+}
+
+/// Whether the router has a row for the cable.
+pub fn has_row(router: &Router, hint: usize, cable: &Cable) -> bool
+    ensures { result ≡ list_any (λ row. fits row cable.now) router.now.rows }
+{
+    let rows = router.rows.as_slice();
+    if let Some(row) = rows.get(hint) {
+        if is_for(row, cable) {
+            return true;
+        }
+    }
+    rows.iter().any(|row| is_for(row, cable))
+}
+
+fn search_ports(ports: &[Port], cable: usize) -> Option<usize>
+    ensures { result ≡ position (λ p. p.cable == cable) ports.now }
+{
+    ports.iter().position(|p| p.cable as usize == cable)
+}
+
+/// The router's port on the cable.
+pub fn port_on(router: &Router, cable: usize) -> Option<usize>
+    ensures { result ≡ port router.now cable }
+{
+    search_ports(router.ports.as_slice(), cable)
+}
+
+fn same_range(a: &Row, b: &Row) -> bool
+    ensures { result ≡ (a.now.start == b.now.start && a.now.end == b.now.end) }
+{
+    a.start == b.start && a.end == b.end
+}
+
+fn search_rows<'a>(rows: &'a [Row], row: &Row) -> Option<&'a Row>
+    ensures { option_copied result ≡ find (λ other. other.start == row.now.start && other.end == row.now.end) rows.now }
+{
+    rows.iter().find(|other| same_range(other, row))
+}
+
+/// The router's row of the same range.
+pub fn same_row(router: &Router, hint: usize, row: &Row) -> Option<Row>
+    requires { AreRising router.now.rows }
+    ensures { result ≡ row_of (Some router.now) row.now }
+{
+    let rows = router.rows.as_slice();
+    if let Some(other) = rows.get(hint) {
+        if same_range(other, row) {
+            return Some(*other);
+        }
+    }
+    search_rows(rows, row).copied()
+}
+
+fn has_seat(router: &Router, cable: u8, address: Addr) -> bool
+    ensures { result ≡ list_any (λ p. p.cable == cable && same p.address address) router.now.ports }
+{
+    router
+        .ports
+        .as_slice()
+        .iter()
+        .any(|p| p.cable == cable && same_address(p.address, address))
+}
+
+fn search_routers(routers: &[Router], cable: u8, address: Addr) -> Option<usize>
+    ensures { result ≡ position (λ router. list_any (λ p. p.cable == cable && same p.address address) router.ports) routers.now }
+{
+    routers
+        .iter()
+        .position(|router| has_seat(router, cable, address))
+}
+
+/// The router that has the address on the cable.
+pub fn owner(image: &Image, hint: usize, cable: u8, address: Addr) -> Option<usize>
+    requires { FirstPlace (c2 image.now) None }
+    ensures { result ≡ owner_at image.now cable address }
+{
+    let routers = image.routers();
+    if let Some(router) = routers.get(hint) {
+        if has_seat(router, cable, address) {
+            return Some(hint);
+        }
+    }
+    search_routers(routers, cable, address)
+}
