@@ -1,6 +1,6 @@
 //! Reading an input to its end, in a bounded number of reads.
 
-ghost use Rattle.std.specs.Prelude.{◌≡◌, ◌≢◌, ◌+◌, ◌<◌, ◌≤◌, ◌⊎◌, true, false, length, take, drop, vec_len, IfOk, IfErr, IfSome, OnOk, OnErr, IsOkUnless};
+ghost use Rattle.std.specs.Prelude.{◌≡◌, ◌≢◌, ◌+◌, ◌<◌, ◌≤◌, ◌⊎◌, true, false, length, take, drop, vec_capacity, vec_len, IfOk, IfErr, IfSome, OnOk, OnErr, IsOkUnless};
 ghost use Rattle.std.specs.Io.{ReadsAtMost};
 ghost use Rattle.std.specs.Io.KnownBytes.{Consumes, IsAtEnd};
 ghost use Rattle.atalk_tool.specs.declared.input.TheConstants.{READS};
@@ -115,7 +115,20 @@ fn make_room(bytes: &mut Vec<u8>, filled: usize) -> Result<(), AllocError>
     if bytes.len() - filled >= LEAST_ROOM {
         return Ok(());
     }
-    // Once this much is reserved, the sum below is a length that fits.
-    bytes.reserve(ROOM)?;
+    reserve_room(bytes)?;
     bytes.resize(filled + ROOM, 0)
+}
+
+/// Reserves room behind the bytes. The capacity grows by a quarter, since one that doubles asks for memory for up to two
+/// inputs.
+fn reserve_room(bytes: &mut Vec<u8>) -> Result<(), AllocError>
+    ensures items { bytes.new.items ≡ bytes.old.items }
+    ensures len { vec_len bytes.new ≡ vec_len bytes.old }
+    ensures room { OnOk result (vec_len bytes.new + ROOM ≤ vec_capacity bytes.new) }
+{
+    let len = bytes.len();
+    if bytes.capacity() - len >= ROOM {
+        return Ok(());
+    }
+    bytes.reserve_exact(ROOM.max(len / 4))
 }
