@@ -1,0 +1,107 @@
+//! The command line: what its words ask for, and the help that it answers.
+
+ghost use Rattle.std.specs.Prelude.{◌≡◌, ◌≢◌, ◌⊎◌, ◌≤◌, List, ℕ, [], ◌∷◌, None, false, codes, length, map, IfOk, IfErr, IsErrAnd};
+ghost use Rattle.clap.specs.Words.{app_of, kind_of, subcommand_rows_of};
+ghost use Rattle.clap.specs.declared.Command.TheViews.{out-Command as fields_of};
+ghost use Rattle.clap.specs.declared.error.ErrorKind.TheVariants.{DisplayHelp, DisplayVersion, OutOfMemory};
+ghost use Rattle.atalk_tool.specs.Words.{atalk_app, audit_app};
+
+use clap::{Arg, ArgAction, ArgMatches, Command, Error};
+use std::alloc::{AllocError, Global};
+use std::convert::AsStr;
+
+/// Where an image is read from.
+#[derive(Clone, Copy, Debug, PartialEq, Eq)]
+pub enum Source<'a> {
+    StandardInput,
+    File(&'a str),
+}
+
+/// What the command line asks for.
+#[derive(Clone, Copy, Debug, PartialEq, Eq)]
+pub enum Job<'a> {
+    Audit(Source<'a>),
+}
+
+const ABOUT: &str = "Audits the routing tables of an AppleTalk internet, frozen in an image.";
+
+const AFTER_HELP: &str = "Without a command, atalk audits the image on standard input.
+
+Exit status:
+  0  yes: the tables keep every rule
+  1  no: the line printed names the first rule that is broken, and where
+  2  the input is refused: it is no image; or the words are wrong
+  3  memory ran out, or reading or writing failed
+A refusal prints `refused: N` on standard error, N being the error's number.
+
+Example:
+  atalk audit three-cables.image";
+
+const AUDIT: &str =
+    "Judges an image and prints one line: yes with a summary, or no with the first fault";
+
+const FILE: &str = "The image; - is standard input";
+
+/// `atalk audit FILE`.
+fn audit_command<'a>(alloc: Global) -> Result<Command<'a>, AllocError>
+    ensures app { IfOk result (λ command. app_of command ≡ audit_app) }
+    ensures local { IfOk result (λ command. (fields_of command).has_globals ≡ false) }
+{
+    let file = Arg::new(alloc, "FILE")
+        .help(FILE)
+        .required(true)
+        .action(ArgAction::Set);
+    Command::new(alloc, "audit")
+        .about(AUDIT)
+        .after_help(AFTER_HELP)
+        .arg(file)
+}
+
+/// `atalk`, with its commands.
+fn atalk_command<'a>(alloc: Global) -> Result<Command<'a>, AllocError>
+    ensures { IfOk result (λ command. app_of command ≡ atalk_app) }
+{
+    Command::new(alloc, "atalk")
+        .version("1.0")
+        .about(ABOUT)
+        .after_help(AFTER_HELP)
+        .disable_help_subcommand(true)
+        .subcommand(audit_command(alloc)?)
+}
+
+/// Reads the words, of which the first is the program's own name.
+pub fn read_words<'a, S: AsStr>(alloc: Global, words: &'a [S]) -> Result<Job<'a>, Error>
+    // No words at all ask for an audit of standard input, and that is refused only for want of memory.
+    ensures alone { length words.entry.now ≤ 1 → IfOk result (λ job. job ≡ Job.Audit Source.StandardInput) }
+    ensures alone_err { length words.entry.now ≤ 1 → IfErr result (λ e. kind_of e ≡ OutOfMemory) }
+    // Help and the version are answered as such.
+    ensures help { (name : List ℕ) → map S.text words.entry.now ≡ name ∷ codes "--help" ∷ []
+        → IsErrAnd result (λ e. (kind_of e ≡ DisplayHelp) ⊎ (kind_of e ≡ OutOfMemory)) }
+    ensures version { (name : List ℕ) → map S.text words.entry.now ≡ name ∷ codes "--version" ∷ []
+        → IsErrAnd result (λ e. (kind_of e ≡ DisplayVersion) ⊎ (kind_of e ≡ OutOfMemory)) }
+{
+    let matches = atalk_command(alloc)?.try_get_matches_from(words)?;
+    Ok(job_of(&matches))
+}
+
+/// The job that was matched: without a command, an audit of standard input.
+fn job_of<'a>(matches: &ArgMatches<'a>) -> Job<'a>
+    ensures { subcommand_rows_of matches.now ≡ None → result ≡ Job.Audit Source.StandardInput }
+{
+    match matches.subcommand() {
+        Some((_, audit)) => Job::Audit(source_of(audit.get_str("FILE").unwrap_or("-"))),
+        None => Job::Audit(Source::StandardInput),
+    }
+}
+
+/// The source that a word names.
+fn source_of(word: &str) -> Source<'_>
+    ensures input { word.entry.now ≡ codes "-" → result ≡ Source.StandardInput }
+    ensures file { word.entry.now ≢ codes "-" → result ≡ Source.File word.entry }
+{
+    if word == "-" {
+        Source::StandardInput
+    } else {
+        Source::File(word)
+    }
+}
