@@ -15,3 +15,4 @@ pub mod RowOrder
 pub mod RowPlaces
 pub mod RuleOrder
 pub mod Summaries
+pub mod StepsNext

@@ -1,5 +1,8 @@
 //! The judge of an internet: the rules, one after the other.
 
+ghost use Rattle.std.specs.Prelude.{None};
+ghost use Rattle.audit.specs.Firsts.{FirstPlace};
+ghost use Rattle.audit.specs.Rules.{c1, c2, c6, c7};
 ghost use Rattle.audit.specs.Verdicts.{Judges, OnYes};
 ghost use Rattle.audit.specs.Walks.{WalksHome};
 
@@ -9,8 +12,24 @@ use crate::rows::{RowRule, bad_row};
 use crate::stations::bad_station;
 use crate::summary::summarize;
 use crate::verdict::Verdict;
-use at_base::Fault;
+use at_base::{Fault, Place};
 use table_image::Image;
+
+// The first place that breaks C6. Where distances fall, each next router is there and is another one, so the rows are
+// gone through once more only where C7 is broken.
+fn bad_next(image: &Image, hints: &Hints, steps: Option<Place>) -> Option<Place>
+    requires cables { FirstPlace (c1 image.now) None }
+    requires stations { FirstPlace (c2 image.now) None }
+    requires steps { FirstPlace (c7 image.now) steps }
+    ensures { FirstPlace (c6 image.now) result }
+{
+    // Reading the routers tells that their rows rise.
+    let _routers = image.routers();
+    match steps {
+        Some(_) => bad_row(image, hints, RowRule::Next),
+        None => None,
+    }
+}
 
 /// Judges an internet by the rules, and takes no memory.
 pub fn audit(image: &Image) -> Verdict
@@ -35,10 +54,11 @@ pub fn audit(image: &Image) -> Verdict
     if let Some(place) = bad_row(image, &hints, RowRule::Distances) {
         return Verdict::No(Fault { rule: 5, place });
     }
-    if let Some(place) = bad_row(image, &hints, RowRule::Next) {
+    let steps = bad_row(image, &hints, RowRule::Steps);
+    if let Some(place) = bad_next(image, &hints, steps) {
         return Verdict::No(Fault { rule: 6, place });
     }
-    if let Some(place) = bad_row(image, &hints, RowRule::Steps) {
+    if let Some(place) = steps {
         return Verdict::No(Fault { rule: 7, place });
     }
     Verdict::Yes(summarize(image))

@@ -1,6 +1,6 @@
 //! Fields at the front of bytes: each function gives a field's value and the bytes after it, or the flaw.
 
-ghost use Rattle.std.specs.Prelude.{◌≡◌, ◌==◌, ◌+◌, not, length};
+ghost use Rattle.std.specs.Prelude.{◌≡◌, ◌==◌, ◌+◌, ◌&&◌, true, not, fold, length};
 ghost use Rattle.std.specs.List.{list_all};
 ghost use Rattle.at_base.specs.Grammar.{number, run, one, two};
 ghost use Rattle.at_base.specs.Reading.{Gives, bytes_at, field_at, read};
@@ -157,10 +157,17 @@ pub fn name_at(bytes: &[u8]) -> Result<(Name, &[u8]), Flaw>
     Ok((Name::of(text), rest))
 }
 
+// Goes on to the end where a byte is bad, so that it may look at many bytes at once.
+fn fold_no_wildcard(text: &[u8]) -> bool
+    ensures { result ≡ fold (λ good b. good && not (b == 0xC5)) true text.now }
+{
+    text.iter().fold(true, |good, b| good & (*b != 0xC5))
+}
+
 fn has_no_wildcard(text: &[u8]) -> bool
     ensures { result ≡ list_all (λ b. not (b == 0xC5)) text.now }
 {
-    text.iter().all(|b| *b != 0xC5)
+    fold_no_wildcard(text)
 }
 
 fn is_equals(text: &[u8]) -> bool

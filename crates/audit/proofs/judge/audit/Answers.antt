@@ -16,28 +16,28 @@ returns-in-Some-bad_row-3 c =
     let below_5 = and_next i 4 (and_next i 3 below_3 c.in_default-bad_row.ensures) c.in_default-bad_row-2.ensures in
     record { judged = first_fault i 5 c.in-Some-bad_row-3.place below_5 c.in-Some-bad_row-3.ensures; walks = tt }
 
-pub returns-in-Some-bad_row-4 : goal.returns-in-Some-bad_row-4
-returns-in-Some-bad_row-4 c =
+pub returns-in-Some-bad_next : goal.returns-in-Some-bad_next
+returns-in-Some-bad_next c =
     let i = c.args.image.now in
     let below_3 = and_next i 2 (and_next i 1 (none_yet i) c.in_default.ensures) c.in_default-bad_station.ensures in
     let below_5 = and_next i 4 (and_next i 3 below_3 c.in_default-bad_row.ensures) c.in_default-bad_row-2.ensures in
     let below_6 = and_next i 5 below_5 c.in_default-bad_row-3.ensures in
-    record { judged = first_fault i 6 c.in-Some-bad_row-4.place below_6 c.in-Some-bad_row-4.ensures; walks = tt }
+    record { judged = first_fault i 6 c.in-Some-bad_next.place below_6 c.in-Some-bad_next.ensures; walks = tt }
 
-pub returns-in-Some-bad_row-5 : goal.returns-in-Some-bad_row-5
-returns-in-Some-bad_row-5 c =
+pub returns-in-Some-steps : goal.returns-in-Some-steps
+returns-in-Some-steps c =
     let i = c.args.image.now in
     let below_3 = and_next i 2 (and_next i 1 (none_yet i) c.in_default.ensures) c.in_default-bad_station.ensures in
     let below_5 = and_next i 4 (and_next i 3 below_3 c.in_default-bad_row.ensures) c.in_default-bad_row-2.ensures in
-    let below_7 = and_next i 6 (and_next i 5 below_5 c.in_default-bad_row-3.ensures) c.in_default-bad_row-4.ensures in
-    record { judged = first_fault i 7 c.in-Some-bad_row-5.place below_7 c.in-Some-bad_row-5.ensures; walks = tt }
+    let below_7 = and_next i 6 (and_next i 5 below_5 c.in_default-bad_row-3.ensures) c.in_default-bad_next.ensures in
+    record { judged = first_fault i 7 c.in-Some-steps.place below_7 c.in-Some-steps.ensures; walks = tt }
 
 pub returns : goal.returns
 returns c =
     let i = c.args.image.now in
     let below_3 = and_next i 2 (and_next i 1 (none_yet i) c.in_default.ensures) c.in_default-bad_station.ensures in
     let below_5 = and_next i 4 (and_next i 3 below_3 c.in_default-bad_row.ensures) c.in_default-bad_row-2.ensures in
-    let below_7 = and_next i 6 (and_next i 5 below_5 c.in_default-bad_row-3.ensures) c.in_default-bad_row-4.ensures in
-    let below_8 = and_next i 7 below_7 c.in_default-bad_row-5.ensures in
+    let below_7 = and_next i 6 (and_next i 5 below_5 c.in_default-bad_row-3.ensures) c.in_default-bad_next.ensures in
+    let below_8 = and_next i 7 below_7 c.in_default-steps.ensures in
     let passes = all_kept i below_8 in
     record { judged = (passes, c.summarize.ensures); walks = walks_home i passes }
