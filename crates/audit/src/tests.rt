@@ -110,6 +110,11 @@ fn net(cable: u8) -> u16 {
     10 * (cable as u16 + 1)
 }
 
+/// The last network of a cable of the line.
+fn last(cable: u8) -> u16 {
+    10 * (cable as u16 + 1) + 9
+}
+
 fn one_zone(alloc: Global) -> Result<Listed<Name>, Error> {
     let mut zones = Vec::new(alloc);
     zones.push(Name::new(b"Z")?)?;
@@ -117,11 +122,10 @@ fn one_zone(alloc: Global) -> Result<Listed<Name>, Error> {
 }
 
 fn line_cable(alloc: Global, k: u8) -> Result<Cable, Error> {
-    let start = net(k);
     let zones = one_zone(alloc)?;
     Ok(Cable {
-        start,
-        end: start + 9,
+        start: net(k),
+        end: last(k),
         zones,
     })
 }
@@ -148,11 +152,10 @@ fn way(r: u8, j: u8) -> (u8, u8, Addr) {
 }
 
 fn line_row(r: u8, j: u8) -> Row {
-    let start = net(j);
     let (distance, port, next) = way(r, j);
     Row {
-        start,
-        end: start + 9,
+        start: net(j),
+        end: last(j),
         distance,
         port,
         next,
@@ -161,11 +164,10 @@ fn line_row(r: u8, j: u8) -> Row {
 }
 
 fn line_list(alloc: Global, j: u8) -> Result<ZoneList, Error> {
-    let start = net(j);
     let zones = one_zone(alloc)?;
     Ok(ZoneList {
-        start,
-        end: start + 9,
+        start: net(j),
+        end: last(j),
         complete: true,
         zones,
     })
