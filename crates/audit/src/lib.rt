@@ -22,3 +22,6 @@ pub use laws::{
     the_example_passes, unlisted_is_nowhere,
 };
 pub use verdict::{Summary, Verdict};
+
+#[cfg(test)]
+mod tests;
