@@ -1,6 +1,8 @@
 //! What no clause says: that calls succeed, what comes of a read or a write that fails in mid-stream, and what words mean.
 //! Each test passes whichever single request for memory is refused: on `Memory` it calls again.
 
+mod fakes;
+
 use crate::audit_file::audit_file;
 use crate::input::{Input, READS};
 use crate::output::Output;
@@ -8,108 +10,11 @@ use crate::status::status;
 use crate::words::{Job, Source, read_words};
 use at_base::{Cause, Error};
 use clap::error::ErrorKind as WordFault;
+use fakes::{Frail, Pieces, Places, Restless};
 use std::alloc::Global;
-use std::io;
-use std::io::{ErrorKind, Read, Write};
+use std::io::Read;
 use std::process::Abort;
 use std::test::Fail;
-
-/// Gives its bytes in pieces; one of its reads may fail, and one may be interrupted.
-#[derive(Clone, Copy)]
-struct Pieces<'a> {
-    left: &'a [u8],
-    piece: usize,
-    reads: u32,
-    fails_at: Option<u32>,
-    interrupted_at: Option<u32>,
-}
-
-impl<'a> Pieces<'a> {
-    fn new(bytes: &'a [u8], piece: usize) -> Pieces<'a> {
-        Pieces {
-            left: bytes,
-            piece,
-            reads: 0,
-            fails_at: None,
-            interrupted_at: None,
-        }
-    }
-}
-
-impl Read for Pieces<'_> {
-    fn read(&mut self, buffer: &mut [u8]) -> io::Result<usize> {
-        self.reads = self.reads.saturating_add(1);
-        if Some(self.reads) == self.fails_at {
-            return Err(io::Error::from(ErrorKind::Other));
-        }
-        if Some(self.reads) == self.interrupted_at {
-            return Err(io::Error::from(ErrorKind::Interrupted));
-        }
-        let left = self.left;
-        let count = self.piece.min(left.len()).min(buffer.len());
-        buffer[..count].copy_from_slice(&left[..count]);
-        self.left = &left[count..];
-        Ok(count)
-    }
-}
-
-/// Gives so many bytes, each the last byte of its place, as many at a time as there is room for.
-#[derive(Clone, Copy)]
-struct Places {
-    next: u32,
-    end: u32,
-}
-
-impl Read for Places {
-    fn read(&mut self, buffer: &mut [u8]) -> io::Result<usize> {
-        for i in 0..buffer.len() {
-            if self.next >= self.end {
-                return Ok(i);
-            }
-            buffer[i] = (self.next % 256) as u8;
-            self.next += 1;
-        }
-        Ok(buffer.len())
-    }
-}
-
-/// Is interrupted at each read.
-#[derive(Drop)]
-struct Restless;
-
-impl Read for Restless {
-    fn read(&mut self, _buffer: &mut [u8]) -> io::Result<usize> {
-        Err(io::Error::from(ErrorKind::Interrupted))
-    }
-}
-
-/// Takes all that it is given, but one of its calls fails.
-#[derive(Clone, Copy)]
-struct Frail {
-    calls: u32,
-    fails_at: u32,
-}
-
-impl Frail {
-    fn call(&mut self) -> io::Result<()> {
-        self.calls = self.calls.saturating_add(1);
-        if self.calls == self.fails_at {
-            return Err(io::Error::from(ErrorKind::StorageFull));
-        }
-        Ok(())
-    }
-}
-
-impl Write for Frail {
-    fn write(&mut self, buffer: &[u8]) -> io::Result<usize> {
-        self.call()?;
-        Ok(buffer.len())
-    }
-
-    fn flush(&mut self) -> io::Result<()> {
-        self.call()
-    }
-}
 
 /// What was read, in how many reads, and whether a read failed.
 #[derive(Drop)]

@@ -1,0 +1,101 @@
+//! Readers and writers that fail, stop and dawdle as they are told.
+
+use std::io;
+use std::io::{ErrorKind, Read, Write};
+
+/// Gives its bytes in pieces; one of its reads may fail, and one may be interrupted.
+#[derive(Clone, Copy)]
+pub struct Pieces<'a> {
+    pub left: &'a [u8],
+    pub piece: usize,
+    pub reads: u32,
+    pub fails_at: Option<u32>,
+    pub interrupted_at: Option<u32>,
+}
+
+impl<'a> Pieces<'a> {
+    pub fn new(bytes: &'a [u8], piece: usize) -> Pieces<'a> {
+        Pieces {
+            left: bytes,
+            piece,
+            reads: 0,
+            fails_at: None,
+            interrupted_at: None,
+        }
+    }
+}
+
+impl Read for Pieces<'_> {
+    fn read(&mut self, buffer: &mut [u8]) -> io::Result<usize> {
+        self.reads = self.reads.saturating_add(1);
+        if Some(self.reads) == self.fails_at {
+            return Err(io::Error::from(ErrorKind::Other));
+        }
+        if Some(self.reads) == self.interrupted_at {
+            return Err(io::Error::from(ErrorKind::Interrupted));
+        }
+        let left = self.left;
+        let count = self.piece.min(left.len()).min(buffer.len());
+        buffer[..count].copy_from_slice(&left[..count]);
+        self.left = &left[count..];
+        Ok(count)
+    }
+}
+
+/// Gives so many bytes, each the last byte of its place, as many at a time as there is room for.
+#[derive(Clone, Copy)]
+pub struct Places {
+    pub next: u32,
+    pub end: u32,
+}
+
+impl Read for Places {
+    fn read(&mut self, buffer: &mut [u8]) -> io::Result<usize> {
+        for i in 0..buffer.len() {
+            if self.next >= self.end {
+                return Ok(i);
+            }
+            buffer[i] = (self.next % 256) as u8;
+            self.next += 1;
+        }
+        Ok(buffer.len())
+    }
+}
+
+/// Is interrupted at each read.
+#[derive(Drop)]
+pub struct Restless;
+
+impl Read for Restless {
+    fn read(&mut self, _buffer: &mut [u8]) -> io::Result<usize> {
+        Err(io::Error::from(ErrorKind::Interrupted))
+    }
+}
+
+/// Takes all that it is given, but one of its calls fails.
+#[derive(Clone, Copy)]
+pub struct Frail {
+    pub calls: u32,
+    pub fails_at: u32,
+}
+
+impl Frail {
+    fn call(&mut self) -> io::Result<()> {
+        self.calls = self.calls.saturating_add(1);
+        if self.calls == self.fails_at {
+            return Err(io::Error::from(ErrorKind::StorageFull));
+        }
+        Ok(())
+    }
+}
+
+impl Write for Frail {
+    fn write(&mut self, buffer: &[u8]) -> io::Result<usize> {
+        self.call()?;
+        Ok(buffer.len())
+    }
+
+    fn flush(&mut self) -> io::Result<()> {
+        self.call()
+    }
+}
