@@ -20,3 +20,6 @@ pub use image::{Image, one_spelling, read, write};
 pub use listed::Listed;
 pub use node::{Node, NodeName};
 pub use router::{Port, Router, Row, ZoneList};
+
+#[cfg(test)]
+mod tests;
