@@ -1,5 +1,5 @@
 -- Checking items one after the other, as a loop does.
-use Rattle.std.proofs.Common.{◌≡◌, ℕ, suc, ◌+◌, ◌*◌, ◌<◌, ◌≤◌, Bool, true, false, List, [], ◌∷◌, ◌++◌, length, get_or, drop, refl, sym, ap, subst, ◌∙◌, arith, inl, inr}
+use Rattle.std.proofs.Common.{◌≡◌, ℕ, suc, ◌+◌, ◌*◌, ◌<◌, ◌≤◌, Bool, true, false, Result, Ok, Err, MatchResult, List, [], ◌∷◌, ◌++◌, length, get_or, drop, refl, sym, ap, subst, ◌∙◌, arith, inl, inr}
 use Rattle.std.specs.List.{list_all}
 use Rattle.std.proofs.Math.Seq.{drop-cons}
 use Rattle.std.proofs.Math.ListN.{drop_of_length-le}
@@ -10,6 +10,7 @@ use Rattle.at_base.specs.Grammar.{Grammar}
 use Rattle.at_base.specs.Spelling.{list_bytes, bytes_of, ListPasses, IsValue}
 use Rattle.table_image.specs.Flaws.{Wrong}
 use Rattle.table_image.specs.Checking.{ListFlawAt, FlawAt}
+use Rattle.table_image.specs.declared.checking.Misfit.{Misfit}
 
 -- a loop stands before item i, at a place, with the number that the item before it leaves
 pub record Standing {B : Type 0} (item : ℕ → Grammar Wrong true B) (next : B → ℕ) (xs : List B) (start i low at : ℕ) : Type 0 where
@@ -69,3 +70,10 @@ room_left i n most lt = let h = mul-le-mul_right most lt in omega (arith, h)
 
 pub within_limit : (n limit most : ℕ) → n ≤ limit → n * most ≤ limit * most
 within_limit n limit most le = mul-le-mul_right most le
+
+-- parts that are no more than the limit end within its room
+pub near_limit : (n limit most at : ℕ) (r : Result ℕ Misfit) → n ≤ limit
+    → MatchResult r (λ end. end ≤ at + 1 + n * most) (λ m. m.place ≤ at + 1 + n * most)
+    → MatchResult r (λ end. end ≤ at + 1 + limit * most) (λ m. m.place ≤ at + 1 + limit * most)
+near_limit n limit most at (Ok end) few near = let h = within_limit n limit most few in omega (arith, h, near)
+near_limit n limit most at (Err m) few near = let h = within_limit n limit most few in omega (arith, h, near)

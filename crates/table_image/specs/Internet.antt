@@ -5,10 +5,15 @@ use Rattle.table_image.specs.declared.router.Row.{Row}
 use Rattle.table_image.specs.declared.router.Router.{Router}
 use Rattle.table_image.specs.declared.node.Node.{Node}
 
+-- what every router and node of an internet knew at one moment
 pub record Internet : Type 0 where
   pub cables : List Cable
   pub routers : List Router
   pub nodes : List Node
+
+-- the internet of these parts
+abbrev pub internet : List Cable → List Router → List Node → Internet
+internet c r n = record { cables = c; routers = r; nodes = n }
 
 -- rows in rising order of their starts
 abbrev pub AreRising : List Row → Type 0

@@ -3,6 +3,7 @@ pub mod Places
 pub mod Seats
 pub mod Routing
 pub mod Limits
+pub mod Listed
 pub mod Flaws
 pub mod Tests
 pub mod Spelling

@@ -25,6 +25,10 @@ IsFirstFlaw bytes f =
 abbrev pub refusal : List ℕ → Flaw → Error
 refusal bytes f = BadImage (length bytes - f.left) f.cause
 
--- Refused for want of memory, though the bytes spell an image; or for their first flaw.
+-- refused for the first flaw of the bytes
+abbrev pub RefusesFirst : List ℕ → Error → Type 0
+RefusesFirst bytes e = (f : Flaw) × IsFirstFlaw bytes f × (e ≡ refusal bytes f)
+
+-- refused for want of memory, though the bytes spell an image; or for their first flaw
 abbrev pub Refuses : List ℕ → Error → Type 0
-Refuses bytes e = ((e ≡ Memory) × (x : Internet) × Spells image_spelling bytes x) ⊎ ((f : Flaw) × IsFirstFlaw bytes f × (e ≡ refusal bytes f))
+Refuses bytes e = ((e ≡ Memory) × (x : Internet) × Spells image_spelling bytes x) ⊎ RefusesFirst bytes e

@@ -1,6 +1,7 @@
 //! Checks of parts that are handed in, as reading would judge them if they were spelled in order.
 
-ghost use Rattle.std.specs.Prelude.{◌≡◌, ◌+◌, ◌*◌, ◌^◌, ◌<◌, ◌≤◌, ℕ, Bool, length, IsTrue, MatchResult};
+ghost use Rattle.std.specs.Prelude.{◌≡◌, ◌+◌, ◌*◌, ◌^◌, ◌<◌, ◌≤◌, ℕ, Bool, length, IsTrue};
+ghost use Rattle.std.specs.Prelude.{MatchResult};
 ghost use Rattle.std.specs.List.{list_all};
 ghost use Rattle.table_image.specs.Spelling.{counted};
 ghost use Rattle.table_image.specs.Checking.{Checks, ChecksList};
@@ -36,7 +37,8 @@ fn check_list<T: CheckItem>(known: usize, at: usize, items: &[T]) -> Result<usiz
     requires short { IsTrue (list_all T.short items.now) }
     requires room { at + length items.now * T.most < 2 ^ 40 }
     ensures checked { ChecksList (T.spelling known) T.next items.now at result }
-    ensures near { MatchResult result (λ end. end ≤ at + length items.now * T.most) (λ m. m.place ≤ at + length items.now * T.most) }
+    ensures near { MatchResult result (λ end. end ≤ at + length items.now * T.most)
+        (λ m. m.place ≤ at + length items.now * T.most) }
 {
     let mut end = at;
     let mut low = 0;
@@ -48,7 +50,7 @@ fn check_list<T: CheckItem>(known: usize, at: usize, items: &[T]) -> Result<usiz
 }
 
 /// Checks the count and the parts.
-pub fn check_counted<T: CheckItem>(
+pub(crate) fn check_counted<T: CheckItem>(
     limit: u8,
     known: usize,
     at: usize,
@@ -58,7 +60,8 @@ pub fn check_counted<T: CheckItem>(
     requires few { length items.now ≤ limit }
     requires room { at + 1 + limit * T.most < 2 ^ 40 }
     ensures checked { Checks (counted limit (T.spelling known) T.next) items.now at result }
-    ensures near { MatchResult result (λ end. end ≤ at + 1 + limit * T.most) (λ m. m.place ≤ at + 1 + limit * T.most) }
+    ensures near { MatchResult result (λ end. end ≤ at + 1 + limit * T.most)
+        (λ m. m.place ≤ at + 1 + limit * T.most) }
 {
     check_list(known, at + 1, items.as_slice())
 }

@@ -6,8 +6,8 @@ ghost use Rattle.table_image.specs.declared.flaw.Stop.TheVariants.{Memory, Refus
 use at_base::Cause;
 use std::alloc::{AllocError, AllocFailed};
 
-/// What is wrong with an image. A reader of a part knows how many bytes are `left` of the input from the place on where
-/// the flaw is told, and not the place itself.
+/// What is wrong with an image. A reader of a part knows how many bytes are `left` of the input
+/// from the place on where the flaw is told, and not the place itself.
 #[derive(Clone, Copy, Debug, PartialEq, Eq)]
 pub struct Flaw {
     pub left: usize,

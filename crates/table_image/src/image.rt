@@ -1,14 +1,16 @@
 //! The image of an internet's tables.
 
-ghost use Rattle.std.specs.Prelude.{◌≡◌, ◌+◌, ◌^◌, ◌<◌, ◌++◌, ◌⊎◌, ℕ, List, length, OnOk, IfOk, IfErr, IsOkUnless, IsTrue, false, MatchResult};
+ghost use Rattle.std.specs.Prelude.{◌≡◌, ◌+◌, ◌^◌, ◌<◌, ◌++◌, ◌⊎◌, ℕ, List, length, OnOk, IfOk};
+ghost use Rattle.std.specs.Prelude.{IfErr, IsOkUnless, IsTrue, false, MatchResult};
 ghost use Rattle.std.specs.Result.{OkIff};
 ghost use Rattle.table_image.specs.Short.{is_short};
 ghost use Rattle.at_base.specs.Spelling.{bytes_of, IsValue, Spells};
 ghost use Rattle.at_base.specs.Reading.{read as read_by, Gives};
-ghost use Rattle.table_image.specs.Internet.{Internet, IsBounded};
+ghost use Rattle.table_image.specs.Internet.{Internet, IsBounded, internet};
 ghost use Rattle.table_image.specs.Flaws.{flaws, GivesOrStops, GoesPast};
-ghost use Rattle.table_image.specs.Spelling.{counted, front_spelling, router_spelling, node_spelling, image_spelling};
-ghost use Rattle.table_image.specs.Reading.{image_at, IsFirstFlaw, refusal, Refuses};
+ghost use Rattle.table_image.specs.Spelling.{counted, front_spelling, router_spelling};
+ghost use Rattle.table_image.specs.Spelling.{node_spelling, image_spelling};
+ghost use Rattle.table_image.specs.Reading.{image_at, IsFirstFlaw, refusal, Refuses, RefusesFirst};
 ghost use Rattle.table_image.specs.declared.flaw.Flaw.{Flaw as ImageFlaw};
 
 use crate::cable::Cable;
@@ -34,26 +36,36 @@ pub struct Image {
 }
 
 impl Model for Image {
-    ghost use Rattle.table_image.specs.Internet.{Internet};
+    ghost use Rattle.table_image.specs.Internet.{Internet, internet};
     ghost use Rattle.at_base.specs.Spelling.{IsValue};
     ghost use Rattle.table_image.specs.Spelling.{image_spelling};
 
     ghost Value = { Internet };
 
-    ghost view = { λ i. record { cables = i.cables; routers = i.routers; nodes = i.nodes } };
+    ghost view = { λ i. internet i.cables i.routers i.nodes };
 
-    ghost invariant = { λ i. IsValue image_spelling (record { cables = i.cables; routers = i.routers; nodes = i.nodes }) };
+    ghost invariant = { λ i. IsValue image_spelling (internet i.cables i.routers i.nodes) };
 }
 
 impl Image {
-    /// The image of these parts, which takes no memory. Errors: `Full` where a list is longer than an image may have it;
-    /// else `BadImage`, the first flaw of the parts if they were spelled in order. (own)
+    /// The image of these parts, which takes no memory. Errors: `Full` where a list is longer than
+    /// an image may have it; else `BadImage`, the first flaw of the parts if they were spelled in
+    /// order. (own)
     pub fn make(cables: Vec<Cable>, routers: Vec<Router>, nodes: Vec<Node>) -> Result<Image, Error>
-        ensures made { OkIff result (IsValue image_spelling (record { cables = cables.items; routers = routers.items; nodes = nodes.items })) (record { cables = cables.items; routers = routers.items; nodes = nodes.items }) }
-        ensures full { is_short (record { cables = cables.items; routers = routers.items; nodes = nodes.items }) ≡ false → result ≡ Err Error.Full }
+        ensures made { OkIff result
+            (IsValue image_spelling (internet cables.items routers.items nodes.items))
+            (internet cables.items routers.items nodes.items) }
+        ensures full { is_short (internet cables.items routers.items nodes.items) ≡ false
+            → result ≡ Err Error.Full }
         // Parts within the limits are judged as reading judges their bytes.
-        ensures first { IsTrue (is_short (record { cables = cables.items; routers = routers.items; nodes = nodes.items })) → (f : ImageFlaw) → IsFirstFlaw (bytes_of image_spelling (record { cables = cables.items; routers = routers.items; nodes = nodes.items })) f → result ≡ Err (refusal (bytes_of image_spelling (record { cables = cables.items; routers = routers.items; nodes = nodes.items })) f) }
-        ensures flaw { IsTrue (is_short (record { cables = cables.items; routers = routers.items; nodes = nodes.items })) → IfErr result (λ e. (f : ImageFlaw) × IsFirstFlaw (bytes_of image_spelling (record { cables = cables.items; routers = routers.items; nodes = nodes.items })) f × (e ≡ refusal (bytes_of image_spelling (record { cables = cables.items; routers = routers.items; nodes = nodes.items })) f)) }
+        ensures first { IsTrue (is_short (internet cables.items routers.items nodes.items))
+            → (f : ImageFlaw)
+            → IsFirstFlaw (bytes_of image_spelling (internet cables.items routers.items nodes.items)) f
+            → result ≡ Err (refusal
+            (bytes_of image_spelling (internet cables.items routers.items nodes.items)) f) }
+        ensures flaw { IsTrue (is_short (internet cables.items routers.items nodes.items))
+            → IfErr result (RefusesFirst
+            (bytes_of image_spelling (internet cables.items routers.items nodes.items))) }
     {
         let cables = Listed::from_vec(cables);
         let routers = Listed::from_vec(routers);
@@ -117,7 +129,9 @@ fn routers_of<'a>(
     cables: &Listed<Cable>,
     bytes: &'a [u8],
 ) -> Result<(Listed<Router>, &'a [u8]), Stop>
-    ensures { GivesOrStops (λ x. (x.0, x.1.now)) result (read_by flaws (counted 200 (λ low. router_spelling (length cables.now)) (λ r. 0)) bytes.now) }
+    ensures { GivesOrStops (λ x. (x.0, x.1.now)) result
+        (read_by flaws (counted 200 (λ low. router_spelling (length cables.now)) (λ r. 0))
+        bytes.now) }
 {
     counted_of::<Router>(alloc, MOST, cables.len(), bytes)
 }
@@ -127,14 +141,17 @@ fn nodes_of<'a>(
     cables: &Listed<Cable>,
     bytes: &'a [u8],
 ) -> Result<(Listed<Node>, &'a [u8]), Stop>
-    ensures { GivesOrStops (λ x. (x.0, x.1.now)) result (read_by flaws (counted 200 (λ low. node_spelling (length cables.now)) (λ n. 0)) bytes.now) }
+    ensures { GivesOrStops (λ x. (x.0, x.1.now)) result
+        (read_by flaws (counted 200 (λ low. node_spelling (length cables.now)) (λ n. 0))
+        bytes.now) }
 {
     counted_of::<Node>(alloc, MOST, cables.len(), bytes)
 }
 
 #[tactic(auto, unfolding(crate::specs::Spelling::image_spelling))]
 fn parts_of(alloc: Global, bytes: &[u8]) -> Result<(Parts, &[u8]), Stop>
-    ensures { GivesOrStops (λ x. (record { cables = x.0.cables; routers = x.0.routers; nodes = x.0.nodes }, x.1.now)) result (read_by flaws image_spelling bytes.now) }
+    ensures { GivesOrStops (λ x. (internet x.0.cables x.0.routers x.0.nodes, x.1.now)) result
+        (read_by flaws image_spelling bytes.now) }
 {
     let (cables, rest) = front_of(alloc, bytes)?;
     let (routers, rest) = routers_of(alloc, &cables, rest)?;
@@ -151,7 +168,7 @@ fn parts_of(alloc: Global, bytes: &[u8]) -> Result<(Parts, &[u8]), Stop>
 
 #[tactic(auto, unfolding(crate::specs::Reading::image_at))]
 fn whole(alloc: Global, bytes: &[u8]) -> Result<Parts, Stop>
-    ensures { GivesOrStops (λ x. record { cables = x.cables; routers = x.routers; nodes = x.nodes }) result (image_at bytes.now) }
+    ensures { GivesOrStops (λ x. internet x.cables x.routers x.nodes) result (image_at bytes.now) }
 {
     let (parts, rest) = parts_of(alloc, bytes)?;
     if !rest.is_empty() {
@@ -163,7 +180,8 @@ fn whole(alloc: Global, bytes: &[u8]) -> Result<Parts, Stop>
 // Goes through the whole input without memory.
 #[tactic(auto, unfolding(crate::specs::Spelling::front_spelling))]
 fn pass_front(bytes: &[u8]) -> Result<(usize, &[u8]), Flaw>
-    ensures { GoesPast (λ cables. length cables) (λ x. (x.0, x.1.now)) result (read_by flaws front_spelling bytes.now) }
+    ensures { GoesPast (λ cables. length cables) (λ x. (x.0, x.1.now)) result
+        (read_by flaws front_spelling bytes.now) }
 {
     let (_magic, rest) = magic_at(bytes)?;
     let (_version, rest) = byte_within(rest, 1, 1, Cause::Version)?;
@@ -172,7 +190,8 @@ fn pass_front(bytes: &[u8]) -> Result<(usize, &[u8]), Flaw>
 
 #[tactic(auto, unfolding(crate::specs::Spelling::image_spelling))]
 fn pass_image(bytes: &[u8]) -> Result<(usize, &[u8]), Flaw>
-    ensures { GoesPast (λ i. length i.cables) (λ x. (x.0, x.1.now)) result (read_by flaws image_spelling bytes.now) }
+    ensures { GoesPast (λ i. length i.cables) (λ x. (x.0, x.1.now)) result
+        (read_by flaws image_spelling bytes.now) }
 {
     let (cables, rest) = pass_front(bytes)?;
     let (_routers, rest) = pass_counted::<Router>(MOST, cables, rest)?;
@@ -201,7 +220,8 @@ fn refused(bytes: &[u8], flaw: Flaw) -> Error
     Error::BadImage(place as u32, flaw.cause)
 }
 
-// Memory ran out. Whether it is the answer is told by the rest of the input, which is looked through without memory.
+// Memory ran out. Whether it is the answer is told by the rest of the input, which is looked
+// through without memory.
 fn refused_for_memory(bytes: &[u8]) -> Error
     ensures refused { Refuses bytes.now result }
     ensures first { (f : ImageFlaw) → IsFirstFlaw bytes.now f → result ≡ refusal bytes.now f }
@@ -212,16 +232,17 @@ fn refused_for_memory(bytes: &[u8]) -> Error
     }
 }
 
-/// The image that the bytes spell. Errors: `BadImage`, the first flaw of bytes that spell no image; `Memory`, only where
-/// they spell one. (own)
+/// The image that the bytes spell. Errors: `BadImage`, the first flaw of bytes that spell no image;
+/// `Memory`, only where they spell one. (own)
 pub fn read(alloc: Global, bytes: &[u8]) -> Result<Image, Error>
     // What is read is spelled so.
     ensures found { IfOk result (λ i. Spells image_spelling bytes.now i) }
     // What is spelled so is read, unless memory runs out.
-    ensures only { (i : Internet) → Spells image_spelling bytes.now i → MatchResult result (λ j. j ≡ i) (λ e. e ≡ Error.Memory) }
+    ensures only { (i : Internet) → Spells image_spelling bytes.now i
+        → MatchResult result (λ j. j ≡ i) (λ e. e ≡ Error.Memory) }
     // Where the bytes have a flaw, it is the answer.
     ensures first { (f : ImageFlaw) → IsFirstFlaw bytes.now f → result ≡ Err (refusal bytes.now f) }
-    // A refusal is the first flaw, or for want of memory, and that only where the bytes spell an image.
+    // A refusal is the first flaw, or for want of memory, and that where the bytes spell an image.
     ensures refused { IfErr result (Refuses bytes.now) }
 {
     match whole(alloc, bytes) {
@@ -266,6 +287,8 @@ pub fn write(alloc: Global, image: &Image) -> Result<Bytes, Error>
 
 /// No image has two spellings, and no bytes spell two images.
 pub fn one_spelling()
-    ensures spelling { (a b : List ℕ) (i : Internet) → Spells image_spelling a i → Spells image_spelling b i → a ≡ b }
-    ensures image { (a : List ℕ) (i j : Internet) → Spells image_spelling a i → Spells image_spelling a j → i ≡ j }
+    ensures spelling { (a b : List ℕ) (i : Internet)
+        → Spells image_spelling a i → Spells image_spelling b i → a ≡ b }
+    ensures image { (a : List ℕ) (i j : Internet)
+        → Spells image_spelling a i → Spells image_spelling a j → i ≡ j }
 {}

@@ -1,4 +1,5 @@
-//! Fields at the front of bytes: each function gives a field's value and the bytes after it, or the flaw.
+//! Fields at the front of bytes: each function gives a field's value and the bytes after it, or the
+//! flaw.
 
 ghost use Rattle.std.specs.Prelude.{◌≡◌, ◌==◌, ◌+◌, ◌&&◌, true, not, fold, length};
 ghost use Rattle.std.specs.List.{list_all};
@@ -6,7 +7,8 @@ ghost use Rattle.at_base.specs.Grammar.{number, run, one, two};
 ghost use Rattle.at_base.specs.Reading.{Gives, bytes_at, field_at, read};
 ghost use Rattle.at_base.specs.Text.{is_name, is_only};
 ghost use Rattle.table_image.specs.Flaws.{flaws};
-ghost use Rattle.table_image.specs.Tests.{any, within, below, rising, enumerator, is_entity as entity, is_magic};
+ghost use Rattle.table_image.specs.Tests.{any, within, below, rising, enumerator};
+ghost use Rattle.table_image.specs.Tests.{is_entity as entity, is_magic};
 ghost use Rattle.table_image.specs.Spelling.{address_spelling, text_spelling};
 
 use crate::flaw::Flaw;
@@ -22,7 +24,7 @@ fn cut() -> Flaw
 }
 
 /// The flaw of the field with which the bytes begin.
-pub fn wrong(bytes: &[u8], cause: Cause) -> Flaw
+pub(crate) fn wrong(bytes: &[u8], cause: Cause) -> Flaw
     ensures { result ≡ record { left = length bytes.now; cause = cause } }
 {
     Flaw {
@@ -41,8 +43,14 @@ fn split(bytes: &[u8], len: usize) -> Result<(&[u8], &[u8]), Flaw>
 }
 
 /// A byte from `least` to `most`.
-pub fn byte_within(bytes: &[u8], least: u8, most: u8, cause: Cause) -> Result<(u8, &[u8]), Flaw>
-    ensures { Gives (λ x. (x.0, x.1.now)) result (field_at flaws (number one (within least most cause)) bytes.now) }
+pub(crate) fn byte_within(
+    bytes: &[u8],
+    least: u8,
+    most: u8,
+    cause: Cause,
+) -> Result<(u8, &[u8]), Flaw>
+    ensures { Gives (λ x. (x.0, x.1.now)) result
+        (field_at flaws (number one (within least most cause)) bytes.now) }
 {
     let (front, rest) = split(bytes, 1)?;
     let byte = u8::from_be_bytes([front[0]]);
@@ -60,8 +68,9 @@ fn byte_at(bytes: &[u8]) -> Result<(u8, &[u8]), Flaw>
 }
 
 /// A place in a list of so many.
-pub fn index_at(bytes: &[u8], count: usize) -> Result<(u8, &[u8]), Flaw>
-    ensures { Gives (λ x. (x.0, x.1.now)) result (field_at flaws (number one (below count)) bytes.now) }
+pub(crate) fn index_at(bytes: &[u8], count: usize) -> Result<(u8, &[u8]), Flaw>
+    ensures { Gives (λ x. (x.0, x.1.now)) result
+        (field_at flaws (number one (below count)) bytes.now) }
 {
     let (index, rest) = byte_at(bytes)?;
     if index as usize >= count {
@@ -71,8 +80,9 @@ pub fn index_at(bytes: &[u8], count: usize) -> Result<(u8, &[u8]), Flaw>
 }
 
 /// An enumerator that is not below `low`.
-pub fn enumerator_at(bytes: &[u8], low: u32) -> Result<(u8, &[u8]), Flaw>
-    ensures { Gives (λ x. (x.0, x.1.now)) result (field_at flaws (number one (enumerator low)) bytes.now) }
+pub(crate) fn enumerator_at(bytes: &[u8], low: u32) -> Result<(u8, &[u8]), Flaw>
+    ensures { Gives (λ x. (x.0, x.1.now)) result
+        (field_at flaws (number one (enumerator low)) bytes.now) }
 {
     let (number, rest) = byte_at(bytes)?;
     if number < 1 {
@@ -85,7 +95,7 @@ pub fn enumerator_at(bytes: &[u8], low: u32) -> Result<(u8, &[u8]), Flaw>
 }
 
 /// A number of two bytes.
-pub fn u16_at(bytes: &[u8]) -> Result<(u16, &[u8]), Flaw>
+pub(crate) fn u16_at(bytes: &[u8]) -> Result<(u16, &[u8]), Flaw>
     ensures { Gives (λ x. (x.0, x.1.now)) result (field_at flaws (number two any) bytes.now) }
 {
     let (front, rest) = split(bytes, 2)?;
@@ -93,8 +103,9 @@ pub fn u16_at(bytes: &[u8]) -> Result<(u16, &[u8]), Flaw>
 }
 
 /// A number of two bytes that is not below `low`.
-pub fn rising_at(bytes: &[u8], low: u32) -> Result<(u16, &[u8]), Flaw>
-    ensures { Gives (λ x. (x.0, x.1.now)) result (field_at flaws (number two (rising low)) bytes.now) }
+pub(crate) fn rising_at(bytes: &[u8], low: u32) -> Result<(u16, &[u8]), Flaw>
+    ensures { Gives (λ x. (x.0, x.1.now)) result
+        (field_at flaws (number two (rising low)) bytes.now) }
 {
     let (number, rest) = u16_at(bytes)?;
     if u32::from(number) < low {
@@ -104,7 +115,7 @@ pub fn rising_at(bytes: &[u8], low: u32) -> Result<(u16, &[u8]), Flaw>
 }
 
 /// The four bytes with which an image begins.
-pub fn magic_at(bytes: &[u8]) -> Result<(&[u8], &[u8]), Flaw>
+pub(crate) fn magic_at(bytes: &[u8]) -> Result<(&[u8], &[u8]), Flaw>
     ensures { Gives (λ x. (x.0.now, x.1.now)) result (field_at flaws (run 4 is_magic) bytes.now) }
 {
     let (front, rest) = split(bytes, 4)?;
@@ -115,7 +126,7 @@ pub fn magic_at(bytes: &[u8]) -> Result<(&[u8], &[u8]), Flaw>
 }
 
 /// A hardware address.
-pub fn hardware_at(bytes: &[u8]) -> Result<(Hw, &[u8]), Flaw>
+pub(crate) fn hardware_at(bytes: &[u8]) -> Result<(Hw, &[u8]), Flaw>
     ensures { Gives (λ x. (x.0.0, x.1.now)) result (field_at flaws (run 6 any) bytes.now) }
 {
     let (front, rest) = split(bytes, 6)?;
@@ -126,7 +137,7 @@ pub fn hardware_at(bytes: &[u8]) -> Result<(Hw, &[u8]), Flaw>
 
 /// A network address.
 #[tactic(auto, unfolding(crate::specs::Spelling::address_spelling))]
-pub fn address_at(bytes: &[u8]) -> Result<(Addr, &[u8]), Flaw>
+pub(crate) fn address_at(bytes: &[u8]) -> Result<(Addr, &[u8]), Flaw>
     ensures { Gives (λ x. (x.0, x.1.now)) result (read flaws address_spelling bytes.now) }
 {
     let (net, rest) = u16_at(bytes)?;
@@ -146,7 +157,7 @@ fn wrong_text(after: &[u8]) -> Flaw
 
 /// A zone's name.
 #[tactic(auto, unfolding(crate::specs::Spelling::text_spelling))]
-pub fn name_at(bytes: &[u8]) -> Result<(Name, &[u8]), Flaw>
+pub(crate) fn name_at(bytes: &[u8]) -> Result<(Name, &[u8]), Flaw>
     ensures { Gives (λ x. (x.0, x.1.now)) result (read flaws (text_spelling is_name) bytes.now) }
 {
     let (len, after) = byte_within(bytes, 1, 32, Cause::Name)?;
@@ -180,7 +191,7 @@ fn is_equals(text: &[u8]) -> bool
 }
 
 /// Whether the bytes may be an object or a type that a node has.
-pub fn is_entity(text: &[u8]) -> bool
+pub(crate) fn is_entity(text: &[u8]) -> bool
     ensures { result ≡ entity text.now }
 {
     !is_equals(text) && has_no_wildcard(text)
@@ -188,7 +199,7 @@ pub fn is_entity(text: &[u8]) -> bool
 
 /// An object or a type that a node may have.
 #[tactic(auto, unfolding(crate::specs::Spelling::text_spelling))]
-pub fn entity_at(bytes: &[u8]) -> Result<(Text32, &[u8]), Flaw>
+pub(crate) fn entity_at(bytes: &[u8]) -> Result<(Text32, &[u8]), Flaw>
     ensures { Gives (λ x. (x.0, x.1.now)) result (read flaws (text_spelling entity) bytes.now) }
 {
     let (len, after) = byte_within(bytes, 1, 32, Cause::Name)?;

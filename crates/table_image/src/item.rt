@@ -17,7 +17,8 @@ use std::alloc::{AllocError, Global};
 
 /// A part of which an image has several.
 pub trait Item: Drop {
-    // The part's format, by how many parts it may refer to, and by the number that the part before it leaves.
+    // The part's format, by how many parts it may refer to, and by the number that the part before
+    // it leaves.
     ghost spelling: { ℕ → ℕ → Grammar Wrong true Self };
 
     // The number that the part leaves to the one after it.
@@ -28,25 +29,43 @@ pub trait Item: Drop {
         ensures { result ≡ next self.now };
 
     // What a part is written as doesn't depend on the parts around it.
-    ghost same: { (known low : ℕ) (x : Self) → bytes_of (spelling known low) x ≡ bytes_of (spelling 0 0) x };
+    ghost same: { (known low : ℕ) (x : Self)
+        → bytes_of (spelling known low) x ≡ bytes_of (spelling 0 0) x };
 }
 
 /// A part that can be read.
 pub trait ReadItem: Item {
     /// The part at the front of the bytes, and the bytes after it.
     fn read_one(alloc: Global, known: usize, low: u32, bytes: &[u8]) -> Result<(Self, &[u8]), Stop>
-        ensures { GivesOrStops (λ x. (x.0, x.1.now)) result (read flaws (Self.spelling known low) bytes.now) };
+        ensures { GivesOrStops (λ x. (x.0, x.1.now)) result
+            (read flaws (Self.spelling known low) bytes.now) };
 
-    /// Goes past the part at the front of the bytes, without memory: the number that it leaves, and the bytes after it.
+    /// Goes past the part at the front of the bytes, without memory: the number that it leaves, and
+    /// the bytes after it.
     fn pass_one(known: usize, low: u32, bytes: &[u8]) -> Result<(u32, &[u8]), Flaw>
-        ensures { GoesPast Self.next (λ x. (x.0, x.1.now)) result (read flaws (Self.spelling known low) bytes.now) };
+        ensures { GoesPast Self.next (λ x. (x.0, x.1.now)) result
+            (read flaws (Self.spelling known low) bytes.now) };
 }
 
 /// A part that can be written.
 pub trait WriteItem: Item {
     /// Writes the part at the end of the bytes.
     fn write_one(&self, out: &mut Vec<u8>) -> Result<(), AllocError>
-        ensures { OnOk result (out.new.items ≡ out.old.items ++ bytes_of (Self.spelling 0 0) self.now) };
+        ensures { OnOk result
+            (out.new.items ≡ out.old.items ++ bytes_of (Self.spelling 0 0) self.now) };
+}
+
+// A list of one takes no memory beyond that of its item.
+fn single_of<T: ReadItem>(
+    alloc: Global,
+    known: usize,
+    bytes: &[u8],
+) -> Result<(Listed<T>, &[u8]), Stop>
+    ensures { GivesOrStops (λ x. (x.0, x.1.now)) result
+        (list_at (λ low. read flaws (T.spelling known low)) T.next 0 1 bytes.now) }
+{
+    let (item, rest) = T::read_one(alloc, known, 0, bytes)?;
+    Ok((Listed::one(item), rest))
 }
 
 // The count tells how much room the list needs, so it is made once.
@@ -56,7 +75,8 @@ fn list_of<T: ReadItem>(
     count: u8,
     bytes: &[u8],
 ) -> Result<(Listed<T>, &[u8]), Stop>
-    ensures { GivesOrStops (λ x. (x.0, x.1.now)) result (list_at (λ low. read flaws (T.spelling known low)) T.next 0 count bytes.now) }
+    ensures { GivesOrStops (λ x. (x.0, x.1.now)) result
+        (list_at (λ low. read flaws (T.spelling known low)) T.next 0 count bytes.now) }
 {
     let mut items = Vec::with_capacity(alloc, count as usize)?;
     let mut rest = bytes;
@@ -72,20 +92,25 @@ fn list_of<T: ReadItem>(
 
 /// As many parts as the count says, which is at most the limit.
 #[tactic(auto, unfolding(crate::specs::Spelling::counted))]
-pub fn counted_of<T: ReadItem>(
+pub(crate) fn counted_of<T: ReadItem>(
     alloc: Global,
     limit: u8,
     known: usize,
     bytes: &[u8],
 ) -> Result<(Listed<T>, &[u8]), Stop>
-    ensures { GivesOrStops (λ x. (x.0, x.1.now)) result (read flaws (counted limit (T.spelling known) T.next) bytes.now) }
+    ensures { GivesOrStops (λ x. (x.0, x.1.now)) result
+        (read flaws (counted limit (T.spelling known) T.next) bytes.now) }
 {
     let (count, rest) = byte_within(bytes, 0, limit, Cause::Count)?;
+    if count == 1 {
+        return single_of(alloc, known, rest);
+    }
     list_of(alloc, known, count, rest)
 }
 
 fn pass_list<T: ReadItem>(known: usize, count: u8, bytes: &[u8]) -> Result<(usize, &[u8]), Flaw>
-    ensures { GoesPast (λ xs. length xs) (λ x. (x.0, x.1.now)) result (list_at (λ low. read flaws (T.spelling known low)) T.next 0 count bytes.now) }
+    ensures { GoesPast (λ xs. length xs) (λ x. (x.0, x.1.now)) result
+        (list_at (λ low. read flaws (T.spelling known low)) T.next 0 count bytes.now) }
 {
     let mut rest = bytes;
     let mut low = 0;
@@ -99,19 +124,21 @@ fn pass_list<T: ReadItem>(known: usize, count: u8, bytes: &[u8]) -> Result<(usiz
 
 /// Goes past as many parts as the count says, and tells how many there were.
 #[tactic(auto, unfolding(crate::specs::Spelling::counted))]
-pub fn pass_counted<T: ReadItem>(
+pub(crate) fn pass_counted<T: ReadItem>(
     limit: u8,
     known: usize,
     bytes: &[u8],
 ) -> Result<(usize, &[u8]), Flaw>
-    ensures { GoesPast (λ xs. length xs) (λ x. (x.0, x.1.now)) result (read flaws (counted limit (T.spelling known) T.next) bytes.now) }
+    ensures { GoesPast (λ xs. length xs) (λ x. (x.0, x.1.now)) result
+        (read flaws (counted limit (T.spelling known) T.next) bytes.now) }
 {
     let (count, rest) = byte_within(bytes, 0, limit, Cause::Count)?;
     pass_list::<T>(known, count, rest)
 }
 
 fn put_list<T: WriteItem>(out: &mut Vec<u8>, items: &[T]) -> Result<(), AllocError>
-    ensures { OnOk result (out.new.items ≡ out.old.items ++ flat_map (bytes_of (T.spelling 0 0)) items.now) }
+    ensures { OnOk result
+        (out.new.items ≡ out.old.items ++ flat_map (bytes_of (T.spelling 0 0)) items.now) }
 {
     for item in items {
         item.write_one(out)?;
@@ -119,15 +146,17 @@ fn put_list<T: WriteItem>(out: &mut Vec<u8>, items: &[T]) -> Result<(), AllocErr
     Ok(())
 }
 
-/// Writes the count and the parts. The limit and the number of parts that they may refer to change nothing that is
-/// written; they tell which format it is.
-pub fn put_counted<T: WriteItem>(
+/// Writes the count and the parts. The limit and the number of parts that they may refer to change
+/// nothing that is written; they tell which format it is.
+pub(crate) fn put_counted<T: WriteItem>(
     out: &mut Vec<u8>,
     _limit: u8,
     _known: usize,
     items: &Listed<T>,
 ) -> Result<(), AllocError>
-    ensures { OnOk result (out.new.items ≡ out.old.items ++ bytes_of (counted _limit (T.spelling _known) T.next) items.now) }
+    ensures { OnOk result
+        (out.new.items ≡ out.old.items ++ bytes_of (counted _limit (T.spelling _known) T.next)
+        items.now) }
 {
     put_count(out, items.len())?;
     put_list(out, items.as_slice())?;

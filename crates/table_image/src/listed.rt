@@ -1,57 +1,72 @@
 //! Lists of the crate's own, which contracts see as lists.
 
-ghost use Rattle.std.specs.Prelude.{◌≡◌, ◌==◌, length};
+ghost use Rattle.std.specs.Prelude.{◌≡◌, ◌∷◌, ◌==◌, [], length};
 
 use std::marker::Model;
 
 /// Some values, one after the other.
 #[derive(Debug, Drop)]
 pub struct Listed<T> {
-    items: Vec<T>,
+    kept: Kept<T>,
+}
+
+// Most zone lists of a router have one zone: a list of one stands in place, and takes no memory of
+// its own.
+#[derive(Debug, Drop)]
+enum Kept<T> {
+    One([T; 1]),
+    Many(Vec<T>),
 }
 
 impl<T> Model for Listed<T> {
     ghost use Rattle.std.specs.Prelude.{List};
+    ghost use Rattle.table_image.specs.Listed.{values};
 
     ghost Value = { List T };
 
-    ghost view = { λ a. a.items.items };
+    ghost view = { λ a. values a.kept };
 }
 
 impl<T> Listed<T> {
+    /// The one value as a list, which takes no memory.
+    pub fn one(item: T) -> Listed<T>
+        ensures { result ≡ item ∷ [] }
+    {
+        Listed {
+            kept: Kept::One([item]),
+        }
+    }
+
     /// The values of the vector, which takes no memory.
     pub fn from_vec(items: Vec<T>) -> Listed<T>
         ensures { result ≡ items.items }
     {
-        Listed { items }
-    }
-
-    /// The values as a vector, which takes no memory.
-    pub fn into_vec(self) -> Vec<T>
-        ensures { result.items ≡ self }
-    {
-        let Listed { items } = self;
-        items
+        Listed {
+            kept: Kept::Many(items),
+        }
     }
 
     /// The values in place.
     pub fn as_slice(&self) -> &[T]
         ensures { result.now ≡ self.now }
     {
-        self.items.as_slice()
+        match &self.kept {
+            Kept::One(item) => item.as_slice(),
+            Kept::Many(items) => items.as_slice(),
+        }
     }
 
     /// How many values there are.
     pub fn len(&self) -> usize
         ensures { result ≡ length self.now }
     {
-        self.items.len()
+        self.as_slice().len()
     }
 
     /// Whether there is none.
     pub fn is_empty(&self) -> bool
         ensures { result ≡ (length self.now == 0) }
     {
-        self.items.is_empty()
+        self.as_slice().is_empty()
     }
 }

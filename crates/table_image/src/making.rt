@@ -2,8 +2,9 @@
 
 ghost use Rattle.std.specs.Prelude.{◌≡◌, ◌+◌, ◌^◌, ◌<◌, ◌≤◌, ◌&&◌, IsTrue, IfErr, length};
 ghost use Rattle.std.specs.List.{list_all};
-ghost use Rattle.table_image.specs.Internet.{Internet};
-ghost use Rattle.table_image.specs.Short.{short_cable, short_list, short_router, short_node, is_short};
+ghost use Rattle.table_image.specs.Internet.{internet};
+ghost use Rattle.table_image.specs.Short.{short_cable, short_list, short_router, short_node};
+ghost use Rattle.table_image.specs.Short.{is_short};
 ghost use Rattle.table_image.specs.Spelling.{cable_spelling, counted, image_spelling};
 ghost use Rattle.table_image.specs.Checking.{Checks};
 
@@ -54,8 +55,12 @@ fn nodes_are_short(nodes: &[Node]) -> bool
 }
 
 /// Whether every list is no longer than an image may have it.
-pub fn are_short(cables: &Listed<Cable>, routers: &Listed<Router>, nodes: &Listed<Node>) -> bool
-    ensures { result ≡ is_short (record { cables = cables.now; routers = routers.now; nodes = nodes.now }) }
+pub(crate) fn are_short(
+    cables: &Listed<Cable>,
+    routers: &Listed<Router>,
+    nodes: &Listed<Node>,
+) -> bool
+    ensures { result ≡ is_short (internet cables.now routers.now nodes.now) }
 {
     cables.len() <= MOST as usize
         && routers.len() <= MOST as usize
@@ -66,13 +71,13 @@ pub fn are_short(cables: &Listed<Cable>, routers: &Listed<Router>, nodes: &Liste
 }
 
 /// Checks the parts, as reading would judge them if they were spelled in order.
-pub fn check_parts(
+pub(crate) fn check_parts(
     cables: &Listed<Cable>,
     routers: &Listed<Router>,
     nodes: &Listed<Node>,
 ) -> Result<usize, Misfit>
-    requires { IsTrue (is_short (record { cables = cables.now; routers = routers.now; nodes = nodes.now })) }
-    ensures checked { Checks image_spelling (record { cables = cables.now; routers = routers.now; nodes = nodes.now }) 0 result }
+    requires { IsTrue (is_short (internet cables.now routers.now nodes.now)) }
+    ensures checked { Checks image_spelling (internet cables.now routers.now nodes.now) 0 result }
     ensures near { IfErr result (λ m. m.place < 2 ^ 32) }
 {
     let end = match check_counted(MOST, 0, 5, cables) {

@@ -6,7 +6,8 @@ ghost use Rattle.at_base.specs.Reading.{Gives, read};
 ghost use Rattle.table_image.specs.Checking.{Checks};
 ghost use Rattle.table_image.specs.Tests.{is_entity as is_entity_text};
 ghost use Rattle.table_image.specs.Flaws.{flaws, GoesPast};
-ghost use Rattle.table_image.specs.Spelling.{node_spelling, name_spelling, own_router_spelling, text_spelling};
+ghost use Rattle.table_image.specs.Spelling.{node_spelling, name_spelling, own_router_spelling};
+ghost use Rattle.table_image.specs.Spelling.{text_spelling};
 
 use crate::checking::{CheckItem, Misfit, check_counted};
 use crate::flaw::{Flaw, Stop};
@@ -29,8 +30,8 @@ pub struct NodeName {
     pub kind: Text32,
 }
 
-/// A node: the place of its cable among the cables, from 0, its addresses there, its zone, the router that it sends
-/// through, and its names.
+/// A node: the place of its cable among the cables, from 0, its addresses there, its zone, the
+/// router that it sends through, and its names.
 #[derive(Debug, Drop)]
 pub struct Node {
     pub cable: u8,

@@ -9,21 +9,21 @@ use at_base::Addr;
 use std::alloc::AllocError;
 
 /// A number of two bytes.
-pub fn put_u16(out: &mut Vec<u8>, number: u16) -> Result<(), AllocError>
+pub(crate) fn put_u16(out: &mut Vec<u8>, number: u16) -> Result<(), AllocError>
     ensures { OnOk result (out.new.items ≡ out.old.items ++ to_be_bytes w16 number) }
 {
     out.extend_from_slice(&number.to_be_bytes())
 }
 
 /// A byte.
-pub fn put_byte(out: &mut Vec<u8>, byte: u8) -> Result<(), AllocError>
+pub(crate) fn put_byte(out: &mut Vec<u8>, byte: u8) -> Result<(), AllocError>
     ensures { OnOk result (out.new.items ≡ out.old.items ++ to_be_bytes w8 byte) }
 {
     out.extend_from_slice(&byte.to_be_bytes())
 }
 
 /// A count in a byte, for which the limits of an image are small enough.
-pub fn put_count(out: &mut Vec<u8>, count: usize) -> Result<(), AllocError>
+pub(crate) fn put_count(out: &mut Vec<u8>, count: usize) -> Result<(), AllocError>
     ensures { OnOk result (out.new.items ≡ out.old.items ++ to_be_bytes w8 count) }
 {
     out.push((count % 256) as u8)?;
@@ -31,7 +31,7 @@ pub fn put_count(out: &mut Vec<u8>, count: usize) -> Result<(), AllocError>
 }
 
 /// A text behind its length.
-pub fn put_text(out: &mut Vec<u8>, text: &[u8]) -> Result<(), AllocError>
+pub(crate) fn put_text(out: &mut Vec<u8>, text: &[u8]) -> Result<(), AllocError>
     requires { length text.now ≤ 32 }
     ensures { OnOk result (out.new.items ≡ out.old.items ++ length text.now ∷ text.now) }
 {
@@ -41,7 +41,7 @@ pub fn put_text(out: &mut Vec<u8>, text: &[u8]) -> Result<(), AllocError>
 
 /// A network address.
 #[tactic(auto, unfolding(crate::specs::Spelling::address_spelling))]
-pub fn put_address(out: &mut Vec<u8>, at: Addr) -> Result<(), AllocError>
+pub(crate) fn put_address(out: &mut Vec<u8>, at: Addr) -> Result<(), AllocError>
     ensures { OnOk result (out.new.items ≡ out.old.items ++ bytes_of address_spelling at) }
 {
     put_u16(out, at.net)?;

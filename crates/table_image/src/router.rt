@@ -3,7 +3,8 @@
 ghost use Rattle.std.specs.Prelude.{◌≡◌, ◌+◌, length};
 ghost use Rattle.at_base.specs.Reading.{Gives, read};
 ghost use Rattle.table_image.specs.Flaws.{flaws, GoesPast};
-ghost use Rattle.table_image.specs.Spelling.{port_spelling, row_spelling, zone_list_spelling, router_spelling, state_of, state_number};
+ghost use Rattle.table_image.specs.Spelling.{port_spelling, row_spelling, zone_list_spelling};
+ghost use Rattle.table_image.specs.Spelling.{router_spelling, state_of, state_number};
 
 use crate::checking::{CheckItem, Misfit, check_counted};
 use crate::flaw::{Flaw, Stop};
@@ -25,8 +26,9 @@ pub struct Port {
     pub hardware: Hw,
 }
 
-/// A row of a routing table: how far the networks from `start` to `end` are, in routers, and by which port and next
-/// router. A direct row has the next router 0.0. The port is a place among the router's ports, from 0.
+/// A row of a routing table: how far the networks from `start` to `end` are, in routers, and by
+/// which port and next router. A direct row has the next router 0.0. The port is a place among the
+/// router's ports, from 0.
 #[derive(Clone, Copy, Debug)]
 pub struct Row {
     pub start: u16,

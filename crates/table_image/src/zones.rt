@@ -61,7 +61,7 @@ impl WriteItem for Name {
 
 /// Zones behind their count.
 #[tactic(auto, unfolding(crate::specs::Spelling::zones_spelling))]
-pub fn zones_at(alloc: Global, bytes: &[u8]) -> Result<(Listed<Name>, &[u8]), Stop>
+pub(crate) fn zones_at(alloc: Global, bytes: &[u8]) -> Result<(Listed<Name>, &[u8]), Stop>
     ensures { GivesOrStops (λ x. (x.0, x.1.now)) result (read flaws zones_spelling bytes.now) }
 {
     counted_of(alloc, MOST_ZONES, 0, bytes)
@@ -69,15 +69,16 @@ pub fn zones_at(alloc: Global, bytes: &[u8]) -> Result<(Listed<Name>, &[u8]), St
 
 /// Goes past zones behind their count, and tells how many there were.
 #[tactic(auto, unfolding(crate::specs::Spelling::zones_spelling))]
-pub fn pass_zones(bytes: &[u8]) -> Result<(usize, &[u8]), Flaw>
-    ensures { GoesPast (λ xs. length xs) (λ x. (x.0, x.1.now)) result (read flaws zones_spelling bytes.now) }
+pub(crate) fn pass_zones(bytes: &[u8]) -> Result<(usize, &[u8]), Flaw>
+    ensures { GoesPast (λ xs. length xs) (λ x. (x.0, x.1.now)) result
+        (read flaws zones_spelling bytes.now) }
 {
     pass_counted::<Name>(MOST_ZONES, 0, bytes)
 }
 
 /// Writes zones behind their count.
 #[tactic(auto, unfolding(crate::specs::Spelling::zones_spelling))]
-pub fn put_zones(out: &mut Vec<u8>, names: &Listed<Name>) -> Result<(), AllocError>
+pub(crate) fn put_zones(out: &mut Vec<u8>, names: &Listed<Name>) -> Result<(), AllocError>
     ensures { OnOk result (out.new.items ≡ out.old.items ++ bytes_of zones_spelling names.now) }
 {
     put_counted(out, MOST_ZONES, 0, names)
@@ -97,7 +98,7 @@ impl CheckItem for Name {
 
 /// Checks zones behind their count.
 #[tactic(auto, unfolding(crate::specs::Spelling::zones_spelling))]
-pub fn check_zones(at: usize, names: &Listed<Name>) -> Result<usize, Misfit>
+pub(crate) fn check_zones(at: usize, names: &Listed<Name>) -> Result<usize, Misfit>
     requires few { length names.now ≤ 64 }
     requires room { at + 2113 < 2 ^ 40 }
     ensures checked { Checks zones_spelling names.now at result }

@@ -1,5 +1,6 @@
+use Rattle.std.proofs.Common.{arith}
 use Rattle.table_image.proofs.CheckedParts.{all_true}
 use Rattle.table_image.proofs.zones.check_zones.Goals as goal
 
-pub check_counted-requires-clause-short : goal.check_counted-requires-clause-short
-check_counted-requires-clause-short c = all_true c.args.names.now
+pub check_counted-requires : goal.check_counted-requires
+check_counted-requires c = (omega arith, (all_true c.args.names.now, (c.requires.few, omega (arith, c.requires.room))))

@@ -1,10 +1,10 @@
-use Rattle.std.proofs.Common.{arith, ap, length, List, ℕ, ◌+◌}
+use Rattle.std.proofs.Common.{rules, arith, ap, length, List, ℕ, ◌+◌}
 use Rattle.table_image.proofs.Checked.{name_passes}
 use Rattle.table_image.proofs.CheckedParts.{FitsNode, node_misses, node_checks, all_true}
 use Rattle.table_image.proofs.node.NodeCheckItem.check_one.Goals as goal
 
-pub check_counted-requires-clause-short : goal.check_counted-requires-clause-short
-check_counted-requires-clause-short c = all_true c.args.self.now.names
+pub check_counted-requires : goal.check_counted-requires
+check_counted-requires c = (omega arith, (all_true c.args.self.now.names, (search rules, search rules)))
 
 pub returns-then-self-known-clause-checked : goal.returns-then-self-known-clause-checked
 returns-then-self-known-clause-checked c =

@@ -1,12 +1,12 @@
-use Rattle.std.proofs.Common.{sym, subst, ap, arith}
+use Rattle.std.proofs.Common.{rules, sym, subst, ap, arith}
 use Rattle.table_image.proofs.CheckedParts.{router_ports, router_rows, router_checks, router_short, all_true}
 use Rattle.table_image.proofs.router.RouterCheckItem.check_one.Goals as goal
 
-pub check_counted-requires-clause-short : goal.check_counted-requires-clause-short
-check_counted-requires-clause-short c = all_true c.args.self.now.ports
+pub check_counted-requires : goal.check_counted-requires
+check_counted-requires c = (omega arith, (all_true c.args.self.now.ports, (search rules, search rules)))
 
-pub check_counted-requires-2-clause-short : goal.check_counted-requires-2-clause-short
-check_counted-requires-2-clause-short c = all_true c.args.self.now.rows
+pub check_counted-requires-2 : goal.check_counted-requires-2
+check_counted-requires-2 c = (omega arith, (all_true c.args.self.now.rows, (search rules, search rules)))
 
 pub returns-in-Err-clause-checked : goal.returns-in-Err-clause-checked
 returns-in-Err-clause-checked c = router_ports c.args.known c.args.self.now c.args.at c.in-Err.misfit c.in-Err.ensures.checked
