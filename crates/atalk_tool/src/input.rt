@@ -1,6 +1,8 @@
 //! Reading an input to its end, in a bounded number of reads.
 
-ghost use Rattle.std.specs.Prelude.{◌≡◌, ◌≢◌, ◌+◌, ◌<◌, ◌≤◌, ◌⊎◌, true, false, length, take, drop, vec_capacity, vec_len, IfOk, IfErr, IfSome, OnOk, OnErr, IsOkUnless};
+ghost use Rattle.std.specs.Prelude.{◌≡◌, ◌≢◌, ◌<◌, ◌≤◌, ◌⊎◌, ◌++◌};
+ghost use Rattle.std.specs.Prelude.{true, false, length, take};
+ghost use Rattle.std.specs.Prelude.{IfOk, IfErr, IfSome, OnOk, OnErr, IsOkUnless};
 ghost use Rattle.std.specs.Io.{ReadsAtMost};
 ghost use Rattle.std.specs.Io.KnownBytes.{Consumes, IsAtEnd};
 ghost use Rattle.atalk_tool.specs.declared.input.TheConstants.{READS};
@@ -12,12 +14,9 @@ use std::io::{ErrorKind, Read};
 /// The most reads of one input. An input of short reads that never ends is given up there.
 pub const READS: u32 = 16_777_216;
 
-/// The least room that a read is given.
-const LEAST_ROOM: usize = 65_536;
-
-/// How much room is made where less than the least is left. As it is more than the least, a reader of short pieces has
-/// its room cleared once for many reads, and not at each.
-const ROOM: usize = 262_144;
+/// The most bytes of one read. No more, since a longer piece is copied by an instruction that is
+/// repeated for each of its bytes.
+const PIECE: usize = 8_192;
 
 /// A reader, with the number of its reads and whether one failed.
 #[derive(Drop)]
@@ -42,49 +41,37 @@ impl<R: Read> Input<R> {
         }
     }
 
-    /// Reads all that is left. Errors: `ReadFault` where the reader failed or after `READS` reads, `Memory`.
+    /// Reads all that is left. Errors: `ReadFault` where the reader failed or after `READS` reads,
+    /// `Memory`.
     pub fn read_all(&mut self, alloc: Global) -> Result<Vec<u8>, Error>
-        ensures ok { IfOk result (λ v. IfSome (R.remaining self.old.reader) (λ bytes. v.items ≡ bytes)) }
+        ensures ok { IfOk result (λ v.
+            IfSome (R.remaining self.old.reader) (λ bytes. v.items ≡ bytes)) }
         ensures end { OnOk result (IsAtEnd (R.remaining self.new.reader)) }
-        ensures fault { result ≡ Err Error.ReadFault → (self.new.failed ≡ true) ⊎ (self.new.reads ≡ READS) }
+        ensures fault { result ≡ Err Error.ReadFault
+            → (self.new.failed ≡ true) ⊎ (self.new.reads ≡ READS) }
         ensures refused { IfErr result (λ e. (e ≡ Error.ReadFault) ⊎ (e ≡ Error.Memory)) }
         // Only a read that failed sets `failed`.
         ensures stays { result ≢ Err Error.ReadFault → self.new.failed ≡ self.old.failed }
     {
         let mut bytes = Vec::new(alloc);
-        let mut filled = 0;
+        let mut buffer = [0; PIECE];
         for _turn in self.reads..READS {
-            make_room(&mut bytes, filled)?;
-            let count = self.read_at(bytes.as_mut_slice(), filled)?;
+            let count = self.read(buffer.as_mut_slice())?;
             if count == 0 {
-                bytes.truncate(filled);
                 return Ok(bytes);
             }
-            filled += count;
+            append(&mut bytes, &buffer[..count])?;
         }
         Err(Error::ReadFault)
-    }
-
-    /// Reads once into the buffer from the place `at` on.
-    fn read_at(&mut self, buffer: &mut [u8], at: usize) -> Result<usize, Error>
-        requires { at < length buffer.old }
-        ensures front { take at buffer.new ≡ take at buffer.old }
-        ensures fits { IfOk result (λ n. at + n ≤ length buffer.new) }
-        ensures ok { IfOk result (λ n. Consumes (R.remaining self.old.reader) (R.remaining self.new.reader) (take n (drop at buffer.new))) }
-        ensures end { IfOk result (λ n. n ≡ 0 → IsAtEnd (R.remaining self.new.reader)) }
-        ensures more { OnOk result (self.old.reads < self.new.reads) }
-        ensures stays { OnOk result (self.new.failed ≡ self.old.failed) }
-        ensures fault { OnErr result ((self.new.failed ≡ true) ⊎ (self.new.reads ≡ READS)) }
-        ensures refused { IsOkUnless result Error.ReadFault }
-    {
-        self.read(&mut buffer[at..])
     }
 
     /// Reads once, and again where a read was interrupted.
     fn read(&mut self, buffer: &mut [u8]) -> Result<usize, Error>
         ensures bound { ReadsAtMost result buffer.new }
-        ensures ok { IfOk result (λ n. Consumes (R.remaining self.old.reader) (R.remaining self.new.reader) (take n buffer.new)) }
-        ensures end { IfOk result (λ n. n ≡ 0 → 0 < length buffer.old → IsAtEnd (R.remaining self.new.reader)) }
+        ensures ok { IfOk result (λ n. Consumes
+            (R.remaining self.old.reader) (R.remaining self.new.reader) (take n buffer.new)) }
+        ensures end { IfOk result (λ n. n ≡ 0 → 0 < length buffer.old
+            → IsAtEnd (R.remaining self.new.reader)) }
         ensures more { OnOk result (self.old.reads < self.new.reads) }
         ensures stays { OnOk result (self.new.failed ≡ self.old.failed) }
         ensures fault { OnErr result ((self.new.failed ≡ true) ⊎ (self.new.reads ≡ READS)) }
@@ -106,29 +93,14 @@ impl<R: Read> Input<R> {
     }
 }
 
-/// Leaves room for a read behind the filled bytes, which stay. The new room holds zeros.
-fn make_room(bytes: &mut Vec<u8>, filled: usize) -> Result<(), AllocError>
-    requires { filled ≤ vec_len bytes.old }
-    ensures front { OnOk result (take filled bytes.new.items ≡ take filled bytes.old.items) }
-    ensures room { OnOk result (filled + LEAST_ROOM ≤ vec_len bytes.new) }
-{
-    if bytes.len() - filled >= LEAST_ROOM {
-        return Ok(());
-    }
-    reserve_room(bytes)?;
-    bytes.resize(filled + ROOM, 0)
-}
-
-/// Reserves room behind the bytes. The capacity grows by a quarter, since one that doubles asks for memory for up to two
-/// inputs.
-fn reserve_room(bytes: &mut Vec<u8>) -> Result<(), AllocError>
-    ensures items { bytes.new.items ≡ bytes.old.items }
-    ensures len { vec_len bytes.new ≡ vec_len bytes.old }
-    ensures room { OnOk result (vec_len bytes.new + ROOM ≤ vec_capacity bytes.new) }
+/// Appends the piece. The capacity grows by a quarter, since one that doubles asks for memory for
+/// up to two inputs.
+fn append(bytes: &mut Vec<u8>, piece: &[u8]) -> Result<(), AllocError>
+    ensures { OnOk result (bytes.new.items ≡ bytes.old.items ++ piece.now) }
 {
     let len = bytes.len();
-    if bytes.capacity() - len >= ROOM {
-        return Ok(());
+    if bytes.capacity() - len < piece.len() {
+        bytes.reserve_exact(piece.len().max(len / 4))?;
     }
-    bytes.reserve_exact(ROOM.max(len / 4))
+    bytes.extend_from_slice(piece)
 }

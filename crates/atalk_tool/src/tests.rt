@@ -1,5 +1,6 @@
-//! What no clause says: that calls succeed, what comes of a read or a write that fails in mid-stream, and what words mean.
-//! Each test passes whichever single request for memory is refused: on `Memory` it calls again.
+//! What no clause says: that calls succeed, what comes of a read or a write that fails in
+//! mid-stream, and what words mean. Each test passes whichever single request for memory is
+//! refused: on `Memory` it calls again.
 
 mod fakes;
 
@@ -94,7 +95,10 @@ fn reads_without_end_are_given_up(rt: HostRuntime) {
 #[test]
 fn a_long_input_comes_whole(rt: HostRuntime) -> Result<(), Fail> {
     let end = 1_000_003;
-    let read = read_all(rt.alloc(), Places { next: 0, end }).answer?;
+    let reading = read_all(rt.alloc(), Places { next: 0, end });
+    // 123 pieces and the end
+    assert_eq!(rt; reading.reads, 124);
+    let read = reading.answer?;
     assert_eq!(rt; read.len(), 1_000_003);
     let mut place = 0u32;
     for byte in &read {

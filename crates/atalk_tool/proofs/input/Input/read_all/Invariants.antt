@@ -1,4 +1,4 @@
-use Rattle.std.proofs.Common.{◌≡◌, ◌≤◌, take, vec_len, vec_items}
+use Rattle.std.proofs.Common.{◌≡◌, ◌≤◌, vec_items}
 use Rattle.std.specs.Io.KnownBytes.{Consumes}
 use Rattle.atalk_tool.proofs.input.Input.read_all.Given as goal
 
@@ -6,6 +6,6 @@ abbrev pub invariant-loop-turn : goal.invariant-loop-turn
 invariant-loop-turn g l = record {
   turns : l._turn ≤ l.self.reads;
   sound : l.self.failed ≡ l.initial.self.failed;
-  within : l.filled ≤ vec_len l.bytes;
-  taken : Consumes (g.R.Read.remaining l.initial.self.reader) (g.R.Read.remaining l.self.reader) (take l.filled (vec_items l.bytes));
+  taken : Consumes (g.R.Read.remaining l.initial.self.reader) (g.R.Read.remaining l.self.reader)
+      (vec_items l.bytes);
 }
