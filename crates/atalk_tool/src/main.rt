@@ -37,7 +37,8 @@ fn audit_reader<R: Print + AllocGlobal, S: Read + Drop>(rt: &R, reader: S) -> Re
     audit_file(rt.alloc(), &mut input, &mut output)
 }
 
-/// Audits the image of the source. Besides the errors of the audit, `ReadFault` where a file can't be opened.
+/// Audits the image of the source. Besides the errors of the audit, `ReadFault` where a file can't
+/// be opened.
 fn audit_source<R: Files + Input + Print + AllocGlobal>(
     rt: &R,
     source: Source<'_>,
@@ -66,8 +67,10 @@ fn finish(rt: &impl Eprint, answer: Result<bool, Error>) -> u8
 /// Prints what the words got in place of a job, and returns the exit status.
 fn explain(rt: &(impl Print + Eprint), error: &clap::Error) -> u8
     ensures memory { kind_of error.now ≡ ErrorKind.OutOfMemory → result ≡ 3 }
-    ensures shown { (kind_of error.now ≡ ErrorKind.DisplayHelp) ⊎ (kind_of error.now ≡ ErrorKind.DisplayVersion) → (result ≡ 0) ⊎ (result ≡ 3) }
-    ensures wrong { kind_of error.now ≢ ErrorKind.OutOfMemory → kind_of error.now ≢ ErrorKind.DisplayHelp
+    ensures shown { (kind_of error.now ≡ ErrorKind.DisplayHelp)
+        ⊎ (kind_of error.now ≡ ErrorKind.DisplayVersion) → (result ≡ 0) ⊎ (result ≡ 3) }
+    ensures wrong { kind_of error.now ≢ ErrorKind.OutOfMemory
+        → kind_of error.now ≢ ErrorKind.DisplayHelp
         → kind_of error.now ≢ ErrorKind.DisplayVersion → result ≡ 2 }
 {
     if error.kind() == ErrorKind::OutOfMemory {

@@ -26,9 +26,12 @@ impl<W: Write> Output<W> {
         }
     }
 
-    /// Writes the text and an end of line, and flushes. Error: `WriteFault`, only where the writer failed.
+    /// Writes the text and an end of line, and flushes. Error: `WriteFault`, only where the writer
+    /// failed.
     pub fn write_line(&mut self, text: &[u8]) -> Result<(), Error>
-        ensures ok { OnOk result (Appends (W.contents self.old.writer) (W.contents self.new.writer) (text.now ++ 10 ∷ [])) }
+        ensures ok { OnOk result
+            (Appends (W.contents self.old.writer) (W.contents self.new.writer)
+            (text.now ++ 10 ∷ [])) }
         ensures fault { OnErr result (self.new.failed ≡ true) }
         ensures refused { IsOkUnless result Error.WriteFault }
         ensures stays { OnOk result (self.new.failed ≡ self.old.failed) }
@@ -45,7 +48,8 @@ impl<W: Write> Output<W> {
 
 /// Writes the text and an end of line, and flushes.
 fn put_line<W: Write>(writer: &mut W, text: &[u8]) -> io::Result<()>
-    ensures { OnOk result (Appends (W.contents writer.old) (W.contents writer.new) (text.now ++ 10 ∷ [])) }
+    ensures { OnOk result
+        (Appends (W.contents writer.old) (W.contents writer.new) (text.now ++ 10 ∷ [])) }
 {
     writer.write_all(text)?;
     writer.write_all(b"\n")?;

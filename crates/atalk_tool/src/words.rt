@@ -1,9 +1,12 @@
 //! The command line: what its words ask for, and the help that it answers.
 
-ghost use Rattle.std.specs.Prelude.{◌≡◌, ◌≢◌, ◌⊎◌, ◌≤◌, List, ℕ, [], ◌∷◌, None, false, codes, length, map, IfOk, IfErr, IsErrAnd};
+ghost use Rattle.std.specs.Prelude.{◌≡◌, ◌≢◌, ◌⊎◌, ◌≤◌, ◌∷◌};
+ghost use Rattle.std.specs.Prelude.{List, ℕ, [], None, false, codes, length, map};
+ghost use Rattle.std.specs.Prelude.{IfOk, IfErr, IsErrAnd};
 ghost use Rattle.clap.specs.Words.{app_of, kind_of, subcommand_rows_of};
 ghost use Rattle.clap.specs.declared.Command.TheViews.{out-Command as fields_of};
-ghost use Rattle.clap.specs.declared.error.ErrorKind.TheVariants.{DisplayHelp, DisplayVersion, OutOfMemory};
+ghost use Rattle.clap.specs.declared.error.ErrorKind.TheVariants.{DisplayHelp, DisplayVersion};
+ghost use Rattle.clap.specs.declared.error.ErrorKind.TheVariants.{OutOfMemory};
 ghost use Rattle.atalk_tool.specs.Words.{atalk_app, audit_app};
 
 use clap::{Arg, ArgAction, ArgMatches, Command, Error};
@@ -71,8 +74,10 @@ fn atalk_command<'a>(alloc: Global) -> Result<Command<'a>, AllocError>
 
 /// Reads the words, of which the first is the program's own name.
 pub fn read_words<'a, S: AsStr>(alloc: Global, words: &'a [S]) -> Result<Job<'a>, Error>
-    // No words at all ask for an audit of standard input, and that is refused only for want of memory.
-    ensures alone { length words.entry.now ≤ 1 → IfOk result (λ job. job ≡ Job.Audit Source.StandardInput) }
+    // No words at all ask for an audit of standard input, and that is refused only for want of
+    // memory.
+    ensures alone { length words.entry.now ≤ 1
+        → IfOk result (λ job. job ≡ Job.Audit Source.StandardInput) }
     ensures alone_err { length words.entry.now ≤ 1 → IfErr result (λ e. kind_of e ≡ OutOfMemory) }
     // Help and the version are answered as such.
     ensures help { (name : List ℕ) → map S.text words.entry.now ≡ name ∷ codes "--help" ∷ []
