@@ -1,21 +1,21 @@
 -- What the checks of parts say, part by part.
-use Rattle.std.proofs.Common.{◌≡◌, ℕ, suc, ◌+◌, ◌*◌, ◌^◌, ◌<◌, ◌≤◌, Bool, true, false, cond, ltb, ◌&&◌, not, nat_le, ◌-◌, List, [], ◌∷◌, ◌++◌, length, Option, Some, None, Result, Ok, Err, refl, sym, ap, subst, ◌∙◌, arith, inl, inr}
+use Rattle.std.proofs.Common.{◌≡◌, ℕ, ◌+◌, ◌^◌, ◌<◌, ◌≤◌, Bool, true, false, ltb, ◌&&◌, not, nat_le, ◌-◌, List, [], length, Some, None, Result, Ok, Err, refl, sym, ap, subst, arith, inl, inr}
 use Rattle.std.specs.List.{list_all}
 use Rattle.std.proofs.lemmas.Bool.{le-ltb, lt-ltb, and_parts, leb-true}
-use Rattle.std.proofs.lemmas.List.{length-append, append-nil}
+use Rattle.std.proofs.lemmas.List.{length-append}
 use Rattle.at_base.specs.declared.error.Cause.{Cause}
 use Rattle.at_base.specs.declared.error.Cause.TheVariants.{Count, Index, Name, Order, Value}
 use Rattle.at_base.specs.declared.address.Addr.{Addr}
 use Rattle.rtmp.specs.declared.state.State.{State}
 use Rattle.rtmp.specs.declared.state.State.TheVariants.{Good, Suspect, Bad, Last}
 use Rattle.at_base.specs.Text.{is_name, IsName, is_printable, is_only}
-use Rattle.at_base.specs.Grammar.{Grammar, Field, number, one, done, field, part}
+use Rattle.at_base.specs.Grammar.{Grammar, Field, done, field, part}
 use Rattle.at_base.specs.FirstFault.{field_len}
 use Rattle.at_base.proofs.Fields.{length-field_bytes}
 use Rattle.at_base.specs.Spelling.{field_bytes, list_bytes, bytes_of, IsValue, Passes}
 use Rattle.table_image.specs.Flaws.{Wrong, Here, Before}
 use Rattle.table_image.specs.Tests.{within, below, rising, is_entity}
-use Rattle.table_image.specs.Spelling.{counted, text_spelling, zone_spelling, zones_spelling, address_spelling, port_spelling, row_spelling, state_number, state_of, zone_list_spelling, cable_spelling, router_spelling, own_router_spelling, name_spelling, node_spelling}
+use Rattle.table_image.specs.Spelling.{counted, text_spelling, zone_spelling, address_spelling, port_spelling, row_spelling, state_number, state_of}
 use Rattle.table_image.specs.Checking.{FlawAt, Checks, ChecksList}
 use Rattle.table_image.specs.declared.checking.Misfit.{Misfit}
 use Rattle.table_image.specs.declared.router.Port.{Port}

@@ -1,13 +1,11 @@
 -- What the checks of parts with lists say.
-use Rattle.std.proofs.Common.{◌≡◌, ℕ, suc, ◌+◌, ◌*◌, ◌^◌, ◌<◌, ◌≤◌, Bool, true, false, cond, ltb, ◌&&◌, nat_le, List, [], ◌∷◌, ◌++◌, length, Option, Some, None, Result, Ok, Err, refl, sym, ap, subst, ◌∙◌, arith, inl, inr}
+use Rattle.std.proofs.Common.{◌≡◌, ℕ, ◌+◌, ◌^◌, ◌<◌, ◌≤◌, Bool, true, false, ltb, ◌&&◌, nat_le, List, [], ◌∷◌, length, Some, None, Result, Ok, Err, refl, ap, subst, arith, inl, inr}
 use Rattle.std.specs.List.{list_all}
 use Rattle.std.proofs.lemmas.Bool.{and_parts, leb-true, le-ltb, lt-ltb}
 use Rattle.std.specs.Prelude.{◌⊎◌}
-use Rattle.at_base.specs.declared.error.Cause.{Cause}
-use Rattle.at_base.specs.declared.error.Cause.TheVariants.{Index, Name, Order, Value}
+use Rattle.at_base.specs.declared.error.Cause.TheVariants.{Index, Order, Value}
 use Rattle.at_base.specs.declared.address.Addr.{Addr}
-use Rattle.at_base.specs.Text.{is_name}
-use Rattle.at_base.specs.Grammar.{Grammar, Field, number, run, one, two, done, field, part}
+use Rattle.at_base.specs.Grammar.{Grammar, Field, done, field, part}
 use Rattle.at_base.specs.FirstFault.{field_len}
 use Rattle.at_base.specs.Spelling.{bytes_of, IsValue, Passes}
 use Rattle.table_image.specs.Flaws.{Wrong, Here}
@@ -16,7 +14,7 @@ use Rattle.table_image.specs.Short.{short_list, short_router}
 use Rattle.table_image.specs.Limits.{most, most_ports, most_names}
 use Rattle.table_image.specs.Spelling.{counted, text_spelling, zone_spelling, zones_spelling, address_spelling, port_spelling, row_spelling, zone_list_spelling, flag_number, flag_of, cable_spelling, router_spelling, own_router_spelling, name_spelling, node_spelling, front_spelling, image_spelling}
 use Rattle.table_image.specs.Internet.{Internet}
-use Rattle.table_image.specs.Checking.{FlawAt, Checks, told}
+use Rattle.table_image.specs.Checking.{Checks}
 use Rattle.table_image.specs.declared.checking.Misfit.{Misfit}
 use Rattle.table_image.specs.declared.cable.Cable.{Cable}
 use Rattle.table_image.specs.declared.router.ZoneList.{ZoneList}

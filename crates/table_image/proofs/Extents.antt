@@ -1,9 +1,9 @@
 -- How far a format reaches: a value takes at most so many bytes, and a flaw is told at most so many bytes from the start.
 -- So the place of a flaw in an image fits 32 bits.
-use Rattle.std.proofs.Common.{◌≡◌, ℕ, zero, suc, ◌+◌, ◌*◌, ◌<◌, ◌≤◌, Bool, true, false, List, [], ◌∷◌, ◌++◌, length, take, drop, Option, Some, None, Result, Ok, Err, refl, sym, ap, subst, ◌∙◌, arith, inl, inr}
+use Rattle.std.proofs.Common.{◌≡◌, ℕ, zero, suc, ◌+◌, ◌*◌, ◌≤◌, Bool, true, List, [], ◌∷◌, length, Some, None, Result, Ok, Err, ap, subst, arith, inl, inr}
 use Rattle.std.proofs.lemmas.List.{length-append}
-use Rattle.at_base.specs.Grammar.{Grammar, done, field, part, list, Field, number, run, one, two}
-use Rattle.at_base.specs.Spelling.{Passes, IsValue}
+use Rattle.at_base.specs.Grammar.{Grammar, done, field, part, list, Field, number, run, one}
+use Rattle.at_base.specs.Spelling.{Passes}
 use Rattle.at_base.specs.FirstFault.{field_len}
 use Rattle.at_base.specs.Reading.{read, field_at, list_at, ◌>>=◌}
 use Rattle.at_base.proofs.Fields.{IsBytes, ok, ok_is, bind_ok, bind_err, field_takes, field_fault, length-field_bytes}

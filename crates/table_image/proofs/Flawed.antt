@@ -1,8 +1,8 @@
 -- The first flaw of a value is the first fault of its bytes, whatever follows them.
-use Rattle.std.proofs.Common.{◌≡◌, ℕ, zero, suc, ◌+◌, ◌-◌, ◌≤◌, ◌⊎◌, true, List, [], ◌∷◌, ◌++◌, length, Some, refl, sym, ap, subst, ◌∙◌, append_assoc, arith, inl, inr}
+use Rattle.std.proofs.Common.{◌≡◌, ℕ, suc, ◌+◌, true, List, [], ◌∷◌, ◌++◌, length, refl, sym, ap, subst, ◌∙◌, append_assoc, arith, inl, inr}
 use Rattle.std.proofs.lemmas.List.{length-append}
 use Rattle.at_base.specs.Grammar.{Grammar, done, field, part, list, room}
-use Rattle.at_base.specs.Spelling.{field_bytes, Fits, wrong_with, Passes, list_bytes, bytes_of, ListPasses, IsValue}
+use Rattle.at_base.specs.Spelling.{field_bytes, list_bytes, bytes_of, IsValue}
 use Rattle.at_base.specs.FirstFault.{field_len, ListFault, FirstFault}
 use Rattle.at_base.proofs.Fields.{length-field_bytes}
 use Rattle.table_image.specs.Flaws.{Wrong, flaw_of, flaws}

@@ -1,12 +1,9 @@
 -- Images of parts that are handed in.
-use Rattle.std.proofs.Common.{◌≡◌, ℕ, zero, suc, ◌+◌, ◌-◌, ◌≤◌, ◌<◌, ◌^◌, Bool, true, false, ◌&&◌, nat_le, List, [], ◌∷◌, ◌++◌, length, Option, Some, None, Result, Ok, Err, refl, sym, ap, subst, ◌∙◌, arith, inl, inr}
+use Rattle.std.proofs.Common.{◌≡◌, ℕ, ◌+◌, ◌-◌, Bool, true, ◌&&◌, nat_le, List, [], ◌∷◌, length, Err, refl, sym, ap, subst, ◌∙◌, arith, inl}
 use Rattle.std.specs.List.{list_all}
 use Rattle.std.proofs.lemmas.Bool.{le-leb}
 use Rattle.std.proofs.lemmas.List.{append-nil}
-use Rattle.at_base.specs.declared.error.Cause.TheVariants.{Count}
-use Rattle.at_base.specs.declared.error.Error.{Error}
 use Rattle.at_base.specs.declared.error.Error.TheVariants.{BadImage}
-use Rattle.at_base.specs.Grammar.{Grammar}
 use Rattle.at_base.specs.Spelling.{bytes_of, ListPasses, IsValue}
 use Rattle.at_base.specs.FirstFault.{FirstFault}
 use Rattle.table_image.specs.Internet.{Internet}
@@ -15,7 +12,7 @@ use Rattle.table_image.specs.Flaws.{Wrong, Here, Before, flaw_of, flaws}
 use Rattle.table_image.specs.Short.{short_cable, short_list, short_router, short_node, is_short}
 use Rattle.table_image.specs.Spelling.{counted, zone_spelling, zones_spelling, cable_spelling, port_spelling, row_spelling, zone_list_spelling, router_spelling, name_spelling, node_spelling, front_spelling, image_spelling}
 use Rattle.table_image.specs.Reading.{IsFirstFlaw, refusal}
-use Rattle.table_image.specs.Checking.{FlawAt, Checks, told}
+use Rattle.table_image.specs.Checking.{Checks, told}
 use Rattle.table_image.specs.declared.flaw.Flaw.{Flaw}
 use Rattle.table_image.specs.declared.checking.Misfit.{Misfit}
 use Rattle.table_image.specs.declared.cable.Cable.{Cable}
@@ -23,8 +20,8 @@ use Rattle.table_image.specs.declared.router.ZoneList.{ZoneList}
 use Rattle.table_image.specs.declared.router.Router.{Router}
 use Rattle.table_image.specs.declared.node.Node.{Node}
 use Rattle.table_image.proofs.Bounds.{counted_few, counted_each}
-use Rattle.table_image.proofs.Flawed.{Flawed, flawed_first}
-use Rattle.table_image.proofs.Whole.{all_again, all_refused, one_flaw, no_flaw}
+use Rattle.table_image.proofs.Flawed.{flawed_first}
+use Rattle.table_image.proofs.Whole.{all_refused, one_flaw, no_flaw}
 
 -- ---- what is an image is short
 

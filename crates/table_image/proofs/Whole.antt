@@ -1,15 +1,14 @@
 -- Whole images: what is read, what is accepted, what is refused, and where.
-use Rattle.std.proofs.Common.{◌≡◌, ℕ, ◌+◌, ◌^◌, ◌≤◌, ◌<◌, Bool, true, false, cond, eqb, List, [], ◌∷◌, ◌++◌, length, Result, Ok, Err, refl, sym, ap, subst, ◌∙◌, inl, inr, arith}
-use Rattle.std.specs.Prelude.{◌≢◌, ◌⊎◌}
-use Rattle.std.proofs.lemmas.Bool.{eqb-true, cases_eq}
+use Rattle.std.proofs.Common.{◌≡◌, ℕ, ◌+◌, ◌^◌, ◌≤◌, ◌<◌, Bool, true, false, cond, eqb, List, [], ◌++◌, length, Ok, Err, refl, sym, ap, subst, ◌∙◌, inl, inr, arith}
+use Rattle.std.specs.Prelude.{◌≢◌}
+use Rattle.std.proofs.lemmas.Bool.{eqb-true}
 use Rattle.std.proofs.lemmas.List.{append-nil, nil_from_length}
 use Rattle.at_base.specs.declared.error.Cause.TheVariants.{Trailing}
 use Rattle.at_base.specs.declared.error.Error.{Error}
 use Rattle.at_base.specs.declared.error.Error.TheVariants.{Memory}
-use Rattle.at_base.specs.Spelling.{bytes_of, IsValue, Spells}
-use Rattle.at_base.specs.FirstFault.{FirstFault}
+use Rattle.at_base.specs.Spelling.{bytes_of, Spells}
 use Rattle.at_base.specs.Reading.{read}
-use Rattle.at_base.proofs.Fields.{IsBytes, ok_is, err_is, bind_ok, bind_err, pass_ok, pass_err}
+use Rattle.at_base.proofs.Fields.{IsBytes, err_is, bind_ok, bind_err, pass_ok, pass_err}
 use Rattle.at_base.proofs.Laws.{read_takes, read_again, read_fault, read_refused, follows_all}
 use Rattle.table_image.specs.Internet.{Internet}
 use Rattle.table_image.specs.Flaws.{Here, flaw_of, flaws}

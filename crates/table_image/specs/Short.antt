@@ -1,5 +1,5 @@
 -- Lists that are no longer than an image may have them. (own)
-use Rattle.std.specs.Prelude.{ℕ, Bool, ◌&&◌, List, length, nat_le}
+use Rattle.std.specs.Prelude.{Bool, ◌&&◌, length, nat_le}
 use Rattle.std.specs.List.{list_all}
 use Rattle.table_image.specs.Internet.{Internet}
 use Rattle.table_image.specs.Limits.{most, most_ports, most_zones, most_names}

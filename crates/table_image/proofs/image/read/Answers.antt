@@ -1,7 +1,6 @@
-use Rattle.std.proofs.Common.{refl, ap, ◌∙◌, inr, arith, Ok, Err}
+use Rattle.std.proofs.Common.{ap, ◌∙◌, inr, arith, Err}
 use Rattle.at_base.specs.declared.error.Error.{Error}
-use Rattle.table_image.specs.declared.flaw.Flaw.{Flaw}
-use Rattle.table_image.specs.Reading.{refusal, image_at}
+use Rattle.table_image.specs.Reading.{refusal}
 use Rattle.table_image.proofs.Whole.{all_takes, all_refuses, place_fits, one_flaw, one_reading, read_no_flaw, no_flaw, only_memory}
 use Rattle.table_image.proofs.image.read.Goals as goal
 

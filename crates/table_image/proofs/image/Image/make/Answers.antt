@@ -1,4 +1,4 @@
-use Rattle.std.proofs.Common.{◌≡◌, ap, sym, ◌∙◌, arith, Err, true, false}
+use Rattle.std.proofs.Common.{◌≡◌, ap, sym, ◌∙◌, Err, true, false}
 use Rattle.at_base.specs.declared.error.Error.{Error}
 use Rattle.table_image.specs.Internet.{Internet}
 use Rattle.table_image.specs.Short.{is_short}

@@ -1,5 +1,5 @@
-use Rattle.std.proofs.Common.{rules, sym, subst, ap, arith}
-use Rattle.table_image.proofs.CheckedParts.{router_ports, router_rows, router_checks, router_short, all_true}
+use Rattle.std.proofs.Common.{rules, arith}
+use Rattle.table_image.proofs.CheckedParts.{router_ports, router_rows, router_checks, all_true}
 use Rattle.table_image.proofs.router.RouterCheckItem.check_one.Goals as goal
 
 pub check_counted-requires : goal.check_counted-requires

@@ -1,4 +1,4 @@
-use Rattle.std.proofs.Common.{arith, ap, length, ◌+◌, List, ℕ}
+use Rattle.std.proofs.Common.{ap, length, ◌+◌, List, ℕ}
 use Rattle.table_image.proofs.Checked.{name_passes}
 use Rattle.table_image.proofs.zones.NameCheckItem.check_one.Goals as goal
 
