@@ -1,7 +1,8 @@
--- What a filter that has seen the earlier routers says of an address.
-use Rattle.std.proofs.Common.{◌≡◌, ℕ, ◌+◌, ◌*◌, ◌%◌, inl, inr, ◌||◌, ◌==◌, true, false, List, [], ◌∷◌, slice_index, slice_index_or, take, ap, ◌∙◌, refl}
+-- What a filter that has seen the earlier routers says of an address, and that a new one has no mark.
+use Rattle.std.proofs.Common.{◌≡◌, ℕ, ◌+◌, ◌*◌, ◌%◌, inl, inr, ◌||◌, ◌==◌, true, false, List, [], ◌∷◌, slice_index, slice_index_or, replicate, take, ap, ◌∙◌, refl, arith}
 use Rattle.std.specs.List.{list_any}
-use Rattle.std.proofs.lemmas.Bool.{and_parts, eqb-true, false_from_ne_true, or_parts, or_cases, both_ways}
+use Rattle.std.proofs.lemmas.Bool.{and_parts, cases_lt, eqb-true, false_from_ne_true, or_parts, or_cases, both_ways}
+use Rattle.std.proofs.lemmas.List.{get_or-replicate, get_or_past, length-replicate}
 use Rattle.at_base.specs.Text.{same_bytes}
 use Rattle.at_base.specs.declared.address.Addr.{Addr}
 use Rattle.at_base.specs.declared.address.Hw.{Hw}
@@ -11,6 +12,17 @@ use Rattle.audit.specs.Rules.{router_has, same_hardware}
 use Rattle.audit.specs.Seen.{HasSeenBelow, address_slot, hardware_slot, may_have}
 use Rattle.audit.specs.declared.seen.Seen.{Seen}
 use Rattle.audit.proofs.Finding.{any_at, from_take}
+
+no_mark : (n i : ℕ) → slice_index_or (replicate n false) i false ≡ false
+no_mark n i =
+    elim (cases_lt i n) [
+      | inl within ↦ get_or-replicate n i false false within
+      | inr past ↦ let long = length-replicate n false in get_or_past (replicate n false) i false (omega (arith, long, past))
+    ]
+
+-- two tables without a mark say no of any two places
+pub no_marks : (n m i j : ℕ) → (slice_index_or (replicate n false) i false || slice_index_or (replicate m false) j false) ≡ false
+no_marks n m i j = ap (λ b. b || slice_index_or (replicate m false) j false) (no_mark n i) ∙ no_mark m j
 
 -- the same bytes are one list
 equal_bytes : (xs ys : List ℕ) → same_bytes xs ys ≡ true → xs ≡ ys

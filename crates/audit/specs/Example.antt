@@ -10,6 +10,7 @@ use Rattle.table_image.specs.declared.router.Row.{Row}
 use Rattle.table_image.specs.declared.router.ZoneList.{ZoneList}
 use Rattle.table_image.specs.declared.router.Router.{Router}
 
+-- the address of a network and a node's number there
 abbrev pub addr : ℕ → ℕ → Addr
 addr net node = record { net = net; node = node }
 
@@ -17,6 +18,7 @@ addr net node = record { net = net; node = node }
 abbrev pub hardware : ℕ → Hw
 hardware byte = record { 0 = 2 ∷ 0 ∷ 0 ∷ 0 ∷ 0 ∷ byte ∷ [] }
 
+-- a port on the cable, by its address, and by the hardware address that ends in this byte
 abbrev pub port : ℕ → Addr → ℕ → Port
 port cable address byte = record { cable = cable; address = address; hardware = hardware byte }
 

@@ -39,6 +39,7 @@ abbrev pub bad_cable : ℕ → Cable → Bool
 bad_cable before c =
     c.start == 0 || nat_lt c.end c.start || nat_lt 0xFEFF c.end || nat_le c.start before || length c.zones == 0 || has_double c.zones
 
+-- broken by a cable that is bad after the one before it
 abbrev pub c1 : Internet → Place → Bool
 c1 i (place.Cable (suc k)) = on (slice_get i.cables k) (bad_cable (end_before i.cables k))
 c1 i _ = false
@@ -76,6 +77,7 @@ bad_node i k node =
     || list_any (router_has node.address node.hardware) i.routers
     || list_any (node_has node.address node.hardware) (take k i.nodes)
 
+-- broken by a router's port, or a node, that isn't addressed as each station must be
 abbrev pub c2 : Internet → Place → Bool
 c2 i (place.Port (suc r) (suc p)) = on (slice_get i.routers r) (λ router. on (slice_get router.ports p) (bad_port i r p router))
 c2 i (place.Node (suc k)) = on (slice_get i.nodes k) (bad_node i k)
@@ -105,6 +107,7 @@ bad_range i router row = not (is_usable row.state && is_some (cable_of i row))
 abbrev pub lacks_row : Router → Cable → Bool
 lacks_row router c = not (list_any (λ row. is_for row c) router.rows)
 
+-- broken by a row that no datagram may use or that is for no cable, and by a cable that a router has no row for
 abbrev pub c3 : Internet → Place → Bool
 c3 i (place.Row (suc r) (suc k)) = at_row i r k (bad_range i)
 c3 i (place.Missing (suc r) (suc k)) = on (slice_get i.routers r) (λ router. on (slice_get i.cables k) (lacks_row router))
@@ -122,12 +125,14 @@ abbrev pub bad_direct : Row → Option ℕ → Bool
 bad_direct row (Some p) = not (row.distance == 0 && row.port == p && is_direct row)
 bad_direct row None = row.distance == 0 || is_direct row
 
+-- broken by a row for a router's own cable that isn't direct by its port there, or for another cable that claims to be
 abbrev pub c4 : Internet → Place → Bool
 c4 i (place.Row (suc r) (suc k)) = at_row i r k (λ router row. on (cable_of i row) (λ c. bad_direct row (port_on router c)))
 c4 i _ = false
 
 -- ---- C5: distances fit
 
+-- broken by a row whose distance is above 14: a datagram's hops don't reach so far
 abbrev pub c5 : Internet → Place → Bool
 c5 i (place.Row (suc r) (suc k)) = at_row i r k (λ router row. nat_lt 14 row.distance)
 c5 i _ = false
@@ -143,6 +148,7 @@ abbrev pub is_no_other : ℕ → Option ℕ → Bool
 is_no_other r None = true
 is_no_other r (Some s) = r == s
 
+-- broken by a row that isn't direct and has no other router as its next
 abbrev pub c6 : Internet → Place → Bool
 c6 i (place.Row (suc r) (suc k)) = at_row i r k (λ router row. not (is_direct row) && is_no_other r (next_router i router row))
 c6 i _ = false
@@ -164,6 +170,7 @@ abbrev pub bad_step : Internet → Row → Option ℕ → Bool
 bad_step i row None = true
 bad_step i row (Some s) = not_one_less row (same_row (slice_get i.routers s) row)
 
+-- broken by a row that isn't direct and whose next router isn't one nearer
 abbrev pub c7 : Internet → Place → Bool
 c7 i (place.Row (suc r) (suc k)) = at_row i r k (λ router row. not (is_direct row) && bad_step i row (next_router i router row))
 c7 i _ = false

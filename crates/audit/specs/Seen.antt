@@ -18,6 +18,10 @@ hardware_slot h = slice_index h.0 5 + 256 * slice_index h.0 4
 abbrev pub may_have : Seen → Addr → Hw → Bool
 may_have seen a h = slice_index_or seen.addresses (address_slot a) false || slice_index_or seen.hardware (hardware_slot h) false
 
+-- the filter has seen no address and no hardware address
+abbrev pub HasSeenNothing : Seen → Type 0
+HasSeenNothing seen = (a : Addr) (h : Hw) → may_have seen a h ≡ false
+
 -- the filter has seen both
 pub record HasSeen (seen : Seen) (a : Addr) (h : Hw) : Type 0 where
   pub address : slice_index_or seen.addresses (address_slot a) false ≡ true

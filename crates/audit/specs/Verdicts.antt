@@ -1,5 +1,5 @@
 -- Verdicts: which are right, and how they read. (own)
-use Rattle.std.specs.Prelude.{◌≡◌, ℕ, ◌+◌, ◌<◌, ◌≤◌, ◌⊎◌, true, false, List, [], ◌∷◌, ◌++◌, length, map, max, sum_by, codes}
+use Rattle.std.specs.Prelude.{◌≡◌, ℕ, ◌<◌, ◌≤◌, ◌⊎◌, true, false, List, [], ◌∷◌, ◌++◌, length, map, max, sum_by, codes}
 use Rattle.std.specs.Fmt.{decimal}
 use Rattle.at_base.specs.declared.error.Place.{Place}
 use Rattle.at_base.specs.declared.error.Place.TheVariants.{Cable, Port, Node, Row, Missing, List as ZonesOf}

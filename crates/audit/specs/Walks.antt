@@ -3,7 +3,7 @@ use Rattle.std.specs.Prelude.{◌≡◌, ◌≢◌, ℕ, ◌+◌, ◌≤◌, ◌
 use Rattle.at_base.specs.declared.address.Addr.{Addr}
 use Rattle.table_image.specs.Internet.{Internet}
 use Rattle.table_image.specs.Seats.{Seat, seats, same_address}
-use Rattle.table_image.specs.Routing.{Hand, Here, On, hand, home, owner, distance}
+use Rattle.table_image.specs.Routing.{Here, On, hand, home, owner, distance}
 use Rattle.audit.specs.Rules.{same_hardware}
 use Rattle.table_image.specs.declared.router.Port.{Port}
 use Rattle.table_image.specs.declared.router.Router.{Router}

@@ -15,16 +15,23 @@ use at_base::Error;
 use std::alloc::Global;
 use table_image::read;
 
-/// Judges the internet whose image the bytes spell. Errors: `BadImage`, the first flaw of bytes that spell no image;
-/// `Memory`, only where they spell one. (own)
+/// Judges the internet whose image the bytes spell. Errors: `BadImage`, the first flaw of bytes
+/// that spell no image; `Memory`, only where they spell one. (own)
 pub fn audit_bytes(alloc: Global, bytes: &[u8]) -> Result<Verdict, Error>
     // The verdict is that of the image that the bytes spell.
-    ensures judged { IfOk result (λ verdict. (i : Internet) × Spells image_spelling bytes.now i × Judges i verdict × OnYes verdict (WalksHome i)) }
+    ensures judged { IfOk result (λ verdict.
+        (i : Internet)
+        × Spells image_spelling bytes.now i
+        × Judges i verdict
+        × OnYes verdict (WalksHome i)) }
     // What is spelled so is judged, unless memory runs out.
-    ensures only { (i : Internet) → Spells image_spelling bytes.now i → MatchResult result (Judges i) (λ e. e ≡ Error.Memory) }
+    ensures only { (i : Internet)
+        → Spells image_spelling bytes.now i
+        → MatchResult result (Judges i) (λ e. e ≡ Error.Memory) }
     // Where the bytes have a flaw, it is the answer.
     ensures first { (f : Flaw) → IsFirstFlaw bytes.now f → result ≡ Err (refusal bytes.now f) }
-    // A refusal is the first flaw, or for want of memory, and that only where the bytes spell an image.
+    // A refusal is the first flaw, or for want of memory, and that only where the bytes spell an
+    // image.
     ensures refused { IfErr result (Refuses bytes.now) }
 {
     let image = read(alloc, bytes)?;

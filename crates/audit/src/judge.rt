@@ -15,8 +15,8 @@ use crate::verdict::Verdict;
 use at_base::{Fault, Place};
 use table_image::Image;
 
-// The first place that breaks C6. Where distances fall, each next router is there and is another one, so the rows are
-// gone through once more only where C7 is broken.
+// The first place that breaks C6. Where distances fall, each next router is there and is another
+// one, so the rows are gone through once more only where C7 is broken.
 fn bad_next(image: &Image, hints: &Hints, steps: Option<Place>) -> Option<Place>
     requires cables { FirstPlace (c1 image.now) None }
     requires stations { FirstPlace (c2 image.now) None }
@@ -33,7 +33,8 @@ fn bad_next(image: &Image, hints: &Hints, steps: Option<Place>) -> Option<Place>
 
 /// Judges an internet by the rules, and takes no memory.
 pub fn audit(image: &Image) -> Verdict
-    // The verdict is right: yes exactly where every rule is kept, and else the first fault of the first broken rule.
+    // The verdict is right: yes exactly where every rule is kept, and else the first fault of the
+    // first broken rule.
     ensures judged { Judges image.now result }
     // One walk home: what a yes means for the ways of datagrams.
     ensures walks { OnYes result (WalksHome image.now) }

@@ -1,4 +1,5 @@
-//! The audit of an internet's tables: the rules, the verdict, and what a yes means for the ways of datagrams.
+//! The audit of an internet's tables: the rules, the verdict, and what a yes means for the ways of
+//! datagrams.
 #![tactic(auto)]
 
 mod bytes;

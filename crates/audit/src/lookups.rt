@@ -1,5 +1,5 @@
-//! What the rules about rows look up. Each look-up tries a hint first, since after rule C3 a router's
-//! row k is that of cable k; a wrong hint costs a search, and changes no answer.
+//! What the rules about rows look up. Each look-up tries a hint first, since after rule C3 a
+//! router's row k is that of cable k; a wrong hint costs a search, and changes no answer.
 
 ghost use Rattle.std.specs.Prelude.{◌≡◌, ◌==◌, ◌&&◌, None, Some, position, find};
 ghost use Rattle.std.specs.List.{list_any};
@@ -74,7 +74,8 @@ fn same_range(a: &Row, b: &Row) -> bool
 }
 
 fn search_rows<'a>(rows: &'a [Row], row: &Row) -> Option<&'a Row>
-    ensures { option_copied result ≡ find (λ other. other.start == row.now.start && other.end == row.now.end) rows.now }
+    ensures { option_copied result
+        ≡ find (λ other. other.start == row.now.start && other.end == row.now.end) rows.now }
 {
     rows.iter().find(|other| same_range(other, row))
 }
@@ -94,7 +95,8 @@ pub fn same_row(router: &Router, hint: usize, row: &Row) -> Option<Row>
 }
 
 fn has_seat(router: &Router, cable: u8, address: Addr) -> bool
-    ensures { result ≡ list_any (λ p. p.cable == cable && same p.address address) router.now.ports }
+    ensures { result
+        ≡ list_any (λ p. p.cable == cable && same p.address address) router.now.ports }
 {
     router
         .ports
@@ -104,7 +106,10 @@ fn has_seat(router: &Router, cable: u8, address: Addr) -> bool
 }
 
 fn search_routers(routers: &[Router], cable: u8, address: Addr) -> Option<usize>
-    ensures { result ≡ position (λ router. list_any (λ p. p.cable == cable && same p.address address) router.ports) routers.now }
+    ensures { result
+        ≡ position
+        (λ router. list_any (λ p. p.cable == cable && same p.address address) router.ports)
+        routers.now }
 {
     routers
         .iter()

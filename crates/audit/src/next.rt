@@ -10,9 +10,9 @@ use crate::lookups::{owner, same_row};
 use crate::ranges::is_direct;
 use table_image::{Image, Router, Row};
 
-/// For a cable and a node's number there, a router that may have the address: what it says is looked
-/// at before it is used. The network is left out, since a cable seldom has one node's number on two of
-/// its networks.
+/// For a cable and a node's number there, a router that may have the address: what it says is
+/// looked at before it is used. The network is left out, since a cable seldom has one node's number
+/// on two of its networks.
 #[derive(Drop)]
 pub struct Hints {
     routers: [u8; 65536],
@@ -26,6 +26,7 @@ fn slot(cable: u8, node: u8) -> usize
 
 impl Hints {
     /// The hints for the routers of the image.
+    // No clause says more: each hint is looked at before it is used, and a wrong one costs a search.
     pub fn of(image: &Image) -> Hints {
         let mut routers = [0; 65536];
         for (s, router) in image.routers().iter().enumerate() {
@@ -94,7 +95,9 @@ fn is_bad_step(image: &Image, k: usize, row: &Row, next: Option<usize>) -> bool
 /// Whether the row breaks rule C7.
 pub fn breaks_steps(image: &Image, hints: &Hints, router: &Router, k: usize, row: &Row) -> bool
     requires { FirstPlace (c2 image.now) None }
-    ensures { result ≡ (not (direct row.now) && bad_step image.now row.now (next image.now router.now row.now)) }
+    ensures { result
+        ≡ (not (direct row.now)
+        && bad_step image.now row.now (next image.now router.now row.now)) }
 {
     !is_direct(row) && is_bad_step(image, k, row, next_router(image, hints, router, row))
 }

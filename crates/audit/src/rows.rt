@@ -59,7 +59,9 @@ fn first_row(
     requires cables { FirstPlace (c1 image.now) None }
     requires stations { FirstPlace (c2 image.now) None }
     requires at { slice_get image.now.routers r ≡ Some router.now }
-    ensures first { FirstNumber (λ k. breaks_rows rule image.now (Place.Row (suc r) (suc k))) result }
+    ensures first { FirstNumber
+        (λ k. breaks_rows rule image.now (Place.Row (suc r) (suc k)))
+        result }
     ensures low { IfSome result (λ k. k < length router.now.rows) }
 {
     for (k, row) in router.rows.as_slice().iter().enumerate() {
@@ -91,7 +93,9 @@ fn first_lack(image: &Image, r: usize, router: &Router) -> Option<usize>
 
 fn first_missing(image: &Image, rule: RowRule, r: usize, router: &Router) -> Option<usize>
     requires { slice_get image.now.routers r ≡ Some router.now }
-    ensures first { FirstNumber (λ k. breaks_rows rule image.now (Place.Missing (suc r) (suc k))) result }
+    ensures first { FirstNumber
+        (λ k. breaks_rows rule image.now (Place.Missing (suc r) (suc k)))
+        result }
     ensures low { IfSome result (λ k. k < 200) }
 {
     match rule {

@@ -1,8 +1,8 @@
-//! A filter of the addresses that stations have: it says of almost every new address that no station
-//! before has it, so that few pairs of stations are compared.
+//! A filter of the addresses that stations have: it says of almost every new address that no
+//! station before has it, so that few pairs of stations are compared.
 
 ghost use Rattle.std.specs.Prelude.{◌≡◌, ◌<◌};
-ghost use Rattle.audit.specs.Seen.{HasSeen, HasSeenPorts, SeesMore};
+ghost use Rattle.audit.specs.Seen.{HasSeen, HasSeenNothing, HasSeenPorts, SeesMore};
 ghost use Rattle.audit.specs.Seen.{address_slot, hardware_slot, may_have as has_mark};
 
 use at_base::{Addr, Hw};
@@ -31,7 +31,9 @@ fn hardware_slot_of(h: &Hw) -> usize
 
 impl Seen {
     /// Nothing was seen yet.
-    pub fn new() -> Seen {
+    pub fn new() -> Seen
+        ensures { HasSeenNothing result }
+    {
         Seen {
             addresses: [false; 65536],
             hardware: [false; 65536],

@@ -126,7 +126,8 @@ fn first_port(image: &Image, seen: &Seen, r: usize, router: &Router) -> Option<u
 }
 
 fn bad_port(image: &Image, seen: &mut Seen) -> Option<Place>
-    ensures seen { IfNone result (HasSeenBelow seen.new image.now.routers (length image.now.routers)) }
+    ensures seen { IfNone result
+        (HasSeenBelow seen.new image.now.routers (length image.now.routers)) }
     ensures none { IfNone result ((r p : ℕ) → c2 image.now (Place.Port (suc r) (suc p)) ≡ false) }
     ensures found { IfSome result (λ place. FirstPlace (c2 image.now) (Some place)) }
 {

@@ -20,7 +20,10 @@ fn greatest_in(rows: &[Row]) -> u8
 }
 
 fn greatest_distance(routers: &[Router]) -> u8
-    ensures { result ≡ fold (λ g router. max g (fold (λ g row. max g row.distance) 0 router.rows)) 0 routers.now }
+    ensures { result
+        ≡ fold
+        (λ g router. max g (fold (λ g row. max g row.distance) 0 router.rows))
+        0 routers.now }
 {
     routers
         .iter()

@@ -44,7 +44,8 @@ fn told(alloc: Global, bytes: &[u8]) -> Result<String, Error> {
     audit_bytes(alloc, bytes)?.line(alloc)
 }
 
-/// A call that ran out of memory is made again: a test passes whichever request for memory is refused.
+/// A call that ran out of memory is made again: a test passes whichever request for memory is
+/// refused.
 fn told_again(alloc: Global, bytes: &[u8]) -> Result<String, Error> {
     match told(alloc, bytes) {
         Err(Error::Memory) => told(alloc, bytes),
@@ -130,8 +131,8 @@ fn line_cable(alloc: Global, k: u8) -> Result<Cable, Error> {
     })
 }
 
-/// How far router r is from cable j, by which port, and by which next router: nearer the start of the line by port 0,
-/// and nearer its end by port 1.
+/// How far router r is from cable j, by which port, and by which next router: nearer the start of
+/// the line by port 0, and nearer its end by port 1.
 fn way(r: u8, j: u8) -> (u8, u8, Addr) {
     if j < r {
         return (
