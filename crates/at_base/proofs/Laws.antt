@@ -1,12 +1,12 @@
 -- The laws of reading, for every format: what is read is spelled so; what is spelled so is read; a refusal is the first
 -- fault, and where there is a fault, it is the answer.
-use Rattle.std.proofs.Common.{◌≡◌, ℕ, ◌<◌, ◌≤◌, ◌⊎◌, Bool, true, false, ltb, List, [], ◌∷◌, ◌++◌, length, Option, Some, None, Result, Ok, Err, refl, sym, ap, subst, ◌∙◌, append_assoc, inl, inr, arith}
+use Rattle.std.proofs.Common.{◌≡◌, ℕ, ◌≤◌, Bool, true, false, ltb, List, [], ◌++◌, length, None, Ok, Err, refl, sym, ap, subst, ◌∙◌, append_assoc, inl, inr, arith}
 use Rattle.std.proofs.lemmas.Bool.{ltb-true, ltb-false, lt-ltb, le-ltb}
 use Rattle.std.proofs.lemmas.List.{length-append, append-nil}
 use Rattle.at_base.specs.Grammar.{Grammar, done, field, part, list, room, limit, many, Refusals}
 use Rattle.at_base.specs.Spelling.{field_bytes, Passes, list_bytes, bytes_of, ListPasses, IsValue, Follows}
 use Rattle.at_base.specs.FirstFault.{FirstFault, low_after}
-use Rattle.at_base.specs.Reading.{field_at, checked, ◌>>=◌, list_at, many_at, read}
+use Rattle.at_base.specs.Reading.{field_at, checked, list_at, many_at, read}
 use Rattle.at_base.specs.Lawful.{Has, IsLawful}
 use Rattle.at_base.proofs.Fields.{IsBytes, ok_is, err_is, bind_ok, bind_err, guard_ok, guard_err, checked_ok, checked_err, Took, field_takes, field_again, field_fault, field_refused}
 use Rattle.at_base.proofs.Items.{Took-then, list_takes, list_again, list_fault, many_takes, many_again, many_fault, list_refused, many_refused}

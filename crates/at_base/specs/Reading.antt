@@ -1,13 +1,13 @@
 -- Reading from left to right, as a function: the value and the bytes after it, or a refusal. The laws beside it say
 -- that it gives what is spelled there, and else the first fault. (own)
-use Rattle.std.specs.Prelude.{◌≡◌, ℕ, zero, suc, Bool, List, [], ◌∷◌, ◌++◌, length, take, drop, Option, Some, None, Result, Ok, Err, nat_lt, if◌then◌else◌}
+use Rattle.std.specs.Prelude.{◌≡◌, ℕ, zero, suc, Bool, List, [], ◌∷◌, length, take, drop, Option, Some, None, Result, Ok, Err, nat_lt, if◌then◌else◌}
 use Rattle.std.specs.Int.{byte_len, from_be_bytes}
 use Rattle.at_base.specs.Grammar.{width, Field, number, run, Grammar, done, field, part, list, room, limit, many, Refusals}
-use Rattle.at_base.specs.Spelling.{bytes_of, IsValue, Begins}
+use Rattle.at_base.specs.Spelling.{Begins}
 use Rattle.at_base.specs.FirstFault.{FirstFault}
 
--- go on with what was read
 infixl 10 ◌>>=◌
+-- go on with what was read, unless it was refused
 abbrev pub ◌>>=◌ : {E A B : Type 0} → Result A E → (A → Result B E) → Result B E
 (Ok x) >>= f = f x
 (Err e) >>= f = Err e

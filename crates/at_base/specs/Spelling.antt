@@ -1,7 +1,7 @@
 -- The bytes of a value, and which values a format has. (own)
-use Rattle.std.specs.Prelude.{◌≡◌, ℕ, ◌<◌, ◌≤◌, ◌^◌, ◌*◌, Bool, true, false, List, [], ◌∷◌, ◌++◌, length, Option, None}
+use Rattle.std.specs.Prelude.{◌≡◌, ℕ, ◌<◌, ◌≤◌, ◌^◌, ◌*◌, Bool, List, [], ◌∷◌, ◌++◌, length, Option, None}
 use Rattle.std.specs.Int.{byte_len, to_be_bytes}
-use Rattle.at_base.specs.Grammar.{Size, width, Field, number, run, Grammar, done, field, part, list, room, limit, many}
+use Rattle.at_base.specs.Grammar.{width, Field, number, run, Grammar, done, field, part, list, room, limit, many}
 
 -- the bytes of a field's value
 abbrev pub field_bytes : {W V : Type 0} → Field W V → V → List ℕ
