@@ -79,6 +79,7 @@ pub struct Fault {
     pub place: Place,
 }
 
+/// Why a call refuses.
 #[derive(Clone, Copy, Debug, PartialEq, Eq, ErrorImpls)]
 pub enum Error {
     #[error("truncated")]
