@@ -10,6 +10,7 @@ pub mod CableOrder
 pub mod Filter
 pub mod Finding
 pub mod Firsts
+pub mod HintSteps
 pub mod Owners
 pub mod RowOrder
 pub mod RowPlaces

@@ -1,4 +1,5 @@
 pub mod Firsts
+pub mod Hints
 pub mod RowRules
 pub mod Rules
 pub mod Seen

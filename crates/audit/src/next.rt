@@ -1,14 +1,16 @@
 //! Next routers: rule C6, that they are there, and rule C7, that they are one nearer.
 
-ghost use Rattle.std.specs.Prelude.{◌≡◌, ◌<◌, ◌&&◌, not, None, slice_get};
+ghost use Rattle.std.specs.Prelude.{◌≡◌, ◌≢◌, ◌<◌, ◌&&◌, ℕ, not, None, length, slice_get};
 ghost use Rattle.table_image.specs.Routing.{is_direct as direct};
 ghost use Rattle.audit.specs.Firsts.{FirstPlace};
+ghost use Rattle.audit.specs.Hints.{hint_slot, port_slot, hint_at, Names, FirstOr};
+ghost use Rattle.audit.specs.Hints.{HasHintsBelow};
 ghost use Rattle.audit.specs.Rules.{bad_step, is_no_other as no_other, next_router as next};
 ghost use Rattle.audit.specs.Rules.{same_row as same, not_one_less, c2};
 
 use crate::lookups::{owner, same_row};
 use crate::ranges::is_direct;
-use table_image::{Image, Router, Row};
+use table_image::{Image, Port, Router, Row};
 
 /// For a cable and a node's number there, a router that may have the address: what it says is
 /// looked at before it is used. The network is left out, since a cable seldom has one node's number
@@ -19,22 +21,42 @@ pub struct Hints {
 }
 
 fn slot(cable: u8, node: u8) -> usize
-    ensures { result < 65536 }
+    ensures value { result ≡ hint_slot cable node }
+    ensures low { result < 65536 }
 {
     cable as usize * 256 + node as usize
 }
 
 impl Hints {
-    /// The hints for the routers of the image.
-    // No clause says more: each hint is looked at before it is used, and a wrong one costs a search.
-    pub fn of(image: &Image) -> Hints {
-        let mut routers = [0; 65536];
-        for (s, router) in image.routers().iter().enumerate() {
-            for port in router.ports.as_slice() {
-                routers[slot(port.cable, port.address.node)] = (s % 256) as u8;
-            }
+    fn put(&mut self, s: u8, port: &Port)
+        ensures here { hint_at self.new (port_slot port.now) ≡ s }
+        ensures others { (slot : ℕ)
+            → slot ≢ port_slot port.now → hint_at self.new slot ≡ hint_at self.old slot }
+    {
+        self.routers[slot(port.cable, port.address.node)] = s;
+    }
+
+    fn add_ports(&mut self, s: u8, ports: &[Port])
+        ensures each { Names self.new s ports.now }
+        ensures others { (slot : ℕ) → FirstOr self.new self.old s ports.now slot }
+    {
+        for port in ports {
+            self.put(s, port);
         }
-        Hints { routers }
+    }
+
+    /// The hints for the routers of the image: the hint for a port names a router that has one on
+    /// that cable by that node's number.
+    pub fn of(image: &Image) -> Hints
+        ensures { HasHintsBelow result image.now.routers (length image.now.routers) }
+    {
+        let mut hints = Hints {
+            routers: [0; 65536],
+        };
+        for (r, router) in image.routers().iter().enumerate() {
+            hints.add_ports((r % 256) as u8, router.ports.as_slice());
+        }
+        hints
     }
 }
 
