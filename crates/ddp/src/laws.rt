@@ -4,29 +4,44 @@ ghost use Rattle.std.specs.Prelude.{◌≡◌, ℕ, ◌≤◌, List, ◌++◌, l
 ghost use Rattle.at_base.specs.Spelling.{bytes_of, Spells, Begins};
 ghost use Rattle.ddp.specs.declared.header.Header.{Header as HeaderValue};
 ghost use Rattle.ddp.specs.Datagram.{Datagram, datagram, datagram_of, length_of};
-ghost use Rattle.ddp.specs.Bodies.{named_length, hops as hops_in, target as target_in, body, with_hops};
+ghost use Rattle.ddp.specs.Bodies.{hops as hops_in, target as target_in};
+ghost use Rattle.ddp.specs.Bodies.{named_length, body, with_hops};
 
 /// What was written is read back, whatever follows it.
 pub fn written_is_read()
-    ensures { (h : HeaderValue) (payload bytes rest : List ℕ) → Spells datagram bytes (datagram_of h payload) → Begins datagram (bytes ++ rest) (datagram_of h payload) × ((d : Datagram) → Begins datagram (bytes ++ rest) d → d ≡ datagram_of h payload) }
+    ensures { (h : HeaderValue) (payload bytes rest : List ℕ)
+        → Spells datagram bytes (datagram_of h payload)
+        → Begins datagram (bytes ++ rest) (datagram_of h payload)
+        × ((d : Datagram) → Begins datagram (bytes ++ rest) d → d ≡ datagram_of h payload) }
 {}
 
 /// A set hop count is that hop count, and leaves body, target and length.
 pub fn hops_leave_the_body()
-    ensures { (n : ℕ) (bytes : List ℕ) → n ≤ 15 → 13 ≤ named_length bytes → (hops_in (with_hops n bytes) ≡ n) × (body (with_hops n bytes) ≡ body bytes) × (target_in (with_hops n bytes) ≡ target_in bytes) × (named_length (with_hops n bytes) ≡ named_length bytes) }
+    ensures { (n : ℕ) (bytes : List ℕ) → n ≤ 15 → 13 ≤ named_length bytes
+        → (hops_in (with_hops n bytes) ≡ n)
+        × (body (with_hops n bytes) ≡ body bytes)
+        × (target_in (with_hops n bytes) ≡ target_in bytes)
+        × (named_length (with_hops n bytes) ≡ named_length bytes) }
 {}
 
 /// Padding is no part of the body.
 pub fn padding_leaves_the_body()
-    ensures { (bytes rest : List ℕ) → named_length bytes ≤ length bytes → 2 ≤ length bytes → body (bytes ++ rest) ≡ body bytes }
+    ensures { (bytes rest : List ℕ) → named_length bytes ≤ length bytes → 2 ≤ length bytes
+        → body (bytes ++ rest) ≡ body bytes }
 {}
 
 /// The value that is read has the hop count, the target and the body of the bytes.
 pub fn value_agrees_with_bytes()
-    ensures { (bytes : List ℕ) (d : Datagram) → Begins datagram bytes d → (hops_in bytes ≡ d.hops) × (target_in bytes ≡ d.target) × (named_length bytes ≡ length_of d) × (body bytes ≡ bytes_of datagram (record d { hops = 0 })) }
+    ensures { (bytes : List ℕ) (d : Datagram) → Begins datagram bytes d
+        → (hops_in bytes ≡ d.hops)
+        × (target_in bytes ≡ d.target)
+        × (named_length bytes ≡ length_of d)
+        × (body bytes ≡ bytes_of datagram (record d { hops = 0 })) }
 {}
 
 /// What is written has hop count 0, so its body is all of it.
 pub fn written_has_no_hops()
-    ensures { (h : HeaderValue) (payload bytes : List ℕ) → Spells datagram bytes (datagram_of h payload) → (hops_in bytes ≡ 0) × (body bytes ≡ bytes) }
+    ensures { (h : HeaderValue) (payload bytes : List ℕ)
+        → Spells datagram bytes (datagram_of h payload)
+        → (hops_in bytes ≡ 0) × (body bytes ≡ bytes) }
 {}

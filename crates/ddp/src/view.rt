@@ -138,7 +138,8 @@ impl<'a> View<'a> {
     ///
     /// Error: `BadChecksum`, exactly where the field is neither 0 nor the sum.
     pub fn check(&self) -> Result<(), Error>
-        ensures ok { IsOk result ↔ ((self.now.checksum ≡ 0) ⊎ (self.now.checksum ≡ checksum_of self.now)) }
+        ensures ok { IsOk result
+            ↔ ((self.now.checksum ≡ 0) ⊎ (self.now.checksum ≡ checksum_of self.now)) }
         ensures refused { IsOkUnless result Error.BadChecksum }
     {
         let checksum = self.checksum();

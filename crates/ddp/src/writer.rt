@@ -1,6 +1,7 @@
 //! The writer of datagrams.
 
-ghost use Rattle.std.specs.Prelude.{◌≡◌, ◌⊎◌, ◌<◌, ◌≤◌, ◌↔◌, ◌++◌, length, drop, IfOk, IfErr, IsOkUnless, IsTrue, if◌then◌else◌};
+ghost use Rattle.std.specs.Prelude.{◌≡◌, ◌⊎◌, ◌<◌, ◌≤◌, ◌↔◌, ◌++◌, length, drop, IfOk, IfErr};
+ghost use Rattle.std.specs.Prelude.{IsOkUnless, IsTrue, if◌then◌else◌};
 ghost use Rattle.at_base.specs.Spelling.{Spells};
 ghost use Rattle.at_base.specs.Checksum.{sum_of};
 ghost use Rattle.ddp.specs.Datagram.{datagram, unsummed, datagram_of};
@@ -57,12 +58,13 @@ fn with_checksum(summed: bool, mut bytes: Vec<u8>) -> Vec<u8>
     bytes
 }
 
-/// The bytes of a datagram with this header and data, and hop count 0 (Inside AppleTalk, the chapter
-/// on DDP). Its checksum is the sum exactly where the header says so, and else 0.
+/// The bytes of a datagram with this header and data, and hop count 0 (Inside AppleTalk, the
+/// chapter on DDP). Its checksum is the sum exactly where the header says so, and else 0.
 ///
 /// Errors: `TooLong` above 586 bytes of data, `Memory`.
 pub fn write(alloc: Global, header: &Header, payload: &[u8]) -> Result<Bytes, Error>
-    ensures written { IfOk result (λ bytes. Spells datagram bytes (datagram_of header.now payload.now)) }
+    ensures written { IfOk result
+        (λ bytes. Spells datagram bytes (datagram_of header.now payload.now)) }
     ensures long { (result ≡ Err Error.TooLong) ↔ (586 < length payload.now) }
     ensures refused { IfErr result (λ e. (e ≡ Error.TooLong) ⊎ (e ≡ Error.Memory)) }
 {

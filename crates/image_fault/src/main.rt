@@ -1,5 +1,5 @@
-//! Prints what reading answers to the image on standard input: `image`, or the place and the cause of
-//! its first fault. `scripts/compare` holds that against another reader of images.
+//! Prints what reading answers to the image on standard input: `image`, or the place and the cause
+//! of its first fault. `scripts/compare` holds that against another reader of images.
 #![tactic(auto)]
 
 use at_base::Error;

@@ -59,8 +59,8 @@ impl Image {
             → result ≡ Err Error.Full }
         // Parts within the limits are judged as reading judges their bytes.
         ensures first { IsTrue (is_short (internet cables.items routers.items nodes.items))
-            → (f : ImageFlaw)
-            → IsFirstFlaw (bytes_of image_spelling (internet cables.items routers.items nodes.items)) f
+            → (f : ImageFlaw) → IsFirstFlaw
+            (bytes_of image_spelling (internet cables.items routers.items nodes.items)) f
             → result ≡ Err (refusal
             (bytes_of image_spelling (internet cables.items routers.items nodes.items)) f) }
         ensures flaw { IsTrue (is_short (internet cables.items routers.items nodes.items))

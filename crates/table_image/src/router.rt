@@ -27,8 +27,7 @@ pub struct Port {
 }
 
 /// A row of a routing table: how far the networks from `start` to `end` are, in routers, and by
-/// which port and next router. A direct row has the next router 0.0. The port is a place among the
-/// router's ports, from 0.
+/// which port, a place from 0, and next router. A direct row has the next router 0.0.
 #[derive(Clone, Copy, Debug)]
 pub struct Row {
     pub start: u16,
