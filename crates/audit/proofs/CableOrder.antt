@@ -6,7 +6,7 @@ use Rattle.at_base.specs.declared.error.Place.TheVariants as place
 use Rattle.table_image.specs.Internet.{Internet}
 use Rattle.table_image.specs.Places.{on}
 use Rattle.table_image.specs.declared.cable.Cable.{Cable}
-use Rattle.table_image.specs.declared.router.Row.{Row}
+use Rattle.table_image.specs.declared.row.Row.{Row}
 use Rattle.audit.specs.Firsts.{FirstPlace}
 use Rattle.audit.specs.Rules.{bad_cable, end_before, c1, is_for, cable_of}
 use Rattle.audit.proofs.Finding.{first_index}

@@ -9,7 +9,7 @@ use Rattle.table_image.specs.Internet.{Internet}
 use Rattle.table_image.specs.Places.{index_of}
 use Rattle.table_image.specs.Routing.{owner, router_of}
 use Rattle.table_image.specs.Seats.{Seat, same_address, port_seat, router_seats, node_seats}
-use Rattle.table_image.specs.declared.router.Port.{Port}
+use Rattle.table_image.specs.declared.port.Port.{Port}
 use Rattle.table_image.specs.declared.router.Router.{Router}
 use Rattle.table_image.specs.declared.node.Node.{Node}
 use Rattle.audit.specs.Firsts.{FirstPlace}

@@ -2,7 +2,7 @@
 use Rattle.std.proofs.Common.{◌≡◌, ℕ, zero, suc, ◌+◌, inl, inr, List, [], ◌∷◌, length, map, refl, ap, arith}
 use Rattle.table_image.specs.Internet.{Internet}
 use Rattle.table_image.specs.Seats.{Seat, port_seat, router_seats, node_seats, seats}
-use Rattle.table_image.specs.declared.router.Port.{Port}
+use Rattle.table_image.specs.declared.port.Port.{Port}
 use Rattle.table_image.specs.declared.router.Router.{Router}
 use Rattle.table_image.specs.declared.node.Node.{Node}
 use Rattle.audit.proofs.WalkLists.{At, at_append, at_map}

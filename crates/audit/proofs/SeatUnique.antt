@@ -13,7 +13,7 @@ use Rattle.table_image.specs.Places.{on}
 use Rattle.table_image.specs.Seats.{Seat, same_address}
 use Rattle.table_image.specs.Routing.{is_between}
 use Rattle.table_image.specs.declared.cable.Cable.{Cable}
-use Rattle.table_image.specs.declared.router.Port.{Port}
+use Rattle.table_image.specs.declared.port.Port.{Port}
 use Rattle.table_image.specs.declared.router.Router.{Router}
 use Rattle.table_image.specs.declared.node.Node.{Node}
 use Rattle.audit.specs.Rules.{same_hardware, bad_address, router_has, node_has, bad_port, bad_node, Passes}

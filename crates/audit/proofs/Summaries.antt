@@ -3,7 +3,7 @@ use Rattle.std.proofs.Common.{◌≡◌, ℕ, ◌^◌, ◌<◌, ◌≤◌, List,
 use Rattle.std.proofs.lemmas.Option.{slice_get-get_or}
 use Rattle.std.proofs.lemmas.List.Sums.{sum_by-le}
 use Rattle.table_image.specs.Internet.{Internet, IsBounded}
-use Rattle.table_image.specs.declared.router.Row.{Row}
+use Rattle.table_image.specs.declared.row.Row.{Row}
 use Rattle.table_image.specs.declared.router.Router.{Router}
 use Rattle.audit.specs.declared.verdict.Summary.{Summary}
 use Rattle.audit.specs.Verdicts.{greatest_of, greatest_distance, row_count}

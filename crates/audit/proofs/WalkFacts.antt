@@ -7,8 +7,8 @@ use Rattle.table_image.specs.Internet.{Internet}
 use Rattle.table_image.specs.Seats.{Seat, seat_at}
 use Rattle.table_image.specs.Routing.{is_between, is_direct, router_of, owner}
 use Rattle.table_image.specs.declared.cable.Cable.{Cable}
-use Rattle.table_image.specs.declared.router.Port.{Port}
-use Rattle.table_image.specs.declared.router.Row.{Row}
+use Rattle.table_image.specs.declared.port.Port.{Port}
+use Rattle.table_image.specs.declared.row.Row.{Row}
 use Rattle.table_image.specs.declared.router.Router.{Router}
 use Rattle.audit.specs.Rules.{bad_cable, end_before, is_for, bad_direct, is_no_other, not_one_less, next_router}
 use Rattle.audit.proofs.WalkLists.{At}

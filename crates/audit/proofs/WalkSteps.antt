@@ -10,8 +10,8 @@ use Rattle.table_image.specs.Places.{on}
 use Rattle.table_image.specs.Seats.{same_address, seats}
 use Rattle.table_image.specs.Routing.{Here, On, Nowhere, is_between, home, is_usable, is_direct, row_for, owner, hand, hand_to, hand_over, hand_by, hand_at, distance, distance_in}
 use Rattle.table_image.specs.declared.cable.Cable.{Cable}
-use Rattle.table_image.specs.declared.router.Port.{Port}
-use Rattle.table_image.specs.declared.router.Row.{Row}
+use Rattle.table_image.specs.declared.port.Port.{Port}
+use Rattle.table_image.specs.declared.row.Row.{Row}
 use Rattle.table_image.specs.declared.router.Router.{Router}
 use Rattle.audit.specs.Rules.{end_before, bad_cable, at_row, is_for, cable_of, bad_range, lacks_row, port_on, bad_direct, next_router, is_no_other, same_row, bad_step, Passes}
 use Rattle.audit.specs.Walks.{Steps, Stops, Goes, HasPort}

@@ -5,9 +5,9 @@ use Rattle.at_base.specs.declared.address.Hw.{Hw}
 use Rattle.rtmp.specs.declared.state.State.TheVariants.{Good}
 use Rattle.table_image.specs.Internet.{Internet}
 use Rattle.table_image.specs.declared.cable.Cable.{Cable}
-use Rattle.table_image.specs.declared.router.Port.{Port}
-use Rattle.table_image.specs.declared.router.Row.{Row}
-use Rattle.table_image.specs.declared.router.ZoneList.{ZoneList}
+use Rattle.table_image.specs.declared.port.Port.{Port}
+use Rattle.table_image.specs.declared.row.Row.{Row}
+use Rattle.table_image.specs.declared.zone_list.ZoneList.{ZoneList}
 use Rattle.table_image.specs.declared.router.Router.{Router}
 
 -- the address of a network and a node's number there

@@ -5,7 +5,7 @@ use Rattle.at_base.specs.declared.error.Place.TheVariants as place
 use Rattle.table_image.specs.Internet.{Internet}
 use Rattle.table_image.specs.Places.{on}
 use Rattle.table_image.specs.Routing.{is_direct}
-use Rattle.table_image.specs.declared.router.Row.{Row}
+use Rattle.table_image.specs.declared.row.Row.{Row}
 use Rattle.table_image.specs.declared.router.Router.{Router}
 use Rattle.audit.specs.Rules.{at_row, cable_of, port_on, next_router, bad_range, lacks_row, bad_direct, is_no_other, bad_step}
 use Rattle.audit.specs.declared.rows.RowRule.{RowRule}

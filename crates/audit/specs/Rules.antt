@@ -12,8 +12,8 @@ use Rattle.table_image.specs.Places.{on, index_of}
 use Rattle.table_image.specs.Seats.{same_address}
 use Rattle.table_image.specs.Routing.{is_between, is_usable, is_direct, owner}
 use Rattle.table_image.specs.declared.cable.Cable.{Cable}
-use Rattle.table_image.specs.declared.router.Port.{Port}
-use Rattle.table_image.specs.declared.router.Row.{Row}
+use Rattle.table_image.specs.declared.port.Port.{Port}
+use Rattle.table_image.specs.declared.row.Row.{Row}
 use Rattle.table_image.specs.declared.router.Router.{Router}
 use Rattle.table_image.specs.declared.node.Node.{Node}
 

@@ -5,7 +5,7 @@ use Rattle.table_image.specs.Internet.{Internet}
 use Rattle.table_image.specs.Seats.{Seat, seats, same_address}
 use Rattle.table_image.specs.Routing.{Here, On, hand, home, owner, distance}
 use Rattle.audit.specs.Rules.{same_hardware}
-use Rattle.table_image.specs.declared.router.Port.{Port}
+use Rattle.table_image.specs.declared.port.Port.{Port}
 use Rattle.table_image.specs.declared.router.Router.{Router}
 
 -- The routers r and then those of the list are a walk for network n, which ends at cable c: each but the last hands the

@@ -9,7 +9,7 @@ use Rattle.table_image.specs.Limits.{most, most_ports}
 use Rattle.table_image.specs.Flaws.{Wrong, Here}
 use Rattle.table_image.specs.Tests.{rising}
 use Rattle.table_image.specs.Spelling.{counted, port_spelling, row_spelling, zone_list_spelling, router_spelling, node_spelling, front_spelling, cable_spelling, image_spelling}
-use Rattle.table_image.specs.declared.router.Row.{Row}
+use Rattle.table_image.specs.declared.row.Row.{Row}
 use Rattle.table_image.specs.declared.router.Router.{Router}
 use Rattle.table_image.proofs.Shape.{within_bounds}
 

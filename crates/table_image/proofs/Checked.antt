@@ -18,8 +18,8 @@ use Rattle.table_image.specs.Tests.{within, below, rising, is_entity}
 use Rattle.table_image.specs.Spelling.{counted, text_spelling, zone_spelling, address_spelling, port_spelling, row_spelling, state_number, state_of}
 use Rattle.table_image.specs.Checking.{FlawAt, Checks, ChecksList}
 use Rattle.table_image.specs.declared.checking.Misfit.{Misfit}
-use Rattle.table_image.specs.declared.router.Port.{Port}
-use Rattle.table_image.specs.declared.router.Row.{Row}
+use Rattle.table_image.specs.declared.port.Port.{Port}
+use Rattle.table_image.specs.declared.row.Row.{Row}
 
 pub is_within : (least most : ℕ) (c : Cause) (n : ℕ) → least ≤ n → n ≤ most → within least most c n ≡ None
 is_within least most c n low high =

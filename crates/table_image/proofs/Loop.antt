@@ -1,5 +1,6 @@
 -- Reading items one after the other, as a loop does.
-use Rattle.std.proofs.Common.{◌≡◌, ℕ, suc, ◌-◌, ◌+◌, ◌≤◌, ◌<◌, List, [], ◌∷◌, ◌++◌, length, Result, Ok, Err, refl, sym, ap, ◌∙◌, append_assoc, arith}
+use Rattle.std.proofs.Common.{◌≡◌, ℕ, suc, ◌-◌, ◌+◌, ◌≤◌, ◌<◌, List, [], ◌∷◌, ◌++◌, length, take, get_or, Result, Ok, Err, refl, sym, ap, subst, ◌∙◌, append_assoc, arith}
+use Rattle.std.proofs.Math.Seq.{take-suc}
 use Rattle.std.proofs.lemmas.List.{append-nil, length-append}
 use Rattle.at_base.specs.Reading.{◌>>=◌, list_at}
 use Rattle.table_image.specs.declared.flaw.Flaw.{Flaw}
@@ -29,6 +30,18 @@ goes_on item next front low count i bytes y after total lt h so_far =
     let one : with_front front (list_at item next low (count - i) bytes) ≡ with_front (front ++ y ∷ []) (list_at item next (next y) (count - (i + 1)) after) =
     rw (k, h) (regroup front y (list_at item next (next y) (count - (i + 1)) after)) in
     sym one ∙ so_far
+
+-- one more item of a list was met
+pub goes_on_in : {A : Type 0} (item : Reader A) (next : A → ℕ) (xs : List A) (low i : ℕ) (bytes : List ℕ) (y : A) (after : List ℕ) (total : Result (List A × List ℕ) Flaw)
+    → i < length xs → y ≡ get_or xs i y → item low bytes ≡ Ok (y, after)
+    → with_front (take i xs) (list_at item next low (length xs - i) bytes) ≡ total
+    → with_front (take (i + 1) xs) (list_at item next (next y) (length xs - (i + 1)) after) ≡ total
+goes_on_in {A} item next xs low i bytes y after total lt e h so_far =
+    let suc_is : suc i ≡ i + 1 = omega arith in
+    let longer : take i xs ++ y ∷ [] ≡ take (i + 1) xs =
+    ap (λ (x : A). take i xs ++ x ∷ []) e ∙ (sym (take-suc xs i y lt) ∙ ap (λ (n : ℕ). take n xs) suc_is) in
+    subst (λ (front : List A). with_front front (list_at item next (next y) (length xs - (i + 1)) after) ≡ total) longer
+    (goes_on item next (take i xs) low (length xs) i bytes y after total lt h so_far)
 
 -- an item has a flaw
 pub refuses : {A : Type 0} (item : Reader A) (next : A → ℕ) (f : Flaw) (front : List A) (low count i : ℕ) (bytes : List ℕ) (total : Result (List A × List ℕ) Flaw)

@@ -16,7 +16,7 @@ use Rattle.table_image.specs.Checking.{Checks, told}
 use Rattle.table_image.specs.declared.flaw.Flaw.{Flaw}
 use Rattle.table_image.specs.declared.checking.Misfit.{Misfit}
 use Rattle.table_image.specs.declared.cable.Cable.{Cable}
-use Rattle.table_image.specs.declared.router.ZoneList.{ZoneList}
+use Rattle.table_image.specs.declared.zone_list.ZoneList.{ZoneList}
 use Rattle.table_image.specs.declared.router.Router.{Router}
 use Rattle.table_image.specs.declared.node.Node.{Node}
 use Rattle.table_image.proofs.Bounds.{counted_few, counted_each}

@@ -6,8 +6,8 @@ use Rattle.rtmp.specs.declared.state.State.TheVariants.{Good, Suspect, Bad, Last
 use Rattle.table_image.specs.Internet.{Internet}
 use Rattle.table_image.specs.Places.{index_of}
 use Rattle.table_image.specs.Seats.{Seat, seat_at}
-use Rattle.table_image.specs.declared.router.Port.{Port}
-use Rattle.table_image.specs.declared.router.Row.{Row}
+use Rattle.table_image.specs.declared.port.Port.{Port}
+use Rattle.table_image.specs.declared.row.Row.{Row}
 use Rattle.table_image.specs.declared.router.Router.{Router}
 
 -- the network is one of those from start to end

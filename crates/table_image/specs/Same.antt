@@ -3,9 +3,9 @@ use Rattle.std.specs.Prelude.{◌≡◌, ℕ, List, refl}
 use Rattle.at_base.specs.Spelling.{bytes_of}
 use Rattle.table_image.specs.Spelling.{counted, zone_spelling, cable_spelling, port_spelling, row_spelling, zone_list_spelling, router_spelling, name_spelling, node_spelling}
 use Rattle.table_image.specs.declared.cable.Cable.{Cable}
-use Rattle.table_image.specs.declared.router.Port.{Port}
-use Rattle.table_image.specs.declared.router.Row.{Row}
-use Rattle.table_image.specs.declared.router.ZoneList.{ZoneList}
+use Rattle.table_image.specs.declared.port.Port.{Port}
+use Rattle.table_image.specs.declared.row.Row.{Row}
+use Rattle.table_image.specs.declared.zone_list.ZoneList.{ZoneList}
 use Rattle.table_image.specs.declared.router.Router.{Router}
 use Rattle.table_image.specs.declared.node.NodeName.{NodeName}
 use Rattle.table_image.specs.declared.node.Node.{Node}

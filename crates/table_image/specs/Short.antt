@@ -4,7 +4,7 @@ use Rattle.std.specs.List.{list_all}
 use Rattle.table_image.specs.Internet.{Internet}
 use Rattle.table_image.specs.Limits.{most, most_ports, most_zones, most_names}
 use Rattle.table_image.specs.declared.cable.Cable.{Cable}
-use Rattle.table_image.specs.declared.router.ZoneList.{ZoneList}
+use Rattle.table_image.specs.declared.zone_list.ZoneList.{ZoneList}
 use Rattle.table_image.specs.declared.router.Router.{Router}
 use Rattle.table_image.specs.declared.node.Node.{Node}
 

@@ -12,9 +12,9 @@ use Rattle.table_image.specs.Limits.{most, most_ports, most_zones, most_names}
 use Rattle.table_image.specs.Flaws.{Wrong, Before}
 use Rattle.table_image.specs.Tests.{any, within, below, rising, enumerator, magic, is_magic, is_entity}
 use Rattle.table_image.specs.declared.cable.Cable.{Cable}
-use Rattle.table_image.specs.declared.router.Port.{Port}
-use Rattle.table_image.specs.declared.router.Row.{Row}
-use Rattle.table_image.specs.declared.router.ZoneList.{ZoneList}
+use Rattle.table_image.specs.declared.port.Port.{Port}
+use Rattle.table_image.specs.declared.row.Row.{Row}
+use Rattle.table_image.specs.declared.zone_list.ZoneList.{ZoneList}
 use Rattle.table_image.specs.declared.router.Router.{Router}
 use Rattle.table_image.specs.declared.node.NodeName.{NodeName}
 use Rattle.table_image.specs.declared.node.Node.{Node}

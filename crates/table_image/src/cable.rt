@@ -37,15 +37,16 @@ impl Item for Cable {
 
 impl ReadItem for Cable {
     #[tactic(auto, unfolding(crate::specs::Spelling::cable_spelling))]
-    fn read_one(
+    fn read_one<'a>(
         alloc: Global,
         _known: usize,
         _low: u32,
-        bytes: &[u8],
-    ) -> Result<(Cable, &[u8]), Stop> {
+        like: Option<&Cable>,
+        bytes: &'a [u8],
+    ) -> Result<(Cable, &'a [u8]), Stop> {
         let (start, rest) = u16_at(bytes)?;
         let (end, rest) = u16_at(rest)?;
-        let (zones, rest) = zones_at(alloc, rest)?;
+        let (zones, rest) = zones_at(alloc, like.map(|cable| &cable.zones), rest)?;
         Ok((Cable { start, end, zones }, rest))
     }
 

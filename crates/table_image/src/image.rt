@@ -121,7 +121,7 @@ fn front_of(alloc: Global, bytes: &[u8]) -> Result<(Listed<Cable>, &[u8]), Stop>
 {
     let (_, rest) = magic_at(bytes)?;
     let (_, rest) = byte_within(rest, 1, 1, Cause::Version)?;
-    counted_of::<Cable>(alloc, MOST, 0, rest)
+    counted_of::<Cable>(alloc, MOST, 0, &[], rest)
 }
 
 fn routers_of<'a>(
@@ -133,7 +133,7 @@ fn routers_of<'a>(
         (read_by flaws (counted 200 (λ low. router_spelling (length cables.now)) (λ r. 0))
         bytes.now) }
 {
-    counted_of::<Router>(alloc, MOST, cables.len(), bytes)
+    counted_of::<Router>(alloc, MOST, cables.len(), &[], bytes)
 }
 
 fn nodes_of<'a>(
@@ -145,7 +145,7 @@ fn nodes_of<'a>(
         (read_by flaws (counted 200 (λ low. node_spelling (length cables.now)) (λ n. 0))
         bytes.now) }
 {
-    counted_of::<Node>(alloc, MOST, cables.len(), bytes)
+    counted_of::<Node>(alloc, MOST, cables.len(), &[], bytes)
 }
 
 #[tactic(auto, unfolding(crate::specs::Spelling::image_spelling))]

@@ -35,8 +35,15 @@ pub trait Item: Drop {
 
 /// A part that can be read.
 pub trait ReadItem: Item {
-    /// The part at the front of the bytes, and the bytes after it.
-    fn read_one(alloc: Global, known: usize, low: u32, bytes: &[u8]) -> Result<(Self, &[u8]), Stop>
+    /// The part at the front of the bytes, and the bytes after it. A part that was read before, and
+    /// that this one may be like, changes nothing but the time and the memory that it takes.
+    fn read_one<'a>(
+        alloc: Global,
+        known: usize,
+        low: u32,
+        like: Option<&Self>,
+        bytes: &'a [u8],
+    ) -> Result<(Self, &'a [u8]), Stop>
         ensures { GivesOrStops (λ x. (x.0, x.1.now)) result
             (read flaws (Self.spelling known low) bytes.now) };
 
@@ -56,33 +63,37 @@ pub trait WriteItem: Item {
 }
 
 // A list of one takes no memory beyond that of its item.
-fn single_of<T: ReadItem>(
+fn single_of<'a, T: ReadItem>(
     alloc: Global,
     known: usize,
-    bytes: &[u8],
-) -> Result<(Listed<T>, &[u8]), Stop>
+    like: Option<&T>,
+    bytes: &'a [u8],
+) -> Result<(Listed<T>, &'a [u8]), Stop>
     ensures { GivesOrStops (λ x. (x.0, x.1.now)) result
         (list_at (λ low. read flaws (T.spelling known low)) T.next 0 1 bytes.now) }
 {
-    let (item, rest) = T::read_one(alloc, known, 0, bytes)?;
+    let (item, rest) = T::read_one(alloc, known, 0, like, bytes)?;
     Ok((Listed::one(item), rest))
 }
 
-// The count tells how much room the list needs, so it is made once.
-fn list_of<T: ReadItem>(
+// The count tells how much room the list needs, so it is made once. A part may be like the one at
+// its place in the other list, or else like the one before it.
+fn list_of<'a, T: ReadItem>(
     alloc: Global,
     known: usize,
     count: u8,
-    bytes: &[u8],
-) -> Result<(Listed<T>, &[u8]), Stop>
+    likes: &[T],
+    bytes: &'a [u8],
+) -> Result<(Listed<T>, &'a [u8]), Stop>
     ensures { GivesOrStops (λ x. (x.0, x.1.now)) result
         (list_at (λ low. read flaws (T.spelling known low)) T.next 0 count bytes.now) }
 {
     let mut items = Vec::with_capacity(alloc, count as usize)?;
     let mut rest = bytes;
     let mut low = 0;
-    for _ in 0..count {
-        let (item, after) = T::read_one(alloc, known, low, rest)?;
+    for i in 0..count {
+        let like = likes.get(i as usize).or(items.last());
+        let (item, after) = T::read_one(alloc, known, low, like, rest)?;
         low = item.next_low();
         items.push(item)?;
         rest = after;
@@ -90,22 +101,24 @@ fn list_of<T: ReadItem>(
     Ok((Listed::from_vec(items), rest))
 }
 
-/// As many parts as the count says, which is at most the limit.
+/// As many parts as the count says, which is at most the limit. Those of another list, which these
+/// may be like, change nothing but the time and the memory that it takes.
 #[tactic(auto, unfolding(crate::specs::Spelling::counted))]
-pub(crate) fn counted_of<T: ReadItem>(
+pub(crate) fn counted_of<'a, T: ReadItem>(
     alloc: Global,
     limit: u8,
     known: usize,
-    bytes: &[u8],
-) -> Result<(Listed<T>, &[u8]), Stop>
+    likes: &[T],
+    bytes: &'a [u8],
+) -> Result<(Listed<T>, &'a [u8]), Stop>
     ensures { GivesOrStops (λ x. (x.0, x.1.now)) result
         (read flaws (counted limit (T.spelling known) T.next) bytes.now) }
 {
     let (count, rest) = byte_within(bytes, 0, limit, Cause::Count)?;
     if count == 1 {
-        return single_of(alloc, known, rest);
+        return single_of(alloc, known, likes.first(), rest);
     }
-    list_of(alloc, known, count, rest)
+    list_of(alloc, known, count, likes, rest)
 }
 
 fn pass_list<T: ReadItem>(known: usize, count: u8, bytes: &[u8]) -> Result<(usize, &[u8]), Flaw>

@@ -12,14 +12,20 @@ mod listed;
 mod making;
 mod node;
 mod output;
+mod port;
 mod router;
+mod row;
+mod zone_list;
 mod zones;
 
 pub use cable::Cable;
 pub use image::{Image, one_spelling, read, write};
 pub use listed::Listed;
 pub use node::{Node, NodeName};
-pub use router::{Port, Router, Row, ZoneList};
+pub use port::Port;
+pub use router::Router;
+pub use row::Row;
+pub use zone_list::ZoneList;
 
 #[cfg(test)]
 mod tests;

@@ -1,8 +1,10 @@
 //! Lists of the crate's own, which contracts see as lists.
 
-ghost use Rattle.std.specs.Prelude.{◌≡◌, ◌∷◌, ◌==◌, [], length};
+ghost use Rattle.std.specs.Prelude.{◌≡◌, ◌∷◌, ◌==◌, [], length, IfSome};
 
+use std::alloc::Global;
 use std::marker::Model;
+use std::rc::Rc;
 
 /// Some values, one after the other.
 #[derive(Debug, Drop)]
@@ -11,11 +13,12 @@ pub struct Listed<T> {
 }
 
 // Most zone lists of a router have one zone: a list of one stands in place, and takes no memory of
-// its own.
+// its own. Longer ones are those of the other routers, so they are kept once for all.
 #[derive(Debug, Drop)]
 enum Kept<T> {
     One([T; 1]),
     Many(Vec<T>),
+    Shared(Rc<Vec<T>, Global>),
 }
 
 impl<T> Model for Listed<T> {
@@ -53,6 +56,7 @@ impl<T> Listed<T> {
         match &self.kept {
             Kept::One(item) => item.as_slice(),
             Kept::Many(items) => items.as_slice(),
+            Kept::Shared(items) => items.as_ref().as_slice(),
         }
     }
 
@@ -68,5 +72,37 @@ impl<T> Listed<T> {
         ensures { result ≡ (length self.now == 0) }
     {
         self.as_slice().is_empty()
+    }
+}
+
+impl<T: Drop> Listed<T> {
+    /// The same values, which may have several owners from now on. Where memory runs out they have
+    /// one, as before.
+    pub(crate) fn into_shared(self, alloc: Global) -> Listed<T>
+        ensures { result ≡ self }
+    {
+        let kept = match self.kept {
+            Kept::Many(items) => match Rc::new(alloc, items) {
+                Ok(shared) => Kept::Shared(shared),
+                Err(refused) => Kept::Many(refused.value),
+            },
+            kept => kept,
+        };
+        Listed { kept }
+    }
+
+    /// The same values once more, without a copy of them, where they may have several owners.
+    pub(crate) fn share(&self) -> Option<Listed<T>>
+        ensures { IfSome result (λ other. other ≡ self.now) }
+    {
+        match &self.kept {
+            Kept::Shared(items) => match items.clone() {
+                Ok(items) => Some(Listed {
+                    kept: Kept::Shared(items),
+                }),
+                Err(_) => None,
+            },
+            _ => None,
+        }
     }
 }

@@ -13,7 +13,8 @@ use crate::checking::{Misfit, check_counted};
 use crate::limits::{MOST, MOST_NAMES, MOST_PORTS, MOST_ZONES};
 use crate::listed::Listed;
 use crate::node::Node;
-use crate::router::{Router, ZoneList};
+use crate::router::Router;
+use crate::zone_list::ZoneList;
 
 fn lists_are_short(lists: &[ZoneList]) -> bool
     ensures { result ≡ list_all short_list lists.now }

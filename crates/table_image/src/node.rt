@@ -82,12 +82,13 @@ fn node_name_at(low: u32, bytes: &[u8]) -> Result<(NodeName, &[u8]), Flaw>
 }
 
 impl ReadItem for NodeName {
-    fn read_one(
+    fn read_one<'a>(
         _alloc: Global,
         _known: usize,
         low: u32,
-        bytes: &[u8],
-    ) -> Result<(NodeName, &[u8]), Stop> {
+        _like: Option<&NodeName>,
+        bytes: &'a [u8],
+    ) -> Result<(NodeName, &'a [u8]), Stop> {
         match node_name_at(low, bytes) {
             Ok(found) => Ok(found),
             Err(flaw) => Err(Stop::Refused(flaw)),
@@ -153,12 +154,13 @@ impl Item for Node {
 
 impl ReadItem for Node {
     #[tactic(auto, unfolding(crate::specs::Spelling::node_spelling))]
-    fn read_one(
+    fn read_one<'a>(
         alloc: Global,
         known: usize,
         _low: u32,
-        bytes: &[u8],
-    ) -> Result<(Node, &[u8]), Stop> {
+        _like: Option<&Node>,
+        bytes: &'a [u8],
+    ) -> Result<(Node, &'a [u8]), Stop> {
         let (cable, rest) = index_at(bytes, known)?;
         let (address, rest) = address_at(rest)?;
         let (hardware, rest) = hardware_at(rest)?;
@@ -167,7 +169,7 @@ impl ReadItem for Node {
             Err(flaw) => return Err(Stop::Refused(flaw)),
         };
         let (router, rest) = own_router_at(rest)?;
-        let (names, rest) = counted_of::<NodeName>(alloc, MOST_NAMES, 0, rest)?;
+        let (names, rest) = counted_of::<NodeName>(alloc, MOST_NAMES, 0, &[], rest)?;
         Ok((
             Node {
                 cable,

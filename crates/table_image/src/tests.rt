@@ -7,7 +7,9 @@ mod parts;
 
 use super::*;
 use at_base::{Addr, Bytes, Cause, Error};
-use faults::{lengths_and_indices, three_limits, two_faults, values_names_and_orders};
+use faults::{
+    lengths_and_indices, second_lists, three_limits, two_faults, values_names_and_orders,
+};
 use images::{
     exchanged, most_cables, most_zones, nothing, put, three_cables, three_with, two_names, two_with,
 };
@@ -316,6 +318,40 @@ fn a_list_is_its_vector(rt: HostRuntime) -> Result<(), Fail> {
     assert_eq!(rt; listed.len(), 3);
     assert!(rt; !listed.is_empty());
     assert!(rt; Listed::<u8>::from_vec(Vec::new(rt.alloc())).is_empty());
+    Ok(())
+}
+
+/// Three numbers in a list that may have several owners, made again where a request for memory was
+/// refused, since it has one owner then.
+fn shared_numbers(alloc: Global) -> Option<Listed<u8>> {
+    let listed = Listed::from_vec(three_numbers(alloc)?).into_shared(alloc);
+    match listed.share() {
+        Some(_) => Some(listed),
+        None => Some(Listed::from_vec(three_numbers(alloc)?).into_shared(alloc)),
+    }
+}
+
+#[test]
+fn a_shared_list_has_the_same_values(rt: HostRuntime) -> Result<(), Fail> {
+    let listed = shared_numbers(rt.alloc()).ok_or("no memory")?;
+    let again = listed.share().ok_or("one owner")?;
+    drop(listed);
+    assert_eq!(rt; again.as_slice(), [7, 8, 9].as_slice());
+    assert!(rt; Listed::one(7).share().is_none());
+    assert!(rt; Listed::one(7).into_shared(rt.alloc()).share().is_none());
+    Ok(())
+}
+
+#[test]
+fn zone_lists_that_differ_are_told_apart(rt: HostRuntime) -> Result<(), Fail> {
+    for (place, byte) in second_lists() {
+        let bytes = three_with(place, byte);
+        let image = read_again(rt.alloc(), &bytes)?;
+        assert!(rt;
+            is_written_as(rt.alloc(), &image, &bytes),
+            "{byte} at {place}"
+        );
+    }
     Ok(())
 }
 

@@ -1,8 +1,8 @@
 //! Zones behind their count.
 
-ghost use Rattle.std.specs.Prelude.{◌≡◌, ◌++◌, ◌+◌, ◌^◌, ◌<◌, ◌≤◌, length, OnOk, MatchResult};
+ghost use Rattle.std.specs.Prelude.{◌≡◌, ◌++◌, ◌+◌, ◌^◌, ◌<◌, ◌≤◌, length, Ok, OnOk, IfSome, MatchResult};
 ghost use Rattle.at_base.specs.Spelling.{bytes_of};
-ghost use Rattle.at_base.specs.Reading.{read};
+ghost use Rattle.at_base.specs.Reading.{read, list_at};
 ghost use Rattle.table_image.specs.Checking.{Checks};
 ghost use Rattle.table_image.specs.Flaws.{flaws, GivesOrStops, GoesPast};
 ghost use Rattle.table_image.specs.Spelling.{zone_spelling, zones_spelling};
@@ -32,12 +32,13 @@ impl Item for Name {
 }
 
 impl ReadItem for Name {
-    fn read_one(
+    fn read_one<'a>(
         _alloc: Global,
         _known: usize,
         _low: u32,
-        bytes: &[u8],
-    ) -> Result<(Name, &[u8]), Stop> {
+        _like: Option<&Name>,
+        bytes: &'a [u8],
+    ) -> Result<(Name, &'a [u8]), Stop> {
         match name_at(bytes) {
             Ok(found) => Ok(found),
             Err(flaw) => Err(Stop::Refused(flaw)),
@@ -61,10 +62,71 @@ impl WriteItem for Name {
 
 /// Zones behind their count.
 #[tactic(auto, unfolding(crate::specs::Spelling::zones_spelling))]
-pub(crate) fn zones_at(alloc: Global, bytes: &[u8]) -> Result<(Listed<Name>, &[u8]), Stop>
+fn new_zones_at(alloc: Global, bytes: &[u8]) -> Result<(Listed<Name>, &[u8]), Stop>
     ensures { GivesOrStops (λ x. (x.0, x.1.now)) result (read flaws zones_spelling bytes.now) }
 {
-    counted_of(alloc, MOST_ZONES, 0, bytes)
+    let (zones, rest) = counted_of(alloc, MOST_ZONES, 0, &[], bytes)?;
+    Ok((zones.into_shared(alloc), rest))
+}
+
+// The bytes after the name, where it stands at their front.
+#[tactic(auto, unfolding(crate::specs::Spelling::text_spelling))]
+fn after_name<'a>(name: &Name, bytes: &'a [u8]) -> Option<&'a [u8]>
+    ensures { IfSome result
+        (λ rest. read flaws zone_spelling bytes.now ≡ Ok (name.now, rest.now)) }
+{
+    let text = name.as_slice();
+    let (len, after) = bytes.split_first()?;
+    if *len as usize != text.len() || after.len() < text.len() {
+        return None;
+    }
+    let (front, rest) = after.split_at(text.len());
+    if front != text {
+        return None;
+    }
+    Some(rest)
+}
+
+// The bytes after the names, where they stand one after the other at their front.
+fn after_names<'a>(names: &[Name], bytes: &'a [u8]) -> Option<&'a [u8]>
+    ensures { IfSome result (λ rest.
+        list_at (λ low. read flaws zone_spelling) (λ name. 0) 0 (length names.now) bytes.now
+        ≡ Ok (names.now, rest.now)) }
+{
+    let mut rest = bytes;
+    for name in names {
+        rest = after_name(name, rest)?;
+    }
+    Some(rest)
+}
+
+// The same zones once more, where they stand at the front of the bytes and may have several owners.
+#[tactic(auto, unfolding(crate::specs::Spelling::zones_spelling, crate::specs::Spelling::counted))]
+fn zones_again<'a>(zones: &Listed<Name>, bytes: &'a [u8]) -> Option<(Listed<Name>, &'a [u8])>
+    ensures { IfSome result
+        (λ x. read flaws zones_spelling bytes.now ≡ Ok (x.0, x.1.now)) }
+{
+    let again = zones.share()?;
+    let (count, after) = bytes.split_first()?;
+    if *count > MOST_ZONES || *count as usize != zones.len() {
+        return None;
+    }
+    let rest = after_names(zones.as_slice(), after)?;
+    Some((again, rest))
+}
+
+/// Zones behind their count. Where they are those of the other list, they are kept once.
+pub(crate) fn zones_at<'a>(
+    alloc: Global,
+    like: Option<&Listed<Name>>,
+    bytes: &'a [u8],
+) -> Result<(Listed<Name>, &'a [u8]), Stop>
+    ensures { GivesOrStops (λ x. (x.0, x.1.now)) result (read flaws zones_spelling bytes.now) }
+{
+    match like.and_then(|zones| zones_again(zones, bytes)) {
+        Some(found) => Ok(found),
+        None => new_zones_at(alloc, bytes),
+    }
 }
 
 /// Goes past zones behind their count, and tells how many there were.

@@ -96,3 +96,14 @@ pub(crate) fn three_limits() -> [(usize, u8); 18] {
         (223, 0xFF), // a hardware address
     ]
 }
+
+/// The same, of the two zones that the second router has for 20-29, which the first has too.
+pub(crate) fn second_lists() -> [(usize, u8); 5] {
+    [
+        (199, b'r'), // the first byte of the first zone
+        (201, b'D'), // its last byte
+        (203, b'b'), // the first byte of the second zone
+        (206, b'E'), // its last byte
+        (194, 1), // a network before the zones
+    ]
+}

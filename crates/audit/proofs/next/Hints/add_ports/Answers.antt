@@ -1,6 +1,6 @@
 use Rattle.std.proofs.Common.{◌≡◌, Some, slice_get, below_more, subst, arith}
 use Rattle.std.proofs.lemmas.Option.{slice_get_within, get_or_from_slice_get, slice_get-get_or}
-use Rattle.table_image.specs.declared.router.Port.{Port}
+use Rattle.table_image.specs.declared.port.Port.{Port}
 use Rattle.audit.specs.Hints.{hint_at, port_slot}
 use Rattle.audit.proofs.HintSteps.{still_names, first_or_new, own_slot}
 use Rattle.audit.proofs.next.Hints.add_ports.Goals as goal

@@ -1,6 +1,6 @@
 use Rattle.std.proofs.Common.{◌≡◌, ℕ, ◌%◌, List, arith, subst}
 use Rattle.std.proofs.lemmas.Option.{slice_get_within}
-use Rattle.table_image.specs.declared.router.Port.{Port}
+use Rattle.table_image.specs.declared.port.Port.{Port}
 use Rattle.audit.specs.Hints.{Names, FirstOr}
 use Rattle.audit.proofs.Firsts.{item_at}
 use Rattle.audit.proofs.HintSteps.{one_more}

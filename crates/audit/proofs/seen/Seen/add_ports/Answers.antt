@@ -1,6 +1,6 @@
 use Rattle.std.proofs.Common.{◌≡◌, Some, slice_get, below_more, subst, arith}
 use Rattle.std.proofs.lemmas.Option.{slice_get_within, get_or_from_slice_get}
-use Rattle.table_image.specs.declared.router.Port.{Port}
+use Rattle.table_image.specs.declared.port.Port.{Port}
 use Rattle.audit.specs.Seen.{HasSeen}
 use Rattle.audit.proofs.seen.Seen.add_ports.Goals as goal
 

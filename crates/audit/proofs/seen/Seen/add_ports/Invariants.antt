@@ -1,5 +1,5 @@
 use Rattle.std.proofs.Common.{◌≡◌, ℕ, ◌<◌, Some, slice_get}
-use Rattle.table_image.specs.declared.router.Port.{Port}
+use Rattle.table_image.specs.declared.port.Port.{Port}
 use Rattle.audit.specs.Seen.{HasSeen, SeesMore}
 use Rattle.audit.proofs.seen.Seen.add_ports.Given as goal
 

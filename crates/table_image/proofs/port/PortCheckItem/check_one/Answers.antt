@@ -1,6 +1,6 @@
 use Rattle.std.proofs.Common.{arith}
 use Rattle.table_image.proofs.Checked.{FitsPort, port_passes, port_misses}
-use Rattle.table_image.proofs.router.PortCheckItem.check_one.Goals as goal
+use Rattle.table_image.proofs.port.PortCheckItem.check_one.Goals as goal
 
 pub returns-then-self-known-clause-checked : goal.returns-then-self-known-clause-checked
 returns-then-self-known-clause-checked c =

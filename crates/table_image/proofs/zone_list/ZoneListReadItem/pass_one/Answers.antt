@@ -1,6 +1,6 @@
 use Rattle.std.proofs.Common.{refl, sym, ap, ◌+◌, ℕ}
 use Rattle.table_image.specs.Spelling.{zone_list_spelling, flag_of}
-use Rattle.table_image.proofs.router.ZoneListReadItem.pass_one.Goals as goal
+use Rattle.table_image.proofs.zone_list.ZoneListReadItem.pass_one.Goals as goal
 
 pub returns : goal.returns
 unfolding zone_list_spelling

@@ -1,6 +1,6 @@
 use Rattle.std.proofs.Common.{arith}
 use Rattle.table_image.proofs.Checked.{FitsRow, row_passes, row_falls, row_far, row_misses}
-use Rattle.table_image.proofs.router.RowCheckItem.check_one.Goals as goal
+use Rattle.table_image.proofs.row.RowCheckItem.check_one.Goals as goal
 
 pub returns-then-from-low-clause-checked : goal.returns-then-from-low-clause-checked
 returns-then-from-low-clause-checked c =

@@ -1,0 +1,100 @@
+//! Zone lists of routers.
+
+ghost use Rattle.std.specs.Prelude.{◌≡◌, ◌+◌};
+ghost use Rattle.table_image.specs.Spelling.{zone_list_spelling};
+
+use crate::checking::{CheckItem, Misfit};
+use crate::flaw::{Flaw, Stop};
+use crate::input::{byte_within, rising_at, u16_at};
+use crate::item::{Item, ReadItem, WriteItem};
+use crate::listed::Listed;
+use crate::output::{put_byte, put_u16};
+use crate::zones::{check_zones, pass_zones, put_zones, zones_at};
+use at_base::{Cause, Name};
+use std::alloc::{AllocError, Global};
+
+/// The zones of the networks from `start` to `end`, as a router knows them.
+#[derive(Debug, Drop)]
+pub struct ZoneList {
+    pub start: u16,
+    pub end: u16,
+    pub complete: bool,
+    pub zones: Listed<Name>,
+}
+
+impl Item for ZoneList {
+    ghost use Rattle.table_image.specs.Same.{zone_list_same};
+
+    ghost spelling = { λ known low. zone_list_spelling low };
+
+    ghost next = { λ l. l.start + 1 };
+
+    fn next_low(&self) -> u32 {
+        u32::from(self.start) + 1
+    }
+
+    ghost same = { zone_list_same };
+}
+
+impl ReadItem for ZoneList {
+    #[tactic(auto, unfolding(crate::specs::Spelling::zone_list_spelling))]
+    fn read_one<'a>(
+        alloc: Global,
+        _known: usize,
+        low: u32,
+        like: Option<&ZoneList>,
+        bytes: &'a [u8],
+    ) -> Result<(ZoneList, &'a [u8]), Stop> {
+        let (start, rest) = rising_at(bytes, low)?;
+        let (end, rest) = u16_at(rest)?;
+        let (complete, rest) = byte_within(rest, 0, 1, Cause::Value)?;
+        let (zones, rest) = zones_at(alloc, like.map(|list| &list.zones), rest)?;
+        Ok((
+            ZoneList {
+                start,
+                end,
+                complete: complete == 1,
+                zones,
+            },
+            rest,
+        ))
+    }
+
+    #[tactic(auto, unfolding(crate::specs::Spelling::zone_list_spelling))]
+    fn pass_one(_known: usize, low: u32, bytes: &[u8]) -> Result<(u32, &[u8]), Flaw> {
+        let (start, rest) = rising_at(bytes, low)?;
+        let (_end, rest) = u16_at(rest)?;
+        let (_complete, rest) = byte_within(rest, 0, 1, Cause::Value)?;
+        let (_zones, rest) = pass_zones(rest)?;
+        Ok((u32::from(start) + 1, rest))
+    }
+}
+
+impl WriteItem for ZoneList {
+    #[tactic(auto, unfolding(crate::specs::Spelling::zone_list_spelling))]
+    fn write_one(&self, out: &mut Vec<u8>) -> Result<(), AllocError> {
+        put_u16(out, self.start)?;
+        put_u16(out, self.end)?;
+        put_byte(out, u8::from(self.complete))?;
+        put_zones(out, &self.zones)
+    }
+}
+
+impl CheckItem for ZoneList {
+    ghost use Rattle.table_image.specs.Short.{short_list};
+
+    ghost short = { short_list };
+
+    ghost most = { 2118 };
+
+    fn check_one(&self, _known: usize, low: u32, at: usize) -> Result<usize, Misfit> {
+        let _end = self.end;
+        if u32::from(self.start) < low {
+            return Err(Misfit {
+                place: at,
+                cause: Cause::Order,
+            });
+        }
+        check_zones(at + 5, &self.zones)
+    }
+}
