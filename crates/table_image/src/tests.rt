@@ -11,7 +11,8 @@ use faults::{
     lengths_and_indices, second_lists, three_limits, two_faults, values_names_and_orders,
 };
 use images::{
-    exchanged, most_cables, most_zones, nothing, put, three_cables, three_with, two_names, two_with,
+    exchanged, most_cables, most_parts, most_zones, nothing, put, three_cables, three_with,
+    two_names, two_with,
 };
 use parts::{
     has_ports, has_rows, is_cable, is_list, is_name, is_node, made, made_with_a_lost_port, row,
@@ -290,6 +291,18 @@ fn lists_may_be_as_long_as_their_limits(rt: HostRuntime) -> Result<(), Fail> {
     let cables = image.cables();
     assert_eq!(rt; cables.len(), 1);
     assert_eq!(rt; cables[0].zones.len(), 64);
+    assert!(rt; is_written_as(rt.alloc(), &image, &bytes));
+    Ok(())
+}
+
+#[test]
+fn a_router_and_a_node_may_have_as_many_parts_as_their_limits(rt: HostRuntime) -> Result<(), Fail> {
+    let bytes = most_parts();
+    let image = read_again(rt.alloc(), &bytes)?;
+    assert_eq!(rt; image.routers().len(), 1);
+    assert_eq!(rt; image.nodes().len(), 1);
+    assert_eq!(rt; image.routers()[0].ports.len(), 16);
+    assert_eq!(rt; image.nodes()[0].names.len(), 32);
     assert!(rt; is_written_as(rt.alloc(), &image, &bytes));
     Ok(())
 }

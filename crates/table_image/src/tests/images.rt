@@ -128,3 +128,27 @@ pub(crate) fn most_zones() -> [u8; 2125] {
     put(&mut bytes, 2123, &[0, 0]);
     bytes
 }
+
+/// A cable, a router with 16 ports, 200 rows and 200 zone lists without zones, and a node with 32
+/// names.
+pub(crate) fn most_parts() -> [u8; 3582] {
+    let mut bytes = [0; 3582];
+    put(&mut bytes, 0, &nothing());
+    put(&mut bytes, 5, &[1, 0, 1, 0, 1, 0, 1, 16]);
+    put(&mut bytes, 173, &[200]);
+    put(&mut bytes, 2174, &[200]);
+    for k in 0..200u8 {
+        put(&mut bytes, 175 + 10 * k as usize, &[k]);
+        put(&mut bytes, 2176 + 6 * k as usize, &[k]);
+    }
+    put(&mut bytes, 3375, &[1]);
+    put(&mut bytes, 3386, &[1, b'A', 0, 32]);
+    for k in 0..32u8 {
+        put(
+            &mut bytes,
+            3390 + 6 * k as usize,
+            &[1, k + 1, 1, b'a', 1, b'b'],
+        );
+    }
+    bytes
+}
