@@ -23,6 +23,16 @@ IsBytes-take n bytes h i =
       | inr le ↦ rw (get_or_past (take n bytes) i 0 (omega (arith, length-take n bytes))) (omega arith)
     ]
 
+-- ---- tests that found nothing wrong
+
+pub not_wrong : {W : Type 0} (b : Bool) (w : W) (o : Option W) → cond b (Some w) o ≡ None → (b ≡ false) × (o ≡ None)
+not_wrong true w o e = absurd cc
+not_wrong false w o e = (refl, e)
+
+pub is_right : {W : Type 0} (b : Bool) (w : W) → cond b None (Some w) ≡ None → b ≡ true
+is_right true w e = refl
+is_right false w e = absurd cc
+
 -- ---- steps that may fail
 
 abbrev pub ok : {E A : Type 0} → A → Result A E

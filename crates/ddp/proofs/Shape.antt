@@ -1,22 +1,18 @@
 -- The format of a datagram: each part stands where its projection finds it; and the bytes of a datagram, one by one.
-use Rattle.std.proofs.Common.{◌≡◌, ℕ, ◌≤◌, ◌<◌, ◌-◌, ◌/◌, ◌%◌, Bool, true, false, cond, ltb, List, [], ◌∷◌, length, Option, Some, None, refl, ap, ◌∙◌, arith}
+use Rattle.std.proofs.Common.{◌≡◌, ℕ, ◌≤◌, ◌<◌, ◌-◌, ◌/◌, ◌%◌, false, ltb, List, [], ◌∷◌, length, None, refl, ap, ◌∙◌, arith}
 use Rattle.std.specs.Int.{byte_at}
 use Rattle.std.proofs.lemmas.Bool.{ltb-false}
 use Rattle.std.proofs.lemmas.List.{append-nil, length-append}
-use Rattle.at_base.specs.declared.error.Error.{Error}
+use Rattle.at_base.proofs.Fields.{not_wrong}
 use Rattle.at_base.specs.Spelling.{IsValue, bytes_of}
 use Rattle.at_base.specs.Lawful.{IsLawful}
 use Rattle.ddp.specs.Datagram.{Datagram, datagram, first_word, wrong_word}
 
-unless : (b : Bool) (e : Error) (o : Option Error) → cond b (Some e) o ≡ None → (b ≡ false) × (o ≡ None)
-unless true e o h = absurd cc
-unless false e o h = (refl, h)
-
 -- the length in a word that passes
 pub word_passes : (w : ℕ) → wrong_word w ≡ None → (13 ≤ w % 1024) × (w % 1024 ≤ 599)
 word_passes w h =
-    let least = unless (ltb (w % 1024) 13) _ _ h in
-    let most = unless (ltb 599 (w % 1024)) _ _ least.1 in
+    let least = not_wrong (ltb (w % 1024) 13) _ _ h in
+    let most = not_wrong (ltb 599 (w % 1024)) _ _ least.1 in
     (ltb-false _ _ least.0, ltb-false _ _ most.0)
 
 pub datagram_lawful : IsLawful datagram

@@ -1,33 +1,26 @@
 -- Each part of an image stands where its projection finds it.
-use Rattle.std.proofs.Common.{◌≡◌, ℕ, zero, suc, ◌≤◌, Bool, true, false, cond, ltb, List, length, Option, Some, None, refl, sym, arith}
+use Rattle.std.proofs.Common.{◌≡◌, ℕ, zero, suc, ◌≤◌, Bool, true, cond, ltb, List, length, Some, None, refl, sym, arith}
 use Rattle.std.proofs.lemmas.Bool.{ltb-false}
 use Rattle.at_base.specs.Text.{is_name, same_bytes}
 use Rattle.at_base.specs.declared.error.Cause.{Cause}
 use Rattle.at_base.specs.declared.error.Cause.TheVariants.{Magic, Value, Version}
 use Rattle.at_base.specs.Grammar.{Grammar}
 use Rattle.at_base.specs.Lawful.{Has, IsLawful}
+use Rattle.at_base.proofs.Fields.{is_right, not_wrong}
 use Rattle.at_base.proofs.Texts.{same_bytes_is}
 use Rattle.table_image.specs.Limits.{most, most_ports, most_zones, most_names}
 use Rattle.table_image.specs.Flaws.{Wrong, Here}
 use Rattle.table_image.specs.Tests.{within, magic, is_magic, is_entity}
 use Rattle.table_image.specs.Spelling.{counted, text_spelling, zone_spelling, zones_spelling, address_spelling, cable_spelling, port_spelling, row_spelling, state_number, state_of, zone_list_spelling, flag_number, flag_of, router_spelling, own_router_number, behind_flag, own_router_spelling, name_spelling, node_spelling, front_spelling, image_spelling}
 
-test_passed : (b : Bool) (w : Wrong) (o : Option Wrong) → cond b (Some w) o ≡ None → (b ≡ false) × (o ≡ None)
-test_passed true w o e = absurd cc
-test_passed false w o e = (refl, e)
-
 pub within_bounds : (least most : ℕ) (c : Cause) (n : ℕ) → within least most c n ≡ None → (least ≤ n) × (n ≤ most)
 within_bounds least most c n e =
-    let a = test_passed (ltb n least) (Here c) (cond (ltb most n) (Some (Here c)) None) e in
-    let b = test_passed (ltb most n) (Here c) None a.1 in
+    let a = not_wrong (ltb n least) (Here c) (cond (ltb most n) (Some (Here c)) None) e in
+    let b = not_wrong (ltb most n) (Here c) None a.1 in
     (ltb-false _ _ a.0, ltb-false _ _ b.0)
 
-test_true : (b : Bool) (w : Wrong) → cond b None (Some w) ≡ None → b ≡ true
-test_true true w e = refl
-test_true false w e = absurd cc
-
 magic_is : (s : List ℕ) → is_magic s ≡ None → magic ≡ s
-magic_is s e = sym (same_bytes_is s magic (test_true (same_bytes s magic) (Here Magic) e))
+magic_is s e = sym (same_bytes_is s magic (is_right (same_bytes s magic) (Here Magic) e))
 
 counted_lawful : {B : Type 0} (limit : ℕ) (item : ℕ → Grammar Wrong true B) (next : B → ℕ) → ((low : ℕ) → IsLawful (item low)) → IsLawful (counted limit item next)
 unfolding counted
