@@ -3,6 +3,8 @@
 
 mod faults;
 mod images;
+mod long;
+mod making;
 mod parts;
 
 use super::*;
@@ -14,9 +16,7 @@ use images::{
     exchanged, most_cables, most_parts, most_zones, nothing, put, three_cables, three_with,
     two_names, two_with,
 };
-use parts::{
-    has_ports, has_rows, is_cable, is_list, is_name, is_node, made, made_with_a_lost_port, row,
-};
+use parts::{has_ports, has_rows, is_cable, is_list, is_name, is_node, row};
 use rtmp::State;
 use std::alloc::Global;
 use std::test::Fail;
@@ -366,27 +366,4 @@ fn zone_lists_that_differ_are_told_apart(rt: HostRuntime) -> Result<(), Fail> {
         );
     }
     Ok(())
-}
-
-#[test]
-fn parts_are_made_into_an_image(rt: HostRuntime) -> Result<(), Fail> {
-    let image = match made(rt.alloc()) {
-        Err(Error::Memory) => made(rt.alloc())?,
-        other => other?,
-    };
-    let bytes = write_again(rt.alloc(), &image)?;
-    assert_eq!(rt;
-        bytes.as_slice(),
-        b"ATIM\x01\x01\x00\x0A\x00\x13\x01\x03Red\x00\x00".as_slice()
-    );
-    Ok(())
-}
-
-#[test]
-fn parts_are_refused_where_their_bytes_would_be(rt: HostRuntime) {
-    let refused = match made_with_a_lost_port(rt.alloc()) {
-        Err(Error::Memory) => made_with_a_lost_port(rt.alloc()).err(),
-        other => other.err(),
-    };
-    assert_eq!(rt; refused, Some(Error::BadImage(23, Cause::Index)));
 }
