@@ -51,7 +51,7 @@ fn first_cable(image: &Image) -> Option<usize>
 }
 
 /// The first cable that breaks rule C1.
-pub fn bad_cable(image: &Image) -> Option<Place>
+pub(crate) fn bad_cable(image: &Image) -> Option<Place>
     ensures { FirstPlace (c1 image.now) result }
 {
     first_cable(image).map(|k| Place::Cable(from_one(k)))

@@ -28,7 +28,7 @@ fn search_cables(cables: &[Cable], row: &Row) -> Option<usize>
 }
 
 /// The cable that the row is for.
-pub fn cable_of(image: &Image, hint: usize, row: &Row) -> Option<usize>
+pub(crate) fn cable_of(image: &Image, hint: usize, row: &Row) -> Option<usize>
     requires { FirstPlace (c1 image.now) None }
     ensures { result ≡ cable image.now row.now }
 {
@@ -42,7 +42,7 @@ pub fn cable_of(image: &Image, hint: usize, row: &Row) -> Option<usize>
 }
 
 /// Whether the router has a row for the cable.
-pub fn has_row(router: &Router, hint: usize, cable: &Cable) -> bool
+pub(crate) fn has_row(router: &Router, hint: usize, cable: &Cable) -> bool
     ensures { result ≡ list_any (λ row. fits row cable.now) router.now.rows }
 {
     let rows = router.rows.as_slice();
@@ -61,7 +61,7 @@ fn search_ports(ports: &[Port], cable: usize) -> Option<usize>
 }
 
 /// The router's port on the cable.
-pub fn port_on(router: &Router, cable: usize) -> Option<usize>
+pub(crate) fn port_on(router: &Router, cable: usize) -> Option<usize>
     ensures { result ≡ port router.now cable }
 {
     search_ports(router.ports.as_slice(), cable)
@@ -81,7 +81,7 @@ fn search_rows<'a>(rows: &'a [Row], row: &Row) -> Option<&'a Row>
 }
 
 /// The router's row of the same range.
-pub fn same_row(router: &Router, hint: usize, row: &Row) -> Option<Row>
+pub(crate) fn same_row(router: &Router, hint: usize, row: &Row) -> Option<Row>
     requires { AreRising router.now.rows }
     ensures { result ≡ row_of (Some router.now) row.now }
 {
@@ -117,7 +117,7 @@ fn search_routers(routers: &[Router], cable: u8, address: Addr) -> Option<usize>
 }
 
 /// The router that has the address on the cable.
-pub fn owner(image: &Image, hint: usize, cable: u8, address: Addr) -> Option<usize>
+pub(crate) fn owner(image: &Image, hint: usize, cable: u8, address: Addr) -> Option<usize>
     requires { FirstPlace (c2 image.now) None }
     ensures { result ≡ owner_at image.now cable address }
 {

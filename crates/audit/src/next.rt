@@ -16,7 +16,7 @@ use table_image::{Image, Port, Router, Row};
 /// looked at before it is used. The network is left out, since a cable seldom has one node's number
 /// on two of its networks.
 #[derive(Drop)]
-pub struct Hints {
+pub(crate) struct Hints {
     routers: [u8; 65536],
 }
 
@@ -47,7 +47,7 @@ impl Hints {
 
     /// The hints for the routers of the image: the hint for a port names a router that has one on
     /// that cable by that node's number.
-    pub fn of(image: &Image) -> Hints
+    pub(crate) fn of(image: &Image) -> Hints
         ensures { HasHintsBelow result image.now.routers (length image.now.routers) }
     {
         let mut hints = Hints {
@@ -74,7 +74,13 @@ fn next_router(image: &Image, hints: &Hints, router: &Router, row: &Row) -> Opti
 }
 
 /// Whether the row breaks rule C6.
-pub fn breaks_next(image: &Image, hints: &Hints, r: usize, router: &Router, row: &Row) -> bool
+pub(crate) fn breaks_next(
+    image: &Image,
+    hints: &Hints,
+    r: usize,
+    router: &Router,
+    row: &Row,
+) -> bool
     requires { FirstPlace (c2 image.now) None }
     ensures { result ≡ (not (direct row.now) && no_other r (next image.now router.now row.now)) }
 {
@@ -115,7 +121,13 @@ fn is_bad_step(image: &Image, k: usize, row: &Row, next: Option<usize>) -> bool
 }
 
 /// Whether the row breaks rule C7.
-pub fn breaks_steps(image: &Image, hints: &Hints, router: &Router, k: usize, row: &Row) -> bool
+pub(crate) fn breaks_steps(
+    image: &Image,
+    hints: &Hints,
+    router: &Router,
+    k: usize,
+    row: &Row,
+) -> bool
     requires { FirstPlace (c2 image.now) None }
     ensures { result
         ≡ (not (direct row.now)

@@ -21,14 +21,14 @@ fn is_usable(state: State) -> bool
 }
 
 /// Whether the row has no next router.
-pub fn is_direct(row: &Row) -> bool
+pub(crate) fn is_direct(row: &Row) -> bool
     ensures { result ≡ direct row.now }
 {
     row.next.net == 0 && row.next.node == 0
 }
 
 /// Whether the row breaks rule C3.
-pub fn breaks_ranges(image: &Image, router: &Router, k: usize, row: &Row) -> bool
+pub(crate) fn breaks_ranges(image: &Image, router: &Router, k: usize, row: &Row) -> bool
     requires { FirstPlace (c1 image.now) None }
     ensures { result ≡ bad_range image.now router.now row.now }
 {
@@ -45,7 +45,7 @@ fn is_bad_direct(row: &Row, port: Option<usize>) -> bool
 }
 
 /// Whether the row breaks rule C4.
-pub fn breaks_direct(image: &Image, router: &Router, k: usize, row: &Row) -> bool
+pub(crate) fn breaks_direct(image: &Image, router: &Router, k: usize, row: &Row) -> bool
     requires { FirstPlace (c1 image.now) None }
     ensures { result ≡ on (cable image.now row.now) (λ c. bad_direct row.now (port router.now c)) }
 {

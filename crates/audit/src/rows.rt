@@ -14,7 +14,7 @@ use table_image::{Cable, Image, Router, Row};
 
 /// A rule about rows.
 #[derive(Clone, Copy)]
-pub enum RowRule {
+pub(crate) enum RowRule {
     /// C3: each row is usable and for a cable, and each cable has one.
     Ranges,
     /// C4: the rows of cables that the router has a port on are direct, and no others.
@@ -105,7 +105,7 @@ fn first_missing(image: &Image, rule: RowRule, r: usize, router: &Router) -> Opt
 }
 
 /// The first place that breaks the rule.
-pub fn bad_row(image: &Image, hints: &Hints, rule: RowRule) -> Option<Place>
+pub(crate) fn bad_row(image: &Image, hints: &Hints, rule: RowRule) -> Option<Place>
     requires cables { FirstPlace (c1 image.now) None }
     requires stations { FirstPlace (c2 image.now) None }
     ensures { FirstPlace (breaks_rows rule image.now) result }

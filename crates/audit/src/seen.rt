@@ -10,7 +10,7 @@ use table_image::Port;
 
 /// A mark for each address and each hardware address that was seen; others may have the same mark.
 #[derive(Drop)]
-pub struct Seen {
+pub(crate) struct Seen {
     addresses: [bool; 65536],
     hardware: [bool; 65536],
 }
@@ -31,7 +31,7 @@ fn hardware_slot_of(h: &Hw) -> usize
 
 impl Seen {
     /// Nothing was seen yet.
-    pub fn new() -> Seen
+    pub(crate) fn new() -> Seen
         ensures { HasSeenNothing result }
     {
         Seen {
@@ -41,7 +41,7 @@ impl Seen {
     }
 
     /// Whether one of the two may have been seen.
-    pub fn may_have(&self, a: Addr, h: &Hw) -> bool
+    pub(crate) fn may_have(&self, a: Addr, h: &Hw) -> bool
         ensures { result ≡ has_mark self.now a h.now }
     {
         self.addresses[slot_of(a)] || self.hardware[hardware_slot_of(h)]
@@ -56,7 +56,7 @@ impl Seen {
     }
 
     /// Sees the ports of a router.
-    pub fn add_ports(&mut self, ports: &[Port])
+    pub(crate) fn add_ports(&mut self, ports: &[Port])
         ensures seen { HasSeenPorts self.new ports.now }
         ensures more { SeesMore self.old self.new }
     {

@@ -16,7 +16,7 @@ use at_base::{Addr, Hw, Place};
 use table_image::{Image, Node, Port, Router};
 
 /// Whether the two are one address.
-pub fn same_address(a: Addr, b: Addr) -> bool
+pub(crate) fn same_address(a: Addr, b: Addr) -> bool
     ensures { result ≡ same a b }
 {
     a.net == b.net && a.node == b.node
@@ -154,7 +154,7 @@ fn first_node(image: &Image, seen: &Seen) -> Option<usize>
 }
 
 /// The first station that breaks rule C2.
-pub fn bad_station(image: &Image) -> Option<Place>
+pub(crate) fn bad_station(image: &Image) -> Option<Place>
     ensures { FirstPlace (c2 image.now) result }
 {
     let mut seen = Seen::new();

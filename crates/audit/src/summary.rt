@@ -31,7 +31,7 @@ fn greatest_distance(routers: &[Router]) -> u8
 }
 
 /// The summary of the internet.
-pub fn summarize(image: &Image) -> Summary
+pub(crate) fn summarize(image: &Image) -> Summary
     ensures { result ≡ summary_of image.now }
 {
     let routers = image.routers();
