@@ -1,13 +1,29 @@
 //! What just breaks each rule, and what just keeps it: the example with bytes changed, worked by
 //! hand from docs/RULES.md and the places of docs/FORMATS.md.
 
-use super::{change, changed, told, told_again};
+use super::{THREE_CABLES, told, told_again};
 use at_base::Error;
 use std::alloc::Global;
 use std::process::Abort;
 use std::test::Fail;
 
 const YES: &'static str = "yes: 3 cables, 2 routers, 2 nodes, 6 rows, greatest distance 1";
+
+/// Puts these bytes in the place of others.
+fn change(bytes: &mut [u8; 276], changes: &[(usize, u8)]) {
+    for (at, value) in changes {
+        if let Some(byte) = bytes.get_mut(*at) {
+            *byte = *value;
+        }
+    }
+}
+
+/// The example with these bytes in the place of its own.
+fn changed(changes: &[(usize, u8)]) -> [u8; 276] {
+    let mut bytes = THREE_CABLES;
+    change(&mut bytes, changes);
+    bytes
+}
 
 /// Whether each change of the example is told as it should be.
 fn each_is_told(
@@ -155,6 +171,10 @@ fn rows_are_for_cables_and_direct_rows_direct(rt: HostRuntime) -> Result<(), Fai
         ([(77, 0)].as_slice(), "no: C4 router 1 row 2"),
         ([(70, 5)].as_slice(), "no: C4 router 1 row 1"),
         ([(69, 5)].as_slice(), "no: C4 router 1 row 1"),
+        (
+            [(175, 1), (178, 20), (179, 1)].as_slice(),
+            "no: C4 router 2 row 3",
+        ),
         // The row of another cable has distance 0, the next router 0.0.
         ([(86, 0)].as_slice(), "no: C4 router 1 row 3"),
         ([(89, 0), (90, 0)].as_slice(), "no: C4 router 1 row 3"),
@@ -168,7 +188,8 @@ fn distances_fit_and_next_routers_are_there(rt: HostRuntime) -> Result<(), Fail>
         // The distances 15 and 14.
         ([(86, 15)].as_slice(), "no: C5 router 1 row 3"),
         ([(86, 14)].as_slice(), "no: C7 router 1 row 3"),
-        // The next router is 20.0, 0.2, the router itself, a node, a port on another cable.
+        // The next router is nobody, 20.0, 0.2, the router itself, a node, a port on another cable.
+        ([(90, 9)].as_slice(), "no: C6 router 1 row 3"),
         ([(90, 0)].as_slice(), "no: C6 router 1 row 3"),
         ([(89, 0)].as_slice(), "no: C6 router 1 row 3"),
         ([(90, 1)].as_slice(), "no: C6 router 1 row 3"),
