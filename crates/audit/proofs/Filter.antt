@@ -1,9 +1,9 @@
 -- What a filter that has seen the earlier routers says of an address, and that a new one has no mark.
-use Rattle.std.proofs.Common.{◌≡◌, ℕ, ◌+◌, ◌*◌, ◌%◌, inl, inr, ◌||◌, ◌==◌, true, false, List, [], ◌∷◌, slice_index, slice_index_or, replicate, take, ap, ◌∙◌, refl, arith}
+use Rattle.std.proofs.Common.{◌≡◌, ℕ, ◌+◌, ◌*◌, ◌%◌, inl, inr, ◌||◌, ◌==◌, true, false, List, slice_index, slice_index_or, replicate, take, ap, ◌∙◌, arith}
 use Rattle.std.specs.List.{list_any}
 use Rattle.std.proofs.lemmas.Bool.{and_parts, cases_lt, eqb-true, false_from_ne_true, or_parts, or_cases, both_ways}
 use Rattle.std.proofs.lemmas.List.{get_or-replicate, get_or_past, length-replicate}
-use Rattle.at_base.specs.Text.{same_bytes}
+use Rattle.at_base.proofs.Texts.{same_bytes_is}
 use Rattle.at_base.specs.declared.address.Addr.{Addr}
 use Rattle.at_base.specs.declared.address.Hw.{Hw}
 use Rattle.table_image.specs.Seats.{same_address}
@@ -24,17 +24,6 @@ no_mark n i =
 pub no_marks : (n m i j : ℕ) → (slice_index_or (replicate n false) i false || slice_index_or (replicate m false) j false) ≡ false
 no_marks n m i j = ap (λ b. b || slice_index_or (replicate m false) j false) (no_mark n i) ∙ no_mark m j
 
--- the same bytes are one list
-equal_bytes : (xs ys : List ℕ) → same_bytes xs ys ≡ true → xs ≡ ys
-equal_bytes [] [] e = refl
-equal_bytes [] (y ∷ ys) e = cc
-equal_bytes (x ∷ xs) [] e = cc
-equal_bytes (x ∷ xs) (y ∷ ys) e =
-    let parts = and_parts (x == y) (same_bytes xs ys) e in
-    let first = eqb-true x y parts.0 in
-    let rest = equal_bytes xs ys parts.1 in
-    ap (λ z. z ∷ xs) first ∙ ap (λ zs. y ∷ zs) rest
-
 -- one address has one mark
 same_slots : (a b : Addr) → same_address a b ≡ true → address_slot a ≡ address_slot b
 same_slots a b e =
@@ -42,7 +31,7 @@ same_slots a b e =
     ap (λ n. (n + 256 * a.node) % 65536) (eqb-true a.net b.net parts.0) ∙ ap (λ n. (b.net + 256 * n) % 65536) (eqb-true a.node b.node parts.1)
 
 same_hardware_slots : (g h : Hw) → same_hardware g h ≡ true → hardware_slot g ≡ hardware_slot h
-same_hardware_slots g h e = ap (λ l. slice_index l 5 + 256 * slice_index l 4) (equal_bytes g.0 h.0 e)
+same_hardware_slots g h e = ap (λ l. slice_index l 5 + 256 * slice_index l 4) (same_bytes_is g.0 h.0 e)
 
 -- an address without a mark is no earlier router's
 pub not_seen : (seen : Seen) (routers : List Router) (r : ℕ) (a : Addr) (h : Hw) → HasSeenBelow seen routers r → may_have seen a h ≡ false → list_any (router_has a h) (take r routers) ≡ false

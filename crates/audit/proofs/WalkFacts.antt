@@ -1,5 +1,5 @@
 -- What the tests of the rules say of one cable, row or address.
-use Rattle.std.proofs.Common.{◌≡◌, ℕ, zero, suc, ◌+◌, ◌<◌, ◌≤◌, Bool, true, false, cond, List, [], ◌∷◌, Option, Some, None, length, refl, sym, ap, ◌∙◌, subst, arith, slice_get, nat_lt, ◌==◌, is_some, option_and_then, eqb-true, true≢false}
+use Rattle.std.proofs.Common.{◌≡◌, ℕ, ◌+◌, ◌<◌, ◌≤◌, Bool, true, false, cond, Option, Some, None, length, refl, sym, ◌∙◌, subst, arith, slice_get, nat_lt, ◌==◌, is_some, option_and_then, eqb-true, true≢false}
 use Rattle.std.proofs.lemmas.Bool.Decides.{nat_tests}
 use Rattle.std.proofs.lemmas.Bool.{or_parts, and_parts, not-false, ltb-true}
 use Rattle.at_base.specs.declared.address.Addr.{Addr}
@@ -10,7 +10,7 @@ use Rattle.table_image.specs.declared.cable.Cable.{Cable}
 use Rattle.table_image.specs.declared.port.Port.{Port}
 use Rattle.table_image.specs.declared.row.Row.{Row}
 use Rattle.table_image.specs.declared.router.Router.{Router}
-use Rattle.audit.specs.Rules.{bad_cable, end_before, is_for, bad_direct, is_no_other, not_one_less, next_router}
+use Rattle.audit.specs.Rules.{bad_cable, is_for, bad_direct, is_no_other, not_one_less, next_router}
 use Rattle.audit.proofs.WalkLists.{At}
 
 pub record GoodCable (before : ℕ) (c : Cable) : Type 0 where
@@ -33,12 +33,6 @@ for_is row c e = (grind (arith, nat_tests), grind (arith, nat_tests))
 
 pub is_for_when : (row : Row) (c : Cable) → row.start ≡ c.start → row.end ≡ c.end → is_for row c ≡ true
 is_for_when row c e f = grind (arith, nat_tests)
-
--- the end before cable m + 1 is that of cable m
-pub end_before_is : (cables : List Cable) (m : ℕ) (c : Cable) → At cables m c → end_before cables (suc m) ≡ c.end
-end_before_is [] m c e = cc
-end_before_is (x ∷ cables) zero c e = let same : x ≡ c = cc in ap (λ (c : Cable). c.end) same
-end_before_is (x ∷ cables) (suc m) c e = end_before_is cables m c e
 
 pub same_bool : (a b : Bool) → (a ≡ true → b ≡ true) → (b ≡ true → a ≡ true) → a ≡ b
 same_bool true b f g = sym (f refl)

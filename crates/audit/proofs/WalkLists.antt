@@ -1,7 +1,9 @@
 -- What stands at places of lists, and what index_of, find and list_any say of it.
 use Rattle.std.proofs.Common.{◌≡◌, ℕ, zero, suc, ◌+◌, ◌<◌, ◌⊎◌, inl, inr, Bool, true, false, cond, ◌||◌, List, [], ◌∷◌, ◌++◌, Option, Some, None, length, take, map, refl, sym, ap, ◌∙◌, arith, slice_get, option_map, find}
 use Rattle.std.specs.List.{list_any}
+use Rattle.std.proofs.lemmas.Bool.{or_parts}
 use Rattle.table_image.specs.Places.{index_of}
+use Rattle.audit.proofs.Finding.{at_take}
 
 -- x stands at place k
 abbrev pub At : {X : Type 0} → List X → ℕ → X → Type 0
@@ -48,12 +50,6 @@ index_found t (y ∷ xs) (suc k) x e p =
       | false ↦ (suc h.0, ap (option_map suc) h.1)
     ]
 
--- it finds the one place that passes
-pub index_is : {X : Type 0} (t : X → Bool) (xs : List X) (k : ℕ) (x : X) → At xs k x → t x ≡ true → ((j : ℕ) (y : X) → At xs j y → t y ≡ true → j ≡ k) → index_of t xs ≡ Some k
-index_is t xs k x e p one =
-    let h = index_found t xs k x e p in let w = index_at t xs h.0 h.1 in
-    h.1 ∙ ap Some (one h.0 w.0 w.1 w.2)
-
 -- ---- The first element that passes
 
 -- what find finds is there, and passes
@@ -92,26 +88,12 @@ pub none_passes : {X : Type 0} (t : X → Bool) (xs : List X) → list_any t xs 
 none_passes t [] none k x e = cc
 none_passes t (y ∷ xs) none zero x e =
     let same : y ≡ x = cc in
-    ap t (sym same) ∙ head (t y) (list_any t xs) none
-  where
-    head : (a b : Bool) → (a || b) ≡ false → a ≡ false
-    head true b h = h
-    head false b h = refl
-none_passes t (y ∷ xs) none (suc k) x e = none_passes t xs (tail (t y) (list_any t xs) none) k x e
-  where
-    tail : (a b : Bool) → (a || b) ≡ false → b ≡ false
-    tail true b h = cc
-    tail false b h = h
+    ap t (sym same) ∙ (or_parts (t y) (list_any t xs) none).0
+none_passes t (y ∷ xs) none (suc k) x e = none_passes t xs (or_parts (t y) (list_any t xs) none).1 k x e
 
 -- where none of the first m passes, an element before place m doesn't
 pub none_before : {X : Type 0} (t : X → Bool) (xs : List X) (m : ℕ) → list_any t (take m xs) ≡ false → (k : ℕ) (x : X) → k < m → At xs k x → t x ≡ false
 none_before t xs m none k x below e = none_passes t (take m xs) none k x (at_take xs m k x below e)
-  where
-    at_take : {X : Type 0} (xs : List X) (m k : ℕ) (x : X) → k < m → At xs k x → At (take m xs) k x
-    at_take [] m k x below e = cc
-    at_take (y ∷ xs) zero k x below e = absurd (omega arith)
-    at_take (y ∷ xs) (suc m) zero x below e = e
-    at_take (y ∷ xs) (suc m) (suc k) x below e = at_take xs m k x (omega arith) e
 
 -- ---- Lists made of lists
 

@@ -1,8 +1,8 @@
 -- What a router does with a datagram over tables that pass: it stops at the home of the network, or hands on to a
 -- router that is one nearer.
-use Rattle.std.proofs.Common.{◌≡◌, ℕ, zero, suc, ◌<◌, ◌≤◌, inl, inr, Bool, true, false, cond, ◌&&◌, not, Some, None, length, refl, sym, ap, ◌∙◌, subst, arith, slice_get, option_and_then, find, nat_lt, ◌==◌, is_some, eqb-true, eq-eqb}
+use Rattle.std.proofs.Common.{◌≡◌, ℕ, suc, ◌<◌, ◌≤◌, inl, inr, Bool, true, false, cond, ◌&&◌, not, Some, None, length, refl, sym, ap, ◌∙◌, subst, arith, slice_get, option_and_then, find, nat_lt, ◌==◌, is_some, eqb-true, eq-eqb}
 use Rattle.std.specs.List.{list_any}
-use Rattle.std.proofs.lemmas.Bool.{and_parts, not-false, cases_lt, cases_order, cases_Bool, ltb-false, false_from_ne_true}
+use Rattle.std.proofs.lemmas.Bool.{and_parts, not-false, cases_order, cases_Bool, ltb-false, false_from_ne_true}
 use Rattle.at_base.specs.declared.address.Addr.{Addr}
 use Rattle.at_base.specs.declared.error.Place.TheVariants as place
 use Rattle.table_image.specs.Internet.{Internet}
@@ -13,10 +13,11 @@ use Rattle.table_image.specs.declared.cable.Cable.{Cable}
 use Rattle.table_image.specs.declared.port.Port.{Port}
 use Rattle.table_image.specs.declared.row.Row.{Row}
 use Rattle.table_image.specs.declared.router.Router.{Router}
-use Rattle.audit.specs.Rules.{end_before, bad_cable, at_row, is_for, cable_of, bad_range, lacks_row, port_on, bad_direct, next_router, is_no_other, same_row, bad_step, Passes}
+use Rattle.audit.specs.Rules.{end_before, at_row, is_for, cable_of, bad_range, lacks_row, port_on, bad_direct, next_router, is_no_other, same_row, bad_step, Passes}
 use Rattle.audit.specs.Walks.{Steps, Stops, Goes, HasPort}
-use Rattle.audit.proofs.WalkLists.{At, at_within, at_below, at_one, index_at, index_found, index_is, find_at, find_found, find_agree, find_none}
-use Rattle.audit.proofs.WalkFacts.{GoodCable, good_cable, between_is, is_between_when, for_is, end_before_is, same_bool, some_of, not_both, direct_is, indirect_is, other_is, one_less_is, next_is, owner_is}
+use Rattle.audit.proofs.WalkLists.{At, at_below, at_one, index_at, index_found, find_at, find_found, find_agree, find_none}
+use Rattle.audit.proofs.CableOrder.{good_at, rising, only_cable}
+use Rattle.audit.proofs.WalkFacts.{GoodCable, between_is, is_between_when, for_is, same_bool, some_of, not_both, direct_is, indirect_is, other_is, one_less_is, next_is, owner_is}
 use Rattle.audit.proofs.SeatPlaces.{AtPort, AtNode, sits}
 
 -- the owner of an address on a cable has a port there
@@ -40,23 +41,7 @@ module _ (i : Internet) (ok : Passes i) where
   -- ---- Cables
 
   pub cable_good : (k : ℕ) (c : Cable) → At i.cables k c → GoodCable (end_before i.cables k) c
-  cable_good k c e = good_cable _ c (sym (ap (λ o. on o (bad_cable (end_before i.cables k))) e) ∙ ok 1 (place.Cable (suc k)))
-
-  -- a cable ends before a later one starts
-  ordered : (k j : ℕ) (a b : Cable) → At i.cables j a → At i.cables k b → j < k → a.end < b.start
-  ordered zero j a b ea eb h = absurd (omega arith)
-  ordered (suc m) j a b ea eb h =
-      let within = at_within i.cables (suc m) b eb in
-      let w = at_below i.cables m (omega arith) in
-      let after : end_before i.cables (suc m) < b.start = (cable_good (suc m) b eb).after in
-      let before : end_before i.cables (suc m) ≡ w.0.end = end_before_is i.cables m w.0 w.1 in
-      let up = (cable_good m w.0 w.1).up in
-      elim (cases_lt j m) [
-        | inl lt ↦ let e : a.end < w.0.start = ordered m j a w.0 ea w.1 lt in omega arith
-        | inr le ↦
-            let same : j ≡ m = omega arith in
-            let e : a.end ≡ w.0.end = ap (λ (c : Cable). c.end) (at_one i.cables m a w.0 (subst (λ k. At i.cables k a) same ea) w.1) in omega arith
-      ]
+  cable_good k c e = good_at i k c (ok 1) e
 
   -- no network is on two cables
   pub one_cable : (j k : ℕ) (a b : Cable) (n : ℕ) → At i.cables j a → At i.cables k b → is_between a.start a.end n ≡ true → is_between b.start b.end n ≡ true → j ≡ k
@@ -65,18 +50,10 @@ module _ (i : Internet) (ok : Passes i) where
       elim (cases_order j k) [
         | inl e ↦ e
         | inr h ↦ elim h [
-          | inl lt ↦ let o = ordered k j a b ea eb lt in absurd (omega arith)
-          | inr gt ↦ let o = ordered j k b a eb ea gt in absurd (omega arith)
+          | inl lt ↦ let o = rising i (ok 1) k j a b ea eb lt in absurd (omega arith)
+          | inr gt ↦ let o = rising i (ok 1) j k b a eb ea gt in absurd (omega arith)
         ]
       ]
-
-  -- the cable of a row is the one that has its range
-  cable_of_is : (c : ℕ) (cable : Cable) (row : Row) → At i.cables c cable → is_for row cable ≡ true → cable_of i row ≡ Some c
-  cable_of_is c cable row e same =
-      index_is (is_for row) i.cables c cable e same (λ j y f q.
-      let g = cable_good c cable e in
-      let x = for_is row cable same in let z = for_is row y q in
-      one_cable j c y cable cable.start f e (is_between_when y.start y.end cable.start (omega arith) (let u = g.up in omega arith)) (is_between_when cable.start cable.end cable.start (omega arith) g.up))
 
   -- ---- The row of a router for a network
 
@@ -139,7 +116,7 @@ module _ (i : Internet) (ok : Passes i) where
         place_of = g.0;
         at = g.1;
         found = row_for_is r router n c w.0 er w.1 w.2 ∙ f.1;
-        of = cable_of_is c w.0 f.0 w.1 g.2;
+        of = sym (only_cable i f.0 c w.0 (ok 1) w.1 g.2);
         cable = w.0;
         at_cable = w.1;
         holds = w.2;

@@ -1,5 +1,5 @@
 -- The rules about the rows of routers, C3 to C7, as one family. (own)
-use Rattle.std.specs.Prelude.{ℕ, suc, Bool, false, not, ◌&&◌, slice_get, nat_lt}
+use Rattle.std.specs.Prelude.{ℕ, suc, Bool, false, not, ◌&&◌, nat_lt}
 use Rattle.at_base.specs.declared.error.Place.{Place}
 use Rattle.at_base.specs.declared.error.Place.TheVariants as place
 use Rattle.table_image.specs.Internet.{Internet}
@@ -7,7 +7,7 @@ use Rattle.table_image.specs.Places.{on}
 use Rattle.table_image.specs.Routing.{is_direct}
 use Rattle.table_image.specs.declared.row.Row.{Row}
 use Rattle.table_image.specs.declared.router.Router.{Router}
-use Rattle.audit.specs.Rules.{at_row, cable_of, port_on, next_router, bad_range, lacks_row, bad_direct, is_no_other, bad_step}
+use Rattle.audit.specs.Rules.{c3, at_row, cable_of, port_on, next_router, bad_range, bad_direct, is_no_other, bad_step}
 use Rattle.audit.specs.declared.rows.RowRule.{RowRule}
 use Rattle.audit.specs.declared.rows.RowRule.TheVariants.{Ranges, Direct, Distances, Next, Steps}
 
@@ -21,7 +21,7 @@ row_breaks Steps i r router row = not (is_direct row) && bad_step i row (next_ro
 
 -- the lack of a row breaks the rule
 abbrev pub lack_breaks : RowRule → Internet → ℕ → ℕ → Bool
-lack_breaks Ranges i (suc r) (suc k) = on (slice_get i.routers r) (λ router. on (slice_get i.cables k) (lacks_row router))
+lack_breaks Ranges i r k = c3 i (place.Missing r k)
 lack_breaks rule i r k = false
 
 -- the place breaks the rule
