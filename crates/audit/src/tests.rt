@@ -66,6 +66,8 @@ fn cables_stand_in_order(rt: HostRuntime) -> Result<(), Fail> {
             YES,
         ),
         ([(31, 0xFF), (32, 0)].as_slice(), "no: C1 cable 3"),
+        // The first of two is told.
+        ([(9, 9), (31, 0xFF)].as_slice(), "no: C1 cable 1"),
     ];
     each_is_told(&rt, rt.alloc(), cases.as_slice())
 }
@@ -154,6 +156,8 @@ fn rows_are_for_cables_and_direct_rows_direct(rt: HostRuntime) -> Result<(), Fai
             [(175, 1), (178, 20), (179, 1)].as_slice(),
             "no: C4 router 2 row 3",
         ),
+        // The first of two rows is told.
+        ([(66, 1), (77, 0)].as_slice(), "no: C4 router 1 row 1"),
         // The row of another cable has distance 0, the next router 0.0.
         ([(86, 0)].as_slice(), "no: C4 router 1 row 3"),
         ([(89, 0), (90, 0)].as_slice(), "no: C4 router 1 row 3"),
@@ -288,6 +292,7 @@ fn each_kind_of_place_is_told(rt: HostRuntime) -> Result<(), Fail> {
         (2, Place::Node(4), "no: C2 node 4"),
         (5, Place::Row(1, 17), "no: C5 router 1 row 17"),
         (3, Place::Missing(2, 7), "no: C3 router 2 cable 7"),
+        (8, Place::List(2, 3), "no: C8 router 2 list 3"),
     ] {
         let verdict = Verdict::No(Fault { rule, place });
         let line = line_told(rt.alloc(), &verdict)?;
