@@ -4,7 +4,6 @@
 mod faults;
 mod images;
 mod long;
-mod making;
 mod parts;
 
 use super::*;
@@ -16,7 +15,10 @@ use images::{
     exchanged, most_cables, most_parts, most_zones, nothing, put, three_cables, three_with,
     two_names, two_with,
 };
-use parts::{has_ports, has_rows, is_cable, is_list, is_name, is_node, row};
+use long::{TooLong, refusal_of};
+use parts::{
+    has_ports, has_rows, is_cable, is_list, is_name, is_node, made, made_with_a_lost_port, row,
+};
 use rtmp::State;
 use std::alloc::Global;
 use std::test::Fail;
@@ -28,6 +30,11 @@ fn read_again(alloc: Global, bytes: &[u8]) -> Result<Image, Error> {
         Err(Error::Memory) => read(alloc, bytes),
         answer => answer,
     }
+}
+
+/// The refusal of bytes that spell no image.
+fn bad(place: u32, cause: Cause) -> Option<Error> {
+    Some(Error::BadImage(place, cause))
 }
 
 /// What `write` gives, called again where its memory was refused.
@@ -187,7 +194,7 @@ fn a_cut_image_is_refused_at_its_end(rt: HostRuntime) {
     let bytes = three_cables();
     for len in 0..276u32 {
         let answer = read(rt.alloc(), &bytes[..len as usize]).err();
-        assert_eq!(rt; answer, Some(Error::BadImage(len, Cause::Cut)), "at {len}");
+        assert_eq!(rt; answer, bad(len, Cause::Cut), "at {len}");
     }
 }
 
@@ -197,33 +204,25 @@ fn bytes_may_not_follow_the_nodes(rt: HostRuntime) {
     put(&mut longer, 0, &three_cables());
     for len in [277, 278] {
         let answer = read(rt.alloc(), &longer[..len]).err();
-        assert_eq!(rt;
-            answer,
-            Some(Error::BadImage(276, Cause::Trailing)),
-            "at {len}"
-        );
+        assert_eq!(rt; answer, bad(276, Cause::Trailing), "at {len}");
     }
     let mut longer = [0; 9];
     put(&mut longer, 0, &nothing());
     let answer = read(rt.alloc(), &longer).err();
-    assert_eq!(rt; answer, Some(Error::BadImage(8, Cause::Trailing)));
+    assert_eq!(rt; answer, bad(8, Cause::Trailing));
 }
 
 #[test]
 fn rows_rise(rt: HostRuntime) {
     let answer = read(rt.alloc(), &exchanged()).err();
-    assert_eq!(rt; answer, Some(Error::BadImage(72, Cause::Order)));
+    assert_eq!(rt; answer, bad(72, Cause::Order));
 }
 
 #[test]
 fn a_bad_length_or_index_is_told_at_its_field(rt: HostRuntime) {
     for (place, byte, at, cause) in lengths_and_indices() {
         let answer = read(rt.alloc(), &three_with(place, byte)).err();
-        assert_eq!(rt;
-            answer,
-            Some(Error::BadImage(at, cause)),
-            "{byte} at {place}"
-        );
+        assert_eq!(rt; answer, bad(at, cause), "{byte} at {place}");
     }
 }
 
@@ -231,11 +230,7 @@ fn a_bad_length_or_index_is_told_at_its_field(rt: HostRuntime) {
 fn a_bad_value_name_or_order_is_told_at_its_field(rt: HostRuntime) {
     for (place, byte, at, cause) in values_names_and_orders() {
         let answer = read(rt.alloc(), &three_with(place, byte)).err();
-        assert_eq!(rt;
-            answer,
-            Some(Error::BadImage(at, cause)),
-            "{byte} at {place}"
-        );
+        assert_eq!(rt; answer, bad(at, cause), "{byte} at {place}");
     }
 }
 
@@ -243,30 +238,17 @@ fn a_bad_value_name_or_order_is_told_at_its_field(rt: HostRuntime) {
 fn names_have_enumerators_that_rise(rt: HostRuntime) {
     for (place, byte, at, cause) in two_faults() {
         let answer = read(rt.alloc(), &two_with(place, byte)).err();
-        assert_eq!(rt;
-            answer,
-            Some(Error::BadImage(at, cause)),
-            "{byte} at {place}"
-        );
+        assert_eq!(rt; answer, bad(at, cause), "{byte} at {place}");
     }
 }
 
 #[test]
 fn a_length_is_refused_before_its_bytes_are_looked_for(rt: HostRuntime) {
     let long = three_with(11, 33);
-    assert_eq!(rt;
-        read(rt.alloc(), &long[..12]).err(),
-        Some(Error::BadImage(11, Cause::Name))
-    );
-    let bad = three_with(12, 0x1F);
-    assert_eq!(rt;
-        read(rt.alloc(), &bad[..14]).err(),
-        Some(Error::BadImage(14, Cause::Cut))
-    );
-    assert_eq!(rt;
-        read(rt.alloc(), &bad[..15]).err(),
-        Some(Error::BadImage(11, Cause::Name))
-    );
+    assert_eq!(rt; read(rt.alloc(), &long[..12]).err(), bad(11, Cause::Name));
+    let odd = three_with(12, 0x1F);
+    assert_eq!(rt; read(rt.alloc(), &odd[..14]).err(), bad(14, Cause::Cut));
+    assert_eq!(rt; read(rt.alloc(), &odd[..15]).err(), bad(11, Cause::Name));
 }
 
 #[test]
@@ -366,4 +348,45 @@ fn zone_lists_that_differ_are_told_apart(rt: HostRuntime) -> Result<(), Fail> {
         );
     }
     Ok(())
+}
+
+#[test]
+fn parts_are_made_into_an_image(rt: HostRuntime) -> Result<(), Fail> {
+    let image = match made(rt.alloc()) {
+        Err(Error::Memory) => made(rt.alloc())?,
+        other => other?,
+    };
+    let bytes = write_again(rt.alloc(), &image)?;
+    assert_eq!(rt;
+        bytes.as_slice(),
+        b"ATIM\x01\x01\x00\x0A\x00\x13\x01\x03Red\x00\x00".as_slice()
+    );
+    Ok(())
+}
+
+#[test]
+fn parts_are_refused_where_their_bytes_would_be(rt: HostRuntime) {
+    let refused = match made_with_a_lost_port(rt.alloc()) {
+        Err(Error::Memory) => made_with_a_lost_port(rt.alloc()).err(),
+        other => other.err(),
+    };
+    assert_eq!(rt; refused, bad(23, Cause::Index));
+}
+
+#[test]
+fn parts_with_a_list_that_is_too_long_are_refused(rt: HostRuntime) {
+    let lists = [
+        TooLong::Cables,
+        TooLong::Zones,
+        TooLong::Routers,
+        TooLong::Ports,
+        TooLong::Rows,
+        TooLong::ZoneLists,
+        TooLong::ListedZones,
+        TooLong::Nodes,
+        TooLong::Names,
+    ];
+    for list in lists {
+        assert_eq!(rt; refusal_of(rt.alloc(), list), Some(Error::Full));
+    }
 }

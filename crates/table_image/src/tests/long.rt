@@ -94,7 +94,7 @@ fn node(alloc: Global, names: u8) -> Result<Node, Error> {
 }
 
 /// What `Image::make` answers to a cable, a router and a node, of which one list is too long.
-pub(crate) fn with_too_long(alloc: Global, list: TooLong) -> Result<Image, Error> {
+fn with_too_long(alloc: Global, list: TooLong) -> Result<Image, Error> {
     let (mut cables, mut zones, mut routers, mut nodes, mut names) = (1, 1, 1, 1, 1);
     let (mut ports, mut rows, mut lists, mut listed) = (1, 1, 1, 1);
     match list {
@@ -121,4 +121,12 @@ pub(crate) fn with_too_long(alloc: Global, list: TooLong) -> Result<Image, Error
         all_nodes.push(node(alloc, names)?)?;
     }
     Image::make(all_cables, all_routers, all_nodes)
+}
+
+/// What `Image::make` answers to parts with such a list, called again where memory was refused.
+pub(crate) fn refusal_of(alloc: Global, list: TooLong) -> Option<Error> {
+    match with_too_long(alloc, list) {
+        Err(Error::Memory) => with_too_long(alloc, list).err(),
+        answer => answer.err(),
+    }
 }
