@@ -1,13 +1,14 @@
 //! The command line: what its words ask for, and the help that it answers.
 
 ghost use Rattle.std.specs.Prelude.{◌≡◌, ◌≢◌, ◌⊎◌, ◌≤◌, ◌∷◌};
-ghost use Rattle.std.specs.Prelude.{List, ℕ, [], None, false, codes, length, map};
-ghost use Rattle.std.specs.Prelude.{IfOk, IfErr, IsErrAnd};
-ghost use Rattle.clap.specs.Words.{app_of, kind_of, subcommand_rows_of};
+ghost use Rattle.std.specs.Prelude.{List, ℕ, [], None, false, codes, length, map, option_map};
+ghost use Rattle.std.specs.Prelude.{IfOk, IfErr, IsErrAnd, IsTrue, Some};
+ghost use Rattle.clap.specs.Words.{app_of, first_value, found_of, kind_of};
+ghost use Rattle.clap.specs.Words.{subcommand_of, subcommand_rows_of};
 ghost use Rattle.clap.specs.declared.Command.TheViews.{out-Command as fields_of};
 ghost use Rattle.clap.specs.declared.error.ErrorKind.TheVariants.{DisplayHelp, DisplayVersion};
 ghost use Rattle.clap.specs.declared.error.ErrorKind.TheVariants.{OutOfMemory};
-ghost use Rattle.atalk_tool.specs.Words.{atalk_app, audit_app};
+ghost use Rattle.atalk_tool.specs.Words.{Audits, atalk_app, audit_app, file_of, is_operand};
 
 use clap::{Arg, ArgAction, ArgMatches, Command, Error};
 use std::alloc::{AllocError, Global};
@@ -79,6 +80,16 @@ pub fn read_words<'a, S: AsStr>(alloc: Global, words: &'a [S]) -> Result<Job<'a>
     ensures alone { length words.entry.now ≤ 1
         → IfOk result (λ job. job ≡ Job.Audit Source.StandardInput) }
     ensures alone_err { length words.entry.now ≤ 1 → IfErr result (λ e. kind_of e ≡ OutOfMemory) }
+    // What is audited is what FILE names, in the parse that clap's contracts define.
+    ensures file { IfOk result
+        (Audits (file_of (subcommand_of atalk_app (map S.text words.entry.now)))) }
+    // `audit FILE` asks for an audit of FILE, and is refused only for want of memory.
+    ensures audit { (name file : List ℕ)
+        → map S.text words.entry.now ≡ name ∷ codes "audit" ∷ file ∷ []
+        → IsTrue (is_operand file) → IfOk result (Audits (Some file)) }
+    ensures audit_err { (name file : List ℕ)
+        → map S.text words.entry.now ≡ name ∷ codes "audit" ∷ file ∷ []
+        → IsTrue (is_operand file) → IfErr result (λ e. kind_of e ≡ OutOfMemory) }
     // Help and the version are answered as such.
     ensures help { (name : List ℕ) → map S.text words.entry.now ≡ name ∷ codes "--help" ∷ []
         → IsErrAnd result (λ e. (kind_of e ≡ DisplayHelp) ⊎ (kind_of e ≡ OutOfMemory)) }
@@ -91,12 +102,20 @@ pub fn read_words<'a, S: AsStr>(alloc: Global, words: &'a [S]) -> Result<Job<'a>
 
 /// The job that was matched: without a command, an audit of standard input.
 fn job_of<'a>(matches: &ArgMatches<'a>) -> Job<'a>
-    ensures { subcommand_rows_of matches.now ≡ None → result ≡ Job.Audit Source.StandardInput }
+    ensures none { subcommand_rows_of matches.now ≡ None → result ≡ Job.Audit Source.StandardInput }
+    ensures file { Audits (file_of (subcommand_rows_of matches.now)) result }
 {
     match matches.subcommand() {
-        Some((_, audit)) => Job::Audit(source_of(audit.get_str("FILE").unwrap_or("-"))),
+        Some((_, audit)) => Job::Audit(source_of(file_word(audit).unwrap_or("-"))),
         None => Job::Audit(Source::StandardInput),
     }
+}
+
+/// The value of FILE.
+fn file_word<'a>(audit: &ArgMatches<'a>) -> Option<&'a str>
+    ensures { option_map (λ s. s.now) result ≡ first_value (found_of audit.now) (codes "FILE") }
+{
+    audit.get_str("FILE")
 }
 
 /// The source that a word names.

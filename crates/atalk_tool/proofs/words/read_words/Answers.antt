@@ -1,10 +1,10 @@
-use Rattle.std.proofs.Common.{◌≡◌, ◌⊎◌, ◌≤◌, List, [], ◌∷◌, length, map, inl, inr, ap, ◌∙◌, rules}
+use Rattle.std.proofs.Common.{◌≡◌, ◌⊎◌, ◌≤◌, List, [], ◌∷◌, Option, length, map, inl, inr, ap, ap₂, subst, ◌∙◌, rules}
 use Rattle.std.proofs.lemmas.List.{length-map}
-use Rattle.clap.specs.Words.{App, Text, IsAmong, Kinds, is_simple, is_simple_and_free, subcommand_of, takes, fault_of}
+use Rattle.clap.specs.Words.{App, Row, Text, IsAmong, Kinds, is_simple, is_simple_and_free, subcommand_of, takes, fault_of}
 use Rattle.clap.specs.declared.error.ErrorKind.{ErrorKind}
 use Rattle.clap.specs.declared.error.ErrorKind.TheVariants.{OutOfMemory}
-use Rattle.atalk_tool.specs.Words.{atalk_app}
-use Rattle.atalk_tool.proofs.CommandLine.{simple, simple_and_free, none_entered, none_taken, help_asked, version_asked}
+use Rattle.atalk_tool.specs.Words.{Audits, atalk_app, file_of}
+use Rattle.atalk_tool.proofs.CommandLine.{simple, simple_and_free, none_entered, none_taken, help_asked, version_asked, file_given, file_taken}
 use Rattle.atalk_tool.proofs.words.read_words.Goals as goal
 
 -- where one kind may come, an error has it or memory ran out
@@ -43,7 +43,7 @@ pub returns-clause-alone : goal.returns-clause-alone
 returns-clause-alone g c = λ short.
     let texts = map g.S.AsStr.text c.args.words.now in
     let app = c.in_ok-atalk_command.ensures in
-    c.job_of.ensures ((c.in_ok-matches.ensures.matches (ap is_simple app ∙ simple)).1
+    c.job_of.ensures.none ((c.in_ok-matches.ensures.matches (ap is_simple app ∙ simple)).1
     ∙ ap (λ (a : App). subcommand_of a texts) app ∙ none_entered texts (short_map g.S.AsStr.text c.args.words.now short))
 
 pub returns-clause-help : goal.returns-clause-help
@@ -59,3 +59,22 @@ returns-clause-version g c = λ name named.
     let fault = fault_is _ _ _ _ app named (version_asked name) in
     let none = c.in_ok-matches.ensures.kinds (ap is_simple_and_free app ∙ simple_and_free) in
     cc (fault, none)
+
+pub returns-clause-file : goal.returns-clause-file
+returns-clause-file g c =
+    let texts = map g.S.AsStr.text c.args.words.now in
+    let app = c.in_ok-atalk_command.ensures in
+    let met = (c.in_ok-matches.ensures.matches (ap is_simple app ∙ simple)).1 ∙ ap (λ (a : App). subcommand_of a texts) app in
+    subst (λ (rows : Option (Text × List Row)). Audits (file_of rows) c.job_of.result) met c.job_of.ensures.file
+
+pub returns-in_err-matches-clause-audit_err : goal.returns-in_err-matches-clause-audit_err
+returns-in_err-matches-clause-audit_err g c = λ name file named operand.
+    let texts = map g.S.AsStr.text c.args.words.now in
+    let memory = c.in_err-matches.ensures.passes (ap₂ takes c.in_ok-atalk_command.ensures named ∙ file_taken name file operand) in
+    search rules
+
+pub returns-clause-audit : goal.returns-clause-audit
+returns-clause-audit g c = λ name file named operand.
+    let app = c.in_ok-atalk_command.ensures in
+    let met = (c.in_ok-matches.ensures.matches (ap is_simple app ∙ simple)).1 ∙ ap₂ subcommand_of app named in
+    subst (λ (text : Option Text). Audits text c.job_of.result) (ap file_of met ∙ file_given name file operand) c.job_of.ensures.file
