@@ -111,6 +111,28 @@ fn a_length_below_13_or_above_599_is_refused(rt: HostRuntime) {
 }
 
 #[test]
+fn the_header_is_looked_for_before_the_length_is_judged(rt: HostRuntime) {
+    let mut bytes = [0; 13];
+    // a length of 12, and one of 600, of which 13 bytes are there
+    for (high, low) in [(0x00, 0x0C), (0x02, 0x58)] {
+        bytes[0] = high;
+        bytes[1] = low;
+        assert!(rt; matches!(View::read(&bytes[..12]), Err(Error::Truncated)));
+        assert!(rt; matches!(View::read(&bytes), Err(Error::BadLength)));
+    }
+}
+
+#[test]
+fn the_shortest_datagram_has_no_data(rt: HostRuntime) -> Result<(), Fail> {
+    let mut bytes = [0; 13];
+    bytes[1] = 13;
+    let view = View::read(&bytes)?;
+    assert_eq!(rt; view.length(), 13);
+    assert_eq!(rt; view.payload(), [].as_slice());
+    Ok(())
+}
+
+#[test]
 fn padding_is_no_part_of_the_data(rt: HostRuntime) -> Result<(), Fail> {
     let mut bytes = [0x55; 19];
     bytes[..18].copy_from_slice(&PING);
@@ -131,6 +153,23 @@ fn a_hop_count_is_set_and_nothing_else(rt: HostRuntime) -> Result<(), Fail> {
     Ok(())
 }
 
+/// Each bit of the first byte, in the longest datagram: its two top bits, four of hops, two of 599.
+#[test]
+fn hops_stand_between_the_top_bits_and_the_length(rt: HostRuntime) -> Result<(), Fail> {
+    let mut bytes = [0; 599];
+    bytes[0] = 0xC2;
+    bytes[1] = 0x57;
+    assert_eq!(rt; View::read(&bytes)?.hops(), 0);
+    assert_eq!(rt; View::read(&bytes)?.length(), 599);
+    set_hops(&mut bytes, 15);
+    assert_eq!(rt; (bytes[0], bytes[1]), (0xFE, 0x57));
+    assert_eq!(rt; View::read(&bytes)?.hops(), 15);
+    assert_eq!(rt; View::read(&bytes)?.length(), 599);
+    set_hops(&mut bytes, 0);
+    assert_eq!(rt; bytes[0], 0xC2);
+    Ok(())
+}
+
 #[test]
 fn a_checksum_is_0_or_the_sum(rt: HostRuntime) -> Result<(), Fail> {
     let mut bytes = PING;
@@ -138,8 +177,11 @@ fn a_checksum_is_0_or_the_sum(rt: HostRuntime) -> Result<(), Fail> {
     bytes[2] = 0x83;
     bytes[3] = 0xF2;
     assert!(rt; View::read(&bytes)?.check().is_ok());
-    bytes[3] = 0xF3;
-    assert_eq!(rt; View::read(&bytes)?.check(), Err(Error::BadChecksum));
+    for (high, low) in [(0x83, 0xF3), (0xFF, 0xFF)] {
+        bytes[2] = high;
+        bytes[3] = low;
+        assert_eq!(rt; View::read(&bytes)?.check(), Err(Error::BadChecksum));
+    }
     Ok(())
 }
 
