@@ -13,8 +13,8 @@ use Rattle.at_base.proofs.Laws.{read_refused}
 use Rattle.at_base.proofs.Readers.{spelled_begins, begins_read, reads_ok, reads_err}
 use Rattle.ddp.specs.Refusing.{packets}
 use Rattle.ddp.specs.Datagram.{Datagram, datagram, wrong_word}
-use Rattle.ddp.specs.Bodies.{named_length}
-use Rattle.ddp.specs.InPlace.{word_at, datagram_in, IsDatagram, extent}
+use Rattle.ddp.specs.Bodies.{word_at, named_length}
+use Rattle.ddp.specs.InPlace.{datagram_in, IsDatagram, extent}
 use Rattle.ddp.proofs.Shape.{datagram_lawful}
 use Rattle.ddp.proofs.Places.{high, low, datagram_there}
 

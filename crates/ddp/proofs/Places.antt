@@ -4,8 +4,8 @@ use Rattle.std.specs.Int.{byte_at}
 use Rattle.std.proofs.lemmas.List.{length-drop}
 use Rattle.at_base.proofs.Fields.{IsBytes}
 use Rattle.ddp.specs.Datagram.{first_word}
-use Rattle.ddp.specs.Bodies.{named_length}
-use Rattle.ddp.specs.InPlace.{word_at, datagram_in, IsDatagram}
+use Rattle.ddp.specs.Bodies.{word_at, named_length}
+use Rattle.ddp.specs.InPlace.{datagram_in, IsDatagram}
 use Rattle.ddp.proofs.Shape.{laid, bytes_laid, IsLaid, laid_value}
 
 -- the bytes of a header, and what follows them

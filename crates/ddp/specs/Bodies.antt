@@ -3,6 +3,10 @@
 use Rattle.std.specs.Prelude.{ℕ, ◌+◌, ◌*◌, ◌/◌, ◌%◌, List, [], ◌∷◌, take, slice_index}
 use Rattle.at_base.specs.declared.address.Addr.{Addr}
 
+-- the number in the two bytes from a place on
+abbrev pub word_at : ℕ → List ℕ → ℕ
+word_at i bytes = slice_index bytes i * 256 + slice_index bytes (i + 1)
+
 -- the length that the header names
 abbrev pub named_length : List ℕ → ℕ
 named_length bytes = slice_index bytes 0 % 4 * 256 + slice_index bytes 1
@@ -13,7 +17,7 @@ hops bytes = slice_index bytes 0 / 4 % 16
 
 -- the target: its network and node
 abbrev pub target : List ℕ → Addr
-target bytes = record { net = slice_index bytes 4 * 256 + slice_index bytes 5; node = slice_index bytes 8 }
+target bytes = record { net = word_at 4 bytes; node = slice_index bytes 8 }
 
 -- the bytes with this hop count, and nothing else changed
 abbrev pub with_hops : ℕ → List ℕ → List ℕ

@@ -1,16 +1,12 @@
 -- The datagram that bytes are, each field found by its place. (Inside AppleTalk, the chapter on DDP)
-use Rattle.std.specs.Prelude.{ℕ, ◌+◌, ◌*◌, ◌/◌, ◌≤◌, List, ◌++◌, length, take, drop, slice_index, Result, Ok, Err, nat_lt, if◌then◌else◌}
+use Rattle.std.specs.Prelude.{ℕ, ◌/◌, ◌≤◌, List, ◌++◌, length, take, drop, slice_index, Result, Ok, Err, nat_lt, if◌then◌else◌}
 use Rattle.std.specs.Int.{w16, to_be_bytes}
 use Rattle.at_base.specs.declared.error.Error.{Error}
 use Rattle.at_base.specs.declared.error.Error.TheVariants.{Truncated, BadLength}
 use Rattle.at_base.specs.Checksum.{sum_of}
 use Rattle.at_base.specs.Spelling.{Spells}
 use Rattle.ddp.specs.Datagram.{Datagram, datagram}
-use Rattle.ddp.specs.Bodies.{named_length, hops}
-
--- the number in the two bytes from a place on
-abbrev pub word_at : ℕ → List ℕ → ℕ
-word_at i bytes = slice_index bytes i * 256 + slice_index bytes (i + 1)
+use Rattle.ddp.specs.Bodies.{word_at, named_length, hops, target}
 
 -- the datagram, where the bytes end with its data
 abbrev pub datagram_in : List ℕ → Datagram
@@ -18,7 +14,7 @@ datagram_in bytes = record {
   reserved = slice_index bytes 0 / 64;
   hops = hops bytes;
   checksum = word_at 2 bytes;
-  target = record { net = word_at 4 bytes; node = slice_index bytes 8 };
+  target = target bytes;
   source = record { net = word_at 6 bytes; node = slice_index bytes 9 };
   target_socket = slice_index bytes 10;
   source_socket = slice_index bytes 11;
