@@ -9,7 +9,7 @@ use crate::input::{Input, READS};
 use crate::output::Output;
 use crate::status::status;
 use crate::words::{Job, Source, read_words};
-use at_base::{Cause, Error};
+use at_base::{Cause, Error, Field, Part, What};
 use clap::error::ErrorKind as WordFault;
 use fakes::{Frail, Pieces, Places, Restless};
 use std::alloc::Global;
@@ -232,6 +232,25 @@ fn each_answer_has_its_status(rt: HostRuntime) {
     ];
     for (answer, want) in answers {
         assert_eq!(rt; status(&answer), want, "at {answer:?}");
+    }
+    // Refusals that no audit gives, and that later commands may
+    let others = [
+        Error::Truncated,
+        Error::BadLength,
+        Error::BadChecksum,
+        Error::BadField(Field::Taken),
+        Error::BadRange,
+        Error::BadName,
+        Error::TooLong,
+        Error::NoSuch(What::Name),
+        Error::NotPending,
+        Error::NoRouter,
+        Error::Full,
+        Error::BadFile(Part::Text, 1),
+        Error::BadScript(1),
+    ];
+    for error in others {
+        assert_eq!(rt; status(&Err(error)), 2, "at {error:?}");
     }
 }
 
