@@ -4,3 +4,4 @@ pub mod Fields
 pub mod Items
 pub mod Laws
 pub mod Readers
+mod Examples
