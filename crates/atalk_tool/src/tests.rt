@@ -13,7 +13,7 @@ use at_base::{Cause, Error, Field, Part, What};
 use clap::error::ErrorKind as WordFault;
 use fakes::{Frail, Pieces, Places, Restless};
 use std::alloc::Global;
-use std::io::Read;
+use std::io::{ErrorKind, Read};
 use std::process::Abort;
 use std::test::Fail;
 
@@ -62,6 +62,27 @@ fn a_read_that_fails_is_a_read_fault(rt: HostRuntime) -> Result<(), Fail> {
 }
 
 #[test]
+fn a_read_that_fails_in_another_way_is_not_tried_again(rt: HostRuntime) {
+    let kinds = [
+        ErrorKind::PermissionDenied,
+        ErrorKind::IsADirectory,
+        ErrorKind::WouldBlock,
+        ErrorKind::TimedOut,
+        ErrorKind::UnexpectedEof,
+    ];
+    let bytes = [7u8; 276];
+    for kind in kinds {
+        let mut pieces = Pieces::new(bytes.as_slice(), 100);
+        pieces.fails_at = Some(2);
+        pieces.kind = kind;
+        let reading = read_all(rt.alloc(), pieces);
+        assert_eq!(rt; reading.answer.err(), Some(Error::ReadFault));
+        assert_eq!(rt; reading.reads, 2);
+        assert!(rt; reading.failed);
+    }
+}
+
+#[test]
 fn an_interrupted_read_is_tried_again(rt: HostRuntime) -> Result<(), Fail> {
     let bytes = [7u8; 276];
     for interrupted_at in 1..5 {
@@ -77,6 +98,7 @@ fn an_interrupted_read_is_tried_again(rt: HostRuntime) -> Result<(), Fail> {
 
 #[test]
 fn reads_without_end_are_given_up(rt: HostRuntime) {
+    assert_eq!(rt; READS, 16_777_216);
     // As far on as the reads before would have led.
     let mut input = Input {
         reader: Restless,

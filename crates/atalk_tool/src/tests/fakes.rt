@@ -3,13 +3,15 @@
 use std::io;
 use std::io::{ErrorKind, Read, Write};
 
-/// Gives its bytes in pieces; one of its reads may fail, and one may be interrupted.
+/// Gives its bytes in pieces; one of its reads may fail, by this kind, and one may be
+/// interrupted.
 #[derive(Clone, Copy)]
 pub struct Pieces<'a> {
     pub left: &'a [u8],
     pub piece: usize,
     pub reads: u32,
     pub fails_at: Option<u32>,
+    pub kind: ErrorKind,
     pub interrupted_at: Option<u32>,
 }
 
@@ -20,6 +22,7 @@ impl<'a> Pieces<'a> {
             piece,
             reads: 0,
             fails_at: None,
+            kind: ErrorKind::Other,
             interrupted_at: None,
         }
     }
@@ -29,7 +32,7 @@ impl Read for Pieces<'_> {
     fn read(&mut self, buffer: &mut [u8]) -> io::Result<usize> {
         self.reads = self.reads.saturating_add(1);
         if Some(self.reads) == self.fails_at {
-            return Err(io::Error::from(ErrorKind::Other));
+            return Err(io::Error::from(self.kind));
         }
         if Some(self.reads) == self.interrupted_at {
             return Err(io::Error::from(ErrorKind::Interrupted));
