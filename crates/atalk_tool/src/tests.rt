@@ -116,12 +116,14 @@ fn reads_without_end_are_given_up(rt: HostRuntime) {
 
 #[test]
 fn a_long_input_comes_whole(rt: HostRuntime) -> Result<(), Fail> {
-    let end = 1_000_003;
+    let end = 1_100_003;
     let reading = read_all(rt.alloc(), Places { next: 0, end });
-    // 123 pieces and the end
-    assert_eq!(rt; reading.reads, 124);
+    // 135 pieces and the end
+    assert_eq!(rt; reading.reads, 136);
     let read = reading.answer?;
-    assert_eq!(rt; read.len(), 1_000_003);
+    assert_eq!(rt; read.len(), 1_100_003);
+    // A quarter more at most, and a piece; doubled, it would be 2,097,152.
+    assert!(rt; read.capacity() < 1_400_000);
     let mut place = 0u32;
     for byte in &read {
         assert_eq!(rt; u32::from(*byte), place % 256);
