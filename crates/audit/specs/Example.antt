@@ -88,3 +88,14 @@ turned_router = record {
 -- The same cables, but neither router is on the last, and each holds that the other is.
 abbrev pub pointing_at_each_other : Internet
 pointing_at_each_other = record { cables = example_cables; routers = first_router ∷ turned_router ∷ []; nodes = [] }
+
+-- the first router beside one with this port alone
+abbrev pub beside : Port → Internet
+beside p = record { cables = example_cables; routers = first_router ∷ record turned_router { ports = p ∷ [] } ∷ []; nodes = [] }
+
+-- Two routers with one address; and two with one hardware address on a cable.
+abbrev pub same_addresses : Internet
+same_addresses = beside (port 1 (addr 20 1) 3)
+
+abbrev pub same_hardware_addresses : Internet
+same_hardware_addresses = beside (port 1 (addr 20 2) 2)

@@ -5,8 +5,10 @@ ghost use Rattle.std.specs.Prelude.{◌≡◌, ◌≢◌, ℕ, ◌<◌, ◌≤�
 ghost use Rattle.table_image.specs.Internet.{Internet};
 ghost use Rattle.table_image.specs.Routing.{Nowhere, home, hand, distance};
 ghost use Rattle.audit.specs.Example.{three_cables, pointing_at_each_other};
+ghost use Rattle.audit.specs.Example.{same_addresses, same_hardware_addresses};
 ghost use Rattle.audit.specs.Rules.{Keeps, Passes};
-ghost use Rattle.audit.specs.Walks.{IsWalk, WalksHome, Steps, SeatsAreUnique};
+ghost use Rattle.audit.specs.Walks.{IsWalk, WalksHome, Steps, HasPort, SeatsAreUnique};
+ghost use Rattle.audit.specs.Walks.{AreDifferent};
 
 /// One walk home: from each router a datagram to a listed network has exactly one walk over the
 /// tables. It ends at the network's home, visits no router twice, and has at most 15 routers. (own)
@@ -52,6 +54,18 @@ pub fn the_example_passes()
 /// round and round: no walk ends. The tables keep every rule but C7. (own)
 pub fn loops_have_no_walk()
     ensures no_walk { (rest : List ℕ) (c : ℕ) → ¬ IsWalk pointing_at_each_other 30 0 rest c }
+    ensures no_walk_home { ¬ WalksHome pointing_at_each_other }
+    ensures no_step { ¬ Steps pointing_at_each_other 30 2 0 }
     ensures listed { home pointing_at_each_other 30 ≡ Some 2 }
     ensures others { (rule : ℕ) → rule ≢ 7 → Keeps pointing_at_each_other rule }
+{}
+
+/// What the words of the promises exclude: a walk that comes back to a router, a port on a cable
+/// where the router has none, two ports with one address, and two ports on a cable with one
+/// hardware address. (own)
+pub fn words_exclude()
+    ensures routers { ¬ AreDifferent (0 ∷ 1 ∷ 0 ∷ []) }
+    ensures ports { ¬ HasPort pointing_at_each_other 1 2 }
+    ensures addresses { ¬ SeatsAreUnique same_addresses }
+    ensures hardware { ¬ SeatsAreUnique same_hardware_addresses }
 {}
