@@ -93,9 +93,10 @@ pointing_at_each_other = record { cables = example_cables; routers = first_route
 abbrev pub beside : Port → Internet
 beside p = record { cables = example_cables; routers = first_router ∷ record turned_router { ports = p ∷ [] } ∷ []; nodes = [] }
 
--- Two routers with one address; and two with one hardware address on a cable.
+-- two routers with one address
 abbrev pub same_addresses : Internet
 same_addresses = beside (port 1 (addr 20 1) 3)
 
+-- two routers with one hardware address on a cable
 abbrev pub same_hardware_addresses : Internet
 same_hardware_addresses = beside (port 1 (addr 20 2) 2)

@@ -1,6 +1,7 @@
 //! Zones behind their count.
 
-ghost use Rattle.std.specs.Prelude.{◌≡◌, ◌++◌, ◌+◌, ◌^◌, ◌<◌, ◌≤◌, length, Ok, OnOk, IfSome, MatchResult};
+ghost use Rattle.std.specs.Prelude.{◌≡◌, ◌++◌, ◌+◌, ◌^◌, ◌<◌, ◌≤◌, length};
+ghost use Rattle.std.specs.Prelude.{Ok, OnOk, IfSome, MatchResult};
 ghost use Rattle.at_base.specs.Spelling.{bytes_of};
 ghost use Rattle.at_base.specs.Reading.{read, list_at};
 ghost use Rattle.table_image.specs.Checking.{Checks};
