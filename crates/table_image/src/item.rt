@@ -4,7 +4,7 @@ ghost use Rattle.std.specs.Prelude.{◌≡◌, ◌++◌, ℕ, true, length, OnOk
 ghost use Rattle.std.specs.List.{flat_map};
 ghost use Rattle.at_base.specs.Grammar.{Grammar};
 ghost use Rattle.at_base.specs.Spelling.{bytes_of};
-ghost use Rattle.at_base.specs.Reading.{read, list_at};
+ghost use Rattle.at_base.specs.Reading.{Gives, read, list_at};
 ghost use Rattle.table_image.specs.Flaws.{Wrong, flaws, GivesOrStops, GoesPast};
 ghost use Rattle.table_image.specs.Spelling.{counted};
 
@@ -52,6 +52,36 @@ pub trait ReadItem: Item {
     fn pass_one(known: usize, low: u32, bytes: &[u8]) -> Result<(u32, &[u8]), Flaw>
         ensures { GoesPast Self.next (λ x. (x.0, x.1.now)) result
             (read flaws (Self.spelling known low) bytes.now) };
+}
+
+/// A part that is read without memory.
+pub trait FlatItem: Item {
+    /// The part at the front of the bytes, and the bytes after it.
+    fn flat_at(known: usize, low: u32, bytes: &[u8]) -> Result<(Self, &[u8]), Flaw>
+        ensures { Gives (λ x. (x.0, x.1.now)) result
+            (read flaws (Self.spelling known low) bytes.now) };
+}
+
+impl<T: FlatItem> ReadItem for T {
+    fn read_one<'a>(
+        _alloc: Global,
+        known: usize,
+        low: u32,
+        _like: Option<&T>,
+        bytes: &'a [u8],
+    ) -> Result<(T, &'a [u8]), Stop> {
+        match T::flat_at(known, low, bytes) {
+            Ok(found) => Ok(found),
+            Err(flaw) => Err(Stop::Refused(flaw)),
+        }
+    }
+
+    fn pass_one(known: usize, low: u32, bytes: &[u8]) -> Result<(u32, &[u8]), Flaw> {
+        match T::flat_at(known, low, bytes) {
+            Ok((found, rest)) => Ok((found.next_low(), rest)),
+            Err(flaw) => Err(flaw),
+        }
+    }
 }
 
 /// A part that can be written.

@@ -14,7 +14,7 @@ use crate::flaw::{Flaw, Stop};
 use crate::input::{
     address_at, byte_within, entity_at, enumerator_at, hardware_at, index_at, is_entity, name_at,
 };
-use crate::item::{Item, ReadItem, WriteItem, counted_of, pass_counted, put_counted};
+use crate::item::{FlatItem, Item, ReadItem, WriteItem, counted_of, pass_counted, put_counted};
 use crate::limits::MOST_NAMES;
 use crate::listed::Listed;
 use crate::output::{put_address, put_byte, put_text};
@@ -56,50 +56,28 @@ impl Item for NodeName {
     ghost same = { name_same };
 }
 
-#[tactic(auto, unfolding(crate::specs::Spelling::name_spelling))]
-fn node_name_at(low: u32, bytes: &[u8]) -> Result<(NodeName, &[u8]), Flaw>
-    ensures { Gives (λ x. (x.0, x.1.now)) result (read flaws (name_spelling low) bytes.now) }
-{
-    let (socket, rest) = byte_within(bytes, 1, 254, Cause::Value)?;
-    let (enumerator, rest) = enumerator_at(rest, low)?;
-    let (object, rest) = match entity_at(rest) {
-        Ok(found) => found,
-        Err(flaw) => return Err(flaw),
-    };
-    let (kind, rest) = match entity_at(rest) {
-        Ok(found) => found,
-        Err(flaw) => return Err(flaw),
-    };
-    Ok((
-        NodeName {
-            socket,
-            enumerator,
-            object,
-            kind,
-        },
-        rest,
-    ))
-}
-
-impl ReadItem for NodeName {
-    fn read_one<'a>(
-        _alloc: Global,
-        _known: usize,
-        low: u32,
-        _like: Option<&NodeName>,
-        bytes: &'a [u8],
-    ) -> Result<(NodeName, &'a [u8]), Stop> {
-        match node_name_at(low, bytes) {
-            Ok(found) => Ok(found),
-            Err(flaw) => Err(Stop::Refused(flaw)),
-        }
-    }
-
-    fn pass_one(_known: usize, low: u32, bytes: &[u8]) -> Result<(u32, &[u8]), Flaw> {
-        match node_name_at(low, bytes) {
-            Ok((found, rest)) => Ok((found.next_low(), rest)),
-            Err(flaw) => Err(flaw),
-        }
+impl FlatItem for NodeName {
+    #[tactic(auto, unfolding(crate::specs::Spelling::name_spelling))]
+    fn flat_at(_known: usize, low: u32, bytes: &[u8]) -> Result<(NodeName, &[u8]), Flaw> {
+        let (socket, rest) = byte_within(bytes, 1, 254, Cause::Value)?;
+        let (enumerator, rest) = enumerator_at(rest, low)?;
+        let (object, rest) = match entity_at(rest) {
+            Ok(found) => found,
+            Err(flaw) => return Err(flaw),
+        };
+        let (kind, rest) = match entity_at(rest) {
+            Ok(found) => found,
+            Err(flaw) => return Err(flaw),
+        };
+        Ok((
+            NodeName {
+                socket,
+                enumerator,
+                object,
+                kind,
+            },
+            rest,
+        ))
     }
 }
 

@@ -1,17 +1,15 @@
 //! Ports of routers.
 
 ghost use Rattle.std.specs.Prelude.{◌≡◌, ◌+◌};
-ghost use Rattle.at_base.specs.Reading.{Gives, read};
-ghost use Rattle.table_image.specs.Flaws.{flaws};
 ghost use Rattle.table_image.specs.Spelling.{port_spelling};
 
 use crate::checking::{CheckItem, Misfit};
-use crate::flaw::{Flaw, Stop};
+use crate::flaw::Flaw;
 use crate::input::{address_at, hardware_at, index_at};
-use crate::item::{Item, ReadItem, WriteItem};
+use crate::item::{FlatItem, Item, WriteItem};
 use crate::output::{put_address, put_byte};
 use at_base::{Addr, Cause, Hw};
-use std::alloc::{AllocError, Global};
+use std::alloc::AllocError;
 
 /// A port: the place of its cable among the cables, from 0, and its addresses there.
 #[derive(Clone, Copy, Debug)]
@@ -35,42 +33,20 @@ impl Item for Port {
     ghost same = { port_same };
 }
 
-#[tactic(auto, unfolding(crate::specs::Spelling::port_spelling))]
-fn port_at(cables: usize, bytes: &[u8]) -> Result<(Port, &[u8]), Flaw>
-    ensures { Gives (λ x. (x.0, x.1.now)) result (read flaws (port_spelling cables) bytes.now) }
-{
-    let (cable, rest) = index_at(bytes, cables)?;
-    let (address, rest) = address_at(rest)?;
-    let (hardware, rest) = hardware_at(rest)?;
-    Ok((
-        Port {
-            cable,
-            address,
-            hardware,
-        },
-        rest,
-    ))
-}
-
-impl ReadItem for Port {
-    fn read_one<'a>(
-        _alloc: Global,
-        known: usize,
-        _low: u32,
-        _like: Option<&Port>,
-        bytes: &'a [u8],
-    ) -> Result<(Port, &'a [u8]), Stop> {
-        match port_at(known, bytes) {
-            Ok(found) => Ok(found),
-            Err(flaw) => Err(Stop::Refused(flaw)),
-        }
-    }
-
-    fn pass_one(known: usize, _low: u32, bytes: &[u8]) -> Result<(u32, &[u8]), Flaw> {
-        match port_at(known, bytes) {
-            Ok((found, rest)) => Ok((found.next_low(), rest)),
-            Err(flaw) => Err(flaw),
-        }
+impl FlatItem for Port {
+    #[tactic(auto, unfolding(crate::specs::Spelling::port_spelling))]
+    fn flat_at(known: usize, _low: u32, bytes: &[u8]) -> Result<(Port, &[u8]), Flaw> {
+        let (cable, rest) = index_at(bytes, known)?;
+        let (address, rest) = address_at(rest)?;
+        let (hardware, rest) = hardware_at(rest)?;
+        Ok((
+            Port {
+                cable,
+                address,
+                hardware,
+            },
+            rest,
+        ))
     }
 }
 

@@ -1,18 +1,16 @@
 //! Rows of routing tables.
 
 ghost use Rattle.std.specs.Prelude.{◌≡◌, ◌+◌};
-ghost use Rattle.at_base.specs.Reading.{Gives, read};
-ghost use Rattle.table_image.specs.Flaws.{flaws};
 ghost use Rattle.table_image.specs.Spelling.{row_spelling, state_of, state_number};
 
 use crate::checking::{CheckItem, Misfit};
-use crate::flaw::{Flaw, Stop};
+use crate::flaw::Flaw;
 use crate::input::{address_at, byte_within, index_at, rising_at, u16_at};
-use crate::item::{Item, ReadItem, WriteItem};
+use crate::item::{FlatItem, Item, WriteItem};
 use crate::output::{put_address, put_byte, put_u16};
 use at_base::{Addr, Cause};
 use rtmp::State;
-use std::alloc::{AllocError, Global};
+use std::alloc::AllocError;
 
 /// A row of a routing table: how far the networks from `start` to `end` are, in routers, and by
 /// which port, a place from 0, and next router. A direct row has the next router 0.0.
@@ -62,48 +60,26 @@ impl Item for Row {
     ghost same = { row_same };
 }
 
-#[tactic(auto, unfolding(crate::specs::Spelling::row_spelling))]
-fn row_at(ports: usize, low: u32, bytes: &[u8]) -> Result<(Row, &[u8]), Flaw>
-    ensures { Gives (λ x. (x.0, x.1.now)) result (read flaws (row_spelling ports low) bytes.now) }
-{
-    let (start, rest) = rising_at(bytes, low)?;
-    let (end, rest) = u16_at(rest)?;
-    let (distance, rest) = byte_within(rest, 0, 31, Cause::Value)?;
-    let (port, rest) = index_at(rest, ports)?;
-    let (next, rest) = address_at(rest)?;
-    let (number, rest) = byte_within(rest, 0, 3, Cause::Value)?;
-    Ok((
-        Row {
-            start,
-            end,
-            distance,
-            port,
-            next,
-            state: made_state(number),
-        },
-        rest,
-    ))
-}
-
-impl ReadItem for Row {
-    fn read_one<'a>(
-        _alloc: Global,
-        known: usize,
-        low: u32,
-        _like: Option<&Row>,
-        bytes: &'a [u8],
-    ) -> Result<(Row, &'a [u8]), Stop> {
-        match row_at(known, low, bytes) {
-            Ok(found) => Ok(found),
-            Err(flaw) => Err(Stop::Refused(flaw)),
-        }
-    }
-
-    fn pass_one(known: usize, low: u32, bytes: &[u8]) -> Result<(u32, &[u8]), Flaw> {
-        match row_at(known, low, bytes) {
-            Ok((found, rest)) => Ok((found.next_low(), rest)),
-            Err(flaw) => Err(flaw),
-        }
+impl FlatItem for Row {
+    #[tactic(auto, unfolding(crate::specs::Spelling::row_spelling))]
+    fn flat_at(known: usize, low: u32, bytes: &[u8]) -> Result<(Row, &[u8]), Flaw> {
+        let (start, rest) = rising_at(bytes, low)?;
+        let (end, rest) = u16_at(rest)?;
+        let (distance, rest) = byte_within(rest, 0, 31, Cause::Value)?;
+        let (port, rest) = index_at(rest, known)?;
+        let (next, rest) = address_at(rest)?;
+        let (number, rest) = byte_within(rest, 0, 3, Cause::Value)?;
+        Ok((
+            Row {
+                start,
+                end,
+                distance,
+                port,
+                next,
+                state: made_state(number),
+            },
+            rest,
+        ))
     }
 }
 

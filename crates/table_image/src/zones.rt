@@ -11,7 +11,7 @@ ghost use Rattle.table_image.specs.Spelling.{zone_spelling, zones_spelling};
 use crate::checking::{CheckItem, Misfit, check_counted};
 use crate::flaw::{Flaw, Stop};
 use crate::input::name_at;
-use crate::item::{Item, ReadItem, WriteItem, counted_of, pass_counted, put_counted};
+use crate::item::{FlatItem, Item, WriteItem, counted_of, pass_counted, put_counted};
 use crate::limits::MOST_ZONES;
 use crate::listed::Listed;
 use crate::output::put_text;
@@ -32,25 +32,9 @@ impl Item for Name {
     ghost same = { zone_same };
 }
 
-impl ReadItem for Name {
-    fn read_one<'a>(
-        _alloc: Global,
-        _known: usize,
-        _low: u32,
-        _like: Option<&Name>,
-        bytes: &'a [u8],
-    ) -> Result<(Name, &'a [u8]), Stop> {
-        match name_at(bytes) {
-            Ok(found) => Ok(found),
-            Err(flaw) => Err(Stop::Refused(flaw)),
-        }
-    }
-
-    fn pass_one(_known: usize, _low: u32, bytes: &[u8]) -> Result<(u32, &[u8]), Flaw> {
-        match name_at(bytes) {
-            Ok((_, rest)) => Ok((0, rest)),
-            Err(flaw) => Err(flaw),
-        }
+impl FlatItem for Name {
+    fn flat_at(_known: usize, _low: u32, bytes: &[u8]) -> Result<(Name, &[u8]), Flaw> {
+        name_at(bytes)
     }
 }
 
@@ -61,7 +45,7 @@ impl WriteItem for Name {
     }
 }
 
-/// Zones behind their count.
+// Zones that no other list has.
 #[tactic(auto, unfolding(crate::specs::Spelling::zones_spelling))]
 fn new_zones_at(alloc: Global, bytes: &[u8]) -> Result<(Listed<Name>, &[u8]), Stop>
     ensures { GivesOrStops (λ x. (x.0, x.1.now)) result (read flaws zones_spelling bytes.now) }
