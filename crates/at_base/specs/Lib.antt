@@ -7,3 +7,5 @@ pub mod Spelling
 pub mod FirstFault
 pub mod Reading
 pub mod Lawful
+pub mod Address
+pub mod Texts

@@ -5,9 +5,10 @@ ghost use Rattle.at_base.specs.ErrorNumber.{number_of};
 ghost use Rattle.at_base.specs.declared.error.Error.TheVariants.{Memory};
 
 use std::alloc::{AllocError, AllocFailed};
+use std::fmt;
 use thiserror::Error as ErrorImpls;
 
-/// A thing that isn't there.
+/// What a call was asked for and doesn't exist.
 #[derive(Clone, Copy, Debug, PartialEq, Eq)]
 pub enum What {
     Cable,
@@ -18,7 +19,7 @@ pub enum What {
     Transaction,
 }
 
-/// A field whose value is none that it may have.
+/// A field of a packet whose value is outside its range, or a name that is taken already.
 #[derive(Clone, Copy, Debug, PartialEq, Eq)]
 pub enum Field {
     HardwareType,
@@ -35,21 +36,30 @@ pub enum Field {
     Taken,
 }
 
-/// What is wrong with an image.
+/// What is wrong with an image. This project's own.
 #[derive(Clone, Copy, Debug, PartialEq, Eq)]
 pub enum Cause {
+    /// The input ends within a field.
     Cut,
+    /// The first four bytes aren't `ATIM`.
     Magic,
+    /// The version is another than 1.
     Version,
+    /// A list is longer than an image may have it.
     Count,
+    /// The index of a cable or a port isn't below the length of its list.
     Index,
+    /// A distance, state, flag, socket or enumerator is outside its range.
     Value,
+    /// A text is no zone name, object or type.
     Name,
+    /// A start or an enumerator isn't above the one before it.
     Order,
+    /// Bytes follow the nodes.
     Trailing,
 }
 
-/// A part of an internet file.
+/// A part of an internet file. This project's own.
 #[derive(Clone, Copy, Debug, PartialEq, Eq)]
 pub enum Part {
     Text,
@@ -61,25 +71,52 @@ pub enum Part {
     Action,
 }
 
-/// Where a rule is broken; numbers count from 1.
+/// Where a rule is broken. All numbers count from 1, in the order of the image. This project's own.
 #[derive(Clone, Copy, Debug, PartialEq, Eq)]
 pub enum Place {
+    /// A cable.
     Cable(u32),
+    /// A router, and a port of it.
     Port(u32, u32),
+    /// A node.
     Node(u32),
+    /// A router, and a row of its routing table.
     Row(u32, u32),
+    /// A router, and a cable for which it has no row or no zone list.
     Missing(u32, u32),
+    /// A router, and a zone list of it.
     List(u32, u32),
 }
 
-/// The first rule that is broken, and where.
+/// The place as the verdict line has it, as `router 1 row 3`.
+impl fmt::Display for Place {
+    ghost use Rattle.std.specs.Prelude.{Some};
+    ghost use Rattle.at_base.specs.Texts.{place_text};
+
+    ghost output = { λ p. Some (place_text p) };
+
+    fn fmt<W: fmt::Write>(&self, f: &mut fmt::Formatter<W>) -> fmt::Result {
+        match self {
+            Place::Cable(k) => write!(f, "cable {k}"),
+            Place::Port(r, p) => write!(f, "router {r} port {p}"),
+            Place::Node(k) => write!(f, "node {k}"),
+            Place::Row(r, k) => write!(f, "router {r} row {k}"),
+            Place::Missing(r, k) => write!(f, "router {r} cable {k}"),
+            Place::List(r, k) => write!(f, "router {r} list {k}"),
+        }
+    }
+}
+
+/// The first rule that is broken, and the first place that breaks it.
 #[derive(Clone, Copy, Debug, PartialEq, Eq)]
 pub struct Fault {
+    /// The number of the rule, as in C1: 1 to 9.
     pub rule: u8,
     pub place: Place,
 }
 
-/// Why a call refuses.
+/// Why a call refuses. Its documentation names the errors of each call, in the order in which it
+/// looks for them.
 #[derive(Clone, Copy, Debug, PartialEq, Eq, ErrorImpls)]
 pub enum Error {
     #[error("truncated")]
@@ -121,7 +158,7 @@ pub enum Error {
 }
 
 impl Error {
-    /// The number by which the program names the error.
+    /// The number by which the program names the error, 1 to 18, as in `refused: 12`.
     pub fn number(&self) -> u8
         ensures { result ≡ number_of self.now }
     {

@@ -3,7 +3,7 @@ use Rattle.std.proofs.Common.{◌≡◌, ℕ, zero, suc, ◌+◌, ◌<◌, inl, 
 use Rattle.std.proofs.lemmas.Bool.{eqb-true, and_parts, cases_order, false_from_ne_true}
 use Rattle.at_base.specs.declared.error.Place.TheVariants as place
 use Rattle.table_image.specs.Internet.{Internet}
-use Rattle.table_image.specs.Places.{on}
+use Rattle.audit.specs.Places.{on}
 use Rattle.table_image.specs.declared.cable.Cable.{Cable}
 use Rattle.table_image.specs.declared.row.Row.{Row}
 use Rattle.audit.specs.Firsts.{FirstPlace}

@@ -4,8 +4,8 @@ use Rattle.std.proofs.lemmas.Bool.{or_parts}
 use Rattle.at_base.specs.declared.error.Place.{Place}
 use Rattle.at_base.specs.declared.error.Place.TheVariants as place
 use Rattle.table_image.specs.Internet.{Internet}
-use Rattle.table_image.specs.Places.{on}
-use Rattle.table_image.specs.Routing.{is_direct}
+use Rattle.audit.specs.Places.{on}
+use Rattle.table_image.specs.Rows.{is_direct}
 use Rattle.table_image.specs.declared.row.Row.{Row}
 use Rattle.table_image.specs.declared.router.Router.{Router}
 use Rattle.audit.specs.Rules.{end_before, bad_cable, c1, bad_port, bad_node, c2, at_row, cable_of, bad_range, lacks_row, c3, port_on, bad_direct, c4, c5, next_router, is_no_other, c6, bad_step, c7, breaks, Passes, Keeps}

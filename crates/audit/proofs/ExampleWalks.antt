@@ -1,6 +1,6 @@
 -- The example passes, and the routers that point at each other send a datagram nowhere.
 use Rattle.std.proofs.Common.{◌≡◌, ◌≢◌, ℕ, zero, suc, ◌+◌, List, [], ◌∷◌, Some, slice_get, refl, sym, ◌∙◌, subst, arith}
-use Rattle.table_image.specs.Routing.{On, hand, home, distance}
+use Rattle.audit.specs.Routing.{On, hand, home, distance}
 use Rattle.table_image.specs.declared.port.Port.{Port}
 use Rattle.table_image.specs.declared.router.Router.{Router}
 use Rattle.audit.specs.Rules.{Passes, Keeps}

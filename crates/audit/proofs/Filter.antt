@@ -6,7 +6,7 @@ use Rattle.std.proofs.lemmas.List.{get_or-replicate, get_or_past, length-replica
 use Rattle.at_base.proofs.Texts.{same_bytes_is}
 use Rattle.at_base.specs.declared.address.Addr.{Addr}
 use Rattle.at_base.specs.declared.address.Hw.{Hw}
-use Rattle.table_image.specs.Seats.{same_address}
+use Rattle.at_base.specs.Address.{same_address}
 use Rattle.table_image.specs.declared.router.Router.{Router}
 use Rattle.audit.specs.Rules.{router_has, same_hardware}
 use Rattle.audit.specs.Seen.{HasSeenBelow, address_slot, hardware_slot, may_have}

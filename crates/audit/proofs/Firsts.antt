@@ -2,7 +2,7 @@
 use Rattle.std.proofs.Common.{◌≡◌, ℕ, ◌<◌, ◌≤◌, inl, inr, Bool, false, List, Option, Some, None, length, get_or, refl, sym, ap, ◌∙◌, subst, slice_get}
 use Rattle.std.proofs.lemmas.Option.{slice_get_past, slice_get-get_or}
 use Rattle.std.proofs.lemmas.Bool.{cases_lt}
-use Rattle.table_image.specs.Places.{on}
+use Rattle.audit.specs.Places.{on}
 
 -- a test at an element that is there
 pub on_some : {X : Type 0} (xs : List X) (k : ℕ) (x : X) (test : X → Bool) (b : Bool) → slice_get xs k ≡ Some x → test x ≡ b → on (slice_get xs k) test ≡ b

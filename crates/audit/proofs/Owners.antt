@@ -6,9 +6,10 @@ use Rattle.std.proofs.lemmas.Bool.{false_from_ne_true, lt-ltb, le-ltb, and_parts
 use Rattle.at_base.specs.declared.address.Addr.{Addr}
 use Rattle.at_base.specs.declared.error.Place.TheVariants as place
 use Rattle.table_image.specs.Internet.{Internet}
-use Rattle.table_image.specs.Places.{index_of}
-use Rattle.table_image.specs.Routing.{owner, router_of}
-use Rattle.table_image.specs.Seats.{Seat, same_address, port_seat, router_seats, node_seats}
+use Rattle.audit.specs.Places.{index_of}
+use Rattle.audit.specs.Routing.{owner, router_of}
+use Rattle.audit.specs.Seats.{Seat, port_seat, router_seats, node_seats}
+use Rattle.at_base.specs.Address.{same_address}
 use Rattle.table_image.specs.declared.port.Port.{Port}
 use Rattle.table_image.specs.declared.router.Router.{Router}
 use Rattle.table_image.specs.declared.node.Node.{Node}

@@ -4,7 +4,7 @@ use Rattle.std.proofs.lemmas.Bool.{cases_lt}
 use Rattle.at_base.specs.declared.error.Place.{Place}
 use Rattle.at_base.specs.declared.error.Place.TheVariants as place
 use Rattle.table_image.specs.Internet.{Internet}
-use Rattle.table_image.specs.Places.{on}
+use Rattle.audit.specs.Places.{on}
 use Rattle.audit.specs.Verdicts.{IsBefore}
 use Rattle.audit.specs.Firsts.{FirstNumber, FirstPlace}
 use Rattle.audit.specs.Rules.{lacks_row}

@@ -9,9 +9,10 @@ use Rattle.at_base.specs.declared.address.Addr.{Addr}
 use Rattle.at_base.specs.declared.address.Hw.{Hw}
 use Rattle.at_base.specs.declared.error.Place.TheVariants as place
 use Rattle.table_image.specs.Internet.{Internet}
-use Rattle.table_image.specs.Places.{on}
-use Rattle.table_image.specs.Seats.{Seat, same_address}
-use Rattle.table_image.specs.Routing.{is_between}
+use Rattle.audit.specs.Places.{on}
+use Rattle.audit.specs.Seats.{Seat}
+use Rattle.at_base.specs.Address.{same_address}
+use Rattle.at_base.specs.Range.{is_between}
 use Rattle.table_image.specs.declared.cable.Cable.{Cable}
 use Rattle.table_image.specs.declared.port.Port.{Port}
 use Rattle.table_image.specs.declared.router.Router.{Router}

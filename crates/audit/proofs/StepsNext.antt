@@ -4,8 +4,8 @@ use Rattle.std.proofs.lemmas.Bool.{ne_eqb}
 use Rattle.at_base.specs.declared.error.Place.{Place}
 use Rattle.at_base.specs.declared.error.Place.TheVariants as place
 use Rattle.table_image.specs.Internet.{Internet, IsBounded, AreRising}
-use Rattle.table_image.specs.Places.{on}
-use Rattle.table_image.specs.Routing.{is_direct}
+use Rattle.audit.specs.Places.{on}
+use Rattle.table_image.specs.Rows.{is_direct}
 use Rattle.table_image.specs.declared.row.Row.{Row}
 use Rattle.table_image.specs.declared.router.Router.{Router}
 use Rattle.audit.specs.Rules.{c6, c7, next_router, is_no_other, bad_step, not_one_less, same_row}

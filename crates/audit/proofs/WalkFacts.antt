@@ -4,8 +4,10 @@ use Rattle.std.proofs.lemmas.Bool.Decides.{nat_tests}
 use Rattle.std.proofs.lemmas.Bool.{or_parts, and_parts, not-false, ltb-true}
 use Rattle.at_base.specs.declared.address.Addr.{Addr}
 use Rattle.table_image.specs.Internet.{Internet}
-use Rattle.table_image.specs.Seats.{Seat, seat_at}
-use Rattle.table_image.specs.Routing.{is_between, is_direct, router_of, owner}
+use Rattle.audit.specs.Seats.{Seat, seat_at}
+use Rattle.audit.specs.Routing.{router_of, owner}
+use Rattle.at_base.specs.Range.{is_between}
+use Rattle.table_image.specs.Rows.{is_direct}
 use Rattle.table_image.specs.declared.cable.Cable.{Cable}
 use Rattle.table_image.specs.declared.port.Port.{Port}
 use Rattle.table_image.specs.declared.row.Row.{Row}

@@ -1,7 +1,7 @@
 -- From each router there is one walk for a listed network, and it ends at the network's home.
 use Rattle.std.proofs.Common.{◌≡◌, ℕ, zero, suc, ◌<◌, ◌≤◌, List, [], ◌∷◌, Some, length, refl, sym, ap, ◌∙◌, subst, arith}
 use Rattle.table_image.specs.Internet.{Internet}
-use Rattle.table_image.specs.Routing.{home, distance}
+use Rattle.audit.specs.Routing.{home, distance}
 use Rattle.audit.specs.Rules.{Passes}
 use Rattle.audit.specs.Walks.{IsWalk, NotAmong, AreDifferent, WalksHome, Stops, Goes}
 use Rattle.audit.proofs.WalkSteps.{steps, near}

@@ -2,7 +2,7 @@
 use Rattle.std.proofs.Common.{◌≡◌, ℕ, zero, suc, ◌+◌, ◌<◌, ◌⊎◌, inl, inr, Bool, true, false, cond, ◌||◌, List, [], ◌∷◌, ◌++◌, Option, Some, None, length, take, map, refl, sym, ap, ◌∙◌, arith, slice_get, option_map, find}
 use Rattle.std.specs.List.{list_any}
 use Rattle.std.proofs.lemmas.Bool.{or_parts}
-use Rattle.table_image.specs.Places.{index_of}
+use Rattle.audit.specs.Places.{index_of}
 use Rattle.audit.proofs.Finding.{at_take}
 
 -- x stands at place k

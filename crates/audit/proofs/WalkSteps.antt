@@ -6,9 +6,13 @@ use Rattle.std.proofs.lemmas.Bool.{and_parts, not-false, cases_order, cases_Bool
 use Rattle.at_base.specs.declared.address.Addr.{Addr}
 use Rattle.at_base.specs.declared.error.Place.TheVariants as place
 use Rattle.table_image.specs.Internet.{Internet}
-use Rattle.table_image.specs.Places.{on}
-use Rattle.table_image.specs.Seats.{same_address, seats}
-use Rattle.table_image.specs.Routing.{Here, On, Nowhere, is_between, home, is_usable, is_direct, row_for, owner, hand, hand_to, hand_over, hand_by, hand_at, distance, distance_in}
+use Rattle.audit.specs.Places.{on}
+use Rattle.audit.specs.Seats.{seats}
+use Rattle.at_base.specs.Address.{same_address}
+use Rattle.audit.specs.Routing.{Here, On, Nowhere, home, row_for, owner, hand, hand_to, hand_over, hand_by, hand_at, distance, distance_in}
+use Rattle.at_base.specs.Range.{is_between}
+use Rattle.rtmp.specs.States.{is_usable}
+use Rattle.table_image.specs.Rows.{is_direct}
 use Rattle.table_image.specs.declared.cable.Cable.{Cable}
 use Rattle.table_image.specs.declared.port.Port.{Port}
 use Rattle.table_image.specs.declared.row.Row.{Row}

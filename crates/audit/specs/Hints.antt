@@ -1,7 +1,7 @@
 -- Hints for the search of a router: which one may have a node's number on a cable. (own)
 use Rattle.std.specs.Prelude.{◌≡◌, ℕ, ◌+◌, ◌*◌, ◌<◌, ◌==◌, ◌⊎◌, Bool, true, List, Some, slice_get, slice_index_or}
 use Rattle.std.specs.List.{list_any}
-use Rattle.table_image.specs.Places.{on}
+use Rattle.audit.specs.Places.{on}
 use Rattle.table_image.specs.declared.port.Port.{Port}
 use Rattle.table_image.specs.declared.router.Router.{Router}
 use Rattle.audit.specs.declared.next.Hints.{Hints}

@@ -1,3 +1,6 @@
+pub mod Places
+pub mod Seats
+pub mod Routing
 pub mod Firsts
 pub mod Hints
 pub mod RowRules

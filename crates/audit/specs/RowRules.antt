@@ -3,8 +3,8 @@ use Rattle.std.specs.Prelude.{ℕ, suc, Bool, false, not, ◌&&◌, nat_lt}
 use Rattle.at_base.specs.declared.error.Place.{Place}
 use Rattle.at_base.specs.declared.error.Place.TheVariants as place
 use Rattle.table_image.specs.Internet.{Internet}
-use Rattle.table_image.specs.Places.{on}
-use Rattle.table_image.specs.Routing.{is_direct}
+use Rattle.audit.specs.Places.{on}
+use Rattle.table_image.specs.Rows.{is_direct}
 use Rattle.table_image.specs.declared.row.Row.{Row}
 use Rattle.table_image.specs.declared.router.Router.{Router}
 use Rattle.audit.specs.Rules.{c3, at_row, cable_of, port_on, next_router, bad_range, bad_direct, is_no_other, bad_step}

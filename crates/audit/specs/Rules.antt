@@ -8,9 +8,12 @@ use Rattle.at_base.specs.declared.address.Hw.{Hw}
 use Rattle.at_base.specs.declared.error.Place.{Place}
 use Rattle.at_base.specs.declared.error.Place.TheVariants as place
 use Rattle.table_image.specs.Internet.{Internet}
-use Rattle.table_image.specs.Places.{on, index_of}
-use Rattle.table_image.specs.Seats.{same_address}
-use Rattle.table_image.specs.Routing.{is_between, is_usable, is_direct, owner}
+use Rattle.audit.specs.Places.{on, index_of}
+use Rattle.at_base.specs.Address.{same_address}
+use Rattle.audit.specs.Routing.{owner}
+use Rattle.at_base.specs.Range.{is_between}
+use Rattle.rtmp.specs.States.{is_usable}
+use Rattle.table_image.specs.Rows.{is_direct}
 use Rattle.table_image.specs.declared.cable.Cable.{Cable}
 use Rattle.table_image.specs.declared.port.Port.{Port}
 use Rattle.table_image.specs.declared.row.Row.{Row}

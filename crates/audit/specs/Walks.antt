@@ -2,8 +2,9 @@
 use Rattle.std.specs.Prelude.{◌≡◌, ◌≢◌, ℕ, ◌+◌, ◌≤◌, ◌<◌, true, List, [], ◌∷◌, length, Some, slice_get}
 use Rattle.at_base.specs.declared.address.Addr.{Addr}
 use Rattle.table_image.specs.Internet.{Internet}
-use Rattle.table_image.specs.Seats.{Seat, seats, same_address}
-use Rattle.table_image.specs.Routing.{Here, On, hand, home, owner, distance}
+use Rattle.audit.specs.Seats.{Seat, seats}
+use Rattle.at_base.specs.Address.{same_address}
+use Rattle.audit.specs.Routing.{Here, On, hand, home, owner, distance}
 use Rattle.audit.specs.Rules.{same_hardware}
 use Rattle.table_image.specs.declared.port.Port.{Port}
 use Rattle.table_image.specs.declared.router.Router.{Router}

@@ -5,8 +5,8 @@ ghost use Rattle.std.specs.Prelude.{◌≡◌, ◌==◌, ◌&&◌, None, Some, p
 ghost use Rattle.std.specs.List.{list_any};
 ghost use Rattle.std.specs.Option.{option_copied};
 ghost use Rattle.table_image.specs.Internet.{AreRising};
-ghost use Rattle.table_image.specs.Routing.{owner as owner_at};
-ghost use Rattle.table_image.specs.Seats.{same_address as same};
+ghost use Rattle.audit.specs.Routing.{owner as owner_at};
+ghost use Rattle.at_base.specs.Address.{same_address as same};
 ghost use Rattle.audit.specs.Firsts.{FirstPlace};
 ghost use Rattle.audit.specs.Rules.{is_for as fits, cable_of as cable, port_on as port};
 ghost use Rattle.audit.specs.Rules.{same_row as row_of, c1, c2};

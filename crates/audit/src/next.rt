@@ -1,7 +1,7 @@
 //! Next routers: rule C6, that they are there, and rule C7, that they are one nearer.
 
 ghost use Rattle.std.specs.Prelude.{◌≡◌, ◌≢◌, ◌<◌, ◌&&◌, ℕ, not, None, length, slice_get};
-ghost use Rattle.table_image.specs.Routing.{is_direct as direct};
+ghost use Rattle.table_image.specs.Rows.{is_direct as direct};
 ghost use Rattle.audit.specs.Firsts.{FirstPlace};
 ghost use Rattle.audit.specs.Hints.{hint_slot, port_slot, hint_at, Names, FirstOr};
 ghost use Rattle.audit.specs.Hints.{HasHintsBelow};

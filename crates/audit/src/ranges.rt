@@ -2,8 +2,9 @@
 //! of a router's own cables are direct, and no others.
 
 ghost use Rattle.std.specs.Prelude.{◌≡◌, None};
-ghost use Rattle.table_image.specs.Places.{on};
-ghost use Rattle.table_image.specs.Routing.{is_usable as usable, is_direct as direct};
+ghost use Rattle.audit.specs.Places.{on};
+ghost use Rattle.rtmp.specs.States.{is_usable as usable};
+ghost use Rattle.table_image.specs.Rows.{is_direct as direct};
 ghost use Rattle.audit.specs.Firsts.{FirstPlace};
 ghost use Rattle.audit.specs.Rules.{bad_range, bad_direct, cable_of as cable, port_on as port, c1};
 

@@ -3,7 +3,7 @@
 ghost use Rattle.std.specs.Prelude.{◌≡◌, ◌<◌, ◌≤◌, ◌==◌, ℕ, suc, false, Some, IfNone, IfSome};
 ghost use Rattle.std.specs.Prelude.{length, slice_get, take};
 ghost use Rattle.std.specs.List.{list_any};
-ghost use Rattle.table_image.specs.Seats.{same_address as same};
+ghost use Rattle.at_base.specs.Address.{same_address as same};
 ghost use Rattle.audit.specs.Firsts.{FirstNumber, FirstPlace};
 ghost use Rattle.audit.specs.Seen.{HasSeenBelow};
 ghost use Rattle.audit.specs.Rules.{same_hardware as same_hw, bad_address as badly, c2};

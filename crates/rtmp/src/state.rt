@@ -11,3 +11,18 @@ pub enum State {
     Bad,
     Last,
 }
+
+impl State {
+    ghost use Rattle.std.specs.Prelude.{◌≡◌};
+    ghost use Rattle.rtmp.specs.States.{is_usable as usable};
+
+    /// Whether a row in this state is used for forwarding.
+    pub fn is_usable(self) -> bool
+        ensures { result ≡ usable self }
+    {
+        match self {
+            State::Good | State::Suspect => true,
+            State::Bad | State::Last => false,
+        }
+    }
+}

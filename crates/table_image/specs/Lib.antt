@@ -1,7 +1,4 @@
 pub mod Internet
-pub mod Places
-pub mod Seats
-pub mod Routing
 pub mod Limits
 pub mod Listed
 pub mod Flaws
@@ -11,3 +8,4 @@ pub mod Reading
 pub mod Same
 pub mod Short
 pub mod Checking
+pub mod Rows

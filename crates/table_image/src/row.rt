@@ -24,6 +24,17 @@ pub struct Row {
     pub state: State,
 }
 
+impl Row {
+    ghost use Rattle.table_image.specs.Rows.{is_direct as direct};
+
+    /// Whether the row is direct: its networks are those of a cable that the port stands on.
+    pub fn is_direct(&self) -> bool
+        ensures { result ≡ direct self.now }
+    {
+        self.next.is_none()
+    }
+}
+
 fn made_state(number: u8) -> State
     ensures { result ≡ state_of number }
 {

@@ -1,7 +1,7 @@
 use Rattle.std.proofs.Common.{◌≡◌, suc, Some, List, slice_get, ◌∙◌, sym, subst, below_more, arith}
 use Rattle.std.proofs.lemmas.Option.{same_Some}
 use Rattle.at_base.specs.declared.error.Place.TheVariants as place
-use Rattle.table_image.specs.Places.{on}
+use Rattle.audit.specs.Places.{on}
 use Rattle.table_image.specs.declared.port.Port.{Port}
 use Rattle.table_image.specs.declared.router.Router.{Router}
 use Rattle.audit.specs.Rules.{bad_port, c2}

@@ -1,5 +1,6 @@
 -- The seats of an internet: which station is on which cable, by which addresses. (own)
-use Rattle.std.specs.Prelude.{ℕ, suc, Bool, ◌&&◌, List, [], ◌∷◌, ◌++◌, Option, length, map, find, ◌==◌}
+use Rattle.std.specs.Prelude.{ℕ, suc, ◌&&◌, List, [], ◌∷◌, ◌++◌, Option, length, map, find, ◌==◌}
+use Rattle.at_base.specs.Address.{same_address}
 use Rattle.at_base.specs.declared.address.Addr.{Addr}
 use Rattle.at_base.specs.declared.address.Hw.{Hw}
 use Rattle.table_image.specs.Internet.{Internet}
@@ -13,10 +14,6 @@ pub record Seat : Type 0 where
   pub cable : ℕ
   pub address : Addr
   pub hardware : Hw
-
--- the two are one address
-abbrev pub same_address : Addr → Addr → Bool
-same_address a b = a.net == b.net && a.node == b.node
 
 -- the seat that router r has by a port
 abbrev pub port_seat : ℕ → Port → Seat

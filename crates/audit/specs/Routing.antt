@@ -1,33 +1,19 @@
 -- Where routers hand a datagram on, by their tables. (Inside AppleTalk, the chapters on DDP and RTMP)
-use Rattle.std.specs.Prelude.{ℕ, Bool, true, false, ◌&&◌, cond, List, Option, Some, None, length, slice_get, find, nat_le, nat_lt, ◌==◌, option_and_then}
+use Rattle.std.specs.Prelude.{ℕ, ◌&&◌, cond, List, Option, Some, None, length, slice_get, find, nat_lt, option_and_then}
 use Rattle.at_base.specs.declared.address.Addr.{Addr}
-use Rattle.rtmp.specs.declared.state.State.{State}
-use Rattle.rtmp.specs.declared.state.State.TheVariants.{Good, Suspect, Bad, Last}
+use Rattle.at_base.specs.Range.{is_between}
+use Rattle.rtmp.specs.States.{is_usable}
+use Rattle.table_image.specs.Rows.{is_direct}
 use Rattle.table_image.specs.Internet.{Internet}
-use Rattle.table_image.specs.Places.{index_of}
-use Rattle.table_image.specs.Seats.{Seat, seat_at}
+use Rattle.audit.specs.Places.{index_of}
+use Rattle.audit.specs.Seats.{Seat, seat_at}
 use Rattle.table_image.specs.declared.port.Port.{Port}
 use Rattle.table_image.specs.declared.row.Row.{Row}
 use Rattle.table_image.specs.declared.router.Router.{Router}
 
--- the network is one of those from start to end
-abbrev pub is_between : ℕ → ℕ → ℕ → Bool
-is_between start end n = nat_le start n && nat_le n end
-
 -- the home of a network: the cable whose range holds it
 abbrev pub home : Internet → ℕ → Option ℕ
 home i n = index_of (λ c. is_between c.start c.end n) i.cables
-
--- a row is used for forwarding while it is good or suspect
-abbrev pub is_usable : State → Bool
-is_usable Good = true
-is_usable Suspect = true
-is_usable Bad = false
-is_usable Last = false
-
--- a direct row has no next router
-abbrev pub is_direct : Row → Bool
-is_direct row = row.next.net == 0 && row.next.node == 0
 
 -- the usable row whose range holds the network
 abbrev pub row_for : List Row → ℕ → Option Row
