@@ -5,3 +5,5 @@ pub mod Items
 pub mod Laws
 pub mod Readers
 mod Examples
+pub mod Packets
+pub mod Loops

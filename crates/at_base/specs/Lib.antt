@@ -9,3 +9,4 @@ pub mod Reading
 pub mod Lawful
 pub mod Address
 pub mod Texts
+pub mod Packets

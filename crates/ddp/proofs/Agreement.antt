@@ -1,15 +1,15 @@
 -- A datagram and the bytes that begin with it have one hop count, one target and one body.
-use Rattle.std.proofs.Common.{◌≡◌, ℕ, ◌<◌, ◌+◌, ◌*◌, ◌/◌, ◌%◌, List, [], ◌++◌, length, take, refl, sym, ap, subst, ◌∙◌, arith}
+use Rattle.std.proofs.Common.{◌≡◌, ◌≤◌, ℕ, ◌<◌, ◌+◌, ◌*◌, ◌/◌, ◌%◌, List, [], ◌++◌, length, take, refl, sym, ap, subst, ◌∙◌, arith}
 use Rattle.std.specs.Int.{byte_at}
 use Rattle.std.proofs.lemmas.List.{take_at, append-nil}
 use Rattle.at_base.specs.declared.address.Addr.{Addr}
 use Rattle.at_base.specs.Spelling.{bytes_of, Spells, Begins}
 use Rattle.at_base.proofs.Readers.{spelled_begins, begins_one}
 use Rattle.ddp.specs.declared.header.Header.{Header}
-use Rattle.ddp.specs.Refusing.{packets}
+use Rattle.at_base.specs.Packets.{packets}
 use Rattle.ddp.specs.Datagram.{Datagram, datagram, datagram_of, first_word, length_of}
 use Rattle.ddp.specs.Bodies.{named_length, hops, target, with_hops, body}
-use Rattle.ddp.proofs.Shape.{datagram_lawful, laid, bytes_laid, IsLaid, value_laid}
+use Rattle.ddp.proofs.Shape.{datagram_lawful, laid, bytes_laid, IsLaid, value_laid, laid_value}
 
 -- the numbers of a first word
 word_length : (w : ℕ) → w < 65536 → byte_at 1 w % 4 * 256 + byte_at 0 w ≡ w % 1024
@@ -38,30 +38,51 @@ laid_target d rest h =
     let made : ℕ → ℕ → Addr = λ a b. record { net = a; node = b } in
     ap (λ (a : ℕ). made a (byte_at 0 d.target.node)) net ∙ ap (made d.target.net) node
 
--- the datagram with hop count 0
-abbrev unhopped : Datagram → Datagram
-unhopped d = record d { hops = 0 }
+-- the datagram with another hop count
+abbrev hopped : ℕ → Datagram → Datagram
+hopped n d = record d { hops = n }
 
-first_bytes : (d : Datagram) → IsLaid d
-    → (byte_at 1 (first_word d) / 64 * 64 + 0 * 4 + byte_at 1 (first_word d) % 4 ≡ byte_at 1 (first_word (unhopped d))) × (byte_at 0 (first_word d) ≡ byte_at 0 (first_word (unhopped d)))
-first_bytes d h =
+first_bytes : (n : ℕ) (d : Datagram) → n ≤ 15 → IsLaid d
+    → (byte_at 1 (first_word d) / 64 * 64 + n * 4 + byte_at 1 (first_word d) % 4 ≡ byte_at 1 (first_word (hopped n d)))
+    × (byte_at 0 (first_word d) ≡ byte_at 0 (first_word (hopped n d)))
+first_bytes n d few h =
     let k = length_is d h in
     (omega (arith, h.word, h.reserved, h.hops, h.most), omega (arith, h.word, h.reserved, h.hops, h.most))
 
-laid_unhopped : (d : Datagram) → IsLaid d → with_hops 0 (laid d) ≡ laid (unhopped d)
-laid_unhopped d h = let f = first_bytes d h in rw (f.0, f.1) refl
+laid_hopped : (n : ℕ) (d : Datagram) → n ≤ 15 → IsLaid d → with_hops n (laid d) ≡ laid (hopped n d)
+laid_hopped n d few h = let f = first_bytes n d few h in rw (f.0, f.1) refl
 
-laid_body : (d : Datagram) (rest : List ℕ) → IsLaid d → body (laid d ++ rest) ≡ bytes_of datagram (unhopped d)
+hopped_laid : (n : ℕ) (d : Datagram) → n ≤ 15 → IsLaid d → IsLaid (hopped n d)
+hopped_laid n d few h =
+    let k = length_is d h in
+    record {
+      word = omega (arith, h.word, h.reserved, h.hops, h.most);
+      least = omega (arith, h.word, h.reserved, h.hops, h.most, h.least);
+      most = omega (arith, h.word, h.reserved, h.hops, h.most, h.least);
+      checksum = h.checksum;
+      target_net = h.target_net;
+      source_net = h.source_net;
+      target_node = h.target_node;
+      source_node = h.source_node;
+      target_socket = h.target_socket;
+      source_socket = h.source_socket;
+      kind = h.kind;
+      len = omega (arith, h.word, h.reserved, h.hops, h.most, h.least, h.len);
+      reserved = omega (arith, h.word, h.reserved, h.hops, h.most);
+      hops = omega (arith, h.word, h.reserved, h.hops, h.most);
+    }
+
+laid_body : (d : Datagram) (rest : List ℕ) → IsLaid d → body (laid d ++ rest) ≡ bytes_of datagram (hopped 0 d)
 laid_body d rest h =
     let len : length (laid d) ≡ length_of d = omega arith in
     let taken : take (named_length (laid d ++ rest)) (laid d ++ rest) ≡ laid d = ap (λ (n : ℕ). take n (laid d ++ rest)) (laid_length d rest h) ∙ take_at (laid d) rest (length_of d) len in
-    ap (with_hops 0) taken ∙ laid_unhopped d h ∙ sym (bytes_laid (unhopped d))
+    ap (with_hops 0) taken ∙ laid_hopped 0 d (omega arith) h ∙ sym (bytes_laid (hopped 0 d))
 
 pub record Agrees (bytes : List ℕ) (d : Datagram) : Type 0 where
   pub hops : hops bytes ≡ d.hops
   pub target : target bytes ≡ d.target
   pub len : named_length bytes ≡ length_of d
-  pub body : body bytes ≡ bytes_of datagram (unhopped d)
+  pub body : body bytes ≡ bytes_of datagram (hopped 0 d)
 
 agreement : (bytes : List ℕ) (d : Datagram) → Begins datagram bytes d → Agrees bytes d
 agreement bytes d (rest, parts, v, f) =
@@ -85,3 +106,18 @@ pub read_back : (h : Header) (payload bytes rest : List ℕ) → Spells datagram
 read_back h payload bytes rest s =
     let b = spelled_begins datagram bytes rest (datagram_of h payload) s in
     (b, λ d c. begins_one packets datagram datagram_lawful (bytes ++ rest) (datagram_of h payload) d b c)
+
+-- hop counts that were set change a datagram's first byte alone, whatever follows it
+with_hops_front : (n : ℕ) (d : Datagram) (rest : List ℕ) → with_hops n (laid d ++ rest) ≡ with_hops n (laid d) ++ rest
+with_hops_front n d rest = refl
+
+pub read_with_hops : (n : ℕ) (bytes : List ℕ) (d : Datagram) → n ≤ 15 → Begins datagram bytes d
+    → Begins datagram (with_hops n bytes) (record d { hops = n })
+read_with_hops n bytes d few (rest, parts, v, f) =
+    let h = value_laid d v in
+    let e = hopped n d in
+    let whole : bytes ≡ laid d ++ rest = parts ∙ ap (λ (b : List ℕ). b ++ rest) (bytes_laid d) in
+    let set : with_hops n bytes ≡ laid e ++ rest =
+        ap (with_hops n) whole ∙ with_hops_front n d rest ∙ ap (λ (b : List ℕ). b ++ rest) (laid_hopped n d few h) in
+    let spelled : Spells datagram (laid e) e = (laid_value e (hopped_laid n d few h), sym (bytes_laid e)) in
+    subst (λ (b : List ℕ). Begins datagram b e) (sym set) (spelled_begins datagram (laid e) rest e spelled)

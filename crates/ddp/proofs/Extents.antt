@@ -11,7 +11,7 @@ use Rattle.at_base.specs.Reading.{Reads}
 use Rattle.at_base.proofs.Fields.{IsBytes, ok, ok_is, IsBytes-take, guard_ok, guard_err}
 use Rattle.at_base.proofs.Laws.{read_refused}
 use Rattle.at_base.proofs.Readers.{spelled_begins, begins_read, reads_ok, reads_err}
-use Rattle.ddp.specs.Refusing.{packets}
+use Rattle.at_base.specs.Packets.{packets}
 use Rattle.ddp.specs.Datagram.{Datagram, datagram, wrong_word}
 use Rattle.ddp.specs.Bodies.{word_at, named_length}
 use Rattle.ddp.specs.InPlace.{datagram_in, IsDatagram, extent}

@@ -5,6 +5,7 @@ use Rattle.at_base.specs.declared.error.Error.{Error}
 use Rattle.at_base.specs.declared.error.Error.TheVariants.{BadLength}
 use Rattle.at_base.specs.Checksum.{sum_of}
 use Rattle.at_base.specs.Grammar.{Grammar, done, field, room, number, run, one, two}
+use Rattle.at_base.specs.Packets.{any}
 use Rattle.at_base.specs.Spelling.{bytes_of}
 use Rattle.ddp.specs.declared.header.Header.{Header}
 
@@ -31,10 +32,6 @@ first_word d = d.reserved * 16384 + d.hops * 1024 + length_of d
 -- the length in a first word is 13 to 599
 abbrev pub wrong_word : ℕ → Option Error
 wrong_word w = if nat_lt (w % 1024) 13 then Some BadLength else if nat_lt 599 (w % 1024) then Some BadLength else None
-
--- any value
-abbrev pub any : {V : Type 0} → V → Option Error
-any v = None
 
 -- 13 bytes there; the first word, with a length of 13 to 599; that many bytes there in all; and the other fields
 unfoldable pub datagram : Grammar Error true Datagram

@@ -1,4 +1,3 @@
-pub mod Refusing
 pub mod Datagram
 pub mod Bodies
 pub mod InPlace

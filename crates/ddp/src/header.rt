@@ -2,19 +2,46 @@
 
 use at_base::Addr;
 
-/// How many bytes a long header has.
-pub(crate) const HEADER: usize = 13;
+/// The length of a long header, in bytes.
+pub const HEADER_LEN: usize = 13;
 
-/// The header of a datagram to be written (Inside AppleTalk, the chapter on DDP). Its hop count is
-/// 0, and its length is that of the data.
+/// The most bytes of data in a datagram.
+pub const MAX_DATA: usize = 586;
+
+/// The most bytes of a datagram, header and data.
+pub const MAX_LEN: usize = 599;
+
+/// The protocols that a datagram's type names (Inside AppleTalk, the chapter on DDP).
+pub mod kind {
+    pub const RTMP_DATA: u8 = 1;
+    pub const NBP: u8 = 2;
+    pub const ATP: u8 = 3;
+    pub const AEP: u8 = 4;
+    pub const RTMP_REQUEST: u8 = 5;
+    pub const ZIP: u8 = 6;
+}
+
+/// The sockets that each protocol listens on (Inside AppleTalk, the chapter on DDP).
+pub mod socket {
+    pub const RTMP: u8 = 1;
+    pub const NAMES: u8 = 2;
+    pub const ECHO: u8 = 4;
+    pub const ZIP: u8 = 6;
+}
+
+/// The header of a datagram to be written. Its hop count is 0, and its length is that of the data.
+///
+/// Inside AppleTalk, the chapter on DDP.
 #[derive(Clone, Copy, Debug, PartialEq, Eq)]
 pub struct Header {
     /// Whether it carries a checksum.
     pub summed: bool,
+    /// The node that it is for.
     pub target: Addr,
+    /// The node that sends it.
     pub source: Addr,
     pub target_socket: u8,
     pub source_socket: u8,
-    /// The number of the protocol whose packet the data is.
+    /// The protocol whose packet the data is, as in `kind`.
     pub kind: u8,
 }

@@ -3,15 +3,17 @@
 ghost use Rattle.std.specs.Prelude.{◌≡◌, ◌≤◌, length};
 ghost use Rattle.ddp.specs.Bodies.{with_hops};
 
-/// Sets the hop count of a datagram, how many routers it has come through, and changes nothing else
-/// (Inside AppleTalk, the chapter on DDP). Takes no memory.
+/// Sets the hop count of a datagram, the number of routers that it has come through, and changes
+/// nothing else. Allocates nothing.
+///
+/// Inside AppleTalk, the chapter on DDP.
 #[tactic(auto, using(crate::proofs::Bodies::hops_set))]
 pub fn set_hops(bytes: &mut [u8], hops: u8)
     requires there { 13 ≤ length bytes.old }
     requires few { hops ≤ 15 }
     ensures { bytes.new ≡ with_hops hops bytes.old }
 {
-    // the count stands between the two top bits and the two highest bits of the length
+    // the count lies between the two top bits and the two highest bits of the length
     let first = bytes[0];
     bytes[0] = first / 64 * 64 + hops * 4 + first % 4;
 }

@@ -1,4 +1,4 @@
-//! Laws of datagrams, for the crates above: each is the clause of a function that does nothing.
+//! Laws of datagrams, for the crates above: each is the contract of a function that does nothing.
 
 ghost use Rattle.std.specs.Prelude.{◌≡◌, ℕ, ◌≤◌, List, ◌++◌, length};
 ghost use Rattle.at_base.specs.Spelling.{bytes_of, Spells, Begins};
@@ -22,6 +22,12 @@ pub fn hops_leave_the_body()
         × (body (with_hops n bytes) ≡ body bytes)
         × (target_in (with_hops n bytes) ≡ target_in bytes)
         × (named_length (with_hops n bytes) ≡ named_length bytes) }
+{}
+
+/// A datagram whose hop count was set is read again, with that count and nothing else changed.
+pub fn set_hops_are_read()
+    ensures { (n : ℕ) (bytes : List ℕ) (d : Datagram) → n ≤ 15 → Begins datagram bytes d
+        → Begins datagram (with_hops n bytes) (record d { hops = n }) }
 {}
 
 /// Padding is no part of the body.

@@ -1,21 +1,20 @@
 //! Datagrams in place: a reader that borrows its input.
 
-ghost use Rattle.std.specs.Prelude.{◌≡◌, ◌⊎◌, ◌↔◌, IsOk, IsOkUnless};
+ghost use Rattle.std.specs.Prelude.{◌≡◌, ◌⊎◌, ◌↔◌, ◌≤◌, length, IsOk, IsOkUnless};
 ghost use Rattle.at_base.specs.Reading.{Gives, Reads};
 ghost use Rattle.ddp.specs.Datagram.{datagram, length_of, checksum_of};
-ghost use Rattle.ddp.specs.Refusing.{packets};
+ghost use Rattle.at_base.specs.Packets.{packets};
 ghost use Rattle.ddp.specs.InPlace.{extent};
 
-use crate::header::HEADER;
+use crate::header::{HEADER_LEN, MAX_LEN};
 use at_base::{Addr, Error, sum};
 use byteorder::{BigEndian, ByteOrder};
 use std::marker::Model;
 
-/// How many bytes the longest datagram has.
-const LONGEST: usize = 599;
-
-/// A datagram in place, with a long header (Inside AppleTalk, the chapter on DDP). It borrows the
-/// input; what follows its length is padding and no part of it.
+/// A datagram in place, with a long header. It borrows the input; bytes after its length are padding
+/// and no part of it.
+///
+/// Inside AppleTalk, the chapter on DDP.
 #[derive(Debug, Drop)]
 pub struct View<'a> {
     bytes: &'a [u8],
@@ -32,15 +31,15 @@ impl<'a> Model for View<'a> {
     ghost invariant = { λ v. IsDatagram v.bytes.now };
 }
 
-/// How many bytes the datagram has with which the bytes begin.
+/// The length of the datagram at the front of the bytes.
 fn extent_of(bytes: &[u8]) -> Result<usize, Error>
     ensures { Gives (λ n. n) result (extent bytes.now) }
 {
-    if bytes.len() < HEADER {
+    if bytes.len() < HEADER_LEN {
         return Err(Error::Truncated);
     }
     let len = usize::from(BigEndian::read_u16(bytes) % 1024);
-    if len < HEADER || LONGEST < len {
+    if len < HEADER_LEN || MAX_LEN < len {
         return Err(Error::BadLength);
     }
     if bytes.len() < len {
@@ -50,7 +49,7 @@ fn extent_of(bytes: &[u8]) -> Result<usize, Error>
 }
 
 impl<'a> View<'a> {
-    /// The datagram with which the bytes begin. The two top bits of its first byte are ignored.
+    /// The datagram at the front of the bytes. The two top bits of its first byte are ignored.
     ///
     /// Errors: `Truncated` where the input ends before the header does, or before the length that
     /// the header names; `BadLength` where that length isn't 13 to 599 bytes.
@@ -65,16 +64,17 @@ impl<'a> View<'a> {
         }
     }
 
-    /// How many bytes header and data have together.
+    /// The length of header and data together, 13 to 599 bytes.
     pub fn length(&self) -> u16
         ensures { result ≡ length_of self.now }
     {
         self.bytes.len() as u16
     }
 
-    /// How many routers the datagram has come through, 0 to 15.
+    /// The number of routers that the datagram has come through, 0 to 15.
     pub fn hops(&self) -> u8
-        ensures { result ≡ self.now.hops }
+        ensures value { result ≡ self.now.hops }
+        ensures few { self.now.hops ≤ 15 }
     {
         self.bytes[0] / 4 % 16
     }
@@ -120,18 +120,19 @@ impl<'a> View<'a> {
         self.bytes[11]
     }
 
-    /// The number of the protocol whose packet the data is.
+    /// The protocol whose packet the data is, as in `kind`.
     pub fn kind(&self) -> u8
         ensures { result ≡ self.now.kind }
     {
         self.bytes[12]
     }
 
-    /// The data, in place.
+    /// The data, in place: 0 to 586 bytes.
     pub fn payload(&self) -> &'a [u8]
-        ensures { result.now ≡ self.now.payload }
+        ensures value { result.now ≡ self.now.payload }
+        ensures short { length self.now.payload ≤ 586 }
     {
-        &self.bytes[HEADER..]
+        &self.bytes[HEADER_LEN..]
     }
 
     /// Whether the checksum is that of the bytes after it.

@@ -7,21 +7,18 @@ ghost use Rattle.at_base.specs.Checksum.{sum_of};
 ghost use Rattle.ddp.specs.Datagram.{datagram, unsummed, datagram_of};
 ghost use Rattle.ddp.specs.InPlace.{with_sum};
 
-use crate::header::{HEADER, Header};
+use crate::header::{HEADER_LEN, Header, MAX_DATA};
 use at_base::{Bytes, Error, sum};
 use byteorder::{BigEndian, ByteOrder};
 use std::alloc::Global;
 
-/// How many bytes of data there are at most.
-const MOST: usize = 586;
-
 /// The bytes of the header, with hop count and checksum 0.
-fn header_bytes(header: &Header, payload: &[u8]) -> [u8; HEADER]
+fn header_bytes(header: &Header, payload: &[u8]) -> [u8; HEADER_LEN]
     requires { length payload.now ≤ 586 }
     ensures { Spells datagram (result ++ payload.now) (unsummed header.now payload.now) }
 {
-    let mut bytes = [0; HEADER];
-    BigEndian::write_u16(&mut bytes, (HEADER + payload.len()) as u16);
+    let mut bytes = [0; HEADER_LEN];
+    BigEndian::write_u16(&mut bytes, (HEADER_LEN + payload.len()) as u16);
     BigEndian::write_u16(&mut bytes[4..], header.target.net);
     BigEndian::write_u16(&mut bytes[6..], header.source.net);
     bytes[8] = header.target.node;
@@ -39,13 +36,13 @@ fn unsummed_bytes(alloc: Global, header: &Header, payload: &[u8]) -> Result<Vec<
     ensures there { IfOk result (λ v. 13 ≤ length v.items) }
     ensures refused { IsOkUnless result Error.Memory }
 {
-    let mut bytes = Vec::with_capacity(alloc, HEADER + payload.len())?;
+    let mut bytes = Vec::with_capacity(alloc, HEADER_LEN + payload.len())?;
     bytes.extend_from_slice(&header_bytes(header, payload))?;
     bytes.extend_from_slice(payload)?;
     Ok(bytes)
 }
 
-/// The bytes with the sum of what follows the checksum field in it, where the sender wants one.
+/// The bytes with the sum of all bytes after the checksum field in it, where the sender wants one.
 fn with_checksum(summed: bool, mut bytes: Vec<u8>) -> Vec<u8>
     requires { 13 ≤ length bytes.items }
     ensures put { result.items ≡ (if summed then with_sum bytes.items else bytes.items) }
@@ -58,8 +55,10 @@ fn with_checksum(summed: bool, mut bytes: Vec<u8>) -> Vec<u8>
     bytes
 }
 
-/// The bytes of a datagram with this header and data, and hop count 0 (Inside AppleTalk, the
-/// chapter on DDP). Its checksum is the sum exactly where the header says so, and else 0.
+/// The bytes of a datagram with this header and data, and hop count 0. Its checksum is the sum where
+/// the header says so, and otherwise 0. Allocates exactly the datagram's length.
+///
+/// Inside AppleTalk, the chapter on DDP.
 ///
 /// Errors: `TooLong` above 586 bytes of data, `Memory`.
 pub fn write(alloc: Global, header: &Header, payload: &[u8]) -> Result<Bytes, Error>
@@ -68,7 +67,7 @@ pub fn write(alloc: Global, header: &Header, payload: &[u8]) -> Result<Bytes, Er
     ensures long { (result ≡ Err Error.TooLong) ↔ (586 < length payload.now) }
     ensures refused { IfErr result (λ e. (e ≡ Error.TooLong) ⊎ (e ≡ Error.Memory)) }
 {
-    if payload.len() > MOST {
+    if payload.len() > MAX_DATA {
         return Err(Error::TooLong);
     }
     let bytes = unsummed_bytes(alloc, header, payload)?;

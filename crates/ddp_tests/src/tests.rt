@@ -1,7 +1,7 @@
 //! Datagrams worked out by hand.
 
-use super::*;
 use at_base::{Addr, Bytes, Error};
+use ddp::*;
 use std::alloc::Global;
 use std::test::*;
 
@@ -45,6 +45,120 @@ fn an_empty_datagram_of_zeros_has_the_sum_ffff(rt: HostRuntime) -> Result<(), Fa
     let expected: [u8; 13] = [0x00, 0x0D, 0xFF, 0xFF, 0, 0, 0, 0, 0, 0, 0, 0, 0];
     assert_eq!(rt; bytes.as_slice(), expected.as_slice());
     Ok(())
+}
+
+/// A header with another value in each field, and its datagram with the data AA BB and no checksum.
+const EVERY_FIELD: Header = Header {
+    summed: false,
+    target: Addr {
+        net: 0x1234,
+        node: 0x56,
+    },
+    source: Addr {
+        net: 0x789A,
+        node: 0xBC,
+    },
+    target_socket: 0xDE,
+    source_socket: 0x21,
+    kind: 0x43,
+};
+
+const EVERY_FIELD_BYTES: [u8; 15] = [
+    0x00, 0x0F, // hop count 0, length 15
+    0x00, 0x00, // no checksum
+    0x12, 0x34, // target network
+    0x78, 0x9A, // source network
+    0x56, // target node
+    0xBC, // source node
+    0xDE, // target socket
+    0x21, // source socket
+    0x43, // type
+    0xAA, 0xBB, // data
+];
+
+#[test]
+fn each_field_has_its_own_bytes(rt: HostRuntime) -> Result<(), Fail> {
+    let bytes = write_again(rt.alloc(), &EVERY_FIELD, &EVERY_FIELD_BYTES[13..])?;
+    assert_eq!(rt; bytes.as_slice(), EVERY_FIELD_BYTES.as_slice());
+    let view = View::read(&EVERY_FIELD_BYTES)?;
+    assert_eq!(rt; view.length(), 15);
+    assert_eq!(rt; view.target(), EVERY_FIELD.target);
+    assert_eq!(rt; view.source(), EVERY_FIELD.source);
+    assert_eq!(rt; view.target_socket(), 0xDE);
+    assert_eq!(rt; view.source_socket(), 0x21);
+    assert_eq!(rt; view.kind(), 0x43);
+    assert_eq!(rt; view.payload(), [0xAA, 0xBB].as_slice());
+    Ok(())
+}
+
+/// The sum of 12 34 78 9A 56 BC DE 21 43 AA BB, worked out byte by byte: each is added, and the sum
+/// turned left by one bit.
+#[test]
+fn a_sum_stays_right_whatever_the_hop_count(rt: HostRuntime) -> Result<(), Fail> {
+    let mut bytes = EVERY_FIELD_BYTES;
+    bytes[2] = 0x68;
+    bytes[3] = 0x09;
+    for hops in [0, 1, 15] {
+        set_hops(&mut bytes, hops);
+        assert_eq!(rt; View::read(&bytes)?.check(), Ok(()));
+    }
+    bytes[13] = 0xAB;
+    assert_eq!(rt; View::read(&bytes)?.check(), Err(Error::BadChecksum));
+    Ok(())
+}
+
+#[test]
+fn headers_are_equal_where_each_field_is(rt: HostRuntime) -> Result<(), Fail> {
+    let header = EVERY_FIELD;
+    assert!(rt; header.clone()? == header);
+    let mut other = header;
+    other.summed = true;
+    assert!(rt; other != header);
+    other = header;
+    other.target.net += 1;
+    assert!(rt; other != header);
+    other = header;
+    other.target.node += 1;
+    assert!(rt; other != header);
+    other = header;
+    other.source.net += 1;
+    assert!(rt; other != header);
+    other = header;
+    other.source.node += 1;
+    assert!(rt; other != header);
+    other = header;
+    other.target_socket += 1;
+    assert!(rt; other != header);
+    other = header;
+    other.source_socket += 1;
+    assert!(rt; other != header);
+    other = header;
+    other.kind += 1;
+    assert!(rt; other != header);
+    Ok(())
+}
+
+#[test]
+fn a_datagram_takes_as_much_memory_as_it_is_long(rt: HostRuntime) -> Result<(), Fail> {
+    let bytes = write_again(rt.alloc(), &ping_header(true), &PING[13..])?;
+    assert_eq!(rt; bytes.into_vec().capacity(), 18);
+    Ok(())
+}
+
+#[test]
+fn protocols_and_sockets_have_their_numbers(rt: HostRuntime) {
+    let kinds = [
+        kind::RTMP_DATA,
+        kind::NBP,
+        kind::ATP,
+        kind::AEP,
+        kind::RTMP_REQUEST,
+        kind::ZIP,
+    ];
+    assert_eq!(rt; kinds, [1, 2, 3, 4, 5, 6]);
+    let sockets = [socket::RTMP, socket::NAMES, socket::ECHO, socket::ZIP];
+    assert_eq!(rt; sockets, [1, 2, 4, 6]);
+    assert_eq!(rt; (HEADER_LEN, MAX_DATA, MAX_LEN), (13, 586, 599));
 }
 
 #[test]
@@ -200,6 +314,7 @@ fn data_is_copied_as_it_stands(rt: HostRuntime) -> Result<(), Fail> {
 fn each_law_can_be_called(_rt: HostRuntime) {
     written_is_read();
     hops_leave_the_body();
+    set_hops_are_read();
     padding_leaves_the_body();
     value_agrees_with_bytes();
     written_has_no_hops();

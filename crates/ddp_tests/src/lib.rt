@@ -1,0 +1,5 @@
+//! Tests of ddp through its public calls.
+#![tactic(auto)]
+
+#[cfg(test)]
+mod tests;
