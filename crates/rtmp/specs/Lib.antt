@@ -1,1 +1,4 @@
 pub mod States
+pub mod Data
+pub mod Routes
+pub mod Updates

@@ -1,0 +1,105 @@
+-- Packets of routing data: the router that sends them, the range of its port's cable, and how far other ranges are.
+-- (Inside AppleTalk, the chapter on RTMP)
+use Rattle.std.specs.Prelude.{◌≡◌, ℕ, ◌+◌, ◌*◌, ◌%◌, Bool, true, false, not, ◌&&◌, ◌==◌, List, [], ◌∷◌, map, Option, Some, None, nat_le, nat_lt, if◌then◌else◌}
+use Rattle.at_base.specs.declared.address.Addr.{Addr}
+use Rattle.at_base.specs.declared.error.Field.TheVariants.{IdLength, Version}
+use Rattle.at_base.specs.declared.error.Error.{Error}
+use Rattle.at_base.specs.declared.error.Error.TheVariants.{Truncated, BadField, BadRange}
+use Rattle.at_base.specs.Range.{Span, is_range}
+use Rattle.at_base.specs.Packets.{any, only}
+use Rattle.at_base.specs.Grammar.{Grammar, done, field, part, room, many, number, one, two}
+use Rattle.rtmp.specs.declared.tuple.Tuple.{Tuple}
+
+-- what an extended tuple has after its distance: the end of its range, and the version byte
+pub record Extension : Type 0 where
+  pub end : ℕ
+  pub version : ℕ
+
+-- A tuple as it is written. The top bit of its third byte says whether it is extended, and the low five bits are the
+-- distance; the two between are ignored.
+pub record Written : Type 0 where
+  pub start : ℕ
+  pub third : ℕ
+  pub extension : Option Extension
+
+-- a packet of routing data
+pub record RoutingData : Type 0 where
+  pub router : Addr
+  pub written : List Written
+
+abbrev pub extension_or : Option Extension → Extension
+extension_or None = record { end = 0; version = 0 }
+extension_or (Some e) = e
+
+-- the first tuple must be extended
+abbrev pub wrong_third : ℕ → ℕ → Option Error
+wrong_third low third = if low == 0 && nat_lt third 128 then Some (BadField Version) else None
+
+-- the first tuple has distance 0 and version byte 82; the range of each extended one is valid
+abbrev pub wrong_extension : ℕ → ℕ → ℕ → ℕ → ℕ → Option Error
+wrong_extension low start third end version =
+    if low == 0 && not (third % 32 == 0 && version == 0x82) then Some (BadField Version)
+    else if is_range start end then None else Some BadRange
+
+-- what follows the third byte
+abbrev pub extension_at : ℕ → ℕ → ℕ → Bool → Grammar Error true (Option Extension)
+extension_at low start third false = done None
+extension_at low start third true =
+    field (number two any) (λ e. (extension_or e).end) (λ end.
+    field (number one (wrong_extension low start third end)) (λ e. (extension_or e).version) (λ version.
+    done (Some (record { end = end; version = version }))))
+
+-- a tuple, which is the first one after 0, and a later one after 1
+unfoldable pub written_tuple : ℕ → Grammar Error true Written
+written_tuple low =
+    field (number two any) (λ t. t.start) (λ start.
+    field (number one (wrong_third low)) (λ t. t.third) (λ third.
+    part (extension_at low start third (nat_le 128 third)) (λ t. t.extension) (λ extension.
+    done (record { start = start; third = third; extension = extension }))))
+
+-- there is a tuple
+abbrev pub at_least_one : List Written → Option Error
+at_least_one [] = Some Truncated
+at_least_one (t ∷ ts) = None
+
+-- the router's network, the length of its node in bits, its node, and tuples up to the end of the input
+unfoldable pub routing_data : Grammar Error false RoutingData
+routing_data =
+    room 4 (
+    field (number two any) (λ p. p.router.net) (λ net.
+    field (number one (only 8 IdLength)) (λ p. 8) (λ length_of_node.
+    field (number one any) (λ p. p.router.node) (λ node.
+    many written_tuple (λ t. 1) at_least_one (λ p. p.written) (λ written. record { router = record { net = net; node = node }; written = written })))))
+
+-- what an extended tuple says: how far its range is; the others are skipped
+abbrev pub tuple_of : Written → Option Tuple
+tuple_of t = said t.extension
+  where
+    said : Option Extension → Option Tuple
+    said None = None
+    said (Some e) = Some (record { range = record { start = t.start; end = e.end }; distance = t.third % 32 })
+
+-- the extended tuples, in order
+abbrev pub tuples_of : List Written → List Tuple
+tuples_of [] = []
+tuples_of (t ∷ ts) = with_next (tuple_of t) (tuples_of ts)
+  where
+    with_next : Option Tuple → List Tuple → List Tuple
+    with_next None rest = rest
+    with_next (Some x) rest = x ∷ rest
+
+-- the range of the sender's port: that of the first tuple
+abbrev pub own_range : RoutingData → Span
+own_range p = range_in (tuples_of p.written)
+  where
+    range_in : List Tuple → Span
+    range_in [] = record { start = 0; end = 0 }
+    range_in (t ∷ ts) = t.range
+
+-- a tuple as this project writes it: extended, with version byte 82
+abbrev pub written_of : Tuple → Written
+written_of t = record { start = t.range.start; third = 128 + t.distance; extension = Some (record { end = t.range.end; version = 0x82 }) }
+
+-- the packet of a router that sends these tuples
+abbrev pub data_of : Addr → List Tuple → RoutingData
+data_of router tuples = record { router = router; written = map written_of tuples }

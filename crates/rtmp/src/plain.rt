@@ -1,0 +1,270 @@
+//! A routing table as rows in a vector.
+
+ghost use Rattle.std.specs.Prelude.{◌≡◌, ◌≤◌, ◌<◌, length, not, true, filter, vec_len, vec_capacity};
+ghost use Rattle.std.specs.List.{list_all, list_any};
+ghost use Rattle.std.specs.Option.{option_copied};
+ghost use Rattle.at_base.specs.Range.{IsRange, overlaps, is_range};
+ghost use Rattle.rtmp.specs.Routes.{are_apart, row_at, row_for as row_in, beside, added, is_over as over};
+ghost use Rattle.rtmp.specs.Routes.{after_hearing as hears, heard_row as new_row, direct_row as own_row, is_new as new_range};
+ghost use Rattle.rtmp.specs.Updates.{before};
+
+use crate::row::Row;
+use crate::state::State;
+use crate::table::{Change, MAX_DISTANCE, MAX_ROWS, RouteTable};
+use crate::update::{Update, is_over, update_all};
+use at_base::{Addr, Error, Range};
+use std::alloc::Global;
+use std::marker::Model;
+
+/// A routing table as a vector of rows by rising range. It searches row by row.
+#[derive(Debug, Drop)]
+pub struct PlainTable {
+    rows: Vec<Row>,
+}
+
+impl Model for PlainTable {
+    ghost use Rattle.std.specs.Prelude.{List};
+    ghost use Rattle.rtmp.specs.declared.row.Row.{Row as RowValue};
+    ghost use Rattle.rtmp.specs.Routes.{IsRouteMap};
+
+    ghost Value = { List RowValue };
+
+    ghost view = { λ t. t.rows.items };
+
+    ghost invariant = { λ t. IsRouteMap t.rows.items };
+}
+
+/// Whether each range ends before the next one starts.
+fn rows_are_apart(rows: &[Row]) -> bool
+    ensures value { result ≡ are_apart rows.now }
+    ensures valid { result ≡ true
+        → list_all (λ r. is_range r.range.start r.range.end) rows.now ≡ true }
+{
+    let mut end = 0;
+    for row in rows {
+        if row.range.start() <= end {
+            return false;
+        }
+        end = row.range.end();
+    }
+    true
+}
+
+/// The row of a range.
+fn row_of(rows: &[Row], range: Range) -> Option<&Row>
+    ensures { option_copied result ≡ row_at range rows.now }
+{
+    rows.iter().find(|row| row.range == range)
+}
+
+/// The usable row whose range holds the network.
+fn usable_row(rows: &[Row], net: u16) -> Option<&Row>
+    ensures { option_copied result ≡ row_in net rows.now }
+{
+    rows.iter()
+        .find(|row| row.state.is_usable() && row.range.holds(net))
+}
+
+/// The number of rows beside the range.
+fn count_beside(rows: &[Row], range: Range) -> usize
+    ensures { result ≡ length (beside range rows.now) }
+{
+    rows.iter()
+        .filter(|row| !row.range.overlaps(&range))
+        .count()
+}
+
+/// Takes out the rows that overlap the range.
+fn keep_beside(rows: &mut Vec<Row>, range: Range)
+    ensures kept { rows.new.items ≡ beside range rows.old.items }
+    ensures room { vec_capacity rows.new ≡ vec_capacity rows.old }
+    ensures fewer { vec_len rows.new ≤ vec_len rows.old }
+{
+    rows.retain(|row| !row.range.overlaps(&range));
+}
+
+/// Takes out the rows in their last state.
+fn drop_over(rows: &mut Vec<Row>)
+    ensures { rows.new.items ≡ filter (λ r. not (over r)) rows.old.items }
+{
+    rows.retain(|row| !is_over(row));
+}
+
+/// The row of a range that `source`, heard on a port, is so far from.
+fn heard_row(range: Range, distance: u8, source: Addr, port: u8) -> Row
+    requires { distance ≤ 14 }
+    ensures { result ≡ new_row range distance source port }
+{
+    Row {
+        range,
+        distance: distance + 1,
+        port,
+        next: source,
+        state: State::Good,
+    }
+}
+
+/// Does nothing: it tells the prover that a range is valid, which only a call can.
+fn recall_valid(range: Range)
+    ensures { IsRange range.start range.end }
+{
+    let _start = range.start();
+}
+
+/// The row of a cable that a port stands on.
+fn direct_row(range: Range, port: u8) -> Row
+    ensures { result ≡ own_row range port }
+{
+    Row {
+        range,
+        distance: 0,
+        port,
+        next: Addr::NONE,
+        state: State::Good,
+    }
+}
+
+/// The row of a range after `source` said on a port that it is at `distance`, and the change.
+fn after_hearing(row: &Row, distance: u8, source: Addr, port: u8) -> (Row, Change)
+    ensures { result ≡ hears row.now distance source port }
+{
+    let unchanged = (*row, Change::Ignored);
+    let is_next = row.next == source && row.port == port;
+    if row.is_direct() {
+        unchanged
+    } else if distance > MAX_DISTANCE {
+        if !is_next {
+            return unchanged;
+        }
+        let mut bad = *row;
+        bad.state = State::Bad;
+        (bad, Change::Changed)
+    } else if is_next || !row.state.is_usable() || distance < row.distance {
+        let heard = heard_row(row.range, distance, source, port);
+        (heard, Change::Changed)
+    } else {
+        unchanged
+    }
+}
+
+/// Whether the range overlaps that of a row.
+fn overlaps_any(rows: &[Row], range: Range) -> bool
+    ensures { result ≡ list_any (λ r. overlaps r.range range) rows.now }
+{
+    rows.iter().any(|row| row.range.overlaps(&range))
+}
+
+/// Whether a range that no row has is added.
+fn is_new(rows: &[Row], range: Range, distance: u8) -> bool
+    ensures value { result ≡ new_range range distance rows.now }
+    ensures near { result ≡ true → distance ≤ 14 }
+{
+    distance <= MAX_DISTANCE && !overlaps_any(rows, range)
+}
+
+/// The index of the first row that doesn't start below the network, or the number of rows.
+fn place_for(rows: &[Row], start: u16) -> usize
+    ensures place { result ≡ before start rows.now }
+    ensures inside { result ≤ length rows.now }
+{
+    let mut index = 0;
+    for row in rows {
+        if row.range.start() >= start {
+            return index;
+        }
+        index += 1;
+    }
+    index
+}
+
+/// Adds the row, where there is room for it.
+fn put(rows: &mut Vec<Row>, row: Row)
+    requires { vec_len rows.old < vec_capacity rows.old }
+    ensures { rows.new.items ≡ added row rows.old.items }
+{
+    let index = place_for(rows.as_slice(), row.range.start());
+    rows.insert(index, row).unwrap();
+}
+
+impl RouteTable for PlainTable {
+    ghost rows = { λ t. t };
+
+    fn empty(alloc: Global) -> Result<PlainTable, Error> {
+        Ok(PlainTable {
+            rows: Vec::new(alloc),
+        })
+    }
+
+    fn copy(&self) -> Result<PlainTable, Error> {
+        let rows = Vec::from_slice(*self.rows.allocator(), self.rows.as_slice())?;
+        Ok(PlainTable { rows })
+    }
+
+    fn len(&self) -> usize {
+        self.rows.len()
+    }
+
+    fn row(&self, index: usize) -> Option<Row> {
+        self.rows.get(index).copied()
+    }
+
+    fn row_for(&self, net: u16) -> Option<Row> {
+        usable_row(self.rows.as_slice(), net).copied()
+    }
+
+    fn load(&mut self, given: &[Row]) -> Result<(), Error> {
+        if !rows_are_apart(given) {
+            return Err(Error::BadRange);
+        }
+        if given.len() > MAX_ROWS {
+            return Err(Error::Full);
+        }
+        self.rows = Vec::from_slice(*self.rows.allocator(), given)?;
+        Ok(())
+    }
+
+    fn direct(&mut self, range: Range, port: u8) -> Result<(), Error> {
+        if count_beside(self.rows.as_slice(), range) >= MAX_ROWS {
+            return Err(Error::Full);
+        }
+        recall_valid(range);
+        // Room is made first: a refusal then leaves the rows as they are.
+        self.rows.reserve(1)?;
+        keep_beside(&mut self.rows, range);
+        put(&mut self.rows, direct_row(range, port));
+        Ok(())
+    }
+
+    fn hear(
+        &mut self,
+        range: Range,
+        distance: u8,
+        source: Addr,
+        port: u8,
+    ) -> Result<Change, Error> {
+        if let Some(row) = row_of(self.rows.as_slice(), range) {
+            let (row, change) = after_hearing(row, distance, source, port);
+            update_all(&mut self.rows, &Update::Put(row));
+            return Ok(change);
+        }
+        if !is_new(self.rows.as_slice(), range, distance) {
+            return Ok(Change::Ignored);
+        }
+        if self.rows.len() >= MAX_ROWS {
+            return Err(Error::Full);
+        }
+        recall_valid(range);
+        self.rows.reserve(1)?;
+        put(&mut self.rows, heard_row(range, distance, source, port));
+        Ok(Change::Added)
+    }
+
+    fn age(&mut self) {
+        drop_over(&mut self.rows);
+        update_all(&mut self.rows, &Update::Age);
+    }
+
+    fn poison(&mut self, next: Addr) {
+        update_all(&mut self.rows, &Update::Poison(next));
+    }
+}

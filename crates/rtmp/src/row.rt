@@ -1,0 +1,33 @@
+//! Rows of routing tables.
+
+use crate::state::State;
+use at_base::{Addr, Range};
+
+/// A row of a routing table: how a router reaches the networks of a range.
+///
+/// Inside AppleTalk, the chapter on RTMP.
+#[derive(Clone, Copy, Debug, PartialEq, Eq)]
+pub struct Row {
+    /// The networks of one cable.
+    pub range: Range,
+    /// The number of routers on the way, 0 to 31; above 15 the networks can't be reached.
+    pub distance: u8,
+    /// The index of the router's port by which the way begins.
+    pub port: u8,
+    /// The next router on that port's cable, and 0.0 where the port stands on the range's own cable.
+    pub next: Addr,
+    /// How lately the row was confirmed.
+    pub state: State,
+}
+
+impl Row {
+    ghost use Rattle.std.specs.Prelude.{◌≡◌};
+    ghost use Rattle.rtmp.specs.Routes.{is_direct as direct};
+
+    /// Whether a port stands on the range's own cable, so that there is no next router.
+    pub fn is_direct(&self) -> bool
+        ensures { result ≡ direct self.now }
+    {
+        self.next.is_none()
+    }
+}

@@ -1,0 +1,85 @@
+//! Changes of the rows of a table, one by one: none of them changes a range.
+
+ghost use Rattle.std.specs.Prelude.{◌≡◌, map};
+ghost use Rattle.rtmp.specs.Routes.{aged_row, is_over as over, older as state_after};
+ghost use Rattle.rtmp.specs.Updates.{updated};
+
+use crate::row::Row;
+use crate::state::State;
+use at_base::Addr;
+
+/// What becomes of each row of a table.
+#[derive(Clone, Copy, Debug)]
+pub(crate) enum Update {
+    /// It grows older.
+    Age,
+    /// It is bad where it leads through this router.
+    Poison(Addr),
+    /// It is this one where it is for the same range.
+    Put(Row),
+}
+
+/// The state that follows.
+fn older(state: State) -> State
+    ensures { result ≡ state_after state }
+{
+    match state {
+        State::Good => State::Suspect,
+        State::Suspect => State::Bad,
+        State::Bad | State::Last => State::Last,
+    }
+}
+
+/// Whether the row goes when it next grows older.
+pub(crate) fn is_over(row: &Row) -> bool
+    ensures { result ≡ over row.now }
+{
+    !row.is_direct() && matches!(row.state, State::Last)
+}
+
+/// A row that isn't direct, in the state that follows.
+fn aged(row: &Row) -> Row
+    ensures { result ≡ aged_row row.now }
+{
+    let mut row = *row;
+    if !row.is_direct() {
+        row.state = older(row.state);
+    }
+    row
+}
+
+/// The row after the update.
+fn updated_row(update: &Update, row: &Row) -> Row
+    ensures { result ≡ updated update.now row.now }
+{
+    let mut after = *row;
+    match update {
+        Update::Age => after = aged(row),
+        Update::Poison(next) => {
+            if !row.is_direct() && row.next == *next {
+                after.state = State::Bad;
+            }
+        }
+        Update::Put(new) => {
+            if row.range == new.range {
+                after = *new;
+            }
+        }
+    }
+    after
+}
+
+fn update_slice(rows: &mut [Row], update: &Update)
+    ensures { rows.new ≡ map (updated update.now) rows.old }
+{
+    for row in rows.iter_mut() {
+        *row = updated_row(update, row);
+    }
+}
+
+/// Updates each row.
+pub(crate) fn update_all(rows: &mut Vec<Row>, update: &Update)
+    ensures { rows.new.items ≡ map (updated update.now) rows.old.items }
+{
+    update_slice(rows.as_mut_slice(), update);
+}
