@@ -110,3 +110,44 @@ shorter_after r g lawful long bytes x after fits e =
 -- what is left are bytes
 pub rest_is_bytes : {W E A : Type 0} (r : Refusals W E) (g : Grammar W true A) → IsLawful g → (bytes : List ℕ) (x : A) (after : List ℕ) → IsBytes bytes → read r g bytes ≡ Ok (x, after) → IsBytes after
 rest_is_bytes r g lawful bytes x after fits e = (read_takes r g lawful bytes (x, after) fits e).0.rest_fits
+
+-- ---- Items one by one, of an input that is known to be read
+
+-- an item that is read leaves less, and bytes
+abbrev pub Shrinks : {E A : Type 0} → Reader E A → Type 0
+Shrinks {E} {A} item = (low : ℕ) (bytes : List ℕ) (x : A) (after : List ℕ) → IsBytes bytes → item low bytes ≡ Ok (x, after) → (length after < length bytes) × IsBytes after
+
+-- items that take a byte at least shrink the input
+pub lawful_shrinks : {W E A : Type 0} (r : Refusals W E) (g : ℕ → Grammar W true A) → ((low : ℕ) → IsLawful (g low)) → ((low : ℕ) (x : A) → IsValue (g low) x → 1 ≤ length (bytes_of (g low) x)) → Shrinks (λ low. read r (g low))
+lawful_shrinks r g lawful long low bytes x after fits e = (shorter_after r (g low) (lawful low) (long low) bytes x after fits e, rest_is_bytes r (g low) (lawful low) bytes x after fits e)
+
+-- how many items there may be makes no difference, where it is enough
+pub same_fuel : {E A : Type 0} (item : Reader E A) (next : A → ℕ) → Shrinks item → (low m n : ℕ) (bytes : List ℕ) → IsBytes bytes → length bytes ≤ m → length bytes ≤ n → many_at item next low m bytes ≡ many_at item next low n bytes
+same_fuel item next shrinks low zero zero bytes fits le lf = refl
+same_fuel item next shrinks low zero (suc n) [] fits le lf = refl
+same_fuel item next shrinks low zero (suc n) (b ∷ bytes) fits le lf = absurd (omega arith)
+same_fuel item next shrinks low (suc m) zero [] fits le lf = refl
+same_fuel item next shrinks low (suc m) zero (b ∷ bytes) fits le lf = absurd (omega arith)
+same_fuel item next shrinks low (suc m) (suc n) [] fits le lf = refl
+same_fuel {E} {A} item next shrinks low (suc m) (suc n) (b ∷ bytes) fits le lf =
+    (elim (item low (b ∷ bytes)) as (λ r. item low (b ∷ bytes) ≡ r → many_at item next low (suc m) (b ∷ bytes) ≡ many_at item next low (suc n) (b ∷ bytes)) [
+      | Ok x ↦ λ e.
+          let s = shrinks low (b ∷ bytes) x.0 x.1 fits e in
+          rw (e, same_fuel item next shrinks (next x.0) m n x.1 s.1 (omega arith) (omega arith)) refl
+      | Err f ↦ λ e. rw e refl
+    ]) refl
+
+-- the items that the input is, and what follows the first of them
+pub first_of : {E A : Type 0} (item : Reader E A) (next : A → ℕ) → Shrinks item → (low : ℕ) (bytes : List ℕ) (x : A) (after : List ℕ) → IsBytes bytes → item low bytes ≡ Ok (x, after)
+    → many_at item next low (length bytes) bytes ≡ (many_at item next (next x) (length after) after >>= λ xs. Ok (x ∷ xs))
+first_of item next shrinks low bytes x after fits e =
+    let s = shrinks low bytes x after fits e in
+    let n : length bytes ≡ suc (length bytes - 1) = omega (arith, s.0) in
+    let some : 1 ≤ length bytes = omega (arith, s.0) in
+    rw n (many_turn item next low (length bytes - 1) bytes some ∙ rw (e, same_fuel item next shrinks (next x) (length bytes - 1) (length after) after s.1 (omega (arith, s.0)) (omega arith)) refl)
+
+-- an item that isn't read is the answer of all
+pub refused_first : {E A : Type 0} (item : Reader E A) (next : A → ℕ) (low : ℕ) (bytes : List ℕ) (e : E) → 1 ≤ length bytes → item low bytes ≡ Err e → many_at item next low (length bytes) bytes ≡ Err e
+refused_first item next low bytes e some h =
+    let n : length bytes ≡ suc (length bytes - 1) = omega arith in
+    rw n (many_turn item next low (length bytes - 1) bytes some ∙ rw h refl)

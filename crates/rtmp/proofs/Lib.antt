@@ -1,2 +1,4 @@
 pub mod Maps
 pub mod Hearing
+pub mod Shape
+pub mod Tuples

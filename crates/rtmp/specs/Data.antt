@@ -1,26 +1,17 @@
 -- Packets of routing data: the router that sends them, the range of its port's cable, and how far other ranges are.
 -- (Inside AppleTalk, the chapter on RTMP)
-use Rattle.std.specs.Prelude.{◌≡◌, ℕ, ◌+◌, ◌*◌, ◌%◌, Bool, true, false, not, ◌&&◌, ◌==◌, List, [], ◌∷◌, map, Option, Some, None, nat_le, nat_lt, if◌then◌else◌}
+use Rattle.std.specs.Prelude.{◌≡◌, ℕ, ◌+◌, ◌*◌, ◌%◌, Bool, true, false, not, ◌&&◌, ◌==◌, List, [], ◌∷◌, length, map, Option, Some, None, Result, Ok, Err, nat_le, nat_lt, if◌then◌else◌}
 use Rattle.at_base.specs.declared.address.Addr.{Addr}
 use Rattle.at_base.specs.declared.error.Field.TheVariants.{IdLength, Version}
 use Rattle.at_base.specs.declared.error.Error.{Error}
 use Rattle.at_base.specs.declared.error.Error.TheVariants.{Truncated, BadField, BadRange}
 use Rattle.at_base.specs.Range.{Span, is_range}
-use Rattle.at_base.specs.Packets.{any, only}
+use Rattle.at_base.specs.Packets.{packets, any, only}
+use Rattle.at_base.specs.Reading.{many_at, read}
 use Rattle.at_base.specs.Grammar.{Grammar, done, field, part, room, many, number, one, two}
 use Rattle.rtmp.specs.declared.tuple.Tuple.{Tuple}
-
--- what an extended tuple has after its distance: the end of its range, and the version byte
-pub record Extension : Type 0 where
-  pub end : ℕ
-  pub version : ℕ
-
--- A tuple as it is written. The top bit of its third byte says whether it is extended, and the low five bits are the
--- distance; the two between are ignored.
-pub record Written : Type 0 where
-  pub start : ℕ
-  pub third : ℕ
-  pub extension : Option Extension
+use Rattle.rtmp.specs.declared.written.Written.{Written}
+use Rattle.rtmp.specs.declared.written.Extension.{Extension}
 
 -- a packet of routing data
 pub record RoutingData : Type 0 where
@@ -79,6 +70,14 @@ tuple_of t = said t.extension
     said None = None
     said (Some e) = Some (record { range = record { start = t.start; end = e.end }; distance = t.third % 32 })
 
+-- the range of an extended tuple is valid
+abbrev pub IsWritten : Written → Type 0
+IsWritten t = in_range t.extension
+  where
+    in_range : Option Extension → Type 0
+    in_range None = Unit {0}
+    in_range (Some e) = is_range t.start e.end ≡ true
+
 -- the extended tuples, in order
 abbrev pub tuples_of : List Written → List Tuple
 tuples_of [] = []
@@ -95,6 +94,22 @@ own_range p = range_in (tuples_of p.written)
     range_in : List Tuple → Span
     range_in [] = record { start = 0; end = 0 }
     range_in (t ∷ ts) = t.range
+
+-- the tuples that the bytes are, up to their end, the first of which comes after a number
+unfoldable pub written_in : ℕ → List ℕ → List Written
+written_in low bytes = found (many_at (λ n. read packets (written_tuple n)) (λ t. 1) low (length bytes) bytes)
+  where
+    found : Result (List Written) Error → List Written
+    found (Ok written) = written
+    found (Err e) = []
+
+-- the bytes are tuples up to their end, the first of which comes after a number
+abbrev pub IsTuples : ℕ → List ℕ → Type 0
+IsTuples low bytes = many_at (λ n. read packets (written_tuple n)) (λ t. 1) low (length bytes) bytes ≡ Ok (written_in low bytes)
+
+-- the packet of a router whose tuples are in place
+abbrev pub data_in : Addr → List ℕ → RoutingData
+data_in router bytes = record { router = router; written = written_in 0 bytes }
 
 -- a tuple as this project writes it: extended, with version byte 82
 abbrev pub written_of : Tuple → Written

@@ -1,12 +1,14 @@
 //! Routing tables: what a router knows of the ranges of an internet, and the packets that tell it.
 #![tactic(auto)]
 
+mod data;
 mod plain;
 mod row;
 mod state;
 mod table;
 mod tuple;
 mod update;
+mod written;
 
 pub use plain::PlainTable;
 pub use row::Row;
