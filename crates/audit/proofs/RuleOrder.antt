@@ -1,6 +1,7 @@
 -- The order in which rules are tried.
-use Rattle.std.proofs.Common.{◌≡◌, ℕ, zero, suc, ◌+◌, ◌<◌, ◌≤◌, inl, inr, ◌==◌, Bool, false, cond, Some, refl, ◌∙◌, arith, below_more}
+use Rattle.std.proofs.Common.{◌≡◌, ℕ, zero, suc, ◌+◌, ◌<◌, ◌≤◌, inl, inr, ◌==◌, Bool, false, cond, Some, refl, sym, subst, ◌∙◌, arith, below_more}
 use Rattle.std.proofs.lemmas.Bool.{cases_lt, ne_eqb, cond-false}
+use Rattle.at_base.specs.declared.error.Fault.{Fault}
 use Rattle.at_base.specs.declared.error.Place.{Place}
 use Rattle.table_image.specs.Internet.{Internet}
 use Rattle.audit.specs.Firsts.{FirstPlace}
@@ -35,5 +36,5 @@ pub all_kept : (i : Internet) → KeptBelow i 8 → Passes i
 all_kept i kept rule p = elim (cases_lt rule 8) [ inl lt ↦ kept rule lt p | inr ge ↦ no_more i rule p ge ]
 
 -- the first place that breaks a rule, where the rules before it are kept
-pub first_fault : (i : Internet) (rule : ℕ) (place : Place) → KeptBelow i rule → FirstPlace (breaks i rule) (Some place) → IsFirst i (record { rule = rule; place = place })
-first_fault i rule place kept first = record { broken = first.0; before = first.1; earlier = kept }
+pub first_fault : (i : Internet) (f : Fault) (rule : ℕ) (place : Place) → f ≡ record { rule = rule; place = place } → KeptBelow i rule → FirstPlace (breaks i rule) (Some place) → IsFirst i f
+first_fault i f rule place is kept first = subst (IsFirst i) (sym is) (record { broken = first.0; before = first.1; earlier = kept })

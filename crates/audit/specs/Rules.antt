@@ -11,7 +11,7 @@ use Rattle.table_image.specs.Internet.{Internet}
 use Rattle.audit.specs.Places.{on, index_of}
 use Rattle.at_base.specs.Address.{same_address}
 use Rattle.audit.specs.Routing.{owner}
-use Rattle.at_base.specs.Range.{is_between}
+use Rattle.at_base.specs.Range.{is_between, is_range}
 use Rattle.rtmp.specs.States.{is_usable}
 use Rattle.table_image.specs.Rows.{is_direct}
 use Rattle.table_image.specs.declared.cable.Cable.{Cable}
@@ -19,6 +19,8 @@ use Rattle.table_image.specs.declared.port.Port.{Port}
 use Rattle.table_image.specs.declared.row.Row.{Row}
 use Rattle.table_image.specs.declared.router.Router.{Router}
 use Rattle.table_image.specs.declared.node.Node.{Node}
+use Rattle.audit.specs.declared.rule.Rule.{Rule}
+use Rattle.audit.specs.declared.rule.Rule.TheVariants.{CablesInOrder, StationsAddressed, RowsCoverCables, DirectRowsDirect, DistancesFit, NextRoutersExist, DistancesFall}
 
 -- ---- C1: cables stand in order
 
@@ -36,11 +38,9 @@ end_before cables (suc k) = end_of (slice_get cables k)
     end_of None = 0
     end_of (Some c) = c.end
 
--- A cable whose start is 0 or above its end, whose end is above FEFF, whose start is at most the end of the cable
--- before, that has no zone, or a zone twice.
+-- A cable whose range isn't valid, whose start is at most the end of the cable before, that has no zone, or a zone twice.
 abbrev pub bad_cable : ℕ → Cable → Bool
-bad_cable before c =
-    c.start == 0 || nat_lt c.end c.start || nat_lt 0xFEFF c.end || nat_le c.start before || length c.zones == 0 || has_double c.zones
+bad_cable before c = not (is_range c.start c.end) || nat_le c.start before || length c.zones == 0 || has_double c.zones
 
 -- broken by a cable that is bad after the one before it
 abbrev pub c1 : Internet → Place → Bool
@@ -110,12 +110,6 @@ bad_range i router row = not (is_usable row.state && is_some (cable_of i row))
 abbrev pub lacks_row : Router → Cable → Bool
 lacks_row router c = not (list_any (λ row. is_for row c) router.rows)
 
--- broken by a row that no datagram may use or that is for no cable, and by a cable that a router has no row for
-abbrev pub c3 : Internet → Place → Bool
-c3 i (place.Row (suc r) (suc k)) = at_row i r k (bad_range i)
-c3 i (place.Missing (suc r) (suc k)) = on (slice_get i.routers r) (λ router. on (slice_get i.cables k) (lacks_row router))
-c3 i _ = false
-
 -- ---- C4: direct rows are direct
 
 -- the router's port on the cable
@@ -128,17 +122,11 @@ abbrev pub bad_direct : Row → Option ℕ → Bool
 bad_direct row (Some p) = not (row.distance == 0 && row.port == p && is_direct row)
 bad_direct row None = row.distance == 0 || is_direct row
 
--- broken by a row for a router's own cable that isn't direct by its port there, or for another cable that claims to be
-abbrev pub c4 : Internet → Place → Bool
-c4 i (place.Row (suc r) (suc k)) = at_row i r k (λ router row. on (cable_of i row) (λ c. bad_direct row (port_on router c)))
-c4 i _ = false
-
 -- ---- C5: distances fit
 
--- broken by a row whose distance is above 14: a datagram's hops don't reach so far
-abbrev pub c5 : Internet → Place → Bool
-c5 i (place.Row (suc r) (suc k)) = at_row i r k (λ router row. nat_lt 14 row.distance)
-c5 i _ = false
+-- the greatest distance, in routers: a datagram counts its hops in four bits, and is dropped at 15
+abbrev pub max_distance : ℕ
+max_distance = 14
 
 -- ---- C6: next routers are there
 
@@ -150,11 +138,6 @@ next_router i router row = option_and_then (λ port. owner i port.cable row.next
 abbrev pub is_no_other : ℕ → Option ℕ → Bool
 is_no_other r None = true
 is_no_other r (Some s) = r == s
-
--- broken by a row that isn't direct and has no other router as its next
-abbrev pub c6 : Internet → Place → Bool
-c6 i (place.Row (suc r) (suc k)) = at_row i r k (λ router row. not (is_direct row) && is_no_other r (next_router i router row))
-c6 i _ = false
 
 -- ---- C7: distances fall
 
@@ -173,14 +156,59 @@ abbrev pub bad_step : Internet → Row → Option ℕ → Bool
 bad_step i row None = true
 bad_step i row (Some s) = not_one_less row (same_row (slice_get i.routers s) row)
 
--- broken by a row that isn't direct and whose next router isn't one nearer
+-- ---- The rules about rows, C3 to C7
+
+-- A row of router r breaks the rule: for C3, it isn't usable or is for no cable; for C4, it is for a router's own cable and
+-- isn't direct by its port there, or is for another cable and claims to be; for C5, its distance is too great; for C6, it
+-- isn't direct and has no other router as its next; for C7, it isn't direct and its next router isn't one nearer.
+abbrev pub row_breaks : Rule → Internet → ℕ → Router → Row → Bool
+row_breaks CablesInOrder i r router row = false
+row_breaks StationsAddressed i r router row = false
+row_breaks RowsCoverCables i r router row = bad_range i router row
+row_breaks DirectRowsDirect i r router row = on (cable_of i row) (λ c. bad_direct row (port_on router c))
+row_breaks DistancesFit i r router row = nat_lt max_distance row.distance
+row_breaks NextRoutersExist i r router row = not (is_direct row) && is_no_other r (next_router i router row)
+row_breaks DistancesFall i r router row = not (is_direct row) && bad_step i row (next_router i router row)
+
+-- a cable that a router has no row for breaks the rule: C3 alone
+abbrev pub lack_breaks : Rule → Internet → ℕ → ℕ → Bool
+lack_breaks RowsCoverCables i (suc r) (suc k) = on (slice_get i.routers r) (λ router. on (slice_get i.cables k) (lacks_row router))
+lack_breaks rule i r k = false
+
+-- the place of a row, or of a cable without one, breaks the rule
+abbrev pub breaks_rows : Rule → Internet → Place → Bool
+breaks_rows rule i (place.Row (suc r) (suc k)) = at_row i r k (row_breaks rule i r)
+breaks_rows rule i (place.Missing r k) = lack_breaks rule i r k
+breaks_rows rule i _ = false
+
+abbrev pub c3 : Internet → Place → Bool
+c3 = breaks_rows RowsCoverCables
+
+abbrev pub c4 : Internet → Place → Bool
+c4 = breaks_rows DirectRowsDirect
+
+abbrev pub c5 : Internet → Place → Bool
+c5 = breaks_rows DistancesFit
+
+abbrev pub c6 : Internet → Place → Bool
+c6 = breaks_rows NextRoutersExist
+
 abbrev pub c7 : Internet → Place → Bool
-c7 i (place.Row (suc r) (suc k)) = at_row i r k (λ router row. not (is_direct row) && bad_step i row (next_router i router row))
-c7 i _ = false
+c7 = breaks_rows DistancesFall
 
 -- ---- All rules
 
--- whether the place breaks the rule
+-- the number of a rule, as in C3
+abbrev pub number_of : Rule → ℕ
+number_of CablesInOrder = 1
+number_of StationsAddressed = 2
+number_of RowsCoverCables = 3
+number_of DirectRowsDirect = 4
+number_of DistancesFit = 5
+number_of NextRoutersExist = 6
+number_of DistancesFall = 7
+
+-- whether the place breaks the rule of this number
 abbrev pub breaks : Internet → ℕ → Place → Bool
 breaks i rule p =
     if rule == 1 then c1 i p

@@ -3,6 +3,7 @@ use Rattle.std.specs.Prelude.{◌≡◌, ℕ, ◌<◌, ◌≤◌, ◌⊎◌, tru
 use Rattle.std.specs.Fmt.{decimal}
 use Rattle.at_base.specs.declared.error.Place.{Place}
 use Rattle.at_base.specs.declared.error.Place.TheVariants.{Cable, Port, Node, Row, Missing, List as ZonesOf}
+use Rattle.at_base.specs.Texts.{place_text}
 use Rattle.at_base.specs.declared.error.Fault.{Fault}
 use Rattle.table_image.specs.Internet.{Internet}
 use Rattle.audit.specs.Rules.{breaks, Passes}
@@ -62,15 +63,6 @@ Judges i (No fault) = IsFirst i fault
 abbrev pub OnYes : Verdict → Type 0 → Type 0
 OnYes (Yes summary) P = P
 OnYes (No fault) P = Unit {0}
-
--- the place of a fault, as the program prints it
-abbrev pub place_text : Place → List ℕ
-place_text (Cable k) = codes "cable " ++ decimal k
-place_text (Port r p) = codes "router " ++ decimal r ++ codes " port " ++ decimal p
-place_text (Node k) = codes "node " ++ decimal k
-place_text (Row r k) = codes "router " ++ decimal r ++ codes " row " ++ decimal k
-place_text (Missing r k) = codes "router " ++ decimal r ++ codes " cable " ++ decimal k
-place_text (ZonesOf r k) = codes "router " ++ decimal r ++ codes " list " ++ decimal k
 
 -- the line of a verdict
 abbrev pub verdict_line : Verdict → List ℕ

@@ -8,11 +8,12 @@ ghost use Rattle.audit.specs.Walks.{WalksHome};
 
 use crate::cables::bad_cable;
 use crate::next::Hints;
-use crate::rows::{RowRule, bad_row};
+use crate::rows::bad_row;
+use crate::rule::Rule;
 use crate::stations::bad_station;
 use crate::summary::summarize;
 use crate::verdict::Verdict;
-use at_base::{Fault, Place};
+use at_base::Place;
 use table_image::Image;
 
 // The first place that breaks C6. Where distances fall, each next router is there and is another
@@ -26,7 +27,7 @@ fn bad_next(image: &Image, hints: &Hints, steps: Option<Place>) -> Option<Place>
     // Reading the routers tells that their rows rise.
     let _routers = image.routers();
     match steps {
-        Some(_) => bad_row(image, hints, RowRule::Next),
+        Some(_) => bad_row(image, hints, Rule::NextRoutersExist),
         None => None,
     }
 }
@@ -40,27 +41,27 @@ pub fn audit(image: &Image) -> Verdict
     ensures walks { OnYes result (WalksHome image.now) }
 {
     if let Some(place) = bad_cable(image) {
-        return Verdict::No(Fault { rule: 1, place });
+        return Verdict::No(Rule::CablesInOrder.broken_at(place));
     }
     if let Some(place) = bad_station(image) {
-        return Verdict::No(Fault { rule: 2, place });
+        return Verdict::No(Rule::StationsAddressed.broken_at(place));
     }
     let hints = Hints::of(image);
-    if let Some(place) = bad_row(image, &hints, RowRule::Ranges) {
-        return Verdict::No(Fault { rule: 3, place });
+    if let Some(place) = bad_row(image, &hints, Rule::RowsCoverCables) {
+        return Verdict::No(Rule::RowsCoverCables.broken_at(place));
     }
-    if let Some(place) = bad_row(image, &hints, RowRule::Direct) {
-        return Verdict::No(Fault { rule: 4, place });
+    if let Some(place) = bad_row(image, &hints, Rule::DirectRowsDirect) {
+        return Verdict::No(Rule::DirectRowsDirect.broken_at(place));
     }
-    if let Some(place) = bad_row(image, &hints, RowRule::Distances) {
-        return Verdict::No(Fault { rule: 5, place });
+    if let Some(place) = bad_row(image, &hints, Rule::DistancesFit) {
+        return Verdict::No(Rule::DistancesFit.broken_at(place));
     }
-    let steps = bad_row(image, &hints, RowRule::Steps);
+    let steps = bad_row(image, &hints, Rule::DistancesFall);
     if let Some(place) = bad_next(image, &hints, steps) {
-        return Verdict::No(Fault { rule: 6, place });
+        return Verdict::No(Rule::NextRoutersExist.broken_at(place));
     }
     if let Some(place) = steps {
-        return Verdict::No(Fault { rule: 7, place });
+        return Verdict::No(Rule::DistancesFall.broken_at(place));
     }
     Verdict::Yes(summarize(image))
 }

@@ -9,7 +9,6 @@ ghost use Rattle.audit.specs.Rules.{bad_step, is_no_other as no_other, next_rout
 ghost use Rattle.audit.specs.Rules.{same_row as same, not_one_less, c2};
 
 use crate::lookups::{owner, same_row};
-use crate::ranges::is_direct;
 use table_image::{Image, Port, Router, Row};
 
 /// For a cable and a node's number there, a router that may have the address: what it says is
@@ -84,7 +83,7 @@ pub(crate) fn breaks_next(
     requires { FirstPlace (c2 image.now) None }
     ensures { result ≡ (not (direct row.now) && no_other r (next image.now router.now row.now)) }
 {
-    if is_direct(row) {
+    if row.is_direct() {
         return false;
     }
     match next_router(image, hints, router, row) {
@@ -133,5 +132,5 @@ pub(crate) fn breaks_steps(
         ≡ (not (direct row.now)
         && bad_step image.now row.now (next image.now router.now row.now)) }
 {
-    !is_direct(row) && is_bad_step(image, k, row, next_router(image, hints, router, row))
+    !row.is_direct() && is_bad_step(image, k, row, next_router(image, hints, router, row))
 }

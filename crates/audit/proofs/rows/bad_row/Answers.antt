@@ -2,7 +2,7 @@ use Rattle.std.proofs.Common.{◌∙◌, ap, sym, subst, suc, arith, Some}
 use Rattle.at_base.specs.declared.error.Place.{Place}
 use Rattle.at_base.specs.declared.error.Place.TheVariants as place
 use Rattle.audit.specs.Firsts.{FirstPlace}
-use Rattle.audit.specs.RowRules.{breaks_rows}
+use Rattle.audit.specs.Rules.{breaks_rows}
 use Rattle.audit.proofs.Firsts.{item_at, end_of}
 use Rattle.audit.proofs.RowPlaces.{first_missing_place, no_bad_row}
 use Rattle.audit.proofs.rows.bad_row.Goals as goal

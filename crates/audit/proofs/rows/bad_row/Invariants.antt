@@ -1,6 +1,6 @@
 use Rattle.std.proofs.Common.{◌≡◌, ℕ, suc, ◌<◌, false}
 use Rattle.at_base.specs.declared.error.Place.TheVariants as place
-use Rattle.audit.specs.RowRules.{breaks_rows}
+use Rattle.audit.specs.Rules.{breaks_rows}
 use Rattle.audit.proofs.rows.bad_row.Given as goal
 
 abbrev pub invariant-loop-r : goal.invariant-loop-r

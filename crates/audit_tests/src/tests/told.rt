@@ -1,7 +1,7 @@
 //! Images of known bytes, and what is told of them.
 
-use crate::audit_bytes;
 use at_base::Error;
+use audit::audit_bytes;
 use std::alloc::Global;
 use std::process::Abort;
 use std::test::Fail;

@@ -4,8 +4,11 @@
 mod lines;
 mod told;
 
-use super::*;
-use at_base::{Cause, Error, Fault, Place};
+use at_base::Cause;
+use audit::{
+    Error, Fault, Place, Summary, Verdict, audit, distances_fit, each_step, loops_have_no_walk,
+    one_walk_home, seats_are_unique, the_example_passes, unlisted_is_nowhere, words_exclude,
+};
 use lines::line_again;
 use std::alloc::Global;
 use std::test::Fail;
@@ -310,4 +313,5 @@ fn the_laws_do_nothing() {
     seats_are_unique();
     the_example_passes();
     loops_have_no_walk();
+    words_exclude();
 }
