@@ -1,24 +1,26 @@
 //! Values from outside: what just breaks each rule and what just keeps it, worked by hand from
 //! docs/RULES.md and the places of docs/FORMATS.md; and each public function once.
 
+mod cases;
 mod lines;
+mod readme;
+mod stations;
 mod told;
 
-use at_base::Cause;
 use audit::{
-    Error, Fault, Place, Summary, Verdict, audit, distances_fit, each_step, loops_have_no_walk,
-    one_walk_home, seats_are_unique, the_example_passes, unlisted_is_nowhere, words_exclude,
+    Cause, Error, Fault, MAX_DISTANCE, Place, Rule, Summary, Verdict, audit, distances_fit,
+    each_step, loops_have_no_walk, one_walk_home, seats_are_unique, the_example_passes,
+    unlisted_is_nowhere, words_exclude,
 };
 use lines::line_again;
+use readme::report;
+use stations::{rows_told, stations_told};
 use std::alloc::Global;
 use std::test::Fail;
 use told::{
-    BOTH, CABLES, SECOND, THREE_CABLES, cable_told, change, changed, each_is_told,
-    joined_told_again, told_again, with_row,
+    BOTH, CABLES, SECOND, THREE_CABLES, YES, cable_told, change, changed, joined_told_again,
+    told_again, with_row,
 };
-
-/// What is told of `examples/three-cables.image`.
-const YES: &'static str = "yes: 3 cables, 2 routers, 2 nodes, 6 rows, greatest distance 1";
 
 #[test]
 fn the_example_has_this_line(rt: HostRuntime) -> Result<(), Fail> {
@@ -47,32 +49,7 @@ fn a_byte_too_many_is_no_image(rt: HostRuntime) {
 
 #[test]
 fn cables_stand_in_order(rt: HostRuntime) -> Result<(), Fail> {
-    let cases = [
-        // The first cable has one network, begins at 1, begins at 0, ends before it begins.
-        ([(9, 10), (65, 10), (154, 10)].as_slice(), YES),
-        ([(7, 1), (63, 1), (152, 1)].as_slice(), YES),
-        ([(7, 0), (63, 0), (152, 0)].as_slice(), "no: C1 cable 1"),
-        ([(9, 9)].as_slice(), "no: C1 cable 1"),
-        // The second begins where the first ends.
-        ([(16, 19)].as_slice(), "no: C1 cable 2"),
-        // The last ends at FEFF, at FF00.
-        (
-            [
-                (31, 0xFE),
-                (32, 0xFF),
-                (84, 0xFE),
-                (85, 0xFF),
-                (173, 0xFE),
-                (174, 0xFF),
-            ]
-            .as_slice(),
-            YES,
-        ),
-        ([(31, 0xFF), (32, 0)].as_slice(), "no: C1 cable 3"),
-        // The first of two is told.
-        ([(9, 9), (31, 0xFF)].as_slice(), "no: C1 cable 1"),
-    ];
-    each_is_told(&rt, rt.alloc(), cases.as_slice())
+    cases::cables_stand_in_order(&rt, rt.alloc())
 }
 
 #[test]
@@ -95,97 +72,47 @@ fn a_cable_has_zones_and_none_twice(rt: HostRuntime) -> Result<(), Fail> {
 
 #[test]
 fn stations_have_addresses_of_their_cables(rt: HostRuntime) -> Result<(), Fail> {
-    let cases = [
-        // The last network of the cable, the one above it, the one below the first.
-        ([(43, 19)].as_slice(), YES),
-        ([(43, 20)].as_slice(), "no: C2 router 1 port 1"),
-        ([(43, 9)].as_slice(), "no: C2 router 1 port 1"),
-        ([(221, 20)].as_slice(), "no: C2 node 1"),
-        // The nodes 0, 253 and 254; an odd first byte, an odd second one.
-        ([(44, 0)].as_slice(), "no: C2 router 1 port 1"),
-        ([(44, 253)].as_slice(), YES),
-        ([(44, 254)].as_slice(), "no: C2 router 1 port 1"),
-        ([(45, 3)].as_slice(), "no: C2 router 1 port 1"),
-        ([(46, 1)].as_slice(), YES),
-        // A second port of the router on one cable.
-        (
-            [(51, 0), (53, 10), (54, 2)].as_slice(),
-            "no: C2 router 1 port 2",
-        ),
-        // Ports come before nodes, and the ports of one router before those of the next.
-        ([(222, 0), (143, 0)].as_slice(), "no: C2 router 2 port 2"),
-        ([(54, 0), (133, 0)].as_slice(), "no: C2 router 1 port 2"),
-        ([(241, 0), (222, 0)].as_slice(), "no: C2 node 1"),
-    ];
-    each_is_told(&rt, rt.alloc(), cases.as_slice())
+    cases::stations_have_addresses_of_their_cables(&rt, rt.alloc())
 }
 
 #[test]
 fn no_two_stations_have_one_address(rt: HostRuntime) -> Result<(), Fail> {
-    let cases = [
-        // Of two routers, an address, a hardware address, all but one byte of one.
-        ([(133, 1)].as_slice(), "no: C2 router 2 port 1"),
-        ([(139, 2)].as_slice(), "no: C2 router 2 port 1"),
-        ([(139, 2), (135, 1)].as_slice(), YES),
-        // Two ports of one router with one hardware address.
-        ([(60, 1)].as_slice(), YES),
-        // Of a node and a router.
-        ([(222, 1)].as_slice(), "no: C2 node 1"),
-        ([(247, 4)].as_slice(), "no: C2 node 2"),
-        // Of two nodes, an address, a hardware address, the node's number alone.
-        ([(238, 0), (240, 10), (241, 7)].as_slice(), "no: C2 node 2"),
-        ([(247, 5)].as_slice(), "no: C2 node 2"),
-        ([(241, 7)].as_slice(), YES),
-    ];
-    each_is_told(&rt, rt.alloc(), cases.as_slice())
+    cases::no_two_stations_have_one_address(&rt, rt.alloc())
+}
+
+#[test]
+fn stations_far_apart_have_addresses_of_their_own(rt: HostRuntime) -> Result<(), Fail> {
+    // Three routers and three nodes on the cable 10-19: the number n of each address 10.n, and the
+    // last byte of the hardware address. Of two of one kind, the one between them has others.
+    let routers = [(1, 1), (2, 2), (3, 3)];
+    let nodes = [(4, 4), (5, 5), (6, 6)];
+    let yes = "yes: 1 cables, 3 routers, 3 nodes, 3 rows, greatest distance 0";
+    for (routers, nodes, want) in [
+        (routers, nodes, yes),
+        ([(1, 1), (2, 2), (1, 3)], nodes, "no: C2 router 3 port 1"),
+        ([(1, 1), (2, 2), (3, 1)], nodes, "no: C2 router 3 port 1"),
+        ([(1, 1), (2, 2), (3, 2)], nodes, "no: C2 router 3 port 1"),
+        (routers, [(4, 4), (5, 5), (4, 6)], "no: C2 node 3"),
+        (routers, [(4, 4), (5, 5), (6, 4)], "no: C2 node 3"),
+        (routers, [(4, 4), (5, 5), (5, 6)], "no: C2 node 3"),
+        (routers, [(4, 4), (5, 5), (1, 6)], "no: C2 node 3"),
+        (routers, [(4, 4), (5, 5), (6, 1)], "no: C2 node 3"),
+        (routers, [(4, 4), (2, 5), (6, 6)], "no: C2 node 2"),
+    ] {
+        let line = stations_told(rt.alloc(), &routers, &nodes)?;
+        assert_eq!(rt; line.as_str(), want, "{routers:?} {nodes:?}");
+    }
+    Ok(())
 }
 
 #[test]
 fn rows_are_for_cables_and_direct_rows_direct(rt: HostRuntime) -> Result<(), Fail> {
-    let cases = [
-        // The rows with a distance are Suspect; one is Bad, Last; its start, its end is no cable's.
-        ([(91, 1), (160, 1)].as_slice(), YES),
-        ([(91, 2)].as_slice(), "no: C3 router 1 row 3"),
-        ([(91, 3)].as_slice(), "no: C3 router 1 row 3"),
-        ([(83, 31)].as_slice(), "no: C3 router 1 row 3"),
-        ([(85, 38)].as_slice(), "no: C3 router 1 row 3"),
-        // The row of an own cable has distance 1, another port, the next router 0.5, 5.0.
-        ([(66, 1)].as_slice(), "no: C4 router 1 row 1"),
-        ([(67, 1)].as_slice(), "no: C4 router 1 row 1"),
-        ([(77, 0)].as_slice(), "no: C4 router 1 row 2"),
-        ([(70, 5)].as_slice(), "no: C4 router 1 row 1"),
-        ([(69, 5)].as_slice(), "no: C4 router 1 row 1"),
-        (
-            [(175, 1), (178, 20), (179, 1)].as_slice(),
-            "no: C4 router 2 row 3",
-        ),
-        // The first of two rows is told.
-        ([(66, 1), (77, 0)].as_slice(), "no: C4 router 1 row 1"),
-        // The row of another cable has distance 0, the next router 0.0.
-        ([(86, 0)].as_slice(), "no: C4 router 1 row 3"),
-        ([(89, 0), (90, 0)].as_slice(), "no: C4 router 1 row 3"),
-    ];
-    each_is_told(&rt, rt.alloc(), cases.as_slice())
+    cases::rows_are_for_cables_and_direct_rows_direct(&rt, rt.alloc())
 }
 
 #[test]
 fn distances_fit_and_next_routers_are_there(rt: HostRuntime) -> Result<(), Fail> {
-    let cases = [
-        // The distances 15 and 14.
-        ([(86, 15)].as_slice(), "no: C5 router 1 row 3"),
-        ([(86, 14)].as_slice(), "no: C7 router 1 row 3"),
-        // The next router is nobody, 20.0, 0.2, the router itself, a node, a port on another cable.
-        ([(90, 9)].as_slice(), "no: C6 router 1 row 3"),
-        ([(90, 0)].as_slice(), "no: C6 router 1 row 3"),
-        ([(89, 0)].as_slice(), "no: C6 router 1 row 3"),
-        ([(90, 1)].as_slice(), "no: C6 router 1 row 3"),
-        (
-            [(90, 7), (219, 1), (221, 20)].as_slice(),
-            "no: C6 router 1 row 3",
-        ),
-        ([(89, 30), (90, 1)].as_slice(), "no: C6 router 1 row 3"),
-    ];
-    each_is_told(&rt, rt.alloc(), cases.as_slice())
+    cases::distances_fit_and_next_routers_are_there(&rt, rt.alloc())
 }
 
 #[test]
@@ -214,16 +141,7 @@ fn the_next_router_is_one_nearer(rt: HostRuntime) -> Result<(), Fail> {
 
 #[test]
 fn rules_are_tried_in_their_order(rt: HostRuntime) -> Result<(), Fail> {
-    // Each breaks two rules, the later one at the earlier place.
-    let cases = [
-        ([(44, 0), (30, 20)].as_slice(), "no: C1 cable 3"),
-        ([(91, 2), (241, 0)].as_slice(), "no: C2 node 2"),
-        ([(66, 1), (180, 2)].as_slice(), "no: C3 router 2 row 3"),
-        ([(86, 15), (165, 1)].as_slice(), "no: C4 router 2 row 2"),
-        ([(90, 9), (155, 15)].as_slice(), "no: C5 router 2 row 1"),
-        ([(86, 2), (159, 9)].as_slice(), "no: C6 router 2 row 1"),
-    ];
-    each_is_told(&rt, rt.alloc(), cases.as_slice())
+    cases::rules_are_tried_in_their_order(&rt, rt.alloc())
 }
 
 #[test]
@@ -242,6 +160,32 @@ fn a_missing_cable_comes_after_the_rows(rt: HostRuntime) -> Result<(), Fail> {
         let parts = [CABLES.as_slice(), first, second, [0].as_slice()];
         let line = joined_told_again(rt.alloc(), parts.as_slice())?;
         assert_eq!(rt; line.as_str(), want);
+    }
+    Ok(())
+}
+
+#[test]
+fn any_router_may_miss_any_cable(rt: HostRuntime) -> Result<(), Fail> {
+    // Three routers, each with rows for those of the cables 1 to 3 that are listed.
+    let all = [1, 2, 3].as_slice();
+    for (rows, want) in [
+        ([all, all, [2, 3].as_slice()], "no: C3 router 3 cable 1"),
+        ([all, all, [1, 3].as_slice()], "no: C3 router 3 cable 2"),
+        ([all, all, [1, 2].as_slice()], "no: C3 router 3 cable 3"),
+        ([all, all, [].as_slice()], "no: C3 router 3 cable 1"),
+        (
+            [all, [1, 2].as_slice(), [2, 3].as_slice()],
+            "no: C3 router 2 cable 3",
+        ),
+        (
+            [[1].as_slice(), all, [2, 3].as_slice()],
+            "no: C3 router 1 cable 2",
+        ),
+        // None is missing; the second row is direct, and the router isn't on its cable.
+        ([all, all, all], "no: C4 router 1 row 2"),
+    ] {
+        let line = rows_told(rt.alloc(), &rows)?;
+        assert_eq!(rt; line.as_str(), want, "{rows:?}");
     }
     Ok(())
 }
@@ -299,6 +243,109 @@ fn each_kind_of_place_is_told(rt: HostRuntime) -> Result<(), Fail> {
     ] {
         let verdict = Verdict::No(Fault { rule, place });
         let line = line_told(rt.alloc(), &verdict)?;
+        assert_eq!(rt; line.as_str(), want);
+    }
+    Ok(())
+}
+
+#[test]
+fn a_line_is_allocated_at_its_longest(rt: HostRuntime) -> Result<(), Fail> {
+    // The longest line there can be needs no more than the room that each line begins with.
+    let summary = Summary {
+        cables: 4_294_967_295,
+        routers: 4_294_967_295,
+        nodes: 4_294_967_295,
+        rows: 4_294_967_295,
+        greatest: 255,
+    };
+    let line = line_told(rt.alloc(), &Verdict::Yes(summary))?;
+    assert_eq!(rt; (line.len(), line.capacity()), (100, 100));
+    Ok(())
+}
+
+#[test]
+fn verdicts_differ_where_one_field_does(rt: HostRuntime) -> Result<(), Fail> {
+    let summary = Summary {
+        cables: 1,
+        routers: 2,
+        nodes: 3,
+        rows: 4,
+        greatest: 5,
+    };
+    let yes = Verdict::Yes(summary);
+    for other in [
+        Summary {
+            cables: 9,
+            ..summary
+        },
+        Summary {
+            routers: 9,
+            ..summary
+        },
+        Summary {
+            nodes: 9,
+            ..summary
+        },
+        Summary { rows: 9, ..summary },
+        Summary {
+            greatest: 9,
+            ..summary
+        },
+    ] {
+        assert!(rt; summary != other && yes != Verdict::Yes(other), "{other:?}");
+    }
+    let fault = Fault {
+        rule: 3,
+        place: Place::Row(1, 2),
+    };
+    let no = Verdict::No(fault);
+    for (rule, place) in [
+        (4, Place::Row(1, 2)),
+        (3, Place::Row(2, 2)),
+        (3, Place::Row(1, 1)),
+        (3, Place::Missing(1, 2)),
+    ] {
+        assert!(rt; no != Verdict::No(Fault { rule, place }), "C{rule} {place}");
+    }
+    assert!(rt; yes != no && yes == yes.clone()? && no == no.clone()?);
+    assert!(rt; summary == summary.clone()?);
+    Ok(())
+}
+
+#[test]
+fn rules_have_numbers(rt: HostRuntime) {
+    let rules = [
+        Rule::CablesInOrder,
+        Rule::StationsAddressed,
+        Rule::RowsCoverCables,
+        Rule::DirectRowsDirect,
+        Rule::DistancesFit,
+        Rule::NextRoutersExist,
+        Rule::DistancesFall,
+    ];
+    for (k, rule) in rules.iter().enumerate() {
+        assert_eq!(rt; rule.number() as usize, k + 1);
+        for (j, other) in rules.iter().enumerate() {
+            assert_eq!(rt; *rule == *other, j == k, "{rule:?} {other:?}");
+        }
+    }
+    assert_eq!(rt; MAX_DISTANCE, 14);
+}
+
+#[test]
+fn the_readme_says_what_it_prints(rt: HostRuntime) -> Result<(), Fail> {
+    for (bytes, want) in [
+        (THREE_CABLES.as_slice(), YES),
+        (
+            changed([(86, 15)].as_slice()).as_slice(),
+            "no: C5 router 1 row 3",
+        ),
+        (b"ATIM".as_slice(), "no image: Cut at byte 4"),
+    ] {
+        let line = match report(rt.alloc(), bytes) {
+            Err(Error::Memory) => report(rt.alloc(), bytes)?,
+            other => other?,
+        };
         assert_eq!(rt; line.as_str(), want);
     }
     Ok(())

@@ -6,6 +6,10 @@ use std::alloc::Global;
 use std::process::Abort;
 use std::test::Fail;
 
+/// The verdict line of `examples/three-cables.image`.
+pub(crate) const YES: &'static str =
+    "yes: 3 cables, 2 routers, 2 nodes, 6 rows, greatest distance 1";
+
 /// The bytes of `examples/three-cables.image`.
 pub(crate) const THREE_CABLES: [u8; 276] = [
     0x41, 0x54, 0x49, 0x4D, 0x01, 0x03, 0x00, 0x0A, 0x00, 0x13, 0x01, 0x03, 0x52, 0x65, 0x64, 0x00,

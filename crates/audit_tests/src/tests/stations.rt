@@ -1,0 +1,100 @@
+//! Images of one cable with three routers and three nodes, and of three routers that miss cables.
+
+use super::told::joined_told_again;
+use at_base::Error;
+use std::alloc::Global;
+
+/// The cable 10-19, and three routers to follow.
+const ONE_CABLE: [u8; 13] = [0x41, 0x54, 0x49, 0x4D, 1, 1, 0, 10, 0, 19, 1, 1, b'Z'];
+
+/// The cables 10-19, 20-29 and 30-39, and three routers to follow.
+const THREE: [u8; 27] = [
+    0x41, 0x54, 0x49, 0x4D, 1, 3, 0, 10, 0, 19, 1, 1, b'Z', 0, 20, 0, 29, 1, 1, b'Z', 0, 30, 0, 39,
+    1, 1, b'Z',
+];
+
+/// A router on the first cable, with this number and hardware address, and how many rows it has.
+fn router(number: u8, hardware: u8, rows: u8) -> [u8; 12] {
+    [1, 0, 0, 10, number, 2, 0, 0, 0, 0, hardware, rows]
+}
+
+/// The direct row for cable `k`, the cables from 1.
+fn row(k: u8) -> [u8; 10] {
+    let first = 10 * (k % 10);
+    [0, first, 0, first + 9, 0, 0, 0, 0, 0, 0]
+}
+
+/// A node on the first cable, without a router and names.
+fn node((number, hardware): (u8, u8)) -> [u8; 14] {
+    [0, 0, 10, number, 2, 0, 0, 0, 0, hardware, 1, b'Z', 0, 0]
+}
+
+/// A router on the one cable: its direct row, and no zone list.
+fn only_router((number, hardware): (u8, u8)) -> [u8; 23] {
+    [
+        1, 0, 0, 10, number, 2, 0, 0, 0, 0, hardware, 1, 0, 10, 0, 19, 0, 0, 0, 0, 0, 0, 0,
+    ]
+}
+
+/// The verdict line of these routers and nodes on the cable 10-19: the number and the last byte of
+/// the hardware address of each.
+pub(crate) fn stations_told(
+    alloc: Global,
+    routers: &[(u8, u8); 3],
+    nodes: &[(u8, u8); 3],
+) -> Result<String, Error> {
+    joined_told_again(
+        alloc,
+        [
+            ONE_CABLE.as_slice(),
+            [3].as_slice(),
+            only_router(routers[0]).as_slice(),
+            only_router(routers[1]).as_slice(),
+            only_router(routers[2]).as_slice(),
+            [3].as_slice(),
+            node(nodes[0]).as_slice(),
+            node(nodes[1]).as_slice(),
+            node(nodes[2]).as_slice(),
+        ]
+        .as_slice(),
+    )
+}
+
+/// The bytes of a router with a direct row for each of these cables.
+fn router_with_rows(alloc: Global, number: u8, cables: &[u8]) -> Result<Vec<u8>, Error> {
+    let mut bytes = Vec::new(alloc);
+    let count = (cables.len() % 256) as u8;
+    bytes.extend_from_slice(router(number, number, count).as_slice())?;
+    for k in cables {
+        bytes.extend_from_slice(row(*k).as_slice())?;
+    }
+    bytes.push(0)?;
+    Ok(bytes)
+}
+
+fn rows_told_once(alloc: Global, rows: &[&[u8]; 3]) -> Result<String, Error> {
+    let first = router_with_rows(alloc, 1, rows[0])?;
+    let second = router_with_rows(alloc, 2, rows[1])?;
+    let third = router_with_rows(alloc, 3, rows[2])?;
+    let routers = [first.as_slice(), second.as_slice(), third.as_slice()];
+    joined_told_again(
+        alloc,
+        [
+            THREE.as_slice(),
+            [3].as_slice(),
+            routers[0],
+            routers[1],
+            routers[2],
+            [0].as_slice(),
+        ]
+        .as_slice(),
+    )
+}
+
+/// The verdict line of three routers on the first of three cables, each with rows for these.
+pub(crate) fn rows_told(alloc: Global, rows: &[&[u8]; 3]) -> Result<String, Error> {
+    match rows_told_once(alloc, rows) {
+        Err(Error::Memory) => rows_told_once(alloc, rows),
+        other => other,
+    }
+}
