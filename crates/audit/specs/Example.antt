@@ -1,4 +1,4 @@
--- Two small internets: one that passes, and one whose routers send a datagram round and round. (own)
+-- Two small internets: one that passes, and one whose routers send a datagram round and round. This project's own.
 use Rattle.std.specs.Prelude.{ℕ, true, List, [], ◌∷◌, Some, codes}
 use Rattle.at_base.specs.declared.address.Addr.{Addr}
 use Rattle.at_base.specs.declared.address.Hw.{Hw}

@@ -1,4 +1,4 @@
--- What stands at a place of a list. (own)
+-- What stands at a place of a list. This project's own.
 use Rattle.std.specs.Prelude.{ℕ, zero, suc, Bool, false, cond, List, [], ◌∷◌, Option, Some, None, option_map}
 
 -- the test at what is there, and false where nothing is

@@ -1,6 +1,7 @@
 -- The rules of the audit, as tests on places: whether a place breaks a rule. Places count from 1, and where nothing
--- stands at a place, it breaks no rule. docs/RULES.md says what each rule is for. (own)
-use Rattle.std.specs.Prelude.{◌≡◌, ℕ, zero, suc, ◌+◌, ◌%◌, Bool, true, false, not, ◌&&◌, ◌||◌, if◌then◌else◌, List, [], ◌∷◌, Option, Some, None, length, take, slice_get, slice_index, find, nat_le, nat_lt, ◌==◌, is_some, option_and_then}
+-- stands at a place, it breaks no rule. docs/RULES.md says what each rule is for. This project's own.
+use Rattle.std.specs.Prelude.{◌≡◌, ℕ, zero, suc, ◌+◌, ◌%◌, Bool, true, false, not, ◌&&◌, ◌||◌, if◌then◌else◌, List, [], ◌∷◌, Option, Some}
+use Rattle.std.specs.Prelude.{None, length, take, slice_get, slice_index, find, nat_le, nat_lt, ◌==◌, is_some, option_and_then}
 use Rattle.std.specs.List.{list_any}
 use Rattle.at_base.specs.Text.{same_name, same_bytes}
 use Rattle.at_base.specs.declared.address.Addr.{Addr}
@@ -20,7 +21,8 @@ use Rattle.table_image.specs.declared.row.Row.{Row}
 use Rattle.table_image.specs.declared.router.Router.{Router}
 use Rattle.table_image.specs.declared.node.Node.{Node}
 use Rattle.audit.specs.declared.rule.Rule.{Rule}
-use Rattle.audit.specs.declared.rule.Rule.TheVariants.{CablesInOrder, StationsAddressed, RowsCoverCables, DirectRowsDirect, DistancesFit, NextRoutersExist, DistancesFall}
+use Rattle.audit.specs.declared.rule.Rule.TheVariants.{CablesInOrder, StationsAddressed, RowsCoverCables, DirectRowsDirect, DistancesFit}
+use Rattle.audit.specs.declared.rule.Rule.TheVariants.{NextRoutersExist, DistancesFall}
 
 -- ---- C1: cables stand in order
 
@@ -56,7 +58,8 @@ same_hardware a b = same_bytes a.0 b.0
 -- the address isn't in the range of its cable, its node isn't 1 to 253, or the hardware address has an odd first byte
 abbrev pub bad_address : Internet → ℕ → Addr → Hw → Bool
 bad_address i cable a hardware =
-    not (on (slice_get i.cables cable) (λ c. is_between c.start c.end a.net)) || a.node == 0 || nat_lt 253 a.node || slice_index hardware.0 0 % 2 == 1
+    not (on (slice_get i.cables cable) (λ c. is_between c.start c.end a.net)) || a.node == 0 || nat_lt 253 a.node
+    || slice_index hardware.0 0 % 2 == 1
 
 -- one of the router's ports has the address or the hardware address
 abbrev pub router_has : Addr → Hw → Router → Bool

@@ -1,4 +1,4 @@
--- Verdicts: which are right, and how they read. (own)
+-- Verdicts: which are right, and how they read. This project's own.
 use Rattle.std.specs.Prelude.{◌≡◌, ℕ, ◌<◌, ◌≤◌, ◌⊎◌, true, false, List, [], ◌∷◌, ◌++◌, length, map, max, sum_by, codes}
 use Rattle.std.specs.Fmt.{decimal}
 use Rattle.at_base.specs.declared.error.Place.{Place}
@@ -52,7 +52,14 @@ greatest_distance i = greatest_of (map (λ router. greatest_of (map (λ row. row
 
 -- the summary of an internet
 abbrev pub summary_of : Internet → Summary
-summary_of i = record { cables = length i.cables; routers = length i.routers; nodes = length i.nodes; rows = row_count i; greatest = greatest_distance i }
+summary_of i = record {
+  cables = length i.cables;
+  routers = length i.routers;
+  nodes = length i.nodes;
+  rows = row_count i;
+  greatest =
+      greatest_distance i;
+}
 
 -- the verdict is right: a yes where the internet passes, with its summary; a no with the first fault
 abbrev pub Judges : Internet → Verdict → Type 0
@@ -67,6 +74,7 @@ OnYes (No fault) P = Unit {0}
 -- the line of a verdict
 abbrev pub verdict_line : Verdict → List ℕ
 verdict_line (Yes s) =
-    codes "yes: " ++ decimal s.cables ++ codes " cables, " ++ decimal s.routers ++ codes " routers, " ++ decimal s.nodes ++ codes " nodes, "
+    codes "yes: " ++ decimal s.cables ++ codes " cables, " ++ decimal s.routers ++ codes " routers, " ++ decimal s.nodes
+    ++ codes " nodes, "
     ++ decimal s.rows ++ codes " rows, greatest distance " ++ decimal s.greatest
 verdict_line (No f) = codes "no: C" ++ decimal f.rule ++ codes " " ++ place_text f.place

@@ -1,4 +1,4 @@
-//! Rule C1: the cables stand in order.
+//! Rule C1: the ranges of the cables are valid and rise, and each cable has zones.
 
 ghost use Rattle.std.specs.Prelude.{◌≡◌, ◌<◌, suc, IfSome};
 ghost use Rattle.std.specs.List.{list_any};
@@ -48,7 +48,7 @@ fn first_cable(image: &Image) -> Option<usize>
     None
 }
 
-/// The first cable that breaks rule C1.
+/// The first cable that breaks rule C1, if one does.
 pub(crate) fn bad_cable(image: &Image) -> Option<Place>
     ensures { FirstPlace (c1 image.now) result }
 {

@@ -1,4 +1,4 @@
-//! The judge of an internet: the rules, one after the other.
+//! The audit of an internet: the rules, one after the other.
 
 ghost use Rattle.std.specs.Prelude.{None};
 ghost use Rattle.audit.specs.Firsts.{FirstPlace};
@@ -16,15 +16,16 @@ use crate::verdict::Verdict;
 use at_base::Place;
 use table_image::Image;
 
-// The first place that breaks C6. Where distances fall, each next router is there and is another
-// one, so the rows are gone through once more only where C7 is broken.
+// The first place that breaks C6. A row that breaks C6 breaks C7 too, so the rows are searched once
+// more only where C7 is broken.
 fn bad_next(image: &Image, hints: &Hints, steps: Option<Place>) -> Option<Place>
     requires cables { FirstPlace (c1 image.now) None }
     requires stations { FirstPlace (c2 image.now) None }
     requires steps { FirstPlace (c7 image.now) steps }
     ensures { FirstPlace (c6 image.now) result }
 {
-    // Reading the routers tells that their rows rise.
+    // For the prover alone: the contract of `routers` says that rows rise, without which C7 doesn't
+    // imply C6.
     let _routers = image.routers();
     match steps {
         Some(_) => bad_row(image, hints, Rule::NextRoutersExist),
@@ -32,12 +33,13 @@ fn bad_next(image: &Image, hints: &Hints, steps: Option<Place>) -> Option<Place>
     }
 }
 
-/// Judges an internet by the rules, and takes no memory.
+/// Audits an internet by the rules, in their order: yes with a summary, or the first place that
+/// breaks the first broken rule. It allocates nothing. This project's own.
 pub fn audit(image: &Image) -> Verdict
-    // The verdict is right: yes exactly where every rule is kept, and else the first fault of the
-    // first broken rule.
+    // The verdict is right: yes exactly where every rule is kept, otherwise the first place that
+    // breaks the first broken rule.
     ensures judged { Judges image.now result }
-    // One walk home: what a yes means for the ways of datagrams.
+    // After a yes each datagram to a listed network has exactly one walk, to that network's cable.
     ensures walks { OnYes result (WalksHome image.now) }
 {
     if let Some(place) = bad_cable(image) {

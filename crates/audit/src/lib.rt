@@ -1,5 +1,5 @@
-//! The audit of an internet's tables: the rules, the verdict, and what a yes means for the ways of
-//! datagrams.
+//! The audit of an internet's routing tables: the rules, the verdict, and what a verdict of yes says
+//! about the routes of datagrams.
 #![tactic(auto)]
 
 mod bytes;

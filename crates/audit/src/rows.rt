@@ -1,4 +1,4 @@
-//! The rules about the rows of routers, C3 to C7: which place breaks one first.
+//! The rules about rows, C3 to C7: the first place that breaks one.
 
 ghost use Rattle.std.specs.Prelude.{◌≡◌, ◌<◌, suc, None, Some, IfSome, length, slice_get};
 ghost use Rattle.audit.specs.Firsts.{FirstNumber, FirstPlace};
@@ -90,7 +90,7 @@ fn first_missing(image: &Image, rule: Rule, r: usize, router: &Router) -> Option
     }
 }
 
-/// The first place that breaks the rule.
+/// The first place of a row, or of a cable without one, that breaks the rule.
 pub(crate) fn bad_row(image: &Image, hints: &Hints, rule: Rule) -> Option<Place>
     requires cables { FirstPlace (c1 image.now) None }
     requires stations { FirstPlace (c2 image.now) None }

@@ -1,4 +1,4 @@
-//! Verdicts, and the line that says one.
+//! Verdicts, and the line that the program prints for one.
 
 ghost use Rattle.std.specs.Prelude.{◌≡◌, IfOk, IsOkUnless, string_bytes};
 ghost use Rattle.audit.specs.Verdicts.{verdict_line};

@@ -2,29 +2,29 @@
 //! docs/RULES.md and the places of docs/FORMATS.md; and each public function once.
 
 mod cases;
+mod images;
 mod lines;
 mod readme;
 mod stations;
-mod told;
 
 use audit::{
     Cause, Error, Fault, MAX_DISTANCE, Place, Rule, Summary, Verdict, audit, distances_fit,
     each_step, loops_have_no_walk, one_walk_home, seats_are_unique, the_example_passes,
     unlisted_is_nowhere, words_exclude,
 };
+use images::{
+    BOTH, CABLES, SECOND, THREE_CABLES, YES, change, changed, line_of_bytes, line_of_cable,
+    line_of_parts, with_row,
+};
 use lines::line_again;
 use readme::report;
-use stations::{rows_told, stations_told};
+use stations::{line_of_rows, line_of_stations};
 use std::alloc::Global;
 use std::test::Fail;
-use told::{
-    BOTH, CABLES, SECOND, THREE_CABLES, YES, cable_told, change, changed, joined_told_again,
-    told_again, with_row,
-};
 
 #[test]
 fn the_example_has_this_line(rt: HostRuntime) -> Result<(), Fail> {
-    let line = told_again(rt.alloc(), THREE_CABLES.as_slice())?;
+    let line = line_of_bytes(rt.alloc(), THREE_CABLES.as_slice())?;
     assert_eq!(rt; line.as_str(), YES);
     Ok(())
 }
@@ -32,7 +32,7 @@ fn the_example_has_this_line(rt: HostRuntime) -> Result<(), Fail> {
 #[test]
 fn an_internet_of_nothing_passes(rt: HostRuntime) -> Result<(), Fail> {
     let bytes = [0x41, 0x54, 0x49, 0x4D, 0x01, 0x00, 0x00, 0x00];
-    let line = told_again(rt.alloc(), bytes.as_slice())?;
+    let line = line_of_bytes(rt.alloc(), bytes.as_slice())?;
     assert_eq!(rt;
         line.as_str(),
         "yes: 0 cables, 0 routers, 0 nodes, 0 rows, greatest distance 0"
@@ -43,7 +43,7 @@ fn an_internet_of_nothing_passes(rt: HostRuntime) -> Result<(), Fail> {
 #[test]
 fn a_byte_too_many_is_no_image(rt: HostRuntime) {
     let bytes = [0x41, 0x54, 0x49, 0x4D, 0x01, 0x00, 0x00, 0x00, 0x00];
-    let refused = told_again(rt.alloc(), bytes.as_slice()).err();
+    let refused = line_of_bytes(rt.alloc(), bytes.as_slice()).err();
     assert_eq!(rt; refused, Some(Error::BadImage(8, Cause::Trailing)));
 }
 
@@ -64,7 +64,7 @@ fn a_cable_has_zones_and_none_twice(rt: HostRuntime) -> Result<(), Fail> {
             "yes: 1 cables, 0 routers, 0 nodes, 0 rows, greatest distance 0",
         ),
     ] {
-        let line = cable_told(rt.alloc(), zones)?;
+        let line = line_of_cable(rt.alloc(), zones)?;
         assert_eq!(rt; line.as_str(), want);
     }
     Ok(())
@@ -99,7 +99,7 @@ fn stations_far_apart_have_addresses_of_their_own(rt: HostRuntime) -> Result<(),
         (routers, [(4, 4), (5, 5), (6, 1)], "no: C2 node 3"),
         (routers, [(4, 4), (2, 5), (6, 6)], "no: C2 node 2"),
     ] {
-        let line = stations_told(rt.alloc(), &routers, &nodes)?;
+        let line = line_of_stations(rt.alloc(), &routers, &nodes)?;
         assert_eq!(rt; line.as_str(), want, "{routers:?} {nodes:?}");
     }
     Ok(())
@@ -133,7 +133,7 @@ fn the_next_router_is_one_nearer(rt: HostRuntime) -> Result<(), Fail> {
             &mut bytes,
             [(175, 1), (176, 0), (178, 20), (179, 1)].as_slice(),
         );
-        let line = told_again(rt.alloc(), bytes.as_slice())?;
+        let line = line_of_bytes(rt.alloc(), bytes.as_slice())?;
         assert_eq!(rt; line.as_str(), want, "{distance}");
     }
     Ok(())
@@ -158,7 +158,7 @@ fn a_missing_cable_comes_after_the_rows(rt: HostRuntime) -> Result<(), Fail> {
         ([0, 0, 0].as_slice(), bad, "no: C3 router 1 cable 1"),
     ] {
         let parts = [CABLES.as_slice(), first, second, [0].as_slice()];
-        let line = joined_told_again(rt.alloc(), parts.as_slice())?;
+        let line = line_of_parts(rt.alloc(), parts.as_slice())?;
         assert_eq!(rt; line.as_str(), want);
     }
     Ok(())
@@ -168,24 +168,21 @@ fn a_missing_cable_comes_after_the_rows(rt: HostRuntime) -> Result<(), Fail> {
 fn any_router_may_miss_any_cable(rt: HostRuntime) -> Result<(), Fail> {
     // Three routers, each with rows for those of the cables 1 to 3 that are listed.
     let all = [1, 2, 3].as_slice();
-    for (rows, want) in [
-        ([all, all, [2, 3].as_slice()], "no: C3 router 3 cable 1"),
-        ([all, all, [1, 3].as_slice()], "no: C3 router 3 cable 2"),
-        ([all, all, [1, 2].as_slice()], "no: C3 router 3 cable 3"),
-        ([all, all, [].as_slice()], "no: C3 router 3 cable 1"),
-        (
-            [all, [1, 2].as_slice(), [2, 3].as_slice()],
-            "no: C3 router 2 cable 3",
-        ),
-        (
-            [[1].as_slice(), all, [2, 3].as_slice()],
-            "no: C3 router 1 cable 2",
-        ),
+    let no_1 = [2, 3].as_slice();
+    let no_2 = [1, 3].as_slice();
+    let no_3 = [1, 2].as_slice();
+    for (first, second, third, want) in [
+        (all, all, no_1, "no: C3 router 3 cable 1"),
+        (all, all, no_2, "no: C3 router 3 cable 2"),
+        (all, all, no_3, "no: C3 router 3 cable 3"),
+        (all, all, [].as_slice(), "no: C3 router 3 cable 1"),
+        (all, no_3, no_1, "no: C3 router 2 cable 3"),
+        ([1].as_slice(), all, no_1, "no: C3 router 1 cable 2"),
         // None is missing; the second row is direct, and the router isn't on its cable.
-        ([all, all, all], "no: C4 router 1 row 2"),
+        (all, all, all, "no: C4 router 1 row 2"),
     ] {
-        let line = rows_told(rt.alloc(), &rows)?;
-        assert_eq!(rt; line.as_str(), want, "{rows:?}");
+        let line = line_of_rows(rt.alloc(), first, second, third)?;
+        assert_eq!(rt; line.as_str(), want, "{first:?} {second:?} {third:?}");
     }
     Ok(())
 }
@@ -198,7 +195,7 @@ fn the_greatest_distance_is_that_of_any_router(rt: HostRuntime) -> Result<(), Fa
         (SECOND.as_slice(), BOTH.as_slice()),
     ] {
         let parts = [CABLES.as_slice(), first, second, [0].as_slice()];
-        let line = joined_told_again(rt.alloc(), parts.as_slice())?;
+        let line = line_of_parts(rt.alloc(), parts.as_slice())?;
         assert_eq!(rt; line.as_str(), want);
     }
     Ok(())
@@ -224,7 +221,7 @@ fn a_line_has_at_most_16_cables(rt: HostRuntime) -> Result<(), Fail> {
     Ok(())
 }
 
-fn line_told(alloc: Global, verdict: &Verdict) -> Result<String, Error> {
+fn line_of_verdict(alloc: Global, verdict: &Verdict) -> Result<String, Error> {
     match verdict.line(alloc) {
         Err(Error::Memory) => verdict.line(alloc),
         other => other,
@@ -242,7 +239,7 @@ fn each_kind_of_place_is_told(rt: HostRuntime) -> Result<(), Fail> {
         (8, Place::List(2, 3), "no: C8 router 2 list 3"),
     ] {
         let verdict = Verdict::No(Fault { rule, place });
-        let line = line_told(rt.alloc(), &verdict)?;
+        let line = line_of_verdict(rt.alloc(), &verdict)?;
         assert_eq!(rt; line.as_str(), want);
     }
     Ok(())
@@ -258,7 +255,7 @@ fn a_line_is_allocated_at_its_longest(rt: HostRuntime) -> Result<(), Fail> {
         rows: 4_294_967_295,
         greatest: 255,
     };
-    let line = line_told(rt.alloc(), &Verdict::Yes(summary))?;
+    let line = line_of_verdict(rt.alloc(), &Verdict::Yes(summary))?;
     assert_eq!(rt; (line.len(), line.capacity()), (100, 100));
     Ok(())
 }

@@ -1,7 +1,7 @@
-//! Changes of the bytes of the example, each with the verdict line that it must have, worked by hand.
-//! Places of bytes are those of `THREE_CABLES`, where comments name its parts.
+//! Changes of the example, each with the verdict line that it must have, worked by hand from
+//! docs/RULES.md. A pair is the offset of a byte of `THREE_CABLES` and the byte that it becomes.
 
-use super::told::{YES, each_is_told};
+use super::images::{YES, check_each};
 use std::alloc::Global;
 use std::process::Abort;
 use std::test::Fail;
@@ -30,10 +30,10 @@ pub(crate) fn cables_stand_in_order(rt: &impl Abort, alloc: Global) -> Result<()
             YES,
         ),
         ([(31, 0xFF), (32, 0)].as_slice(), "no: C1 cable 3"),
-        // The first of two is told.
+        // Of two the first is reported.
         ([(9, 9), (31, 0xFF)].as_slice(), "no: C1 cable 1"),
     ];
-    each_is_told(rt, alloc, cases.as_slice())
+    check_each(rt, alloc, cases.as_slice())
 }
 
 /// Addresses that fit a cable, and hardware addresses of one station.
@@ -68,7 +68,7 @@ pub(crate) fn stations_have_addresses_of_their_cables(
         ([(54, 0), (133, 0)].as_slice(), "no: C2 router 1 port 2"),
         ([(241, 0), (222, 0)].as_slice(), "no: C2 node 1"),
     ];
-    each_is_told(rt, alloc, cases.as_slice())
+    check_each(rt, alloc, cases.as_slice())
 }
 
 /// Addresses and hardware addresses of two stations.
@@ -94,7 +94,7 @@ pub(crate) fn no_two_stations_have_one_address(rt: &impl Abort, alloc: Global) -
         ([(228, 4)].as_slice(), "no: C2 node 1"),
         ([(247, 1)].as_slice(), "no: C2 node 2"),
     ];
-    each_is_told(rt, alloc, cases.as_slice())
+    check_each(rt, alloc, cases.as_slice())
 }
 
 /// States and ranges of rows, and the rows of a router's own cables.
@@ -119,13 +119,13 @@ pub(crate) fn rows_are_for_cables_and_direct_rows_direct(
             [(175, 1), (178, 20), (179, 1)].as_slice(),
             "no: C4 router 2 row 3",
         ),
-        // The first of two rows is told.
+        // Of two rows the first is reported.
         ([(66, 1), (77, 0)].as_slice(), "no: C4 router 1 row 1"),
         // The row of another cable has distance 0, the next router 0.0.
         ([(86, 0)].as_slice(), "no: C4 router 1 row 3"),
         ([(89, 0), (90, 0)].as_slice(), "no: C4 router 1 row 3"),
     ];
-    each_is_told(rt, alloc, cases.as_slice())
+    check_each(rt, alloc, cases.as_slice())
 }
 
 /// Distances, and next routers.
@@ -149,7 +149,7 @@ pub(crate) fn distances_fit_and_next_routers_are_there(
         ),
         ([(89, 30), (90, 1)].as_slice(), "no: C6 router 1 row 3"),
     ];
-    each_is_told(rt, alloc, cases.as_slice())
+    check_each(rt, alloc, cases.as_slice())
 }
 
 /// Images that break two rules.
@@ -163,5 +163,5 @@ pub(crate) fn rules_are_tried_in_their_order(rt: &impl Abort, alloc: Global) -> 
         ([(90, 9), (155, 15)].as_slice(), "no: C5 router 2 row 1"),
         ([(86, 2), (159, 9)].as_slice(), "no: C6 router 2 row 1"),
     ];
-    each_is_told(rt, alloc, cases.as_slice())
+    check_each(rt, alloc, cases.as_slice())
 }

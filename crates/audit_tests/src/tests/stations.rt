@@ -1,21 +1,22 @@
 //! Images of one cable with three routers and three nodes, and of three routers that miss cables.
 
-use super::told::joined_told_again;
+use super::images::{line_of_bytes, line_of_parts};
 use at_base::Error;
 use std::alloc::Global;
 
-/// The cable 10-19, and three routers to follow.
+/// The cable 10-19, without its routers.
 const ONE_CABLE: [u8; 13] = [0x41, 0x54, 0x49, 0x4D, 1, 1, 0, 10, 0, 19, 1, 1, b'Z'];
 
-/// The cables 10-19, 20-29 and 30-39, and three routers to follow.
+/// The cables 10-19, 20-29 and 30-39, without their routers.
 const THREE: [u8; 27] = [
     0x41, 0x54, 0x49, 0x4D, 1, 3, 0, 10, 0, 19, 1, 1, b'Z', 0, 20, 0, 29, 1, 1, b'Z', 0, 30, 0, 39,
     1, 1, b'Z',
 ];
 
-/// A router on the first cable, with this number and hardware address, and how many rows it has.
-fn router(number: u8, hardware: u8, rows: u8) -> [u8; 12] {
-    [1, 0, 0, 10, number, 2, 0, 0, 0, 0, hardware, rows]
+/// A router on the first cable, with this number as the end of its addresses, and how many rows
+/// follow.
+fn router(number: u8, rows: u8) -> [u8; 12] {
+    [1, 0, 0, 10, number, 2, 0, 0, 0, 0, number, rows]
 }
 
 /// The direct row for cable `k`, the cables from 1.
@@ -38,12 +39,12 @@ fn only_router((number, hardware): (u8, u8)) -> [u8; 23] {
 
 /// The verdict line of these routers and nodes on the cable 10-19: the number and the last byte of
 /// the hardware address of each.
-pub(crate) fn stations_told(
+pub(crate) fn line_of_stations(
     alloc: Global,
     routers: &[(u8, u8); 3],
     nodes: &[(u8, u8); 3],
 ) -> Result<String, Error> {
-    joined_told_again(
+    line_of_parts(
         alloc,
         [
             ONE_CABLE.as_slice(),
@@ -60,41 +61,42 @@ pub(crate) fn stations_told(
     )
 }
 
-/// The bytes of a router with a direct row for each of these cables.
-fn router_with_rows(alloc: Global, number: u8, cables: &[u8]) -> Result<Vec<u8>, Error> {
-    let mut bytes = Vec::new(alloc);
+/// Appends a router with a direct row for each of these cables, and no zone list.
+fn put_router(bytes: &mut Vec<u8>, number: u8, cables: &[u8]) -> Result<(), Error> {
     let count = (cables.len() % 256) as u8;
-    bytes.extend_from_slice(router(number, number, count).as_slice())?;
+    bytes.extend_from_slice(router(number, count).as_slice())?;
     for k in cables {
         bytes.extend_from_slice(row(*k).as_slice())?;
     }
     bytes.push(0)?;
-    Ok(bytes)
+    Ok(())
 }
 
-fn rows_told_once(alloc: Global, rows: &[&[u8]; 3]) -> Result<String, Error> {
-    let first = router_with_rows(alloc, 1, rows[0])?;
-    let second = router_with_rows(alloc, 2, rows[1])?;
-    let third = router_with_rows(alloc, 3, rows[2])?;
-    let routers = [first.as_slice(), second.as_slice(), third.as_slice()];
-    joined_told_again(
-        alloc,
-        [
-            THREE.as_slice(),
-            [3].as_slice(),
-            routers[0],
-            routers[1],
-            routers[2],
-            [0].as_slice(),
-        ]
-        .as_slice(),
-    )
+fn line_of_rows_once(
+    alloc: Global,
+    first: &[u8],
+    second: &[u8],
+    third: &[u8],
+) -> Result<String, Error> {
+    let mut bytes = Vec::new(alloc);
+    bytes.extend_from_slice(THREE.as_slice())?;
+    bytes.push(3)?;
+    put_router(&mut bytes, 1, first)?;
+    put_router(&mut bytes, 2, second)?;
+    put_router(&mut bytes, 3, third)?;
+    bytes.push(0)?;
+    line_of_bytes(alloc, bytes.as_slice())
 }
 
 /// The verdict line of three routers on the first of three cables, each with rows for these.
-pub(crate) fn rows_told(alloc: Global, rows: &[&[u8]; 3]) -> Result<String, Error> {
-    match rows_told_once(alloc, rows) {
-        Err(Error::Memory) => rows_told_once(alloc, rows),
+pub(crate) fn line_of_rows(
+    alloc: Global,
+    first: &[u8],
+    second: &[u8],
+    third: &[u8],
+) -> Result<String, Error> {
+    match line_of_rows_once(alloc, first, second, third) {
+        Err(Error::Memory) => line_of_rows_once(alloc, first, second, third),
         other => other,
     }
 }

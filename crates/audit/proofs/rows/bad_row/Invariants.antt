@@ -5,4 +5,5 @@ use Rattle.audit.proofs.rows.bad_row.Given as goal
 
 abbrev pub invariant-loop-r : goal.invariant-loop-r
 invariant-loop-r l =
-    (s : ℕ) → s < l.r → (k : ℕ) → (breaks_rows l.rule l.image (place.Row (suc s) (suc k)) ≡ false) × (breaks_rows l.rule l.image (place.Missing (suc s) (suc k)) ≡ false)
+    (s : ℕ) → s < l.r → (k : ℕ) → (breaks_rows l.rule l.image (place.Row (suc s) (suc k)) ≡ false)
+    × (breaks_rows l.rule l.image (place.Missing (suc s) (suc k)) ≡ false)
