@@ -100,7 +100,7 @@ none_before t xs m none k x below e = none_passes t (take m xs) none k x (at_tak
 
 -- ---- Lists made of lists
 
--- an element of two lists in a row is in the first, or so far behind it in the second
+-- an element of two lists, one after the other, is in the first, or at the rest of its index in the second
 pub at_append : {X : Type 0} (xs ys : List X) (j : ℕ) (x : X) → At (xs ++ ys) j x → At xs j x ⊎ ((m : ℕ) × (j ≡ length xs + m) × At ys m x)
 at_append [] ys j x e = inr (j, omega arith, e)
 at_append (y ∷ xs) ys zero x e = inl e

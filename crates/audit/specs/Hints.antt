@@ -1,4 +1,4 @@
--- Hints for the search of a router: which one may have a node's number on a cable. This project's own.
+-- Hints for the search of a router: which one may have a port with a node number on a cable. This project's own.
 use Rattle.std.specs.Prelude.{◌≡◌, ℕ, ◌+◌, ◌*◌, ◌<◌, ◌==◌, ◌⊎◌, Bool, true, List, Some, slice_get, slice_index_or}
 use Rattle.std.specs.List.{list_any}
 use Rattle.audit.specs.Places.{on}
@@ -6,11 +6,11 @@ use Rattle.table_image.specs.declared.port.Port.{Port}
 use Rattle.table_image.specs.declared.router.Router.{Router}
 use Rattle.audit.specs.declared.next.Hints.{Hints}
 
--- where the hint for a node's number on a cable stands
+-- the index of the hint for a node number on a cable
 abbrev pub hint_slot : ℕ → ℕ → ℕ
 hint_slot cable node = cable * 256 + node
 
--- where the hint for a port stands
+-- the index of the hint for a port
 abbrev pub port_slot : Port → ℕ
 port_slot port = hint_slot port.cable port.address.node
 

@@ -1,5 +1,5 @@
--- The rules of the audit, as tests on places: whether a place breaks a rule. Places count from 1, and where nothing
--- stands at a place, it breaks no rule. docs/RULES.md says what each rule is for. This project's own.
+-- The rules of the audit, as tests on places: whether a place breaks a rule. Numbers in a place count from 1, and a place
+-- that the internet doesn't have breaks no rule. docs/RULES.md says what each rule is for. This project's own.
 use Rattle.std.specs.Prelude.{◌≡◌, ℕ, zero, suc, ◌+◌, ◌%◌, Bool, true, false, not, ◌&&◌, ◌||◌, if◌then◌else◌, List, [], ◌∷◌, Option, Some}
 use Rattle.std.specs.Prelude.{None, length, take, slice_get, slice_index, find, nat_le, nat_lt, ◌==◌, is_some, option_and_then}
 use Rattle.std.specs.List.{list_any}
@@ -26,7 +26,7 @@ use Rattle.audit.specs.declared.rule.Rule.TheVariants.{NextRoutersExist, Distanc
 
 -- ---- C1: cables stand in order
 
--- a name that stands twice, without regard to case
+-- some name is in the list twice, without regard to case
 abbrev pub has_double : List (List ℕ) → Bool
 has_double [] = false
 has_double (name ∷ names) = list_any (same_name name) names || has_double names
@@ -51,7 +51,7 @@ c1 i _ = false
 
 -- ---- C2: stations are addressed
 
--- the two are one hardware address
+-- the two hardware addresses are equal
 abbrev pub same_hardware : Hw → Hw → Bool
 same_hardware a b = same_bytes a.0 b.0
 
@@ -89,7 +89,7 @@ c2 i (place.Port (suc r) (suc p)) = on (slice_get i.routers r) (λ router. on (s
 c2 i (place.Node (suc k)) = on (slice_get i.nodes k) (bad_node i k)
 c2 i _ = false
 
--- ---- Rows
+-- ---- Look-ups of rows
 
 -- the test at a router's row
 abbrev pub at_row : Internet → ℕ → ℕ → (Router → Row → Bool) → Bool
@@ -99,7 +99,7 @@ at_row i r k test = on (slice_get i.routers r) (λ router. on (slice_get router.
 abbrev pub is_for : Row → Cable → Bool
 is_for row c = row.start == c.start && row.end == c.end
 
--- the cable that the row is for
+-- the 0-based index of the cable that the row is for
 abbrev pub cable_of : Internet → Row → Option ℕ
 cable_of i row = index_of (is_for row) i.cables
 
@@ -115,7 +115,7 @@ lacks_row router c = not (list_any (λ row. is_for row c) router.rows)
 
 -- ---- C4: direct rows are direct
 
--- the router's port on the cable
+-- the 0-based index of the router's port on the cable
 abbrev pub port_on : Router → ℕ → Option ℕ
 port_on router cable = index_of (λ p. p.cable == cable) router.ports
 
@@ -131,13 +131,13 @@ bad_direct row None = row.distance == 0 || is_direct row
 abbrev pub max_distance : ℕ
 max_distance = 14
 
--- ---- C6: next routers are there
+-- ---- C6: next routers exist
 
--- the router whose port the row's next address is, on the cable of the row's port
+-- the 0-based index of the router that has the row's next address on the cable of the row's port
 abbrev pub next_router : Internet → Router → Row → Option ℕ
 next_router i router row = option_and_then (λ port. owner i port.cable row.next) (slice_get router.ports row.port)
 
--- there is no other router than r
+-- there is no next router, or it is r itself
 abbrev pub is_no_other : ℕ → Option ℕ → Bool
 is_no_other r None = true
 is_no_other r (Some s) = r == s
@@ -149,12 +149,12 @@ abbrev pub same_row : Option Router → Row → Option Row
 same_row None row = None
 same_row (Some router) row = find (λ other. other.start == row.start && other.end == row.end) router.rows
 
--- the other row isn't there, or isn't of distance one less
+-- there is no other row, or its distance isn't one less
 abbrev pub not_one_less : Row → Option Row → Bool
 not_one_less row None = true
 not_one_less row (Some other) = not (other.distance + 1 == row.distance)
 
--- the next router's row of the same range isn't of distance one less
+-- the next router has no row of the same range whose distance is one less
 abbrev pub bad_step : Internet → Row → Option ℕ → Bool
 bad_step i row None = true
 bad_step i row (Some s) = not_one_less row (same_row (slice_get i.routers s) row)

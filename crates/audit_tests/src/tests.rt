@@ -1,5 +1,5 @@
-//! Values from outside: what just breaks each rule and what just keeps it, worked by hand from
-//! docs/RULES.md and the places of docs/FORMATS.md; and each public function once.
+//! What just breaks each rule and what just keeps it, worked by hand from docs/RULES.md, with the
+//! offsets of docs/FORMATS.md; and each public function once.
 
 mod cases;
 mod images;
