@@ -1,5 +1,6 @@
 -- Rule C1, and what it gives: cables in rising order.
-use Rattle.std.proofs.Common.{◌≡◌, ℕ, zero, suc, ◌+◌, ◌<◌, inl, inr, true, false, List, Some, None, slice_get, add-one, arith, ap, sym, ◌∙◌}
+use Rattle.std.proofs.Common.{◌≡◌, ℕ, zero, suc, ◌+◌, ◌<◌, inl, inr, true, false, List, Some, None, slice_get, add-one, arith, ap, sym}
+use Rattle.std.proofs.Common.{◌∙◌}
 use Rattle.std.proofs.lemmas.Bool.{eqb-true, and_parts, cases_order, false_from_ne_true}
 use Rattle.at_base.specs.declared.error.Place.TheVariants as place
 use Rattle.table_image.specs.Internet.{Internet}
@@ -18,10 +19,12 @@ end_passed cables k c at = rw (add-one, at)
 
 -- a cable where rule C1 is kept
 pub good_at : (i : Internet) (k : ℕ) (c : Cable) → FirstPlace (c1 i) None → At i.cables k c → GoodCable (end_before i.cables k) c
-good_at i k c kept at = good_cable (end_before i.cables k) c (ap (λ o. on o (bad_cable (end_before i.cables k))) (sym at) ∙ kept (place.Cable (suc k)))
+good_at i k c kept at =
+    good_cable (end_before i.cables k) c (ap (λ o. on o (bad_cable (end_before i.cables k))) (sym at) ∙ kept (place.Cable (suc k)))
 
 -- where rule C1 is kept, a cable ends below the start of each later one
-pub rising : (i : Internet) → FirstPlace (c1 i) None → (k j : ℕ) (a b : Cable) → slice_get i.cables j ≡ Some a → slice_get i.cables k ≡ Some b → j < k → a.end < b.start
+pub rising : (i : Internet) → FirstPlace (c1 i) None → (k j : ℕ) (a b : Cable) → slice_get i.cables j ≡ Some a
+    → slice_get i.cables k ≡ Some b → j < k → a.end < b.start
 rising i kept zero j a b at_j at_k lt = absurd (omega arith)
 rising i kept (suc k) j a b at_j at_k lt =
     let within = at_within i.cables (suc k) b at_k in
@@ -40,7 +43,8 @@ rising i kept (suc k) j a b at_j at_k lt =
     ]
 
 -- where rule C1 is kept, the cable that a row is for is the only one
-pub only_cable : (i : Internet) (row : Row) (k : ℕ) (c : Cable) → FirstPlace (c1 i) None → slice_get i.cables k ≡ Some c → is_for row c ≡ true → Some k ≡ cable_of i row
+pub only_cable : (i : Internet) (row : Row) (k : ℕ) (c : Cable) → FirstPlace (c1 i) None → slice_get i.cables k ≡ Some c
+    → is_for row c ≡ true → Some k ≡ cable_of i row
 only_cable i row k c kept at for = sym (first_index (is_for row) i.cables k c at for before)
   where
     starts : (d : Cable) → is_for row d ≡ true → row.start ≡ d.start

@@ -1,5 +1,6 @@
 -- A rule is kept where a test over the lists says so, which computes at a given internet.
-use Rattle.std.proofs.Common.{◌≡◌, ◌≢◌, ℕ, zero, suc, Bool, true, false, ◌||◌, ◌&&◌, not, if◌then◌else◌, List, [], ◌∷◌, Some, None, refl, sym, ap, ◌∙◌, slice_get, nat_lt, ◌==◌, eqb-true}
+use Rattle.std.proofs.Common.{◌≡◌, ◌≢◌, ℕ, zero, suc, Bool, true, false, ◌||◌, ◌&&◌, not, if◌then◌else◌, List, [], ◌∷◌, Some, None, refl}
+use Rattle.std.proofs.Common.{sym, ap, ◌∙◌, slice_get, nat_lt, ◌==◌, eqb-true}
 use Rattle.std.proofs.lemmas.Bool.{or_parts}
 use Rattle.at_base.specs.declared.error.Place.{Place}
 use Rattle.at_base.specs.declared.error.Place.TheVariants as place
@@ -8,7 +9,8 @@ use Rattle.audit.specs.Places.{on}
 use Rattle.table_image.specs.Rows.{is_direct}
 use Rattle.table_image.specs.declared.row.Row.{Row}
 use Rattle.table_image.specs.declared.router.Router.{Router}
-use Rattle.audit.specs.Rules.{end_before, bad_cable, c1, bad_port, bad_node, c2, at_row, cable_of, bad_range, lacks_row, c3, port_on, bad_direct, c4, c5, next_router, is_no_other, c6, bad_step, c7, breaks, Passes, Keeps}
+use Rattle.audit.specs.Rules.{end_before, bad_cable, c1, bad_port, bad_node, c2, at_row, cable_of, bad_range, lacks_row, c3, port_on}
+use Rattle.audit.specs.Rules.{bad_direct, c4, c5, next_router, is_no_other, c6, bad_step, c7, breaks, Passes, Keeps}
 use Rattle.audit.proofs.WalkLists.{At}
 
 -- an element passes the test for its place
@@ -35,7 +37,9 @@ on_each xs k test each =
 kept_at : {X : Type 0} (test : ℕ → X → Bool) (xs : List X) → any_at test xs ≡ false → (k : ℕ) → on (slice_get xs k) (test k) ≡ false
 kept_at test xs none k = on_each xs k (test k) (none_at test xs none k)
 
-kept_in : {X Y : Type 0} (part : X → List Y) (test : ℕ → X → ℕ → Y → Bool) (xs : List X) → any_at (λ r x. any_at (test r x) (part x)) xs ≡ false → (r k : ℕ) → on (slice_get xs r) (λ x. on (slice_get (part x) k) (test r x k)) ≡ false
+kept_in : {X Y : Type 0} (part : X → List Y) (test : ℕ → X → ℕ → Y → Bool) (xs : List X)
+    → any_at (λ r x. any_at (test r x) (part x)) xs ≡ false → (r k : ℕ)
+    → on (slice_get xs r) (λ x. on (slice_get (part x) k) (test r x k)) ≡ false
 kept_in part test xs none r k =
     on_each xs r (λ x. on (slice_get (part x) k) (test r x k)) (λ x e.
     kept_at (test r x) (part x) (none_at (λ r x. any_at (test r x) (part x)) xs none r x e) k)
@@ -110,7 +114,8 @@ four_kept i none (place.Port r p) = refl
 four_kept i none (place.Node k) = refl
 four_kept i none (place.Row zero k) = refl
 four_kept i none (place.Row (suc r) zero) = refl
-four_kept i none (place.Row (suc r) (suc k)) = rows_kept i (λ r router row. on (cable_of i row) (λ c. bad_direct row (port_on router c))) none r k
+four_kept i none (place.Row (suc r) (suc k)) =
+    rows_kept i (λ r router row. on (cable_of i row) (λ c. bad_direct row (port_on router c))) none r k
 four_kept i none (place.Missing r k) = refl
 four_kept i none (place.List r k) = refl
 
@@ -130,7 +135,8 @@ six_kept i none (place.Port r p) = refl
 six_kept i none (place.Node k) = refl
 six_kept i none (place.Row zero k) = refl
 six_kept i none (place.Row (suc r) zero) = refl
-six_kept i none (place.Row (suc r) (suc k)) = rows_kept i (λ r router row. not (is_direct row) && is_no_other r (next_router i router row)) none r k
+six_kept i none (place.Row (suc r) (suc k)) =
+    rows_kept i (λ r router row. not (is_direct row) && is_no_other r (next_router i router row)) none r k
 six_kept i none (place.Missing r k) = refl
 six_kept i none (place.List r k) = refl
 
@@ -140,7 +146,8 @@ seven_kept i none (place.Port r p) = refl
 seven_kept i none (place.Node k) = refl
 seven_kept i none (place.Row zero k) = refl
 seven_kept i none (place.Row (suc r) zero) = refl
-seven_kept i none (place.Row (suc r) (suc k)) = rows_kept i (λ r router row. not (is_direct row) && bad_step i row (next_router i router row)) none r k
+seven_kept i none (place.Row (suc r) (suc k)) =
+    rows_kept i (λ r router row. not (is_direct row) && bad_step i row (next_router i router row)) none r k
 seven_kept i none (place.Missing r k) = refl
 seven_kept i none (place.List r k) = refl
 

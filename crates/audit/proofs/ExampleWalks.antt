@@ -15,7 +15,8 @@ pub example_walk : IsWalk three_cables 30 0 (1 ∷ []) 2
 example_walk = (1, addr 20 2, refl, refl)
 
 pub loop_keeps_others : (rule : ℕ) → rule ≢ 7 → Keeps pointing_at_each_other rule
-loop_keeps_others = keeps_others pointing_at_each_other (record { one = refl; two = refl; three = refl; four = refl; five = refl; six = refl })
+loop_keeps_others = keeps_others pointing_at_each_other
+    (record { one = refl; two = refl; three = refl; four = refl; five = refl; six = refl })
 
 first_hands_on : hand pointing_at_each_other 0 30 ≡ On 1 1 (addr 20 2)
 first_hands_on = refl
@@ -71,7 +72,8 @@ pub no_port : ¬ HasPort pointing_at_each_other 1 2
 no_port port =
     let known = port.known in
     let is : turned_router ≡ port.router = cc in
-    not_on_the_last port.place port.port (subst (λ (router : Router). slice_get router.ports port.place ≡ Some port.port) (sym is) port.at) port.on
+    not_on_the_last port.place port.port (subst (λ (router : Router). slice_get router.ports port.place ≡ Some port.port) (sym is) port.at)
+    port.on
 
 pub one_address : ¬ SeatsAreUnique same_addresses
 one_address unique = let e = unique.by_address 1 2 _ _ refl refl refl in cc

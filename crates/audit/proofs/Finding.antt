@@ -1,5 +1,6 @@
 -- What a search of a list finds.
-use Rattle.std.proofs.Common.{◌≡◌, ℕ, zero, suc, ◌+◌, ◌<◌, Bool, true, false, cond, ◌||◌, List, [], ◌∷◌, Option, Some, None, length, refl, ap, ◌∙◌, arith, slice_get, option_map, find, position, take}
+use Rattle.std.proofs.Common.{◌≡◌, ℕ, zero, suc, ◌+◌, ◌<◌, Bool, true, false, cond, ◌||◌, List, [], ◌∷◌, Option, Some, None, length, refl}
+use Rattle.std.proofs.Common.{ap, ◌∙◌, arith, slice_get, option_map, find, position, take}
 use Rattle.std.specs.List.{list_any, position_from}
 use Rattle.std.proofs.lemmas.Iterator.Adapters.{position_from-zero}
 use Rattle.audit.specs.Places.{index_of}
@@ -12,7 +13,8 @@ from_index test i (x ∷ xs) = one (test x) (index_of test xs) (from_index test 
     later None = refl
     later (Some j) = let e : i + 1 + j ≡ i + suc j = omega arith in ap Some e
 
-    one : (b : Bool) (o : Option ℕ) → position_from test (i + 1) xs ≡ option_map (λ j. i + 1 + j) o → cond b (Some i) (position_from test (i + 1) xs) ≡ option_map (λ j. i + j) (cond b (Some zero) (option_map suc o))
+    one : (b : Bool) (o : Option ℕ) → position_from test (i + 1) xs ≡ option_map (λ j. i + 1 + j) o
+        → cond b (Some i) (position_from test (i + 1) xs) ≡ option_map (λ j. i + j) (cond b (Some zero) (option_map suc o))
     one true o e = let s : i ≡ i + 0 = omega arith in ap Some s
     one false o e = e ∙ later o
 
@@ -25,7 +27,8 @@ index_position test xs = position_from-zero test xs ∙ (from_index test 0 xs �
     same (Some j) = let e : 0 + j ≡ j = omega arith in ap Some e
 
 -- the first place is one that passes, where none before it does
-pub first_index : {X : Type 0} (test : X → Bool) (xs : List X) (k : ℕ) (x : X) → slice_get xs k ≡ Some x → test x ≡ true → ((j : ℕ) (y : X) → j < k → slice_get xs j ≡ Some y → test y ≡ false) → index_of test xs ≡ Some k
+pub first_index : {X : Type 0} (test : X → Bool) (xs : List X) (k : ℕ) (x : X) → slice_get xs k ≡ Some x → test x ≡ true
+    → ((j : ℕ) (y : X) → j < k → slice_get xs j ≡ Some y → test y ≡ false) → index_of test xs ≡ Some k
 first_index test [] k x at t before = cc
 first_index test (y ∷ xs) zero x at t before =
     let here : test y ≡ true = cc in
@@ -35,7 +38,8 @@ first_index test (y ∷ xs) (suc k) x at t before =
     ∙ ap (option_map suc) (first_index test xs k x at t (λ j z lt e. before (suc j) z (omega arith) e))
 
 -- the first element that passes is one that does, where none before it does
-pub first_found : {X : Type 0} (test : X → Bool) (xs : List X) (k : ℕ) (x : X) → slice_get xs k ≡ Some x → test x ≡ true → ((j : ℕ) (y : X) → j < k → slice_get xs j ≡ Some y → test y ≡ false) → find test xs ≡ Some x
+pub first_found : {X : Type 0} (test : X → Bool) (xs : List X) (k : ℕ) (x : X) → slice_get xs k ≡ Some x → test x ≡ true
+    → ((j : ℕ) (y : X) → j < k → slice_get xs j ≡ Some y → test y ≡ false) → find test xs ≡ Some x
 first_found test [] k x at t before = cc
 first_found test (y ∷ xs) zero x at t before =
     let same : y ≡ x = cc in
@@ -46,16 +50,19 @@ first_found test (y ∷ xs) (suc k) x at t before =
     ∙ first_found test xs k x at t (λ j z lt e. before (suc j) z (omega arith) e)
 
 -- an element that passes, of a list of which some do
-pub any_at : {X : Type 0} (test : X → Bool) (xs : List X) → list_any test xs ≡ true → (k : ℕ) × (x : X) × (slice_get xs k ≡ Some x) × (test x ≡ true)
+pub any_at : {X : Type 0} (test : X → Bool) (xs : List X) → list_any test xs ≡ true → (k : ℕ) × (x : X) × (slice_get xs k ≡ Some x)
+    × (test x ≡ true)
 any_at test [] any = cc
 any_at test (x ∷ xs) any =
-    elim (test x) as (λ b. test x ≡ b → (b || list_any test xs) ≡ true → (k : ℕ) × (y : _) × (slice_get (x ∷ xs) k ≡ Some y) × (test y ≡ true)) [
+    elim (test x) as (λ b. test x ≡ b → (b || list_any test xs) ≡ true → (k : ℕ) × (y : _) × (slice_get (x ∷ xs) k ≡ Some y)
+    × (test y ≡ true)) [
       | true ↦ λ t e. (zero, x, refl, t)
       | false ↦ λ t e. let h = any_at test xs e in (suc h.0, h.1, h.2, h.3)
     ] refl any
 
 -- where one passes, some do
-pub any_from : {X : Type 0} (test : X → Bool) (xs : List X) (k : ℕ) (x : X) → slice_get xs k ≡ Some x → test x ≡ true → list_any test xs ≡ true
+pub any_from : {X : Type 0} (test : X → Bool) (xs : List X) (k : ℕ) (x : X) → slice_get xs k ≡ Some x → test x ≡ true
+    → list_any test xs ≡ true
 any_from test [] k x at t = cc
 any_from test (y ∷ xs) zero x at t = let here : test y ≡ true = cc in ap (λ b. b || list_any test xs) here
 any_from test (y ∷ xs) (suc k) x at t = by (test y) (any_from test xs k x at t)

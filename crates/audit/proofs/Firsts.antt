@@ -1,11 +1,13 @@
 -- The first of a list: what a scan has shown.
-use Rattle.std.proofs.Common.{◌≡◌, ℕ, ◌<◌, ◌≤◌, inl, inr, Bool, false, List, Option, Some, None, length, get_or, refl, sym, ap, ◌∙◌, subst, slice_get}
+use Rattle.std.proofs.Common.{◌≡◌, ℕ, ◌<◌, ◌≤◌, inl, inr, Bool, false, List, Option, Some, None, length, get_or, refl, sym, ap, ◌∙◌, subst}
+use Rattle.std.proofs.Common.{slice_get}
 use Rattle.std.proofs.lemmas.Option.{slice_get_past, slice_get-get_or}
 use Rattle.std.proofs.lemmas.Bool.{cases_lt}
 use Rattle.audit.specs.Places.{on}
 
 -- a test at an element that is there
-pub on_some : {X : Type 0} (xs : List X) (k : ℕ) (x : X) (test : X → Bool) (b : Bool) → slice_get xs k ≡ Some x → test x ≡ b → on (slice_get xs k) test ≡ b
+pub on_some : {X : Type 0} (xs : List X) (k : ℕ) (x : X) (test : X → Bool) (b : Bool) → slice_get xs k ≡ Some x → test x ≡ b
+    → on (slice_get xs k) test ≡ b
 on_some xs k x test b at t = ap (λ o. on o test) at ∙ t
 
 -- no test passes past the end
@@ -18,12 +20,17 @@ on_never None test never = refl
 on_never (Some x) test never = never x
 
 -- a test at a part of a router, or of the like
-pub part_at : {X Y : Type 0} (xs : List X) (r : ℕ) (x : X) (parts : X → List Y) (k : ℕ) (y : Y) (test : X → Y → Bool) (b : Bool) → slice_get xs r ≡ Some x → slice_get (parts x) k ≡ Some y → test x y ≡ b → on (slice_get xs r) (λ x. on (slice_get (parts x) k) (test x)) ≡ b
-part_at xs r x parts k y test b at there t = on_some xs r x (λ x. on (slice_get (parts x) k) (test x)) b at (on_some (parts x) k y (test x) b there t)
+pub part_at : {X Y : Type 0} (xs : List X) (r : ℕ) (x : X) (parts : X → List Y) (k : ℕ) (y : Y) (test : X → Y → Bool) (b : Bool)
+    → slice_get xs r ≡ Some x → slice_get (parts x) k ≡ Some y → test x y ≡ b
+    → on (slice_get xs r) (λ x. on (slice_get (parts x) k) (test x)) ≡ b
+part_at xs r x parts k y test b at there t =
+    on_some xs r x (λ x. on (slice_get (parts x) k) (test x)) b at (on_some (parts x) k y (test x) b there t)
 
 -- no test passes past the last part
-pub part_past : {X Y : Type 0} (xs : List X) (r : ℕ) (x : X) (parts : X → List Y) (k : ℕ) (test : X → Y → Bool) → slice_get xs r ≡ Some x → length (parts x) ≤ k → on (slice_get xs r) (λ x. on (slice_get (parts x) k) (test x)) ≡ false
-part_past xs r x parts k test at past = on_some xs r x (λ x. on (slice_get (parts x) k) (test x)) false at (on_past (parts x) k (test x) past)
+pub part_past : {X Y : Type 0} (xs : List X) (r : ℕ) (x : X) (parts : X → List Y) (k : ℕ) (test : X → Y → Bool) → slice_get xs r ≡ Some x
+    → length (parts x) ≤ k → on (slice_get xs r) (λ x. on (slice_get (parts x) k) (test x)) ≡ false
+part_past xs r x parts k test at past =
+    on_some xs r x (λ x. on (slice_get (parts x) k) (test x)) false at (on_past (parts x) k (test x) past)
 
 -- the element that a loop over ys, which are xs, holds stands at its index
 pub item_at : {X : Type 0} (xs ys : List X) (k : ℕ) (x : X) → ys ≡ xs → k < length ys → x ≡ get_or ys k x → slice_get xs k ≡ Some x
@@ -34,5 +41,6 @@ pub end_of : {X : Type 0} (xs ys : List X) (k : ℕ) → ys ≡ xs → length ys
 end_of xs ys k same past = subst (λ l. length l ≤ k) same past
 
 -- what no number below n passes, nor one from n on, none passes
-pub none_at_all : (test : ℕ → Bool) (n : ℕ) → ((k : ℕ) → n ≤ k → test k ≡ false) → ((j : ℕ) → j < n → test j ≡ false) → (k : ℕ) → test k ≡ false
+pub none_at_all : (test : ℕ → Bool) (n : ℕ) → ((k : ℕ) → n ≤ k → test k ≡ false) → ((j : ℕ) → j < n → test j ≡ false) → (k : ℕ)
+    → test k ≡ false
 none_at_all test n past before k = elim (cases_lt k n) [ inl lt ↦ before k lt | inr ge ↦ past k ge ]

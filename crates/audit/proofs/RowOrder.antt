@@ -6,8 +6,11 @@ use Rattle.table_image.specs.declared.row.Row.{Row}
 use Rattle.audit.proofs.Finding.{first_found}
 
 -- of rising rows, the one of a range is the only one
-pub only_row : (rows : List Row) (row : Row) (k : ℕ) (other : Row) → AreRising rows → slice_get rows k ≡ Some other → (other.start == row.start && other.end == row.end) ≡ true → Some other ≡ find (λ (other : Row). other.start == row.start && other.end == row.end) rows
-only_row rows row k other rise at same = sym (first_found (λ (other : Row). other.start == row.start && other.end == row.end) rows k other at same before)
+pub only_row : (rows : List Row) (row : Row) (k : ℕ) (other : Row) → AreRising rows → slice_get rows k ≡ Some other
+    → (other.start == row.start && other.end == row.end) ≡ true
+    → Some other ≡ find (λ (other : Row). other.start == row.start && other.end == row.end) rows
+only_row rows row k other rise at same =
+    sym (first_found (λ (other : Row). other.start == row.start && other.end == row.end) rows k other at same before)
   where
     starts : (r : Row) → (r.start == row.start && r.end == row.end) ≡ true → r.start ≡ row.start
     starts r t = eqb-true r.start row.start (and_parts _ _ t).0

@@ -7,41 +7,51 @@ use Rattle.table_image.specs.Internet.{Internet}
 use Rattle.audit.specs.Places.{on}
 use Rattle.audit.specs.Verdicts.{IsBefore}
 use Rattle.audit.specs.Firsts.{FirstNumber, FirstPlace}
-use Rattle.audit.specs.Rules.{lacks_row}
-use Rattle.audit.specs.RowRules.{row_breaks, lack_breaks, breaks_rows}
-use Rattle.audit.specs.declared.rows.RowRule.{RowRule}
-use Rattle.audit.specs.declared.rows.RowRule.TheVariants.{Ranges, Direct, Distances, Next, Steps}
+use Rattle.audit.specs.Rules.{lacks_row, row_breaks, lack_breaks, breaks_rows}
+use Rattle.audit.specs.declared.rule.Rule.{Rule}
+use Rattle.audit.specs.declared.rule.Rule.TheVariants.{CablesInOrder, StationsAddressed, RowsCoverCables, DirectRowsDirect, DistancesFit}
+use Rattle.audit.specs.declared.rule.Rule.TheVariants.{NextRoutersExist, DistancesFall}
 use Rattle.audit.proofs.Firsts.{on_past}
 
 -- a place whose router or cable has the number 0 lacks nothing
-no_router : (rule : RowRule) (i : Internet) (k : ℕ) → lack_breaks rule i zero k ≡ false
-no_router Ranges i k = refl
-no_router Direct i k = refl
-no_router Distances i k = refl
-no_router Next i k = refl
-no_router Steps i k = refl
+no_router : (rule : Rule) (i : Internet) (k : ℕ) → lack_breaks rule i zero k ≡ false
+no_router CablesInOrder i k = refl
+no_router StationsAddressed i k = refl
+no_router RowsCoverCables i k = refl
+no_router DirectRowsDirect i k = refl
+no_router DistancesFit i k = refl
+no_router NextRoutersExist i k = refl
+no_router DistancesFall i k = refl
 
-no_cable : (rule : RowRule) (i : Internet) (r : ℕ) → lack_breaks rule i (suc r) zero ≡ false
-no_cable Ranges i r = refl
-no_cable Direct i r = refl
-no_cable Distances i r = refl
-no_cable Next i r = refl
-no_cable Steps i r = refl
+no_cable : (rule : Rule) (i : Internet) (r : ℕ) → lack_breaks rule i (suc r) zero ≡ false
+no_cable CablesInOrder i r = refl
+no_cable StationsAddressed i r = refl
+no_cable RowsCoverCables i r = refl
+no_cable DirectRowsDirect i r = refl
+no_cable DistancesFit i r = refl
+no_cable NextRoutersExist i r = refl
+no_cable DistancesFall i r = refl
 
 -- past the last router nothing is lacking
-past_lack : (rule : RowRule) (i : Internet) (r k : ℕ) → length i.routers ≤ r → lack_breaks rule i (suc r) (suc k) ≡ false
-past_lack Ranges i r k past = on_past i.routers r (λ router. on (slice_get i.cables k) (lacks_row router)) past
-past_lack Direct i r k past = refl
-past_lack Distances i r k past = refl
-past_lack Next i r k past = refl
-past_lack Steps i r k past = refl
+past_lack : (rule : Rule) (i : Internet) (r k : ℕ) → length i.routers ≤ r → lack_breaks rule i (suc r) (suc k) ≡ false
+past_lack CablesInOrder i r k past = refl
+past_lack StationsAddressed i r k past = refl
+past_lack RowsCoverCables i r k past = on_past i.routers r (λ router. on (slice_get i.cables k) (lacks_row router)) past
+past_lack DirectRowsDirect i r k past = refl
+past_lack DistancesFit i r k past = refl
+past_lack NextRoutersExist i r k past = refl
+past_lack DistancesFall i r k past = refl
 
 -- no place of router r breaks the rule
-abbrev pub Keeps : RowRule → Internet → ℕ → Type 0
-Keeps rule i r = (k : ℕ) → (breaks_rows rule i (place.Row (suc r) (suc k)) ≡ false) × (breaks_rows rule i (place.Missing (suc r) (suc k)) ≡ false)
+abbrev pub Keeps : Rule → Internet → ℕ → Type 0
+Keeps rule i r = (k : ℕ) → (breaks_rows rule i (place.Row (suc r) (suc k)) ≡ false)
+    × (breaks_rows rule i (place.Missing (suc r) (suc k)) ≡ false)
 
 -- no earlier router breaks the rule, nor a row of this one, and k is its first cable that does
-pub first_missing_place : (rule : RowRule) (i : Internet) (r k : ℕ) → ((s : ℕ) → s < r → Keeps rule i s) → ((l : ℕ) → breaks_rows rule i (place.Row (suc r) (suc l)) ≡ false) → FirstNumber (λ k. breaks_rows rule i (place.Missing (suc r) (suc k))) (Some k) → FirstPlace (breaks_rows rule i) (Some (place.Missing (suc r) (suc k)))
+pub first_missing_place : (rule : Rule) (i : Internet) (r k : ℕ) → ((s : ℕ) → s < r → Keeps rule i s)
+    → ((l : ℕ) → breaks_rows rule i (place.Row (suc r) (suc l)) ≡ false)
+    → FirstNumber (λ k. breaks_rows rule i (place.Missing (suc r) (suc k))) (Some k)
+    → FirstPlace (breaks_rows rule i) (Some (place.Missing (suc r) (suc k)))
 first_missing_place rule i r k earlier rows here = (here.0, before)
   where
     before : (q : Place) → IsBefore q (place.Missing (suc r) (suc k)) → breaks_rows rule i q ≡ false
@@ -55,14 +65,16 @@ first_missing_place rule i r k earlier rows here = (here.0, before)
     before (place.Missing zero l) h = no_router rule i l
     before (place.Missing (suc s) zero) h = no_cable rule i s
     before (place.Missing (suc s) (suc l)) (inl lt) = (earlier s (omega arith) l).1
-    before (place.Missing (suc s) (suc l)) (inr w) = ap (λ n. breaks_rows rule i (place.Missing n (suc l))) w.0 ∙ here.1 l (omega (arith, w.1))
+    before (place.Missing (suc s) (suc l)) (inr w) =
+        ap (λ n. breaks_rows rule i (place.Missing n (suc l))) w.0 ∙ here.1 l (omega (arith, w.1))
     before (place.List s l) h = refl
     before (place.Cable l) h = refl
     before (place.Port s l) h = refl
     before (place.Node l) h = refl
 
 -- no router breaks the rule, and n is past the last one
-pub no_bad_row : (rule : RowRule) (i : Internet) (n : ℕ) → length i.routers ≤ n → ((s : ℕ) → s < n → Keeps rule i s) → FirstPlace (breaks_rows rule i) None
+pub no_bad_row : (rule : Rule) (i : Internet) (n : ℕ) → length i.routers ≤ n → ((s : ℕ) → s < n → Keeps rule i s)
+    → FirstPlace (breaks_rows rule i) None
 no_bad_row rule i n past each (place.Row zero k) = refl
 no_bad_row rule i n past each (place.Row (suc s) zero) = refl
 no_bad_row rule i n past each (place.Row (suc s) (suc k)) =

@@ -1,6 +1,8 @@
 -- The order in which rules are tried.
-use Rattle.std.proofs.Common.{◌≡◌, ℕ, zero, suc, ◌+◌, ◌<◌, ◌≤◌, inl, inr, ◌==◌, Bool, false, cond, Some, refl, ◌∙◌, arith, below_more}
+use Rattle.std.proofs.Common.{◌≡◌, ℕ, zero, suc, ◌+◌, ◌<◌, ◌≤◌, inl, inr, ◌==◌, Bool, false, cond, Some, refl, sym, subst, ◌∙◌, arith}
+use Rattle.std.proofs.Common.{below_more}
 use Rattle.std.proofs.lemmas.Bool.{cases_lt, ne_eqb, cond-false}
+use Rattle.at_base.specs.declared.error.Fault.{Fault}
 use Rattle.at_base.specs.declared.error.Place.{Place}
 use Rattle.table_image.specs.Internet.{Internet}
 use Rattle.audit.specs.Firsts.{FirstPlace}
@@ -25,8 +27,12 @@ otherwise b x y z e f = cond-false b x y e ∙ f
 -- there is no rule from 8 on
 pub no_more : (i : Internet) (rule : ℕ) (p : Place) → 8 ≤ rule → breaks i rule p ≡ false
 no_more i rule p past =
-    otherwise (rule == 1) (c1 i p) _ false (other 1 (omega arith)) (otherwise (rule == 2) (c2 i p) _ false (other 2 (omega arith)) (otherwise (rule == 3) (c3 i p) _ false (other 3 (omega arith)) (otherwise (rule == 4) (c4 i p) _ false (other 4 (omega arith))
-    (otherwise (rule == 5) (c5 i p) _ false (other 5 (omega arith)) (otherwise (rule == 6) (c6 i p) _ false (other 6 (omega arith)) (otherwise (rule == 7) (c7 i p) _ false (other 7 (omega arith)) refl))))))
+    otherwise (rule == 1) (c1 i p) _ false (other 1 (omega arith))
+    (otherwise (rule == 2) (c2 i p) _ false (other 2 (omega arith))
+    (otherwise (rule == 3) (c3 i p) _ false (other 3 (omega arith)) (otherwise (rule == 4) (c4 i p) _ false (other 4 (omega arith))
+    (otherwise (rule == 5) (c5 i p) _ false (other 5 (omega arith))
+    (otherwise (rule == 6) (c6 i p) _ false (other 6 (omega arith))
+    (otherwise (rule == 7) (c7 i p) _ false (other 7 (omega arith)) refl))))))
   where
     other : (n : ℕ) → n < 8 → (rule == n) ≡ false
     other n lt = ne_eqb rule n (λ e. omega arith)
@@ -35,5 +41,6 @@ pub all_kept : (i : Internet) → KeptBelow i 8 → Passes i
 all_kept i kept rule p = elim (cases_lt rule 8) [ inl lt ↦ kept rule lt p | inr ge ↦ no_more i rule p ge ]
 
 -- the first place that breaks a rule, where the rules before it are kept
-pub first_fault : (i : Internet) (rule : ℕ) (place : Place) → KeptBelow i rule → FirstPlace (breaks i rule) (Some place) → IsFirst i (record { rule = rule; place = place })
-first_fault i rule place kept first = record { broken = first.0; before = first.1; earlier = kept }
+pub first_fault : (i : Internet) (f : Fault) (rule : ℕ) (place : Place) → f ≡ record { rule = rule; place = place } → KeptBelow i rule
+    → FirstPlace (breaks i rule) (Some place) → IsFirst i f
+first_fault i f rule place is kept first = subst (IsFirst i) (sym is) (record { broken = first.0; before = first.1; earlier = kept })

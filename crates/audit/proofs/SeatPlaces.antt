@@ -107,7 +107,7 @@ node_seat_is first (node ∷ nodes) (suc k) s e =
       hardware = rest.hardware;
     }
 
--- A seat of an internet is a port, or a node that stands behind all ports.
+-- A seat of an internet is a port, or a node, which comes after all ports.
 pub data Sits (i : Internet) (j : ℕ) (s : Seat) : Type 0 where
   AtPort : IsPortSeat 0 i.routers j s → Sits i j s
   AtNode : (k : ℕ) → j ≡ length (router_seats 0 i.routers) + k → IsNodeSeat (length i.routers) i.nodes k s → Sits i j s

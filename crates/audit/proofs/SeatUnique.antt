@@ -1,6 +1,7 @@
 -- Where the cables stand in order and the stations are addressed, no two seats share an address, and no two on one cable
 -- share a hardware address.
-use Rattle.std.proofs.Common.{◌≡◌, ℕ, suc, ◌<◌, inl, inr, Bool, true, false, ◌||◌, ◌&&◌, List, Option, Some, None, length, take, refl, sym, ap, ◌∙◌, subst, arith, slice_get, ◌==◌, eqb-true, eq-eqb, true≢false}
+use Rattle.std.proofs.Common.{◌≡◌, ℕ, suc, ◌<◌, inl, inr, Bool, true, false, ◌||◌, ◌&&◌, List, Option, Some, None, length, take, refl, sym}
+use Rattle.std.proofs.Common.{ap, ◌∙◌, subst, arith, slice_get, ◌==◌, eqb-true, eq-eqb, true≢false}
 use Rattle.std.specs.List.{list_any}
 use Rattle.std.proofs.lemmas.Bool.{or_parts, and_parts, not-false, cases_order}
 use Rattle.at_base.specs.Text.{same_bytes}
@@ -44,7 +45,8 @@ alike_back s t (ByAddress e f) = ByAddress (sym e) (sym f)
 alike_back s t (ByHardware e f) = ByHardware (sym e) (sym f)
 
 -- seats that are alike clash
-clash : (s t : Seat) (a b : Addr) (g h : Hw) → s.address ≡ a → t.address ≡ b → s.hardware ≡ g → t.hardware ≡ h → AreAlike s t → (same_address b a || same_hardware h g) ≡ false → ⊥
+clash : (s t : Seat) (a b : Addr) (g h : Hw) → s.address ≡ a → t.address ≡ b → s.hardware ≡ g → t.hardware ≡ h → AreAlike s t
+    → (same_address b a || same_hardware h g) ≡ false → ⊥
 clash s t a b g h sa tb sg th (ByAddress e f) none =
     let net : b.net ≡ a.net = sym (ap (λ (a : Addr). a.net) tb) ∙ (sym e ∙ ap (λ (a : Addr). a.net) sa) in
     let node : b.node ≡ a.node = sym (ap (λ (a : Addr). a.node) tb) ∙ (sym f ∙ ap (λ (a : Addr). a.node) sa) in
@@ -60,7 +62,8 @@ on_true None test e = cc
 on_true (Some x) test e = (x, refl, e)
 
 -- an address is in the range of its cable
-in_range : (i : Internet) (cable : ℕ) (a : Addr) (h : Hw) → bad_address i cable a h ≡ false → (c : Cable) × At i.cables cable c × (is_between c.start c.end a.net ≡ true)
+in_range : (i : Internet) (cable : ℕ) (a : Addr) (h : Hw) → bad_address i cable a h ≡ false → (c : Cable) × At i.cables cable c
+    × (is_between c.start c.end a.net ≡ true)
 in_range i cable a h e =
     let one = or_parts _ _ e in
     let two = or_parts _ _ one.0 in
@@ -68,14 +71,20 @@ in_range i cable a h e =
     on_true (slice_get i.cables cable) (λ c. is_between c.start c.end a.net) (not-false _ three.0)
 
 module _ (i : Internet) (ok : Passes i) where
-  port_good : (r p : ℕ) (router : Router) (port : Port) → At i.routers r router → At router.ports p port → (bad_address i port.cable port.address port.hardware ≡ false) × (list_any (router_has port.address port.hardware) (take r i.routers) ≡ false) × (list_any (λ q. q.cable == port.cable) (take p router.ports) ≡ false)
+  port_good : (r p : ℕ) (router : Router) (port : Port) → At i.routers r router → At router.ports p port
+      → (bad_address i port.cable port.address port.hardware ≡ false)
+      × (list_any (router_has port.address port.hardware) (take r i.routers) ≡ false)
+      × (list_any (λ q. q.cable == port.cable) (take p router.ports) ≡ false)
   port_good r p router port er ep =
-      let here : on (slice_get i.routers r) (λ router. on (slice_get router.ports p) (bad_port i r p router)) ≡ bad_port i r p router port = ap (λ o. on o (λ router. on (slice_get router.ports p) (bad_port i r p router))) er ∙ ap (λ o. on o (bad_port i r p router)) ep in
+      let here : on (slice_get i.routers r) (λ router. on (slice_get router.ports p) (bad_port i r p router)) ≡ bad_port i r p router
+      port = ap (λ o. on o (λ router. on (slice_get router.ports p) (bad_port i r p router))) er
+      ∙ ap (λ o. on o (bad_port i r p router)) ep in
       let one = or_parts _ _ (sym here ∙ ok 2 (place.Port (suc r) (suc p))) in
       let two = or_parts _ _ one.0 in
       (two.0, two.1, one.1)
 
-  node_good : (k : ℕ) (node : Node) → At i.nodes k node → (list_any (router_has node.address node.hardware) i.routers ≡ false) × (list_any (node_has node.address node.hardware) (take k i.nodes) ≡ false)
+  node_good : (k : ℕ) (node : Node) → At i.nodes k node → (list_any (router_has node.address node.hardware) i.routers ≡ false)
+      × (list_any (node_has node.address node.hardware) (take k i.nodes) ≡ false)
   node_good k node e =
       let here : on (slice_get i.nodes k) (bad_node i k) ≡ bad_node i k node = ap (λ o. on o (bad_node i k)) e in
       let one = or_parts _ _ (sym here ∙ ok 2 (place.Node (suc k))) in
@@ -89,24 +98,29 @@ module _ (i : Internet) (ok : Passes i) where
   routers_apart j k s t a b alike before =
       let good = port_good b.r b.p b.router b.port b.known b.at in
       let none = none_before (router_has b.port.address b.port.hardware) i.routers b.r good.1 a.r a.router before a.known in
-      let apart = none_passes (λ p. same_address b.port.address p.address || same_hardware b.port.hardware p.hardware) a.router.ports none a.p a.port a.at in
+      let apart = none_passes (λ p. same_address b.port.address p.address || same_hardware b.port.hardware p.hardware) a.router.ports none
+      a.p a.port a.at in
       clash s t a.port.address b.port.address a.port.hardware b.port.hardware a.address b.address a.hardware b.hardware alike apart
 
   -- two ports of one router are on different cables, and so are their addresses
-  ports_apart : (j k : ℕ) (s t : Seat) (a : IsPortSeat 0 i.routers j s) (b : IsPortSeat 0 i.routers k t) → AreAlike s t → a.r ≡ b.r → a.p < b.p → ⊥
+  ports_apart : (j k : ℕ) (s t : Seat) (a : IsPortSeat 0 i.routers j s) (b : IsPortSeat 0 i.routers k t) → AreAlike s t → a.r ≡ b.r
+      → a.p < b.p → ⊥
   ports_apart j k s t a b alike same before =
       let mine = port_good a.r a.p a.router a.port a.known a.at in
       let good = port_good b.r b.p b.router b.port b.known b.at in
       let one : a.router ≡ b.router = at_one i.routers b.r a.router b.router (subst (λ r. At i.routers r a.router) same a.known) b.known in
       let theirs : At b.router.ports a.p a.port = subst (λ (router : Router). At router.ports a.p a.port) one a.at in
-      let apart : (a.port.cable == b.port.cable) ≡ false = none_before (λ q. q.cable == b.port.cable) b.router.ports b.p good.2 a.p a.port before theirs in
+      let apart : (a.port.cable == b.port.cable) ≡ false =
+      none_before (λ q. q.cable == b.port.cable) b.router.ports b.p good.2 a.p a.port before theirs in
       let on_one : a.port.cable ≡ b.port.cable → ⊥ = λ e. true≢false (sym (eq-eqb _ _ e) ∙ apart) in
       elim alike [
         | ByAddress e f ↦
             let u = in_range i a.port.cable a.port.address a.port.hardware mine.0 in
             let v = in_range i b.port.cable b.port.address b.port.hardware good.0 in
-            let net : b.port.address.net ≡ a.port.address.net = sym (ap (λ (a : Addr). a.net) b.address) ∙ (sym e ∙ ap (λ (a : Addr). a.net) a.address) in
-            on_one (one_cable i ok a.port.cable b.port.cable u.0 v.0 a.port.address.net u.1 v.1 u.2 (ap (is_between v.0.start v.0.end) (sym net) ∙ v.2))
+            let net : b.port.address.net ≡ a.port.address.net =
+            sym (ap (λ (a : Addr). a.net) b.address) ∙ (sym e ∙ ap (λ (a : Addr). a.net) a.address) in
+            on_one (one_cable i ok a.port.cable b.port.cable u.0 v.0 a.port.address.net u.1 v.1 u.2
+            (ap (is_between v.0.start v.0.end) (sym net) ∙ v.2))
         | ByHardware e f ↦ on_one (sym a.cable ∙ (e ∙ b.cable))
       ]
 
@@ -130,16 +144,19 @@ module _ (i : Internet) (ok : Passes i) where
   port_and_node j k s t a b alike =
       let good = node_good k b.node b.known in
       let none = none_passes (router_has b.node.address b.node.hardware) i.routers good.0 a.r a.router a.known in
-      let apart = none_passes (λ p. same_address b.node.address p.address || same_hardware b.node.hardware p.hardware) a.router.ports none a.p a.port a.at in
+      let apart = none_passes (λ p. same_address b.node.address p.address || same_hardware b.node.hardware p.hardware) a.router.ports none
+      a.p a.port a.at in
       clash s t a.port.address b.node.address a.port.hardware b.node.hardware a.address b.address a.hardware b.hardware alike apart
 
-  nodes_apart : (j k : ℕ) (s t : Seat) → IsNodeSeat (length i.routers) i.nodes j s → IsNodeSeat (length i.routers) i.nodes k t → AreAlike s t → j < k → ⊥
+  nodes_apart : (j k : ℕ) (s t : Seat) → IsNodeSeat (length i.routers) i.nodes j s → IsNodeSeat (length i.routers) i.nodes k t
+      → AreAlike s t → j < k → ⊥
   nodes_apart j k s t a b alike before =
       let good = node_good k b.node b.known in
       let apart = none_before (node_has b.node.address b.node.hardware) i.nodes k good.1 j a.node before a.known in
       clash s t a.node.address b.node.address a.node.hardware b.node.hardware a.address b.address a.hardware b.hardware alike apart
 
-  two_nodes : (j k : ℕ) (s t : Seat) → IsNodeSeat (length i.routers) i.nodes j s → IsNodeSeat (length i.routers) i.nodes k t → AreAlike s t → j ≡ k
+  two_nodes : (j k : ℕ) (s t : Seat) → IsNodeSeat (length i.routers) i.nodes j s → IsNodeSeat (length i.routers) i.nodes k t → AreAlike s t
+      → j ≡ k
   two_nodes j k s t a b alike =
       elim (cases_order j k) [
         | inl e ↦ e

@@ -1,5 +1,6 @@
 -- Where distances fall, next routers are there: rule C7 says more than rule C6.
-use Rattle.std.proofs.Common.{◌≡◌, ℕ, zero, suc, ◌+◌, Bool, true, false, not, ◌&&◌, ◌==◌, Option, Some, None, slice_get, refl, sym, ap, ◌∙◌, subst, arith, eqb-true, eq-eqb}
+use Rattle.std.proofs.Common.{◌≡◌, ℕ, zero, suc, ◌+◌, Bool, true, false, not, ◌&&◌, ◌==◌, Option, Some, None, slice_get, refl, sym, ap}
+use Rattle.std.proofs.Common.{◌∙◌, subst, arith, eqb-true, eq-eqb}
 use Rattle.std.proofs.lemmas.Bool.{ne_eqb}
 use Rattle.at_base.specs.declared.error.Place.{Place}
 use Rattle.at_base.specs.declared.error.Place.TheVariants as place
@@ -12,7 +13,8 @@ use Rattle.audit.specs.Rules.{c6, c7, next_router, is_no_other, bad_step, not_on
 use Rattle.audit.proofs.RowOrder.{only_row}
 
 -- a row is its own router's row of its range, which isn't one nearer
-own_row : (i : Internet) (r : ℕ) (router : Router) (k : ℕ) (row : Row) → slice_get i.routers r ≡ Some router → slice_get router.rows k ≡ Some row → AreRising router.rows → bad_step i row (Some r) ≡ true
+own_row : (i : Internet) (r : ℕ) (router : Router) (k : ℕ) (row : Row) → slice_get i.routers r ≡ Some router
+    → slice_get router.rows k ≡ Some row → AreRising router.rows → bad_step i row (Some r) ≡ true
 own_row i r router k row e f rise =
     let start : (row.start == row.start) ≡ true = eq-eqb row.start row.start refl in
     let end : (row.end == row.end) ≡ true = eq-eqb row.end row.end refl in
@@ -21,12 +23,14 @@ own_row i r router k row e f rise =
     let far : (row.distance + 1 == row.distance) ≡ false = ne_eqb (row.distance + 1) row.distance (λ h. omega arith) in
     ap (λ o. not_one_less row (same_row o row)) e ∙ (ap (not_one_less row) mine ∙ ap not far)
 
-core : (i : Internet) (r : ℕ) (row : Row) (d : Bool) (n : Option ℕ) → (not d && bad_step i row n) ≡ false → bad_step i row (Some r) ≡ true → (not d && is_no_other r n) ≡ false
+core : (i : Internet) (r : ℕ) (row : Row) (d : Bool) (n : Option ℕ) → (not d && bad_step i row n) ≡ false → bad_step i row (Some r) ≡ true
+    → (not d && is_no_other r n) ≡ false
 core i r row true n h own = refl
 core i r row false None h own = cc
 core i r row false (Some s) h own =
     elim (r == s) as (λ (b : Bool). (r == s) ≡ b → b ≡ false) [
-      | true ↦ λ e. (let same : r ≡ s = eqb-true r s e in let bad : bad_step i row (Some s) ≡ true = subst (λ (n : ℕ). bad_step i row (Some n) ≡ true) same own in sym bad ∙ h)
+      | true ↦ λ e. (let same : r ≡ s = eqb-true r s e in let bad : bad_step i row (Some s) ≡ true =
+          subst (λ (n : ℕ). bad_step i row (Some n) ≡ true) same own in sym bad ∙ h)
       | false ↦ λ e. refl
     ] refl
 
@@ -34,9 +38,11 @@ pub steps_keep_next : (i : Internet) → IsBounded i → ((p : Place) → c7 i p
 steps_keep_next i b kept (place.Row (suc r) (suc k)) = at_router (slice_get i.routers r) refl (kept (place.Row (suc r) (suc k)))
   where
     at_place : (router : Router) → slice_get i.routers r ≡ Some router → (o : Option Row) → slice_get router.rows k ≡ o
-        → on o (λ row. not (is_direct row) && bad_step i row (next_router i router row)) ≡ false → on o (λ row. not (is_direct row) && is_no_other r (next_router i router row)) ≡ false
+        → on o (λ row. not (is_direct row) && bad_step i row (next_router i router row)) ≡ false
+        → on o (λ row. not (is_direct row) && is_no_other r (next_router i router row)) ≡ false
     at_place router e None f h = refl
-    at_place router e (Some row) f h = core i r row (is_direct row) (next_router i router row) h (own_row i r router k row e f (b.each r router e).rising)
+    at_place router e (Some row) f h =
+        core i r row (is_direct row) (next_router i router row) h (own_row i r router k row e f (b.each r router e).rising)
 
     at_router : (o : Option Router) → slice_get i.routers r ≡ o
         → on o (λ router. on (slice_get router.rows k) (λ row. not (is_direct row) && bad_step i row (next_router i router row))) ≡ false

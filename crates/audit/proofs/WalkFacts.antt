@@ -1,5 +1,6 @@
 -- What the tests of the rules say of one cable, row or address.
-use Rattle.std.proofs.Common.{◌≡◌, ℕ, ◌+◌, ◌<◌, ◌≤◌, Bool, true, false, cond, Option, Some, None, length, refl, sym, ◌∙◌, subst, arith, slice_get, nat_lt, ◌==◌, is_some, option_and_then, eqb-true, true≢false}
+use Rattle.std.proofs.Common.{◌≡◌, ℕ, ◌+◌, ◌<◌, ◌≤◌, Bool, true, false, cond, Option, Some, None, length, refl, sym, ◌∙◌, subst, arith}
+use Rattle.std.proofs.Common.{slice_get, nat_lt, ◌==◌, is_some, option_and_then, eqb-true, true≢false}
 use Rattle.std.proofs.lemmas.Bool.Decides.{nat_tests}
 use Rattle.std.proofs.lemmas.Bool.{or_parts, and_parts, not-false, ltb-true}
 use Rattle.at_base.specs.declared.address.Addr.{Addr}
@@ -22,7 +23,14 @@ pub record GoodCable (before : ℕ) (c : Cable) : Type 0 where
   pub after : before < c.start
 
 pub good_cable : (before : ℕ) (c : Cable) → bad_cable before c ≡ false → GoodCable before c
-good_cable before c e = record { low = grind (arith, nat_tests); up = grind (arith, nat_tests); high = grind (arith, nat_tests); after = grind (arith, nat_tests) }
+good_cable before c e =
+    record {
+      low = grind (arith, nat_tests);
+      up = grind (arith, nat_tests);
+      high = grind (arith, nat_tests);
+      after =
+          grind (arith, nat_tests);
+    }
 
 pub between_is : (a b n : ℕ) → is_between a b n ≡ true → (a ≤ n) × (n ≤ b)
 between_is a b n e = (grind (arith, nat_tests), grind (arith, nat_tests))
@@ -49,7 +57,8 @@ pub not_both : (o : Option ℕ) (k : ℕ) → o ≡ None → o ≡ Some k → �
 not_both o k e f = cc
 
 -- a direct row is for a cable where the router has a port, by that port and at distance 0
-pub direct_is : (row : Row) (o : Option ℕ) → is_direct row ≡ true → bad_direct row o ≡ false → (p : ℕ) × (o ≡ Some p) × (row.port ≡ p) × (row.distance ≡ 0)
+pub direct_is : (row : Row) (o : Option ℕ) → is_direct row ≡ true → bad_direct row o ≡ false → (p : ℕ) × (o ≡ Some p) × (row.port ≡ p)
+    × (row.distance ≡ 0)
 direct_is row None d e = absurd (true≢false (sym d ∙ (or_parts (row.distance == 0) (is_direct row) e).1))
 direct_is row (Some p) d e =
     let h = and_parts _ _ (not-false _ e) in let g = and_parts _ _ h.0 in
@@ -64,26 +73,32 @@ pub other_is : (r : ℕ) (o : Option ℕ) → is_no_other r o ≡ false → (s :
 other_is r None e = cc
 other_is r (Some s) e = (s, refl)
 
-pub one_less_is : (row : Row) (o : Option Row) → not_one_less row o ≡ false → (other : Row) × (o ≡ Some other) × (other.distance + 1 ≡ row.distance)
+pub one_less_is : (row : Row) (o : Option Row) → not_one_less row o ≡ false → (other : Row) × (o ≡ Some other)
+    × (other.distance + 1 ≡ row.distance)
 one_less_is row None e = cc
 one_less_is row (Some other) e = (other, refl, eqb-true _ _ (not-false _ e))
 
 -- the next router owns the row's next address on the cable of the row's port
-pub next_is : (i : Internet) (router : Router) (row : Row) (s : ℕ) → next_router i router row ≡ Some s → (port : Port) × At router.ports row.port port × (owner i port.cable row.next ≡ Some s)
+pub next_is : (i : Internet) (router : Router) (row : Row) (s : ℕ) → next_router i router row ≡ Some s → (port : Port)
+    × At router.ports row.port port × (owner i port.cable row.next ≡ Some s)
 next_is i router row s e =
-    elim (slice_get router.ports row.port) as (λ o. option_and_then (λ port. owner i port.cable row.next) o ≡ Some s → (port : Port) × (o ≡ Some port) × (owner i port.cable row.next ≡ Some s)) [
+    elim (slice_get router.ports row.port) as (λ o. option_and_then (λ port. owner i port.cable row.next) o ≡ Some s → (port : Port)
+    × (o ≡ Some port) × (owner i port.cable row.next ≡ Some s)) [
       | None ↦ λ h. cc
       | Some port ↦ λ h. (port, refl, h)
     ] e
 
 -- an owner is the station of a seat that is found, and a router
-pub owner_is : (i : Internet) (c : ℕ) (a : Addr) (r : ℕ) → owner i c a ≡ Some r → ((s : Seat) × (seat_at i c a ≡ Some s) × (s.station ≡ r)) × (r < length i.routers)
+pub owner_is : (i : Internet) (c : ℕ) (a : Addr) (r : ℕ) → owner i c a ≡ Some r → ((s : Seat) × (seat_at i c a ≡ Some s) × (s.station ≡ r))
+    × (r < length i.routers)
 owner_is i c a r e = go (seat_at i c a) refl e
   where
-    pick : (s : Seat) (b : Bool) → nat_lt s.station (length i.routers) ≡ b → cond b (Some s.station) None ≡ Some r → (s.station ≡ r) × (r < length i.routers)
+    pick : (s : Seat) (b : Bool) → nat_lt s.station (length i.routers) ≡ b → cond b (Some s.station) None ≡ Some r → (s.station ≡ r)
+        × (r < length i.routers)
     pick s true f h = let same : s.station ≡ r = cc in (same, subst (λ n. n < length i.routers) same (ltb-true _ _ f))
     pick s false f h = cc
 
-    go : (o : Option Seat) → seat_at i c a ≡ o → router_of i o ≡ Some r → ((s : Seat) × (seat_at i c a ≡ Some s) × (s.station ≡ r)) × (r < length i.routers)
+    go : (o : Option Seat) → seat_at i c a ≡ o → router_of i o ≡ Some r → ((s : Seat) × (seat_at i c a ≡ Some s) × (s.station ≡ r))
+        × (r < length i.routers)
     go None f h = cc
     go (Some s) f h = let w = pick s (nat_lt s.station (length i.routers)) refl h in ((s, f, w.0), w.1)

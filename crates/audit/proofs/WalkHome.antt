@@ -50,7 +50,8 @@ module _ (i : Internet) (ok : Passes i) (n c : ℕ) (listed : home i n ≡ Some 
       ]
 
 -- a walk is the only one
-one_only : (i : Internet) (n r : ℕ) (rest others : List ℕ) (c d : ℕ) → IsWalk i n r rest c → IsWalk i n r others d → (others ≡ rest) × (d ≡ c)
+one_only : (i : Internet) (n r : ℕ) (rest others : List ℕ) (c d : ℕ) → IsWalk i n r rest c → IsWalk i n r others d → (others ≡ rest)
+    × (d ≡ c)
 one_only i n r [] [] c d w v = (refl, (let e = sym v ∙ w in cc))
 one_only i n r [] (s ∷ others) c d w v = let e = sym v.2 ∙ w in cc
 one_only i n r (s ∷ rest) [] c d w v = let e = sym v ∙ w.2 in cc

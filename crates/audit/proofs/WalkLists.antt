@@ -1,5 +1,6 @@
 -- What stands at places of lists, and what index_of, find and list_any say of it.
-use Rattle.std.proofs.Common.{◌≡◌, ℕ, zero, suc, ◌+◌, ◌<◌, ◌⊎◌, inl, inr, Bool, true, false, cond, ◌||◌, List, [], ◌∷◌, ◌++◌, Option, Some, None, length, take, map, refl, sym, ap, ◌∙◌, arith, slice_get, option_map, find}
+use Rattle.std.proofs.Common.{◌≡◌, ℕ, zero, suc, ◌+◌, ◌<◌, ◌⊎◌, inl, inr, Bool, true, false, cond, ◌||◌, List, [], ◌∷◌, ◌++◌, Option, Some}
+use Rattle.std.proofs.Common.{None, length, take, map, refl, sym, ap, ◌∙◌, arith, slice_get, option_map, find}
 use Rattle.std.specs.List.{list_any}
 use Rattle.std.proofs.lemmas.Bool.{or_parts}
 use Rattle.audit.specs.Places.{index_of}
@@ -24,7 +25,8 @@ at_one xs k x y e f = cc
 
 -- ---- The first place where a test holds
 
-index_step : (o : Option ℕ) (b : Bool) (k : ℕ) → cond b (Some zero) (option_map suc o) ≡ Some k → ((b ≡ true) × (k ≡ 0)) ⊎ ((b ≡ false) × ((j : ℕ) × (o ≡ Some j) × (k ≡ suc j)))
+index_step : (o : Option ℕ) (b : Bool) (k : ℕ) → cond b (Some zero) (option_map suc o) ≡ Some k → ((b ≡ true) × (k ≡ 0))
+    ⊎ ((b ≡ false) × ((j : ℕ) × (o ≡ Some j) × (k ≡ suc j)))
 index_step o true k e = inl (refl, cc)
 index_step None false k e = cc
 index_step (Some j) false k e = inr (refl, (j, refl, cc))
@@ -92,12 +94,13 @@ none_passes t (y ∷ xs) none zero x e =
 none_passes t (y ∷ xs) none (suc k) x e = none_passes t xs (or_parts (t y) (list_any t xs) none).1 k x e
 
 -- where none of the first m passes, an element before place m doesn't
-pub none_before : {X : Type 0} (t : X → Bool) (xs : List X) (m : ℕ) → list_any t (take m xs) ≡ false → (k : ℕ) (x : X) → k < m → At xs k x → t x ≡ false
+pub none_before : {X : Type 0} (t : X → Bool) (xs : List X) (m : ℕ) → list_any t (take m xs) ≡ false → (k : ℕ) (x : X) → k < m → At xs k x
+    → t x ≡ false
 none_before t xs m none k x below e = none_passes t (take m xs) none k x (at_take xs m k x below e)
 
 -- ---- Lists made of lists
 
--- an element of two lists in a row is in the first, or so far behind it in the second
+-- an element of two lists, one after the other, is in the first, or at the rest of its index in the second
 pub at_append : {X : Type 0} (xs ys : List X) (j : ℕ) (x : X) → At (xs ++ ys) j x → At xs j x ⊎ ((m : ℕ) × (j ≡ length xs + m) × At ys m x)
 at_append [] ys j x e = inr (j, omega arith, e)
 at_append (y ∷ xs) ys zero x e = inl e

@@ -1,6 +1,7 @@
 -- What a router does with a datagram over tables that pass: it stops at the home of the network, or hands on to a
 -- router that is one nearer.
-use Rattle.std.proofs.Common.{◌≡◌, ℕ, suc, ◌<◌, ◌≤◌, inl, inr, Bool, true, false, cond, ◌&&◌, not, Some, None, length, refl, sym, ap, ◌∙◌, subst, arith, slice_get, option_and_then, find, nat_lt, ◌==◌, is_some, eqb-true, eq-eqb}
+use Rattle.std.proofs.Common.{◌≡◌, ℕ, suc, ◌<◌, ◌≤◌, inl, inr, Bool, true, false, cond, ◌&&◌, not, Some, None, length, refl, sym, ap, ◌∙◌}
+use Rattle.std.proofs.Common.{subst, arith, slice_get, option_and_then, find, nat_lt, ◌==◌, is_some, eqb-true, eq-eqb}
 use Rattle.std.specs.List.{list_any}
 use Rattle.std.proofs.lemmas.Bool.{and_parts, not-false, cases_order, cases_Bool, ltb-false, false_from_ne_true}
 use Rattle.at_base.specs.declared.address.Addr.{Addr}
@@ -17,11 +18,13 @@ use Rattle.table_image.specs.declared.cable.Cable.{Cable}
 use Rattle.table_image.specs.declared.port.Port.{Port}
 use Rattle.table_image.specs.declared.row.Row.{Row}
 use Rattle.table_image.specs.declared.router.Router.{Router}
-use Rattle.audit.specs.Rules.{end_before, at_row, is_for, cable_of, bad_range, lacks_row, port_on, bad_direct, next_router, is_no_other, same_row, bad_step, Passes}
+use Rattle.audit.specs.Rules.{end_before, at_row, is_for, cable_of, bad_range, lacks_row, port_on, bad_direct, next_router, is_no_other}
+use Rattle.audit.specs.Rules.{same_row, bad_step, Passes}
 use Rattle.audit.specs.Walks.{Steps, Stops, Goes, HasPort}
 use Rattle.audit.proofs.WalkLists.{At, at_below, at_one, index_at, index_found, find_at, find_found, find_agree, find_none}
 use Rattle.audit.proofs.CableOrder.{good_at, rising, only_cable}
-use Rattle.audit.proofs.WalkFacts.{GoodCable, between_is, is_between_when, for_is, same_bool, some_of, not_both, direct_is, indirect_is, other_is, one_less_is, next_is, owner_is}
+use Rattle.audit.proofs.WalkFacts.{GoodCable, between_is, is_between_when, for_is, same_bool, some_of, not_both, direct_is, indirect_is}
+use Rattle.audit.proofs.WalkFacts.{other_is, one_less_is, next_is, owner_is}
 use Rattle.audit.proofs.SeatPlaces.{AtPort, AtNode, sits}
 
 -- the owner of an address on a cable has a port there
@@ -37,7 +40,15 @@ owner_has_port i c a r e =
       | AtPort s ↦
           let station = s.station in
           let same : s.r ≡ r = omega arith in
-          record { router = s.router; place = s.p; port = s.port; known = subst (λ r. At i.routers r s.router) same s.known; at = s.at; on = sym s.cable ∙ here }
+          record {
+            router = s.router;
+            place = s.p;
+            port = s.port;
+            known = subst (λ r. At i.routers r s.router) same s.known;
+            at =
+                s.at;
+            on = sym s.cable ∙ here;
+          }
       | AtNode k far s ↦ let station = s.station in absurd (omega arith)
     ]
 
@@ -48,7 +59,8 @@ module _ (i : Internet) (ok : Passes i) where
   cable_good k c e = good_at i k c (ok 1) e
 
   -- no network is on two cables
-  pub one_cable : (j k : ℕ) (a b : Cable) (n : ℕ) → At i.cables j a → At i.cables k b → is_between a.start a.end n ≡ true → is_between b.start b.end n ≡ true → j ≡ k
+  pub one_cable : (j k : ℕ) (a b : Cable) (n : ℕ) → At i.cables j a → At i.cables k b → is_between a.start a.end n ≡ true
+      → is_between b.start b.end n ≡ true → j ≡ k
   one_cable j k a b n ea eb ha hb =
       let x = between_is a.start a.end n ha in let y = between_is b.start b.end n hb in
       elim (cases_order j k) [
@@ -61,21 +73,26 @@ module _ (i : Internet) (ok : Passes i) where
 
   -- ---- The row of a router for a network
 
-  at_row_is : (r k : ℕ) (router : Router) (row : Row) (test : Router → Row → Bool) → At i.routers r router → At router.rows k row → at_row i r k test ≡ test router row
+  at_row_is : (r k : ℕ) (router : Router) (row : Row) (test : Router → Row → Bool) → At i.routers r router → At router.rows k row
+      → at_row i r k test ≡ test router row
   at_row_is r k router row test er ek =
       ap (λ o. on o (λ router. on (slice_get router.rows k) (test router))) er ∙ ap (λ o. on o (test router)) ek
 
   -- a row is usable, and for some cable
-  row_good : (r k : ℕ) (router : Router) (row : Row) → At i.routers r router → At router.rows k row → (is_usable row.state ≡ true) × ((c : ℕ) × (cable : Cable) × At i.cables c cable × (is_for row cable ≡ true))
+  row_good : (r k : ℕ) (router : Router) (row : Row) → At i.routers r router → At router.rows k row → (is_usable row.state ≡ true)
+      × ((c : ℕ) × (cable : Cable) × At i.cables c cable × (is_for row cable ≡ true))
   row_good r k router row er ek =
-      let good = not-false (is_usable row.state && is_some (cable_of i row)) (sym (at_row_is r k router row (bad_range i) er ek) ∙ ok 3 (place.Row (suc r) (suc k))) in
+      let good = not-false (is_usable row.state && is_some (cable_of i row)) (sym (at_row_is r k router row (bad_range i) er ek)
+      ∙ ok 3 (place.Row (suc r) (suc k))) in
       let parts = and_parts (is_usable row.state) (is_some (cable_of i row)) good in
       let known = some_of (cable_of i row) parts.1 in
       let w = index_at (is_for row) i.cables known.0 known.1 in
       (parts.0, (known.0, w.0, w.1, w.2))
 
   -- at a router, the rows that hold n are those for its cable
-  agree : (r : ℕ) (router : Router) (n c : ℕ) (cable : Cable) → At i.routers r router → At i.cables c cable → is_between cable.start cable.end n ≡ true → (k : ℕ) (row : Row) → At router.rows k row → (is_usable row.state && is_between row.start row.end n) ≡ is_for row cable
+  agree : (r : ℕ) (router : Router) (n c : ℕ) (cable : Cable) → At i.routers r router → At i.cables c cable
+      → is_between cable.start cable.end n ≡ true → (k : ℕ) (row : Row) → At router.rows k row
+      → (is_usable row.state && is_between row.start row.end n) ≡ is_for row cable
   agree r router n c cable er ec holds k row ek =
       let good = row_good r k router row er ek in
       let other = good.1.1 in
@@ -83,7 +100,8 @@ module _ (i : Internet) (ok : Passes i) where
       same_bool _ _
       (λ e.
       let h = between_is row.start row.end n (and_parts _ _ e).1 in
-      let same : good.1.0 ≡ c = one_cable good.1.0 c other cable n good.1.2 ec (is_between_when other.start other.end n (omega arith) (omega arith)) holds in
+      let same : good.1.0 ≡ c =
+      one_cable good.1.0 c other cable n good.1.2 ec (is_between_when other.start other.end n (omega arith) (omega arith)) holds in
       let one : other ≡ cable = at_one i.cables c other cable (subst (λ k. At i.cables k other) same good.1.2) ec in
       ap (is_for row) (sym one) ∙ good.1.3)
       (λ e.
@@ -91,12 +109,15 @@ module _ (i : Internet) (ok : Passes i) where
       let hn : is_between row.start row.end n ≡ true = is_between_when row.start row.end n (omega arith) (omega arith) in
       ap (λ b. b && is_between row.start row.end n) good.0 ∙ hn)
 
-  row_for_is : (r : ℕ) (router : Router) (n c : ℕ) (cable : Cable) → At i.routers r router → At i.cables c cable → is_between cable.start cable.end n ≡ true → row_for router.rows n ≡ find (λ row. is_for row cable) router.rows
+  row_for_is : (r : ℕ) (router : Router) (n c : ℕ) (cable : Cable) → At i.routers r router → At i.cables c cable
+      → is_between cable.start cable.end n ≡ true → row_for router.rows n ≡ find (λ row. is_for row cable) router.rows
   row_for_is r router n c cable er ec holds = find_agree _ _ router.rows (agree r router n c cable er ec holds)
 
-  has_row : (r : ℕ) (router : Router) (c : ℕ) (cable : Cable) → At i.routers r router → At i.cables c cable → list_any (λ row. is_for row cable) router.rows ≡ true
+  has_row : (r : ℕ) (router : Router) (c : ℕ) (cable : Cable) → At i.routers r router → At i.cables c cable
+      → list_any (λ row. is_for row cable) router.rows ≡ true
   has_row r router c cable er ec =
-      not-false _ (sym (ap (λ o. on o (λ router. on (slice_get i.cables c) (lacks_row router))) er ∙ ap (λ o. on o (lacks_row router)) ec) ∙ ok 3 (place.Missing (suc r) (suc c)))
+      not-false _ (sym (ap (λ o. on o (λ router. on (slice_get i.cables c) (lacks_row router))) er ∙ ap (λ o. on o (lacks_row router)) ec)
+      ∙ ok 3 (place.Missing (suc r) (suc c)))
 
   -- the row that a router has for a listed network
   record TheRow (r : ℕ) (router : Router) (n c : ℕ) : Type 0 where
@@ -127,60 +148,83 @@ module _ (i : Internet) (ok : Passes i) where
         same = g.2;
       }
 
-  distance_is : (r : ℕ) (router : Router) (n : ℕ) (row : Row) → At i.routers r router → row_for router.rows n ≡ Some row → distance i r n ≡ row.distance
+  distance_is : (r : ℕ) (router : Router) (n : ℕ) (row : Row) → At i.routers r router → row_for router.rows n ≡ Some row
+      → distance i r n ≡ row.distance
   distance_is r router n row er e =
       ap (λ o. distance_in (option_and_then (λ (router : Router). row_for router.rows n) o)) er ∙ ap distance_in e
 
-  hand_is : (r : ℕ) (router : Router) (n : ℕ) (row : Row) (port : Port) → At i.routers r router → row_for router.rows n ≡ Some row → At router.ports row.port port → hand i r n ≡ cond (is_direct row) (Here port.cable) (hand_to (owner i port.cable row.next) port.cable row.next)
+  hand_is : (r : ℕ) (router : Router) (n : ℕ) (row : Row) (port : Port) → At i.routers r router → row_for router.rows n ≡ Some row
+      → At router.ports row.port port
+      → hand i r n ≡ cond (is_direct row) (Here port.cable) (hand_to (owner i port.cable row.next) port.cable row.next)
   hand_is r router n row port er e ep =
       ap (λ o. hand_at i o n) er ∙ (ap (hand_by i router) e ∙ ap (hand_over i row) ep)
 
   -- a router whose row is direct puts the datagram on the cable of the row's port
-  stops_at : (r : ℕ) (router : Router) (n : ℕ) (row : Row) (port : Port) (c : ℕ) → At i.routers r router → row_for router.rows n ≡ Some row → At router.ports row.port port → is_direct row ≡ true → port.cable ≡ c → hand i r n ≡ Here c
+  stops_at : (r : ℕ) (router : Router) (n : ℕ) (row : Row) (port : Port) (c : ℕ) → At i.routers r router → row_for router.rows n ≡ Some row
+      → At router.ports row.port port → is_direct row ≡ true → port.cable ≡ c → hand i r n ≡ Here c
   stops_at r router n row port c er e ep direct on =
-      let by : hand i r n ≡ Here port.cable = hand_is r router n row port er e ep ∙ ap (λ b. cond b (Here port.cable) (hand_to (owner i port.cable row.next) port.cable row.next)) direct in
+      let by : hand i r n ≡ Here port.cable =
+      hand_is r router n row port er e ep
+      ∙ ap (λ b. cond b (Here port.cable) (hand_to (owner i port.cable row.next) port.cable row.next)) direct in
       by ∙ ap Here on
 
   -- a router whose row isn't direct hands it to the owner of the row's next address
-  goes_to : (r : ℕ) (router : Router) (n : ℕ) (row : Row) (port : Port) (s : ℕ) → At i.routers r router → row_for router.rows n ≡ Some row → At router.ports row.port port → is_direct row ≡ false → owner i port.cable row.next ≡ Some s → hand i r n ≡ On s port.cable row.next
+  goes_to : (r : ℕ) (router : Router) (n : ℕ) (row : Row) (port : Port) (s : ℕ) → At i.routers r router → row_for router.rows n ≡ Some row
+      → At router.ports row.port port → is_direct row ≡ false → owner i port.cable row.next ≡ Some s
+      → hand i r n ≡ On s port.cable row.next
   goes_to r router n row port s er e ep indirect own =
-      let by : hand i r n ≡ hand_to (owner i port.cable row.next) port.cable row.next = hand_is r router n row port er e ep ∙ ap (λ b. cond b (Here port.cable) (hand_to (owner i port.cable row.next) port.cable row.next)) indirect in
+      let by : hand i r n ≡ hand_to (owner i port.cable row.next) port.cable row.next =
+      hand_is r router n row port er e ep
+      ∙ ap (λ b. cond b (Here port.cable) (hand_to (owner i port.cable row.next) port.cable row.next)) indirect in
       by ∙ ap (λ o. hand_to o port.cable row.next) own
 
   -- ---- What the rules say of a row
 
-  direct_good : (r k : ℕ) (router : Router) (row : Row) (c : ℕ) → At i.routers r router → At router.rows k row → cable_of i row ≡ Some c → bad_direct row (port_on router c) ≡ false
+  direct_good : (r k : ℕ) (router : Router) (row : Row) (c : ℕ) → At i.routers r router → At router.rows k row → cable_of i row ≡ Some c
+      → bad_direct row (port_on router c) ≡ false
   direct_good r k router row c er ek of =
       let test : Router → Row → Bool = λ router row. on (cable_of i row) (λ c. bad_direct row (port_on router c)) in
-      let here : at_row i r k test ≡ bad_direct row (port_on router c) = at_row_is r k router row test er ek ∙ ap (λ o. on o (λ c. bad_direct row (port_on router c))) of in
+      let here : at_row i r k test ≡ bad_direct row (port_on router c) =
+      at_row_is r k router row test er ek ∙ ap (λ o. on o (λ c. bad_direct row (port_on router c))) of in
       sym here ∙ ok 4 (place.Row (suc r) (suc k))
 
   near_good : (r k : ℕ) (router : Router) (row : Row) → At i.routers r router → At router.rows k row → row.distance ≤ 14
   near_good r k router row er ek =
-      ltb-false 14 row.distance (sym (at_row_is r k router row (λ router row. nat_lt 14 row.distance) er ek) ∙ ok 5 (place.Row (suc r) (suc k)))
+      ltb-false 14 row.distance (sym (at_row_is r k router row (λ router row. nat_lt 14 row.distance) er ek)
+      ∙ ok 5 (place.Row (suc r) (suc k)))
 
-  next_good : (r k : ℕ) (router : Router) (row : Row) → At i.routers r router → At router.rows k row → is_direct row ≡ false → is_no_other r (next_router i router row) ≡ false
+  next_good : (r k : ℕ) (router : Router) (row : Row) → At i.routers r router → At router.rows k row → is_direct row ≡ false
+      → is_no_other r (next_router i router row) ≡ false
   next_good r k router row er ek indirect =
-      let rule : (not (is_direct row) && is_no_other r (next_router i router row)) ≡ false = sym (at_row_is r k router row (λ router row. not (is_direct row) && is_no_other r (next_router i router row)) er ek) ∙ ok 6 (place.Row (suc r) (suc k)) in
+      let rule : (not (is_direct row) && is_no_other r (next_router i router row)) ≡ false =
+      sym (at_row_is r k router row (λ router row. not (is_direct row) && is_no_other r (next_router i router row)) er ek)
+      ∙ ok 6 (place.Row (suc r) (suc k)) in
       ap (λ b. not b && is_no_other r (next_router i router row)) (sym indirect) ∙ rule
 
-  step_good : (r k : ℕ) (router : Router) (row : Row) → At i.routers r router → At router.rows k row → is_direct row ≡ false → bad_step i row (next_router i router row) ≡ false
+  step_good : (r k : ℕ) (router : Router) (row : Row) → At i.routers r router → At router.rows k row → is_direct row ≡ false
+      → bad_step i row (next_router i router row) ≡ false
   step_good r k router row er ek indirect =
-      let rule : (not (is_direct row) && bad_step i row (next_router i router row)) ≡ false = sym (at_row_is r k router row (λ router row. not (is_direct row) && bad_step i row (next_router i router row)) er ek) ∙ ok 7 (place.Row (suc r) (suc k)) in
+      let rule : (not (is_direct row) && bad_step i row (next_router i router row)) ≡ false =
+      sym (at_row_is r k router row (λ router row. not (is_direct row) && bad_step i row (next_router i router row)) er ek)
+      ∙ ok 7 (place.Row (suc r) (suc k)) in
       ap (λ b. not b && bad_step i row (next_router i router row)) (sym indirect) ∙ rule
 
   -- the row that another router has for n is the one with the range of a row for n's cable
-  their_row : (s : ℕ) (router : Router) (n c : ℕ) (cable : Cable) (row other : Row) → At i.routers s router → At i.cables c cable → is_between cable.start cable.end n ≡ true → is_for row cable ≡ true → same_row (slice_get i.routers s) row ≡ Some other → row_for router.rows n ≡ Some other
+  their_row : (s : ℕ) (router : Router) (n c : ℕ) (cable : Cable) (row other : Row) → At i.routers s router → At i.cables c cable
+      → is_between cable.start cable.end n ≡ true → is_for row cable ≡ true → same_row (slice_get i.routers s) row ≡ Some other
+      → row_for router.rows n ≡ Some other
   their_row s router n c cable row other es ec holds same found =
       let ends = for_is row cable same in
-      let agrees : (k : ℕ) (x : Row) → At router.rows k x → is_for x cable ≡ (x.start == row.start && x.end == row.end) = λ k x e. ap (λ m. x.start == m && x.end == cable.end) (sym ends.0) ∙ ap (λ m. x.start == row.start && x.end == m) (sym ends.1) in
+      let agrees : (k : ℕ) (x : Row) → At router.rows k x → is_for x cable ≡ (x.start == row.start && x.end == row.end) =
+      λ k x e. ap (λ m. x.start == m && x.end == cable.end) (sym ends.0) ∙ ap (λ m. x.start == row.start && x.end == m) (sym ends.1) in
       let theirs : same_row (Some router) row ≡ Some other = ap (λ o. same_row o row) (sym es) ∙ found in
       row_for_is s router n c cable es ec holds ∙ (find_agree _ _ router.rows agrees ∙ theirs)
 
   -- ---- The laws
 
   -- where the row is direct
-  steps_here : (r : ℕ) (router : Router) (n c : ℕ) (er : At i.routers r router) (t : TheRow r router n c) → is_direct t.row ≡ true → Steps i n c r
+  steps_here : (r : ℕ) (router : Router) (n c : ℕ) (er : At i.routers r router) (t : TheRow r router n c) → is_direct t.row ≡ true
+      → Steps i n c r
   steps_here r router n c er t direct =
       let row = t.row in
       let d = direct_is row (port_on router c) direct (direct_good r t.place_of router row c er t.at t.of) in
@@ -191,7 +235,8 @@ module _ (i : Internet) (ok : Passes i) where
       (record { router = router; place = row.port; port = w.0; known = er; at = ep; on = on })
 
   -- where it isn't
-  steps_on : (r : ℕ) (router : Router) (n c : ℕ) (er : At i.routers r router) (t : TheRow r router n c) → is_direct t.row ≡ false → Steps i n c r
+  steps_on : (r : ℕ) (router : Router) (n c : ℕ) (er : At i.routers r router) (t : TheRow r router n c) → is_direct t.row ≡ false
+      → Steps i n c r
   steps_on r router n c er t indirect =
       let row = t.row in
       let next = other_is r (next_router i router row) (next_good r t.place_of router row er t.at indirect) in
@@ -200,7 +245,8 @@ module _ (i : Internet) (ok : Passes i) where
       let port = via.0 in
       let known = owner_is i port.cable row.next s via.2 in
       let w = at_below i.routers s known.1 in
-      let less = one_less_is row (same_row (slice_get i.routers s) row) (ap (bad_step i row) (sym next.1) ∙ step_good r t.place_of router row er t.at indirect) in
+      let less = one_less_is row (same_row (slice_get i.routers s) row) (ap (bad_step i row) (sym next.1)
+      ∙ step_good r t.place_of router row er t.at indirect) in
       let mine = distance_is r router n row er t.found in
       let theirs = distance_is s w.0 n less.0 w.1 (their_row s w.0 n c t.cable row less.0 w.1 t.at_cable t.holds t.same less.1) in
       Goes s port.cable row.next
@@ -243,6 +289,7 @@ module _ (i : Internet) (ok : Passes i) where
       let z = for_is row cable good.1.3 in
       false_from_ne_true (is_usable row.state && is_between row.start row.end n) (λ e.
       let h = between_is row.start row.end n (and_parts (is_usable row.state) (is_between row.start row.end n) e).1 in
-      let f = index_found (λ c. is_between c.start c.end n) i.cables good.1.0 cable good.1.2 (is_between_when cable.start cable.end n (omega arith) (omega arith)) in
+      let f = index_found (λ c. is_between c.start c.end n) i.cables good.1.0 cable good.1.2
+      (is_between_when cable.start cable.end n (omega arith) (omega arith)) in
       not_both (home i n) f.0 unlisted f.1)) in
       ap (λ o. hand_at i o n) er ∙ ap (hand_by i router) none

@@ -1,4 +1,4 @@
--- Two small internets: one that passes, and one whose routers send a datagram round and round. (own)
+-- Two small internets: one that passes, and one whose routers send a datagram in a loop. This project's own.
 use Rattle.std.specs.Prelude.{ℕ, true, List, [], ◌∷◌, Some, codes}
 use Rattle.at_base.specs.declared.address.Addr.{Addr}
 use Rattle.at_base.specs.declared.address.Hw.{Hw}
@@ -26,7 +26,7 @@ port cable address byte = record { cable = cable; address = address; hardware = 
 abbrev pub direct : ℕ → ℕ → ℕ → Row
 direct start end port = record { start = start; end = end; distance = 0; port = port; next = addr 0 0; state = Good }
 
--- the row by way of a next router that is on the cable
+-- the row for the networks from start to end, at distance 1, with this next router
 abbrev pub by_way_of : Addr → ℕ → ℕ → ℕ → Row
 by_way_of next start end port = record { start = start; end = end; distance = 1; port = port; next = next; state = Good }
 
@@ -85,7 +85,7 @@ turned_router = record {
   lists = example_lists;
 }
 
--- The same cables, but neither router is on the last, and each holds that the other is.
+-- The same cables, but neither router is on the last, and each has the other as its next router there.
 abbrev pub pointing_at_each_other : Internet
 pointing_at_each_other = record { cables = example_cables; routers = first_router ∷ turned_router ∷ []; nodes = [] }
 

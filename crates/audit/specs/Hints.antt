@@ -1,4 +1,4 @@
--- Hints for the search of a router: which one may have a node's number on a cable. (own)
+-- Hints for the search of a router: which one may have a port with a node number on a cable. This project's own.
 use Rattle.std.specs.Prelude.{◌≡◌, ℕ, ◌+◌, ◌*◌, ◌<◌, ◌==◌, ◌⊎◌, Bool, true, List, Some, slice_get, slice_index_or}
 use Rattle.std.specs.List.{list_any}
 use Rattle.audit.specs.Places.{on}
@@ -6,11 +6,11 @@ use Rattle.table_image.specs.declared.port.Port.{Port}
 use Rattle.table_image.specs.declared.router.Router.{Router}
 use Rattle.audit.specs.declared.next.Hints.{Hints}
 
--- where the hint for a node's number on a cable stands
+-- the index of the hint for a node number on a cable
 abbrev pub hint_slot : ℕ → ℕ → ℕ
 hint_slot cable node = cable * 256 + node
 
--- where the hint for a port stands
+-- the index of the hint for a port
 abbrev pub port_slot : Port → ℕ
 port_slot port = hint_slot port.cable port.address.node
 
@@ -24,7 +24,8 @@ Names hints s ports = (p : ℕ) (port : Port) → slice_get ports p ≡ Some por
 
 -- a hint is as it was at first, or names router s and is that of one of the ports
 abbrev pub FirstOr : Hints → Hints → ℕ → List Port → ℕ → Type 0
-FirstOr hints first s ports slot = (hint_at hints slot ≡ hint_at first slot) ⊎ ((hint_at hints slot ≡ s) × (list_any (λ p. port_slot p == slot) ports ≡ true))
+FirstOr hints first s ports slot =
+    (hint_at hints slot ≡ hint_at first slot) ⊎ ((hint_at hints slot ≡ s) × (list_any (λ p. port_slot p == slot) ports ≡ true))
 
 -- the router has a port with this hint
 abbrev pub has_slot : ℕ → Router → Bool
@@ -36,4 +37,6 @@ IsHint hints routers slot = on (slice_get routers (hint_at hints slot)) (has_slo
 
 -- the hint for each port of the routers below n names a router that has such a port
 abbrev pub HasHintsBelow : Hints → List Router → ℕ → Type 0
-HasHintsBelow hints routers n = (s : ℕ) → s < n → (router : Router) → slice_get routers s ≡ Some router → (p : ℕ) (port : Port) → slice_get router.ports p ≡ Some port → IsHint hints routers (port_slot port)
+HasHintsBelow hints routers n =
+    (s : ℕ) → s < n → (router : Router) → slice_get routers s ≡ Some router → (p : ℕ) (port : Port) → slice_get router.ports p ≡ Some port
+    → IsHint hints routers (port_slot port)

@@ -3,7 +3,6 @@ pub mod Seats
 pub mod Routing
 pub mod Firsts
 pub mod Hints
-pub mod RowRules
 pub mod Rules
 pub mod Seen
 pub mod Verdicts

@@ -1,12 +1,12 @@
--- What stands at a place of a list. (own)
+-- The element at an index of a list, which may have none there. This project's own.
 use Rattle.std.specs.Prelude.{ℕ, zero, suc, Bool, false, cond, List, [], ◌∷◌, Option, Some, None, option_map}
 
--- the test at what is there, and false where nothing is
+-- the test of the element, and false without one
 abbrev pub on : {X : Type 0} → Option X → (X → Bool) → Bool
 on None test = false
 on (Some x) test = test x
 
--- the first place, from 0, at which the test holds
+-- the first index, from 0, of an element that passes the test
 abbrev pub index_of : {X : Type 0} → (X → Bool) → List X → Option ℕ
 index_of test [] = None
 index_of test (x ∷ xs) = cond (test x) (Some zero) (option_map suc (index_of test xs))

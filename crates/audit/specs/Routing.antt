@@ -1,4 +1,4 @@
--- Where routers hand a datagram on, by their tables. (Inside AppleTalk, the chapters on DDP and RTMP)
+-- Where routers forward a datagram, by their tables. Inside AppleTalk, the chapters on DDP and RTMP.
 use Rattle.std.specs.Prelude.{ℕ, ◌&&◌, cond, List, Option, Some, None, length, slice_get, find, nat_lt, option_and_then}
 use Rattle.at_base.specs.declared.address.Addr.{Addr}
 use Rattle.at_base.specs.Range.{is_between}

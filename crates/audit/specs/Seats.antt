@@ -1,4 +1,4 @@
--- The seats of an internet: which station is on which cable, by which addresses. (own)
+-- The seats of an internet: which station is on which cable, by which addresses. This project's own.
 use Rattle.std.specs.Prelude.{ℕ, suc, ◌&&◌, List, [], ◌∷◌, ◌++◌, Option, length, map, find, ◌==◌}
 use Rattle.at_base.specs.Address.{same_address}
 use Rattle.at_base.specs.declared.address.Addr.{Addr}
@@ -27,7 +27,8 @@ router_seats r (router ∷ routers) = map (port_seat r) router.ports ++ router_s
 -- the seats of nodes whose stations are numbered from s on
 abbrev pub node_seats : ℕ → List Node → List Seat
 node_seats s [] = []
-node_seats s (node ∷ nodes) = record { station = s; cable = node.cable; address = node.address; hardware = node.hardware } ∷ node_seats (suc s) nodes
+node_seats s (node ∷ nodes) =
+    record { station = s; cable = node.cable; address = node.address; hardware = node.hardware } ∷ node_seats (suc s) nodes
 
 -- the seats of an internet, in the stations' order
 abbrev pub seats : Internet → List Seat

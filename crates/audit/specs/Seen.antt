@@ -1,4 +1,4 @@
--- What a filter of addresses has seen. (own)
+-- What a filter of addresses has seen. This project's own.
 use Rattle.std.specs.Prelude.{◌≡◌, ℕ, ◌+◌, ◌*◌, ◌%◌, ◌<◌, ◌||◌, Bool, true, false, List, Some, slice_get, slice_index, slice_index_or}
 use Rattle.at_base.specs.declared.address.Addr.{Addr}
 use Rattle.at_base.specs.declared.address.Hw.{Hw}
@@ -6,11 +6,11 @@ use Rattle.table_image.specs.declared.port.Port.{Port}
 use Rattle.table_image.specs.declared.router.Router.{Router}
 use Rattle.audit.specs.declared.seen.Seen.{Seen}
 
--- where the mark of an address is
+-- the index of the mark of an address
 abbrev pub address_slot : Addr → ℕ
 address_slot a = (a.net + 256 * a.node) % 65536
 
--- where the mark of a hardware address is
+-- the index of the mark of a hardware address
 abbrev pub hardware_slot : Hw → ℕ
 hardware_slot h = slice_index h.0 5 + 256 * slice_index h.0 4
 

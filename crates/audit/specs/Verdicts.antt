@@ -1,8 +1,9 @@
--- Verdicts: which are right, and how they read. (own)
+-- Verdicts: which are right, and how they read. This project's own.
 use Rattle.std.specs.Prelude.{◌≡◌, ℕ, ◌<◌, ◌≤◌, ◌⊎◌, true, false, List, [], ◌∷◌, ◌++◌, length, map, max, sum_by, codes}
 use Rattle.std.specs.Fmt.{decimal}
 use Rattle.at_base.specs.declared.error.Place.{Place}
 use Rattle.at_base.specs.declared.error.Place.TheVariants.{Cable, Port, Node, Row, Missing, List as ZonesOf}
+use Rattle.at_base.specs.Texts.{place_text}
 use Rattle.at_base.specs.declared.error.Fault.{Fault}
 use Rattle.table_image.specs.Internet.{Internet}
 use Rattle.audit.specs.Rules.{breaks, Passes}
@@ -51,7 +52,14 @@ greatest_distance i = greatest_of (map (λ router. greatest_of (map (λ row. row
 
 -- the summary of an internet
 abbrev pub summary_of : Internet → Summary
-summary_of i = record { cables = length i.cables; routers = length i.routers; nodes = length i.nodes; rows = row_count i; greatest = greatest_distance i }
+summary_of i = record {
+  cables = length i.cables;
+  routers = length i.routers;
+  nodes = length i.nodes;
+  rows = row_count i;
+  greatest =
+      greatest_distance i;
+}
 
 -- the verdict is right: a yes where the internet passes, with its summary; a no with the first fault
 abbrev pub Judges : Internet → Verdict → Type 0
@@ -63,18 +71,10 @@ abbrev pub OnYes : Verdict → Type 0 → Type 0
 OnYes (Yes summary) P = P
 OnYes (No fault) P = Unit {0}
 
--- the place of a fault, as the program prints it
-abbrev pub place_text : Place → List ℕ
-place_text (Cable k) = codes "cable " ++ decimal k
-place_text (Port r p) = codes "router " ++ decimal r ++ codes " port " ++ decimal p
-place_text (Node k) = codes "node " ++ decimal k
-place_text (Row r k) = codes "router " ++ decimal r ++ codes " row " ++ decimal k
-place_text (Missing r k) = codes "router " ++ decimal r ++ codes " cable " ++ decimal k
-place_text (ZonesOf r k) = codes "router " ++ decimal r ++ codes " list " ++ decimal k
-
 -- the line of a verdict
 abbrev pub verdict_line : Verdict → List ℕ
 verdict_line (Yes s) =
-    codes "yes: " ++ decimal s.cables ++ codes " cables, " ++ decimal s.routers ++ codes " routers, " ++ decimal s.nodes ++ codes " nodes, "
+    codes "yes: " ++ decimal s.cables ++ codes " cables, " ++ decimal s.routers ++ codes " routers, " ++ decimal s.nodes
+    ++ codes " nodes, "
     ++ decimal s.rows ++ codes " rows, greatest distance " ++ decimal s.greatest
 verdict_line (No f) = codes "no: C" ++ decimal f.rule ++ codes " " ++ place_text f.place

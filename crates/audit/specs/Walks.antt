@@ -1,4 +1,4 @@
--- Walks of a datagram from router to router, over the tables of an internet. (own)
+-- Walks of a datagram from router to router, over the tables of an internet. This project's own.
 use Rattle.std.specs.Prelude.{◌≡◌, ◌≢◌, ℕ, ◌+◌, ◌≤◌, ◌<◌, true, List, [], ◌∷◌, length, Some, slice_get}
 use Rattle.at_base.specs.declared.address.Addr.{Addr}
 use Rattle.table_image.specs.Internet.{Internet}
@@ -52,9 +52,12 @@ pub record HasPort (i : Internet) (r c : ℕ) : Type 0 where
 -- there; or it hands it on to a router that is one nearer, over another cable where both have a port.
 pub data Steps (i : Internet) (n c r : ℕ) : Type 0 where
   Stops : hand i r n ≡ Here c → distance i r n ≡ 0 → HasPort i r c → Steps i n c r
-  Goes : (s d : ℕ) (a : Addr) → hand i r n ≡ On s d a → owner i d a ≡ Some s → s < length i.routers → distance i s n + 1 ≡ distance i r n → HasPort i r d → HasPort i s d → d ≢ c → Steps i n c r
+  Goes : (s d : ℕ) (a : Addr) → hand i r n ≡ On s d a → owner i d a ≡ Some s → s < length i.routers → distance i s n + 1 ≡ distance i r n
+      → HasPort i r d → HasPort i s d → d ≢ c → Steps i n c r
 
 -- No two seats share an address, and no two seats on one cable share a hardware address.
 pub record SeatsAreUnique (i : Internet) : Type 0 where
-  pub by_address : (j k : ℕ) (s t : Seat) → slice_get (seats i) j ≡ Some s → slice_get (seats i) k ≡ Some t → same_address s.address t.address ≡ true → j ≡ k
-  pub by_hardware : (j k : ℕ) (s t : Seat) → slice_get (seats i) j ≡ Some s → slice_get (seats i) k ≡ Some t → s.cable ≡ t.cable → same_hardware s.hardware t.hardware ≡ true → j ≡ k
+  pub by_address : (j k : ℕ) (s t : Seat) → slice_get (seats i) j ≡ Some s → slice_get (seats i) k ≡ Some t
+      → same_address s.address t.address ≡ true → j ≡ k
+  pub by_hardware : (j k : ℕ) (s t : Seat) → slice_get (seats i) j ≡ Some s → slice_get (seats i) k ≡ Some t → s.cable ≡ t.cable
+      → same_hardware s.hardware t.hardware ≡ true → j ≡ k

@@ -15,23 +15,23 @@ use at_base::Error;
 use std::alloc::Global;
 use table_image::read;
 
-/// Judges the internet whose image the bytes spell. Errors: `BadImage`, the first flaw of bytes
-/// that spell no image; `Memory`, only where they spell one. (own)
+/// Audits the internet whose image the bytes are (docs/FORMATS.md). Errors: `BadImage`, with the
+/// 0-based offset and the cause of the first fault, where the bytes are no image; `Memory`, only
+/// where they are one. This project's own.
 pub fn audit_bytes(alloc: Global, bytes: &[u8]) -> Result<Verdict, Error>
-    // The verdict is that of the image that the bytes spell.
+    // The verdict is that of the image that the bytes are.
     ensures judged { IfOk result (λ verdict.
         (i : Internet)
         × Spells image_spelling bytes.now i
         × Judges i verdict
         × OnYes verdict (WalksHome i)) }
-    // What is spelled so is judged, unless memory runs out.
+    // An image is audited, unless allocation fails.
     ensures only { (i : Internet)
         → Spells image_spelling bytes.now i
         → MatchResult result (Judges i) (λ e. e ≡ Error.Memory) }
-    // Where the bytes have a flaw, it is the answer.
+    // Other bytes are refused with their first fault.
     ensures first { (f : Flaw) → IsFirstFlaw bytes.now f → result ≡ Err (refusal bytes.now f) }
-    // A refusal is the first flaw, or for want of memory, and that only where the bytes spell an
-    // image.
+    // A refusal is the first fault, or out of memory, and that only where the bytes are an image.
     ensures refused { IfErr result (Refuses bytes.now) }
 {
     let image = read(alloc, bytes)?;

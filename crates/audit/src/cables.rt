@@ -1,4 +1,4 @@
-//! Rule C1: the cables stand in order.
+//! Rule C1: the ranges of the cables are valid and rise, and each cable has zones.
 
 ghost use Rattle.std.specs.Prelude.{◌≡◌, ◌<◌, suc, IfSome};
 ghost use Rattle.std.specs.List.{list_any};
@@ -7,7 +7,7 @@ ghost use Rattle.audit.specs.Firsts.{FirstNumber, FirstPlace};
 ghost use Rattle.audit.specs.Rules.{bad_cable as bad, c1, has_double as doubled};
 
 use crate::places::from_one;
-use at_base::{Name, Place};
+use at_base::{Name, Place, Range};
 use table_image::{Cable, Image};
 
 fn is_among(name: &Name, others: &[Name]) -> bool
@@ -28,9 +28,7 @@ fn has_double(zones: &[Name]) -> bool
 fn is_bad(before: u16, cable: &Cable) -> bool
     ensures { result ≡ bad before cable.now }
 {
-    cable.start == 0
-        || cable.end < cable.start
-        || 0xFEFF < cable.end
+    Range::new(cable.start, cable.end).is_err()
         || cable.start <= before
         || cable.zones.is_empty()
         || has_double(cable.zones.as_slice())
@@ -50,7 +48,7 @@ fn first_cable(image: &Image) -> Option<usize>
     None
 }
 
-/// The first cable that breaks rule C1.
+/// The first cable that breaks rule C1, if one does.
 pub(crate) fn bad_cable(image: &Image) -> Option<Place>
     ensures { FirstPlace (c1 image.now) result }
 {

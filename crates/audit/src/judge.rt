@@ -1,4 +1,4 @@
-//! The judge of an internet: the rules, one after the other.
+//! The audit of an internet: the rules, one after the other.
 
 ghost use Rattle.std.specs.Prelude.{None};
 ghost use Rattle.audit.specs.Firsts.{FirstPlace};
@@ -8,59 +8,62 @@ ghost use Rattle.audit.specs.Walks.{WalksHome};
 
 use crate::cables::bad_cable;
 use crate::next::Hints;
-use crate::rows::{RowRule, bad_row};
+use crate::rows::bad_row;
+use crate::rule::Rule;
 use crate::stations::bad_station;
 use crate::summary::summarize;
 use crate::verdict::Verdict;
-use at_base::{Fault, Place};
+use at_base::Place;
 use table_image::Image;
 
-// The first place that breaks C6. Where distances fall, each next router is there and is another
-// one, so the rows are gone through once more only where C7 is broken.
+// The first place that breaks C6. A row that breaks C6 breaks C7 too, so the rows are searched once
+// more only where C7 is broken.
 fn bad_next(image: &Image, hints: &Hints, steps: Option<Place>) -> Option<Place>
     requires cables { FirstPlace (c1 image.now) None }
     requires stations { FirstPlace (c2 image.now) None }
     requires steps { FirstPlace (c7 image.now) steps }
     ensures { FirstPlace (c6 image.now) result }
 {
-    // Reading the routers tells that their rows rise.
+    // For the prover alone: the contract of `routers` says that rows rise, without which C7 doesn't
+    // imply C6.
     let _routers = image.routers();
     match steps {
-        Some(_) => bad_row(image, hints, RowRule::Next),
+        Some(_) => bad_row(image, hints, Rule::NextRoutersExist),
         None => None,
     }
 }
 
-/// Judges an internet by the rules, and takes no memory.
+/// Audits an internet by the rules, in their order: yes with a summary, or the first place that
+/// breaks the first broken rule. It allocates nothing. This project's own.
 pub fn audit(image: &Image) -> Verdict
-    // The verdict is right: yes exactly where every rule is kept, and else the first fault of the
-    // first broken rule.
+    // The verdict is right: yes exactly where every rule is kept, otherwise the first place that
+    // breaks the first broken rule.
     ensures judged { Judges image.now result }
-    // One walk home: what a yes means for the ways of datagrams.
+    // After a yes each datagram to a listed network has exactly one walk, to that network's cable.
     ensures walks { OnYes result (WalksHome image.now) }
 {
     if let Some(place) = bad_cable(image) {
-        return Verdict::No(Fault { rule: 1, place });
+        return Verdict::No(Rule::CablesInOrder.broken_at(place));
     }
     if let Some(place) = bad_station(image) {
-        return Verdict::No(Fault { rule: 2, place });
+        return Verdict::No(Rule::StationsAddressed.broken_at(place));
     }
     let hints = Hints::of(image);
-    if let Some(place) = bad_row(image, &hints, RowRule::Ranges) {
-        return Verdict::No(Fault { rule: 3, place });
+    if let Some(place) = bad_row(image, &hints, Rule::RowsCoverCables) {
+        return Verdict::No(Rule::RowsCoverCables.broken_at(place));
     }
-    if let Some(place) = bad_row(image, &hints, RowRule::Direct) {
-        return Verdict::No(Fault { rule: 4, place });
+    if let Some(place) = bad_row(image, &hints, Rule::DirectRowsDirect) {
+        return Verdict::No(Rule::DirectRowsDirect.broken_at(place));
     }
-    if let Some(place) = bad_row(image, &hints, RowRule::Distances) {
-        return Verdict::No(Fault { rule: 5, place });
+    if let Some(place) = bad_row(image, &hints, Rule::DistancesFit) {
+        return Verdict::No(Rule::DistancesFit.broken_at(place));
     }
-    let steps = bad_row(image, &hints, RowRule::Steps);
+    let steps = bad_row(image, &hints, Rule::DistancesFall);
     if let Some(place) = bad_next(image, &hints, steps) {
-        return Verdict::No(Fault { rule: 6, place });
+        return Verdict::No(Rule::NextRoutersExist.broken_at(place));
     }
     if let Some(place) = steps {
-        return Verdict::No(Fault { rule: 7, place });
+        return Verdict::No(Rule::DistancesFall.broken_at(place));
     }
     Verdict::Yes(summarize(image))
 }

@@ -1,5 +1,5 @@
-//! The audit of an internet's tables: the rules, the verdict, and what a yes means for the ways of
-//! datagrams.
+//! The audit of an internet's routing tables: the rules, the verdict, and what a verdict of yes says
+//! about the routes of datagrams.
 #![tactic(auto)]
 
 mod bytes;
@@ -11,6 +11,7 @@ mod next;
 mod places;
 mod ranges;
 mod rows;
+mod rule;
 mod seen;
 mod stations;
 mod summary;
@@ -22,7 +23,8 @@ pub use laws::{
     distances_fit, each_step, loops_have_no_walk, one_walk_home, seats_are_unique,
     the_example_passes, unlisted_is_nowhere, words_exclude,
 };
+pub use rule::{MAX_DISTANCE, Rule};
 pub use verdict::{Summary, Verdict};
 
-#[cfg(test)]
-mod tests;
+// What the results are made of.
+pub use at_base::{Cause, Error, Fault, Place};

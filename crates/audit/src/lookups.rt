@@ -1,5 +1,6 @@
-//! What the rules about rows look up. Each look-up tries a hint first, since after rule C3 a
-//! router's row k is that of cable k; a wrong hint costs a search, and changes no answer.
+//! The look-ups of the rules about rows. Each tries a hint first, an index that is likely to be the
+//! one wanted: where rule C3 is kept, a router's row k is for cable k. A hint is verified before it
+//! is used; a wrong one costs a search, and changes no answer.
 
 ghost use Rattle.std.specs.Prelude.{◌≡◌, ◌==◌, ◌&&◌, None, Some, position, find};
 ghost use Rattle.std.specs.List.{list_any};
@@ -27,7 +28,7 @@ fn search_cables(cables: &[Cable], row: &Row) -> Option<usize>
     cables.iter().position(|c| is_for(row, c))
 }
 
-/// The cable that the row is for.
+/// The 0-based index of the cable that the row is for.
 pub(crate) fn cable_of(image: &Image, hint: usize, row: &Row) -> Option<usize>
     requires { FirstPlace (c1 image.now) None }
     ensures { result ≡ cable image.now row.now }
@@ -60,7 +61,7 @@ fn search_ports(ports: &[Port], cable: usize) -> Option<usize>
     ports.iter().position(|p| p.cable as usize == cable)
 }
 
-/// The router's port on the cable.
+/// The 0-based index of the router's port on the cable.
 pub(crate) fn port_on(router: &Router, cable: usize) -> Option<usize>
     ensures { result ≡ port router.now cable }
 {
@@ -116,7 +117,7 @@ fn search_routers(routers: &[Router], cable: u8, address: Addr) -> Option<usize>
         .position(|router| has_seat(router, cable, address))
 }
 
-/// The router that has the address on the cable.
+/// The 0-based index of the router that has a port with the address on the cable.
 pub(crate) fn owner(image: &Image, hint: usize, cable: u8, address: Addr) -> Option<usize>
     requires { FirstPlace (c2 image.now) None }
     ensures { result ≡ owner_at image.now cable address }

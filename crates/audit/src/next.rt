@@ -1,4 +1,4 @@
-//! Next routers: rule C6, that they are there, and rule C7, that they are one nearer.
+//! Next routers: rule C6, that they exist, and rule C7, that they are one router nearer.
 
 ghost use Rattle.std.specs.Prelude.{◌≡◌, ◌≢◌, ◌<◌, ◌&&◌, ℕ, not, None, length, slice_get};
 ghost use Rattle.table_image.specs.Rows.{is_direct as direct};
@@ -9,12 +9,11 @@ ghost use Rattle.audit.specs.Rules.{bad_step, is_no_other as no_other, next_rout
 ghost use Rattle.audit.specs.Rules.{same_row as same, not_one_less, c2};
 
 use crate::lookups::{owner, same_row};
-use crate::ranges::is_direct;
 use table_image::{Image, Port, Router, Row};
 
-/// For a cable and a node's number there, a router that may have the address: what it says is
-/// looked at before it is used. The network is left out, since a cable seldom has one node's number
-/// on two of its networks.
+/// For each cable and node number, a router that may have a port with that number there: a hint,
+/// verified before it is used. The network is left out, since a cable seldom has one node number on
+/// two of its networks.
 #[derive(Drop)]
 pub(crate) struct Hints {
     routers: [u8; 65536],
@@ -45,8 +44,8 @@ impl Hints {
         }
     }
 
-    /// The hints for the routers of the image: the hint for a port names a router that has one on
-    /// that cable by that node's number.
+    /// The hints for the routers of the image: that of each port names a router with a port on the
+    /// same cable, by the same node number.
     pub(crate) fn of(image: &Image) -> Hints
         ensures { HasHintsBelow result image.now.routers (length image.now.routers) }
     {
@@ -84,7 +83,7 @@ pub(crate) fn breaks_next(
     requires { FirstPlace (c2 image.now) None }
     ensures { result ≡ (not (direct row.now) && no_other r (next image.now router.now row.now)) }
 {
-    if is_direct(row) {
+    if row.is_direct() {
         return false;
     }
     match next_router(image, hints, router, row) {
@@ -133,5 +132,5 @@ pub(crate) fn breaks_steps(
         ≡ (not (direct row.now)
         && bad_step image.now row.now (next image.now router.now row.now)) }
 {
-    !is_direct(row) && is_bad_step(image, k, row, next_router(image, hints, router, row))
+    !row.is_direct() && is_bad_step(image, k, row, next_router(image, hints, router, row))
 }

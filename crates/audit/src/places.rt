@@ -1,8 +1,8 @@
-//! Places, as faults name them.
+//! Places, as faults name them: by numbers from 1.
 
 ghost use Rattle.std.specs.Prelude.{◌≡◌, ◌<◌, suc};
 
-/// The number by which a place names the thing that stands at `k` from 0.
+/// The 1-based number of the part with the 0-based index `k`.
 pub(crate) fn from_one(k: usize) -> u32
     requires { k < 256 }
     ensures { result ≡ suc k }

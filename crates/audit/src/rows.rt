@@ -1,34 +1,19 @@
-//! The rules about the rows of routers, C3 to C7: which place breaks one first.
+//! The rules about rows, C3 to C7: the first place that breaks one.
 
 ghost use Rattle.std.specs.Prelude.{◌≡◌, ◌<◌, suc, None, Some, IfSome, length, slice_get};
 ghost use Rattle.audit.specs.Firsts.{FirstNumber, FirstPlace};
-ghost use Rattle.audit.specs.Rules.{lacks_row as lacks, c1, c2, c3};
-ghost use Rattle.audit.specs.RowRules.{row_breaks, breaks_rows};
+ghost use Rattle.audit.specs.Rules.{lacks_row as lacks, c1, c2, c3, row_breaks, breaks_rows};
 
 use crate::lookups::has_row;
 use crate::next::{Hints, breaks_next, breaks_steps};
 use crate::places::from_one;
 use crate::ranges::{breaks_direct, breaks_ranges};
+use crate::rule::{MAX_DISTANCE, Rule};
 use at_base::Place;
 use table_image::{Cable, Image, Router, Row};
 
-/// A rule about rows.
-#[derive(Clone, Copy)]
-pub(crate) enum RowRule {
-    /// C3: each row is usable and for a cable, and each cable has one.
-    Ranges,
-    /// C4: the rows of cables that the router has a port on are direct, and no others.
-    Direct,
-    /// C5: distances fit.
-    Distances,
-    /// C6: next routers are there.
-    Next,
-    /// C7: distances fall.
-    Steps,
-}
-
 fn breaks(
-    rule: RowRule,
+    rule: Rule,
     image: &Image,
     hints: &Hints,
     r: usize,
@@ -41,21 +26,17 @@ fn breaks(
     ensures { result ≡ row_breaks rule image.now r router.now row.now }
 {
     match rule {
-        RowRule::Ranges => breaks_ranges(image, router, k, row),
-        RowRule::Direct => breaks_direct(image, router, k, row),
-        RowRule::Distances => 14 < row.distance,
-        RowRule::Next => breaks_next(image, hints, r, router, row),
-        RowRule::Steps => breaks_steps(image, hints, router, k, row),
+        // No row breaks a rule about cables or about stations.
+        Rule::CablesInOrder | Rule::StationsAddressed => false,
+        Rule::RowsCoverCables => breaks_ranges(image, router, k, row),
+        Rule::DirectRowsDirect => breaks_direct(image, router, k, row),
+        Rule::DistancesFit => MAX_DISTANCE < row.distance,
+        Rule::NextRoutersExist => breaks_next(image, hints, r, router, row),
+        Rule::DistancesFall => breaks_steps(image, hints, router, k, row),
     }
 }
 
-fn first_row(
-    image: &Image,
-    hints: &Hints,
-    rule: RowRule,
-    r: usize,
-    router: &Router,
-) -> Option<usize>
+fn first_row(image: &Image, hints: &Hints, rule: Rule, r: usize, router: &Router) -> Option<usize>
     requires cables { FirstPlace (c1 image.now) None }
     requires stations { FirstPlace (c2 image.now) None }
     requires at { slice_get image.now.routers r ≡ Some router.now }
@@ -91,7 +72,7 @@ fn first_lack(image: &Image, r: usize, router: &Router) -> Option<usize>
     None
 }
 
-fn first_missing(image: &Image, rule: RowRule, r: usize, router: &Router) -> Option<usize>
+fn first_missing(image: &Image, rule: Rule, r: usize, router: &Router) -> Option<usize>
     requires { slice_get image.now.routers r ≡ Some router.now }
     ensures first { FirstNumber
         (λ k. breaks_rows rule image.now (Place.Missing (suc r) (suc k)))
@@ -99,13 +80,18 @@ fn first_missing(image: &Image, rule: RowRule, r: usize, router: &Router) -> Opt
     ensures low { IfSome result (λ k. k < 200) }
 {
     match rule {
-        RowRule::Ranges => first_lack(image, r, router),
-        RowRule::Direct | RowRule::Distances | RowRule::Next | RowRule::Steps => None,
+        Rule::RowsCoverCables => first_lack(image, r, router),
+        Rule::CablesInOrder
+        | Rule::StationsAddressed
+        | Rule::DirectRowsDirect
+        | Rule::DistancesFit
+        | Rule::NextRoutersExist
+        | Rule::DistancesFall => None,
     }
 }
 
-/// The first place that breaks the rule.
-pub(crate) fn bad_row(image: &Image, hints: &Hints, rule: RowRule) -> Option<Place>
+/// The first place of a row, or of a cable without one, that breaks the rule.
+pub(crate) fn bad_row(image: &Image, hints: &Hints, rule: Rule) -> Option<Place>
     requires cables { FirstPlace (c1 image.now) None }
     requires stations { FirstPlace (c2 image.now) None }
     ensures { FirstPlace (breaks_rows rule image.now) result }

@@ -1,5 +1,5 @@
-//! A filter of the addresses that stations have: it says of almost every new address that no
-//! station before has it, so that few pairs of stations are compared.
+//! A filter of addresses: it says of almost every new address that no earlier station has it, so
+//! that few pairs of stations are compared.
 
 ghost use Rattle.std.specs.Prelude.{◌≡◌, ◌<◌};
 ghost use Rattle.audit.specs.Seen.{HasSeen, HasSeenNothing, HasSeenPorts, SeesMore};
@@ -8,7 +8,8 @@ ghost use Rattle.audit.specs.Seen.{address_slot, hardware_slot, may_have as has_
 use at_base::{Addr, Hw};
 use table_image::Port;
 
-/// A mark for each address and each hardware address that was seen; others may have the same mark.
+/// Marks of the addresses and hardware addresses that were seen. Two may share a mark, so a mark
+/// says only that an address may have been seen; one without a mark was not.
 #[derive(Drop)]
 pub(crate) struct Seen {
     addresses: [bool; 65536],
@@ -30,7 +31,7 @@ fn hardware_slot_of(h: &Hw) -> usize
 }
 
 impl Seen {
-    /// Nothing was seen yet.
+    /// The filter that has seen nothing.
     pub(crate) fn new() -> Seen
         ensures { HasSeenNothing result }
     {
@@ -40,7 +41,7 @@ impl Seen {
         }
     }
 
-    /// Whether one of the two may have been seen.
+    /// Whether the address or the hardware address may have been seen.
     pub(crate) fn may_have(&self, a: Addr, h: &Hw) -> bool
         ensures { result ≡ has_mark self.now a h.now }
     {
@@ -55,7 +56,7 @@ impl Seen {
         self.hardware[hardware_slot_of(h)] = true;
     }
 
-    /// Sees the ports of a router.
+    /// Marks both addresses of each of the ports.
     pub(crate) fn add_ports(&mut self, ports: &[Port])
         ensures seen { HasSeenPorts self.new ports.now }
         ensures more { SeesMore self.old self.new }

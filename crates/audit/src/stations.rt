@@ -1,4 +1,4 @@
-//! Rule C2: stations are addressed.
+//! Rule C2: each station has an address of its cable, and no other station has one of its addresses.
 
 ghost use Rattle.std.specs.Prelude.{◌≡◌, ◌<◌, ◌≤◌, ◌==◌, ℕ, suc, false, Some, IfNone, IfSome};
 ghost use Rattle.std.specs.Prelude.{length, slice_get, take};
@@ -25,7 +25,7 @@ pub(crate) fn same_address(a: Addr, b: Addr) -> bool
 fn same_hardware(a: &Hw, b: &Hw) -> bool
     ensures { result ≡ same_hw a.now b.now }
 {
-    // The last byte first: stations of one make differ there.
+    // The last byte first: hardware addresses of one maker differ there.
     a.0[5] == b.0[5] && a.0 == b.0
 }
 
@@ -153,7 +153,7 @@ fn first_node(image: &Image, seen: &Seen) -> Option<usize>
     None
 }
 
-/// The first station that breaks rule C2.
+/// The first port or node that breaks rule C2, if one does.
 pub(crate) fn bad_station(image: &Image) -> Option<Place>
     ensures { FirstPlace (c2 image.now) result }
 {

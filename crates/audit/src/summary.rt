@@ -1,4 +1,4 @@
-//! What an internet has.
+//! The counts of an internet, and its greatest distance.
 
 ghost use Rattle.std.specs.Prelude.{◌≡◌, ◌<◌, ◌^◌, fold, length, max, sum_by};
 ghost use Rattle.audit.specs.Verdicts.{summary_of};

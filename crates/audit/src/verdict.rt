@@ -1,67 +1,66 @@
-//! Verdicts, and the line that tells one.
+//! Verdicts, and the line that the program prints for one.
 
 ghost use Rattle.std.specs.Prelude.{◌≡◌, IfOk, IsOkUnless, string_bytes};
-ghost use Rattle.audit.specs.Verdicts.{place_text, verdict_line};
+ghost use Rattle.audit.specs.Verdicts.{verdict_line};
 
-use at_base::{Error, Fault, Place};
+use at_base::{Error, Fault};
 use std::alloc::Global;
+use std::fmt;
 
-/// What an internet has, and the greatest distance of its routing table rows.
+/// How much an internet has, and how far its routers hold its cables to be. This project's own.
 #[derive(Clone, Copy, Debug, PartialEq, Eq)]
 pub struct Summary {
+    /// How many cables there are, at most 200.
     pub cables: u32,
+    /// How many routers there are, at most 200.
     pub routers: u32,
+    /// How many nodes there are, at most 200.
     pub nodes: u32,
+    /// How many rows the routing tables have, those of all routers together, at most 40,000.
     pub rows: u32,
+    /// The greatest distance of a row, in routers between its router and its cable; 0 without rows.
     pub greatest: u8,
 }
 
-/// The rules are kept, or this is the first place that breaks the first broken one.
+/// What the audit of an internet comes to. This project's own.
 #[derive(Clone, Copy, Debug, PartialEq, Eq)]
 pub enum Verdict {
+    /// Each rule is kept.
     Yes(Summary),
+    /// The first rule that is broken, and the first place that breaks it.
     No(Fault),
 }
 
-fn place_line(alloc: Global, place: &Place) -> Result<String, Error>
-    ensures ok { IfOk result (λ text. string_bytes text ≡ place_text place.now) }
-    ensures err { IsOkUnless result Error.Memory }
-{
-    let text = match place {
-        Place::Cable(k) => format!(in alloc; "cable {k}")?,
-        Place::Port(r, p) => format!(in alloc; "router {r} port {p}")?,
-        Place::Node(k) => format!(in alloc; "node {k}")?,
-        Place::Row(r, k) => format!(in alloc; "router {r} row {k}")?,
-        Place::Missing(r, k) => format!(in alloc; "router {r} cable {k}")?,
-        Place::List(r, k) => format!(in alloc; "router {r} list {k}")?,
-    };
-    Ok(text)
-}
+/// The longest line, in bytes: that of a summary with the greatest numbers that its fields have.
+const MAX_LINE: usize = 100;
 
-fn yes_line(alloc: Global, s: &Summary) -> Result<String, Error>
-    ensures ok { IfOk result (λ text. string_bytes text ≡ verdict_line (Verdict.Yes s.now)) }
-    ensures err { IsOkUnless result Error.Memory }
-{
-    let text = format!(in alloc;
-        "yes: {} cables, {} routers, {} nodes, {} rows, greatest distance {}",
-        s.cables, s.routers, s.nodes, s.rows, s.greatest
-    )?;
-    Ok(text)
+/// The line, as `yes: 3 cables, ..` or `no: C7 router 1 row 3`, without an end of line.
+impl fmt::Display for Verdict {
+    ghost use Rattle.std.specs.Prelude.{Some};
+
+    ghost output = { λ v. Some (verdict_line v) };
+
+    fn fmt<W: fmt::Write>(&self, f: &mut fmt::Formatter<W>) -> fmt::Result {
+        match self {
+            Verdict::Yes(s) => write!(
+                f,
+                "yes: {} cables, {} routers, {} nodes, {} rows, greatest distance {}",
+                s.cables, s.routers, s.nodes, s.rows, s.greatest
+            ),
+            Verdict::No(fault) => write!(f, "no: C{} {}", fault.rule, fault.place),
+        }
+    }
 }
 
 impl Verdict {
-    /// The line that tells the verdict, without an end of line. Errors: `Memory`.
+    /// The line of the verdict, without an end of line: at most 100 bytes. It is allocated by one
+    /// request. Error: `Memory`.
     pub fn line(&self, alloc: Global) -> Result<String, Error>
         ensures ok { IfOk result (λ text. string_bytes text ≡ verdict_line self.now) }
         ensures err { IsOkUnless result Error.Memory }
     {
-        match self {
-            Verdict::Yes(summary) => yes_line(alloc, summary),
-            Verdict::No(fault) => {
-                let place = place_line(alloc, &fault.place)?;
-                let text = format!(in alloc; "no: C{} {}", fault.rule, place)?;
-                Ok(text)
-            }
-        }
+        let mut text = String::with_capacity(alloc, MAX_LINE)?;
+        write!(text, "{self}")?;
+        Ok(text)
     }
 }

@@ -7,14 +7,14 @@ returns-in-Some-bad_row-2 c =
     let i = c.args.image.now in
     let below_3 = and_next i 2 (and_next i 1 (none_yet i) c.in_default.ensures) c.in_default-bad_station.ensures in
     let below_4 = and_next i 3 below_3 c.in_default-bad_row.ensures in
-    record { judged = first_fault i 4 c.in-Some-bad_row-2.place below_4 c.in-Some-bad_row-2.ensures; walks = tt }
+    record { judged = first_fault i _ 4 _ c.broken_at-in-Some-bad_row-2.ensures below_4 c.in-Some-bad_row-2.ensures; walks = tt }
 
 pub returns-in-Some-bad_row-3 : goal.returns-in-Some-bad_row-3
 returns-in-Some-bad_row-3 c =
     let i = c.args.image.now in
     let below_3 = and_next i 2 (and_next i 1 (none_yet i) c.in_default.ensures) c.in_default-bad_station.ensures in
     let below_5 = and_next i 4 (and_next i 3 below_3 c.in_default-bad_row.ensures) c.in_default-bad_row-2.ensures in
-    record { judged = first_fault i 5 c.in-Some-bad_row-3.place below_5 c.in-Some-bad_row-3.ensures; walks = tt }
+    record { judged = first_fault i _ 5 _ c.broken_at-in-Some-bad_row-3.ensures below_5 c.in-Some-bad_row-3.ensures; walks = tt }
 
 pub returns-in-Some-bad_next : goal.returns-in-Some-bad_next
 returns-in-Some-bad_next c =
@@ -22,7 +22,7 @@ returns-in-Some-bad_next c =
     let below_3 = and_next i 2 (and_next i 1 (none_yet i) c.in_default.ensures) c.in_default-bad_station.ensures in
     let below_5 = and_next i 4 (and_next i 3 below_3 c.in_default-bad_row.ensures) c.in_default-bad_row-2.ensures in
     let below_6 = and_next i 5 below_5 c.in_default-bad_row-3.ensures in
-    record { judged = first_fault i 6 c.in-Some-bad_next.place below_6 c.in-Some-bad_next.ensures; walks = tt }
+    record { judged = first_fault i _ 6 _ c.broken_at-in-Some-bad_next.ensures below_6 c.in-Some-bad_next.ensures; walks = tt }
 
 pub returns-in-Some-steps : goal.returns-in-Some-steps
 returns-in-Some-steps c =
@@ -30,7 +30,7 @@ returns-in-Some-steps c =
     let below_3 = and_next i 2 (and_next i 1 (none_yet i) c.in_default.ensures) c.in_default-bad_station.ensures in
     let below_5 = and_next i 4 (and_next i 3 below_3 c.in_default-bad_row.ensures) c.in_default-bad_row-2.ensures in
     let below_7 = and_next i 6 (and_next i 5 below_5 c.in_default-bad_row-3.ensures) c.in_default-bad_next.ensures in
-    record { judged = first_fault i 7 c.in-Some-steps.place below_7 c.in-Some-steps.ensures; walks = tt }
+    record { judged = first_fault i _ 7 _ c.broken_at-in-Some-steps.ensures below_7 c.in-Some-steps.ensures; walks = tt }
 
 pub returns : goal.returns
 returns c =

@@ -12,4 +12,6 @@ returns-then-is_for c =
     only_cable c.args.image.now c.args.row.now c.args.hint c.in-Some.c.now c.requires at (sym c.is_for.ensures ∙ c.if-is_for.true)
 
 pub returns : goal.returns
-returns c = c.search_cables.ensures ∙ (ap (position (is_for c.args.row.now)) c.cables-cables.ensures.value ∙ index_position (is_for c.args.row.now) c.args.image.now.cables)
+returns c = c.search_cables.ensures
+    ∙ (ap (position (is_for c.args.row.now)) c.cables-cables.ensures.value
+    ∙ index_position (is_for c.args.row.now) c.args.image.now.cables)

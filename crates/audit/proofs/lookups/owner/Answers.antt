@@ -8,9 +8,12 @@ pub returns-then-has_seat : goal.returns-then-has_seat
 returns-then-has_seat c =
     let found = c.in-Some.ensures in
     let at = item_at c.args.image.now.routers _ c.args.hint _ c.routers-routers.ensures.value found.lookup.3.0 found.lookup.1 in
-    only_router c.args.cable c.args.address c.args.image.now c.args.hint c.in-Some.router.now c.requires at (sym c.has_seat.ensures ∙ c.if-has_seat.true)
+    only_router c.args.cable c.args.address c.args.image.now c.args.hint c.in-Some.router.now c.requires at (sym c.has_seat.ensures
+    ∙ c.if-has_seat.true)
 
 pub returns : goal.returns
 returns c =
     let has = has_seat c.args.cable c.args.address in
-    c.search_routers.ensures ∙ (ap (position has) c.routers-routers.ensures.value ∙ (index_position has c.args.image.now.routers ∙ owner_is c.args.cable c.args.address c.args.image.now))
+    c.search_routers.ensures
+    ∙ (ap (position has) c.routers-routers.ensures.value
+    ∙ (index_position has c.args.image.now.routers ∙ owner_is c.args.cable c.args.address c.args.image.now))

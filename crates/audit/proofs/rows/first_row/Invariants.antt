@@ -1,6 +1,6 @@
 use Rattle.std.proofs.Common.{◌≡◌, ℕ, suc, ◌<◌, false}
 use Rattle.at_base.specs.declared.error.Place.TheVariants as place
-use Rattle.audit.specs.RowRules.{breaks_rows}
+use Rattle.audit.specs.Rules.{breaks_rows}
 use Rattle.audit.proofs.rows.first_row.Given as goal
 
 abbrev pub invariant-loop-k : goal.invariant-loop-k

@@ -16,5 +16,7 @@ pub returns : goal.returns
 returns c =
     let routers = c.routers-routers.ensures.value in
     let rows = c.count_rows.ensures ∙ ap (sum_by (λ (router : Router). length router.rows)) routers in
-    let greatest = c.greatest_distance.ensures ∙ (ap (fold (λ g (router : Router). max g (fold (λ g row. max g row.distance) 0 router.rows)) 0) routers ∙ greatest_is c.args.image.now) in
+    let greatest = c.greatest_distance.ensures
+    ∙ (ap (fold (λ g (router : Router). max g (fold (λ g row. max g row.distance) 0 router.rows)) 0) routers
+    ∙ greatest_is c.args.image.now) in
     same_summary (ap length c.cables.ensures.value) (ap length routers) (ap length c.nodes.ensures.value) rows greatest

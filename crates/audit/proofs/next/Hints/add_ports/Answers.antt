@@ -12,9 +12,14 @@ loop-port-preserved c =
     let here = c.put.ensures.here in
     let others = c.put.ensures.others in
     let P : Port → Type 0 = λ port. hint_at new (port_slot port) ≡ c.args.s in
-    let last : (port : Port) → slice_get ports c.loop-port.port-index ≡ Some port → P port = λ port at. subst P (get_or_from_slice_get ports c.loop-port.port-index port _ at) here in
-    let own = own_slot ports c.loop-port.port-index _ (slice_get-get_or ports c.loop-port.port-index _ c.loop-port-test.true) in
-    (below_more (λ p. (port : Port) → slice_get ports p ≡ Some port → P port) _ (λ p lt port at. still_names new _ _ _ here others (port_slot port) (c.loop-port.invariant.0 p lt port at)) last, λ slot. first_or_new new _ _ _ _ ports here others own slot (c.loop-port.invariant.1 slot))
+    let last : (port : Port) → slice_get ports c.loop-port.port-index ≡ Some port → P port =
+    λ port at. subst P (get_or_from_slice_get ports c.loop-port.port-index port _ at) here in
+    let own = own_slot ports c.loop-port.port-index _ (slice_get-get_or ports c.loop-port.port-index _ c.loop-port-test.true) in (
+      below_more (λ p. (port : Port) → slice_get ports p ≡ Some port → P port) _
+          (λ p lt port at. still_names new _ _ _ here others (port_slot port) (c.loop-port.invariant.0 p lt port at)) last,
+      λ slot. first_or_new new _ _ _ _ ports here others own slot (c.loop-port.invariant.1 slot),
+    )
 
 pub returns-clause-each : goal.returns-clause-each
-returns-clause-each c p port at = let within = slice_get_within c.args.ports.now p port at in c.loop-port.invariant.0 p (omega (arith, within)) port at
+returns-clause-each c p port at = let within = slice_get_within c.args.ports.now p port at in
+    c.loop-port.invariant.0 p (omega (arith, within)) port at

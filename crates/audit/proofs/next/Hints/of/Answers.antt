@@ -19,5 +19,6 @@ loop-r-preserved c =
     let Each : List Port → Type 0 = λ l. Names new (r % 256) l in
     let Others : List Port → Type 0 = λ l. (slot : ℕ) → FirstOr new c.loop-r.hints (r % 256) l slot in
     let each = subst (λ s. Names new s ports) byte (subst Each c.as_slice.ensures c.add_ports.ensures.each) in
-    let others = subst (λ s. (slot : ℕ) → FirstOr new c.loop-r.hints s ports slot) byte (subst Others c.as_slice.ensures c.add_ports.ensures.others) in
+    let others = subst (λ s. (slot : ℕ) → FirstOr new c.loop-r.hints s ports slot) byte
+    (subst Others c.as_slice.ensures c.add_ports.ensures.others) in
     one_more new c.loop-r.hints routers r c.router-item.result at each others c.loop-r.invariant

@@ -9,8 +9,13 @@ loop-port-preserved c =
     let ports = c.args.ports.now in
     let seen = c.add.ensures.seen in
     let P : Port → Type 0 = λ port. HasSeen c.add.new.self port.address port.hardware in
-    let here : (port : Port) → slice_get ports c.loop-port.port-index ≡ Some port → HasSeen c.add.new.self port.address port.hardware = λ port at. subst P (get_or_from_slice_get ports c.loop-port.port-index port _ at) seen in
-    (below_more (λ p. (port : Port) → slice_get ports p ≡ Some port → HasSeen c.add.new.self port.address port.hardware) _ (λ p lt port at. c.add.ensures.more _ _ (c.loop-port.invariant.0 p lt port at)) here, λ a h had. c.add.ensures.more a h (c.loop-port.invariant.1 a h had))
+    let here : (port : Port) → slice_get ports c.loop-port.port-index ≡ Some port → HasSeen c.add.new.self port.address port.hardware =
+    λ port at. subst P (get_or_from_slice_get ports c.loop-port.port-index port _ at) seen in (
+      below_more (λ p. (port : Port) → slice_get ports p ≡ Some port → HasSeen c.add.new.self port.address port.hardware) _
+          (λ p lt port at. c.add.ensures.more _ _ (c.loop-port.invariant.0 p lt port at)) here,
+      λ a h had. c.add.ensures.more a h (c.loop-port.invariant.1 a h had),
+    )
 
 pub returns-clause-seen : goal.returns-clause-seen
-returns-clause-seen c p port at = let within = slice_get_within c.args.ports.now p port at in c.loop-port.invariant.0 p (omega (arith, within)) port at
+returns-clause-seen c p port at = let within = slice_get_within c.args.ports.now p port at in
+    c.loop-port.invariant.0 p (omega (arith, within)) port at

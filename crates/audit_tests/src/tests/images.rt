@@ -1,10 +1,14 @@
-//! Images of known bytes, and what is told of them.
+//! Images of known bytes, and the verdict lines of changed ones.
 
-use crate::audit_bytes;
 use at_base::Error;
+use audit::audit_bytes;
 use std::alloc::Global;
 use std::process::Abort;
 use std::test::Fail;
+
+/// The verdict line of `examples/three-cables.image`.
+pub(crate) const YES: &'static str =
+    "yes: 3 cables, 2 routers, 2 nodes, 6 rows, greatest distance 1";
 
 /// The bytes of `examples/three-cables.image`.
 pub(crate) const THREE_CABLES: [u8; 276] = [
@@ -28,20 +32,20 @@ pub(crate) const THREE_CABLES: [u8; 276] = [
     0x69, 0x74, 0x65, 0x72,
 ];
 
-fn told(alloc: Global, bytes: &[u8]) -> Result<String, Error> {
+fn line_once(alloc: Global, bytes: &[u8]) -> Result<String, Error> {
     audit_bytes(alloc, bytes)?.line(alloc)
 }
 
-/// A call that ran out of memory is made again: a test passes whichever request for memory is
-/// refused.
-pub(crate) fn told_again(alloc: Global, bytes: &[u8]) -> Result<String, Error> {
-    match told(alloc, bytes) {
-        Err(Error::Memory) => told(alloc, bytes),
+/// The verdict line of the image that the bytes are. A call that ran out of memory is made again: a
+/// test passes whichever allocation fails.
+pub(crate) fn line_of_bytes(alloc: Global, bytes: &[u8]) -> Result<String, Error> {
+    match line_once(alloc, bytes) {
+        Err(Error::Memory) => line_once(alloc, bytes),
         other => other,
     }
 }
 
-/// Puts these bytes in the place of others.
+/// Sets the bytes at these offsets.
 pub(crate) fn change(bytes: &mut [u8; 276], changes: &[(usize, u8)]) {
     for (at, value) in changes {
         if let Some(byte) = bytes.get_mut(*at) {
@@ -50,46 +54,46 @@ pub(crate) fn change(bytes: &mut [u8; 276], changes: &[(usize, u8)]) {
     }
 }
 
-/// The example with these bytes in the place of its own.
+/// The example with the bytes at these offsets set.
 pub(crate) fn changed(changes: &[(usize, u8)]) -> [u8; 276] {
     let mut bytes = THREE_CABLES;
     change(&mut bytes, changes);
     bytes
 }
 
-/// Whether each change of the example is told as it should be.
-pub(crate) fn each_is_told(
+/// Asserts the verdict line of the example with each of these changes.
+pub(crate) fn check_each(
     rt: &impl Abort,
     alloc: Global,
     cases: &[(&[(usize, u8)], &str)],
 ) -> Result<(), Fail> {
     for (changes, want) in cases {
-        let line = told_again(alloc, changed(changes).as_slice())?;
+        let line = line_of_bytes(alloc, changed(changes).as_slice())?;
         assert_eq!(rt; line.as_str(), *want, "{changes:?}");
     }
     Ok(())
 }
 
-/// What is told of the image of these parts.
-fn joined_told(alloc: Global, parts: &[&[u8]]) -> Result<String, Error> {
+/// The verdict line of the image that the parts are together.
+fn line_of_parts_once(alloc: Global, parts: &[&[u8]]) -> Result<String, Error> {
     let mut bytes = Vec::new(alloc);
     for part in parts {
         bytes.extend_from_slice(part)?;
     }
-    told(alloc, bytes.as_slice())
+    line_once(alloc, bytes.as_slice())
 }
 
-pub(crate) fn joined_told_again(alloc: Global, parts: &[&[u8]]) -> Result<String, Error> {
-    match joined_told(alloc, parts) {
-        Err(Error::Memory) => joined_told(alloc, parts),
+pub(crate) fn line_of_parts(alloc: Global, parts: &[&[u8]]) -> Result<String, Error> {
+    match line_of_parts_once(alloc, parts) {
+        Err(Error::Memory) => line_of_parts_once(alloc, parts),
         other => other,
     }
 }
 
-/// What is told of the cable 10-19 with these zones.
-pub(crate) fn cable_told(alloc: Global, zones: &[u8]) -> Result<String, Error> {
+/// The verdict line of the cable 10-19 with these zones.
+pub(crate) fn line_of_cable(alloc: Global, zones: &[u8]) -> Result<String, Error> {
     let head = [0x41, 0x54, 0x49, 0x4D, 1, 1, 0, 10, 0, 19];
-    joined_told_again(
+    line_of_parts(
         alloc,
         [head.as_slice(), zones, [0, 0].as_slice()].as_slice(),
     )

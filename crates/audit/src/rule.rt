@@ -1,0 +1,55 @@
+//! The rules of the audit, by name.
+
+ghost use Rattle.std.specs.Prelude.{◌≡◌};
+ghost use Rattle.audit.specs.Rules.{number_of};
+
+use at_base::{Fault, Place};
+
+/// The greatest distance, in routers, that a row may have: a datagram counts its hops in four bits,
+/// and a router drops it at 15.
+///
+/// Inside AppleTalk, the chapter on RTMP.
+pub const MAX_DISTANCE: u8 = 14;
+
+/// A rule of the audit. This project's own.
+#[derive(Clone, Copy, Debug, PartialEq, Eq)]
+pub enum Rule {
+    /// C1: the cables' ranges are valid and rise, and each cable has zones, none of them twice.
+    CablesInOrder,
+    /// C2: each port and node has an address of its cable, and no two have the same.
+    StationsAddressed,
+    /// C3: each row is usable and for a cable, and each router has a row for each cable.
+    RowsCoverCables,
+    /// C4: the rows of a router's own cables are direct, at distance 0, and no others are.
+    DirectRowsDirect,
+    /// C5: no distance is above `MAX_DISTANCE`.
+    DistancesFit,
+    /// C6: the next router of each row that isn't direct is another router on the same cable.
+    NextRoutersExist,
+    /// C7: the next router of each row that isn't direct is one router nearer.
+    DistancesFall,
+}
+
+impl Rule {
+    /// The number by which a fault and the verdict line name the rule: 3 for C3.
+    pub fn number(self) -> u8
+        ensures { result ≡ number_of self }
+    {
+        match self {
+            Rule::CablesInOrder => 1,
+            Rule::StationsAddressed => 2,
+            Rule::RowsCoverCables => 3,
+            Rule::DirectRowsDirect => 4,
+            Rule::DistancesFit => 5,
+            Rule::NextRoutersExist => 6,
+            Rule::DistancesFall => 7,
+        }
+    }
+
+    pub(crate) fn broken_at(self, place: Place) -> Fault
+        ensures { result ≡ record { rule = number_of self; place = place } }
+    {
+        let rule = self.number();
+        Fault { rule, place }
+    }
+}

@@ -1,0 +1,361 @@
+//! What just breaks each rule and what just keeps it, worked by hand from docs/RULES.md, with the
+//! offsets of docs/FORMATS.md; and each public function once.
+
+mod cases;
+mod images;
+mod lines;
+mod readme;
+mod stations;
+
+use audit::{
+    Cause, Error, Fault, MAX_DISTANCE, Place, Rule, Summary, Verdict, audit, distances_fit,
+    each_step, loops_have_no_walk, one_walk_home, seats_are_unique, the_example_passes,
+    unlisted_is_nowhere, words_exclude,
+};
+use images::{
+    BOTH, CABLES, SECOND, THREE_CABLES, YES, change, changed, line_of_bytes, line_of_cable,
+    line_of_parts, with_row,
+};
+use lines::line_again;
+use readme::report;
+use stations::{line_of_rows, line_of_stations};
+use std::alloc::Global;
+use std::test::Fail;
+
+#[test]
+fn the_example_has_this_line(rt: HostRuntime) -> Result<(), Fail> {
+    let line = line_of_bytes(rt.alloc(), THREE_CABLES.as_slice())?;
+    assert_eq!(rt; line.as_str(), YES);
+    Ok(())
+}
+
+#[test]
+fn an_internet_of_nothing_passes(rt: HostRuntime) -> Result<(), Fail> {
+    let bytes = [0x41, 0x54, 0x49, 0x4D, 0x01, 0x00, 0x00, 0x00];
+    let line = line_of_bytes(rt.alloc(), bytes.as_slice())?;
+    assert_eq!(rt;
+        line.as_str(),
+        "yes: 0 cables, 0 routers, 0 nodes, 0 rows, greatest distance 0"
+    );
+    Ok(())
+}
+
+#[test]
+fn a_byte_too_many_is_no_image(rt: HostRuntime) {
+    let bytes = [0x41, 0x54, 0x49, 0x4D, 0x01, 0x00, 0x00, 0x00, 0x00];
+    let refused = line_of_bytes(rt.alloc(), bytes.as_slice()).err();
+    assert_eq!(rt; refused, Some(Error::BadImage(8, Cause::Trailing)));
+}
+
+#[test]
+fn cables_stand_in_order(rt: HostRuntime) -> Result<(), Fail> {
+    cases::cables_stand_in_order(&rt, rt.alloc())
+}
+
+#[test]
+fn a_cable_has_zones_and_none_twice(rt: HostRuntime) -> Result<(), Fail> {
+    for (zones, want) in [
+        ([0].as_slice(), "no: C1 cable 1"),
+        ([2, 1, b'Z', 1, b'z'].as_slice(), "no: C1 cable 1"),
+        ([3, 1, b'Z', 1, b'y', 1, b'z'].as_slice(), "no: C1 cable 1"),
+        ([3, 1, b'y', 1, b'Z', 1, b'z'].as_slice(), "no: C1 cable 1"),
+        (
+            [2, 1, b'Z', 1, b'y'].as_slice(),
+            "yes: 1 cables, 0 routers, 0 nodes, 0 rows, greatest distance 0",
+        ),
+    ] {
+        let line = line_of_cable(rt.alloc(), zones)?;
+        assert_eq!(rt; line.as_str(), want);
+    }
+    Ok(())
+}
+
+#[test]
+fn stations_have_addresses_of_their_cables(rt: HostRuntime) -> Result<(), Fail> {
+    cases::stations_have_addresses_of_their_cables(&rt, rt.alloc())
+}
+
+#[test]
+fn no_two_stations_have_one_address(rt: HostRuntime) -> Result<(), Fail> {
+    cases::no_two_stations_have_one_address(&rt, rt.alloc())
+}
+
+#[test]
+fn stations_far_apart_have_addresses_of_their_own(rt: HostRuntime) -> Result<(), Fail> {
+    // Three routers and three nodes on the cable 10-19: the number n of each address 10.n, and the
+    // last byte of the hardware address. Of two of one kind, the one between them has others.
+    let routers = [(1, 1), (2, 2), (3, 3)];
+    let nodes = [(4, 4), (5, 5), (6, 6)];
+    let yes = "yes: 1 cables, 3 routers, 3 nodes, 3 rows, greatest distance 0";
+    for (routers, nodes, want) in [
+        (routers, nodes, yes),
+        ([(1, 1), (2, 2), (1, 3)], nodes, "no: C2 router 3 port 1"),
+        ([(1, 1), (2, 2), (3, 1)], nodes, "no: C2 router 3 port 1"),
+        ([(1, 1), (2, 2), (3, 2)], nodes, "no: C2 router 3 port 1"),
+        (routers, [(4, 4), (5, 5), (4, 6)], "no: C2 node 3"),
+        (routers, [(4, 4), (5, 5), (6, 4)], "no: C2 node 3"),
+        (routers, [(4, 4), (5, 5), (5, 6)], "no: C2 node 3"),
+        (routers, [(4, 4), (5, 5), (1, 6)], "no: C2 node 3"),
+        (routers, [(4, 4), (5, 5), (6, 1)], "no: C2 node 3"),
+        (routers, [(4, 4), (2, 5), (6, 6)], "no: C2 node 2"),
+    ] {
+        let line = line_of_stations(rt.alloc(), &routers, &nodes)?;
+        assert_eq!(rt; line.as_str(), want, "{routers:?} {nodes:?}");
+    }
+    Ok(())
+}
+
+#[test]
+fn rows_are_for_cables_and_direct_rows_direct(rt: HostRuntime) -> Result<(), Fail> {
+    cases::rows_are_for_cables_and_direct_rows_direct(&rt, rt.alloc())
+}
+
+#[test]
+fn distances_fit_and_next_routers_are_there(rt: HostRuntime) -> Result<(), Fail> {
+    cases::distances_fit_and_next_routers_are_there(&rt, rt.alloc())
+}
+
+#[test]
+fn the_next_router_is_one_nearer(rt: HostRuntime) -> Result<(), Fail> {
+    // Router 2 stands on the first two cables, and each router holds the other for the way to the
+    // third. They are as near as each other; then the first is one further away than the second.
+    for (distance, want) in [
+        (1, "no: C7 router 1 row 3"),
+        (2, "no: C7 router 2 row 3"),
+        (3, "no: C7 router 1 row 3"),
+    ] {
+        let mut bytes = changed([(140, 0), (142, 10), (143, 2), (86, distance)].as_slice());
+        change(
+            &mut bytes,
+            [(155, 0), (156, 1), (158, 0), (159, 0)].as_slice(),
+        );
+        change(
+            &mut bytes,
+            [(175, 1), (176, 0), (178, 20), (179, 1)].as_slice(),
+        );
+        let line = line_of_bytes(rt.alloc(), bytes.as_slice())?;
+        assert_eq!(rt; line.as_str(), want, "{distance}");
+    }
+    Ok(())
+}
+
+#[test]
+fn rules_are_tried_in_their_order(rt: HostRuntime) -> Result<(), Fail> {
+    cases::rules_are_tried_in_their_order(&rt, rt.alloc())
+}
+
+#[test]
+fn a_missing_cable_comes_after_the_rows(rt: HostRuntime) -> Result<(), Fail> {
+    let good = with_row(2, 0);
+    let bad = with_row(3, 2);
+    let good = good.as_slice();
+    let bad = bad.as_slice();
+    for (first, second, want) in [
+        (BOTH.as_slice(), good, "no: C3 router 2 cable 2"),
+        (good, BOTH.as_slice(), "no: C3 router 1 cable 2"),
+        (good, bad, "no: C3 router 1 cable 2"),
+        (bad, good, "no: C3 router 1 row 1"),
+        ([0, 0, 0].as_slice(), bad, "no: C3 router 1 cable 1"),
+    ] {
+        let parts = [CABLES.as_slice(), first, second, [0].as_slice()];
+        let line = line_of_parts(rt.alloc(), parts.as_slice())?;
+        assert_eq!(rt; line.as_str(), want);
+    }
+    Ok(())
+}
+
+#[test]
+fn any_router_may_miss_any_cable(rt: HostRuntime) -> Result<(), Fail> {
+    // Three routers, each with rows for those of the cables 1 to 3 that are listed.
+    let all = [1, 2, 3].as_slice();
+    let no_1 = [2, 3].as_slice();
+    let no_2 = [1, 3].as_slice();
+    let no_3 = [1, 2].as_slice();
+    for (first, second, third, want) in [
+        (all, all, no_1, "no: C3 router 3 cable 1"),
+        (all, all, no_2, "no: C3 router 3 cable 2"),
+        (all, all, no_3, "no: C3 router 3 cable 3"),
+        (all, all, [].as_slice(), "no: C3 router 3 cable 1"),
+        (all, no_3, no_1, "no: C3 router 2 cable 3"),
+        ([1].as_slice(), all, no_1, "no: C3 router 1 cable 2"),
+        // None is missing; the second row is direct, and the router isn't on its cable.
+        (all, all, all, "no: C4 router 1 row 2"),
+    ] {
+        let line = line_of_rows(rt.alloc(), first, second, third)?;
+        assert_eq!(rt; line.as_str(), want, "{first:?} {second:?} {third:?}");
+    }
+    Ok(())
+}
+
+#[test]
+fn the_greatest_distance_is_that_of_any_router(rt: HostRuntime) -> Result<(), Fail> {
+    let want = "yes: 2 cables, 2 routers, 0 nodes, 4 rows, greatest distance 1";
+    for (first, second) in [
+        (BOTH.as_slice(), SECOND.as_slice()),
+        (SECOND.as_slice(), BOTH.as_slice()),
+    ] {
+        let parts = [CABLES.as_slice(), first, second, [0].as_slice()];
+        let line = line_of_parts(rt.alloc(), parts.as_slice())?;
+        assert_eq!(rt; line.as_str(), want);
+    }
+    Ok(())
+}
+
+#[test]
+fn a_line_has_at_most_16_cables(rt: HostRuntime) -> Result<(), Fail> {
+    let longest = audit(&line_again(rt.alloc(), 16)?);
+    let summary = Summary {
+        cables: 16,
+        routers: 15,
+        nodes: 0,
+        rows: 240,
+        greatest: 14,
+    };
+    assert_eq!(rt; longest, Verdict::Yes(summary));
+    let longer = audit(&line_again(rt.alloc(), 17)?);
+    let fault = Fault {
+        rule: 5,
+        place: Place::Row(1, 17),
+    };
+    assert_eq!(rt; longer, Verdict::No(fault));
+    Ok(())
+}
+
+fn line_of_verdict(alloc: Global, verdict: &Verdict) -> Result<String, Error> {
+    match verdict.line(alloc) {
+        Err(Error::Memory) => verdict.line(alloc),
+        other => other,
+    }
+}
+
+#[test]
+fn each_kind_of_place_is_told(rt: HostRuntime) -> Result<(), Fail> {
+    for (rule, place, want) in [
+        (1, Place::Cable(200), "no: C1 cable 200"),
+        (2, Place::Port(3, 2), "no: C2 router 3 port 2"),
+        (2, Place::Node(4), "no: C2 node 4"),
+        (5, Place::Row(1, 17), "no: C5 router 1 row 17"),
+        (3, Place::Missing(2, 7), "no: C3 router 2 cable 7"),
+        (8, Place::List(2, 3), "no: C8 router 2 list 3"),
+    ] {
+        let verdict = Verdict::No(Fault { rule, place });
+        let line = line_of_verdict(rt.alloc(), &verdict)?;
+        assert_eq!(rt; line.as_str(), want);
+    }
+    Ok(())
+}
+
+#[test]
+fn a_line_is_allocated_at_its_longest(rt: HostRuntime) -> Result<(), Fail> {
+    // The longest line there can be needs no more than the room that each line begins with.
+    let summary = Summary {
+        cables: 4_294_967_295,
+        routers: 4_294_967_295,
+        nodes: 4_294_967_295,
+        rows: 4_294_967_295,
+        greatest: 255,
+    };
+    let line = line_of_verdict(rt.alloc(), &Verdict::Yes(summary))?;
+    assert_eq!(rt; (line.len(), line.capacity()), (100, 100));
+    Ok(())
+}
+
+#[test]
+fn verdicts_differ_where_one_field_does(rt: HostRuntime) -> Result<(), Fail> {
+    let summary = Summary {
+        cables: 1,
+        routers: 2,
+        nodes: 3,
+        rows: 4,
+        greatest: 5,
+    };
+    let yes = Verdict::Yes(summary);
+    for other in [
+        Summary {
+            cables: 9,
+            ..summary
+        },
+        Summary {
+            routers: 9,
+            ..summary
+        },
+        Summary {
+            nodes: 9,
+            ..summary
+        },
+        Summary { rows: 9, ..summary },
+        Summary {
+            greatest: 9,
+            ..summary
+        },
+    ] {
+        assert!(rt; summary != other && yes != Verdict::Yes(other), "{other:?}");
+    }
+    let fault = Fault {
+        rule: 3,
+        place: Place::Row(1, 2),
+    };
+    let no = Verdict::No(fault);
+    for (rule, place) in [
+        (4, Place::Row(1, 2)),
+        (3, Place::Row(2, 2)),
+        (3, Place::Row(1, 1)),
+        (3, Place::Missing(1, 2)),
+    ] {
+        assert!(rt; no != Verdict::No(Fault { rule, place }), "C{rule} {place}");
+    }
+    assert!(rt; yes != no && yes == yes.clone()? && no == no.clone()?);
+    assert!(rt; summary == summary.clone()?);
+    Ok(())
+}
+
+#[test]
+fn rules_have_numbers(rt: HostRuntime) {
+    let rules = [
+        Rule::CablesInOrder,
+        Rule::StationsAddressed,
+        Rule::RowsCoverCables,
+        Rule::DirectRowsDirect,
+        Rule::DistancesFit,
+        Rule::NextRoutersExist,
+        Rule::DistancesFall,
+    ];
+    for (k, rule) in rules.iter().enumerate() {
+        assert_eq!(rt; rule.number() as usize, k + 1);
+        for (j, other) in rules.iter().enumerate() {
+            assert_eq!(rt; *rule == *other, j == k, "{rule:?} {other:?}");
+        }
+    }
+    assert_eq!(rt; MAX_DISTANCE, 14);
+}
+
+#[test]
+fn the_readme_says_what_it_prints(rt: HostRuntime) -> Result<(), Fail> {
+    for (bytes, want) in [
+        (THREE_CABLES.as_slice(), YES),
+        (
+            changed([(86, 15)].as_slice()).as_slice(),
+            "no: C5 router 1 row 3",
+        ),
+        (b"ATIM".as_slice(), "no image: Cut at byte 4"),
+    ] {
+        let line = match report(rt.alloc(), bytes) {
+            Err(Error::Memory) => report(rt.alloc(), bytes)?,
+            other => other?,
+        };
+        assert_eq!(rt; line.as_str(), want);
+    }
+    Ok(())
+}
+
+#[test]
+fn the_laws_do_nothing() {
+    one_walk_home();
+    each_step();
+    distances_fit();
+    unlisted_is_nowhere();
+    seats_are_unique();
+    the_example_passes();
+    loops_have_no_walk();
+    words_exclude();
+}
