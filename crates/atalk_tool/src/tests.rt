@@ -4,13 +4,13 @@
 
 mod fakes;
 
+use crate::arguments::{Job, Source, read_arguments};
 use crate::audit_file::audit_file;
 use crate::input::{Input, READS};
 use crate::output::Output;
 use crate::status::status;
-use crate::words::{Job, Source, read_words};
 use at_base::{Cause, Error, Field, Part, What};
-use clap::error::ErrorKind as WordFault;
+use clap::error::ErrorKind as ParseError;
 use fakes::{Frail, Pieces, Places, Restless};
 use std::alloc::Global;
 use std::io::{ErrorKind, Read};
@@ -104,6 +104,8 @@ fn reads_without_end_are_given_up(rt: HostRuntime) {
         reader: Restless,
         reads: READS - 5,
         failed: false,
+        fault: None,
+        kept: None,
     };
     let mut answer = input.read_all(rt.alloc()).err();
     if answer == Some(Error::Memory) {
@@ -287,10 +289,12 @@ fn audited(job: Job<'_>) -> &str {
 }
 
 /// What the words ask to audit, or what clap says of them. Read again where memory was refused.
-fn meaning<'a>(alloc: Global, words: &'a [&'a str]) -> Result<&'a str, WordFault> {
-    match read_words(alloc, words) {
+fn meaning<'a>(alloc: Global, words: &'a [&'a str]) -> Result<&'a str, ParseError> {
+    match read_arguments(alloc, words) {
         Ok(job) => Ok(audited(job)),
-        Err(error) if error.kind() == WordFault::OutOfMemory => match read_words(alloc, words) {
+        Err(error) if error.kind() == ParseError::OutOfMemory => match read_arguments(
+            alloc, words,
+        ) {
             Ok(job) => Ok(audited(job)),
             Err(error) => Err(error.kind()),
         },
@@ -320,32 +324,35 @@ fn other_words_ask_for_nothing(rt: HostRuntime) {
     let faults = [
         (
             ["atalk", "audit"].as_slice(),
-            WordFault::MissingRequiredArgument,
+            ParseError::MissingRequiredArgument,
         ),
         (
             ["atalk", "audit", "a", "b"].as_slice(),
-            WordFault::UnknownArgument,
+            ParseError::UnknownArgument,
         ),
         (
             ["atalk", "audit", "-x"].as_slice(),
-            WordFault::UnknownArgument,
+            ParseError::UnknownArgument,
         ),
         (
             ["atalk", "nonsense"].as_slice(),
-            WordFault::InvalidSubcommand,
+            ParseError::InvalidSubcommand,
         ),
-        (["atalk", "help"].as_slice(), WordFault::InvalidSubcommand),
-        (["atalk", "-"].as_slice(), WordFault::InvalidSubcommand),
+        (["atalk", "help"].as_slice(), ParseError::InvalidSubcommand),
+        (["atalk", "-"].as_slice(), ParseError::InvalidSubcommand),
         (
             ["atalk", "--nonsense"].as_slice(),
-            WordFault::UnknownArgument,
+            ParseError::UnknownArgument,
         ),
-        (["atalk", "--help"].as_slice(), WordFault::DisplayHelp),
+        (["atalk", "--help"].as_slice(), ParseError::DisplayHelp),
         (
             ["atalk", "audit", "--help"].as_slice(),
-            WordFault::DisplayHelp,
+            ParseError::DisplayHelp,
         ),
-        (["atalk", "--version"].as_slice(), WordFault::DisplayVersion),
+        (
+            ["atalk", "--version"].as_slice(),
+            ParseError::DisplayVersion,
+        ),
     ];
     for (words, fault) in faults {
         assert_eq!(rt;

@@ -14,5 +14,5 @@ no_flaw (Some bs) bytes answer v whole is first = λ f flawed.
 
 pub returns-clause-flaw : goal.returns-clause-flaw
 returns-clause-flaw g c =
-    no_flaw (g.R.Read.remaining c.args.input.now.reader) c.as_slice.result.now c.audit_bytes.result c.in_ok-verdict.verdict
-    (rw c.as_slice.ensures.value c.in_ok-bytes.ensures.ok) c.in_ok-verdict.was c.audit_bytes.ensures.first
+    no_flaw (g.R.Read.remaining c.args.input.now.reader) c.as_slice.result.now c.audit_bytes-answer.result c.in_ok-verdict.verdict
+    (rw c.as_slice.ensures.value c.in_ok-bytes.ensures.ok) c.in_ok-verdict.was c.audit_bytes-answer.ensures.first
