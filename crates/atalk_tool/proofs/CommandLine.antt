@@ -1,5 +1,6 @@
 -- What a parse gives of arguments that are written out.
-use Rattle.std.proofs.Common.{◌≡◌, ◌≤◌, ◌==◌, ◌&&◌, ℕ, Bool, not, false, Option, Some, List, [], ◌∷◌, None, true, length, codes, slice_index_or, refl, ap, ap₂, ◌∙◌, arith}
+use Rattle.std.proofs.Common.{◌≡◌, ◌≤◌, ◌==◌, ◌&&◌, ℕ, Bool, not, false, Option, Some, List, [], ◌∷◌, None, true, length}
+use Rattle.std.proofs.Common.{codes, slice_index_or, refl, ap, ap₂, ◌∙◌, arith}
 use Rattle.clap.specs.Words.{Shape, Text, built, first_of, is_simple, subcommand_of, takes, fault_of, is_simple_and_free}
 use Rattle.clap.specs.Walk.{Held, Step, value, idle, word_met, after_step, walk_from, finished, nothing_held}
 use Rattle.clap.specs.Takes.{default_passes, is_valid, settle_passes, step_passes, word_passes}
@@ -88,7 +89,8 @@ no_flag (b ∷ c ∷ text) operand = no_flag_by_first b (c ∷ text) (false_of_n
 met_value : (word : Text) → is_operand word ≡ true → met_in word ≡ (nothing_held, value)
 met_value word operand = let tests = no_flag word operand in rw (tests.0, tests.1, tests.2) refl
 
-file_by_met : (name word : Text) → file_in (name ∷ codes "audit" ∷ word ∷ []) ≡ first_of (codes "FILE") (finished audit_shape.rules (held_after word (met_in word)))
+file_by_met : (name word : Text) → file_in (name ∷ codes "audit" ∷ word ∷ [])
+    ≡ first_of (codes "FILE") (finished audit_shape.rules (held_after word (met_in word)))
 unfolding clap_on_literals
 file_by_met name word = refl
 
@@ -113,7 +115,8 @@ passes_after word passes met =
 abbrev word_passes_in : Text → Bool
 word_passes_in word = word_passes audit_shape [] false idle word nothing_held
 
-taken_by_met : (name word : Text) → takes atalk_app (name ∷ codes "audit" ∷ word ∷ []) ≡ (passes_after word (word_passes_in word) (met_in word) && true)
+taken_by_met : (name word : Text) → takes atalk_app (name ∷ codes "audit" ∷ word ∷ [])
+    ≡ (passes_after word (word_passes_in word) (met_in word) && true)
 unfolding clap_on_literals
 taken_by_met name word = refl
 
@@ -128,5 +131,6 @@ word_passes_is word operand = let tests = no_flag word operand in rw (tests.0, t
 pub file_taken : (name word : Text) → is_operand word ≡ true → takes atalk_app (name ∷ codes "audit" ∷ word ∷ []) ≡ true
 file_taken name word operand =
     taken_by_met name word
-    ∙ ap₂ (λ (passes : Bool) (met : Held × Step). passes_after word passes met && true) (word_passes_is word operand) (met_value word operand)
+    ∙ ap₂ (λ (passes : Bool) (met : Held × Step). passes_after word passes met && true)
+    (word_passes_is word operand) (met_value word operand)
     ∙ value_taken word

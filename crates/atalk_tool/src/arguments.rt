@@ -86,7 +86,8 @@ pub fn read_arguments<'a, S: AsStr>(alloc: Global, arguments: &'a [S]) -> Result
     // No arguments ask for an audit of standard input, and that fails only where memory runs out.
     ensures alone { length arguments.entry.now ≤ 1
         → IfOk result (λ job. job ≡ Job.Audit Source.StandardInput) }
-    ensures alone_err { length arguments.entry.now ≤ 1 → IfErr result (λ e. kind_of e ≡ OutOfMemory) }
+    ensures alone_err { length arguments.entry.now ≤ 1
+        → IfErr result (λ e. kind_of e ≡ OutOfMemory) }
     // What is audited is what FILE names, in the parse that clap's contracts define.
     ensures file { IfOk result
         (Audits (file_of (subcommand_of atalk_app (map S.text arguments.entry.now)))) }

@@ -29,7 +29,7 @@ pub fn audit_file<R: Read, W: Write>(
 ) -> Result<bool, Error>
     // For a reader whose bytes are known: they spell an image, the line of its right verdict and an
     // end of line are what was written, and the result is whether it is a yes.
-    ensures told { IfOk result (λ yes. IfSome (R.remaining input.old.reader) (λ bytes.
+    ensures written { IfOk result (λ yes. IfSome (R.remaining input.old.reader) (λ bytes.
         (i : Internet) × (v : Verdict)
         × Spells image_spelling bytes i × Judges i v × (yes ≡ is_yes v)
         × Appends (W.contents output.old.writer) (W.contents output.new.writer)

@@ -32,7 +32,7 @@ pub struct Evidence<'a> {
 /// Says that the image is read from the terminal.
 pub fn prompt(rt: &impl Eprint) {
     let _ = eprintln!(rt;
-        "atalk: reading an image from standard input; for help, end with Ctrl-C and try atalk --help"
+        "atalk: reading an image from standard input; Ctrl-C ends it, and atalk --help has help"
     );
 }
 

@@ -103,8 +103,8 @@ impl<R: Read> Input<R> {
     }
 }
 
-/// Appends the piece. The capacity grows by a quarter: a long input is then moved some 30 times, and
-/// takes at most a quarter more than its length, where a capacity that doubles takes up to twice it.
+/// Appends the piece. The capacity grows by a quarter: a long input is then moved some 40 times at
+/// most, and takes a quarter more than its length, where a doubled capacity takes up to twice it.
 pub(crate) fn append(bytes: &mut Vec<u8>, piece: &[u8]) -> Result<(), AllocError>
     ensures { OnOk result (bytes.new.items ≡ bytes.old.items ++ piece.now) }
 {

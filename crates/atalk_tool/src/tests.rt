@@ -196,7 +196,7 @@ fn audit<R: Read + Copy>(alloc: Global, reader: R, room: &mut [u8]) -> Result<bo
     }
 }
 
-/// Whether the room has this text and nothing behind it.
+/// Whether the room has this text and nothing after it.
 fn holds(room: &[u8], text: &[u8]) -> bool {
     match room.strip_prefix(text) {
         Some(rest) => rest.iter().all(|byte| *byte == 0),

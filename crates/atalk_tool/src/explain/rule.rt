@@ -12,8 +12,10 @@ pub(super) fn meaning(rule: u8) -> &'static str {
              and a hardware address of a single station, and shares neither; \
              a router has at most one port on a cable."
         }
-        3 =>
-            "each row is Good or Suspect and has the range of a cable, and each router has a row for each cable.",
+        3 => {
+            "each row is Good or Suspect and has the range of a cable, \
+             and each router has a row for each cable."
+        }
         4 => {
             "a row of a cable on which the router has a port has distance 0, that port \
              and no next router; each other row has a distance and a next router."

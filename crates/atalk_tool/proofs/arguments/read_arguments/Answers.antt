@@ -4,16 +4,19 @@ use Rattle.clap.specs.Words.{App, Row, Text, IsAmong, Kinds, is_simple, is_simpl
 use Rattle.clap.specs.declared.error.ErrorKind.{ErrorKind}
 use Rattle.clap.specs.declared.error.ErrorKind.TheVariants.{OutOfMemory}
 use Rattle.atalk_tool.specs.Arguments.{Audits, atalk_app, file_of}
-use Rattle.atalk_tool.proofs.CommandLine.{simple, simple_and_free, none_entered, none_taken, help_asked, help_short_asked, version_asked, version_short_asked, file_given, file_taken}
+use Rattle.atalk_tool.proofs.CommandLine.{simple, simple_and_free, none_entered, none_taken}
+use Rattle.atalk_tool.proofs.CommandLine.{help_asked, help_short_asked, version_asked, version_short_asked, file_given, file_taken}
 use Rattle.atalk_tool.proofs.arguments.read_arguments.Goals as goal
 
 -- where one kind may come, an error has it or memory ran out
-only_kind : (found kind : ErrorKind) (kinds : Kinds) → kinds ≡ kind ∷ [] → (found ≡ OutOfMemory) ⊎ IsAmong found kinds → (found ≡ kind) ⊎ (found ≡ OutOfMemory)
+only_kind : (found kind : ErrorKind) (kinds : Kinds) → kinds ≡ kind ∷ []
+    → (found ≡ OutOfMemory) ⊎ IsAmong found kinds → (found ≡ kind) ⊎ (found ≡ OutOfMemory)
 only_kind found kind kinds one (inl memory) = inr memory
 only_kind found kind kinds one (inr among) = elim (rw one at among) [ inl same ↦ inl same | inr none ↦ absurd none ]
 
 -- the fault of the arguments, in the parse that was made
-fault_is : (app : App) (texts words : List Text) (kinds : Kinds) → app ≡ atalk_app → texts ≡ words → fault_of atalk_app words ≡ kinds → fault_of app texts ≡ kinds
+fault_is : (app : App) (texts words : List Text) (kinds : Kinds) → app ≡ atalk_app → texts ≡ words
+    → fault_of atalk_app words ≡ kinds → fault_of app texts ≡ kinds
 fault_is app texts words kinds same named fault = ap (λ (a : App). fault_of a texts) same ∙ ap (fault_of atalk_app) named ∙ fault
 
 short_map : {X : Type 0} (f : X → Text) (xs : List X) → length xs ≤ 1 → length (map f xs) ≤ 1
@@ -22,7 +25,8 @@ short_map f xs short = rw (length-map xs f) short
 pub returns-in_err-matches-clause-alone_err : goal.returns-in_err-matches-clause-alone_err
 returns-in_err-matches-clause-alone_err g c = λ short.
     let texts = map g.S.AsStr.text c.args.arguments.now in
-    let memory = c.in_err-matches.ensures.passes (ap (λ (a : App). takes a texts) c.in_ok-atalk_command.ensures ∙ none_taken texts (short_map g.S.AsStr.text c.args.arguments.now short)) in
+    let memory = c.in_err-matches.ensures.passes (ap (λ (a : App). takes a texts) c.in_ok-atalk_command.ensures
+    ∙ none_taken texts (short_map g.S.AsStr.text c.args.arguments.now short)) in
     search rules
 
 pub returns-in_err-matches-clause-help : goal.returns-in_err-matches-clause-help

@@ -6,7 +6,8 @@ use Rattle.audit.specs.declared.verdict.Verdict.{Verdict}
 use Rattle.atalk_tool.proofs.audit_file.audit_file.Goals as goal
 
 -- bytes that were read whole and have a verdict have no flaw
-no_flaw : (told : Option (List ℕ)) (bytes : List ℕ) (answer : Result Verdict Error) (v : Verdict) → IfSome told (λ bs. bytes ≡ bs) → answer ≡ Ok v
+no_flaw : (told : Option (List ℕ)) (bytes : List ℕ) (answer : Result Verdict Error) (v : Verdict)
+    → IfSome told (λ bs. bytes ≡ bs) → answer ≡ Ok v
     → ((f : Flaw) → IsFirstFlaw bytes f → answer ≡ Err (refusal bytes f)) → IfSome told (λ bs. (f : Flaw) → IsFirstFlaw bs f → ⊥)
 no_flaw None bytes answer v whole is first = tt
 no_flaw (Some bs) bytes answer v whole is first = λ f flawed.
