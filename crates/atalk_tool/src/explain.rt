@@ -1,22 +1,12 @@
 //! What an answer means, for a person at a terminal. All of this runs after the answer was given,
 //! and writes to standard error alone; where it fails, it says nothing.
 
-mod beside;
-mod fault;
-mod item;
-mod place;
-mod rule;
-
 use crate::arguments::Source;
 use crate::exit::Outcome;
+use advice::{explain_bytes, explain_kind, explain_no};
 use at_base::Error;
-use audit::{Verdict, audit};
-use fault::{explain_bytes, explain_kind};
-use place::explain_place;
-use rule::{advice, meaning};
 use std::io;
 use std::io::ErrorKind;
-use table_image::read;
 
 /// What is known of a run besides its outcome.
 #[derive(Drop)]
@@ -93,21 +83,5 @@ fn explain_error(
         ),
         Error::Memory => eprintln!(rt; "atalk: out of memory"),
         _ => Ok(()),
-    }
-}
-
-/// Judges the image again, and explains the place that breaks a rule.
-fn explain_no(rt: &(impl Eprint + AllocGlobal), bytes: &[u8]) -> io::Result<()> {
-    let image = match read(rt.alloc(), bytes) {
-        Ok(image) => image,
-        Err(_) => return Ok(()),
-    };
-    match audit(&image) {
-        Verdict::Yes(_) => Ok(()),
-        Verdict::No(fault) => {
-            eprintln!(rt; "C{}: {}", fault.rule, meaning(fault.rule))?;
-            explain_place(rt, &image, fault.rule, fault.place)?;
-            eprintln!(rt; "What to change: {}", advice(fault.rule))
-        }
     }
 }

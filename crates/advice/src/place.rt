@@ -1,13 +1,13 @@
 //! The place that breaks a rule, and beside it what it should have agreed with.
 
-use super::beside::{show_earlier_stations, show_home, show_next, show_overlaps, show_step};
-use super::item::{at, show_cable, show_node, show_port, show_row};
+use crate::beside::{show_earlier_stations, show_home, show_next, show_overlaps, show_step};
+use crate::item::{at, show_cable, show_node, show_port, show_row};
 use at_base::Place;
 use std::io;
 use table_image::{Image, Row};
 
 /// Shows the place, and what it is compared with.
-pub(super) fn explain_place(
+pub(crate) fn explain_place(
     rt: &impl Eprint,
     image: &Image,
     rule: u8,

@@ -1,7 +1,7 @@
 //! The rules, each in a sentence, and what to change where one is broken.
 
 /// What the rule asks for.
-pub(super) fn meaning(rule: u8) -> &'static str {
+pub(crate) fn meaning(rule: u8) -> &'static str {
     match rule {
         1 => {
             "the ranges of the cables lie within 1 to 65279, rise and do not overlap, \
@@ -31,7 +31,7 @@ pub(super) fn meaning(rule: u8) -> &'static str {
 }
 
 /// What to change.
-pub(super) fn advice(rule: u8) -> &'static str {
+pub(crate) fn what_to_change(rule: u8) -> &'static str {
     match rule {
         1 => {
             "give each cable a range of its own and at least one zone in the seed router's \

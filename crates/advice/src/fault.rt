@@ -5,7 +5,7 @@ use std::io;
 use std::io::ErrorKind;
 
 /// Why a file can't be opened or read.
-pub(super) fn explain_kind(kind: ErrorKind) -> &'static str {
+pub fn explain_kind(kind: ErrorKind) -> &'static str {
     match kind {
         ErrorKind::NotFound => "there is no such file",
         ErrorKind::PermissionDenied => "permission denied",
@@ -34,7 +34,7 @@ fn explain_cause(cause: Cause) -> &'static str {
 }
 
 /// The place and the cause of an image's first fault, with the byte there.
-pub(super) fn explain_bytes(
+pub fn explain_bytes(
     rt: &impl Eprint,
     place: u32,
     cause: Cause,

@@ -5,7 +5,7 @@ use std::io;
 use table_image::{Cable, Node, Port, Row};
 
 /// The part of a number that counts from 1.
-pub(super) fn at<T>(parts: &[T], number: u32) -> Option<&T> {
+pub(crate) fn at<T>(parts: &[T], number: u32) -> Option<&T> {
     match number.checked_sub(1) {
         Some(index) => parts.get(index as usize),
         None => None,
@@ -23,7 +23,7 @@ fn show_zones(rt: &impl Eprint, zones: &[Name]) -> io::Result<()> {
 }
 
 /// A cable: its range and its zones.
-pub(super) fn show_cable(rt: &impl Eprint, number: usize, cable: &Cable) -> io::Result<()> {
+pub(crate) fn show_cable(rt: &impl Eprint, number: usize, cable: &Cable) -> io::Result<()> {
     eprint!(rt; "  cable {number}: {}-{}, zones", cable.start, cable.end)?;
     show_zones(rt, cable.zones.as_slice())
 }
@@ -38,7 +38,7 @@ fn show_hardware(rt: &impl Eprint, hardware: &Hw) -> io::Result<()> {
 }
 
 /// A port: its address, its cable and its hardware address.
-pub(super) fn show_port(
+pub(crate) fn show_port(
     rt: &impl Eprint,
     router: usize,
     number: usize,
@@ -53,14 +53,14 @@ pub(super) fn show_port(
 }
 
 /// A node: its address, its cable and its hardware address.
-pub(super) fn show_node(rt: &impl Eprint, number: usize, node: &Node) -> io::Result<()> {
+pub(crate) fn show_node(rt: &impl Eprint, number: usize, node: &Node) -> io::Result<()> {
     let cable = u32::from(node.cable) + 1;
     eprint!(rt; "  node {number}: {} on cable {cable}", node.address)?;
     show_hardware(rt, &node.hardware)
 }
 
 /// A row of a routing table.
-pub(super) fn show_row(
+pub(crate) fn show_row(
     rt: &impl Eprint,
     router: usize,
     number: usize,

@@ -1,13 +1,13 @@
 //! What a place of an image should have agreed with.
 
-use super::item::{show_cable, show_node, show_port, show_row};
+use crate::item::{show_cable, show_node, show_port, show_row};
 use at_base::{Addr, Hw};
 use std::io;
 use table_image::{Image, Router, Row};
 
 /// The stations before a station that have its address or its hardware address: ports before the
 /// router and port `until`, and as many `nodes` from the first one on.
-pub(super) fn show_earlier_stations(
+pub(crate) fn show_earlier_stations(
     rt: &impl Eprint,
     image: &Image,
     address: Addr,
@@ -32,7 +32,7 @@ pub(super) fn show_earlier_stations(
 }
 
 /// The cables that share a network with the row.
-pub(super) fn show_overlaps(rt: &impl Eprint, image: &Image, row: &Row) -> io::Result<()> {
+pub(crate) fn show_overlaps(rt: &impl Eprint, image: &Image, row: &Row) -> io::Result<()> {
     let mut found = false;
     for (index, cable) in image.cables().iter().enumerate() {
         if cable.start <= row.end && row.start <= cable.end {
@@ -47,7 +47,7 @@ pub(super) fn show_overlaps(rt: &impl Eprint, image: &Image, row: &Row) -> io::R
 }
 
 /// The cable of the row, and the router's port on it.
-pub(super) fn show_home(
+pub(crate) fn show_home(
     rt: &impl Eprint,
     image: &Image,
     router: &Router,
@@ -74,7 +74,7 @@ pub(super) fn show_home(
 }
 
 /// The ports that have the address of the row's next router.
-pub(super) fn show_next(rt: &impl Eprint, image: &Image, r: usize, row: &Row) -> io::Result<()> {
+pub(crate) fn show_next(rt: &impl Eprint, image: &Image, r: usize, row: &Row) -> io::Result<()> {
     let mut found = false;
     for (index, router) in image.routers().iter().enumerate() {
         for (place, port) in router.ports.as_slice().iter().enumerate() {
@@ -94,7 +94,7 @@ pub(super) fn show_next(rt: &impl Eprint, image: &Image, r: usize, row: &Row) ->
 }
 
 /// The row of the next router for the same range.
-pub(super) fn show_step(rt: &impl Eprint, image: &Image, row: &Row) -> io::Result<()> {
+pub(crate) fn show_step(rt: &impl Eprint, image: &Image, row: &Row) -> io::Result<()> {
     for (index, router) in image.routers().iter().enumerate() {
         let mut ports = router.ports.as_slice().iter();
         if !ports.any(|port| port.address == row.next) {
