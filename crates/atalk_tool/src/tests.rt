@@ -257,6 +257,19 @@ fn a_line_is_flushed_after_its_end(rt: HostRuntime) {
 }
 
 #[test]
+fn an_earlier_failure_refuses_nothing(rt: HostRuntime) {
+    for _attempt in 0..2 {
+        let mut room = [0u8; 80];
+        let mut input = Input::new(Pieces::new(EMPTY, 3));
+        let mut output = Output::new(room.as_mut_slice());
+        input.failed = true;
+        output.failed = true;
+        let answer = audit_file(rt.alloc(), &mut input, &mut output);
+        assert!(rt; matches!(answer, Ok(true) | Err(Error::Memory)));
+    }
+}
+
+#[test]
 fn an_input_keeps_its_bytes(rt: HostRuntime) {
     for bytes in [EMPTY, BACKWARD, b"ATIN".as_slice()] {
         for _attempt in 0..2 {
