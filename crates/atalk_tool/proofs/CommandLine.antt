@@ -1,5 +1,6 @@
--- What a parse gives at words that are written out.
-use Rattle.std.proofs.Common.{◌≡◌, ◌≤◌, ◌==◌, ◌&&◌, ℕ, Bool, not, false, Option, Some, List, [], ◌∷◌, None, true, length, codes, slice_index_or, refl, ap, ap₂, ◌∙◌, arith}
+-- What a parse gives of arguments that are written out.
+use Rattle.std.proofs.Common.{◌≡◌, ◌≤◌, ◌==◌, ◌&&◌, ℕ, Bool, not, false, Option, Some, List, [], ◌∷◌, None, true, length}
+use Rattle.std.proofs.Common.{codes, slice_index_or, refl, ap, ap₂, ◌∙◌, arith}
 use Rattle.clap.specs.Words.{Shape, Text, built, first_of, is_simple, subcommand_of, takes, fault_of, is_simple_and_free}
 use Rattle.clap.specs.Walk.{Held, Step, value, idle, word_met, after_step, walk_from, finished, nothing_held}
 use Rattle.clap.specs.Takes.{default_passes, is_valid, settle_passes, step_passes, word_passes}
@@ -8,7 +9,7 @@ use Rattle.std.specs.Str.{bytes_eq}
 use Rattle.std.specs.List.{list_all}
 use Rattle.clap.specs.declared.error.ErrorKind.TheVariants.{DisplayHelp, DisplayVersion}
 use Rattle.clap.proofs.OnLiterals.{clap_on_literals}
-use Rattle.atalk_tool.specs.Words.{atalk_app, audit_app, file_of, is_operand}
+use Rattle.atalk_tool.specs.Arguments.{atalk_app, audit_app, file_of, is_operand}
 
 -- the parse of the command is one that clap's specs compute
 pub simple : is_simple atalk_app ≡ true
@@ -19,14 +20,14 @@ pub simple_and_free : is_simple_and_free atalk_app ≡ true
 unfolding clap_on_literals
 simple_and_free = refl
 
--- no words at all name no command
+-- no arguments name no command
 pub none_entered : (words : List Text) → length words ≤ 1 → subcommand_of atalk_app words ≡ None
 unfolding clap_on_literals
 none_entered [] short = refl
 none_entered (name ∷ []) short = refl
 none_entered (name ∷ word ∷ words) short = absurd (omega (arith, short))
 
--- no words at all have no fault
+-- no arguments have no fault
 pub none_taken : (words : List Text) → length words ≤ 1 → takes atalk_app words ≡ true
 unfolding clap_on_literals
 none_taken [] short = refl
@@ -37,11 +38,19 @@ pub help_asked : (name : Text) → fault_of atalk_app (name ∷ codes "--help" �
 unfolding clap_on_literals
 help_asked name = refl
 
+pub help_short_asked : (name : Text) → fault_of atalk_app (name ∷ codes "-h" ∷ []) ≡ DisplayHelp ∷ []
+unfolding clap_on_literals
+help_short_asked name = refl
+
+pub version_short_asked : (name : Text) → fault_of atalk_app (name ∷ codes "-V" ∷ []) ≡ DisplayVersion ∷ []
+unfolding clap_on_literals
+version_short_asked name = refl
+
 pub version_asked : (name : Text) → fault_of atalk_app (name ∷ codes "--version" ∷ []) ≡ DisplayVersion ∷ []
 unfolding clap_on_literals
 version_asked name = refl
 
--- the text of FILE on these words
+-- the text of FILE in these arguments
 abbrev file_in : List Text → Option Text
 file_in words = file_of (subcommand_of atalk_app words)
 
@@ -49,15 +58,15 @@ file_in words = file_of (subcommand_of atalk_app words)
 abbrev audit_shape : Shape
 audit_shape = slice_index_or (built atalk_app).subs 0 audit_app.top
 
--- what the word is to `audit`
+-- what the argument is to `audit`
 abbrev met_in : Text → Held × Step
 met_in word = word_met audit_shape.rules [] false idle 1 word nothing_held
 
--- what is held of the command after a word that was met so
+-- what is held of the command after an argument that was met so
 abbrev held_after : Text → Held × Step → Held
 held_after word met = (after_step audit_shape.rules word (walk_from nothing_held) met.0 met.1).held
 
--- by the tests of a parse the word is no flag, nor the end of flags
+-- by the tests of a parse the argument is no flag, nor the end of flags
 abbrev IsNoFlag : Text → Type 0
 IsNoFlag word = (long_of word ≡ None) × (short_of word ≡ None) × (bytes_eq word (45 ∷ 45 ∷ []) ≡ false)
 
@@ -80,7 +89,8 @@ no_flag (b ∷ c ∷ text) operand = no_flag_by_first b (c ∷ text) (false_of_n
 met_value : (word : Text) → is_operand word ≡ true → met_in word ≡ (nothing_held, value)
 met_value word operand = let tests = no_flag word operand in rw (tests.0, tests.1, tests.2) refl
 
-file_by_met : (name word : Text) → file_in (name ∷ codes "audit" ∷ word ∷ []) ≡ first_of (codes "FILE") (finished audit_shape.rules (held_after word (met_in word)))
+file_by_met : (name word : Text) → file_in (name ∷ codes "audit" ∷ word ∷ [])
+    ≡ first_of (codes "FILE") (finished audit_shape.rules (held_after word (met_in word)))
 unfolding clap_on_literals
 file_by_met name word = refl
 
@@ -88,14 +98,14 @@ file_of_value : (word : Text) → first_of (codes "FILE") (finished audit_shape.
 unfolding clap_on_literals
 file_of_value word = refl
 
--- `audit FILE` gives FILE its word
+-- `audit FILE` gives FILE its argument
 pub file_given : (name word : Text) → is_operand word ≡ true → file_in (name ∷ codes "audit" ∷ word ∷ []) ≡ Some word
 file_given name word operand =
     file_by_met name word
     ∙ ap (λ (met : Held × Step). first_of (codes "FILE") (finished audit_shape.rules (held_after word met))) (met_value word operand)
     ∙ file_of_value word
 
--- the words pass, by what the last is to `audit` and whether it passes
+-- the arguments pass, by what the last is to `audit` and whether it passes
 abbrev passes_after : Text → Bool → Held × Step → Bool
 passes_after word passes met =
     ((passes && step_passes audit_shape 1 met.0 met.1) && true)
@@ -105,7 +115,8 @@ passes_after word passes met =
 abbrev word_passes_in : Text → Bool
 word_passes_in word = word_passes audit_shape [] false idle word nothing_held
 
-taken_by_met : (name word : Text) → takes atalk_app (name ∷ codes "audit" ∷ word ∷ []) ≡ (passes_after word (word_passes_in word) (met_in word) && true)
+taken_by_met : (name word : Text) → takes atalk_app (name ∷ codes "audit" ∷ word ∷ [])
+    ≡ (passes_after word (word_passes_in word) (met_in word) && true)
 unfolding clap_on_literals
 taken_by_met name word = refl
 
@@ -120,5 +131,6 @@ word_passes_is word operand = let tests = no_flag word operand in rw (tests.0, t
 pub file_taken : (name word : Text) → is_operand word ≡ true → takes atalk_app (name ∷ codes "audit" ∷ word ∷ []) ≡ true
 file_taken name word operand =
     taken_by_met name word
-    ∙ ap₂ (λ (passes : Bool) (met : Held × Step). passes_after word passes met && true) (word_passes_is word operand) (met_value word operand)
+    ∙ ap₂ (λ (passes : Bool) (met : Held × Step). passes_after word passes met && true)
+    (word_passes_is word operand) (met_value word operand)
     ∙ value_taken word

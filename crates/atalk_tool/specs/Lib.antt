@@ -1,3 +1,4 @@
 pub mod Answer
+pub mod Arguments
+pub mod Exits
 pub mod Status
-pub mod Words

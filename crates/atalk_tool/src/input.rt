@@ -24,6 +24,10 @@ pub struct Input<R> {
     pub reader: R,
     pub reads: u32,
     pub failed: bool,
+    /// Why the last read that failed did so.
+    pub fault: Option<ErrorKind>,
+    /// What was read to the end, for an explanation of the answer.
+    pub kept: Option<Vec<u8>>,
     ghost counted: { reads ≤ READS },
 }
 
@@ -38,6 +42,8 @@ impl<R: Read> Input<R> {
             reader,
             reads: 0,
             failed: false,
+            fault: None,
+            kept: None,
         }
     }
 
@@ -49,6 +55,9 @@ impl<R: Read> Input<R> {
         ensures end { OnOk result (IsAtEnd (R.remaining self.new.reader)) }
         ensures fault { result ≡ Err Error.ReadFault
             → (self.new.failed ≡ true) ⊎ (self.new.reads ≡ READS) }
+        // Where no read failed, the number of reads was at its limit.
+        ensures limit { result ≡ Err Error.ReadFault → self.new.failed ≡ false
+            → self.new.reads ≡ READS }
         ensures refused { IfErr result (λ e. (e ≡ Error.ReadFault) ⊎ (e ≡ Error.Memory)) }
         // Only a read that failed sets `failed`.
         ensures stays { result ≢ Err Error.ReadFault → self.new.failed ≡ self.old.failed }
@@ -83,6 +92,7 @@ impl<R: Read> Input<R> {
                 Ok(count) => return Ok(count),
                 Err(e) => {
                     if e.kind() != ErrorKind::Interrupted {
+                        self.fault = Some(e.kind());
                         self.failed = true;
                         return Err(Error::ReadFault);
                     }
@@ -93,9 +103,9 @@ impl<R: Read> Input<R> {
     }
 }
 
-/// Appends the piece. The capacity grows by a quarter, since one that doubles asks for memory for
-/// up to two inputs.
-fn append(bytes: &mut Vec<u8>, piece: &[u8]) -> Result<(), AllocError>
+/// Appends the piece. The capacity grows by a quarter: a long input is then moved some 40 times at
+/// most, and takes a quarter more than its length, where a doubled capacity takes up to twice it.
+pub(crate) fn append(bytes: &mut Vec<u8>, piece: &[u8]) -> Result<(), AllocError>
     ensures { OnOk result (bytes.new.items ≡ bytes.old.items ++ piece.now) }
 {
     let len = bytes.len();

@@ -1,48 +1,23 @@
 //! What no clause says: that calls succeed, what comes of a read or a write that fails in
-//! mid-stream, and what words mean. Each test passes whichever single request for memory is
+//! mid-stream, and what arguments mean. Each test passes whichever single request for memory is
 //! refused: on `Memory` it calls again.
 
+mod exits;
 mod fakes;
+mod reading;
 
+use crate::arguments::{Job, Source, read_arguments};
 use crate::audit_file::audit_file;
-use crate::input::{Input, READS};
+use crate::input::{Input, READS, append};
 use crate::output::Output;
-use crate::status::status;
-use crate::words::{Job, Source, read_words};
-use at_base::{Cause, Error, Field, Part, What};
-use clap::error::ErrorKind as WordFault;
-use fakes::{Frail, Pieces, Places, Restless};
+use at_base::{Cause, Error};
+use clap::error::ErrorKind as ParseError;
+use fakes::{Frail, Holding, Pieces, Places, Restless};
+use reading::{nearly_given_up, read_all};
 use std::alloc::Global;
 use std::io::{ErrorKind, Read};
 use std::process::Abort;
 use std::test::Fail;
-
-/// What was read, in how many reads, and whether a read failed.
-#[derive(Drop)]
-struct Reading {
-    answer: Result<Vec<u8>, Error>,
-    reads: u32,
-    failed: bool,
-}
-
-fn read_once<R: Read + Drop>(alloc: Global, reader: R) -> Reading {
-    let mut input = Input::new(reader);
-    let answer = input.read_all(alloc);
-    Reading {
-        answer,
-        reads: input.reads,
-        failed: input.failed,
-    }
-}
-
-/// Reads all, and again where memory was refused.
-fn read_all<R: Read + Copy>(alloc: Global, reader: R) -> Reading {
-    let reading = read_once(alloc, reader);
-    match reading.answer {
-        Err(Error::Memory) => read_once(alloc, reader),
-        _ => reading,
-    }
-}
 
 #[test]
 fn a_read_that_fails_is_a_read_fault(rt: HostRuntime) -> Result<(), Fail> {
@@ -79,6 +54,7 @@ fn a_read_that_fails_in_another_way_is_not_tried_again(rt: HostRuntime) {
         assert_eq!(rt; reading.answer.err(), Some(Error::ReadFault));
         assert_eq!(rt; reading.reads, 2);
         assert!(rt; reading.failed);
+        assert_eq!(rt; reading.fault, Some(kind));
     }
 }
 
@@ -92,6 +68,7 @@ fn an_interrupted_read_is_tried_again(rt: HostRuntime) -> Result<(), Fail> {
         assert_eq!(rt; reading.answer?.as_slice(), bytes.as_slice());
         assert_eq!(rt; reading.reads, 5);
         assert!(rt; !reading.failed);
+        assert_eq!(rt; reading.fault, None);
     }
     Ok(())
 }
@@ -100,11 +77,7 @@ fn an_interrupted_read_is_tried_again(rt: HostRuntime) -> Result<(), Fail> {
 fn reads_without_end_are_given_up(rt: HostRuntime) {
     assert_eq!(rt; READS, 16_777_216);
     // As far on as the reads before would have led.
-    let mut input = Input {
-        reader: Restless,
-        reads: READS - 5,
-        failed: false,
-    };
+    let mut input = nearly_given_up(Restless, 5);
     let mut answer = input.read_all(rt.alloc()).err();
     if answer == Some(Error::Memory) {
         answer = input.read_all(rt.alloc()).err();
@@ -112,6 +85,58 @@ fn reads_without_end_are_given_up(rt: HostRuntime) {
     assert_eq!(rt; answer, Some(Error::ReadFault));
     assert_eq!(rt; input.reads, READS);
     assert!(rt; !input.failed);
+}
+
+#[test]
+fn the_last_permitted_read_counts(rt: HostRuntime) {
+    let bytes = [7u8; 3];
+    let pieces = Pieces::new(bytes.as_slice(), 3);
+    let mut failing = pieces;
+    failing.fails_at = Some(2);
+    // The second read finds the end, or fails; with one read the end isn't reached.
+    let cases = [
+        (pieces, 2, None, false),
+        (failing, 2, Some(Error::ReadFault), true),
+        (pieces, 1, Some(Error::ReadFault), false),
+    ];
+    for (pieces, left, want, failed) in cases {
+        let mut input = nearly_given_up(pieces, left);
+        let mut answer = input.read_all(rt.alloc()).err();
+        if answer == Some(Error::Memory) {
+            input = nearly_given_up(pieces, left);
+            answer = input.read_all(rt.alloc()).err();
+        }
+        assert_eq!(rt; answer, want);
+        assert_eq!(rt; input.failed, failed);
+        assert_eq!(rt; input.reads, READS);
+    }
+}
+
+/// Appends, and again where memory was refused.
+fn append_again(bytes: &mut Vec<u8>, piece: &[u8]) -> Result<(), Error> {
+    match append(bytes, piece) {
+        Ok(()) => Ok(()),
+        Err(_) => Ok(append(bytes, piece)?),
+    }
+}
+
+#[test]
+fn a_buffer_grows_by_a_quarter_and_seldom(rt: HostRuntime) -> Result<(), Fail> {
+    let piece = [7u8; 8192];
+    let mut bytes = Vec::new(rt.alloc());
+    let mut growths = 0u32;
+    for _turn in 0..200u32 {
+        let before = bytes.capacity();
+        append_again(&mut bytes, piece.as_slice())?;
+        if bytes.capacity() != before {
+            growths = growths.wrapping_add(1);
+        }
+    }
+    assert_eq!(rt; bytes.len(), 1_638_400);
+    // Four pieces, and from there on a quarter more each time: 1.25 to the 18th is above 50.
+    assert!(rt; growths < 26, "at {growths}");
+    assert!(rt; bytes.capacity() < 2_080_000);
+    Ok(())
 }
 
 #[test]
@@ -171,7 +196,7 @@ fn audit<R: Read + Copy>(alloc: Global, reader: R, room: &mut [u8]) -> Result<bo
     }
 }
 
-/// Whether the room has this text and nothing behind it.
+/// Whether the room has this text and nothing after it.
 fn holds(room: &[u8], text: &[u8]) -> bool {
     match room.strip_prefix(text) {
         Some(rest) => rest.iter().all(|byte| *byte == 0),
@@ -224,6 +249,45 @@ fn what_is_no_image_is_refused_and_nothing_written(rt: HostRuntime) {
 }
 
 #[test]
+fn a_line_is_flushed_after_its_end(rt: HostRuntime) {
+    let mut output = Output::new(Holding::new());
+    let written = output.write_line(b"yes");
+    assert!(rt; written.is_ok());
+    assert_eq!(rt; output.writer.flushed(), b"yes\n".as_slice());
+}
+
+#[test]
+fn an_earlier_failure_refuses_nothing(rt: HostRuntime) {
+    for _attempt in 0..2 {
+        let mut room = [0u8; 80];
+        let mut input = Input::new(Pieces::new(EMPTY, 3));
+        let mut output = Output::new(room.as_mut_slice());
+        input.failed = true;
+        output.failed = true;
+        let answer = audit_file(rt.alloc(), &mut input, &mut output);
+        assert!(rt; matches!(answer, Ok(true) | Err(Error::Memory)));
+    }
+}
+
+#[test]
+fn an_input_keeps_its_bytes(rt: HostRuntime) {
+    for bytes in [EMPTY, BACKWARD, b"ATIN".as_slice()] {
+        for _attempt in 0..2 {
+            let mut room = [0u8; 80];
+            let mut input = Input::new(Pieces::new(bytes, 3));
+            let mut output = Output::new(room.as_mut_slice());
+            if audit_file(rt.alloc(), &mut input, &mut output) != Err(Error::Memory) {
+                let kept = match &input.kept {
+                    Some(kept) => kept.as_slice(),
+                    None => b"".as_slice(),
+                };
+                assert_eq!(rt; kept, bytes);
+            }
+        }
+    }
+}
+
+#[test]
 fn nothing_is_written_of_an_input_whose_third_read_fails(rt: HostRuntime) {
     let bytes = [7u8; 276];
     let mut pieces = Pieces::new(bytes.as_slice(), 100);
@@ -244,41 +308,7 @@ fn a_verdict_that_cannot_be_written_is_a_write_fault(rt: HostRuntime) {
     }
 }
 
-#[test]
-fn each_answer_has_its_status(rt: HostRuntime) {
-    let answers = [
-        (Ok(true), 0),
-        (Ok(false), 1),
-        (Err(Error::BadImage(4, Cause::Version)), 2),
-        (Err(Error::Memory), 3),
-        (Err(Error::ReadFault), 3),
-        (Err(Error::WriteFault), 3),
-    ];
-    for (answer, want) in answers {
-        assert_eq!(rt; status(&answer), want, "at {answer:?}");
-    }
-    // Refusals that no audit gives, and that later commands may
-    let others = [
-        Error::Truncated,
-        Error::BadLength,
-        Error::BadChecksum,
-        Error::BadField(Field::Taken),
-        Error::BadRange,
-        Error::BadName,
-        Error::TooLong,
-        Error::NoSuch(What::Name),
-        Error::NotPending,
-        Error::NoRouter,
-        Error::Full,
-        Error::BadFile(Part::Text, 1),
-        Error::BadScript(1),
-    ];
-    for error in others {
-        assert_eq!(rt; status(&Err(error)), 2, "at {error:?}");
-    }
-}
-
-/// What the job audits, in words.
+/// What the job audits.
 fn audited(job: Job<'_>) -> &str {
     match job {
         Job::Audit(Source::StandardInput) => "standard input",
@@ -286,11 +316,13 @@ fn audited(job: Job<'_>) -> &str {
     }
 }
 
-/// What the words ask to audit, or what clap says of them. Read again where memory was refused.
-fn meaning<'a>(alloc: Global, words: &'a [&'a str]) -> Result<&'a str, WordFault> {
-    match read_words(alloc, words) {
+/// What the arguments ask to audit, or what clap says of them. Read again where memory was refused.
+fn meaning<'a>(alloc: Global, arguments: &'a [&'a str]) -> Result<&'a str, ParseError> {
+    match read_arguments(alloc, arguments) {
         Ok(job) => Ok(audited(job)),
-        Err(error) if error.kind() == WordFault::OutOfMemory => match read_words(alloc, words) {
+        Err(error) if error.kind() == ParseError::OutOfMemory => match read_arguments(
+            alloc, arguments,
+        ) {
             Ok(job) => Ok(audited(job)),
             Err(error) => Err(error.kind()),
         },
@@ -298,15 +330,15 @@ fn meaning<'a>(alloc: Global, words: &'a [&'a str]) -> Result<&'a str, WordFault
     }
 }
 
-fn assert_audits<'a>(rt: &(impl Abort + AllocGlobal), words: &'a [&'a str], want: &str) {
-    match meaning(rt.alloc(), words) {
-        Ok(found) => assert_eq!(rt; found, want, "at {words:?}"),
-        Err(_) => panic!(rt; "no audit at {words:?}"),
+fn assert_audits<'a>(rt: &(impl Abort + AllocGlobal), arguments: &'a [&'a str], want: &str) {
+    match meaning(rt.alloc(), arguments) {
+        Ok(found) => assert_eq!(rt; found, want, "at {arguments:?}"),
+        Err(_) => panic!(rt; "no audit at {arguments:?}"),
     }
 }
 
 #[test]
-fn words_ask_for_an_audit(rt: HostRuntime) {
+fn arguments_ask_for_an_audit(rt: HostRuntime) {
     assert_audits(&rt, [].as_slice(), "standard input");
     assert_audits(&rt, ["atalk"].as_slice(), "standard input");
     assert_audits(&rt, ["atalk", "audit", "-"].as_slice(), "standard input");
@@ -316,42 +348,45 @@ fn words_ask_for_an_audit(rt: HostRuntime) {
 }
 
 #[test]
-fn other_words_ask_for_nothing(rt: HostRuntime) {
+fn other_arguments_ask_for_nothing(rt: HostRuntime) {
     let faults = [
         (
             ["atalk", "audit"].as_slice(),
-            WordFault::MissingRequiredArgument,
+            ParseError::MissingRequiredArgument,
         ),
         (
             ["atalk", "audit", "a", "b"].as_slice(),
-            WordFault::UnknownArgument,
+            ParseError::UnknownArgument,
         ),
         (
             ["atalk", "audit", "-x"].as_slice(),
-            WordFault::UnknownArgument,
+            ParseError::UnknownArgument,
         ),
         (
             ["atalk", "nonsense"].as_slice(),
-            WordFault::InvalidSubcommand,
+            ParseError::InvalidSubcommand,
         ),
-        (["atalk", "help"].as_slice(), WordFault::InvalidSubcommand),
-        (["atalk", "-"].as_slice(), WordFault::InvalidSubcommand),
+        (["atalk", "help"].as_slice(), ParseError::InvalidSubcommand),
+        (["atalk", "-"].as_slice(), ParseError::InvalidSubcommand),
         (
             ["atalk", "--nonsense"].as_slice(),
-            WordFault::UnknownArgument,
+            ParseError::UnknownArgument,
         ),
-        (["atalk", "--help"].as_slice(), WordFault::DisplayHelp),
+        (["atalk", "--help"].as_slice(), ParseError::DisplayHelp),
         (
             ["atalk", "audit", "--help"].as_slice(),
-            WordFault::DisplayHelp,
+            ParseError::DisplayHelp,
         ),
-        (["atalk", "--version"].as_slice(), WordFault::DisplayVersion),
+        (
+            ["atalk", "--version"].as_slice(),
+            ParseError::DisplayVersion,
+        ),
     ];
-    for (words, fault) in faults {
+    for (arguments, fault) in faults {
         assert_eq!(rt;
-            meaning(rt.alloc(), words).err(),
+            meaning(rt.alloc(), arguments).err(),
             Some(fault),
-            "at {words:?}"
+            "at {arguments:?}"
         );
     }
 }

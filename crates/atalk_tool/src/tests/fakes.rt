@@ -1,4 +1,4 @@
-//! Readers and writers that fail, stop and dawdle as they are told.
+//! Readers and writers that fail, stop, are slow or hold bytes back.
 
 use std::io;
 use std::io::{ErrorKind, Read, Write};
@@ -100,5 +100,49 @@ impl Write for Frail {
 
     fn flush(&mut self) -> io::Result<()> {
         self.call()
+    }
+}
+
+/// Holds what it is given back until it is flushed, as a buffered device does.
+#[derive(Drop)]
+pub struct Holding {
+    held: [u8; 16],
+    len: usize,
+    flushed: usize,
+}
+
+impl Holding {
+    pub fn new() -> Holding {
+        Holding {
+            held: [0; 16],
+            len: 0,
+            flushed: 0,
+        }
+    }
+
+    /// The bytes that came through.
+    pub fn flushed(&self) -> &[u8] {
+        match self.held.as_slice().get(..self.flushed) {
+            Some(bytes) => bytes,
+            None => b"".as_slice(),
+        }
+    }
+}
+
+impl Write for Holding {
+    fn write(&mut self, buffer: &[u8]) -> io::Result<usize> {
+        for byte in buffer {
+            match self.held.as_mut_slice().get_mut(self.len) {
+                Some(place) => *place = *byte,
+                None => return Err(io::Error::from(ErrorKind::StorageFull)),
+            }
+            self.len = self.len.saturating_add(1);
+        }
+        Ok(buffer.len())
+    }
+
+    fn flush(&mut self) -> io::Result<()> {
+        self.flushed = self.len;
+        Ok(())
     }
 }

@@ -6,7 +6,8 @@ use Rattle.audit.specs.declared.verdict.Verdict.{Verdict}
 use Rattle.atalk_tool.proofs.audit_file.audit_file.Goals as goal
 
 -- bytes that were read whole and have a verdict have no flaw
-no_flaw : (told : Option (List ℕ)) (bytes : List ℕ) (answer : Result Verdict Error) (v : Verdict) → IfSome told (λ bs. bytes ≡ bs) → answer ≡ Ok v
+no_flaw : (told : Option (List ℕ)) (bytes : List ℕ) (answer : Result Verdict Error) (v : Verdict)
+    → IfSome told (λ bs. bytes ≡ bs) → answer ≡ Ok v
     → ((f : Flaw) → IsFirstFlaw bytes f → answer ≡ Err (refusal bytes f)) → IfSome told (λ bs. (f : Flaw) → IsFirstFlaw bs f → ⊥)
 no_flaw None bytes answer v whole is first = tt
 no_flaw (Some bs) bytes answer v whole is first = λ f flawed.
@@ -14,5 +15,5 @@ no_flaw (Some bs) bytes answer v whole is first = λ f flawed.
 
 pub returns-clause-flaw : goal.returns-clause-flaw
 returns-clause-flaw g c =
-    no_flaw (g.R.Read.remaining c.args.input.now.reader) c.as_slice.result.now c.audit_bytes.result c.in_ok-verdict.verdict
-    (rw c.as_slice.ensures.value c.in_ok-bytes.ensures.ok) c.in_ok-verdict.was c.audit_bytes.ensures.first
+    no_flaw (g.R.Read.remaining c.args.input.now.reader) c.as_slice.result.now c.audit_bytes-answer.result c.in_ok-verdict.verdict
+    (rw c.as_slice.ensures.value c.in_ok-bytes.ensures.ok) c.in_ok-verdict.was c.audit_bytes-answer.ensures.first

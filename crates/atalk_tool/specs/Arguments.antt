@@ -2,9 +2,9 @@
 use Rattle.std.specs.Prelude.{◌≡◌, ◌≢◌, ◌⊎◌, ◌==◌, Bool, true, not, List, [], ◌∷◌, Option, Some, None, codes, option_and_then}
 use Rattle.clap.specs.Words.{App, Row, Text, first_of, new_app, new_rule, with_rule, with_subcommand}
 use Rattle.clap.specs.declared.builder.ArgAction.TheVariants.{Set}
-use Rattle.atalk_tool.specs.declared.words.Job.{Job}
-use Rattle.atalk_tool.specs.declared.words.Job.TheVariants.{Audit}
-use Rattle.atalk_tool.specs.declared.words.Source.TheVariants.{StandardInput, File}
+use Rattle.atalk_tool.specs.declared.arguments.Job.{Job}
+use Rattle.atalk_tool.specs.declared.arguments.Job.TheVariants.{Audit}
+use Rattle.atalk_tool.specs.declared.arguments.Source.TheVariants.{StandardInput, File}
 
 -- `audit FILE`
 abbrev pub audit_app : App
@@ -27,7 +27,7 @@ abbrev pub Audits : Option Text → Job → Type 0
 Audits text (Audit StandardInput) = (text ≡ None) ⊎ (text ≡ Some (codes "-"))
 Audits text (Audit (File path)) = (text ≡ Some path.now) × (path.now ≢ codes "-")
 
--- the word is no flag: it has at most one byte, or begins with another byte than the dash
+-- the argument is no flag: it has at most one byte, or begins with another byte than the dash
 abbrev pub is_operand : Text → Bool
 is_operand [] = true
 is_operand (b ∷ []) = true

@@ -3,17 +3,20 @@ use Rattle.std.proofs.lemmas.List.{length-map}
 use Rattle.clap.specs.Words.{App, Row, Text, IsAmong, Kinds, is_simple, is_simple_and_free, subcommand_of, takes, fault_of}
 use Rattle.clap.specs.declared.error.ErrorKind.{ErrorKind}
 use Rattle.clap.specs.declared.error.ErrorKind.TheVariants.{OutOfMemory}
-use Rattle.atalk_tool.specs.Words.{Audits, atalk_app, file_of}
-use Rattle.atalk_tool.proofs.CommandLine.{simple, simple_and_free, none_entered, none_taken, help_asked, version_asked, file_given, file_taken}
-use Rattle.atalk_tool.proofs.words.read_words.Goals as goal
+use Rattle.atalk_tool.specs.Arguments.{Audits, atalk_app, file_of}
+use Rattle.atalk_tool.proofs.CommandLine.{simple, simple_and_free, none_entered, none_taken}
+use Rattle.atalk_tool.proofs.CommandLine.{help_asked, help_short_asked, version_asked, version_short_asked, file_given, file_taken}
+use Rattle.atalk_tool.proofs.arguments.read_arguments.Goals as goal
 
 -- where one kind may come, an error has it or memory ran out
-only_kind : (found kind : ErrorKind) (kinds : Kinds) → kinds ≡ kind ∷ [] → (found ≡ OutOfMemory) ⊎ IsAmong found kinds → (found ≡ kind) ⊎ (found ≡ OutOfMemory)
+only_kind : (found kind : ErrorKind) (kinds : Kinds) → kinds ≡ kind ∷ []
+    → (found ≡ OutOfMemory) ⊎ IsAmong found kinds → (found ≡ kind) ⊎ (found ≡ OutOfMemory)
 only_kind found kind kinds one (inl memory) = inr memory
 only_kind found kind kinds one (inr among) = elim (rw one at among) [ inl same ↦ inl same | inr none ↦ absurd none ]
 
--- the fault of the words, in the parse that was made
-fault_is : (app : App) (texts words : List Text) (kinds : Kinds) → app ≡ atalk_app → texts ≡ words → fault_of atalk_app words ≡ kinds → fault_of app texts ≡ kinds
+-- the fault of the arguments, in the parse that was made
+fault_is : (app : App) (texts words : List Text) (kinds : Kinds) → app ≡ atalk_app → texts ≡ words
+    → fault_of atalk_app words ≡ kinds → fault_of app texts ≡ kinds
 fault_is app texts words kinds same named fault = ap (λ (a : App). fault_of a texts) same ∙ ap (fault_of atalk_app) named ∙ fault
 
 short_map : {X : Type 0} (f : X → Text) (xs : List X) → length xs ≤ 1 → length (map f xs) ≤ 1
@@ -21,8 +24,9 @@ short_map f xs short = rw (length-map xs f) short
 
 pub returns-in_err-matches-clause-alone_err : goal.returns-in_err-matches-clause-alone_err
 returns-in_err-matches-clause-alone_err g c = λ short.
-    let texts = map g.S.AsStr.text c.args.words.now in
-    let memory = c.in_err-matches.ensures.passes (ap (λ (a : App). takes a texts) c.in_ok-atalk_command.ensures ∙ none_taken texts (short_map g.S.AsStr.text c.args.words.now short)) in
+    let texts = map g.S.AsStr.text c.args.arguments.now in
+    let memory = c.in_err-matches.ensures.passes (ap (λ (a : App). takes a texts) c.in_ok-atalk_command.ensures
+    ∙ none_taken texts (short_map g.S.AsStr.text c.args.arguments.now short)) in
     search rules
 
 pub returns-in_err-matches-clause-help : goal.returns-in_err-matches-clause-help
@@ -41,10 +45,10 @@ returns-in_err-matches-clause-version g c = λ name named.
 
 pub returns-clause-alone : goal.returns-clause-alone
 returns-clause-alone g c = λ short.
-    let texts = map g.S.AsStr.text c.args.words.now in
+    let texts = map g.S.AsStr.text c.args.arguments.now in
     let app = c.in_ok-atalk_command.ensures in
     c.job_of.ensures.none ((c.in_ok-matches.ensures.matches (ap is_simple app ∙ simple)).1
-    ∙ ap (λ (a : App). subcommand_of a texts) app ∙ none_entered texts (short_map g.S.AsStr.text c.args.words.now short))
+    ∙ ap (λ (a : App). subcommand_of a texts) app ∙ none_entered texts (short_map g.S.AsStr.text c.args.arguments.now short))
 
 pub returns-clause-help : goal.returns-clause-help
 returns-clause-help g c = λ name named.
@@ -62,14 +66,14 @@ returns-clause-version g c = λ name named.
 
 pub returns-clause-file : goal.returns-clause-file
 returns-clause-file g c =
-    let texts = map g.S.AsStr.text c.args.words.now in
+    let texts = map g.S.AsStr.text c.args.arguments.now in
     let app = c.in_ok-atalk_command.ensures in
     let met = (c.in_ok-matches.ensures.matches (ap is_simple app ∙ simple)).1 ∙ ap (λ (a : App). subcommand_of a texts) app in
     subst (λ (rows : Option (Text × List Row)). Audits (file_of rows) c.job_of.result) met c.job_of.ensures.file
 
 pub returns-in_err-matches-clause-audit_err : goal.returns-in_err-matches-clause-audit_err
 returns-in_err-matches-clause-audit_err g c = λ name file named operand.
-    let texts = map g.S.AsStr.text c.args.words.now in
+    let texts = map g.S.AsStr.text c.args.arguments.now in
     let memory = c.in_err-matches.ensures.passes (ap₂ takes c.in_ok-atalk_command.ensures named ∙ file_taken name file operand) in
     search rules
 
@@ -78,3 +82,31 @@ returns-clause-audit g c = λ name file named operand.
     let app = c.in_ok-atalk_command.ensures in
     let met = (c.in_ok-matches.ensures.matches (ap is_simple app ∙ simple)).1 ∙ ap₂ subcommand_of app named in
     subst (λ (text : Option Text). Audits text c.job_of.result) (ap file_of met ∙ file_given name file operand) c.job_of.ensures.file
+
+pub returns-in_err-matches-clause-help_short : goal.returns-in_err-matches-clause-help_short
+returns-in_err-matches-clause-help_short g c = λ name named.
+    let app = c.in_ok-atalk_command.ensures in
+    let fault = fault_is _ _ _ _ app named (help_short_asked name) in
+    let kinds = only_kind _ _ _ fault (c.in_err-matches.ensures.kinds (ap is_simple_and_free app ∙ simple_and_free)) in
+    search rules
+
+pub returns-clause-help_short : goal.returns-clause-help_short
+returns-clause-help_short g c = λ name named.
+    let app = c.in_ok-atalk_command.ensures in
+    let fault = fault_is _ _ _ _ app named (help_short_asked name) in
+    let none = c.in_ok-matches.ensures.kinds (ap is_simple_and_free app ∙ simple_and_free) in
+    cc (fault, none)
+
+pub returns-in_err-matches-clause-version_short : goal.returns-in_err-matches-clause-version_short
+returns-in_err-matches-clause-version_short g c = λ name named.
+    let app = c.in_ok-atalk_command.ensures in
+    let fault = fault_is _ _ _ _ app named (version_short_asked name) in
+    let kinds = only_kind _ _ _ fault (c.in_err-matches.ensures.kinds (ap is_simple_and_free app ∙ simple_and_free)) in
+    search rules
+
+pub returns-clause-version_short : goal.returns-clause-version_short
+returns-clause-version_short g c = λ name named.
+    let app = c.in_ok-atalk_command.ensures in
+    let fault = fault_is _ _ _ _ app named (version_short_asked name) in
+    let none = c.in_ok-matches.ensures.kinds (ap is_simple_and_free app ∙ simple_and_free) in
+    cc (fault, none)

@@ -1,16 +1,18 @@
-use Rattle.std.proofs.Common.{rules, ◌≡◌, ◌≢◌, ◌∙◌, List, ℕ, Bool, true, false, Bor, Option, Some, None, Decides, codes, option_map, inl, inr, sym, subst, refl, ap}
+use Rattle.std.proofs.Common.{rules, ◌≡◌, ◌≢◌, ◌∙◌, List, ℕ, Bool, true, false, Bor, Option, Some, None}
+use Rattle.std.proofs.Common.{Decides, codes, option_map, inl, inr, sym, subst, refl, ap}
 use Rattle.std.specs.Option.{unwrap_or}
 use Rattle.std.proofs.lemmas.Slice.Eq.{bytes_eq-Decides}
 use Rattle.clap.specs.Words.{Row, Text, first_of, found_of, rows_of, subcommand_rows_of}
 use Rattle.clap.proofs.WalkLemmas.{first_value-rows}
-use Rattle.atalk_tool.specs.Words.{Audits, file_of}
-use Rattle.atalk_tool.specs.declared.words.Job.TheVariants.{Audit}
-use Rattle.atalk_tool.specs.declared.words.Source.{Source}
-use Rattle.atalk_tool.specs.declared.words.Source.TheVariants.{StandardInput, File}
-use Rattle.atalk_tool.proofs.words.job_of.Goals as goal
+use Rattle.atalk_tool.specs.Arguments.{Audits, file_of}
+use Rattle.atalk_tool.specs.declared.arguments.Job.TheVariants.{Audit}
+use Rattle.atalk_tool.specs.declared.arguments.Source.{Source}
+use Rattle.atalk_tool.specs.declared.arguments.Source.TheVariants.{StandardInput, File}
+use Rattle.atalk_tool.proofs.arguments.job_of.Goals as goal
 
 -- FILE is looked up among the rows of the command that was met
-file_among : (met : Option (Text × List Row)) (rows : List Row) → option_map (λ p. p.1) met ≡ Some rows → file_of met ≡ first_of (codes "FILE") rows
+file_among : (met : Option (Text × List Row)) (rows : List Row)
+    → option_map (λ p. p.1) met ≡ Some rows → file_of met ≡ first_of (codes "FILE") rows
 file_among None rows met_it = cc met_it
 file_among (Some p) rows met_it = cc met_it
 
@@ -38,6 +40,7 @@ named (Some found) text dash word source same is_dash is input file =
 pub returns-in-Some-clause-file : goal.returns-in-Some-clause-file
 returns-in-Some-clause-file c =
     let rows = file_among (subcommand_rows_of c.args.matches.now) (rows_of (found_of c.in-Some.audit.now)) (search rules) in
-    subst (λ (t : Option Text). Audits t (Audit c.source_of.result)) (sym rows) (named c.file_word.result _ _ c.unwrap_or.result c.source_of.result
-    (c.file_word.ensures ∙ first_value-rows (found_of c.in-Some.audit.now) (codes "FILE")) refl c.unwrap_or.ensures
+    subst (λ (t : Option Text). Audits t (Audit c.source_of.result)) (sym rows)
+    (named c.file_argument.result _ _ c.unwrap_or.result c.source_of.result
+    (c.file_argument.ensures ∙ first_value-rows (found_of c.in-Some.audit.now) (codes "FILE")) refl c.unwrap_or.ensures
     c.source_of.ensures.input c.source_of.ensures.file)

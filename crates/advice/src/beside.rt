@@ -1,0 +1,115 @@
+//! What a place of an image should have agreed with.
+
+use crate::item::{show_cable, show_node, show_port, show_row};
+use at_base::{Addr, Hw};
+use std::io;
+use table_image::{Image, Router, Row};
+
+/// The stations before a station that have its address or its hardware address: ports before the
+/// router and port `until`, and as many `nodes` from the first one on.
+pub(crate) fn show_earlier_stations(
+    rt: &impl Eprint,
+    image: &Image,
+    address: Addr,
+    hardware: &Hw,
+    until: (usize, usize),
+    nodes: usize,
+) -> io::Result<()> {
+    for (index, router) in image.routers().iter().enumerate() {
+        for (place, port) in router.ports.as_slice().iter().enumerate() {
+            let is_earlier = index + 1 < until.0 || index + 1 == until.0 && place + 1 < until.1;
+            if is_earlier && (port.address == address || port.hardware == *hardware) {
+                show_port(rt, index + 1, place + 1, port)?;
+            }
+        }
+    }
+    for (index, node) in image.nodes().iter().take(nodes).enumerate() {
+        if node.address == address || node.hardware == *hardware {
+            show_node(rt, index + 1, node)?;
+        }
+    }
+    Ok(())
+}
+
+/// The cables that share a network with the row.
+pub(crate) fn show_overlaps(rt: &impl Eprint, image: &Image, row: &Row) -> io::Result<()> {
+    let mut found = false;
+    for (index, cable) in image.cables().iter().enumerate() {
+        if cable.start <= row.end && row.start <= cable.end {
+            found = true;
+            show_cable(rt, index + 1, cable)?;
+        }
+    }
+    if found {
+        return Ok(());
+    }
+    eprintln!(rt; "  no cable has a network of {}-{}", row.start, row.end)
+}
+
+/// The cable of the row, and the router's port on it.
+pub(crate) fn show_home(
+    rt: &impl Eprint,
+    image: &Image,
+    router: &Router,
+    r: usize,
+    row: &Row,
+) -> io::Result<()> {
+    for (index, cable) in image.cables().iter().enumerate() {
+        if cable.start != row.start {
+            continue;
+        }
+        show_cable(rt, index + 1, cable)?;
+        let mut found = false;
+        for (place, port) in router.ports.as_slice().iter().enumerate() {
+            if port.cable as usize == index {
+                found = true;
+                show_port(rt, r, place + 1, port)?;
+            }
+        }
+        if !found {
+            eprintln!(rt; "  router {r} has no port on this cable")?;
+        }
+    }
+    Ok(())
+}
+
+/// The ports that have the address of the row's next router.
+pub(crate) fn show_next(rt: &impl Eprint, image: &Image, r: usize, row: &Row) -> io::Result<()> {
+    let mut found = false;
+    for (index, router) in image.routers().iter().enumerate() {
+        for (place, port) in router.ports.as_slice().iter().enumerate() {
+            if port.address == row.next {
+                found = true;
+                show_port(rt, index + 1, place + 1, port)?;
+                if index + 1 == r {
+                    eprintln!(rt; "  which is the same router")?;
+                }
+            }
+        }
+    }
+    if found {
+        return Ok(());
+    }
+    eprintln!(rt; "  no router has a port with the address {}", row.next)
+}
+
+/// The row of the next router for the same range.
+pub(crate) fn show_step(rt: &impl Eprint, image: &Image, row: &Row) -> io::Result<()> {
+    for (index, router) in image.routers().iter().enumerate() {
+        let mut ports = router.ports.as_slice().iter();
+        if !ports.any(|port| port.address == row.next) {
+            continue;
+        }
+        let mut found = false;
+        for (place, other) in router.rows.as_slice().iter().enumerate() {
+            if other.start == row.start && other.end == row.end {
+                found = true;
+                show_row(rt, index + 1, place + 1, other)?;
+            }
+        }
+        if !found {
+            eprintln!(rt; "  router {} has no row for this range", index + 1)?;
+        }
+    }
+    Ok(())
+}

@@ -1,0 +1,51 @@
+//! Why an input is refused.
+
+use at_base::Cause;
+use std::io;
+use std::io::ErrorKind;
+
+/// Why a file can't be opened or read.
+pub fn explain_kind(kind: ErrorKind) -> &'static str {
+    match kind {
+        ErrorKind::NotFound => "there is no such file",
+        ErrorKind::PermissionDenied => "permission denied",
+        ErrorKind::IsADirectory => "it is a folder",
+        ErrorKind::NotADirectory => "a part of its path is no folder",
+        ErrorKind::FilesystemLoop => "its symbolic links form a loop",
+        ErrorKind::InvalidFilename => "its name is too long",
+        ErrorKind::OutOfMemory => "out of memory",
+        _ => "the system reports an error",
+    }
+}
+
+/// What is wrong with an image.
+fn explain_cause(cause: Cause) -> &'static str {
+    match cause {
+        Cause::Cut => "it ends within a field; was it cut short?",
+        Cause::Magic => "it does not begin with ATIM; is it another kind of file?",
+        Cause::Version => "its version is another than 1; this atalk reads version 1 alone",
+        Cause::Count => "this count is above its limit",
+        Cause::Index => "there is no cable or port of this index",
+        Cause::Value => "this distance, state, flag, socket or enumerator is outside its range",
+        Cause::Name => "this length or text is that of no zone, object or type",
+        Cause::Order => "this first network or enumerator is not above the one before it",
+        Cause::Trailing => "bytes follow the last node",
+    }
+}
+
+/// The place and the cause of an image's first fault, with the byte there.
+pub fn explain_bytes(
+    rt: &impl Eprint,
+    place: u32,
+    cause: Cause,
+    bytes: &Option<Vec<u8>>,
+) -> io::Result<()> {
+    eprint!(rt; "is no image: at byte {place}")?;
+    if let Some(bytes) = bytes
+        && let Some(byte) = bytes.get(place as usize)
+    {
+        eprint!(rt; " (0x{byte:02X})")?;
+    }
+    eprintln!(rt; ", counted from 0, {}", explain_cause(cause))?;
+    eprintln!(rt; "The format of images: man atalk-image")
+}

@@ -1,0 +1,101 @@
+//! The place that breaks a rule, and beside it what it should have agreed with.
+
+use crate::beside::{show_earlier_stations, show_home, show_next, show_overlaps, show_step};
+use crate::item::{at, show_cable, show_node, show_port, show_row};
+use at_base::Place;
+use std::io;
+use table_image::{Image, Row};
+
+/// Shows the place, and what it is compared with.
+pub(crate) fn explain_place(
+    rt: &impl Eprint,
+    image: &Image,
+    rule: u8,
+    place: Place,
+) -> io::Result<()> {
+    match place {
+        Place::Cable(k) => {
+            show_cable_of(rt, image, k.saturating_sub(1))?;
+            show_cable_of(rt, image, k)
+        }
+        Place::Port(r, p) => explain_port(rt, image, r, p),
+        Place::Node(k) => explain_node(rt, image, k),
+        Place::Row(r, k) => explain_row(rt, image, rule, r, k),
+        Place::Missing(r, k) => {
+            eprintln!(rt; "  router {r} has no row for")?;
+            show_cable_of(rt, image, k)
+        }
+        Place::List(_, _) => Ok(()),
+    }
+}
+
+/// The cable of a number that counts from 1, if there is one.
+fn show_cable_of(rt: &impl Eprint, image: &Image, number: u32) -> io::Result<()> {
+    match at(image.cables(), number) {
+        Some(cable) => show_cable(rt, number as usize, cable),
+        None => Ok(()),
+    }
+}
+
+fn explain_port(rt: &impl Eprint, image: &Image, r: u32, p: u32) -> io::Result<()> {
+    let Some(router) = at(image.routers(), r) else {
+        return Ok(());
+    };
+    let Some(port) = at(router.ports.as_slice(), p) else {
+        return Ok(());
+    };
+    show_port(rt, r as usize, p as usize, port)?;
+    show_cable_of(rt, image, u32::from(port.cable).saturating_add(1))?;
+    let earlier = (p as usize).saturating_sub(1);
+    for (index, other) in router.ports.as_slice().iter().take(earlier).enumerate() {
+        if other.cable == port.cable {
+            show_port(rt, r as usize, index + 1, other)?;
+        }
+    }
+    let until = (r as usize, p as usize);
+    show_earlier_stations(rt, image, port.address, &port.hardware, until, 0)
+}
+
+fn explain_node(rt: &impl Eprint, image: &Image, k: u32) -> io::Result<()> {
+    let Some(node) = at(image.nodes(), k) else {
+        return Ok(());
+    };
+    show_node(rt, k as usize, node)?;
+    show_cable_of(rt, image, u32::from(node.cable) + 1)?;
+    let until = (image.routers().len() + 1, 1);
+    let nodes = (k as usize).saturating_sub(1);
+    show_earlier_stations(rt, image, node.address, &node.hardware, until, nodes)
+}
+
+fn explain_row(rt: &impl Eprint, image: &Image, rule: u8, r: u32, k: u32) -> io::Result<()> {
+    let Some(router) = at(image.routers(), r) else {
+        return Ok(());
+    };
+    let Some(row) = at(router.rows.as_slice(), k) else {
+        return Ok(());
+    };
+    show_row(rt, r as usize, k as usize, row)?;
+    match rule {
+        3 => show_overlaps(rt, image, row),
+        4 => show_home(rt, image, router, r as usize, row),
+        6 => {
+            show_cable_of_port(rt, image, router.ports.as_slice(), row)?;
+            show_next(rt, image, r as usize, row)
+        }
+        7 => show_step(rt, image, row),
+        _ => Ok(()),
+    }
+}
+
+/// The cable of the row's port.
+fn show_cable_of_port(
+    rt: &impl Eprint,
+    image: &Image,
+    ports: &[table_image::Port],
+    row: &Row,
+) -> io::Result<()> {
+    match ports.get(row.port as usize) {
+        Some(port) => show_cable_of(rt, image, u32::from(port.cable).saturating_add(1)),
+        None => Ok(()),
+    }
+}

@@ -1,0 +1,54 @@
+//! The rules, each in a sentence, and what to change where one is broken.
+
+/// What the rule asks for.
+pub(crate) fn meaning(rule: u8) -> &'static str {
+    match rule {
+        1 => {
+            "the ranges of the cables lie within 1 to 65279, rise and do not overlap, \
+             and each cable has at least one zone and none twice."
+        }
+        2 => {
+            "each port and node has an address in its cable's range, a node number of 1 to 253, \
+             and a hardware address of a single station, and shares neither; \
+             a router has at most one port on a cable."
+        }
+        3 => {
+            "each row is Good or Suspect and has the range of a cable, \
+             and each router has a row for each cable."
+        }
+        4 => {
+            "a row of a cable on which the router has a port has distance 0, that port \
+             and no next router; each other row has a distance and a next router."
+        }
+        5 => "a distance is at most 14.",
+        6 => {
+            "the next router of a row is another router, \
+             with a port of that address on the cable of the row's port."
+        }
+        7 => "the next router has a row for the same range, and it is exactly one nearer.",
+        _ => "this rule is broken.",
+    }
+}
+
+/// What to change.
+pub(crate) fn what_to_change(rule: u8) -> &'static str {
+    match rule {
+        1 => {
+            "give each cable a range of its own and at least one zone in the seed router's \
+             settings, and list the cables by rising range."
+        }
+        2 => {
+            "let the second station choose its address anew; \
+             give a copied emulator a hardware address of its own."
+        }
+        3 => {
+            "wait a minute or two until the routers have heard of each other, and look again; \
+             if the row stays away, look for a router between that does not send."
+        }
+        4 => "restart the router: the rows of its own cables are made when its ports come up.",
+        5 => "shorten the line of routers, or join its ends.",
+        6 => "wait for the row to age out, or restart the router that has it.",
+        7 => "restart the routers nearest to that range, and then those further away.",
+        _ => "see man atalk.",
+    }
+}

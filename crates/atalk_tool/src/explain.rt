@@ -1,0 +1,87 @@
+//! What an answer means, for a person at a terminal. All of this runs after the answer was given,
+//! and writes to standard error alone; where it fails, it says nothing.
+
+use crate::arguments::Source;
+use crate::exit::Outcome;
+use advice::{explain_bytes, explain_kind, explain_no};
+use at_base::Error;
+use std::io;
+use std::io::ErrorKind;
+
+/// What is known of a run besides its outcome.
+#[derive(Drop)]
+pub struct Evidence<'a> {
+    /// Where the image came from.
+    pub source: Option<Source<'a>>,
+    /// Why a read failed.
+    pub fault: Option<ErrorKind>,
+    /// The whole input.
+    pub bytes: Option<Vec<u8>>,
+}
+
+/// Says that the image is read from the terminal.
+pub fn prompt(rt: &impl Eprint) {
+    let _ = eprintln!(rt;
+        "atalk: reading an image from standard input; Ctrl-C ends it, and atalk --help has help"
+    );
+}
+
+/// Explains a no or a refusal on standard error.
+pub fn explain(rt: &(impl Eprint + AllocGlobal), outcome: &Outcome, evidence: &Evidence<'_>) {
+    let _ = explain_outcome(rt, outcome, evidence);
+}
+
+fn explain_outcome(
+    rt: &(impl Eprint + AllocGlobal),
+    outcome: &Outcome,
+    evidence: &Evidence<'_>,
+) -> io::Result<()> {
+    match outcome {
+        Outcome::Answered(Ok(true)) => Ok(()),
+        Outcome::Answered(Ok(false)) => match &evidence.bytes {
+            Some(bytes) => explain_no(rt, bytes.as_slice()),
+            None => Ok(()),
+        },
+        Outcome::Answered(Err(error)) => explain_error(rt, error, evidence),
+        Outcome::NotOpened(kind) => {
+            explain_source(rt, evidence)?;
+            eprintln!(rt; "cannot be opened: {}", explain_kind(*kind))
+        }
+        Outcome::NoArguments(ErrorKind::OutOfMemory) => eprintln!(rt; "atalk: out of memory"),
+        // Clap's text was printed, or that an argument is no text.
+        Outcome::NoArguments(_) | Outcome::NoJob(_, _) => Ok(()),
+    }
+}
+
+/// The program's name and that of the input.
+fn explain_source(rt: &impl Eprint, evidence: &Evidence<'_>) -> io::Result<()> {
+    match evidence.source {
+        Some(Source::File(path)) => eprint!(rt; "atalk: {path:?} "),
+        _ => eprint!(rt; "atalk: standard input "),
+    }
+}
+
+fn explain_error(
+    rt: &(impl Eprint + AllocGlobal),
+    error: &Error,
+    evidence: &Evidence<'_>,
+) -> io::Result<()> {
+    match error {
+        Error::BadImage(place, cause) => {
+            explain_source(rt, evidence)?;
+            explain_bytes(rt, *place, *cause, &evidence.bytes)
+        }
+        Error::ReadFault => {
+            explain_source(rt, evidence)?;
+            match evidence.fault {
+                Some(kind) => eprintln!(rt; "cannot be read: {}", explain_kind(kind)),
+                None => eprintln!(rt; "did not end after 16777216 reads"),
+            }
+        }
+        Error::WriteFault => eprintln!(rt;
+            "atalk: the answer cannot be written to standard output"
+        ),
+        Error::Memory => eprintln!(rt; "atalk: out of memory"),
+        _ => Ok(()),
+    }
+}

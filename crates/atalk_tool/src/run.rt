@@ -1,0 +1,170 @@
+//! A run of the program.
+
+ghost use Rattle.std.specs.Prelude.{◌≡◌, Bool};
+ghost use Rattle.clap.specs.Words.{kind_of};
+ghost use Rattle.atalk_tool.specs.Exits.{exit_at};
+
+use crate::arguments::{Job, Source, read_arguments};
+use crate::audit_file::audit_file;
+use crate::exit::{Outcome, exit_of};
+use crate::explain::{Evidence, explain, prompt};
+use crate::{input, output};
+use clap::error::ErrorKind as ParseError;
+use std::fs::File;
+use std::io;
+use std::io::{Read, writer};
+use std::rt::{Env, Files};
+
+/// Which of the streams are terminals.
+#[derive(Clone, Copy)]
+pub struct Terminals {
+    /// Standard input.
+    pub input: bool,
+    /// Standard error.
+    pub errors: bool,
+}
+
+/// What came of a run, and what explains it.
+#[derive(Drop)]
+struct Performed<'a> {
+    outcome: Outcome,
+    evidence: Evidence<'a>,
+}
+
+impl<'a> Performed<'a> {
+    /// A run that got to no source of an image.
+    fn without_source(outcome: Outcome) -> Performed<'a>
+        ensures { result.outcome ≡ outcome }
+    {
+        Performed {
+            outcome,
+            evidence: Evidence {
+                source: None,
+                fault: None,
+                bytes: None,
+            },
+        }
+    }
+}
+
+/// The arguments, the program's own name first.
+fn given_arguments<R: Env + AllocGlobal>(rt: &R) -> io::Result<Vec<String>> {
+    Ok(std::env::args(rt)?.collect(rt.alloc())?)
+}
+
+/// Audits what the reader has, and prints the line on standard output.
+fn audit_reader<'a, R: Print + AllocGlobal, S: Read + Drop>(
+    rt: &R,
+    source: Source<'a>,
+    reader: S,
+) -> Performed<'a> {
+    let mut input = input::Input::new(reader);
+    let mut output = output::Output::new(writer(rt));
+    let answer = audit_file(rt.alloc(), &mut input, &mut output);
+    let input::Input { fault, kept, .. } = input;
+    Performed {
+        outcome: Outcome::Answered(answer),
+        evidence: Evidence {
+            source: Some(source),
+            fault,
+            bytes: kept,
+        },
+    }
+}
+
+/// Audits the image of the source. That it is read from a terminal is said there.
+fn audit_source<'a, R: Files + Input + Print + Eprint + AllocGlobal>(
+    rt: &R,
+    source: Source<'a>,
+    terminals: Terminals,
+) -> Performed<'a> {
+    match source {
+        Source::StandardInput => {
+            if terminals.input && terminals.errors {
+                prompt(rt);
+            }
+            audit_reader(rt, source, rt.reader())
+        }
+        Source::File(path) => match File::open(rt, path) {
+            Ok(file) => audit_reader(rt, source, file),
+            Err(error) => Performed {
+                outcome: Outcome::NotOpened(error.kind()),
+                evidence: Evidence {
+                    source: Some(source),
+                    fault: None,
+                    bytes: None,
+                },
+            },
+        },
+    }
+}
+
+/// Prints what the arguments got in place of a job: help, the version, or a usage error.
+fn print_answer<'a>(rt: &(impl Print + Eprint), error: &clap::Error) -> Performed<'a>
+    ensures { (printed : Bool)
+        × (result.outcome ≡ Outcome.NoJob (kind_of error.now) printed) }
+{
+    let kind = error.kind();
+    // Where memory ran out, the refusal alone is printed.
+    let printed = kind != ParseError::OutOfMemory && error.print(rt).is_ok();
+    Performed::without_source(Outcome::NoJob(kind, printed))
+}
+
+/// Prints a refusal's number on standard error, and returns the exit status.
+fn finish(rt: &impl Eprint, outcome: &Outcome) -> u8
+    ensures { result ≡ (exit_at outcome.now).status }
+{
+    let exit = exit_of(outcome);
+    if let Some(number) = exit.refusal {
+        // Where standard error is closed too, the status alone is left.
+        let _ = eprintln!(rt; "refused: {number}");
+    }
+    exit.status
+}
+
+/// Gives the answer: the refusal's number, its explanation for a person, and the exit status.
+fn answer(rt: &(impl Eprint + AllocGlobal), performed: &Performed<'_>, terminals: Terminals) -> u8
+    ensures { result ≡ (exit_at performed.now.outcome).status }
+{
+    let status = finish(rt, &performed.outcome);
+    if terminals.errors {
+        explain(rt, &performed.outcome, &performed.evidence);
+    }
+    status
+}
+
+/// The arguments can't be taken: memory ran out, or one of them is no text.
+fn refuse_arguments<'a>(rt: &impl Eprint, kind: io::ErrorKind) -> Performed<'a>
+    ensures { result.outcome ≡ Outcome.NoArguments kind }
+{
+    if kind != io::ErrorKind::OutOfMemory {
+        let _ = eprintln!(rt; "error: an argument is not UTF-8 text");
+    }
+    Performed::without_source(Outcome::NoArguments(kind))
+}
+
+/// Does what the arguments ask for, and returns the exit status.
+fn run_arguments<R: Files + Input + Print + Eprint + AllocGlobal>(
+    rt: &R,
+    arguments: &[String],
+    terminals: Terminals,
+) -> u8 {
+    match read_arguments(rt.alloc(), arguments) {
+        Ok(Job::Audit(source)) => {
+            let performed = audit_source(rt, source, terminals);
+            answer(rt, &performed, terminals)
+        }
+        Err(error) => answer(rt, &print_answer(rt, &error), terminals),
+    }
+}
+
+/// Does what the program's arguments ask for, and returns the exit status.
+pub fn run<R: Env + Files + Input + Print + Eprint + AllocGlobal>(
+    rt: &R,
+    terminals: Terminals,
+) -> u8 {
+    match given_arguments(rt) {
+        Ok(arguments) => run_arguments(rt, arguments.as_slice(), terminals),
+        Err(error) => answer(rt, &refuse_arguments(rt, error.kind()), terminals),
+    }
+}
