@@ -1,0 +1,132 @@
+//! Parts with one list that is longer by one than an image may have it.
+
+use at_base::{Addr, Error, Hw, Name, Text32};
+use rtmp::State;
+use std::alloc::Global;
+use table_image::{Cable, Image, Listed, Node, NodeName, Port, Router, Row, ZoneList};
+
+/// Which list is too long.
+#[derive(Clone, Copy)]
+pub(crate) enum TooLong {
+    Cables,
+    Zones,
+    Routers,
+    Ports,
+    Rows,
+    ZoneLists,
+    ListedZones,
+    Nodes,
+    Names,
+}
+
+/// So many values of a kind.
+fn copies<T: Copy>(alloc: Global, value: T, count: u8) -> Result<Listed<T>, Error> {
+    let mut values = Vec::new(alloc);
+    for _ in 0..count {
+        values.push(value)?;
+    }
+    Ok(Listed::from_vec(values))
+}
+
+fn cable(alloc: Global, zones: u8) -> Result<Cable, Error> {
+    Ok(Cable {
+        start: 1,
+        end: 1,
+        zones: copies(alloc, Name::new(b"A")?, zones)?,
+    })
+}
+
+fn zone_list(alloc: Global, zones: u8) -> Result<ZoneList, Error> {
+    Ok(ZoneList {
+        start: 1,
+        end: 1,
+        complete: true,
+        zones: copies(alloc, Name::new(b"A")?, zones)?,
+    })
+}
+
+fn port() -> Port {
+    Port {
+        cable: 0,
+        address: Addr { net: 1, node: 1 },
+        hardware: Hw([2, 0, 0, 0, 0, 1]),
+    }
+}
+
+fn row() -> Row {
+    Row {
+        start: 1,
+        end: 1,
+        distance: 0,
+        port: 0,
+        next: Addr { net: 0, node: 0 },
+        state: State::Good,
+    }
+}
+
+fn router(alloc: Global, ports: u8, rows: u8, lists: u8, zones: u8) -> Result<Router, Error> {
+    let mut zone_lists = Vec::new(alloc);
+    for _ in 0..lists {
+        zone_lists.push(zone_list(alloc, zones)?)?;
+    }
+    Ok(Router {
+        ports: copies(alloc, port(), ports)?,
+        rows: copies(alloc, row(), rows)?,
+        lists: Listed::from_vec(zone_lists),
+    })
+}
+
+fn node(alloc: Global, names: u8) -> Result<Node, Error> {
+    let name = NodeName {
+        socket: 1,
+        enumerator: 1,
+        object: Text32::new(b"a")?,
+        kind: Text32::new(b"b")?,
+    };
+    Ok(Node {
+        cable: 0,
+        address: Addr { net: 1, node: 2 },
+        hardware: Hw([2, 0, 0, 0, 0, 2]),
+        zone: Name::new(b"A")?,
+        router: None,
+        names: copies(alloc, name, names)?,
+    })
+}
+
+/// What `Image::make` answers to a cable, a router and a node, of which one list is too long.
+fn with_too_long(alloc: Global, list: TooLong) -> Result<Image, Error> {
+    let (mut cables, mut zones, mut routers, mut nodes, mut names) = (1, 1, 1, 1, 1);
+    let (mut ports, mut rows, mut lists, mut listed) = (1, 1, 1, 1);
+    match list {
+        TooLong::Cables => cables = 201,
+        TooLong::Zones => zones = 65,
+        TooLong::Routers => routers = 201,
+        TooLong::Ports => ports = 17,
+        TooLong::Rows => rows = 201,
+        TooLong::ZoneLists => lists = 201,
+        TooLong::ListedZones => listed = 65,
+        TooLong::Nodes => nodes = 201,
+        TooLong::Names => names = 33,
+    }
+    let mut all_cables = Vec::new(alloc);
+    for _ in 0..cables {
+        all_cables.push(cable(alloc, zones)?)?;
+    }
+    let mut all_routers = Vec::new(alloc);
+    for _ in 0..routers {
+        all_routers.push(router(alloc, ports, rows, lists, listed)?)?;
+    }
+    let mut all_nodes = Vec::new(alloc);
+    for _ in 0..nodes {
+        all_nodes.push(node(alloc, names)?)?;
+    }
+    Image::make(all_cables, all_routers, all_nodes)
+}
+
+/// What `Image::make` answers to parts with such a list, called again where memory was refused.
+pub(crate) fn refusal_of(alloc: Global, list: TooLong) -> Option<Error> {
+    match with_too_long(alloc, list) {
+        Err(Error::Memory) => with_too_long(alloc, list).err(),
+        answer => answer.err(),
+    }
+}
