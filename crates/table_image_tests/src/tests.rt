@@ -6,6 +6,7 @@ mod equal;
 mod faults;
 mod long;
 mod parts;
+mod readme;
 mod whole;
 
 use again::{bad, is_written_as, read_again, three_numbers, write_again};
@@ -28,6 +29,7 @@ use long::{TooLong, refusal_of};
 use parts::{
     has_ports, has_rows, is_cable, is_list, is_name, is_node, made, made_with_a_lost_port, row,
 };
+use readme::lines_of;
 use rtmp::State;
 use std::test::Fail;
 use table_image::{Listed, MAX_CABLES, one_spelling, read};
@@ -106,6 +108,21 @@ fn a_router_has_its_rows(rt: HostRuntime) -> Result<(), Fail> {
         row(30, 39, 0, 1, nobody, State::Good),
     ];
     assert!(rt; has_rows(&routers[1], &second));
+    Ok(())
+}
+
+#[test]
+fn the_readme_prints_rows(rt: HostRuntime) -> Result<(), Fail> {
+    let bytes = three_cables::image();
+    let lines = match lines_of(rt.alloc(), &bytes, 0) {
+        Err(Error::Memory) => lines_of(rt.alloc(), &bytes, 0)?,
+        answer => answer?,
+    };
+    let want = ["10-19 direct", "20-29 direct", "30-39 distance 1 by 20.2"];
+    assert_eq!(rt; lines.len(), want.len());
+    for (line, text) in lines.iter().zip(want.iter()) {
+        assert_eq!(rt; line.as_str(), *text);
+    }
     Ok(())
 }
 
