@@ -12,9 +12,11 @@ use audit::{
     each_step, loops_have_no_walk, one_walk_home, seats_are_unique, the_example_passes,
     unlisted_is_nowhere, words_exclude,
 };
+use example_images::three_cables::image;
+use example_images::three_cables_bytes as at;
 use images::{
-    BOTH, CABLES, SECOND, THREE_CABLES, YES, change, changed, line_of_bytes, line_of_cable,
-    line_of_parts, with_row,
+    BOTH, CABLES, SECOND, YES, change, changed, line_of_bytes, line_of_cable, line_of_parts,
+    with_row,
 };
 use lines::line_again;
 use readme::report;
@@ -24,7 +26,7 @@ use std::test::Fail;
 
 #[test]
 fn the_example_has_this_line(rt: HostRuntime) -> Result<(), Fail> {
-    let line = line_of_bytes(rt.alloc(), THREE_CABLES.as_slice())?;
+    let line = line_of_bytes(rt.alloc(), image().as_slice())?;
     assert_eq!(rt; line.as_str(), YES);
     Ok(())
 }
@@ -124,14 +126,32 @@ fn the_next_router_is_one_nearer(rt: HostRuntime) -> Result<(), Fail> {
         (2, "no: C7 router 2 row 3"),
         (3, "no: C7 router 1 row 3"),
     ] {
-        let mut bytes = changed([(140, 0), (142, 10), (143, 2), (86, distance)].as_slice());
+        let mut bytes = changed([
+            (at::ROUTER_2_PORT_2_CABLE, 0),
+            (at::ROUTER_2_PORT_2_NETWORK, 10),
+            (at::ROUTER_2_PORT_2_NODE, 2),
+            (86, distance),
+        ]
+        .as_slice());
         change(
             &mut bytes,
-            [(155, 0), (156, 1), (158, 0), (159, 0)].as_slice(),
+            [
+                (at::ROUTER_2_ROW_1_DISTANCE, 0),
+                (at::ROUTER_2_ROW_1_PORT, 1),
+                (at::ROUTER_2_ROW_1_NEXT_NETWORK, 0),
+                (at::ROUTER_2_ROW_1_NEXT_NODE, 0),
+            ]
+            .as_slice(),
         );
         change(
             &mut bytes,
-            [(175, 1), (176, 0), (178, 20), (179, 1)].as_slice(),
+            [
+                (at::ROUTER_2_ROW_3_DISTANCE, 1),
+                (at::ROUTER_2_ROW_3_PORT, 0),
+                (at::ROUTER_2_ROW_3_NEXT_NETWORK, 20),
+                (at::ROUTER_2_ROW_3_NEXT_NODE, 1),
+            ]
+            .as_slice(),
         );
         let line = line_of_bytes(rt.alloc(), bytes.as_slice())?;
         assert_eq!(rt; line.as_str(), want, "{distance}");
@@ -332,9 +352,9 @@ fn rules_have_numbers(rt: HostRuntime) {
 #[test]
 fn the_readme_says_what_it_prints(rt: HostRuntime) -> Result<(), Fail> {
     for (bytes, want) in [
-        (THREE_CABLES.as_slice(), YES),
+        (image().as_slice(), YES),
         (
-            changed([(86, 15)].as_slice()).as_slice(),
+            changed([(at::ROUTER_1_ROW_3_DISTANCE, 15)].as_slice()).as_slice(),
             "no: C5 router 1 row 3",
         ),
         (b"ATIM".as_slice(), "no image: Cut at byte 4"),

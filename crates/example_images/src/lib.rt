@@ -6,6 +6,7 @@
 pub mod fields;
 mod large;
 pub mod three_cables;
+pub mod three_cables_bytes;
 pub mod two_names;
 
 pub use large::{many_cables, many_parts, many_stations, many_zones};

@@ -1,7 +1,8 @@
 //! Changes of the example, each with the verdict line that it must have, worked by hand from
-//! docs/RULES.md. A pair is the offset of a byte of `THREE_CABLES` and the byte that it becomes.
+//! docs/RULES.md. A pair is a byte of the image of three cables, by name, and what it becomes.
 
 use super::images::{YES, check_each};
+use example_images::three_cables_bytes as at;
 use std::alloc::Global;
 use std::process::Abort;
 use std::test::Fail;
@@ -10,28 +11,58 @@ use std::test::Fail;
 pub(crate) fn cables_stand_in_order(rt: &impl Abort, alloc: Global) -> Result<(), Fail> {
     let cases = [
         // The first cable has one network, begins at 1, begins at 0, ends before it begins.
-        ([(9, 10), (65, 10), (154, 10)].as_slice(), YES),
-        ([(7, 1), (63, 1), (152, 1)].as_slice(), YES),
-        ([(7, 0), (63, 0), (152, 0)].as_slice(), "no: C1 cable 1"),
-        ([(9, 9)].as_slice(), "no: C1 cable 1"),
-        // The second begins where the first ends.
-        ([(16, 19)].as_slice(), "no: C1 cable 2"),
-        // The last ends at FEFF, at FF00.
         (
             [
-                (31, 0xFE),
-                (32, 0xFF),
-                (84, 0xFE),
-                (85, 0xFF),
-                (173, 0xFE),
-                (174, 0xFF),
+                (at::CABLE_1_END, 10),
+                (at::ROUTER_1_ROW_1_END, 10),
+                (at::ROUTER_2_ROW_1_END, 10),
             ]
             .as_slice(),
             YES,
         ),
-        ([(31, 0xFF), (32, 0)].as_slice(), "no: C1 cable 3"),
+        (
+            [
+                (at::CABLE_1_START, 1),
+                (at::ROUTER_1_ROW_1_START, 1),
+                (at::ROUTER_2_ROW_1_START, 1),
+            ]
+            .as_slice(),
+            YES,
+        ),
+        (
+            [
+                (at::CABLE_1_START, 0),
+                (at::ROUTER_1_ROW_1_START, 0),
+                (at::ROUTER_2_ROW_1_START, 0),
+            ]
+            .as_slice(),
+            "no: C1 cable 1",
+        ),
+        ([(at::CABLE_1_END, 9)].as_slice(), "no: C1 cable 1"),
+        // The second begins where the first ends.
+        ([(at::CABLE_2_START, 19)].as_slice(), "no: C1 cable 2"),
+        // The last ends at FEFF, at FF00.
+        (
+            [
+                (at::CABLE_3_END_HIGH, 0xFE),
+                (at::CABLE_3_END, 0xFF),
+                (at::ROUTER_1_ROW_3_END_HIGH, 0xFE),
+                (at::ROUTER_1_ROW_3_END, 0xFF),
+                (at::ROUTER_2_ROW_3_END_HIGH, 0xFE),
+                (at::ROUTER_2_ROW_3_END, 0xFF),
+            ]
+            .as_slice(),
+            YES,
+        ),
+        (
+            [(at::CABLE_3_END_HIGH, 0xFF), (at::CABLE_3_END, 0)].as_slice(),
+            "no: C1 cable 3",
+        ),
         // Of two the first is reported.
-        ([(9, 9), (31, 0xFF)].as_slice(), "no: C1 cable 1"),
+        (
+            [(at::CABLE_1_END, 9), (at::CABLE_3_END_HIGH, 0xFF)].as_slice(),
+            "no: C1 cable 1",
+        ),
     ];
     check_each(rt, alloc, cases.as_slice())
 }
@@ -43,30 +74,59 @@ pub(crate) fn stations_have_addresses_of_their_cables(
 ) -> Result<(), Fail> {
     let cases = [
         // The last network of the cable, the one above it, the one below the first.
-        ([(43, 19)].as_slice(), YES),
-        ([(43, 20)].as_slice(), "no: C2 router 1 port 1"),
-        ([(43, 9)].as_slice(), "no: C2 router 1 port 1"),
-        ([(221, 20)].as_slice(), "no: C2 node 1"),
+        ([(at::ROUTER_1_PORT_1_NETWORK, 19)].as_slice(), YES),
+        (
+            [(at::ROUTER_1_PORT_1_NETWORK, 20)].as_slice(),
+            "no: C2 router 1 port 1",
+        ),
+        (
+            [(at::ROUTER_1_PORT_1_NETWORK, 9)].as_slice(),
+            "no: C2 router 1 port 1",
+        ),
+        ([(at::NODE_1_NETWORK, 20)].as_slice(), "no: C2 node 1"),
         // The nodes 0, 253 and 254; an odd first byte, an odd second one; of a port, of a node.
-        ([(44, 0)].as_slice(), "no: C2 router 1 port 1"),
-        ([(44, 253)].as_slice(), YES),
-        ([(44, 254)].as_slice(), "no: C2 router 1 port 1"),
-        ([(45, 3)].as_slice(), "no: C2 router 1 port 1"),
-        ([(46, 1)].as_slice(), YES),
-        ([(222, 0)].as_slice(), "no: C2 node 1"),
-        ([(222, 253)].as_slice(), YES),
-        ([(222, 254)].as_slice(), "no: C2 node 1"),
-        ([(223, 3)].as_slice(), "no: C2 node 1"),
-        ([(224, 1)].as_slice(), YES),
+        (
+            [(at::ROUTER_1_PORT_1_NODE, 0)].as_slice(),
+            "no: C2 router 1 port 1",
+        ),
+        ([(at::ROUTER_1_PORT_1_NODE, 253)].as_slice(), YES),
+        (
+            [(at::ROUTER_1_PORT_1_NODE, 254)].as_slice(),
+            "no: C2 router 1 port 1",
+        ),
+        (
+            [(at::ROUTER_1_PORT_1_HARDWARE_1, 3)].as_slice(),
+            "no: C2 router 1 port 1",
+        ),
+        ([(at::ROUTER_1_PORT_1_HARDWARE_2, 1)].as_slice(), YES),
+        ([(at::NODE_1_NODE, 0)].as_slice(), "no: C2 node 1"),
+        ([(at::NODE_1_NODE, 253)].as_slice(), YES),
+        ([(at::NODE_1_NODE, 254)].as_slice(), "no: C2 node 1"),
+        ([(at::NODE_1_HARDWARE_1, 3)].as_slice(), "no: C2 node 1"),
+        ([(at::NODE_1_HARDWARE_2, 1)].as_slice(), YES),
         // A second port of the router on one cable.
         (
-            [(51, 0), (53, 10), (54, 2)].as_slice(),
+            [
+                (at::ROUTER_1_PORT_2_CABLE, 0),
+                (at::ROUTER_1_PORT_2_NETWORK, 10),
+                (at::ROUTER_1_PORT_2_NODE, 2),
+            ]
+            .as_slice(),
             "no: C2 router 1 port 2",
         ),
         // Ports come before nodes, and the ports of one router before those of the next.
-        ([(222, 0), (143, 0)].as_slice(), "no: C2 router 2 port 2"),
-        ([(54, 0), (133, 0)].as_slice(), "no: C2 router 1 port 2"),
-        ([(241, 0), (222, 0)].as_slice(), "no: C2 node 1"),
+        (
+            [(at::NODE_1_NODE, 0), (at::ROUTER_2_PORT_2_NODE, 0)].as_slice(),
+            "no: C2 router 2 port 2",
+        ),
+        (
+            [(at::ROUTER_1_PORT_2_NODE, 0), (at::ROUTER_2_PORT_1_NODE, 0)].as_slice(),
+            "no: C2 router 1 port 2",
+        ),
+        (
+            [(at::NODE_2_NODE, 0), (at::NODE_1_NODE, 0)].as_slice(),
+            "no: C2 node 1",
+        ),
     ];
     check_each(rt, alloc, cases.as_slice())
 }
@@ -75,24 +135,48 @@ pub(crate) fn stations_have_addresses_of_their_cables(
 pub(crate) fn no_two_stations_have_one_address(rt: &impl Abort, alloc: Global) -> Result<(), Fail> {
     let cases = [
         // Of two routers, an address, a hardware address, all but one byte of one.
-        ([(133, 1)].as_slice(), "no: C2 router 2 port 1"),
-        ([(139, 2)].as_slice(), "no: C2 router 2 port 1"),
-        ([(139, 2), (135, 1)].as_slice(), YES),
+        (
+            [(at::ROUTER_2_PORT_1_NODE, 1)].as_slice(),
+            "no: C2 router 2 port 1",
+        ),
+        (
+            [(at::ROUTER_2_PORT_1_HARDWARE_6, 2)].as_slice(),
+            "no: C2 router 2 port 1",
+        ),
+        (
+            [
+                (at::ROUTER_2_PORT_1_HARDWARE_6, 2),
+                (at::ROUTER_2_PORT_1_HARDWARE_2, 1),
+            ]
+            .as_slice(),
+            YES,
+        ),
         // Two ports of one router with one hardware address.
-        ([(60, 1)].as_slice(), YES),
+        ([(at::ROUTER_1_PORT_2_HARDWARE_6, 1)].as_slice(), YES),
         // Of a node and a router.
-        ([(222, 1)].as_slice(), "no: C2 node 1"),
-        ([(247, 4)].as_slice(), "no: C2 node 2"),
+        ([(at::NODE_1_NODE, 1)].as_slice(), "no: C2 node 1"),
+        ([(at::NODE_2_HARDWARE_6, 4)].as_slice(), "no: C2 node 2"),
         // Of two nodes, an address, a hardware address, the node's number alone.
-        ([(238, 0), (240, 10), (241, 7)].as_slice(), "no: C2 node 2"),
-        ([(247, 5)].as_slice(), "no: C2 node 2"),
-        ([(241, 7)].as_slice(), YES),
+        (
+            [
+                (at::NODE_2_CABLE, 0),
+                (at::NODE_2_NETWORK, 10),
+                (at::NODE_2_NODE, 7),
+            ]
+            .as_slice(),
+            "no: C2 node 2",
+        ),
+        ([(at::NODE_2_HARDWARE_6, 5)].as_slice(), "no: C2 node 2"),
+        ([(at::NODE_2_NODE, 7)].as_slice(), YES),
         // A hardware address on two cables: router 1 is on the first two, router 2 on the last two,
         // node 1 on the first and node 2 on the last. They end in 1 and 2, 3 and 4, 5 and 6.
-        ([(149, 1)].as_slice(), "no: C2 router 2 port 2"),
-        ([(228, 2)].as_slice(), "no: C2 node 1"),
-        ([(228, 4)].as_slice(), "no: C2 node 1"),
-        ([(247, 1)].as_slice(), "no: C2 node 2"),
+        (
+            [(at::ROUTER_2_PORT_2_HARDWARE_6, 1)].as_slice(),
+            "no: C2 router 2 port 2",
+        ),
+        ([(at::NODE_1_HARDWARE_6, 2)].as_slice(), "no: C2 node 1"),
+        ([(at::NODE_1_HARDWARE_6, 4)].as_slice(), "no: C2 node 1"),
+        ([(at::NODE_2_HARDWARE_6, 1)].as_slice(), "no: C2 node 2"),
     ];
     check_each(rt, alloc, cases.as_slice())
 }
@@ -104,26 +188,78 @@ pub(crate) fn rows_are_for_cables_and_direct_rows_direct(
 ) -> Result<(), Fail> {
     let cases = [
         // The rows with a distance are Suspect; one is Bad, Last; its start, its end is no cable's.
-        ([(91, 1), (160, 1)].as_slice(), YES),
-        ([(91, 2)].as_slice(), "no: C3 router 1 row 3"),
-        ([(91, 3)].as_slice(), "no: C3 router 1 row 3"),
-        ([(83, 31)].as_slice(), "no: C3 router 1 row 3"),
-        ([(85, 38)].as_slice(), "no: C3 router 1 row 3"),
-        // The row of an own cable has distance 1, another port, the next router 0.5, 5.0.
-        ([(66, 1)].as_slice(), "no: C4 router 1 row 1"),
-        ([(67, 1)].as_slice(), "no: C4 router 1 row 1"),
-        ([(77, 0)].as_slice(), "no: C4 router 1 row 2"),
-        ([(70, 5)].as_slice(), "no: C4 router 1 row 1"),
-        ([(69, 5)].as_slice(), "no: C4 router 1 row 1"),
         (
-            [(175, 1), (178, 20), (179, 1)].as_slice(),
+            [(at::ROUTER_1_ROW_3_STATE, 1), (at::ROUTER_2_ROW_1_STATE, 1)].as_slice(),
+            YES,
+        ),
+        (
+            [(at::ROUTER_1_ROW_3_STATE, 2)].as_slice(),
+            "no: C3 router 1 row 3",
+        ),
+        (
+            [(at::ROUTER_1_ROW_3_STATE, 3)].as_slice(),
+            "no: C3 router 1 row 3",
+        ),
+        (
+            [(at::ROUTER_1_ROW_3_START, 31)].as_slice(),
+            "no: C3 router 1 row 3",
+        ),
+        (
+            [(at::ROUTER_1_ROW_3_END, 38)].as_slice(),
+            "no: C3 router 1 row 3",
+        ),
+        // The row of an own cable has distance 1, another port, the next router 0.5, 5.0.
+        (
+            [(at::ROUTER_1_ROW_1_DISTANCE, 1)].as_slice(),
+            "no: C4 router 1 row 1",
+        ),
+        (
+            [(at::ROUTER_1_ROW_1_PORT, 1)].as_slice(),
+            "no: C4 router 1 row 1",
+        ),
+        (
+            [(at::ROUTER_1_ROW_2_PORT, 0)].as_slice(),
+            "no: C4 router 1 row 2",
+        ),
+        (
+            [(at::ROUTER_1_ROW_1_NEXT_NODE, 5)].as_slice(),
+            "no: C4 router 1 row 1",
+        ),
+        (
+            [(at::ROUTER_1_ROW_1_NEXT_NETWORK, 5)].as_slice(),
+            "no: C4 router 1 row 1",
+        ),
+        (
+            [
+                (at::ROUTER_2_ROW_3_DISTANCE, 1),
+                (at::ROUTER_2_ROW_3_NEXT_NETWORK, 20),
+                (at::ROUTER_2_ROW_3_NEXT_NODE, 1),
+            ]
+            .as_slice(),
             "no: C4 router 2 row 3",
         ),
         // Of two rows the first is reported.
-        ([(66, 1), (77, 0)].as_slice(), "no: C4 router 1 row 1"),
+        (
+            [
+                (at::ROUTER_1_ROW_1_DISTANCE, 1),
+                (at::ROUTER_1_ROW_2_PORT, 0),
+            ]
+            .as_slice(),
+            "no: C4 router 1 row 1",
+        ),
         // The row of another cable has distance 0, the next router 0.0.
-        ([(86, 0)].as_slice(), "no: C4 router 1 row 3"),
-        ([(89, 0), (90, 0)].as_slice(), "no: C4 router 1 row 3"),
+        (
+            [(at::ROUTER_1_ROW_3_DISTANCE, 0)].as_slice(),
+            "no: C4 router 1 row 3",
+        ),
+        (
+            [
+                (at::ROUTER_1_ROW_3_NEXT_NETWORK, 0),
+                (at::ROUTER_1_ROW_3_NEXT_NODE, 0),
+            ]
+            .as_slice(),
+            "no: C4 router 1 row 3",
+        ),
     ];
     check_each(rt, alloc, cases.as_slice())
 }
@@ -135,19 +271,52 @@ pub(crate) fn distances_fit_and_next_routers_are_there(
 ) -> Result<(), Fail> {
     let cases = [
         // The distances 15, 31 and 14.
-        ([(86, 15)].as_slice(), "no: C5 router 1 row 3"),
-        ([(86, 31)].as_slice(), "no: C5 router 1 row 3"),
-        ([(86, 14)].as_slice(), "no: C7 router 1 row 3"),
-        // The next router is nobody, 20.0, 0.2, the router itself, a node, a port on another cable.
-        ([(90, 9)].as_slice(), "no: C6 router 1 row 3"),
-        ([(90, 0)].as_slice(), "no: C6 router 1 row 3"),
-        ([(89, 0)].as_slice(), "no: C6 router 1 row 3"),
-        ([(90, 1)].as_slice(), "no: C6 router 1 row 3"),
         (
-            [(90, 7), (219, 1), (221, 20)].as_slice(),
+            [(at::ROUTER_1_ROW_3_DISTANCE, 15)].as_slice(),
+            "no: C5 router 1 row 3",
+        ),
+        (
+            [(at::ROUTER_1_ROW_3_DISTANCE, 31)].as_slice(),
+            "no: C5 router 1 row 3",
+        ),
+        (
+            [(at::ROUTER_1_ROW_3_DISTANCE, 14)].as_slice(),
+            "no: C7 router 1 row 3",
+        ),
+        // The next router is nobody, 20.0, 0.2, the router itself, a node, a port on another cable.
+        (
+            [(at::ROUTER_1_ROW_3_NEXT_NODE, 9)].as_slice(),
             "no: C6 router 1 row 3",
         ),
-        ([(89, 30), (90, 1)].as_slice(), "no: C6 router 1 row 3"),
+        (
+            [(at::ROUTER_1_ROW_3_NEXT_NODE, 0)].as_slice(),
+            "no: C6 router 1 row 3",
+        ),
+        (
+            [(at::ROUTER_1_ROW_3_NEXT_NETWORK, 0)].as_slice(),
+            "no: C6 router 1 row 3",
+        ),
+        (
+            [(at::ROUTER_1_ROW_3_NEXT_NODE, 1)].as_slice(),
+            "no: C6 router 1 row 3",
+        ),
+        (
+            [
+                (at::ROUTER_1_ROW_3_NEXT_NODE, 7),
+                (at::NODE_1_CABLE, 1),
+                (at::NODE_1_NETWORK, 20),
+            ]
+            .as_slice(),
+            "no: C6 router 1 row 3",
+        ),
+        (
+            [
+                (at::ROUTER_1_ROW_3_NEXT_NETWORK, 30),
+                (at::ROUTER_1_ROW_3_NEXT_NODE, 1),
+            ]
+            .as_slice(),
+            "no: C6 router 1 row 3",
+        ),
     ];
     check_each(rt, alloc, cases.as_slice())
 }
@@ -156,12 +325,46 @@ pub(crate) fn distances_fit_and_next_routers_are_there(
 pub(crate) fn rules_are_tried_in_their_order(rt: &impl Abort, alloc: Global) -> Result<(), Fail> {
     // Each breaks two rules, the later one at the earlier place.
     let cases = [
-        ([(44, 0), (30, 20)].as_slice(), "no: C1 cable 3"),
-        ([(91, 2), (241, 0)].as_slice(), "no: C2 node 2"),
-        ([(66, 1), (180, 2)].as_slice(), "no: C3 router 2 row 3"),
-        ([(86, 15), (165, 1)].as_slice(), "no: C4 router 2 row 2"),
-        ([(90, 9), (155, 15)].as_slice(), "no: C5 router 2 row 1"),
-        ([(86, 2), (159, 9)].as_slice(), "no: C6 router 2 row 1"),
+        (
+            [(at::ROUTER_1_PORT_1_NODE, 0), (at::CABLE_3_START, 20)].as_slice(),
+            "no: C1 cable 3",
+        ),
+        (
+            [(at::ROUTER_1_ROW_3_STATE, 2), (at::NODE_2_NODE, 0)].as_slice(),
+            "no: C2 node 2",
+        ),
+        (
+            [
+                (at::ROUTER_1_ROW_1_DISTANCE, 1),
+                (at::ROUTER_2_ROW_3_STATE, 2),
+            ]
+            .as_slice(),
+            "no: C3 router 2 row 3",
+        ),
+        (
+            [
+                (at::ROUTER_1_ROW_3_DISTANCE, 15),
+                (at::ROUTER_2_ROW_2_DISTANCE, 1),
+            ]
+            .as_slice(),
+            "no: C4 router 2 row 2",
+        ),
+        (
+            [
+                (at::ROUTER_1_ROW_3_NEXT_NODE, 9),
+                (at::ROUTER_2_ROW_1_DISTANCE, 15),
+            ]
+            .as_slice(),
+            "no: C5 router 2 row 1",
+        ),
+        (
+            [
+                (at::ROUTER_1_ROW_3_DISTANCE, 2),
+                (at::ROUTER_2_ROW_1_NEXT_NODE, 9),
+            ]
+            .as_slice(),
+            "no: C6 router 2 row 1",
+        ),
     ];
     check_each(rt, alloc, cases.as_slice())
 }
