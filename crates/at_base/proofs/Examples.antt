@@ -1,5 +1,6 @@
 -- What reading gives of small formats, worked by hand and computed: each form that a grammar has, with its refusals.
-use Rattle.std.proofs.Common.{◌≡◌, ℕ, Bool, true, false, List, [], ◌∷◌, length, Option, Some, None, Result, Ok, Err, nat_lt, if◌then◌else◌, refl}
+use Rattle.std.proofs.Common.{◌≡◌, ℕ, Bool, true, false, List, [], ◌∷◌, length, Option, Some, None, Result, Ok, Err, nat_lt}
+use Rattle.std.proofs.Common.{if◌then◌else◌, refl}
 use Rattle.at_base.specs.Grammar.{number, run, one, two, Grammar, done, field, part, list, room, limit, many}
 use Rattle.at_base.specs.Reading.{read}
 

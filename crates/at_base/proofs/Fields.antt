@@ -1,5 +1,6 @@
 -- Fields: what is read was written so, what was written is read, and a fault is one of the field's.
-use Rattle.std.proofs.Common.{◌≡◌, ℕ, ◌+◌, ◌*◌, ◌^◌, ◌<◌, ◌≤◌, ◌%◌, ◌⊎◌, Bool, true, false, cond, ltb, List, [], ◌∷◌, ◌++◌, length, get_or, take, drop, Option, Some, None, Result, Ok, Err, refl, sym, ap, subst, ◌∙◌, arith, inl, inr}
+use Rattle.std.proofs.Common.{◌≡◌, ℕ, ◌+◌, ◌*◌, ◌^◌, ◌<◌, ◌≤◌, ◌%◌, ◌⊎◌, Bool, true, false, cond, ltb, List, [], ◌∷◌, ◌++◌, length}
+use Rattle.std.proofs.Common.{get_or, take, drop, Option, Some, None, Result, Ok, Err, refl, sym, ap, subst, ◌∙◌, arith, inl, inr}
 use Rattle.std.specs.Int.{Width, w8, byte_len, from_be_bytes, to_be_bytes}
 use Rattle.std.proofs.lemmas.Bool.{cases_lt, ltb-true, ltb-false, lt-ltb, le-ltb}
 use Rattle.std.proofs.lemmas.List.{take_at, drop_at, take-append-drop, length-append, length-take, get_or-drop, get_or-take, get_or_past}
@@ -51,15 +52,18 @@ pub bind_ok : {E A B : Type 0} (r : Result A E) (f : A → Result B E) (y : B) �
 bind_ok (Ok x) f y e = (x, refl, e)
 bind_ok (Err d) f y e = absurd cc
 
-pub bind_err : {E A B : Type 0} (r : Result A E) (f : A → Result B E) (d : E) → (r >>= f) ≡ Err d → (r ≡ Err d) ⊎ ((x : A) × (r ≡ Ok x) × (f x ≡ Err d))
+pub bind_err : {E A B : Type 0} (r : Result A E) (f : A → Result B E) (d : E) → (r >>= f) ≡ Err d
+    → (r ≡ Err d) ⊎ ((x : A) × (r ≡ Ok x) × (f x ≡ Err d))
 bind_err (Ok x) f d e = inr (x, refl, e)
 bind_err {E = E} {A = A} {B = B} (Err c) f d e = inl (ap (λ (x : E). err {A = A} x) (err_is {A = B} c d e))
 
-pub checked_ok : {W E A : Type 0} (r : Refusals W E) (bytes : List ℕ) (o : Option W) (x y : A) → checked r bytes o x ≡ Ok y → (o ≡ None) × (x ≡ y)
+pub checked_ok : {W E A : Type 0} (r : Refusals W E) (bytes : List ℕ) (o : Option W) (x y : A) → checked r bytes o x ≡ Ok y
+    → (o ≡ None) × (x ≡ y)
 checked_ok {E = E} r bytes None x y e = (refl, ok_is {E = E} x y e)
 checked_ok r bytes (Some c) x y e = absurd cc
 
-pub checked_err : {W E A : Type 0} (r : Refusals W E) (bytes : List ℕ) (o : Option W) (x : A) (f : E) → checked r bytes o x ≡ Err f → (w : W) × (o ≡ Some w) × (f ≡ r.placed (length bytes) w)
+pub checked_err : {W E A : Type 0} (r : Refusals W E) (bytes : List ℕ) (o : Option W) (x : A) (f : E) → checked r bytes o x ≡ Err f
+    → (w : W) × (o ≡ Some w) × (f ≡ r.placed (length bytes) w)
 checked_err r bytes None x f e = absurd cc
 checked_err {A = A} r bytes (Some c) x f e = (c, refl, sym (err_is {A = A} (r.placed (length bytes) c) f e))
 
@@ -67,7 +71,8 @@ pub guard_ok : {E A : Type 0} (b : Bool) (d : E) (r : Result A E) (y : A) → co
 guard_ok true d r y e = absurd cc
 guard_ok false d r y e = (refl, e)
 
-pub guard_err : {E A : Type 0} (b : Bool) (d : E) (r : Result A E) (f : E) → cond b (Err d) r ≡ Err f → ((b ≡ true) × (f ≡ d)) ⊎ ((b ≡ false) × (r ≡ Err f))
+pub guard_err : {E A : Type 0} (b : Bool) (d : E) (r : Result A E) (f : E) → cond b (Err d) r ≡ Err f
+    → ((b ≡ true) × (f ≡ d)) ⊎ ((b ≡ false) × (r ≡ Err f))
 guard_err {A = A} true d r f e = inl (refl, sym (err_is {A = A} d f e))
 guard_err false d r f e = inr (refl, e)
 
@@ -81,7 +86,8 @@ pass_err {A = A} false d f x e = (refl, sym (err_is {A = A} d f e))
 
 -- ---- so many bytes
 
-pub bytes_take : {E : Type 0} (len : ℕ) (cut : E) (bytes : List ℕ) (x : List ℕ × List ℕ) → bytes_at cut len bytes ≡ Ok x → (bytes ≡ x.0 ++ x.1) × (length x.0 ≡ len) × (x ≡ (take len bytes, drop len bytes))
+pub bytes_take : {E : Type 0} (len : ℕ) (cut : E) (bytes : List ℕ) (x : List ℕ × List ℕ) → bytes_at cut len bytes ≡ Ok x
+    → (bytes ≡ x.0 ++ x.1) × (length x.0 ≡ len) × (x ≡ (take len bytes, drop len bytes))
 bytes_take {E} len cut bytes x e =
     let g = guard_ok (ltb (length bytes) len) cut (Ok (take len bytes, drop len bytes)) x e in
     let long : len ≤ length bytes = ltb-false _ _ g.0 in
@@ -95,7 +101,8 @@ bytes_again len cut s rest h =
     let long : ltb (length (s ++ rest)) len ≡ false = le-ltb _ _ (omega (arith, length-append s rest)) in
     rw (long, take_at s rest len h, drop_at s rest len h) refl
 
-pub bytes_short : {E : Type 0} (len : ℕ) (cut : E) (bytes : List ℕ) (f : E) → bytes_at cut len bytes ≡ Err f → (length bytes < len) × (f ≡ cut)
+pub bytes_short : {E : Type 0} (len : ℕ) (cut : E) (bytes : List ℕ) (f : E) → bytes_at cut len bytes ≡ Err f
+    → (length bytes < len) × (f ≡ cut)
 bytes_short {E} len cut bytes f e =
     elim (guard_err (ltb (length bytes) len) cut (Ok (take len bytes, drop len bytes)) f e) [
       | inl p ↦ (ltb-true _ _ p.0, p.1)
@@ -143,7 +150,8 @@ pub length-field_bytes : {W V : Type 0} (fd : Field W V) (v : V) → Fits fd v �
 length-field_bytes (number size wrong) v h = (wide size).len v
 length-field_bytes (run len wrong) v h = h
 
-pub field_takes : {W E V : Type 0} (r : Refusals W E) (fd : Field W V) (bytes : List ℕ) (x : V × List ℕ) → IsBytes bytes → field_at r fd bytes ≡ Ok x → Took bytes (field_bytes fd x.0) x.1 × Passes fd x.0
+pub field_takes : {W E V : Type 0} (r : Refusals W E) (fd : Field W V) (bytes : List ℕ) (x : V × List ℕ) → IsBytes bytes
+    → field_at r fd bytes ≡ Ok x → Took bytes (field_bytes fd x.0) x.1 × Passes fd x.0
 field_takes r (number size wrong) bytes x fits e =
     let w = width size in
     let a = bind_ok (bytes_at r.cut (byte_len w) bytes) (λ y. checked r bytes (wrong (from_be_bytes w y.0)) (from_be_bytes w y.0, y.1)) x e in
@@ -160,12 +168,14 @@ field_takes r (run len wrong) bytes x fits e =
     let c = checked_ok r bytes (wrong a.0.0) a.0 x a.2 in
     subst (λ (y : List ℕ × List ℕ). Took bytes y.0 y.1 × ((length y.0 ≡ len) × (wrong y.0 ≡ None))) c.1 (take_then bytes a.0.0 a.0.1 fits t.0, (t.1, c.0))
 
-pub field_again : {W E V : Type 0} (r : Refusals W E) (fd : Field W V) (v : V) (rest : List ℕ) → Passes fd v → field_at r fd (field_bytes fd v ++ rest) ≡ Ok (v, rest)
+pub field_again : {W E V : Type 0} (r : Refusals W E) (fd : Field W V) (v : V) (rest : List ℕ) → Passes fd v
+    → field_at r fd (field_bytes fd v ++ rest) ≡ Ok (v, rest)
 field_again r (number size wrong) v rest h =
     rw (bytes_again (byte_len (width size)) r.cut (to_be_bytes (width size) v) rest ((wide size).len v), (wide size).again v h.0, h.1) refl
 field_again r (run len wrong) v rest h = rw (bytes_again len r.cut v rest h.0, h.1) refl
 
-pub field_fault : {W E V : Type 0} (r : Refusals W E) (fd : Field W V) (bytes : List ℕ) (f : E) → IsBytes bytes → field_at r fd bytes ≡ Err f → FieldFault r fd bytes f
+pub field_fault : {W E V : Type 0} (r : Refusals W E) (fd : Field W V) (bytes : List ℕ) (f : E) → IsBytes bytes
+    → field_at r fd bytes ≡ Err f → FieldFault r fd bytes f
 field_fault r (number size wrong) bytes f fits e =
     let w = width size in
     elim (bind_err (bytes_at r.cut (byte_len w) bytes) (λ y. checked r bytes (wrong (from_be_bytes w y.0)) (from_be_bytes w y.0, y.1)) f e) [
@@ -186,7 +196,8 @@ field_fault r (run len wrong) bytes f fits e =
     ]
 
 -- where the field is at fault, reading it answers that fault
-pub field_refused : {W E V : Type 0} (r : Refusals W E) (fd : Field W V) (bytes : List ℕ) (f : E) → FieldFault r fd bytes f → field_at r fd bytes ≡ Err f
+pub field_refused : {W E V : Type 0} (r : Refusals W E) (fd : Field W V) (bytes : List ℕ) (f : E) → FieldFault r fd bytes f
+    → field_at r fd bytes ≡ Err f
 field_refused {V = V} r (number size wrong) bytes f (inl h) = rw (bytes_cut (byte_len (width size)) r.cut bytes h.0, h.1) refl
 field_refused r (number size wrong) bytes f (inr (v, rest, w, parts, fits, bad, is)) =
     let taken : bytes_at r.cut (byte_len (width size)) bytes ≡ Ok (to_be_bytes (width size) v, rest) = rw parts (bytes_again (byte_len (width size)) r.cut (to_be_bytes (width size) v) rest ((wide size).len v)) in

@@ -1,6 +1,7 @@
 -- Lists of items, one after the other: what is read, what is read again, and which fault comes first, from the same
 -- facts about one item.
-use Rattle.std.proofs.Common.{◌≡◌, ℕ, zero, suc, ◌≤◌, List, [], ◌∷◌, ◌++◌, length, Result, Ok, Err, refl, sym, ap, subst, ◌∙◌, append_assoc, inl, inr, arith}
+use Rattle.std.proofs.Common.{◌≡◌, ℕ, zero, suc, ◌≤◌, List, [], ◌∷◌, ◌++◌, length, Result, Ok, Err, refl, sym, ap, subst, ◌∙◌}
+use Rattle.std.proofs.Common.{append_assoc, inl, inr, arith}
 use Rattle.std.proofs.lemmas.List.{length-append}
 use Rattle.at_base.specs.Spelling.{list_bytes, ListPasses}
 use Rattle.at_base.specs.FirstFault.{ListFault, low_after}
@@ -8,7 +9,8 @@ use Rattle.at_base.specs.Reading.{◌>>=◌, list_at, many_at}
 use Rattle.at_base.proofs.Fields.{IsBytes, ok, ok_is, bind_ok, bind_err, Took}
 
 pub Took-then : (a x b y c : List ℕ) → Took a x b → Took b y c → Took a (x ++ y) c
-Took-then a x b y c p q = record { parts = p.parts ∙ ap (λ (t : List ℕ). x ++ t) q.parts ∙ sym (append_assoc x y c); rest_fits = q.rest_fits }
+Took-then a x b y c p q = record { parts = p.parts ∙ ap (λ (t : List ℕ). x ++ t) q.parts
+    ∙ sym (append_assoc x y c); rest_fits = q.rest_fits }
 
 -- ---- lists, by what holds of their items
 
@@ -19,8 +21,10 @@ Takes {B = B} item spell passes = (low : ℕ) (bytes : List ℕ) (x : B × List 
 abbrev pub Again : {E B : Type 0} → (ℕ → List ℕ → Result (B × List ℕ) E) → (ℕ → B → List ℕ) → (ℕ → B → Type 0) → Type 0
 Again {B = B} item spell passes = (low : ℕ) (x : B) (rest : List ℕ) → passes low x → item low (spell low x ++ rest) ≡ Ok (x, rest)
 
-pub list_takes : {E B : Type 0} (item : ℕ → List ℕ → Result (B × List ℕ) E) (spell : ℕ → B → List ℕ) (passes : ℕ → B → Type 0) (next : B → ℕ) → Takes item spell passes
-    → (low n : ℕ) (bytes : List ℕ) (x : List B × List ℕ) → IsBytes bytes → list_at item next low n bytes ≡ Ok x → Took bytes (list_bytes spell next low x.0) x.1 × ListPasses passes next low x.0 × (length x.0 ≡ n)
+pub list_takes : {E B : Type 0} (item : ℕ → List ℕ → Result (B × List ℕ) E) (spell : ℕ → B → List ℕ) (passes : ℕ → B → Type 0) (next : B → ℕ)
+    → Takes item spell passes
+    → (low n : ℕ) (bytes : List ℕ) (x : List B × List ℕ) → IsBytes bytes → list_at item next low n bytes ≡ Ok x
+    → Took bytes (list_bytes spell next low x.0) x.1 × ListPasses passes next low x.0 × (length x.0 ≡ n)
 list_takes {E} {B} item spell passes next one low zero bytes x fits e =
     subst (λ (y : List B × List ℕ). Took bytes (list_bytes spell next low y.0) y.1 × ListPasses passes next low y.0 × (length y.0 ≡ 0)) (ok_is {E = E} ([], bytes) x e) (record { parts = refl; rest_fits = fits }, tt, refl)
 list_takes {E} {B} item spell passes next one low (suc n) bytes x fits e =
@@ -31,16 +35,20 @@ list_takes {E} {B} item spell passes next one low (suc n) bytes x fits e =
     subst (λ (y : List B × List ℕ). Took bytes (list_bytes spell next low y.0) y.1 × ListPasses passes next low y.0 × (length y.0 ≡ suc n)) (ok_is {E = E} (a.0.0 ∷ b.0.0, b.0.1) x b.2)
     (Took-then bytes (spell low a.0.0) a.0.1 (list_bytes spell next (next a.0.0) b.0.0) b.0.1 first.0 others.0, (first.1, others.1), ap suc others.2)
 
-pub list_again : {E B : Type 0} (item : ℕ → List ℕ → Result (B × List ℕ) E) (spell : ℕ → B → List ℕ) (passes : ℕ → B → Type 0) (next : B → ℕ) → Again item spell passes
-    → (low : ℕ) (xs : List B) (rest : List ℕ) → ListPasses passes next low xs → list_at item next low (length xs) (list_bytes spell next low xs ++ rest) ≡ Ok (xs, rest)
+pub list_again : {E B : Type 0} (item : ℕ → List ℕ → Result (B × List ℕ) E) (spell : ℕ → B → List ℕ) (passes : ℕ → B → Type 0) (next : B → ℕ)
+    → Again item spell passes
+    → (low : ℕ) (xs : List B) (rest : List ℕ) → ListPasses passes next low xs
+    → list_at item next low (length xs) (list_bytes spell next low xs ++ rest) ≡ Ok (xs, rest)
 list_again item spell passes next one low [] rest h = refl
 list_again item spell passes next one low (x ∷ xs) rest h =
     ap (list_at item next low (suc (length xs))) (append_assoc (spell low x) (list_bytes spell next (next x) xs) rest)
     ∙ rw (one low x (list_bytes spell next (next x) xs ++ rest) h.0, list_again item spell passes next one (next x) xs rest h.1) refl
 
-pub list_fault : {E B : Type 0} (item : ℕ → List ℕ → Result (B × List ℕ) E) (faulty : ℕ → List ℕ → E → Type 0) (spell : ℕ → B → List ℕ) (passes : ℕ → B → Type 0) (next : B → ℕ) → Takes item spell passes
+pub list_fault : {E B : Type 0} (item : ℕ → List ℕ → Result (B × List ℕ) E) (faulty : ℕ → List ℕ → E → Type 0) (spell : ℕ → B → List ℕ) (passes : ℕ → B → Type 0) (next : B → ℕ)
+    → Takes item spell passes
     → ((low : ℕ) (bytes : List ℕ) (f : E) → IsBytes bytes → item low bytes ≡ Err f → faulty low bytes f)
-    → (low n : ℕ) (bytes : List ℕ) (f : E) → IsBytes bytes → list_at item next low n bytes ≡ Err f → ListFault faulty spell passes next low n bytes f
+    → (low n : ℕ) (bytes : List ℕ) (f : E) → IsBytes bytes → list_at item next low n bytes ≡ Err f
+    → ListFault faulty spell passes next low n bytes f
 list_fault item faulty spell passes next one bad low zero bytes f fits e = absurd cc
 list_fault {E} {B} item faulty spell passes next one bad low (suc n) bytes f fits e =
     elim (bind_err (item low bytes) (λ y. list_at item next (next y.0) n y.1 >>= λ ys. Ok (y.0 ∷ ys.0, ys.1)) f e) [
@@ -63,8 +71,10 @@ shorter bytes front rest most parts long le =
     let len : length bytes ≡ length (front ++ rest) = ap (λ (l : List ℕ). length l) parts in
     omega (arith, length-append front rest)
 
-pub many_takes : {E B : Type 0} (item : ℕ → List ℕ → Result (B × List ℕ) E) (spell : ℕ → B → List ℕ) (passes : ℕ → B → Type 0) (next : B → ℕ) → Takes item spell passes → IsLong spell passes
-    → (low most : ℕ) (bytes : List ℕ) (xs : List B) → IsBytes bytes → length bytes ≤ most → many_at item next low most bytes ≡ Ok xs → (bytes ≡ list_bytes spell next low xs) × ListPasses passes next low xs
+pub many_takes : {E B : Type 0} (item : ℕ → List ℕ → Result (B × List ℕ) E) (spell : ℕ → B → List ℕ) (passes : ℕ → B → Type 0) (next : B → ℕ)
+    → Takes item spell passes → IsLong spell passes
+    → (low most : ℕ) (bytes : List ℕ) (xs : List B) → IsBytes bytes → length bytes ≤ most → many_at item next low most bytes ≡ Ok xs
+    → (bytes ≡ list_bytes spell next low xs) × ListPasses passes next low xs
 many_takes {E} {B} item spell passes next one long low zero [] xs fits le e =
     subst (λ (ys : List B). ([] ≡ list_bytes spell next low ys) × ListPasses passes next low ys) (ok_is {E = E} [] xs e) (refl, tt)
 many_takes item spell passes next one long low zero (b ∷ bytes) xs fits le e = absurd (omega arith)
@@ -84,8 +94,10 @@ pub many_turn : {E B : Type 0} (item : ℕ → List ℕ → Result (B × List �
 many_turn item next low most [] le = absurd (omega arith)
 many_turn item next low most (b ∷ bytes) le = refl
 
-pub many_again : {E B : Type 0} (item : ℕ → List ℕ → Result (B × List ℕ) E) (spell : ℕ → B → List ℕ) (passes : ℕ → B → Type 0) (next : B → ℕ) → Again item spell passes → IsLong spell passes
-    → (low most : ℕ) (xs : List B) → ListPasses passes next low xs → length (list_bytes spell next low xs) ≤ most → many_at item next low most (list_bytes spell next low xs) ≡ Ok xs
+pub many_again : {E B : Type 0} (item : ℕ → List ℕ → Result (B × List ℕ) E) (spell : ℕ → B → List ℕ) (passes : ℕ → B → Type 0) (next : B → ℕ)
+    → Again item spell passes → IsLong spell passes
+    → (low most : ℕ) (xs : List B) → ListPasses passes next low xs → length (list_bytes spell next low xs) ≤ most
+    → many_at item next low most (list_bytes spell next low xs) ≡ Ok xs
 many_again item spell passes next one long low zero [] h le = refl
 many_again item spell passes next one long low (suc most) [] h le = refl
 many_again item spell passes next one long low zero (x ∷ xs) h le =
@@ -102,9 +114,11 @@ abbrev pub ManyFault : {E B : Type 0} → (ℕ → List ℕ → E → Type 0) �
 ManyFault {B = B} faulty spell passes next low bytes f =
     (v : List B) × (rest : List ℕ) × (bytes ≡ list_bytes spell next low v ++ rest) × ListPasses passes next low v × (1 ≤ length rest) × faulty (low_after next low v) rest f
 
-pub many_fault : {E B : Type 0} (item : ℕ → List ℕ → Result (B × List ℕ) E) (faulty : ℕ → List ℕ → E → Type 0) (spell : ℕ → B → List ℕ) (passes : ℕ → B → Type 0) (next : B → ℕ) → Takes item spell passes
+pub many_fault : {E B : Type 0} (item : ℕ → List ℕ → Result (B × List ℕ) E) (faulty : ℕ → List ℕ → E → Type 0) (spell : ℕ → B → List ℕ) (passes : ℕ → B → Type 0) (next : B → ℕ)
+    → Takes item spell passes
     → ((low : ℕ) (bytes : List ℕ) (f : E) → IsBytes bytes → item low bytes ≡ Err f → faulty low bytes f)
-    → (low most : ℕ) (bytes : List ℕ) (f : E) → IsBytes bytes → many_at item next low most bytes ≡ Err f → ManyFault faulty spell passes next low bytes f
+    → (low most : ℕ) (bytes : List ℕ) (f : E) → IsBytes bytes → many_at item next low most bytes ≡ Err f
+    → ManyFault faulty spell passes next low bytes f
 many_fault item faulty spell passes next one bad low zero bytes f fits e = absurd cc
 many_fault item faulty spell passes next one bad low (suc most) [] f fits e = absurd cc
 many_fault {E} item faulty spell passes next one bad low (suc most) (byte ∷ bytes) f fits e =
@@ -121,7 +135,8 @@ many_fault {E} item faulty spell passes next one bad low (suc most) (byte ∷ by
     ]
 
 -- where an item is at fault, reading answers that fault
-pub list_refused : {E B : Type 0} (item : ℕ → List ℕ → Result (B × List ℕ) E) (faulty : ℕ → List ℕ → E → Type 0) (spell : ℕ → B → List ℕ) (passes : ℕ → B → Type 0) (next : B → ℕ) → Again item spell passes
+pub list_refused : {E B : Type 0} (item : ℕ → List ℕ → Result (B × List ℕ) E) (faulty : ℕ → List ℕ → E → Type 0) (spell : ℕ → B → List ℕ) (passes : ℕ → B → Type 0) (next : B → ℕ)
+    → Again item spell passes
     → ((low : ℕ) (bytes : List ℕ) (f : E) → faulty low bytes f → item low bytes ≡ Err f)
     → (low n : ℕ) (bytes : List ℕ) (f : E) → ListFault faulty spell passes next low n bytes f → list_at item next low n bytes ≡ Err f
 list_refused item faulty spell passes next one bad low zero bytes f h = absurd h
@@ -131,8 +146,10 @@ list_refused item faulty spell passes next one bad low (suc n) bytes f (inr (x, 
     rw (first, list_refused item faulty spell passes next one bad (next x) n rest f h) refl
 
 -- the same of items up to the end of the input, behind some that pass
-pub many_refused : {E B : Type 0} (item : ℕ → List ℕ → Result (B × List ℕ) E) (spell : ℕ → B → List ℕ) (passes : ℕ → B → Type 0) (next : B → ℕ) → Again item spell passes → IsLong spell passes
-    → (low most : ℕ) (xs : List B) (rest : List ℕ) (f : E) → ListPasses passes next low xs → 1 ≤ length rest → length (list_bytes spell next low xs ++ rest) ≤ most
+pub many_refused : {E B : Type 0} (item : ℕ → List ℕ → Result (B × List ℕ) E) (spell : ℕ → B → List ℕ) (passes : ℕ → B → Type 0) (next : B → ℕ)
+    → Again item spell passes → IsLong spell passes
+    → (low most : ℕ) (xs : List B) (rest : List ℕ) (f : E) → ListPasses passes next low xs → 1 ≤ length rest
+    → length (list_bytes spell next low xs ++ rest) ≤ most
     → item (low_after next low xs) rest ≡ Err f → many_at item next low most (list_bytes spell next low xs ++ rest) ≡ Err f
 many_refused item spell passes next one long low zero [] rest f h some le e = absurd (omega arith)
 many_refused item spell passes next one long low (suc most) [] rest f h some le e = many_turn item next low most rest some ∙ rw e refl

@@ -1,6 +1,7 @@
 -- The laws of reading, for every format: what is read is spelled so; what is spelled so is read; a refusal is the first
 -- fault, and where there is a fault, it is the answer.
-use Rattle.std.proofs.Common.{◌≡◌, ℕ, ◌≤◌, Bool, true, false, ltb, List, [], ◌++◌, length, None, Ok, Err, refl, sym, ap, subst, ◌∙◌, append_assoc, inl, inr, arith}
+use Rattle.std.proofs.Common.{◌≡◌, ℕ, ◌≤◌, Bool, true, false, ltb, List, [], ◌++◌, length, None, Ok, Err, refl, sym, ap, subst, ◌∙◌}
+use Rattle.std.proofs.Common.{append_assoc, inl, inr, arith}
 use Rattle.std.proofs.lemmas.Bool.{ltb-true, ltb-false, lt-ltb, le-ltb}
 use Rattle.std.proofs.lemmas.List.{length-append, append-nil}
 use Rattle.at_base.specs.Grammar.{Grammar, done, field, part, list, room, limit, many, Refusals}
@@ -8,10 +9,13 @@ use Rattle.at_base.specs.Spelling.{field_bytes, Passes, list_bytes, bytes_of, Li
 use Rattle.at_base.specs.FirstFault.{FirstFault, low_after}
 use Rattle.at_base.specs.Reading.{field_at, checked, list_at, many_at, read}
 use Rattle.at_base.specs.Lawful.{Has, IsLawful}
-use Rattle.at_base.proofs.Fields.{IsBytes, ok_is, err_is, bind_ok, bind_err, guard_ok, guard_err, checked_ok, checked_err, Took, field_takes, field_again, field_fault, field_refused}
-use Rattle.at_base.proofs.Items.{Took-then, list_takes, list_again, list_fault, many_takes, many_again, many_fault, list_refused, many_refused}
+use Rattle.at_base.proofs.Fields.{IsBytes, ok_is, err_is, bind_ok, bind_err, guard_ok, guard_err, checked_ok, checked_err, Took}
+use Rattle.at_base.proofs.Fields.{field_takes, field_again, field_fault, field_refused}
+use Rattle.at_base.proofs.Items.{Took-then, list_takes, list_again, list_fault, many_takes, many_again, many_fault, list_refused}
+use Rattle.at_base.proofs.Items.{many_refused}
 
-has_value : {W : Type 0} {s : Bool} {A V : Type 0} (get : A → V) (v : V) (g : Grammar W s A) → Has get v g → (y : A) → IsValue g y → get y ≡ v
+has_value : {W : Type 0} {s : Bool} {A V : Type 0} (get : A → V) (v : V) (g : Grammar W s A) → Has get v g → (y : A) → IsValue g y
+    → get y ≡ v
 has_value get v (done x) h y p = ap get (sym p) ∙ h
 has_value get v (field fd other after) h y p = has_value get v (after (other y)) (h (other y) p.0) y p.1
 has_value get v (part g other after) h y p = has_value get v (after (other y)) (h (other y) p.0) y p.1
@@ -24,7 +28,8 @@ nothing_fits : IsBytes []
 nothing_fits i = omega arith
 
 -- what is read is spelled so
-pub read_takes : {W E : Type 0} {s : Bool} {A : Type 0} (r : Refusals W E) (g : Grammar W s A) → IsLawful g → (bytes : List ℕ) (x : A × List ℕ) → IsBytes bytes → read r g bytes ≡ Ok x → Took bytes (bytes_of g x.0) x.1 × IsValue g x.0
+pub read_takes : {W E : Type 0} {s : Bool} {A : Type 0} (r : Refusals W E) (g : Grammar W s A) → IsLawful g
+    → (bytes : List ℕ) (x : A × List ℕ) → IsBytes bytes → read r g bytes ≡ Ok x → Took bytes (bytes_of g x.0) x.1 × IsValue g x.0
 read_takes {E = E} {s = s} {A = A} r (done y) lawful bytes x fits e =
     let same = ok_is {E = E} (y, bytes) x e in
     (record { parts = ap (λ (z : A × List ℕ). z.1) same; rest_fits = subst (λ (z : A × List ℕ). IsBytes z.1) same fits }, ap (λ (z : A × List ℕ). z.0) same)
@@ -72,7 +77,8 @@ follows_all (list item next n get after) y rest = follows_all (after (get y)) y 
 follows_all (room n g) y rest = follows_all g y rest
 
 -- what is left may stand there
-pub read_follows : {W E : Type 0} {s : Bool} {A : Type 0} (r : Refusals W E) (g : Grammar W s A) → IsLawful g → (bytes : List ℕ) (x : A × List ℕ) → IsBytes bytes → read r g bytes ≡ Ok x → Follows g x.0 x.1
+pub read_follows : {W E : Type 0} {s : Bool} {A : Type 0} (r : Refusals W E) (g : Grammar W s A) → IsLawful g
+    → (bytes : List ℕ) (x : A × List ℕ) → IsBytes bytes → read r g bytes ≡ Ok x → Follows g x.0 x.1
 read_follows r (done y) lawful bytes x fits e = tt
 read_follows r (field {V = V} fd get after) lawful bytes x fits e =
     let a = bind_ok (field_at r fd bytes) (λ y. read r (after y.0) y.1) x e in
@@ -105,7 +111,8 @@ read_follows {A = A} r (many item next wrong get make) lawful bytes x fits e =
     sym (ap (λ (z : A × List ℕ). z.1) c.1)
 
 -- what is spelled so is read
-pub read_again : {W E : Type 0} {s : Bool} {A : Type 0} (r : Refusals W E) (g : Grammar W s A) → IsLawful g → (y : A) (rest : List ℕ) → IsValue g y → Follows g y rest → read r g (bytes_of g y ++ rest) ≡ Ok (y, rest)
+pub read_again : {W E : Type 0} {s : Bool} {A : Type 0} (r : Refusals W E) (g : Grammar W s A) → IsLawful g → (y : A) (rest : List ℕ)
+    → IsValue g y → Follows g y rest → read r g (bytes_of g y ++ rest) ≡ Ok (y, rest)
 read_again {E = E} {s = s} {A = A} r (done x) lawful y rest h f = ap (λ (z : A). Ok (z, rest)) h
 read_again r (field fd get after) lawful y rest h f =
     ap (read r (field fd get after)) (append_assoc (field_bytes fd (get y)) (bytes_of (after (get y)) y) rest)
@@ -130,7 +137,8 @@ read_again {E = E} {s = s} {A = A} r (many item next wrong get make) lawful y re
     ap (read r (many item next wrong get make)) whole ∙ rw (again, h.1, h.2, f) refl
 
 -- a refusal is the first fault
-pub read_fault : {W E : Type 0} {s : Bool} {A : Type 0} (r : Refusals W E) (g : Grammar W s A) → IsLawful g → (bytes : List ℕ) (f : E) → IsBytes bytes → read r g bytes ≡ Err f → FirstFault r g bytes f
+pub read_fault : {W E : Type 0} {s : Bool} {A : Type 0} (r : Refusals W E) (g : Grammar W s A) → IsLawful g → (bytes : List ℕ) (f : E)
+    → IsBytes bytes → read r g bytes ≡ Err f → FirstFault r g bytes f
 read_fault r (done x) lawful bytes f fits e = absurd cc
 read_fault r (field fd get after) lawful bytes f fits e =
     elim (bind_err (field_at r fd bytes) (λ y. read r (after y.0) y.1) f e) [
@@ -173,7 +181,8 @@ read_fault r (many item next wrong get make) lawful bytes f fits e =
     ]
 
 -- where there is a fault, reading answers it
-pub read_refused : {W E : Type 0} {s : Bool} {A : Type 0} (r : Refusals W E) (g : Grammar W s A) → IsLawful g → (bytes : List ℕ) (f : E) → FirstFault r g bytes f → read r g bytes ≡ Err f
+pub read_refused : {W E : Type 0} {s : Bool} {A : Type 0} (r : Refusals W E) (g : Grammar W s A) → IsLawful g → (bytes : List ℕ) (f : E)
+    → FirstFault r g bytes f → read r g bytes ≡ Err f
 read_refused r (done x) lawful bytes f h = absurd h
 read_refused r (field fd get after) lawful bytes f (inl h) = rw (field_refused r fd bytes f h) refl
 read_refused r (field fd get after) lawful bytes f (inr (v, rest, parts, p, h)) =
@@ -203,6 +212,7 @@ read_refused r (many item next wrong get make) lawful bytes f (inr (v, w, parts,
     rw (all, bad, is) refl
 
 -- there is one first fault
-pub one_fault : {W E : Type 0} {s : Bool} {A : Type 0} (r : Refusals W E) (g : Grammar W s A) → IsLawful g → (bytes : List ℕ) (e f : E) → FirstFault r g bytes e → FirstFault r g bytes f → f ≡ e
+pub one_fault : {W E : Type 0} {s : Bool} {A : Type 0} (r : Refusals W E) (g : Grammar W s A) → IsLawful g → (bytes : List ℕ) (e f : E)
+    → FirstFault r g bytes e → FirstFault r g bytes f → f ≡ e
 one_fault {A = A} r g lawful bytes e f h k =
     err_is {A = A × List ℕ} f e (sym (read_refused r g lawful bytes f k) ∙ read_refused r g lawful bytes e h)

@@ -1,5 +1,6 @@
 -- Reading items one after the other, as a loop does: what was read before, and what reading gives of the rest.
-use Rattle.std.proofs.Common.{◌≡◌, ℕ, zero, suc, ◌-◌, ◌+◌, ◌≤◌, ◌<◌, List, [], ◌∷◌, ◌++◌, length, true, Result, Ok, Err, refl, sym, ap, ◌∙◌, append_assoc, arith}
+use Rattle.std.proofs.Common.{◌≡◌, ℕ, zero, suc, ◌-◌, ◌+◌, ◌≤◌, ◌<◌, List, [], ◌∷◌, ◌++◌, length, true, Result, Ok, Err, refl, sym, ap}
+use Rattle.std.proofs.Common.{◌∙◌, append_assoc, arith}
 use Rattle.std.proofs.lemmas.List.{append-nil, length-append}
 use Rattle.at_base.specs.Grammar.{Grammar, Refusals}
 use Rattle.at_base.specs.Spelling.{bytes_of, IsValue}
@@ -17,7 +18,8 @@ Reader E A = ℕ → List ℕ → Result (A × List ℕ) E
 abbrev with_front : {E A : Type 0} → List A → Result (List A × List ℕ) E → Result (List A × List ℕ) E
 with_front front reading = reading >>= λ x. Ok (front ++ x.0, x.1)
 
-regroup : {E A : Type 0} (front : List A) (y : A) (reading : Result (List A × List ℕ) E) → with_front front (reading >>= λ x. Ok (y ∷ x.0, x.1)) ≡ with_front (front ++ y ∷ []) reading
+regroup : {E A : Type 0} (front : List A) (y : A) (reading : Result (List A × List ℕ) E)
+    → with_front front (reading >>= λ x. Ok (y ∷ x.0, x.1)) ≡ with_front (front ++ y ∷ []) reading
 regroup {E} {A} front y (Ok x) = ap (λ (ys : List A). ok {E = E} (ys, x.1)) (simp append_assoc)
 regroup front y (Err f) = refl
 
@@ -27,7 +29,8 @@ regroup front y (Err f) = refl
 abbrev pub Stands : {E A : Type 0} → Reader E A → (A → ℕ) → ℕ → ℕ → List ℕ → Result (List A × List ℕ) E → Type 0
 Stands {A = A} item next low left bytes total = (front : List A) × (with_front front (list_at item next low left bytes) ≡ total)
 
-pub starts : {E A : Type 0} (item : Reader E A) (next : A → ℕ) (low n : ℕ) (bytes : List ℕ) → Stands item next low n bytes (list_at item next low n bytes)
+pub starts : {E A : Type 0} (item : Reader E A) (next : A → ℕ) (low n : ℕ) (bytes : List ℕ)
+    → Stands item next low n bytes (list_at item next low n bytes)
 starts item next low n bytes = ([], same (list_at item next low n bytes))
   where
     same : {E A : Type 0} (r : Result (List A × List ℕ) E) → with_front [] r ≡ r
@@ -35,7 +38,8 @@ starts item next low n bytes = ([], same (list_at item next low n bytes))
     same (Err e) = refl
 
 pub goes_on : {E A : Type 0} (item : Reader E A) (next : A → ℕ) (low count i : ℕ) (bytes : List ℕ) (y : A) (after : List ℕ) (total : Result (List A × List ℕ) E)
-    → i < count → item low bytes ≡ Ok (y, after) → Stands item next low (count - i) bytes total → Stands item next (next y) (count - (i + 1)) after total
+    → i < count → item low bytes ≡ Ok (y, after) → Stands item next low (count - i) bytes total
+    → Stands item next (next y) (count - (i + 1)) after total
 goes_on item next low count i bytes y after total lt h so_far =
     let k : count - i ≡ suc (count - (i + 1)) = omega arith in
     let one : with_front so_far.0 (list_at item next low (count - i) bytes) ≡ with_front (so_far.0 ++ y ∷ []) (list_at item next (next y) (count - (i + 1)) after) =
@@ -61,7 +65,8 @@ ends {E} {A} item next low count i bytes total le so_far =
 abbrev with_all : {E A : Type 0} → List A → Result (List A) E → Result (List A) E
 with_all front reading = reading >>= λ xs. Ok (front ++ xs)
 
-regroup_all : {E A : Type 0} (front : List A) (y : A) (reading : Result (List A) E) → with_all front (reading >>= λ xs. Ok (y ∷ xs)) ≡ with_all (front ++ y ∷ []) reading
+regroup_all : {E A : Type 0} (front : List A) (y : A) (reading : Result (List A) E)
+    → with_all front (reading >>= λ xs. Ok (y ∷ xs)) ≡ with_all (front ++ y ∷ []) reading
 regroup_all {E} front y (Ok xs) = ap (ok {E = E}) (simp append_assoc)
 regroup_all front y (Err f) = refl
 
@@ -69,7 +74,8 @@ regroup_all front y (Err f) = refl
 abbrev pub StandsIn : {E A : Type 0} → Reader E A → (A → ℕ) → ℕ → List ℕ → Result (List A) E → Type 0
 StandsIn {A = A} item next low bytes total = (front : List A) × (most : ℕ) × (length bytes ≤ most) × (with_all front (many_at item next low most bytes) ≡ total)
 
-pub starts_in : {E A : Type 0} (item : Reader E A) (next : A → ℕ) (bytes : List ℕ) → StandsIn item next 0 bytes (many_at item next 0 (length bytes) bytes)
+pub starts_in : {E A : Type 0} (item : Reader E A) (next : A → ℕ) (bytes : List ℕ)
+    → StandsIn item next 0 bytes (many_at item next 0 (length bytes) bytes)
 starts_in item next bytes = ([], length bytes, omega arith, same (many_at item next 0 (length bytes) bytes))
   where
     same : {E A : Type 0} (r : Result (List A) E) → with_all [] r ≡ r
@@ -77,7 +83,8 @@ starts_in item next bytes = ([], length bytes, omega arith, same (many_at item n
     same (Err e) = refl
 
 pub goes_on_in : {E A : Type 0} (item : Reader E A) (next : A → ℕ) (low : ℕ) (bytes : List ℕ) (y : A) (after : List ℕ) (total : Result (List A) E)
-    → length after < length bytes → item low bytes ≡ Ok (y, after) → StandsIn item next low bytes total → StandsIn item next (next y) after total
+    → length after < length bytes → item low bytes ≡ Ok (y, after) → StandsIn item next low bytes total
+    → StandsIn item next (next y) after total
 goes_on_in item next low bytes y after total lt h (front, zero, le, so_far) = absurd (omega arith)
 goes_on_in item next low bytes y after total lt h (front, suc most, le, so_far) =
     let one : with_all front (many_at item next low (suc most) bytes) ≡ with_all (front ++ y ∷ []) (many_at item next (next y) most after) =
@@ -99,7 +106,8 @@ ends_in {E} item next low total (front, suc most, le, so_far) = (front, sym so_f
 -- ---- what a lawful item takes
 
 -- an item that takes a byte leaves less
-pub shorter_after : {W E A : Type 0} (r : Refusals W E) (g : Grammar W true A) → IsLawful g → ((x : A) → IsValue g x → 1 ≤ length (bytes_of g x)) → (bytes : List ℕ) (x : A) (after : List ℕ)
+pub shorter_after : {W E A : Type 0} (r : Refusals W E) (g : Grammar W true A) → IsLawful g
+    → ((x : A) → IsValue g x → 1 ≤ length (bytes_of g x)) → (bytes : List ℕ) (x : A) (after : List ℕ)
     → IsBytes bytes → read r g bytes ≡ Ok (x, after) → length after < length bytes
 shorter_after r g lawful long bytes x after fits e =
     let t = read_takes r g lawful bytes (x, after) fits e in
@@ -108,7 +116,8 @@ shorter_after r g lawful long bytes x after fits e =
     omega (arith, length-append (bytes_of g x) after)
 
 -- what is left are bytes
-pub rest_is_bytes : {W E A : Type 0} (r : Refusals W E) (g : Grammar W true A) → IsLawful g → (bytes : List ℕ) (x : A) (after : List ℕ) → IsBytes bytes → read r g bytes ≡ Ok (x, after) → IsBytes after
+pub rest_is_bytes : {W E A : Type 0} (r : Refusals W E) (g : Grammar W true A) → IsLawful g → (bytes : List ℕ) (x : A) (after : List ℕ)
+    → IsBytes bytes → read r g bytes ≡ Ok (x, after) → IsBytes after
 rest_is_bytes r g lawful bytes x after fits e = (read_takes r g lawful bytes (x, after) fits e).0.rest_fits
 
 -- ---- Items one by one, of an input that is known to be read
@@ -118,11 +127,13 @@ abbrev pub Shrinks : {E A : Type 0} → Reader E A → Type 0
 Shrinks {E} {A} item = (low : ℕ) (bytes : List ℕ) (x : A) (after : List ℕ) → IsBytes bytes → item low bytes ≡ Ok (x, after) → (length after < length bytes) × IsBytes after
 
 -- items that take a byte at least shrink the input
-pub lawful_shrinks : {W E A : Type 0} (r : Refusals W E) (g : ℕ → Grammar W true A) → ((low : ℕ) → IsLawful (g low)) → ((low : ℕ) (x : A) → IsValue (g low) x → 1 ≤ length (bytes_of (g low) x)) → Shrinks (λ low. read r (g low))
+pub lawful_shrinks : {W E A : Type 0} (r : Refusals W E) (g : ℕ → Grammar W true A) → ((low : ℕ) → IsLawful (g low))
+    → ((low : ℕ) (x : A) → IsValue (g low) x → 1 ≤ length (bytes_of (g low) x)) → Shrinks (λ low. read r (g low))
 lawful_shrinks r g lawful long low bytes x after fits e = (shorter_after r (g low) (lawful low) (long low) bytes x after fits e, rest_is_bytes r (g low) (lawful low) bytes x after fits e)
 
 -- how many items there may be makes no difference, where it is enough
-pub same_fuel : {E A : Type 0} (item : Reader E A) (next : A → ℕ) → Shrinks item → (low m n : ℕ) (bytes : List ℕ) → IsBytes bytes → length bytes ≤ m → length bytes ≤ n → many_at item next low m bytes ≡ many_at item next low n bytes
+pub same_fuel : {E A : Type 0} (item : Reader E A) (next : A → ℕ) → Shrinks item → (low m n : ℕ) (bytes : List ℕ) → IsBytes bytes
+    → length bytes ≤ m → length bytes ≤ n → many_at item next low m bytes ≡ many_at item next low n bytes
 same_fuel item next shrinks low zero zero bytes fits le lf = refl
 same_fuel item next shrinks low zero (suc n) [] fits le lf = refl
 same_fuel item next shrinks low zero (suc n) (b ∷ bytes) fits le lf = absurd (omega arith)
@@ -138,7 +149,8 @@ same_fuel {E} {A} item next shrinks low (suc m) (suc n) (b ∷ bytes) fits le lf
     ]) refl
 
 -- the items that the input is, and what follows the first of them
-pub first_of : {E A : Type 0} (item : Reader E A) (next : A → ℕ) → Shrinks item → (low : ℕ) (bytes : List ℕ) (x : A) (after : List ℕ) → IsBytes bytes → item low bytes ≡ Ok (x, after)
+pub first_of : {E A : Type 0} (item : Reader E A) (next : A → ℕ) → Shrinks item → (low : ℕ) (bytes : List ℕ) (x : A) (after : List ℕ)
+    → IsBytes bytes → item low bytes ≡ Ok (x, after)
     → many_at item next low (length bytes) bytes ≡ (many_at item next (next x) (length after) after >>= λ xs. Ok (x ∷ xs))
 first_of item next shrinks low bytes x after fits e =
     let s = shrinks low bytes x after fits e in
@@ -147,7 +159,8 @@ first_of item next shrinks low bytes x after fits e =
     rw n (many_turn item next low (length bytes - 1) bytes some ∙ rw (e, same_fuel item next shrinks (next x) (length bytes - 1) (length after) after s.1 (omega (arith, s.0)) (omega arith)) refl)
 
 -- an item that isn't read is the answer of all
-pub refused_first : {E A : Type 0} (item : Reader E A) (next : A → ℕ) (low : ℕ) (bytes : List ℕ) (e : E) → 1 ≤ length bytes → item low bytes ≡ Err e → many_at item next low (length bytes) bytes ≡ Err e
+pub refused_first : {E A : Type 0} (item : Reader E A) (next : A → ℕ) (low : ℕ) (bytes : List ℕ) (e : E) → 1 ≤ length bytes
+    → item low bytes ≡ Err e → many_at item next low (length bytes) bytes ≡ Err e
 refused_first item next low bytes e some h =
     let n : length bytes ≡ suc (length bytes - 1) = omega arith in
     rw n (many_turn item next low (length bytes - 1) bytes some ∙ rw h refl)

@@ -8,11 +8,13 @@ use Rattle.at_base.proofs.Fields.{IsBytes, ok, ok_is}
 use Rattle.at_base.proofs.Laws.{read_takes, read_again, read_follows, follows_all, read_fault, one_fault}
 
 -- an input that begins with a value reads as it
-pub begins_read : {W E : Type 0} {s : Bool} {A : Type 0} (r : Refusals W E) (g : Grammar W s A) → IsLawful g → (bytes : List ℕ) (z : A) → (b : Begins g bytes z) → read r g bytes ≡ Ok (z, b.0)
+pub begins_read : {W E : Type 0} {s : Bool} {A : Type 0} (r : Refusals W E) (g : Grammar W s A) → IsLawful g → (bytes : List ℕ) (z : A)
+    → (b : Begins g bytes z) → read r g bytes ≡ Ok (z, b.0)
 begins_read r g lawful bytes z (rest, parts, h, f) = rw parts (read_again r g lawful z rest h f)
 
 -- an input begins with one value
-pub begins_one : {W E : Type 0} {s : Bool} {A : Type 0} (r : Refusals W E) (g : Grammar W s A) → IsLawful g → (bytes : List ℕ) (y z : A) → Begins g bytes y → Begins g bytes z → z ≡ y
+pub begins_one : {W E : Type 0} {s : Bool} {A : Type 0} (r : Refusals W E) (g : Grammar W s A) → IsLawful g → (bytes : List ℕ) (y z : A)
+    → Begins g bytes y → Begins g bytes z → z ≡ y
 begins_one {E = E} {A = A} r g lawful bytes y z b c =
     ap (λ (p : A × List ℕ). p.0) (ok_is {E = E} (z, c.0) (y, b.0) (sym (begins_read r g lawful bytes z c) ∙ begins_read r g lawful bytes y b))
 
@@ -20,14 +22,16 @@ begins_one {E = E} {A = A} r g lawful bytes y z b c =
 pub spelled_begins : {W A : Type 0} (g : Grammar W true A) (bytes rest : List ℕ) (y : A) → Spells g bytes y → Begins g (bytes ++ rest) y
 spelled_begins g bytes rest y (h, parts) = (rest, ap (λ (b : List ℕ). b ++ rest) parts, h, follows_all g y rest)
 
-pub reads_ok : {W E : Type 0} {s : Bool} {A V X : Type 0} (r : Refusals W E) (g : Grammar W s A) (keep : A → V) (view : X → V) → IsLawful g → (bytes : List ℕ) (x : X) (y : A) (rest : List ℕ) → IsBytes bytes
+pub reads_ok : {W E : Type 0} {s : Bool} {A V X : Type 0} (r : Refusals W E) (g : Grammar W s A) (keep : A → V) (view : X → V)
+    → IsLawful g → (bytes : List ℕ) (x : X) (y : A) (rest : List ℕ) → IsBytes bytes
     → read r g bytes ≡ Ok (y, rest) → keep y ≡ view x → Reads r g keep view bytes (Ok x)
 reads_ok {W = W} {E = E} {s = s} {A = A} r g keep view lawful bytes x y rest fits e kept =
     let t = read_takes r g lawful bytes (y, rest) fits e in
     let b : Begins g bytes y = (rest, t.0.parts, t.1, read_follows r g lawful bytes (y, rest) fits e) in
     (y, b, kept, λ z c. begins_one r g lawful bytes y z b c)
 
-pub reads_err : {W E : Type 0} {s : Bool} {A V X : Type 0} (r : Refusals W E) (g : Grammar W s A) (keep : A → V) (view : X → V) → IsLawful g → (bytes : List ℕ) (e : E) → IsBytes bytes
+pub reads_err : {W E : Type 0} {s : Bool} {A V X : Type 0} (r : Refusals W E) (g : Grammar W s A) (keep : A → V) (view : X → V)
+    → IsLawful g → (bytes : List ℕ) (e : E) → IsBytes bytes
     → read r g bytes ≡ Err e → Reads r g keep view bytes (Err e)
 reads_err {E = E} {A = A} r g keep view lawful bytes e fits is =
     let f = read_fault r g lawful bytes e fits is in

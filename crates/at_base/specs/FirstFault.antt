@@ -17,7 +17,8 @@ FieldFault {W} {E} {V} r fd bytes f =
     ⊎ ((v : V) × (rest : List ℕ) × (w : W) × (bytes ≡ field_bytes fd v ++ rest) × Fits fd v × (wrong_with fd v ≡ Some w) × (f ≡ r.placed (length bytes) w))
 
 -- items that pass, and then one at fault
-abbrev pub ListFault : {E B : Type 0} → (ℕ → List ℕ → E → Type 0) → (ℕ → B → List ℕ) → (ℕ → B → Type 0) → (B → ℕ) → ℕ → ℕ → List ℕ → E → Type 0
+abbrev pub ListFault : {E B : Type 0} → (ℕ → List ℕ → E → Type 0) → (ℕ → B → List ℕ) → (ℕ → B → Type 0) → (B → ℕ) → ℕ → ℕ → List ℕ → E
+    → Type 0
 ListFault faulty spell passes next low zero bytes f = ⊥
 ListFault {B = B} faulty spell passes next low (suc n) bytes f =
     faulty low bytes f

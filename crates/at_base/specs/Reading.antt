@@ -1,6 +1,7 @@
 -- Reading from left to right, as a function: the value and the bytes after it, or a refusal. The laws beside it say
 -- that it gives what is spelled there, and else the first fault. (own)
-use Rattle.std.specs.Prelude.{◌≡◌, ℕ, zero, suc, Bool, List, [], ◌∷◌, length, take, drop, Option, Some, None, Result, Ok, Err, nat_lt, if◌then◌else◌}
+use Rattle.std.specs.Prelude.{◌≡◌, ℕ, zero, suc, Bool, List, [], ◌∷◌, length, take, drop, Option, Some, None, Result, Ok, Err, nat_lt}
+use Rattle.std.specs.Prelude.{if◌then◌else◌}
 use Rattle.std.specs.Int.{byte_len, from_be_bytes}
 use Rattle.at_base.specs.Grammar.{width, Field, number, run, Grammar, done, field, part, list, room, limit, many, Refusals}
 use Rattle.at_base.specs.Spelling.{Begins}
@@ -56,6 +57,7 @@ Gives view (Err e) reading = reading ≡ Err e
 
 -- What a reader returned: what it keeps of the one value with which the input begins; or the first fault, of an input
 -- that begins with none.
-abbrev pub Reads : {W E : Type 0} {s : Bool} {A V X : Type 0} → Refusals W E → Grammar W s A → (A → V) → (X → V) → List ℕ → Result X E → Type 0
+abbrev pub Reads : {W E : Type 0} {s : Bool} {A V X : Type 0} → Refusals W E → Grammar W s A → (A → V) → (X → V) → List ℕ → Result X E
+    → Type 0
 Reads {A = A} r g keep view bytes (Ok x) = (y : A) × Begins g bytes y × (keep y ≡ view x) × ((z : A) → Begins g bytes z → z ≡ y)
 Reads {E = E} {A = A} r g keep view bytes (Err e) = FirstFault r g bytes e × ((f : E) → FirstFault r g bytes f → f ≡ e) × ((z : A) → Begins g bytes z → ⊥)

@@ -1,5 +1,7 @@
-//! Fields at the front of packets. Each function gives a field's value and the bytes after it, or the
-//! error of the packet's reader: `Truncated` where the input ends within the field, `BadField` where
+//! Fields at the front of packets. Each function gives a field's value and the bytes after it, or
+//! the
+//! error of the packet's reader: `Truncated` where the input ends within the field, `BadField`
+//! where
 //! its value is wrong.
 
 ghost use Rattle.std.specs.Prelude.{◌≡◌, ◌≤◌, length};

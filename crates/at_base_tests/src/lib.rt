@@ -1,4 +1,5 @@
-//! Tests of at_base through its public calls. They stand in a crate of their own, since a crate's tests
+//! Tests of at_base through its public calls. They stand in a crate of their own, since a crate's
+//! tests
 //! prove the crate a second time.
 #![tactic(auto)]
 

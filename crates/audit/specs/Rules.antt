@@ -184,18 +184,23 @@ breaks_rows rule i (place.Row (suc r) (suc k)) = at_row i r k (row_breaks rule i
 breaks_rows rule i (place.Missing r k) = lack_breaks rule i r k
 breaks_rows rule i _ = false
 
+-- broken by a row that no datagram may use or that is for no cable, and by a cable that a router has no row for
 abbrev pub c3 : Internet → Place → Bool
 c3 = breaks_rows RowsCoverCables
 
+-- broken by a row for a router's own cable that isn't direct by its port there, or for another cable that claims to be
 abbrev pub c4 : Internet → Place → Bool
 c4 = breaks_rows DirectRowsDirect
 
+-- broken by a row whose distance is above 14: a datagram's hops don't reach so far
 abbrev pub c5 : Internet → Place → Bool
 c5 = breaks_rows DistancesFit
 
+-- broken by a row that isn't direct and has no other router as its next
 abbrev pub c6 : Internet → Place → Bool
 c6 = breaks_rows NextRoutersExist
 
+-- broken by a row that isn't direct and whose next router isn't one nearer
 abbrev pub c7 : Internet → Place → Bool
 c7 = breaks_rows DistancesFall
 

@@ -1,4 +1,5 @@
-//! Laws of internets that pass the audit, for contracts and proofs of other crates. The functions do
+//! Laws of internets that pass the audit, for contracts and proofs of other crates. The functions
+//! do
 //! nothing: what they ensure is the law.
 
 ghost use Rattle.std.specs.Prelude.{◌≡◌, ◌≢◌, ℕ, ◌<◌, ◌≤◌, List, [], ◌∷◌, length};

@@ -1,4 +1,5 @@
-//! The audit of an internet's routing tables: the rules, the verdict, and what a verdict of yes says
+//! The audit of an internet's routing tables: the rules, the verdict, and what a verdict of yes
+//! says
 //! about the routes of datagrams.
 #![tactic(auto)]
 

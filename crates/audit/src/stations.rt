@@ -1,4 +1,5 @@
-//! Rule C2: each station has an address of its cable, and no other station has one of its addresses.
+//! Rule C2: each station has an address of its cable, and no other station has one of its
+//! addresses.
 
 ghost use Rattle.std.specs.Prelude.{◌≡◌, ◌<◌, ◌≤◌, ◌==◌, ℕ, suc, false, Some, IfNone, IfSome};
 ghost use Rattle.std.specs.Prelude.{length, slice_get, take};

@@ -91,10 +91,13 @@ agreement bytes d (rest, parts, v, f) =
     let there : Agrees (laid d ++ rest) d = record { hops = laid_hops d rest h; target = laid_target d rest h; len = laid_length d rest h; body = laid_body d rest h } in
     subst (λ (b : List ℕ). Agrees b d) whole there
 
-pub value_agrees : (bytes : List ℕ) (d : Datagram) → Begins datagram bytes d → (hops bytes ≡ d.hops) × (target bytes ≡ d.target) × (named_length bytes ≡ length_of d) × (body bytes ≡ bytes_of datagram (record d { hops = 0 }))
+pub value_agrees : (bytes : List ℕ) (d : Datagram) → Begins datagram bytes d
+   
+    → (hops bytes ≡ d.hops) × (target bytes ≡ d.target) × (named_length bytes ≡ length_of d) × (body bytes ≡ bytes_of datagram (record d { hops = 0 }))
 value_agrees bytes d b = let a = agreement bytes d b in (a.hops, a.target, a.len, a.body)
 
-pub no_hops : (h : Header) (payload bytes : List ℕ) → Spells datagram bytes (datagram_of h payload) → (hops bytes ≡ 0) × (body bytes ≡ bytes)
+pub no_hops : (h : Header) (payload bytes : List ℕ) → Spells datagram bytes (datagram_of h payload)
+    → (hops bytes ≡ 0) × (body bytes ≡ bytes)
 no_hops h payload bytes s =
     let d = datagram_of h payload in
     let b : Begins datagram bytes d = subst (λ (b : List ℕ). Begins datagram b d) (append-nil bytes) (spelled_begins datagram bytes [] d s) in
@@ -102,6 +105,8 @@ no_hops h payload bytes s =
     (a.hops, a.body ∙ sym s.1)
 
 pub read_back : (h : Header) (payload bytes rest : List ℕ) → Spells datagram bytes (datagram_of h payload)
+   
+   
     → Begins datagram (bytes ++ rest) (datagram_of h payload) × ((d : Datagram) → Begins datagram (bytes ++ rest) d → d ≡ datagram_of h payload)
 read_back h payload bytes rest s =
     let b = spelled_begins datagram bytes rest (datagram_of h payload) s in

@@ -1,5 +1,6 @@
 -- What the extent of bytes says of reading a datagram there.
-use Rattle.std.proofs.Common.{◌≡◌, ℕ, ◌≤◌, ◌<◌, ◌-◌, ◌%◌, true, false, ltb, List, ◌∷◌, ◌++◌, length, get_or, take, drop, Some, None, Ok, Err, refl, sym, subst, ◌∙◌, inl, inr, arith, drop-cons}
+use Rattle.std.proofs.Common.{◌≡◌, ℕ, ◌≤◌, ◌<◌, ◌-◌, ◌%◌, true, false, ltb, List, ◌∷◌, ◌++◌, length, get_or, take, drop, Some, None, Ok}
+use Rattle.std.proofs.Common.{Err, refl, sym, subst, ◌∙◌, inl, inr, arith, drop-cons}
 use Rattle.std.specs.Int.{w16, to_be_bytes}
 use Rattle.std.proofs.lemmas.Bool.{ltb-true, ltb-false, lt-ltb, le-ltb}
 use Rattle.std.proofs.lemmas.List.{length-drop, length-take, take-append-drop, get_or-take}
@@ -50,7 +51,8 @@ extent_begins bytes n fits h =
     subst (λ (b : List ℕ). Begins datagram b (datagram_in (take n bytes))) (take-append-drop n bytes)
     (spelled_begins datagram (take n bytes) (drop n bytes) (datagram_in (take n bytes)) (extent_datagram bytes n fits h).whole)
 
-pub extent_read : (bytes : List ℕ) (n : ℕ) → IsBytes bytes → IsExtent bytes n → Reads packets datagram (λ d. d) (λ d. d) bytes (Ok (datagram_in (take n bytes)))
+pub extent_read : (bytes : List ℕ) (n : ℕ) → IsBytes bytes → IsExtent bytes n
+    → Reads packets datagram (λ d. d) (λ d. d) bytes (Ok (datagram_in (take n bytes)))
 extent_read bytes n fits h =
     let b = extent_begins bytes n fits h in
     reads_ok packets datagram (λ d. d) (λ d. d) datagram_lawful bytes _ (datagram_in (take n bytes)) b.0 fits (begins_read packets datagram datagram_lawful bytes _ b) refl
@@ -86,11 +88,13 @@ good w h k =
 word_fits : (bytes : List ℕ) → IsBytes bytes → word_at 0 bytes < 65536
 word_fits bytes fits = omega (arith, fits 0, fits 1)
 
-bad_length : (bytes : List ℕ) → IsBytes bytes → 13 ≤ length bytes → wrong_word (word_at 0 bytes) ≡ Some BadLength → FirstFault packets datagram bytes BadLength
+bad_length : (bytes : List ℕ) → IsBytes bytes → 13 ≤ length bytes → wrong_word (word_at 0 bytes) ≡ Some BadLength
+    → FirstFault packets datagram bytes BadLength
 unfolding datagram
 bad_length bytes fits h wrong = inr (h, inl (inr (word_at 0 bytes, drop 2 bytes, BadLength, first_two bytes fits (omega arith), word_fits bytes fits, wrong, refl)))
 
-cut_short : (bytes : List ℕ) → IsBytes bytes → 13 ≤ length bytes → 13 ≤ named_length bytes → named_length bytes ≤ 599 → length bytes < named_length bytes → FirstFault packets datagram bytes Truncated
+cut_short : (bytes : List ℕ) → IsBytes bytes → 13 ≤ length bytes → 13 ≤ named_length bytes → named_length bytes ≤ 599
+    → length bytes < named_length bytes → FirstFault packets datagram bytes Truncated
 unfolding datagram
 cut_short bytes fits h least most short =
     let is = word_length bytes fits in
@@ -119,7 +123,8 @@ extent_fault bytes e fits h =
       ]
     ]
 
-pub extent_refused : (bytes : List ℕ) (e : Error) → IsBytes bytes → extent bytes ≡ Err e → Reads {X = Datagram} packets datagram (λ d. d) (λ d. d) bytes (Err e)
+pub extent_refused : (bytes : List ℕ) (e : Error) → IsBytes bytes → extent bytes ≡ Err e
+    → Reads {X = Datagram} packets datagram (λ d. d) (λ d. d) bytes (Err e)
 extent_refused bytes e fits h =
     let f = extent_fault bytes e fits h in
     reads_err packets datagram (λ d. d) (λ d. d) datagram_lawful bytes e fits (read_refused packets datagram datagram_lawful bytes e f)

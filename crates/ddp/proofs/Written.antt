@@ -58,7 +58,8 @@ summed_laid d n fits h = record {
 summed_bytes : (d : Datagram) → with_sum (laid d) ≡ laid (record d { checksum = sum_of (drop 4 (laid d)) })
 summed_bytes d = refl
 
-summed_spelled : (d : Datagram) (bytes : List ℕ) → Spells datagram bytes d → sum_of (drop 4 bytes) < 65536 → Spells datagram (with_sum bytes) (record d { checksum = checksum_of d })
+summed_spelled : (d : Datagram) (bytes : List ℕ) → Spells datagram bytes d → sum_of (drop 4 bytes) < 65536
+    → Spells datagram (with_sum bytes) (record d { checksum = checksum_of d })
 summed_spelled d bytes (v, parts) fits =
     let is : bytes ≡ laid d = parts ∙ bytes_laid d in
     let n : sum_of (drop 4 bytes) ≡ checksum_of d = ap (λ (b : List ℕ). sum_of (drop 4 b)) parts in
@@ -67,11 +68,14 @@ summed_spelled d bytes (v, parts) fits =
     let e : Datagram = record d { checksum = checksum_of d } in
     (laid_value e (summed_laid d (checksum_of d) small (value_laid d v)), ap with_sum is ∙ summed_bytes d ∙ ap (λ (m : ℕ). laid (record d { checksum = m })) same ∙ sym (bytes_laid e))
 
-pub written : (h : Header) (payload bytes : List ℕ) → Spells datagram bytes (unsummed h payload) → (IsTrue h.summed → sum_of (drop 4 bytes) < 65536)
+pub written : (h : Header) (payload bytes : List ℕ) → Spells datagram bytes (unsummed h payload)
+    → (IsTrue h.summed → sum_of (drop 4 bytes) < 65536)
     → Spells datagram (cond h.summed (with_sum bytes) bytes) (datagram_of h payload)
 written h payload bytes s fits = by_case h.summed fits
   where
-    by_case : (b : Bool) → (IsTrue b → sum_of (drop 4 bytes) < 65536) → Spells datagram (cond b (with_sum bytes) bytes) (record (unsummed h payload) { checksum = cond b (checksum_of (unsummed h payload)) 0 })
+    by_case : (b : Bool) → (IsTrue b → sum_of (drop 4 bytes) < 65536)
+       
+        → Spells datagram (cond b (with_sum bytes) bytes) (record (unsummed h payload) { checksum = cond b (checksum_of (unsummed h payload)) 0 })
     by_case true f = summed_spelled (unsummed h payload) bytes s (f refl)
     by_case false f = s
 
@@ -93,5 +97,6 @@ plain_laid h payload f =
     let b12 : byte_at 0 h.kind ≡ h.kind = omega (arith, f.kind) in
     sym (rw (w, b8, b9, b10, b11, b12) refl)
 
-pub plain_spelled : (h : Header) (payload : List ℕ) → Fitting h → length payload ≤ 586 → Spells datagram (plain h payload) (unsummed h payload)
+pub plain_spelled : (h : Header) (payload : List ℕ) → Fitting h → length payload ≤ 586
+    → Spells datagram (plain h payload) (unsummed h payload)
 plain_spelled h payload f few = (unsummed_value h payload f few, plain_laid h payload f ∙ sym (bytes_laid (unsummed h payload)))

@@ -11,7 +11,8 @@ use at_base::{Addr, Error, sum};
 use byteorder::{BigEndian, ByteOrder};
 use std::marker::Model;
 
-/// A datagram in place, with a long header. It borrows the input; bytes after its length are padding
+/// A datagram in place, with a long header. It borrows the input; bytes after its length are
+/// padding
 /// and no part of it.
 ///
 /// Inside AppleTalk, the chapter on DDP.

@@ -55,7 +55,8 @@ fn with_checksum(summed: bool, mut bytes: Vec<u8>) -> Vec<u8>
     bytes
 }
 
-/// The bytes of a datagram with this header and data, and hop count 0. Its checksum is the sum where
+/// The bytes of a datagram with this header and data, and hop count 0. Its checksum is the sum
+/// where
 /// the header says so, and otherwise 0. Allocates exactly the datagram's length.
 ///
 /// Inside AppleTalk, the chapter on DDP.

@@ -1,7 +1,10 @@
 //! Datagrams worked out by hand.
 
+mod readme;
+
 use at_base::{Addr, Bytes, Error};
 use ddp::*;
+use readme::ping;
 use std::alloc::Global;
 use std::test::*;
 
@@ -318,4 +321,18 @@ fn each_law_can_be_called(_rt: HostRuntime) {
     padding_leaves_the_body();
     value_agrees_with_bytes();
     written_has_no_hops();
+}
+
+#[test]
+fn the_readme_sends_a_ping(rt: HostRuntime) -> Result<(), Fail> {
+    let bytes = match ping(rt.alloc()) {
+        Err(Error::Memory) => ping(rt.alloc()),
+        answer => answer,
+    };
+    let mut expected = PING;
+    expected[0] = 0x08;
+    expected[2] = 0x83;
+    expected[3] = 0xF2;
+    assert_eq!(rt; bytes?.as_slice(), expected.as_slice());
+    Ok(())
 }

@@ -1,4 +1,5 @@
-//! Single bytes of the image of three cables, by their offsets. Of a number of two bytes the name alone
+//! Single bytes of the image of three cables, by their offsets. Of a number of two bytes the name
+//! alone
 //! is the low byte, and `HIGH` the other; hardware addresses have the bytes 1 to 6.
 
 pub const CABLE_1_START: usize = 7;

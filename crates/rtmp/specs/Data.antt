@@ -1,6 +1,7 @@
 -- Packets of routing data: the router that sends them, the range of its port's cable, and how far other ranges are.
 -- (Inside AppleTalk, the chapter on RTMP)
-use Rattle.std.specs.Prelude.{◌≡◌, ℕ, ◌+◌, ◌*◌, ◌%◌, Bool, true, false, not, ◌&&◌, ◌==◌, List, [], ◌∷◌, length, map, Option, Some, None, Result, Ok, Err, nat_le, nat_lt, if◌then◌else◌}
+use Rattle.std.specs.Prelude.{◌≡◌, ℕ, ◌+◌, ◌*◌, ◌%◌, Bool, true, false, not, ◌&&◌, ◌==◌, List, [], ◌∷◌, length, map, Option, Some, None}
+use Rattle.std.specs.Prelude.{Result, Ok, Err, nat_le, nat_lt, if◌then◌else◌}
 use Rattle.at_base.specs.declared.address.Addr.{Addr}
 use Rattle.at_base.specs.declared.error.Field.TheVariants.{IdLength, Version}
 use Rattle.at_base.specs.declared.error.Error.{Error}
@@ -18,6 +19,7 @@ pub record RoutingData : Type 0 where
   pub router : Addr
   pub written : List Written
 
+-- what follows the third byte, where something does
 abbrev pub extension_or : Option Extension → Extension
 extension_or None = record { end = 0; version = 0 }
 extension_or (Some e) = e
