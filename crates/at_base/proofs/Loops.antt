@@ -37,16 +37,19 @@ starts item next low n bytes = ([], same (list_at item next low n bytes))
     same (Ok x) = refl
     same (Err e) = refl
 
-pub goes_on : {E A : Type 0} (item : Reader E A) (next : A → ℕ) (low count i : ℕ) (bytes : List ℕ) (y : A) (after : List ℕ) (total : Result (List A × List ℕ) E)
+pub goes_on : {E A : Type 0} (item : Reader E A) (next : A → ℕ) (low count i : ℕ) (bytes : List ℕ) (y : A) (after : List ℕ)
+    (total : Result (List A × List ℕ) E)
     → i < count → item low bytes ≡ Ok (y, after) → Stands item next low (count - i) bytes total
     → Stands item next (next y) (count - (i + 1)) after total
 goes_on item next low count i bytes y after total lt h so_far =
     let k : count - i ≡ suc (count - (i + 1)) = omega arith in
-    let one : with_front so_far.0 (list_at item next low (count - i) bytes) ≡ with_front (so_far.0 ++ y ∷ []) (list_at item next (next y) (count - (i + 1)) after) =
+    let one : with_front so_far.0 (list_at item next low (count - i) bytes) ≡ with_front (so_far.0 ++ y ∷ [])
+        (list_at item next (next y) (count - (i + 1)) after) =
     rw (k, h) (regroup so_far.0 y (list_at item next (next y) (count - (i + 1)) after)) in
     (so_far.0 ++ y ∷ [], sym one ∙ so_far.1)
 
-pub stops : {E A : Type 0} (item : Reader E A) (next : A → ℕ) (e : E) (low count i : ℕ) (bytes : List ℕ) (total : Result (List A × List ℕ) E)
+pub stops : {E A : Type 0} (item : Reader E A) (next : A → ℕ) (e : E) (low count i : ℕ) (bytes : List ℕ)
+    (total : Result (List A × List ℕ) E)
     → i < count → item low bytes ≡ Err e → Stands item next low (count - i) bytes total → total ≡ Err e
 stops item next e low count i bytes total lt h so_far =
     let k : count - i ≡ suc (count - (i + 1)) = omega arith in
@@ -57,7 +60,8 @@ pub ends : {E A : Type 0} (item : Reader E A) (next : A → ℕ) (low count i : 
     → count ≤ i → Stands item next low (count - i) bytes total → (xs : List A) × (total ≡ Ok (xs, bytes))
 ends {E} {A} item next low count i bytes total le so_far =
     let k : count - i ≡ 0 = omega arith in
-    let one : with_front so_far.0 (list_at item next low (count - i) bytes) ≡ Ok (so_far.0, bytes) = rw k (ap (λ (ys : List A). ok {E = E} (ys, bytes)) (append-nil so_far.0)) in
+    let one : with_front so_far.0 (list_at item next low (count - i) bytes) ≡ Ok (so_far.0, bytes) = rw k
+        (ap (λ (ys : List A). ok {E = E} (ys, bytes)) (append-nil so_far.0)) in
     (so_far.0, sym so_far.1 ∙ one)
 
 -- ---- items up to the end of the input
@@ -72,7 +76,8 @@ regroup_all front y (Err f) = refl
 
 -- The loop has read some items, and reading the rest of the input gives the whole.
 abbrev pub StandsIn : {E A : Type 0} → Reader E A → (A → ℕ) → ℕ → List ℕ → Result (List A) E → Type 0
-StandsIn {A = A} item next low bytes total = (front : List A) × (most : ℕ) × (length bytes ≤ most) × (with_all front (many_at item next low most bytes) ≡ total)
+StandsIn {A = A} item next low bytes total = (front : List A) × (most : ℕ) × (length bytes ≤ most) ×
+    (with_all front (many_at item next low most bytes) ≡ total)
 
 pub starts_in : {E A : Type 0} (item : Reader E A) (next : A → ℕ) (bytes : List ℕ)
     → StandsIn item next 0 bytes (many_at item next 0 (length bytes) bytes)
@@ -82,7 +87,8 @@ starts_in item next bytes = ([], length bytes, omega arith, same (many_at item n
     same (Ok x) = refl
     same (Err e) = refl
 
-pub goes_on_in : {E A : Type 0} (item : Reader E A) (next : A → ℕ) (low : ℕ) (bytes : List ℕ) (y : A) (after : List ℕ) (total : Result (List A) E)
+pub goes_on_in : {E A : Type 0} (item : Reader E A) (next : A → ℕ) (low : ℕ) (bytes : List ℕ) (y : A) (after : List ℕ)
+    (total : Result (List A) E)
     → length after < length bytes → item low bytes ≡ Ok (y, after) → StandsIn item next low bytes total
     → StandsIn item next (next y) after total
 goes_on_in item next low bytes y after total lt h (front, zero, le, so_far) = absurd (omega arith)
@@ -124,12 +130,15 @@ rest_is_bytes r g lawful bytes x after fits e = (read_takes r g lawful bytes (x,
 
 -- an item that is read leaves less, and bytes
 abbrev pub Shrinks : {E A : Type 0} → Reader E A → Type 0
-Shrinks {E} {A} item = (low : ℕ) (bytes : List ℕ) (x : A) (after : List ℕ) → IsBytes bytes → item low bytes ≡ Ok (x, after) → (length after < length bytes) × IsBytes after
+Shrinks {E} {A} item =
+    (low : ℕ) (bytes : List ℕ) (x : A) (after : List ℕ) → IsBytes bytes → item low bytes ≡ Ok (x, after) →
+        (length after < length bytes) × IsBytes after
 
 -- items that take a byte at least shrink the input
 pub lawful_shrinks : {W E A : Type 0} (r : Refusals W E) (g : ℕ → Grammar W true A) → ((low : ℕ) → IsLawful (g low))
     → ((low : ℕ) (x : A) → IsValue (g low) x → 1 ≤ length (bytes_of (g low) x)) → Shrinks (λ low. read r (g low))
-lawful_shrinks r g lawful long low bytes x after fits e = (shorter_after r (g low) (lawful low) (long low) bytes x after fits e, rest_is_bytes r (g low) (lawful low) bytes x after fits e)
+lawful_shrinks r g lawful long low bytes x after fits e =
+    (shorter_after r (g low) (lawful low) (long low) bytes x after fits e, rest_is_bytes r (g low) (lawful low) bytes x after fits e)
 
 -- how many items there may be makes no difference, where it is enough
 pub same_fuel : {E A : Type 0} (item : Reader E A) (next : A → ℕ) → Shrinks item → (low m n : ℕ) (bytes : List ℕ) → IsBytes bytes
@@ -141,7 +150,8 @@ same_fuel item next shrinks low (suc m) zero [] fits le lf = refl
 same_fuel item next shrinks low (suc m) zero (b ∷ bytes) fits le lf = absurd (omega arith)
 same_fuel item next shrinks low (suc m) (suc n) [] fits le lf = refl
 same_fuel {E} {A} item next shrinks low (suc m) (suc n) (b ∷ bytes) fits le lf =
-    (elim (item low (b ∷ bytes)) as (λ r. item low (b ∷ bytes) ≡ r → many_at item next low (suc m) (b ∷ bytes) ≡ many_at item next low (suc n) (b ∷ bytes)) [
+    (elim (item low (b ∷ bytes)) as (λ r. item low (b ∷ bytes) ≡ r → many_at item next low (suc m) (b ∷ bytes) ≡ many_at item next low
+        (suc n) (b ∷ bytes)) [
       | Ok x ↦ λ e.
           let s = shrinks low (b ∷ bytes) x.0 x.1 fits e in
           rw (e, same_fuel item next shrinks (next x.0) m n x.1 s.1 (omega arith) (omega arith)) refl
@@ -156,7 +166,8 @@ first_of item next shrinks low bytes x after fits e =
     let s = shrinks low bytes x after fits e in
     let n : length bytes ≡ suc (length bytes - 1) = omega (arith, s.0) in
     let some : 1 ≤ length bytes = omega (arith, s.0) in
-    rw n (many_turn item next low (length bytes - 1) bytes some ∙ rw (e, same_fuel item next shrinks (next x) (length bytes - 1) (length after) after s.1 (omega (arith, s.0)) (omega arith)) refl)
+    rw n (many_turn item next low (length bytes - 1) bytes some ∙ rw
+        (e, same_fuel item next shrinks (next x) (length bytes - 1) (length after) after s.1 (omega (arith, s.0)) (omega arith)) refl)
 
 -- an item that isn't read is the answer of all
 pub refused_first : {E A : Type 0} (item : Reader E A) (next : A → ℕ) (low : ℕ) (bytes : List ℕ) (e : E) → 1 ≤ length bytes

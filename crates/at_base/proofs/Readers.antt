@@ -16,7 +16,8 @@ begins_read r g lawful bytes z (rest, parts, h, f) = rw parts (read_again r g la
 pub begins_one : {W E : Type 0} {s : Bool} {A : Type 0} (r : Refusals W E) (g : Grammar W s A) → IsLawful g → (bytes : List ℕ) (y z : A)
     → Begins g bytes y → Begins g bytes z → z ≡ y
 begins_one {E = E} {A = A} r g lawful bytes y z b c =
-    ap (λ (p : A × List ℕ). p.0) (ok_is {E = E} (z, c.0) (y, b.0) (sym (begins_read r g lawful bytes z c) ∙ begins_read r g lawful bytes y b))
+    ap (λ (p : A × List ℕ). p.0) (ok_is {E = E} (z, c.0) (y, b.0)
+        (sym (begins_read r g lawful bytes z c) ∙ begins_read r g lawful bytes y b))
 
 -- the bytes of a value begin with it, whatever follows them, where the format knows its own end
 pub spelled_begins : {W A : Type 0} (g : Grammar W true A) (bytes rest : List ℕ) (y : A) → Spells g bytes y → Begins g (bytes ++ rest) y
@@ -35,4 +36,5 @@ pub reads_err : {W E : Type 0} {s : Bool} {A V X : Type 0} (r : Refusals W E) (g
     → read r g bytes ≡ Err e → Reads r g keep view bytes (Err e)
 reads_err {E = E} {A = A} r g keep view lawful bytes e fits is =
     let f = read_fault r g lawful bytes e fits is in
-    (f, λ d h. one_fault r g lawful bytes e d f h, λ z b. (let same : ok {E = E} (z, b.0) ≡ Err e = sym (begins_read r g lawful bytes z b) ∙ is in absurd cc))
+    (f, λ d h. one_fault r g lawful bytes e d f h, λ z b.
+        (let same : ok {E = E} (z, b.0) ≡ Err e = sym (begins_read r g lawful bytes z b) ∙ is in absurd cc))

@@ -18,8 +18,10 @@ abbrev pub IsLawful : {W : Type 0} {s : Bool} {A : Type 0} → Grammar W s A →
 IsLawful (done x) = Unit {0}
 IsLawful (field {V = V} fd get after) = (v : V) → Passes fd v → Has get v (after v) × IsLawful (after v)
 IsLawful (part {B = B} g get after) = IsLawful g × ((v : B) → IsValue g v → Has get v (after v) × IsLawful (after v))
-IsLawful (list {B = B} item next n get after) = ((low : ℕ) → IsLawful (item low)) × ((v : List B) → length v ≡ n → Has get v (after v) × IsLawful (after v))
+IsLawful (list {B = B} item next n get after) = ((low : ℕ) → IsLawful (item low)) ×
+    ((v : List B) → length v ≡ n → Has get v (after v) × IsLawful (after v))
 IsLawful {A = A} (room n g) = ((y : A) → IsValue g y → n ≤ length (bytes_of g y)) × IsLawful g
 IsLawful (limit n over g) = IsLawful g
 IsLawful (many {B = B} item next wrong get make) =
-    ((low : ℕ) → IsLawful (item low)) × ((low : ℕ) (x : B) → IsValue (item low) x → 1 ≤ length (bytes_of (item low) x)) × ((v : List B) → get (make v) ≡ v)
+    ((low : ℕ) → IsLawful (item low)) × ((low : ℕ) (x : B) → IsValue (item low) x → 1 ≤ length (bytes_of (item low) x)) ×
+        ((v : List B) → get (make v) ≡ v)

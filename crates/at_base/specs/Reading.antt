@@ -25,7 +25,8 @@ bytes_at cut len bytes = if nat_lt (length bytes) len then Err cut else Ok (take
 -- a field's value, and the bytes after it
 abbrev pub field_at : {W E V : Type 0} → Refusals W E → Field W V → List ℕ → Result (V × List ℕ) E
 field_at r (number size wrong) bytes =
-    bytes_at r.cut (byte_len (width size)) bytes >>= λ x. checked r bytes (wrong (from_be_bytes (width size) x.0)) (from_be_bytes (width size) x.0, x.1)
+    bytes_at r.cut (byte_len (width size)) bytes >>= λ x. checked r bytes (wrong (from_be_bytes (width size) x.0))
+        (from_be_bytes (width size) x.0, x.1)
 field_at r (run len wrong) bytes = bytes_at r.cut len bytes >>= λ x. checked r bytes (wrong x.0) x
 
 -- so many items, and the bytes after them
@@ -60,4 +61,5 @@ Gives view (Err e) reading = reading ≡ Err e
 abbrev pub Reads : {W E : Type 0} {s : Bool} {A V X : Type 0} → Refusals W E → Grammar W s A → (A → V) → (X → V) → List ℕ → Result X E
     → Type 0
 Reads {A = A} r g keep view bytes (Ok x) = (y : A) × Begins g bytes y × (keep y ≡ view x) × ((z : A) → Begins g bytes z → z ≡ y)
-Reads {E = E} {A = A} r g keep view bytes (Err e) = FirstFault r g bytes e × ((f : E) → FirstFault r g bytes f → f ≡ e) × ((z : A) → Begins g bytes z → ⊥)
+Reads {E = E} {A = A} r g keep view bytes (Err e) = FirstFault r g bytes e × ((f : E) → FirstFault r g bytes f → f ≡ e) ×
+    ((z : A) → Begins g bytes z → ⊥)

@@ -47,10 +47,12 @@ abbrev pub IsValue : {W : Type 0} {s : Bool} {A : Type 0} → Grammar W s A → 
 IsValue (done x) y = x ≡ y
 IsValue (field fd get after) y = Passes fd (get y) × IsValue (after (get y)) y
 IsValue (part g get after) y = IsValue g (get y) × IsValue (after (get y)) y
-IsValue (list item next n get after) y = (length (get y) ≡ n) × ListPasses (λ low. IsValue (item low)) next 0 (get y) × IsValue (after (get y)) y
+IsValue (list item next n get after) y =
+    (length (get y) ≡ n) × ListPasses (λ low. IsValue (item low)) next 0 (get y) × IsValue (after (get y)) y
 IsValue (room n g) y = IsValue g y
 IsValue (limit n over g) y = IsValue g y
-IsValue (many item next wrong get make) y = ListPasses (λ low. IsValue (item low)) next 0 (get y) × (wrong (get y) ≡ None) × (make (get y) ≡ y)
+IsValue (many item next wrong get make) y =
+    ListPasses (λ low. IsValue (item low)) next 0 (get y) × (wrong (get y) ≡ None) × (make (get y) ≡ y)
 
 -- the bytes are those of a value of the format
 abbrev pub Spells : {W : Type 0} {s : Bool} {A : Type 0} → Grammar W s A → List ℕ → A → Type 0

@@ -55,7 +55,8 @@ pub extent_read : (bytes : List ℕ) (n : ℕ) → IsBytes bytes → IsExtent by
     → Reads packets datagram (λ d. d) (λ d. d) bytes (Ok (datagram_in (take n bytes)))
 extent_read bytes n fits h =
     let b = extent_begins bytes n fits h in
-    reads_ok packets datagram (λ d. d) (λ d. d) datagram_lawful bytes _ (datagram_in (take n bytes)) b.0 fits (begins_read packets datagram datagram_lawful bytes _ b) refl
+    reads_ok packets datagram (λ d. d) (λ d. d) datagram_lawful bytes _ (datagram_in (take n bytes)) b.0 fits
+        (begins_read packets datagram datagram_lawful bytes _ b) refl
 
 -- the first word of the bytes
 first_two : (bytes : List ℕ) → IsBytes bytes → 2 ≤ length bytes → bytes ≡ to_be_bytes w16 (word_at 0 bytes) ++ drop 2 bytes
@@ -91,7 +92,8 @@ word_fits bytes fits = omega (arith, fits 0, fits 1)
 bad_length : (bytes : List ℕ) → IsBytes bytes → 13 ≤ length bytes → wrong_word (word_at 0 bytes) ≡ Some BadLength
     → FirstFault packets datagram bytes BadLength
 unfolding datagram
-bad_length bytes fits h wrong = inr (h, inl (inr (word_at 0 bytes, drop 2 bytes, BadLength, first_two bytes fits (omega arith), word_fits bytes fits, wrong, refl)))
+bad_length bytes fits h wrong =
+    inr (h, inl (inr (word_at 0 bytes, drop 2 bytes, BadLength, first_two bytes fits (omega arith), word_fits bytes fits, wrong, refl)))
 
 cut_short : (bytes : List ℕ) → IsBytes bytes → 13 ≤ length bytes → 13 ≤ named_length bytes → named_length bytes ≤ 599
     → length bytes < named_length bytes → FirstFault packets datagram bytes Truncated
@@ -99,7 +101,8 @@ unfolding datagram
 cut_short bytes fits h least most short =
     let is = word_length bytes fits in
     let missing : length (drop 2 bytes) < word_at 0 bytes % 1024 - 2 = omega (arith, length-drop 2 bytes) in
-    inr (h, inr (word_at 0 bytes, drop 2 bytes, first_two bytes fits (omega arith), (word_fits bytes fits, good (word_at 0 bytes) (omega arith) (omega arith)), inl (missing, refl)))
+    inr (h, inr (word_at 0 bytes, drop 2 bytes, first_two bytes fits (omega arith),
+        (word_fits bytes fits, good (word_at 0 bytes) (omega arith) (omega arith)), inl (missing, refl)))
 
 no_header : (bytes : List ℕ) → length bytes < 13 → FirstFault packets datagram bytes Truncated
 unfolding datagram
@@ -112,11 +115,14 @@ extent_fault bytes e fits h =
     elim (guard_err (ltb (length bytes) 13) Truncated _ e h) [
       | inl p ↦ subst fault (sym p.1) (no_header bytes (ltb-true _ _ p.0))
       | inr a ↦ elim (guard_err (ltb (named_length bytes) 13) BadLength _ e a.1) [
-        | inl p ↦ subst fault (sym p.1) (bad_length bytes fits (ltb-false _ _ a.0) (too_short (word_at 0 bytes) (omega (arith, ltb-true _ _ p.0))))
+        | inl p ↦ subst fault (sym p.1) (bad_length bytes fits (ltb-false _ _ a.0)
+            (too_short (word_at 0 bytes) (omega (arith, ltb-true _ _ p.0))))
         | inr b ↦ elim (guard_err (ltb 599 (named_length bytes)) BadLength _ e b.1) [
-          | inl p ↦ subst fault (sym p.1) (bad_length bytes fits (ltb-false _ _ a.0) (too_long (word_at 0 bytes) (omega (arith, ltb-true _ _ p.0))))
+          | inl p ↦ subst fault (sym p.1) (bad_length bytes fits (ltb-false _ _ a.0)
+              (too_long (word_at 0 bytes) (omega (arith, ltb-true _ _ p.0))))
           | inr c ↦ elim (guard_err (ltb (length bytes) (named_length bytes)) Truncated (Ok (named_length bytes)) e c.1) [
-            | inl p ↦ subst fault (sym p.1) (cut_short bytes fits (ltb-false _ _ a.0) (ltb-false _ _ b.0) (ltb-false _ _ c.0) (ltb-true _ _ p.0))
+            | inl p ↦ subst fault (sym p.1) (cut_short bytes fits (ltb-false _ _ a.0) (ltb-false _ _ b.0) (ltb-false _ _ c.0)
+                (ltb-true _ _ p.0))
             | inr d ↦ absurd (let impossible : ok {E = Error} (named_length bytes) ≡ Err e = d.1 in cc)
           ]
         ]

@@ -86,16 +86,19 @@ above_added row low (r ∷ rows) new each none lt h =
     let e = and_parts (is_row r) (list_all is_row rows) each in
     let o = or_parts (overlaps r.range row.range) (list_any (λ r. overlaps r.range row.range) rows) none in
     let sides = apart r row o.0 e.0 new in
-    (elim (nat_lt r.range.start row.range.start) as (λ b. nat_lt r.range.start row.range.start ≡ b → are_above low (added row (r ∷ rows)) ≡ true) [
+    (elim (nat_lt r.range.start row.range.start) as
+        (λ b. nat_lt r.range.start row.range.start ≡ b → are_above low (added row (r ∷ rows)) ≡ true) [
       | true ↦ λ t. rw (t, q.0) (above_added row r.range.end rows new e.1 o.1 (sides.0 (ltb-true _ _ t)) q.1)
-      | false ↦ λ t. let a = lt-ltb low row.range.start lt in let b = lt-ltb row.range.end r.range.start (sides.1 (ltb-false _ _ t)) in rw (t, a, b, q.1) refl
+      | false ↦ λ t. let a = lt-ltb low row.range.start lt in let b = lt-ltb row.range.end r.range.start
+          (sides.1 (ltb-false _ _ t)) in rw (t, a, b, q.1) refl
     ]) refl
 
 pub all_added : (row : Row) (rows : List Row) → is_row row ≡ true → list_all is_row rows ≡ true → list_all is_row (added row rows) ≡ true
 all_added row [] new each = rw new refl
 all_added row (r ∷ rows) new each =
     let e = and_parts (is_row r) (list_all is_row rows) each in
-    (elim (nat_lt r.range.start row.range.start) as (λ b. nat_lt r.range.start row.range.start ≡ b → list_all is_row (added row (r ∷ rows)) ≡ true) [
+    (elim (nat_lt r.range.start row.range.start) as
+        (λ b. nat_lt r.range.start row.range.start ≡ b → list_all is_row (added row (r ∷ rows)) ≡ true) [
       | true ↦ λ t. rw (t, e.0, all_added row rows new e.1) refl
       | false ↦ λ t. rw (t, new, e.0, e.1) refl
     ]) refl
@@ -103,7 +106,8 @@ all_added row (r ∷ rows) new each =
 pub length_added : (row : Row) (rows : List Row) → length (added row rows) ≡ suc (length rows)
 length_added row [] = refl
 length_added row (r ∷ rows) =
-    (elim (nat_lt r.range.start row.range.start) as (λ b. nat_lt r.range.start row.range.start ≡ b → length (added row (r ∷ rows)) ≡ suc (suc (length rows))) [
+    (elim (nat_lt r.range.start row.range.start) as
+        (λ b. nat_lt r.range.start row.range.start ≡ b → length (added row (r ∷ rows)) ≡ suc (suc (length rows))) [
       | true ↦ λ t. rw t (ap suc (length_added row rows))
       | false ↦ λ t. rw t refl
     ]) refl
@@ -112,7 +116,8 @@ length_added row (r ∷ rows) =
 pub put_at : (row : Row) (rows : List Row) → insert rows (before row.range.start rows) row ≡ added row rows
 put_at row [] = refl
 put_at row (r ∷ rows) =
-    (elim (nat_lt r.range.start row.range.start) as (λ b. nat_lt r.range.start row.range.start ≡ b → insert (r ∷ rows) (before row.range.start (r ∷ rows)) row ≡ added row (r ∷ rows)) [
+    (elim (nat_lt r.range.start row.range.start) as
+        (λ b. nat_lt r.range.start row.range.start ≡ b → insert (r ∷ rows) (before row.range.start (r ∷ rows)) row ≡ added row (r ∷ rows)) [
       | true ↦ λ t. rw t (ap (λ (l : List Row). r ∷ l) (put_at row rows))
       | false ↦ λ t. rw t refl
     ]) refl
@@ -122,7 +127,8 @@ put_at row (r ∷ rows) =
 one_more : (f : Row → Row) (all : List Row) (i : ℕ) (d : Row) → i < length all
    
    
-    → set (map f (take i all) ++ drop i all) i (f (get_or (map f (take i all) ++ drop i all) i d)) ≡ map f (take (suc i) all) ++ drop (suc i) all
+    → set (map f (take i all) ++ drop i all) i (f (get_or (map f (take i all) ++ drop i all) i d)) ≡ map f (take (suc i) all) ++ drop
+        (suc i) all
 one_more f [] i d lt = absurd (omega arith)
 one_more f (a ∷ all) zero d lt = refl
 one_more f (a ∷ all) (suc i) d lt = ap (λ (l : List Row). f a ∷ l) (one_more f all i d (omega arith))
@@ -185,7 +191,8 @@ added_map row rows new none room h = record {
 pub none_beside : (range : Span) (rows : List Row) → list_any (λ r. overlaps r.range range) (beside range rows) ≡ false
 none_beside range [] = refl
 none_beside range (r ∷ rows) =
-    (elim (overlaps r.range range) as (λ b. overlaps r.range range ≡ b → list_any (λ r. overlaps r.range range) (beside range (r ∷ rows)) ≡ false) [
+    (elim (overlaps r.range range) as (λ b. overlaps r.range range ≡ b → list_any (λ r. overlaps r.range range)
+        (beside range (r ∷ rows)) ≡ false) [
       | true ↦ λ t. rw t (none_beside range rows)
       | false ↦ λ t. rw (t, t) (none_beside range rows)
     ]) refl
@@ -208,20 +215,26 @@ aged_good : (r : Row) → is_row r ≡ true → is_row (aged_row r) ≡ true
 aged_good r h = elim (is_direct r) as (λ b. is_row (cond b r (record r { state = older r.state })) ≡ true) [ true ↦ h | false ↦ h ]
 
 pub aged_map : (rows : List Row) → IsRouteMap rows → IsRouteMap (aged rows)
-aged_map rows h = updated_map aged_row aged_range aged_good (filter (λ r. not (is_over r)) rows) (filtered_map (λ r. not (is_over r)) rows h)
+aged_map rows h =
+    updated_map aged_row aged_range aged_good (filter (λ r. not (is_over r)) rows) (filtered_map (λ r. not (is_over r)) rows h)
 
 poisoned_range : (next : Addr) (r : Row) → (poisoned_row next r).range ≡ r.range
-poisoned_range next r = elim (not (is_direct r) && same_address r.next next) as (λ b. (cond b (record r { state = Bad }) r).range ≡ r.range) [ true ↦ refl | false ↦ refl ]
+poisoned_range next r =
+    elim (not (is_direct r) && same_address r.next next) as
+        (λ b. (cond b (record r { state = Bad }) r).range ≡ r.range) [ true ↦ refl | false ↦ refl ]
 
 poisoned_good : (next : Addr) (r : Row) → is_row r ≡ true → is_row (poisoned_row next r) ≡ true
-poisoned_good next r h = elim (not (is_direct r) && same_address r.next next) as (λ b. is_row (cond b (record r { state = Bad }) r) ≡ true) [ true ↦ h | false ↦ h ]
+poisoned_good next r h =
+    elim (not (is_direct r) && same_address r.next next) as
+        (λ b. is_row (cond b (record r { state = Bad }) r) ≡ true) [ true ↦ h | false ↦ h ]
 
 pub poisoned_map : (next : Addr) (rows : List Row) → IsRouteMap rows → IsRouteMap (poisoned next rows)
 poisoned_map next rows h = updated_map (poisoned_row next) (poisoned_range next) (poisoned_good next) rows h
 
 -- a row is replaced by one of its range
 replaced_range : (row r : Row) → (replaced_row row r).range ≡ r.range
-replaced_range row r = (elim (same_range r.range row.range) as (λ b. same_range r.range row.range ≡ b → (replaced_row row r).range ≡ r.range) [
+replaced_range row r =
+    (elim (same_range r.range row.range) as (λ b. same_range r.range row.range ≡ b → (replaced_row row r).range ≡ r.range) [
     | true ↦ λ t. rw t (sym (one_range r.range row.range t))
     | false ↦ λ t. rw t refl
   ]) refl
@@ -235,4 +248,5 @@ replaced_map row rows new h = updated_map (replaced_row row) (replaced_range row
 pub directed_map : (range : Span) (port : ℕ) (rows : List Row) → is_range range.start range.end ≡ true → length (beside range rows) < 200
     → IsRouteMap rows → IsRouteMap (directed range port rows)
 directed_map range port rows valid room h =
-    added_map (direct_row range port) (beside range rows) (rw valid refl) (none_beside range rows) room (filtered_map (λ r. not (overlaps r.range range)) rows h)
+    added_map (direct_row range port) (beside range rows) (rw valid refl) (none_beside range rows) room
+        (filtered_map (λ r. not (overlaps r.range range)) rows h)

@@ -12,14 +12,16 @@ loop-rest-init c = record {
 
 pub loop-rest-smaller : goal.loop-rest-smaller
 loop-rest-smaller c =
-    (shrinks c.loop-rest.low c.loop-rest.rest.now c.in-Ok.written c.in-Ok.after.now c.loop-rest.invariant.bytes (c.in-Ok.ensures {u = tt}).read).0
+    (shrinks c.loop-rest.low c.loop-rest.rest.now c.in-Ok.written c.in-Ok.after.now c.loop-rest.invariant.bytes
+        (c.in-Ok.ensures {u = tt}).read).0
 
 pub loop-rest-preserved : goal.loop-rest-preserved
 loop-rest-preserved c =
     let s = step c.loop-rest.low c.loop-rest.rest.now c.in-Ok.written c.in-Ok.after.now c.loop-rest.invariant.bytes c.loop-rest.invariant.whole (c.in-Ok.ensures {u = tt}).read in
     let said : tuple_of c.in-Ok.written ≡ None = sym c.tuple_of.ensures ∙ c.in_default.is in
     record {
-      bytes = (shrinks c.loop-rest.low c.loop-rest.rest.now c.in-Ok.written c.in-Ok.after.now c.loop-rest.invariant.bytes (c.in-Ok.ensures {u = tt}).read).1;
+      bytes = (shrinks c.loop-rest.low c.loop-rest.rest.now c.in-Ok.written c.in-Ok.after.now c.loop-rest.invariant.bytes
+          (c.in-Ok.ensures {u = tt}).read).1;
       whole = s.rest;
       same = c.loop-rest.invariant.same ∙ rw (s.is, said) refl;
     }
@@ -32,4 +34,5 @@ returns-in-Some-clause-some c =
 
 pub returns-in-Some-clause-rest : goal.returns-in-Some-clause-rest
 returns-in-Some-clause-rest c =
-    (step c.loop-rest.low c.loop-rest.rest.now c.in-Ok.written c.in-Ok.after.now c.loop-rest.invariant.bytes c.loop-rest.invariant.whole (c.in-Ok.ensures {u = tt}).read).rest
+    (step c.loop-rest.low c.loop-rest.rest.now c.in-Ok.written c.in-Ok.after.now c.loop-rest.invariant.bytes c.loop-rest.invariant.whole
+        (c.in-Ok.ensures {u = tt}).read).rest
