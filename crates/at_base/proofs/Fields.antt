@@ -92,7 +92,7 @@ bytes_take {E} len cut bytes x e =
     let g = guard_ok (ltb (length bytes) len) cut (Ok (take len bytes, drop len bytes)) x e in
     let long : len ≤ length bytes = ltb-false _ _ g.0 in
     let made : (bytes ≡ take len bytes ++ drop len bytes) × (length (take len bytes) ≡ len) =
-        (sym (take-append-drop len bytes), omega (arith, length-take len bytes)) in
+    (sym (take-append-drop len bytes), omega (arith, length-take len bytes)) in
     let same : (take len bytes, drop len bytes) ≡ x = ok_is {E = E} (take len bytes, drop len bytes) x g.1 in
     let both = subst (λ (y : List ℕ × List ℕ). (bytes ≡ y.0 ++ y.1) × (length y.0 ≡ len)) same made in
     (both.0, both.1, sym same)
@@ -157,7 +157,7 @@ pub field_takes : {W E V : Type 0} (r : Refusals W E) (fd : Field W V) (bytes : 
 field_takes r (number size wrong) bytes x fits e =
     let w = width size in
     let a = bind_ok (bytes_at r.cut (byte_len w) bytes)
-        (λ y. checked r bytes (wrong (from_be_bytes w y.0)) (from_be_bytes w y.0, y.1)) x e in
+    (λ y. checked r bytes (wrong (from_be_bytes w y.0)) (from_be_bytes w y.0, y.1)) x e in
     let t = bytes_take (byte_len w) r.cut bytes a.0 a.1 in
     let c = checked_ok r bytes (wrong (from_be_bytes w a.0.0)) (from_be_bytes w a.0.0, a.0.1) x a.2 in
     let s_fits : IsBytes a.0.0 = rw (ap (λ (y : List ℕ × List ℕ). y.0) t.2) (IsBytes-take (byte_len w) bytes fits) in
@@ -170,7 +170,7 @@ field_takes r (run len wrong) bytes x fits e =
     let t = bytes_take len r.cut bytes a.0 a.1 in
     let c = checked_ok r bytes (wrong a.0.0) a.0 x a.2 in
     subst (λ (y : List ℕ × List ℕ). Took bytes y.0 y.1 × ((length y.0 ≡ len) × (wrong y.0 ≡ None))) c.1
-        (take_then bytes a.0.0 a.0.1 fits t.0, (t.1, c.0))
+    (take_then bytes a.0.0 a.0.1 fits t.0, (t.1, c.0))
 
 pub field_again : {W E V : Type 0} (r : Refusals W E) (fd : Field W V) (v : V) (rest : List ℕ) → Passes fd v
     → field_at r fd (field_bytes fd v ++ rest) ≡ Ok (v, rest)
@@ -183,7 +183,7 @@ pub field_fault : {W E V : Type 0} (r : Refusals W E) (fd : Field W V) (bytes : 
 field_fault r (number size wrong) bytes f fits e =
     let w = width size in
     elim (bind_err (bytes_at r.cut (byte_len w) bytes)
-        (λ y. checked r bytes (wrong (from_be_bytes w y.0)) (from_be_bytes w y.0, y.1)) f e) [
+    (λ y. checked r bytes (wrong (from_be_bytes w y.0)) (from_be_bytes w y.0, y.1)) f e) [
       | inl short ↦ inl (bytes_short (byte_len w) r.cut bytes f short)
       | inr a ↦
           let t = bytes_take (byte_len w) r.cut bytes a.0 a.1 in
@@ -206,7 +206,7 @@ pub field_refused : {W E V : Type 0} (r : Refusals W E) (fd : Field W V) (bytes 
 field_refused {V = V} r (number size wrong) bytes f (inl h) = rw (bytes_cut (byte_len (width size)) r.cut bytes h.0, h.1) refl
 field_refused r (number size wrong) bytes f (inr (v, rest, w, parts, fits, bad, is)) =
     let taken : bytes_at r.cut (byte_len (width size)) bytes ≡ Ok (to_be_bytes (width size) v, rest) = rw parts
-        (bytes_again (byte_len (width size)) r.cut (to_be_bytes (width size) v) rest ((wide size).len v)) in
+    (bytes_again (byte_len (width size)) r.cut (to_be_bytes (width size) v) rest ((wide size).len v)) in
     rw (taken, (wide size).again v fits, bad, is) refl
 field_refused r (run len wrong) bytes f (inl h) = rw (bytes_cut len r.cut bytes h.0, h.1) refl
 field_refused r (run len wrong) bytes f (inr (v, rest, w, parts, fits, bad, is)) =

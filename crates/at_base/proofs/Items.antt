@@ -9,8 +9,11 @@ use Rattle.at_base.specs.Reading.{◌>>=◌, list_at, many_at}
 use Rattle.at_base.proofs.Fields.{IsBytes, ok, ok_is, bind_ok, bind_err, Took}
 
 pub Took-then : (a x b y c : List ℕ) → Took a x b → Took b y c → Took a (x ++ y) c
-Took-then a x b y c p q = record { parts = p.parts ∙ ap (λ (t : List ℕ). x ++ t) q.parts
-    ∙ sym (append_assoc x y c); rest_fits = q.rest_fits }
+Took-then a x b y c p q = record {
+  parts = p.parts ∙ ap (λ (t : List ℕ). x ++ t) q.parts
+      ∙ sym (append_assoc x y c);
+  rest_fits = q.rest_fits;
+}
 
 -- ---- lists, by what holds of their items
 
@@ -29,16 +32,18 @@ pub list_takes : {E B : Type 0} (item : ℕ → List ℕ → Result (B × List �
     → Took bytes (list_bytes spell next low x.0) x.1 × ListPasses passes next low x.0 × (length x.0 ≡ n)
 list_takes {E} {B} item spell passes next one low zero bytes x fits e =
     subst (λ (y : List B × List ℕ). Took bytes (list_bytes spell next low y.0) y.1 × ListPasses passes next low y.0 × (length y.0 ≡ 0))
-        (ok_is {E = E} ([], bytes) x e) (record { parts = refl; rest_fits = fits }, tt, refl)
+    (ok_is {E = E} ([], bytes) x e) (record { parts = refl; rest_fits = fits }, tt, refl)
 list_takes {E} {B} item spell passes next one low (suc n) bytes x fits e =
     let a = bind_ok (item low bytes) (λ y. list_at item next (next y.0) n y.1 >>= λ ys. Ok (y.0 ∷ ys.0, ys.1)) x e in
     let b = bind_ok (list_at item next (next a.0.0) n a.0.1) (λ ys. Ok (a.0.0 ∷ ys.0, ys.1)) x a.2 in
     let first = one low bytes a.0 fits a.1 in
     let others = list_takes item spell passes next one (next a.0.0) n a.0.1 b.0 first.0.rest_fits b.1 in
     subst (λ (y : List B × List ℕ). Took bytes (list_bytes spell next low y.0) y.1 × ListPasses passes next low y.0 ×
-        (length y.0 ≡ suc n)) (ok_is {E = E} (a.0.0 ∷ b.0.0, b.0.1) x b.2)
-    (Took-then bytes (spell low a.0.0) a.0.1 (list_bytes spell next (next a.0.0) b.0.0) b.0.1 first.0 others.0,
-        (first.1, others.1), ap suc others.2)
+    (length y.0 ≡ suc n)) (ok_is {E = E} (a.0.0 ∷ b.0.0, b.0.1) x b.2) (
+      Took-then bytes (spell low a.0.0) a.0.1 (list_bytes spell next (next a.0.0) b.0.0) b.0.1 first.0 others.0,
+      (first.1, others.1),
+      ap suc others.2,
+    )
 
 pub list_again : {E B : Type 0} (item : ℕ → List ℕ → Result (B × List ℕ) E) (spell : ℕ → B → List ℕ) (passes : ℕ → B → Type 0)
     (next : B → ℕ)
@@ -63,8 +68,14 @@ list_fault {E} {B} item faulty spell passes next one bad low (suc n) bytes f fit
       | inr a ↦
           let first = one low bytes a.0 fits a.1 in
           elim (bind_err (list_at item next (next a.0.0) n a.0.1) (λ ys. Ok (a.0.0 ∷ ys.0, ys.1)) f a.2) [
-            | inl q ↦ inr (a.0.0, a.0.1, first.0.parts, first.1, list_fault item faulty spell passes next one bad
-                (next a.0.0) n a.0.1 f first.0.rest_fits q)
+            | inl q ↦ inr (
+              a.0.0,
+              a.0.1,
+              first.0.parts,
+              first.1,
+              list_fault item faulty spell passes next one bad
+                  (next a.0.0) n a.0.1 f first.0.rest_fits q,
+            )
             | inr b ↦ absurd (let impossible : ok {E = E} (a.0.0 ∷ b.0.0, b.0.1) ≡ Err f = b.2 in cc)
           ]
     ]
@@ -94,9 +105,9 @@ many_takes {E} {B} item spell passes next one long low (suc most) (byte ∷ byte
     let b = bind_ok (many_at item next (next a.0.0) most a.0.1) (λ ys. Ok (a.0.0 ∷ ys)) xs a.2 in
     let first = one low (byte ∷ bytes) a.0 fits a.1 in
     let others = many_takes item spell passes next one long (next a.0.0) most a.0.1 b.0 first.0.rest_fits
-        (shorter (byte ∷ bytes) (spell low a.0.0) a.0.1 most first.0.parts (long low a.0.0 first.1) le) b.1 in
+    (shorter (byte ∷ bytes) (spell low a.0.0) a.0.1 most first.0.parts (long low a.0.0 first.1) le) b.1 in
     subst (λ (ys : List B). (byte ∷ bytes ≡ list_bytes spell next low ys) × ListPasses passes next low ys)
-        (ok_is {E = E} (a.0.0 ∷ b.0) xs b.2)
+    (ok_is {E = E} (a.0.0 ∷ b.0) xs b.2)
     (first.0.parts ∙ ap (λ (l : List ℕ). spell low a.0.0 ++ l) others.0, (first.1, others.1))
 
 -- one turn, where there is a byte
@@ -117,9 +128,9 @@ many_again item spell passes next one long low zero (x ∷ xs) h le =
 many_again item spell passes next one long low (suc most) (x ∷ xs) h le =
     let l = long low x h.0 in
     let some : 1 ≤ length (spell low x ++ list_bytes spell next (next x) xs) = omega
-        (arith, length-append (spell low x) (list_bytes spell next (next x) xs)) in
+    (arith, length-append (spell low x) (list_bytes spell next (next x) xs)) in
     let fewer : length (list_bytes spell next (next x) xs) ≤ most = omega
-        (arith, length-append (spell low x) (list_bytes spell next (next x) xs)) in
+    (arith, length-append (spell low x) (list_bytes spell next (next x) xs)) in
     many_turn item next low most (spell low x ++ list_bytes spell next (next x) xs) some
     ∙ rw (one low x (list_bytes spell next (next x) xs) h.0, many_again item spell passes next one long (next x) most xs h.1 fewer) refl
 
@@ -127,7 +138,7 @@ many_again item spell passes next one long low (suc most) (x ∷ xs) h le =
 abbrev pub ManyFault : {E B : Type 0} → (ℕ → List ℕ → E → Type 0) → (ℕ → B → List ℕ) → (ℕ → B → Type 0) → (B → ℕ) → ℕ → List ℕ → E → Type 0
 ManyFault {B = B} faulty spell passes next low bytes f =
     (v : List B) × (rest : List ℕ) × (bytes ≡ list_bytes spell next low v ++ rest) × ListPasses passes next low v ×
-        (1 ≤ length rest) × faulty (low_after next low v) rest f
+    (1 ≤ length rest) × faulty (low_after next low v) rest f
 
 pub many_fault : {E B : Type 0} (item : ℕ → List ℕ → Result (B × List ℕ) E) (faulty : ℕ → List ℕ → E → Type 0) (spell : ℕ → B → List ℕ)
     (passes : ℕ → B → Type 0) (next : B → ℕ)
@@ -144,9 +155,15 @@ many_fault {E} item faulty spell passes next one bad low (suc most) (byte ∷ by
           let first = one low (byte ∷ bytes) a.0 fits a.1 in
           elim (bind_err (many_at item next (next a.0.0) most a.0.1) (λ ys. Ok (a.0.0 ∷ ys)) f a.2) [
             | inl q ↦
-                let r = many_fault item faulty spell passes next one bad (next a.0.0) most a.0.1 f first.0.rest_fits q in
-                (a.0.0 ∷ r.0, r.1, first.0.parts ∙ ap (λ (l : List ℕ). spell low a.0.0 ++ l) r.2 ∙ sym
-                    (append_assoc (spell low a.0.0) (list_bytes spell next (next a.0.0) r.0) r.1), (first.1, r.3), r.4, r.5)
+                let r = many_fault item faulty spell passes next one bad (next a.0.0) most a.0.1 f first.0.rest_fits q in (
+                  a.0.0 ∷ r.0,
+                  r.1,
+                  first.0.parts ∙ ap (λ (l : List ℕ). spell low a.0.0 ++ l) r.2 ∙ sym
+                      (append_assoc (spell low a.0.0) (list_bytes spell next (next a.0.0) r.0) r.1),
+                  (first.1, r.3),
+                  r.4,
+                  r.5,
+                )
             | inr b ↦ absurd (let impossible : ok {E = E} (a.0.0 ∷ b.0) ≡ Err f = b.2 in cc)
           ]
     ]
@@ -173,13 +190,17 @@ pub many_refused : {E B : Type 0} (item : ℕ → List ℕ → Result (B × List
 many_refused item spell passes next one long low zero [] rest f h some le e = absurd (omega arith)
 many_refused item spell passes next one long low (suc most) [] rest f h some le e = many_turn item next low most rest some ∙ rw e refl
 many_refused item spell passes next one long low zero (x ∷ xs) rest f h some le e =
-    absurd (let l = long low x h.0 in omega (arith, length-append (spell low x ++ list_bytes spell next (next x) xs) rest, length-append
-        (spell low x) (list_bytes spell next (next x) xs)))
+    absurd (let l = long low x h.0 in omega (
+      arith,
+      length-append (spell low x ++ list_bytes spell next (next x) xs) rest,
+      length-append
+          (spell low x) (list_bytes spell next (next x) xs),
+    ))
 many_refused item spell passes next one long low (suc most) (x ∷ xs) rest f h some le e =
     let l = long low x h.0 in
     let others = list_bytes spell next (next x) xs ++ rest in
     let same : (spell low x ++ list_bytes spell next (next x) xs) ++ rest ≡ spell low x ++ others = append_assoc (spell low x)
-        (list_bytes spell next (next x) xs) rest in
+    (list_bytes spell next (next x) xs) rest in
     let there : 1 ≤ length (spell low x ++ others) = omega (arith, length-append (spell low x) others) in
     let fewer : length others ≤ most = omega (arith, length-append (spell low x) others, ap (λ (b : List ℕ). length b) same) in
     ap (many_at item next low (suc most)) same ∙ (many_turn item next low most (spell low x ++ others) there

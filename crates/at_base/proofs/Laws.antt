@@ -31,9 +31,11 @@ nothing_fits i = omega arith
 pub read_takes : {W E : Type 0} {s : Bool} {A : Type 0} (r : Refusals W E) (g : Grammar W s A) → IsLawful g
     → (bytes : List ℕ) (x : A × List ℕ) → IsBytes bytes → read r g bytes ≡ Ok x → Took bytes (bytes_of g x.0) x.1 × IsValue g x.0
 read_takes {E = E} {s = s} {A = A} r (done y) lawful bytes x fits e =
-    let same = ok_is {E = E} (y, bytes) x e in
-    (record { parts = ap (λ (z : A × List ℕ). z.1) same; rest_fits = subst (λ (z : A × List ℕ). IsBytes z.1) same fits }, ap
-        (λ (z : A × List ℕ). z.0) same)
+    let same = ok_is {E = E} (y, bytes) x e in (
+      record { parts = ap (λ (z : A × List ℕ). z.1) same; rest_fits = subst (λ (z : A × List ℕ). IsBytes z.1) same fits },
+      ap
+          (λ (z : A × List ℕ). z.0) same,
+    )
 read_takes {E = E} {s = s} {A = A} r (field {V = V} fd get after) lawful bytes x fits e =
     let a = bind_ok (field_at r fd bytes) (λ y. read r (after y.0) y.1) x e in
     let t = field_takes r fd bytes a.0 fits a.1 in
@@ -53,12 +55,12 @@ read_takes {E = E} {s = s} {A = A} r (part {B = B} g get after) lawful bytes x f
 read_takes {E = E} {s = s} {A = A} r (list {B = B} item next n get after) lawful bytes x fits e =
     let a = bind_ok (list_at (λ low. read r (item low)) next 0 n bytes) (λ y. read r (after y.0) y.1) x e in
     let t = list_takes (λ low. read r (item low)) (λ low. bytes_of (item low)) (λ low. IsValue (item low)) next
-        (λ low. read_takes r (item low) (lawful.0 low)) 0 n bytes a.0 fits a.1 in
+    (λ low. read_takes r (item low) (lawful.0 low)) 0 n bytes a.0 fits a.1 in
     let l = lawful.1 a.0.0 t.2 in
     let u = read_takes r (after a.0.0) l.1 a.0.1 x t.0.rest_fits a.2 in
     let same = has_value get a.0.0 (after a.0.0) l.0 x.0 u.1 in
     subst (λ (v : List B). Took bytes (list_bytes (λ low. bytes_of (item low)) next 0 v ++ bytes_of (after v) x.0) x.1 ×
-        ((length v ≡ n) × ListPasses (λ low. IsValue (item low)) next 0 v × IsValue (after v) x.0)) (sym same)
+    ((length v ≡ n) × ListPasses (λ low. IsValue (item low)) next 0 v × IsValue (after v) x.0)) (sym same)
     (Took-then bytes (list_bytes (λ low. bytes_of (item low)) next 0 a.0.0) a.0.1 (bytes_of (after a.0.0) x.0) x.1 t.0 u.0, (t.2, t.1, u.1))
 read_takes r (room n g) lawful bytes x fits e =
     let p = guard_ok (ltb (length bytes) n) r.cut (read r g bytes) x e in
@@ -68,13 +70,15 @@ read_takes r (limit n over g) lawful bytes x fits e =
 read_takes {E = E} {s = s} {A = A} r (many {B = B} item next wrong get make) lawful bytes x fits e =
     let a = bind_ok (many_at (λ low. read r (item low)) next 0 (length bytes) bytes) (λ ys. checked r bytes (wrong ys) (make ys, [])) x e in
     let t = many_takes (λ low. read r (item low)) (λ low. bytes_of (item low)) (λ low. IsValue (item low)) next
-        (λ low. read_takes r (item low) (lawful.0 low)) lawful.1 0 (length bytes) bytes a.0 fits (omega arith) a.1 in
+    (λ low. read_takes r (item low) (lawful.0 low)) lawful.1 0 (length bytes) bytes a.0 fits (omega arith) a.1 in
     let c = checked_ok r bytes (wrong a.0) (make a.0, []) x a.2 in
     let back : get (make a.0) ≡ a.0 = lawful.2 a.0 in
     subst (λ (z : A × List ℕ). Took bytes (list_bytes (λ low. bytes_of (item low)) next 0 (get z.0)) z.1 ×
-        (ListPasses (λ low. IsValue (item low)) next 0 (get z.0) × (wrong (get z.0) ≡ None) × (make (get z.0) ≡ z.0))) c.1
-    (rw back (record { parts = t.0 ∙ sym (append-nil (list_bytes (λ low. bytes_of (item low)) next 0 a.0)); rest_fits = nothing_fits },
-        (t.1, c.0, refl)))
+    (ListPasses (λ low. IsValue (item low)) next 0 (get z.0) × (wrong (get z.0) ≡ None) × (make (get z.0) ≡ z.0))) c.1
+    (rw back (
+      record { parts = t.0 ∙ sym (append-nil (list_bytes (λ low. bytes_of (item low)) next 0 a.0)); rest_fits = nothing_fits },
+      (t.1, c.0, refl),
+    ))
 
 pub follows_all : {W : Type 0} {A : Type 0} (g : Grammar W true A) (y : A) (rest : List ℕ) → Follows g y rest
 follows_all (done x) y rest = tt
@@ -93,22 +97,22 @@ read_follows r (field {V = V} fd get after) lawful bytes x fits e =
     let l = lawful a.0.0 t.1 in
     let u = read_takes r (after a.0.0) l.1 a.0.1 x t.0.rest_fits a.2 in
     subst (λ (v : V). Follows (after v) x.0 x.1) (sym (has_value get a.0.0 (after a.0.0) l.0 x.0 u.1))
-        (read_follows r (after a.0.0) l.1 a.0.1 x t.0.rest_fits a.2)
+    (read_follows r (after a.0.0) l.1 a.0.1 x t.0.rest_fits a.2)
 read_follows r (part {B = B} g get after) lawful bytes x fits e =
     let a = bind_ok (read r g bytes) (λ y. read r (after y.0) y.1) x e in
     let t = read_takes r g lawful.0 bytes a.0 fits a.1 in
     let l = lawful.1 a.0.0 t.1 in
     let u = read_takes r (after a.0.0) l.1 a.0.1 x t.0.rest_fits a.2 in
     subst (λ (v : B). Follows (after v) x.0 x.1) (sym (has_value get a.0.0 (after a.0.0) l.0 x.0 u.1))
-        (read_follows r (after a.0.0) l.1 a.0.1 x t.0.rest_fits a.2)
+    (read_follows r (after a.0.0) l.1 a.0.1 x t.0.rest_fits a.2)
 read_follows r (list {B = B} item next n get after) lawful bytes x fits e =
     let a = bind_ok (list_at (λ low. read r (item low)) next 0 n bytes) (λ y. read r (after y.0) y.1) x e in
     let t = list_takes (λ low. read r (item low)) (λ low. bytes_of (item low)) (λ low. IsValue (item low)) next
-        (λ low. read_takes r (item low) (lawful.0 low)) 0 n bytes a.0 fits a.1 in
+    (λ low. read_takes r (item low) (lawful.0 low)) 0 n bytes a.0 fits a.1 in
     let l = lawful.1 a.0.0 t.2 in
     let u = read_takes r (after a.0.0) l.1 a.0.1 x t.0.rest_fits a.2 in
     subst (λ (v : List B). Follows (after v) x.0 x.1) (sym (has_value get a.0.0 (after a.0.0) l.0 x.0 u.1))
-        (read_follows r (after a.0.0) l.1 a.0.1 x t.0.rest_fits a.2)
+    (read_follows r (after a.0.0) l.1 a.0.1 x t.0.rest_fits a.2)
 read_follows r (room n g) lawful bytes x fits e =
     read_follows r g lawful.1 bytes x fits (guard_ok (ltb (length bytes) n) r.cut (read r g bytes) x e).1
 read_follows r (limit n over g) lawful bytes x fits e =
@@ -129,17 +133,20 @@ read_again {E = E} {s = s} {A = A} r (done x) lawful y rest h f = ap (λ (z : A)
 read_again r (field fd get after) lawful y rest h f =
     ap (read r (field fd get after)) (append_assoc (field_bytes fd (get y)) (bytes_of (after (get y)) y) rest)
     ∙ rw (field_again r fd (get y) (bytes_of (after (get y)) y ++ rest) h.0)
-        (read_again r (after (get y)) (lawful (get y) h.0).1 y rest h.1 f)
+    (read_again r (after (get y)) (lawful (get y) h.0).1 y rest h.1 f)
 read_again r (part g get after) lawful y rest h f =
     ap (read r (part g get after)) (append_assoc (bytes_of g (get y)) (bytes_of (after (get y)) y) rest)
     ∙ rw (read_again r g lawful.0 (get y) (bytes_of (after (get y)) y ++ rest) h.0
-        (follows_all g (get y) (bytes_of (after (get y)) y ++ rest))) (read_again r (after (get y)) (lawful.1 (get y) h.0).1 y rest h.1 f)
+    (follows_all g (get y) (bytes_of (after (get y)) y ++ rest))) (read_again r (after (get y)) (lawful.1 (get y) h.0).1 y rest h.1 f)
 read_again r (list item next n get after) lawful y rest h f =
     ap (read r (list item next n get after)) (append_assoc (list_bytes (λ low. bytes_of (item low)) next 0 (get y))
-        (bytes_of (after (get y)) y) rest)
-    ∙ rw (← h.0, list_again (λ low. read r (item low)) (λ low. bytes_of (item low)) (λ low. IsValue (item low)) next
-        (λ low x b p. read_again r (item low) (lawful.0 low) x b p (follows_all (item low) x b)) 0 (get y)
-            (bytes_of (after (get y)) y ++ rest) h.1) (read_again r (after (get y)) (lawful.1 (get y) h.0).1 y rest h.2 f)
+    (bytes_of (after (get y)) y) rest)
+    ∙ rw (
+      ← h.0,
+      list_again (λ low. read r (item low)) (λ low. bytes_of (item low)) (λ low. IsValue (item low)) next
+          (λ low x b p. read_again r (item low) (lawful.0 low) x b p (follows_all (item low) x b)) 0 (get y)
+          (bytes_of (after (get y)) y ++ rest) h.1,
+    ) (read_again r (after (get y)) (lawful.1 (get y) h.0).1 y rest h.2 f)
 read_again r (room n g) lawful y rest h f =
     let enough = lawful.0 y h in
     let no : ltb (length (bytes_of g y ++ rest)) n ≡ false = le-ltb _ _ (omega (arith, length-append (bytes_of g y) rest)) in
@@ -151,8 +158,8 @@ read_again {E = E} {s = s} {A = A} r (many item next wrong get make) lawful y re
     let bytes = list_bytes (λ low. bytes_of (item low)) next 0 (get y) in
     let whole : bytes ++ rest ≡ bytes = ap (λ (r : List ℕ). bytes ++ r) f ∙ append-nil bytes in
     let again = many_again (λ low. read r (item low)) (λ low. bytes_of (item low)) (λ low. IsValue (item low)) next
-        (λ low x b p. read_again r (item low) (lawful.0 low) x b p (follows_all (item low) x b)) lawful.1 0 (length bytes) (get y) h.0
-            (omega arith) in
+    (λ low x b p. read_again r (item low) (lawful.0 low) x b p (follows_all (item low) x b)) lawful.1 0 (length bytes) (get y) h.0
+    (omega arith) in
     ap (read r (many item next wrong get make)) whole ∙ rw (again, h.1, h.2, f) refl
 
 -- a refusal is the first fault
@@ -177,10 +184,10 @@ read_fault r (list item next n get after) lawful bytes f fits e =
     elim (bind_err (list_at (λ low. read r (item low)) next 0 n bytes) (λ y. read r (after y.0) y.1) f e) [
       | inl p ↦ inl (list_fault (λ low. read r (item low)) (λ low. FirstFault r (item low)) (λ low. bytes_of (item low))
           (λ low. IsValue (item low)) next (λ low. read_takes r (item low) (lawful.0 low))
-              (λ low. read_fault r (item low) (lawful.0 low)) 0 n bytes f fits p)
+          (λ low. read_fault r (item low) (lawful.0 low)) 0 n bytes f fits p)
       | inr a ↦
           let t = list_takes (λ low. read r (item low)) (λ low. bytes_of (item low)) (λ low. IsValue (item low)) next
-              (λ low. read_takes r (item low) (lawful.0 low)) 0 n bytes a.0 fits a.1 in
+          (λ low. read_takes r (item low) (lawful.0 low)) 0 n bytes a.0 fits a.1 in
           inr (a.0.0, a.0.1, t.0.parts, t.2, t.1, read_fault r (after a.0.0) (lawful.1 a.0.0 t.2).1 a.0.1 f t.0.rest_fits a.2)
     ]
 read_fault r (room n g) lawful bytes f fits e =
@@ -197,10 +204,10 @@ read_fault r (many item next wrong get make) lawful bytes f fits e =
     elim (bind_err (many_at (λ low. read r (item low)) next 0 (length bytes) bytes) (λ ys. checked r bytes (wrong ys) (make ys, [])) f e) [
       | inl p ↦ inl (many_fault (λ low. read r (item low)) (λ low. FirstFault r (item low)) (λ low. bytes_of (item low))
           (λ low. IsValue (item low)) next (λ low. read_takes r (item low) (lawful.0 low))
-              (λ low. read_fault r (item low) (lawful.0 low)) 0 (length bytes) bytes f fits p)
+          (λ low. read_fault r (item low) (lawful.0 low)) 0 (length bytes) bytes f fits p)
       | inr a ↦
           let t = many_takes (λ low. read r (item low)) (λ low. bytes_of (item low)) (λ low. IsValue (item low)) next
-              (λ low. read_takes r (item low) (lawful.0 low)) lawful.1 0 (length bytes) bytes a.0 fits (omega arith) a.1 in
+          (λ low. read_takes r (item low) (lawful.0 low)) lawful.1 0 (length bytes) bytes a.0 fits (omega arith) a.1 in
           let c = checked_err r bytes (wrong a.0) (make a.0, []) f a.2 in
           inr (a.0, c.0, t.0, t.1, c.1, c.2)
     ]
@@ -219,12 +226,12 @@ read_refused r (part g get after) lawful bytes f (inr (v, rest, parts, p, h)) =
     rw first (read_refused r (after v) (lawful.1 v p).1 rest f h)
 read_refused r (list item next n get after) lawful bytes f (inl h) =
     rw (list_refused (λ low. read r (item low)) (λ low. FirstFault r (item low)) (λ low. bytes_of (item low))
-        (λ low. IsValue (item low)) next (λ low x rest p. read_again r (item low) (lawful.0 low) x rest p
-            (follows_all (item low) x rest)) (λ low. read_refused r (item low) (lawful.0 low)) 0 n bytes f h) refl
+    (λ low. IsValue (item low)) next (λ low x rest p. read_again r (item low) (lawful.0 low) x rest p
+    (follows_all (item low) x rest)) (λ low. read_refused r (item low) (lawful.0 low)) 0 n bytes f h) refl
 read_refused r (list {B = B} item next n get after) lawful bytes f (inr (v, rest, parts, len, p, h)) =
     let first : list_at (λ low. read r (item low)) next 0 n bytes ≡ Ok (v, rest) =
     rw (parts, ← len) (list_again (λ low. read r (item low)) (λ low. bytes_of (item low)) (λ low. IsValue (item low)) next
-        (λ low x rest p. read_again r (item low) (lawful.0 low) x rest p (follows_all (item low) x rest)) 0 v rest p) in
+    (λ low x rest p. read_again r (item low) (lawful.0 low) x rest p (follows_all (item low) x rest)) 0 v rest p) in
     rw first (read_refused r (after v) (lawful.1 v len).1 rest f h)
 read_refused r (room n g) lawful bytes f (inl h) = let short : ltb (length bytes) n ≡ true = lt-ltb _ _ h.0 in rw (short, h.1) refl
 read_refused r (room n g) lawful bytes f (inr h) =
@@ -235,15 +242,15 @@ read_refused r (limit n over g) lawful bytes f (inr h) =
 read_refused r (many item next wrong get make) lawful bytes f (inl (v, rest, parts, p, some, h)) =
     let stuck : many_at (λ low. read r (item low)) next 0 (length bytes) bytes ≡ Err f =
     rw parts (many_refused (λ low. read r (item low)) (λ low. bytes_of (item low)) (λ low. IsValue (item low)) next
-        (λ low x rest p. read_again r (item low) (lawful.0 low) x rest p (follows_all (item low) x rest)) lawful.1 0
-            (length (list_bytes (λ low. bytes_of (item low)) next 0 v ++ rest)) v rest f p some (omega arith)
-                (read_refused r (item (low_after next 0 v)) (lawful.0 (low_after next 0 v)) rest f h)) in
+    (λ low x rest p. read_again r (item low) (lawful.0 low) x rest p (follows_all (item low) x rest)) lawful.1 0
+    (length (list_bytes (λ low. bytes_of (item low)) next 0 v ++ rest)) v rest f p some (omega arith)
+    (read_refused r (item (low_after next 0 v)) (lawful.0 (low_after next 0 v)) rest f h)) in
     rw stuck refl
 read_refused r (many item next wrong get make) lawful bytes f (inr (v, w, parts, p, bad, is)) =
     let all : many_at (λ low. read r (item low)) next 0 (length bytes) bytes ≡ Ok v =
     rw parts (many_again (λ low. read r (item low)) (λ low. bytes_of (item low)) (λ low. IsValue (item low)) next
-        (λ low x rest p. read_again r (item low) (lawful.0 low) x rest p (follows_all (item low) x rest)) lawful.1 0
-            (length (list_bytes (λ low. bytes_of (item low)) next 0 v)) v p (omega arith)) in
+    (λ low x rest p. read_again r (item low) (lawful.0 low) x rest p (follows_all (item low) x rest)) lawful.1 0
+    (length (list_bytes (λ low. bytes_of (item low)) next 0 v)) v p (omega arith)) in
     rw (all, bad, is) refl
 
 -- there is one first fault

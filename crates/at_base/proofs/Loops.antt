@@ -44,7 +44,7 @@ pub goes_on : {E A : Type 0} (item : Reader E A) (next : A → ℕ) (low count i
 goes_on item next low count i bytes y after total lt h so_far =
     let k : count - i ≡ suc (count - (i + 1)) = omega arith in
     let one : with_front so_far.0 (list_at item next low (count - i) bytes) ≡ with_front (so_far.0 ++ y ∷ [])
-        (list_at item next (next y) (count - (i + 1)) after) =
+    (list_at item next (next y) (count - (i + 1)) after) =
     rw (k, h) (regroup so_far.0 y (list_at item next (next y) (count - (i + 1)) after)) in
     (so_far.0 ++ y ∷ [], sym one ∙ so_far.1)
 
@@ -61,7 +61,7 @@ pub ends : {E A : Type 0} (item : Reader E A) (next : A → ℕ) (low count i : 
 ends {E} {A} item next low count i bytes total le so_far =
     let k : count - i ≡ 0 = omega arith in
     let one : with_front so_far.0 (list_at item next low (count - i) bytes) ≡ Ok (so_far.0, bytes) = rw k
-        (ap (λ (ys : List A). ok {E = E} (ys, bytes)) (append-nil so_far.0)) in
+    (ap (λ (ys : List A). ok {E = E} (ys, bytes)) (append-nil so_far.0)) in
     (so_far.0, sym so_far.1 ∙ one)
 
 -- ---- items up to the end of the input
@@ -132,7 +132,7 @@ rest_is_bytes r g lawful bytes x after fits e = (read_takes r g lawful bytes (x,
 abbrev pub Shrinks : {E A : Type 0} → Reader E A → Type 0
 Shrinks {E} {A} item =
     (low : ℕ) (bytes : List ℕ) (x : A) (after : List ℕ) → IsBytes bytes → item low bytes ≡ Ok (x, after) →
-        (length after < length bytes) × IsBytes after
+    (length after < length bytes) × IsBytes after
 
 -- items that take a byte at least shrink the input
 pub lawful_shrinks : {W E A : Type 0} (r : Refusals W E) (g : ℕ → Grammar W true A) → ((low : ℕ) → IsLawful (g low))
@@ -151,7 +151,7 @@ same_fuel item next shrinks low (suc m) zero (b ∷ bytes) fits le lf = absurd (
 same_fuel item next shrinks low (suc m) (suc n) [] fits le lf = refl
 same_fuel {E} {A} item next shrinks low (suc m) (suc n) (b ∷ bytes) fits le lf =
     (elim (item low (b ∷ bytes)) as (λ r. item low (b ∷ bytes) ≡ r → many_at item next low (suc m) (b ∷ bytes) ≡ many_at item next low
-        (suc n) (b ∷ bytes)) [
+    (suc n) (b ∷ bytes)) [
       | Ok x ↦ λ e.
           let s = shrinks low (b ∷ bytes) x.0 x.1 fits e in
           rw (e, same_fuel item next shrinks (next x.0) m n x.1 s.1 (omega arith) (omega arith)) refl
@@ -167,7 +167,7 @@ first_of item next shrinks low bytes x after fits e =
     let n : length bytes ≡ suc (length bytes - 1) = omega (arith, s.0) in
     let some : 1 ≤ length bytes = omega (arith, s.0) in
     rw n (many_turn item next low (length bytes - 1) bytes some ∙ rw
-        (e, same_fuel item next shrinks (next x) (length bytes - 1) (length after) after s.1 (omega (arith, s.0)) (omega arith)) refl)
+    (e, same_fuel item next shrinks (next x) (length bytes - 1) (length after) after s.1 (omega (arith, s.0)) (omega arith)) refl)
 
 -- an item that isn't read is the answer of all
 pub refused_first : {E A : Type 0} (item : Reader E A) (next : A → ℕ) (low : ℕ) (bytes : List ℕ) (e : E) → 1 ≤ length bytes

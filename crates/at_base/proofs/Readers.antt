@@ -17,7 +17,7 @@ pub begins_one : {W E : Type 0} {s : Bool} {A : Type 0} (r : Refusals W E) (g : 
     → Begins g bytes y → Begins g bytes z → z ≡ y
 begins_one {E = E} {A = A} r g lawful bytes y z b c =
     ap (λ (p : A × List ℕ). p.0) (ok_is {E = E} (z, c.0) (y, b.0)
-        (sym (begins_read r g lawful bytes z c) ∙ begins_read r g lawful bytes y b))
+    (sym (begins_read r g lawful bytes z c) ∙ begins_read r g lawful bytes y b))
 
 -- the bytes of a value begin with it, whatever follows them, where the format knows its own end
 pub spelled_begins : {W A : Type 0} (g : Grammar W true A) (bytes rest : List ℕ) (y : A) → Spells g bytes y → Begins g (bytes ++ rest) y
@@ -35,6 +35,9 @@ pub reads_err : {W E : Type 0} {s : Bool} {A V X : Type 0} (r : Refusals W E) (g
     → IsLawful g → (bytes : List ℕ) (e : E) → IsBytes bytes
     → read r g bytes ≡ Err e → Reads r g keep view bytes (Err e)
 reads_err {E = E} {A = A} r g keep view lawful bytes e fits is =
-    let f = read_fault r g lawful bytes e fits is in
-    (f, λ d h. one_fault r g lawful bytes e d f h, λ z b.
-        (let same : ok {E = E} (z, b.0) ≡ Err e = sym (begins_read r g lawful bytes z b) ∙ is in absurd cc))
+    let f = read_fault r g lawful bytes e fits is in (
+      f,
+      λ d h. one_fault r g lawful bytes e d f h,
+      λ z b.
+          (let same : ok {E = E} (z, b.0) ≡ Err e = sym (begins_read r g lawful bytes z b) ∙ is in absurd cc),
+    )

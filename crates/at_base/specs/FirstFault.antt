@@ -15,7 +15,7 @@ abbrev pub FieldFault : {W E V : Type 0} → Refusals W E → Field W V → List
 FieldFault {W} {E} {V} r fd bytes f =
     ((length bytes < field_len fd) × (f ≡ r.cut))
     ⊎ ((v : V) × (rest : List ℕ) × (w : W) × (bytes ≡ field_bytes fd v ++ rest) × Fits fd v × (wrong_with fd v ≡ Some w) ×
-        (f ≡ r.placed (length bytes) w))
+    (f ≡ r.placed (length bytes) w))
 
 -- items that pass, and then one at fault
 abbrev pub ListFault : {E B : Type 0} → (ℕ → List ℕ → E → Type 0) → (ℕ → B → List ℕ) → (ℕ → B → Type 0) → (B → ℕ) → ℕ → ℕ → List ℕ → E
@@ -46,7 +46,7 @@ FirstFault r (limit n over g) bytes f =
     ((n < length bytes) × (f ≡ r.placed (length bytes) over)) ⊎ ((length bytes ≤ n) × FirstFault r g bytes f)
 FirstFault {W} r (many {B = B} item next wrong get make) bytes f =
     ((v : List B) × (rest : List ℕ) × (bytes ≡ list_bytes (λ low. bytes_of (item low)) next 0 v ++ rest) × ListPasses
-        (λ low. IsValue (item low)) next 0 v
+    (λ low. IsValue (item low)) next 0 v
     × (1 ≤ length rest) × FirstFault r (item (low_after next 0 v)) rest f)
     ⊎ ((v : List B) × (w : W) × (bytes ≡ list_bytes (λ low. bytes_of (item low)) next 0 v) × ListPasses (λ low. IsValue (item low)) next 0 v
     × (wrong v ≡ Some w) × (f ≡ r.placed (length bytes) w))

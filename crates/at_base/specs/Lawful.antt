@@ -24,4 +24,4 @@ IsLawful {A = A} (room n g) = ((y : A) → IsValue g y → n ≤ length (bytes_o
 IsLawful (limit n over g) = IsLawful g
 IsLawful (many {B = B} item next wrong get make) =
     ((low : ℕ) → IsLawful (item low)) × ((low : ℕ) (x : B) → IsValue (item low) x → 1 ≤ length (bytes_of (item low) x)) ×
-        ((v : List B) → get (make v) ≡ v)
+    ((v : List B) → get (make v) ≡ v)

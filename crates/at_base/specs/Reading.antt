@@ -26,7 +26,7 @@ bytes_at cut len bytes = if nat_lt (length bytes) len then Err cut else Ok (take
 abbrev pub field_at : {W E V : Type 0} → Refusals W E → Field W V → List ℕ → Result (V × List ℕ) E
 field_at r (number size wrong) bytes =
     bytes_at r.cut (byte_len (width size)) bytes >>= λ x. checked r bytes (wrong (from_be_bytes (width size) x.0))
-        (from_be_bytes (width size) x.0, x.1)
+    (from_be_bytes (width size) x.0, x.1)
 field_at r (run len wrong) bytes = bytes_at r.cut len bytes >>= λ x. checked r bytes (wrong x.0) x
 
 -- so many items, and the bytes after them

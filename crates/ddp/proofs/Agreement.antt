@@ -76,7 +76,7 @@ laid_body : (d : Datagram) (rest : List ℕ) → IsLaid d → body (laid d ++ re
 laid_body d rest h =
     let len : length (laid d) ≡ length_of d = omega arith in
     let taken : take (named_length (laid d ++ rest)) (laid d ++ rest) ≡ laid d = ap (λ (n : ℕ). take n (laid d ++ rest))
-        (laid_length d rest h) ∙ take_at (laid d) rest (length_of d) len in
+    (laid_length d rest h) ∙ take_at (laid d) rest (length_of d) len in
     ap (with_hops 0) taken ∙ laid_hopped 0 d (omega arith) h ∙ sym (bytes_laid (hopped 0 d))
 
 pub record Agrees (bytes : List ℕ) (d : Datagram) : Type 0 where
@@ -93,9 +93,8 @@ agreement bytes d (rest, parts, v, f) =
     subst (λ (b : List ℕ). Agrees b d) whole there
 
 pub value_agrees : (bytes : List ℕ) (d : Datagram) → Begins datagram bytes d
-   
     → (hops bytes ≡ d.hops) × (target bytes ≡ d.target) × (named_length bytes ≡ length_of d) ×
-        (body bytes ≡ bytes_of datagram (record d { hops = 0 }))
+    (body bytes ≡ bytes_of datagram (record d { hops = 0 }))
 value_agrees bytes d b = let a = agreement bytes d b in (a.hops, a.target, a.len, a.body)
 
 pub no_hops : (h : Header) (payload bytes : List ℕ) → Spells datagram bytes (datagram_of h payload)
@@ -103,15 +102,13 @@ pub no_hops : (h : Header) (payload bytes : List ℕ) → Spells datagram bytes 
 no_hops h payload bytes s =
     let d = datagram_of h payload in
     let b : Begins datagram bytes d = subst (λ (b : List ℕ). Begins datagram b d) (append-nil bytes)
-        (spelled_begins datagram bytes [] d s) in
+    (spelled_begins datagram bytes [] d s) in
     let a = agreement bytes d b in
     (a.hops, a.body ∙ sym s.1)
 
 pub read_back : (h : Header) (payload bytes rest : List ℕ) → Spells datagram bytes (datagram_of h payload)
-   
-   
     → Begins datagram (bytes ++ rest) (datagram_of h payload) ×
-        ((d : Datagram) → Begins datagram (bytes ++ rest) d → d ≡ datagram_of h payload)
+    ((d : Datagram) → Begins datagram (bytes ++ rest) d → d ≡ datagram_of h payload)
 read_back h payload bytes rest s =
     let b = spelled_begins datagram bytes rest (datagram_of h payload) s in
     (b, λ d c. begins_one packets datagram datagram_lawful (bytes ++ rest) (datagram_of h payload) d b c)
@@ -127,6 +124,6 @@ read_with_hops n bytes d few (rest, parts, v, f) =
     let e = hopped n d in
     let whole : bytes ≡ laid d ++ rest = parts ∙ ap (λ (b : List ℕ). b ++ rest) (bytes_laid d) in
     let set : with_hops n bytes ≡ laid e ++ rest =
-        ap (with_hops n) whole ∙ with_hops_front n d rest ∙ ap (λ (b : List ℕ). b ++ rest) (laid_hopped n d few h) in
+    ap (with_hops n) whole ∙ with_hops_front n d rest ∙ ap (λ (b : List ℕ). b ++ rest) (laid_hopped n d few h) in
     let spelled : Spells datagram (laid e) e = (laid_value e (hopped_laid n d few h), sym (bytes_laid e)) in
     subst (λ (b : List ℕ). Begins datagram b e) (sym set) (spelled_begins datagram (laid e) rest e spelled)

@@ -56,7 +56,7 @@ pub extent_read : (bytes : List ℕ) (n : ℕ) → IsBytes bytes → IsExtent by
 extent_read bytes n fits h =
     let b = extent_begins bytes n fits h in
     reads_ok packets datagram (λ d. d) (λ d. d) datagram_lawful bytes _ (datagram_in (take n bytes)) b.0 fits
-        (begins_read packets datagram datagram_lawful bytes _ b) refl
+    (begins_read packets datagram datagram_lawful bytes _ b) refl
 
 -- the first word of the bytes
 first_two : (bytes : List ℕ) → IsBytes bytes → 2 ≤ length bytes → bytes ≡ to_be_bytes w16 (word_at 0 bytes) ++ drop 2 bytes
@@ -101,8 +101,16 @@ unfolding datagram
 cut_short bytes fits h least most short =
     let is = word_length bytes fits in
     let missing : length (drop 2 bytes) < word_at 0 bytes % 1024 - 2 = omega (arith, length-drop 2 bytes) in
-    inr (h, inr (word_at 0 bytes, drop 2 bytes, first_two bytes fits (omega arith),
-        (word_fits bytes fits, good (word_at 0 bytes) (omega arith) (omega arith)), inl (missing, refl)))
+    inr (
+      h,
+      inr (
+        word_at 0 bytes,
+        drop 2 bytes,
+        first_two bytes fits (omega arith),
+        (word_fits bytes fits, good (word_at 0 bytes) (omega arith) (omega arith)),
+        inl (missing, refl),
+      ),
+    )
 
 no_header : (bytes : List ℕ) → length bytes < 13 → FirstFault packets datagram bytes Truncated
 unfolding datagram

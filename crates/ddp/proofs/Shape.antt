@@ -111,8 +111,19 @@ unfolding datagram
 laid_value d h =
     let made : ℕ → ℕ → Datagram = λ a b. record d { reserved = a; hops = b } in
     let whole : made (first_word d / 16384) (first_word d / 1024 % 16) ≡ d = ap
-        (λ (a : ℕ). made a (first_word d / 1024 % 16)) h.reserved ∙ ap (made d.reserved) h.hops in
-    ((h.word, passes_word (first_word d) h.least h.most),
-        ((h.checksum, refl), ((h.target_net, refl),
-            ((h.source_net, refl), ((h.target_node, refl),
-                ((h.source_node, refl), ((h.target_socket, refl), ((h.source_socket, refl), ((h.kind, refl), ((h.len, refl), whole))))))))))
+    (λ (a : ℕ). made a (first_word d / 1024 % 16)) h.reserved ∙ ap (made d.reserved) h.hops in (
+      (h.word, passes_word (first_word d) h.least h.most),
+      (
+        (h.checksum, refl),
+        (
+          (h.target_net, refl),
+          (
+            (h.source_net, refl),
+            (
+              (h.target_node, refl),
+              ((h.source_node, refl), ((h.target_socket, refl), ((h.source_socket, refl), ((h.kind, refl), ((h.len, refl), whole))))),
+            ),
+          ),
+        ),
+      ),
+    )

@@ -65,9 +65,11 @@ summed_spelled d bytes (v, parts) fits =
     let n : sum_of (drop 4 bytes) ≡ checksum_of d = ap (λ (b : List ℕ). sum_of (drop 4 b)) parts in
     let same : sum_of (drop 4 (laid d)) ≡ checksum_of d = ap (λ (b : List ℕ). sum_of (drop 4 b)) (sym (bytes_laid d)) in
     let small : checksum_of d < 65536 = rw (← n) fits in
-    let e : Datagram = record d { checksum = checksum_of d } in
-    (laid_value e (summed_laid d (checksum_of d) small (value_laid d v)), ap with_sum is ∙ summed_bytes d ∙ ap
-        (λ (m : ℕ). laid (record d { checksum = m })) same ∙ sym (bytes_laid e))
+    let e : Datagram = record d { checksum = checksum_of d } in (
+      laid_value e (summed_laid d (checksum_of d) small (value_laid d v)),
+      ap with_sum is ∙ summed_bytes d ∙ ap
+          (λ (m : ℕ). laid (record d { checksum = m })) same ∙ sym (bytes_laid e),
+    )
 
 pub written : (h : Header) (payload bytes : List ℕ) → Spells datagram bytes (unsummed h payload)
     → (IsTrue h.summed → sum_of (drop 4 bytes) < 65536)
@@ -75,9 +77,8 @@ pub written : (h : Header) (payload bytes : List ℕ) → Spells datagram bytes 
 written h payload bytes s fits = by_case h.summed fits
   where
     by_case : (b : Bool) → (IsTrue b → sum_of (drop 4 bytes) < 65536)
-       
         → Spells datagram (cond b (with_sum bytes) bytes)
-            (record (unsummed h payload) { checksum = cond b (checksum_of (unsummed h payload)) 0 })
+        (record (unsummed h payload) { checksum = cond b (checksum_of (unsummed h payload)) 0 })
     by_case true f = summed_spelled (unsummed h payload) bytes s (f refl)
     by_case false f = s
 

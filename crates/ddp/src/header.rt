@@ -14,18 +14,26 @@ pub const MAX_LEN: usize = 599;
 /// The protocols that a datagram's type names (Inside AppleTalk, the chapter on DDP).
 pub mod kind {
     pub const RTMP_DATA: u8 = 1;
+
     pub const NBP: u8 = 2;
+
     pub const ATP: u8 = 3;
+
     pub const AEP: u8 = 4;
+
     pub const RTMP_REQUEST: u8 = 5;
+
     pub const ZIP: u8 = 6;
 }
 
 /// The sockets that each protocol listens on (Inside AppleTalk, the chapter on DDP).
 pub mod socket {
     pub const RTMP: u8 = 1;
+
     pub const NAMES: u8 = 2;
+
     pub const ECHO: u8 = 4;
+
     pub const ZIP: u8 = 6;
 }
 

@@ -27,7 +27,7 @@ unfolding written_in
 step low bytes t after fits whole e =
     let first = first_of (λ n. read packets (written_tuple n)) (λ t. 1) shrinks low bytes t after fits e in
     (elim (many_at (λ n. read packets (written_tuple n)) (λ t. 1) 1 (length after) after)
-     as (λ r. many_at (λ n. read packets (written_tuple n)) (λ t. 1) 1 (length after) after ≡ r → Step low bytes t after) [
+    as (λ r. many_at (λ n. read packets (written_tuple n)) (λ t. 1) 1 (length after) after ≡ r → Step low bytes t after) [
       | Ok ts ↦ λ o. record { rest = rw o refl; is = rw (first, o) refl }
       | Err f ↦ λ o. absurd (let bad : Err f ≡ ok {E = Error} (written_in low bytes) = sym (first ∙ rw o refl) ∙ whole in cc)
     ]) refl

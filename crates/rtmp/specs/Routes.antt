@@ -86,7 +86,7 @@ after_hearing row t s port =
     if is_direct row then (row, Ignored)
     else if nat_le t 14 && (not (is_usable row.state) || nat_le (t + 1) row.distance) then (heard_row row.range t s port, Changed)
     else if same_address row.next s && row.port == port then
-      (if nat_le t 14 then heard_row row.range t s port else record row { state = Bad }, Changed)
+    (if nat_le t 14 then heard_row row.range t s port else record row { state = Bad }, Changed)
     else (row, Ignored)
 
 -- a new range is added where it is near enough and overlaps none

@@ -32,7 +32,6 @@ fn check_tuples(bytes: &[u8]) -> Result<(), Error>
     Ok(())
 }
 
-
 /// The router of a packet, and its tuples in place.
 #[tactic(auto, unfolding(crate::specs::Data::routing_data))]
 fn parts_of(bytes: &[u8]) -> Result<(Addr, &[u8]), Error>

@@ -5,7 +5,6 @@
 ///
 /// Inside AppleTalk, the chapter on RTMP.
 #[derive(Clone, Copy, Debug, PartialEq, Eq)]
-#[repr(u8)]
 pub enum State {
     Good,
     Suspect,

@@ -24,6 +24,7 @@ use crate::making::{are_short, check_parts};
 use crate::node::Node;
 use crate::output::put_byte;
 use crate::router::Router;
+use crate::zone_list::ZoneList;
 use at_base::{Bytes, Cause, Error};
 use std::alloc::{AllocError, Global};
 use std::marker::Model;
@@ -133,6 +134,26 @@ fn front_of(alloc: Global, bytes: &[u8]) -> Result<(Listed<Cable>, &[u8]), Stop>
     counted_of::<Cable>(alloc, MAX_CABLES, 0, &[], rest)
 }
 
+/// A router whose zone lists are those of the cables, in order: a hint for the first router that is
+/// read. There is none where a cable's zones can't have several owners, or an allocation failed.
+fn router_like(alloc: Global, cables: &Listed<Cable>) -> Option<Router> {
+    let mut lists = Vec::with_capacity(alloc, cables.len()).ok()?;
+    for cable in cables.as_slice() {
+        let list = ZoneList {
+            start: cable.start,
+            end: cable.end,
+            complete: true,
+            zones: cable.zones.share()?,
+        };
+        lists.push(list).ok()?;
+    }
+    Some(Router {
+        ports: Listed::from_vec(Vec::new(alloc)),
+        rows: Listed::from_vec(Vec::new(alloc)),
+        lists: Listed::from_vec(lists),
+    })
+}
+
 fn routers_of<'a>(
     alloc: Global,
     cables: &Listed<Cable>,
@@ -142,7 +163,13 @@ fn routers_of<'a>(
         (read_by flaws (counted max_routers (λ low. router_spelling (length cables.now)) (λ r. 0))
         bytes.now) }
 {
-    counted_of::<Router>(alloc, MAX_ROUTERS, cables.len(), &[], bytes)
+    match router_like(alloc, cables) {
+        Some(like) => {
+            let likes = [like];
+            counted_of::<Router>(alloc, MAX_ROUTERS, cables.len(), likes.as_slice(), bytes)
+        }
+        None => counted_of::<Router>(alloc, MAX_ROUTERS, cables.len(), &[], bytes),
+    }
 }
 
 fn nodes_of<'a>(

@@ -13,7 +13,7 @@ loop-rest-init c = record {
 pub loop-rest-smaller : goal.loop-rest-smaller
 loop-rest-smaller c =
     (shrinks c.loop-rest.low c.loop-rest.rest.now c.in-Ok.written c.in-Ok.after.now c.loop-rest.invariant.bytes
-        (c.in-Ok.ensures {u = tt}).read).0
+    (c.in-Ok.ensures {u = tt}).read).0
 
 pub loop-rest-preserved : goal.loop-rest-preserved
 loop-rest-preserved c =
@@ -35,4 +35,4 @@ returns-in-Some-clause-some c =
 pub returns-in-Some-clause-rest : goal.returns-in-Some-clause-rest
 returns-in-Some-clause-rest c =
     (step c.loop-rest.low c.loop-rest.rest.now c.in-Ok.written c.in-Ok.after.now c.loop-rest.invariant.bytes c.loop-rest.invariant.whole
-        (c.in-Ok.ensures {u = tt}).read).rest
+    (c.in-Ok.ensures {u = tt}).read).rest
