@@ -180,7 +180,7 @@ list_refused item faulty spell passes next one bad low (suc n) bytes f (inr (x, 
     let first : item low bytes ≡ Ok (x, rest) = rw parts (one low x rest p) in
     rw (first, list_refused item faulty spell passes next one bad (next x) n rest f h) refl
 
--- the same of items up to the end of the input, behind some that pass
+-- the same of items up to the end of the input, after some that pass
 pub many_refused : {E B : Type 0} (item : ℕ → List ℕ → Result (B × List ℕ) E) (spell : ℕ → B → List ℕ) (passes : ℕ → B → Type 0)
     (next : B → ℕ)
     → Again item spell passes → IsLong spell passes

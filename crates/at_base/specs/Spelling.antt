@@ -1,4 +1,4 @@
--- The bytes of a value, and which values a format has. (own)
+-- The bytes of a value, and which values a format has. This project's own.
 use Rattle.std.specs.Prelude.{◌≡◌, ℕ, ◌<◌, ◌≤◌, ◌^◌, ◌*◌, Bool, List, [], ◌∷◌, ◌++◌, length, Option, None}
 use Rattle.std.specs.Int.{byte_len, to_be_bytes}
 use Rattle.at_base.specs.Grammar.{width, Field, number, run, Grammar, done, field, part, list, room, limit, many}
@@ -58,7 +58,7 @@ IsValue (many item next wrong get make) y =
 abbrev pub Spells : {W : Type 0} {s : Bool} {A : Type 0} → Grammar W s A → List ℕ → A → Type 0
 Spells g bytes y = IsValue g y × (bytes ≡ bytes_of g y)
 
--- what may stand behind the bytes of the value: nothing where its items went on to the end, and else anything that
+-- what may follow the bytes of the value: nothing where its items went on to the end, and else anything that
 -- leaves the input short enough
 abbrev pub Follows : {W : Type 0} {s : Bool} {A : Type 0} → Grammar W s A → A → List ℕ → Type 0
 Follows (done x) y rest = Unit {0}

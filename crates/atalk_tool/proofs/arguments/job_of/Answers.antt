@@ -26,7 +26,7 @@ word_named word source false decides input file =
     let other : word.now ≢ codes "-" = λ same. let odd = decides.1 same in absurd cc in
     rw (file other) (refl, other)
 
--- where there is no word, the dash stands for it
+-- where there is no argument, it is the dash
 named : (value : Option (Bor (List ℕ))) (text : Option Text) (dash word : Bor (List ℕ)) (source : Source)
     → option_map (λ s. s.now) value ≡ text → dash.now ≡ codes "-" → word ≡ unwrap_or value dash
     → (word.now ≡ codes "-" → source ≡ StandardInput) → (word.now ≢ codes "-" → source ≡ File word) → Audits text (Audit source)
