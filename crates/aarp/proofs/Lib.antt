@@ -1,0 +1,6 @@
+mod Numbers
+mod Shape
+mod Written
+mod Known
+mod Turns
+mod Ticks
