@@ -47,9 +47,9 @@ module _ {K V : Type 0} (eq : K → K → Bool) (same : (x y : K) → eq x y ≡
     by_case : (o : Option (K × V)) → lookup_entry (eq k) c.entries ≡ o → option_map_or (λ e. (e.0, v) ∷ remove_entry (eq k) c.entries) o ((k, v) ∷ take (c.cap - 1) c.entries) ≡ take c.cap ((k, v) ∷ others k c.entries)
     by_case None h = rw (others-absent k c.entries h) (cut (k, v) c.entries c.cap some)
     by_case (Some f) h =
-      let p = others-present k f c.entries d h in
-      let whole : take c.cap ((k, v) ∷ others k c.entries) ≡ (k, v) ∷ others k c.entries = take_all c.cap ((k, v) ∷ others k c.entries) (rw (← p.1) (omega (arith, p.2))) in
-      rw (whole, p.1, p.0) refl
+        let p = others-present k f c.entries d h in
+        let whole : take c.cap ((k, v) ∷ others k c.entries) ≡ (k, v) ∷ others k c.entries = take_all c.cap ((k, v) ∷ others k c.entries) (rw (← p.1) (omega (arith, p.2))) in
+        rw (whole, p.1, p.0) refl
 
     -- what `put` leaves, as a filter and a cut
     pub put_entries-learnt : put_entries eq c k v ≡ take c.cap ((k, v) ∷ filter (λ e. not (eq k e.0)) c.entries)

@@ -24,16 +24,19 @@ packet_lawful = (
             λ s1 p6 s p7 th p8 t1 p9 t q. refl,
             λ s1 p6. (
               λ s p7 th p8 t1 p9 t q. refl,
-              (address_lawful, λ s p7. (
-                λ th p8 t1 p9 t q. refl,
-                λ th p8. (
-                  λ t1 p9 t q. refl,
-                  λ t1 p9. (
-                    λ t q. refl,
-                    (address_lawful, λ t q. (refl, tt)),
+              (
+                address_lawful,
+                λ s p7. (
+                  λ th p8 t1 p9 t q. refl,
+                  λ th p8. (
+                    λ t1 p9 t q. refl,
+                    λ t1 p9. (
+                      λ t q. refl,
+                      (address_lawful, λ t q. (refl, tt)),
+                    ),
                   ),
                 ),
-              )),
+              ),
             ),
           ),
         ),

@@ -27,16 +27,36 @@ with_function p f e = ap (λ (g : Function). whole (record p { function = g }) 0
 pub written_value : (p : Packet) → Fitting p → IsValue packet (written p)
 unfolding packet address
 written_value p f =
-    let number : function_number p.function < 65536 = omega (arith, function_fits p.function) in
-    (
+    let number : function_number p.function < 65536 = omega (arith, function_fits p.function) in (
       (omega arith, refl),
-      ((omega arith, refl), ((omega arith, refl), ((number, function_passes p.function), ((f.source_hw, refl), ((omega arith, refl), (
-        ((f.source_net, refl), ((f.source_node, refl), refl)),
-        ((f.target_hw, refl), ((omega arith, refl), (
-          ((f.target_net, refl), ((f.target_node, refl), refl)),
-          with_function p _ (function_again p.function),
-        ))),
-      )))))),
+      (
+        (omega arith, refl),
+        (
+          (omega arith, refl),
+          (
+            (number, function_passes p.function),
+            (
+              (f.source_hw, refl),
+              (
+                (omega arith, refl),
+                (
+                  ((f.source_net, refl), ((f.source_node, refl), refl)),
+                  (
+                    (f.target_hw, refl),
+                    (
+                      (omega arith, refl),
+                      (
+                        ((f.target_net, refl), ((f.target_node, refl), refl)),
+                        with_function p _ (function_again p.function),
+                      ),
+                    ),
+                  ),
+                ),
+              ),
+            ),
+          ),
+        ),
+      ),
     )
 
 -- six bytes, one by one

@@ -43,18 +43,26 @@ impl Model for Chooser {
     ghost Value = { Choice };
 
     ghost view = { λ c. record {
-        range = c.range;
-        hw = c.hw;
-        tentative = c.tentative;
-        left = drop c.tried c.tries.items;
-        probes = c.probes;
-        is_settled = c.is_settled;
+      range = c.range;
+      hw = c.hw;
+      tentative = c.tentative;
+      left = drop c.tried c.tries.items;
+      probes = c.probes;
+      is_settled = c.is_settled;
     } };
 
     ghost invariant = { λ c. IsTrue (is_on c.range c.tentative)
         × IsTrue (list_all (is_on c.range) c.tries.items)
         × (c.tried ≤ length c.tries.items)
         × (c.probes ≤ 10) };
+}
+
+/// Whether a station on a cable of this range may have each of the addresses: a network of the range,
+/// and a node from 1 to 253. Allocates nothing.
+pub fn are_on(range: Range, addrs: &[Addr]) -> bool
+    ensures { result ≡ list_all (is_on range) addrs.now }
+{
+    addrs.iter().all(|addr| range.holds(addr.net) && 1 <= addr.node && addr.node <= LAST_NODE)
 }
 
 /// The address after another, in a range.
@@ -99,8 +107,8 @@ fn wants(function: Function) -> bool
 
 impl Chooser {
     /// A choice that begins with the first of these addresses, or with node 1 of the range's start
-    /// where there is none. That each is in the range and has a node from 1 to 253 is the caller's
-    /// condition. Error: `Memory`.
+    /// where there is none. That a station of the range may have each of them is the caller's
+    /// condition, which `are_on` tests. Error: `Memory`.
     pub fn new(alloc: Global, range: Range, tries: &[Addr], hw: Hw) -> Result<Chooser, Error>
         requires tries { IsTrue (list_all (is_on range) tries.now) }
         ensures ok { IfOk result (λ c. c ≡ begun range tries.now hw) }

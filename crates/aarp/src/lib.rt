@@ -10,7 +10,7 @@ mod packet;
 mod waiting;
 
 pub use addresses::Addresses;
-pub use chooser::Chooser;
+pub use chooser::{Chooser, are_on};
 pub use held::{Held, MAX_HELD};
 pub use laws::written_is_read;
 pub use mapper::{MAX_MAPPINGS, Mapper};

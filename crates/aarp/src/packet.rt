@@ -117,9 +117,34 @@ impl Packet {
         let [target_high, target_low] = self.target.net.to_be_bytes();
         let function = number_of(self.function);
         [
-            0x00, 0x01, 0x80, 0x9B, 0x06, 0x04, 0x00, function, // types, lengths, function
-            s0, s1, s2, s3, s4, s5, 0x00, source_high, source_low, self.source.node,
-            t0, t1, t2, t3, t4, t5, 0x00, target_high, target_low, self.target.node,
+            0x00,
+            0x01,
+            0x80,
+            0x9B,
+            0x06,
+            0x04,
+            0x00,
+            function, // types, lengths, function
+            s0,
+            s1,
+            s2,
+            s3,
+            s4,
+            s5,
+            0x00,
+            source_high,
+            source_low,
+            self.source.node,
+            t0,
+            t1,
+            t2,
+            t3,
+            t4,
+            t5,
+            0x00,
+            target_high,
+            target_low,
+            self.target.node,
         ]
     }
 }
