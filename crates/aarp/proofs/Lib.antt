@@ -4,3 +4,4 @@ mod Written
 mod Known
 mod Turns
 mod Ticks
+mod Counts

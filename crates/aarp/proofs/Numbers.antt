@@ -1,6 +1,5 @@
 -- The numbers of an AARP packet's functions.
-use Rattle.std.proofs.Common.{◌≡◌, ℕ, zero, suc, ◌≤◌, ◌<◌, false, ltb, None, refl, arith}
-use Rattle.std.specs.Int.{byte_at}
+use Rattle.std.proofs.Common.{◌≡◌, ℕ, zero, suc, ◌≤◌, ◌<◌, ltb, None, refl, arith}
 use Rattle.std.proofs.lemmas.Bool.{ltb-false}
 use Rattle.at_base.specs.declared.error.Field.TheVariants.{Function as FunctionField}
 use Rattle.at_base.specs.Packets.{within}

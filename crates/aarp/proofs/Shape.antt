@@ -1,11 +1,11 @@
 -- Each part of an AARP packet stands where its projection finds it.
-use Rattle.std.proofs.Common.{◌≡◌, ℕ, ◌≤◌, length, refl, arith}
+use Rattle.std.proofs.Common.{ℕ, refl, arith}
 use Rattle.std.proofs.lemmas.List.{length-append}
-use Rattle.at_base.specs.declared.error.Field.TheVariants.{HardwareType, ProtocolType, Lengths, Function}
+use Rattle.at_base.specs.declared.error.Field.TheVariants.{HardwareType, ProtocolType, Lengths}
 use Rattle.at_base.specs.Lawful.{IsLawful}
 use Rattle.at_base.specs.Packets.{address}
 use Rattle.at_base.proofs.Packets.{only_is, address_lawful}
-use Rattle.aarp.specs.Packets.{function_number, function_of, packet}
+use Rattle.aarp.specs.Packets.{packet}
 use Rattle.aarp.proofs.Numbers.{number_again}
 
 pub packet_lawful : IsLawful packet

@@ -1,7 +1,6 @@
 -- The bytes of an AARP packet, one by one, are those of the packet as it is written.
-use Rattle.std.proofs.Common.{◌≡◌, ℕ, ◌<◌, List, [], ◌∷◌, ◌++◌, length, slice_index_or, refl, sym, ap, ◌∙◌, arith}
+use Rattle.std.proofs.Common.{◌≡◌, ℕ, ◌<◌, List, [], ◌∷◌, ◌++◌, length, slice_index_or, refl, ap, arith}
 use Rattle.std.specs.Int.{byte_at}
-use Rattle.at_base.specs.declared.address.Hw.{Hw}
 use Rattle.at_base.specs.declared.address.Addr.{Addr}
 use Rattle.at_base.specs.Packets.{packets, address}
 use Rattle.at_base.specs.Spelling.{IsValue, Spells, Begins, bytes_of}

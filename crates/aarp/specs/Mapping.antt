@@ -1,7 +1,7 @@
 -- The mapping of addresses to hardware addresses, and the datagrams that wait for one.
 -- (Inside AppleTalk, the chapter on AARP; the counts and limits are this project's own)
-use Rattle.std.specs.Prelude.{ℕ, ◌+◌, Bool, not, List, [], ◌∷◌, ◌++◌, length, map, filter, take, find, position, remove, slice_get, Option, Some, None, option_and_then, nat_lt, if◌then◌else◌}
-use Rattle.std.specs.List.{list_any}
+use Rattle.std.specs.Prelude.{ℕ, ◌+◌, ◌≤◌, Bool, ◌&&◌, not, IsTrue, List, [], ◌∷◌, ◌++◌, length, map, filter, take, find, position, remove, slice_get, Option, Some, None, option_and_then, nat_lt, nat_le, if◌then◌else◌}
+use Rattle.std.specs.List.{list_any, list_all, IsDistinct}
 use Rattle.std.specs.Option.{option_map_or}
 use Rattle.at_base.specs.declared.address.Addr.{Addr}
 use Rattle.at_base.specs.declared.address.Hw.{Hw}
@@ -13,6 +13,18 @@ use Rattle.aarp.specs.declared.held.Held.{Held}
 pub record Mappings : Type 0 where
   pub known : List (Addr × Hw)
   pub held : List Held
+
+-- its address was asked for from once to ten times
+abbrev pub is_counted : Held → Bool
+is_counted h = nat_le 1 h.asked && nat_le h.asked 10
+
+-- What always holds of them: no address has two mappings, at most 256 are known, and at most 16 datagrams wait, each of
+-- whose addresses was asked for from once to ten times.
+pub record IsMappings (m : Mappings) : Type 0 where
+  pub distinct : IsDistinct same_address (map (λ p. p.0) m.known)
+  pub few : length m.known ≤ 256
+  pub counted : IsTrue (list_all is_counted m.held)
+  pub waiting : length m.held ≤ 16
 
 -- the mapping of an address
 abbrev pub mapping_of : Addr → List (Addr × Hw) → Option Hw

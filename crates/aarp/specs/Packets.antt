@@ -1,6 +1,8 @@
 -- AARP packets: who asks for, answers for or probes an address. (Inside AppleTalk, the chapter on AARP)
-use Rattle.std.specs.Prelude.{ℕ, true, ◌==◌, if◌then◌else◌}
+use Rattle.std.specs.Prelude.{ℕ, true, ◌==◌, List, [], ◌∷◌, slice_index, if◌then◌else◌}
+use Rattle.std.specs.Int.{byte_at}
 use Rattle.at_base.specs.declared.address.Addr.{Addr}
+use Rattle.at_base.specs.declared.address.Hw.{Hw}
 use Rattle.at_base.specs.declared.error.Field.TheVariants.{HardwareType, ProtocolType, Lengths, Function as FunctionField}
 use Rattle.at_base.specs.declared.error.Error.{Error}
 use Rattle.at_base.specs.Packets.{any, only, within, address}
@@ -53,3 +55,13 @@ packet =
 -- the packet as it is written
 abbrev pub written : Packet → Whole
 written p = whole p 0 0
+
+-- the bytes before the source, one by one
+abbrev pub head_bytes : Function → List ℕ
+head_bytes f = 0 ∷ 1 ∷ 0x80 ∷ 0x9B ∷ 6 ∷ 4 ∷ 0 ∷ function_number f ∷ []
+
+-- the bytes of a station, one by one
+abbrev pub station_bytes : Hw → Addr → List ℕ
+station_bytes hw a =
+    slice_index hw.0 0 ∷ slice_index hw.0 1 ∷ slice_index hw.0 2 ∷ slice_index hw.0 3 ∷ slice_index hw.0 4 ∷ slice_index hw.0 5
+    ∷ 0 ∷ byte_at 1 a.net ∷ byte_at 0 a.net ∷ a.node ∷ []

@@ -2,7 +2,7 @@
 
 ghost use Rattle.std.specs.Prelude.{◌≡◌, [], IfOk, OnOk, OnErr, IsOk, IsSome, IsOkUnless};
 ghost use Rattle.std.specs.List.{list_any};
-ghost use Rattle.aarp.specs.Mapping.{mapping_of, learnt, is_for, holding, pushed_out};
+ghost use Rattle.aarp.specs.Mapping.{IsMappings, mapping_of, learnt, is_for, holding, pushed_out};
 ghost use Rattle.aarp.specs.Mapping.{released, without_oldest, to_ask, given_up, waited};
 
 use crate::held::{Held, MAX_HELD};
@@ -27,14 +27,17 @@ pub struct Mapper {
 }
 
 impl Model for Mapper {
-    ghost use Rattle.std.specs.Prelude.{◌≡◌};
-    ghost use Rattle.aarp.specs.Mapping.{Mappings};
+    ghost use Rattle.std.specs.Prelude.{◌≡◌, IsTrue};
+    ghost use Rattle.std.specs.List.{list_all};
+    ghost use Rattle.aarp.specs.Mapping.{Mappings, is_counted};
 
     ghost Value = { Mappings };
 
     ghost view = { λ m. record { known = m.known.entries; held = m.held.items } };
 
-    ghost invariant = { λ m. (m.known.cap ≡ 256) × (m.held.capacity ≡ 16) };
+    ghost invariant = { λ m. (m.known.cap ≡ 256)
+        × (m.held.capacity ≡ 16)
+        × IsTrue (list_all is_counted m.held.items) };
 }
 
 impl Mapper {
@@ -52,8 +55,12 @@ impl Mapper {
     /// The hardware address that was last learnt for the address. A look leaves the order in which
     /// mappings are forgotten. Allocates nothing.
     pub fn look(&self, addr: Addr) -> Option<Hw>
-        ensures { result ≡ mapping_of addr self.now.known }
+        ensures value { result ≡ mapping_of addr self.now.known }
+        ensures valid { IsMappings self.now }
     {
+        // the lengths tell the prover what always holds
+        let _known = self.known.len();
+        let _held = self.held.len();
         self.known.peek(&addr).copied()
     }
 

@@ -1,10 +1,11 @@
 //! AARP packets.
 
-ghost use Rattle.std.specs.Prelude.{◌≡◌};
+ghost use Rattle.std.specs.Prelude.{◌≡◌, ◌<◌, length};
 ghost use Rattle.at_base.specs.Packets.{packets};
 ghost use Rattle.at_base.specs.Reading.{Gives, Reads, read as read_by};
 ghost use Rattle.at_base.specs.Spelling.{Spells};
-ghost use Rattle.aarp.specs.Packets.{packet, whole, written, function_number, function_of};
+ghost use Rattle.aarp.specs.Packets.{packet, whole, written, function_of, head_bytes};
+ghost use Rattle.aarp.specs.Packets.{station_bytes};
 
 use at_base::packet::{address_at, byte_at, hardware_at, u16_only, u16_within};
 use at_base::{Addr, Error, Field, Hw};
@@ -41,15 +42,26 @@ pub struct Packet {
     pub target: Addr,
 }
 
-/// The function's number.
-fn number_of(function: Function) -> u8
-    ensures { result ≡ function_number function }
+/// The bytes before the source: the types, the lengths of the two kinds of addresses, the function.
+fn head(function: Function) -> [u8; 8]
+    ensures { result ≡ head_bytes function }
 {
-    match function {
+    let number = match function {
         Function::Request => 1,
         Function::Response => 2,
         Function::Probe => 3,
-    }
+    };
+    [0x00, 0x01, 0x80, 0x9B, 0x06, 0x04, 0x00, number]
+}
+
+/// The bytes of a station: its hardware address, a 0, and its address.
+fn station(hw: Hw, addr: Addr) -> [u8; 10]
+    ensures bytes { result ≡ station_bytes hw addr }
+    ensures fits { (length hw.0 ≡ 6) × (addr.net < 65536) × (addr.node < 256) }
+{
+    let Hw([a, b, c, d, e, f]) = hw;
+    let [high, low] = addr.net.to_be_bytes();
+    [a, b, c, d, e, f, 0x00, high, low, addr.node]
 }
 
 /// The function of a number from 1 to 3.
@@ -111,40 +123,10 @@ impl Packet {
     pub fn write(&self) -> [u8; PACKET_LEN]
         ensures { Spells packet result (written self.now) }
     {
-        let Hw([s0, s1, s2, s3, s4, s5]) = self.source_hw;
-        let Hw([t0, t1, t2, t3, t4, t5]) = self.target_hw;
-        let [source_high, source_low] = self.source.net.to_be_bytes();
-        let [target_high, target_low] = self.target.net.to_be_bytes();
-        let function = number_of(self.function);
-        [
-            0x00,
-            0x01,
-            0x80,
-            0x9B,
-            0x06,
-            0x04,
-            0x00,
-            function, // types, lengths, function
-            s0,
-            s1,
-            s2,
-            s3,
-            s4,
-            s5,
-            0x00,
-            source_high,
-            source_low,
-            self.source.node,
-            t0,
-            t1,
-            t2,
-            t3,
-            t4,
-            t5,
-            0x00,
-            target_high,
-            target_low,
-            self.target.node,
-        ]
+        let mut bytes = [0; PACKET_LEN];
+        bytes[..8].copy_from_slice(&head(self.function));
+        bytes[8..18].copy_from_slice(&station(self.source_hw, self.source));
+        bytes[18..].copy_from_slice(&station(self.target_hw, self.target));
+        bytes
     }
 }

@@ -1,4 +1,4 @@
-use Rattle.std.proofs.Common.{◌≡◌, ◌∙◌, arith, refl}
+use Rattle.std.proofs.Common.{◌∙◌}
 use Rattle.aarp.proofs.Turns.{turned_without}
 use Rattle.aarp.proofs.waiting.remove_at.Goals as goal
 

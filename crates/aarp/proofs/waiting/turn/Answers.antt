@@ -1,4 +1,4 @@
-use Rattle.std.proofs.Common.{◌≡◌, ◌∙◌, arith, refl}
+use Rattle.std.proofs.Common.{◌∙◌, arith}
 use Rattle.aarp.proofs.Turns.{turned_more}
 use Rattle.aarp.proofs.waiting.turn.Goals as goal
 

@@ -1,5 +1,4 @@
-use Rattle.std.proofs.Common.{◌≡◌, ◌<◌, ◌++◌, Some, length, take, drop, slice_get, ◌∙◌, arith, refl, sym}
-use Rattle.aarp.specs.Mapping.{waited}
+use Rattle.std.proofs.Common.{◌<◌, length, ◌∙◌, arith, sym}
 use Rattle.aarp.proofs.Ticks.{next, has_next}
 use Rattle.aarp.proofs.waiting.wait.Goals.{in-Some, in_default}
 use Rattle.aarp.proofs.waiting.wait.Goals as goal

@@ -1,4 +1,4 @@
-use Rattle.std.proofs.Common.{◌≡◌, refl}
+use Rattle.std.proofs.Common.{refl}
 use Rattle.at_base.specs.Address.{same_address}
 use Rattle.aarp.proofs.Known.{same_is, put_entries-learnt}
 use Rattle.aarp.proofs.mapper.Mapper.learn.Goals as goal
