@@ -45,7 +45,8 @@ counted_is h xs all = by_case (find (is_for h.next) xs) refl
     by_case (Some g) e = rw e (all_found (is_for h.next) xs g all e)
 
 -- after one more is held
-pub held_counted : (h : Held) (xs : List Held) → IsTrue (list_all is_counted xs) → IsTrue (list_all is_counted (keep_last 16 (xs ++ counted h xs ∷ [])))
+pub held_counted : (h : Held) (xs : List Held) → IsTrue (list_all is_counted xs)
+    → IsTrue (list_all is_counted (keep_last 16 (xs ++ counted h xs ∷ [])))
 held_counted h xs all =
     let last : list_all is_counted (counted h xs ∷ []) ≡ true = rw (counted_is h xs all) refl in
     all_drop (length (xs ++ counted h xs ∷ []) - 16) (xs ++ counted h xs ∷ []) (all_append xs (counted h xs ∷ []) all last)
@@ -67,7 +68,8 @@ waited_counted [] all = refl
 waited_counted (h ∷ xs) all =
     let b = both (is_counted h) (list_all is_counted xs) all in
     let rest = waited_counted xs b.1 in
-    (elim (is_asked_again h) as (λ t. is_asked_again h ≡ t → list_all is_counted (map asked_once_more (cond t (h ∷ filter is_asked_again xs) (filter is_asked_again xs))) ≡ true) [
+    (elim (is_asked_again h) as (λ t. is_asked_again h ≡ t
+        → list_all is_counted (map asked_once_more (cond t (h ∷ filter is_asked_again xs) (filter is_asked_again xs))) ≡ true) [
       | true ↦ λ t. rw (more_counted h b.0 t) rest
       | false ↦ λ t. rest
     ]) refl

@@ -30,9 +30,11 @@ apart : (x b y : Addr) → same_address b x ≡ false → same_address x y ≡ t
 apart x b y h e = grind arith
 
 -- another address is among these exactly where it is among the others
-any_others : (x b : Addr) (xs : List Addr) → same_address b x ≡ false → list_any (same_address b) (others x xs) ≡ list_any (same_address b) xs
+any_others : (x b : Addr) (xs : List Addr) → same_address b x ≡ false → list_any (same_address b) (others x xs)
+    ≡ list_any (same_address b) xs
 any_others x b [] h = refl
-any_others x b (y ∷ xs) h = (elim (same_address x y) as (λ t. same_address x y ≡ t → list_any (same_address b) (cond (not t) (y ∷ others x xs) (others x xs)) ≡ list_any (same_address b) (y ∷ xs)) [
+any_others x b (y ∷ xs) h = (elim (same_address x y) as (λ t. same_address x y ≡ t
+    → list_any (same_address b) (cond (not t) (y ∷ others x xs) (others x xs)) ≡ list_any (same_address b) (y ∷ xs)) [
   | true ↦ λ e. rw (apart x b y h e) (any_others x b xs h)
   | false ↦ λ e. rw (any_others x b xs h) refl
 ]) refl
@@ -47,11 +49,13 @@ not_other_way x b h = grind arith
 noted_others : (x b : Addr) (xs : List Addr) → x ∷ others x (noted b xs) ≡ noted b (x ∷ others x xs)
 noted_others x b xs = by_case (same_address b x) (list_any (same_address b) xs) refl refl
   where
-    by_case : (t u : Bool) → same_address b x ≡ t → list_any (same_address b) xs ≡ u → x ∷ others x (noted b xs) ≡ noted b (x ∷ others x xs)
+    by_case : (t u : Bool) → same_address b x ≡ t → list_any (same_address b) xs ≡ u → x ∷ others x (noted b xs)
+        ≡ noted b (x ∷ others x xs)
     by_case true true e f = rw (f, e) refl
     by_case true false e f = rw (f, e) (ap (λ (l : List Addr). x ∷ l) (others_same x b xs (other_way x b e)))
     by_case false true e f = let a = any_others x b xs e ∙ f in rw (f, e, a) refl
-    by_case false false e f = let a = any_others x b xs e ∙ f in rw (f, e, a) (ap (λ (l : List Addr). x ∷ l) (others_more x b xs (not_other_way x b e)))
+    by_case false false e f = let a = any_others x b xs e
+        ∙ f in rw (f, e, a) (ap (λ (l : List Addr). x ∷ l) (others_more x b xs (not_other_way x b e)))
 
 -- one more address, each once
 each_once_more : (xs : List Addr) (b : Addr) → each_once (xs ++ b ∷ []) ≡ noted b (each_once xs)
@@ -61,24 +65,30 @@ each_once_more (x ∷ xs) b = ap (λ (l : List Addr). x ∷ others x l) (each_on
 -- ---- one more datagram
 
 waited_more : (xs : List Held) (h : Held) → waited (xs ++ h ∷ []) ≡ waited xs ++ waited (h ∷ [])
-waited_more xs h = ap (map asked_once_more) (filter-append is_asked_again xs (h ∷ [])) ∙ map-append asked_once_more (filter is_asked_again xs) (filter is_asked_again (h ∷ []))
+waited_more xs h = ap (map asked_once_more) (filter-append is_asked_again xs (h ∷ []))
+    ∙ map-append asked_once_more (filter is_asked_again xs) (filter is_asked_again (h ∷ []))
 
 -- the addresses of those that pass a test
 abbrev nexts : (Held → Bool) → List Held → List Addr
 nexts p xs = map (λ h. h.next) (filter p xs)
 
-nexts_more : (p : Held → Bool) (xs : List Held) (h : Held) → each_once (nexts p (xs ++ h ∷ [])) ≡ cond (p h) (noted h.next (each_once (nexts p xs))) (each_once (nexts p xs))
+nexts_more : (p : Held → Bool) (xs : List Held) (h : Held) → each_once (nexts p (xs ++ h ∷ []))
+    ≡ cond (p h) (noted h.next (each_once (nexts p xs))) (each_once (nexts p xs))
 nexts_more p xs h =
-    let parts : nexts p (xs ++ h ∷ []) ≡ nexts p xs ++ nexts p (h ∷ []) = ap (map (λ (g : Held). g.next)) (filter-append p xs (h ∷ [])) ∙ map-append (λ (g : Held). g.next) (filter p xs) (filter p (h ∷ [])) in
+    let parts : nexts p (xs ++ h ∷ [])
+        ≡ nexts p xs ++ nexts p (h ∷ []) = ap (map (λ (g : Held). g.next)) (filter-append p xs (h ∷ []))
+        ∙ map-append (λ (g : Held). g.next) (filter p xs) (filter p (h ∷ [])) in
     by_case (p h) refl parts
   where
-    by_case : (t : Bool) → p h ≡ t → nexts p (xs ++ h ∷ []) ≡ nexts p xs ++ nexts p (h ∷ []) → each_once (nexts p (xs ++ h ∷ [])) ≡ cond t (noted h.next (each_once (nexts p xs))) (each_once (nexts p xs))
+    by_case : (t : Bool) → p h ≡ t → nexts p (xs ++ h ∷ []) ≡ nexts p xs ++ nexts p (h ∷ []) → each_once (nexts p (xs ++ h ∷ []))
+        ≡ cond t (noted h.next (each_once (nexts p xs))) (each_once (nexts p xs))
     by_case true e parts = ap each_once (rw e at parts) ∙ each_once_more (nexts p xs) h.next
     by_case false e parts = ap each_once (rw e at parts) ∙ ap each_once (append-nil (nexts p xs))
 
 length-waited : (xs : List Held) → length (waited xs) ≤ length xs
 length-waited [] = omega arith
-length-waited (h ∷ xs) = elim (is_asked_again h) as (λ t. length (map asked_once_more (cond t (h ∷ filter is_asked_again xs) (filter is_asked_again xs))) ≤ suc (length xs)) [
+length-waited (h ∷ xs) = elim (is_asked_again h) as (λ t. length (map asked_once_more (cond t (h ∷ filter is_asked_again xs) (filter
+    is_asked_again xs))) ≤ suc (length xs)) [
   | true ↦ (let l = length-waited xs in omega arith)
   | false ↦ (let l = length-waited xs in omega arith)
 ]
@@ -90,7 +100,8 @@ pub record Next (old : List Held) (i : ℕ) (h : Held) : Type 0 where
   pub given_up : given_up (take (i + 1) old) ≡ cond (is_asked_again h) (given_up (take i old)) (noted h.next (given_up (take i old)))
   pub room : length (drop 1 (drop i old ++ waited (take i old))) < length old
 
-pub next : (old : List Held) (i : ℕ) (h : Held) → i < length old → slice_get (drop i old ++ waited (take i old)) 0 ≡ Some h → Next old i h
+pub next : (old : List Held) (i : ℕ) (h : Held) → i < length old → slice_get (drop i old ++ waited (take i old)) 0 ≡ Some h
+    → Next old i h
 next old i h lt first =
     let rest = drop_more old i h lt in
     let taken = take_more old i h lt in
@@ -98,10 +109,12 @@ next old i h lt first =
     let rest_is : drop i old ≡ h ∷ drop (i + 1) old = rw is at rest in
     let taken_is : take (i + 1) old ≡ take i old ++ h ∷ [] = rw is at taken in
     record {
-      items = rw (rest_is, taken_is, waited_more (take i old) h) (append_assoc (drop (i + 1) old) (waited (take i old)) (waited (h ∷ [])));
+      items = rw (rest_is, taken_is, waited_more (take i old) h) (append_assoc (drop (i + 1) old) (waited (take i old)) (waited (h ∷
+          [])));
       ask = rw taken_is (nexts_more is_asked_again (take i old) h);
       given_up = rw taken_is (nexts_more (λ g. not (is_asked_again g)) (take i old) h ∙ turned (is_asked_again h) _ _);
-      room = rw rest_is (let l = length-waited (take i old) in omega (arith, length-append (drop (i + 1) old) (waited (take i old)), length-drop (i + 1) old, length-take i old));
+      room = rw rest_is (let l = length-waited (take i old) in omega (arith, length-append (drop (i + 1) old) (waited (take i old)),
+          length-drop (i + 1) old, length-take i old));
     }
   where
     turned : (t : Bool) (xs ys : List Addr) → cond (not t) xs ys ≡ cond t ys xs

@@ -34,7 +34,14 @@ upwards range a =
 
 -- a choice that begins: with the first address to try, and with node 1 of the range's start where there is none
 abbrev pub begun : Span → List Addr → Hw → Choice
-begun range [] hw = record { range = range; hw = hw; tentative = record { net = range.start; node = 1 }; left = []; probes = 0; is_settled = false }
+begun range [] hw = record {
+  range = range;
+  hw = hw;
+  tentative = record { net = range.start; node = 1 };
+  left = [];
+  probes = 0;
+  is_settled = false;
+}
 begun range (a ∷ left) hw = record { range = range; hw = hw; tentative = a; left = left; probes = 0; is_settled = false }
 
 -- the choice with its next address: the next one to try, and after the last one the address after it

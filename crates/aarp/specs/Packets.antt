@@ -47,7 +47,13 @@ packet =
     field (number one any) (λ w. w.target_first) (λ target_first.
     part address (λ w. w.packet.target) (λ target.
     done (record {
-      packet = record { function = function_of function; source_hw = record { 0 = source_hw }; source = source; target_hw = record { 0 = target_hw }; target = target };
+      packet = record {
+        function = function_of function;
+        source_hw = record { 0 = source_hw };
+        source = source;
+        target_hw = record { 0 = target_hw };
+        target = target;
+      };
       source_first = source_first;
       target_first = target_first;
     }))))))))))))

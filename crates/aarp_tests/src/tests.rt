@@ -1,15 +1,11 @@
 //! AARP packets, the choice of an address and waiting datagrams, worked out by hand.
 
+mod sample;
+
 use aarp::*;
-use at_base::{Addr, Bytes, Error, Field, Hw, Range};
-use std::alloc::Global;
+use at_base::{Error, Field, Hw};
+use sample::*;
 use std::test::*;
-
-const OWN: Hw = Hw([0x02, 0, 0, 0, 0, 0x05]);
-
-const OTHER: Hw = Hw([0x02, 0, 0, 0, 0, 0x06]);
-
-const NOBODY: Hw = Hw([0; 6]);
 
 /// The probe of the station 02:00:00:00:00:05 for 10.7.
 const PROBE: [u8; PACKET_LEN] = [
@@ -24,25 +20,6 @@ const RESPONSE: [u8; PACKET_LEN] = [
     0x11, 0x12, 0x13, 0x14, 0x15, 0x16, 0x00, 0x21, 0x22, 0x23, // from 8482.35
     0x31, 0x32, 0x33, 0x34, 0x35, 0x36, 0x00, 0x41, 0x42, 0x43, // to 16706.67
 ];
-
-fn at(net: u16, node: u8) -> Addr {
-    Addr { net, node }
-}
-
-fn packet(function: Function, source_hw: Hw, source: Addr, target: Addr) -> Packet {
-    Packet {
-        function,
-        source_hw,
-        source,
-        target_hw: NOBODY,
-        target,
-    }
-}
-
-/// Another station says that it has the address.
-fn taken(addr: Addr) -> Packet {
-    packet(Function::Response, OTHER, addr, at(10, 99))
-}
 
 #[test]
 fn each_field_of_a_packet_has_its_own_bytes(rt: HostRuntime) -> Result<(), Fail> {
@@ -129,36 +106,12 @@ fn first_bytes_of_protocol_addresses_are_ignored(rt: HostRuntime) -> Result<(), 
     Ok(())
 }
 
-/// A chooser for a port on a cable of the networks from 10 on, made again where its memory was
-/// refused.
-fn chooser_to(alloc: Global, end: u16, tries: &[Addr]) -> Result<Chooser, Error> {
-    let range = Range::new(10, end)?;
-    if !are_on(range, tries) {
-        return Err(Error::BadRange);
-    }
-    match Chooser::new(alloc, range, tries, OWN) {
-        Err(Error::Memory) => Chooser::new(alloc, range, tries, OWN),
-        answer => answer,
-    }
-}
-
-/// The address that the chooser probes for in its next tick.
-fn probed(chooser: &mut Chooser) -> Option<Addr> {
-    match chooser.tick() {
-        Some(probe) => Some(probe.target),
-        None => None,
-    }
-}
-
-/// How many ticks pass until the chooser is settled, at most 30.
-fn ticks_to_settle(chooser: &mut Chooser) -> u32 {
-    for ticks in 0..30 {
-        if chooser.settled().is_some() {
-            return ticks;
-        }
-        let _ = chooser.tick();
-    }
-    30
+#[test]
+fn the_two_addresses_of_a_probe_may_differ(rt: HostRuntime) -> Result<(), Fail> {
+    let mut probe = Packet::read(&PROBE)?;
+    probe.source = at(10, 8);
+    assert_eq!(rt; with_byte(17, 0x08), Ok(probe));
+    Ok(())
 }
 
 #[test]
@@ -207,7 +160,8 @@ fn another_station_s_probe_is_a_conflict(rt: HostRuntime) -> Result<(), Fail> {
     let mut chooser = chooser_to(rt.alloc(), 19, &[at(10, 7)])?;
     for packet in [
         packet(Function::Probe, OWN, at(10, 7), at(10, 7)),
-        packet(Function::Probe, OTHER, at(10, 8), at(10, 8)),
+        packet(Function::Probe, OTHER, at(10, 7), at(10, 8)),
+        packet(Function::Response, OTHER, at(10, 8), at(10, 7)),
         packet(Function::Request, OTHER, at(10, 8), at(10, 7)),
         taken(at(10, 8)),
         taken(at(11, 7)),
@@ -271,30 +225,6 @@ fn a_copy_goes_on_where_its_original_was(rt: HostRuntime) -> Result<(), Fail> {
     Ok(())
 }
 
-fn mapper_for(alloc: Global) -> Result<Mapper, Error> {
-    match Mapper::new(alloc) {
-        Err(Error::Memory) => Mapper::new(alloc),
-        answer => answer,
-    }
-}
-
-/// Learns the mapping, again where memory was refused.
-fn learn(mapper: &mut Mapper, addr: Addr, hw: Hw) -> Result<(), Error> {
-    match mapper.learn(addr, hw) {
-        Err(Error::Memory) => mapper.learn(addr, hw),
-        answer => answer,
-    }
-}
-
-/// Knows n.1 for each n from 1 to 256.
-fn full_mapper(alloc: Global) -> Result<Mapper, Error> {
-    let mut mapper = mapper_for(alloc)?;
-    for net in 1..=256 {
-        learn(&mut mapper, at(net, 1), OTHER)?;
-    }
-    Ok(mapper)
-}
-
 #[test]
 fn what_was_learnt_last_is_found(rt: HostRuntime) -> Result<(), Fail> {
     let mut mapper = mapper_for(rt.alloc())?;
@@ -321,30 +251,6 @@ fn the_mapping_learnt_longest_ago_is_forgotten(rt: HostRuntime) -> Result<(), Fa
     assert_eq!(rt; mapper.look(at(3, 1)), None);
     assert_eq!(rt; mapper.look(at(4, 1)), Some(OTHER));
     Ok(())
-}
-
-/// A datagram of one byte for the address.
-fn datagram(alloc: Global, next: Addr, byte: u8) -> Result<Held, Error> {
-    let bytes = match Bytes::copy(alloc, &[byte]) {
-        Err(Error::Memory) => Bytes::copy(alloc, &[byte])?,
-        answer => answer?,
-    };
-    Ok(Held {
-        next,
-        asked: 0,
-        bytes,
-    })
-}
-
-/// The byte of a datagram, and how often its address was asked for.
-fn told(held: &Option<Held>) -> Option<(u8, u8)> {
-    match held {
-        Some(held) => match held.bytes.as_slice() {
-            [byte] => Some((*byte, held.asked)),
-            _ => None,
-        },
-        None => None,
-    }
 }
 
 #[test]
