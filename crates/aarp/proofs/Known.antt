@@ -1,0 +1,74 @@
+-- The mappings that are known: what `put` and `peek` of `lru` do, in the words of this crate.
+use Rattle.std.proofs.Common.{◌≡◌, ℕ, zero, suc, ◌<◌, ◌≤◌, ◌-◌, Bool, true, false, cond, not, List, [], ◌∷◌, filter, length, take, Option, Some, None, refl, sym, ap, subst, ◌∙◌, arith}
+use Rattle.std.specs.List.{IsDistinct, AllByRecursion}
+use Rattle.std.specs.Option.{option_map_or}
+use Rattle.std.specs.Map.{keys_of, lookup, lookup_entry, remove_entry}
+use Rattle.std.proofs.lemmas.List.{take_all}
+use Rattle.std.proofs.lemmas.Map.Keys.{IsDistinct-head, IsDistinct-tail}
+use Rattle.lru.specs.LruCache.{LruCache, put_entries}
+use Rattle.at_base.specs.declared.address.Addr.{Addr}
+use Rattle.at_base.specs.declared.address.Hw.{Hw}
+use Rattle.at_base.specs.Address.{same_address}
+use Rattle.aarp.specs.Mapping.{mapping_of}
+
+cut : {X : Type 0} (x : X) (xs : List X) (n : ℕ) → 0 < n → x ∷ take (n - 1) xs ≡ take n (x ∷ xs)
+cut x xs zero h = absurd (omega arith)
+cut x xs (suc n) h = let e : suc n - 1 ≡ n = omega arith in rw e refl
+
+module _ {K V : Type 0} (eq : K → K → Bool) (same : (x y : K) → eq x y ≡ true → x ≡ y) where
+  abbrev others : K → List (K × V) → List (K × V)
+  others k es = filter (λ e. not (eq k e.0)) es
+
+  others-absent : (k : K) (es : List (K × V)) → lookup_entry (eq k) es ≡ None → others k es ≡ es
+  others-absent k [] h = refl
+  others-absent k (e ∷ es) h = (elim (eq k e.0) as (λ b. eq k e.0 ≡ b → others k (e ∷ es) ≡ e ∷ es) [
+    | true ↦ λ t. let bad = rw t at h in cc
+    | false ↦ λ t. rw t (ap (λ l. e ∷ l) (others-absent k es (rw t at h)))
+  ]) refl
+
+  others-apart : (k : K) (es : List (K × V)) → AllByRecursion (λ y. eq k y ≡ false) (keys_of es) → others k es ≡ es
+  others-apart k [] h = refl
+  others-apart k (e ∷ es) h = rw h.0 (ap (λ l. e ∷ l) (others-apart k es h.1))
+
+  others-present : (k : K) (f : K × V) (es : List (K × V)) → IsDistinct eq (keys_of es) → lookup_entry (eq k) es ≡ Some f → (f.0
+      ≡ k) × (remove_entry (eq k) es ≡ others k es) × (suc (length (remove_entry (eq k) es)) ≡ length es)
+  others-present k f [] d h = cc
+  others-present k f (e ∷ es) d h = (elim (eq k e.0) as (λ b. eq k e.0 ≡ b → (f.0 ≡ k) × (remove_entry (eq k) (e ∷ es)
+      ≡ others k (e ∷ es)) × (suc (length (remove_entry (eq k) (e ∷ es))) ≡ length (e ∷ es))) [
+    | true ↦ λ t.
+        let is : k ≡ e.0 = same k e.0 t in
+        let found : e ≡ f = let h' = rw t at h in cc in
+        let apart : AllByRecursion (λ y. eq k y ≡ false) (keys_of es) = subst (λ j. AllByRecursion (λ y. eq j y
+            ≡ false) (keys_of es)) (sym is) (IsDistinct-head eq e.0 (keys_of es) d) in
+        (sym (is ∙ ap (λ p. p.0) found), rw t (sym (others-apart k es apart)), rw t refl)
+    | false ↦ λ t.
+        let on = others-present k f es (IsDistinct-tail eq e.0 (keys_of es) d) (rw t at h) in
+        (on.0, rw t (ap (λ l. e ∷ l) on.1), rw t (ap suc on.2))
+  ]) refl
+
+  module _ (c : LruCache K V) (k : K) (v : V) (d : IsDistinct eq (keys_of c.entries)) (fits : length c.entries ≤ c.cap) (some : 0 <
+      c.cap) where
+    by_case : (o : Option (K × V)) → lookup_entry (eq k) c.entries ≡ o
+        → option_map_or (λ e. (e.0, v) ∷ remove_entry (eq k) c.entries) o ((k, v) ∷ take (c.cap - 1) c.entries)
+        ≡ take c.cap ((k, v) ∷ others k c.entries)
+    by_case None h = rw (others-absent k c.entries h) (cut (k, v) c.entries c.cap some)
+    by_case (Some f) h =
+        let p = others-present k f c.entries d h in
+        let whole : take c.cap ((k, v) ∷ others k c.entries)
+            ≡ (k, v) ∷ others k c.entries = take_all c.cap ((k, v) ∷ others k c.entries) (rw (← p.1) (omega (arith, p.2))) in
+        rw (whole, p.1, p.0) refl
+
+    -- what `put` leaves, as a filter and a cut
+    pub put_entries-learnt : put_entries eq c k v ≡ take c.cap ((k, v) ∷ filter (λ e. not (eq k e.0)) c.entries)
+    put_entries-learnt = by_case (lookup_entry (eq k) c.entries) refl
+
+pub same_is : (x y : Addr) → same_address x y ≡ true → x ≡ y
+same_is x y h = grind arith
+
+pub mapping_found : (a : Addr) (known : List (Addr × Hw)) → mapping_of a known ≡ lookup (same_address a) known
+mapping_found a [] = refl
+mapping_found a (m ∷ known) = elim (same_address a m.0) as (λ t. cond t (Some m.1) (mapping_of a known)
+    ≡ cond t (Some m.1) (lookup (same_address a) known)) [
+  | true ↦ refl
+  | false ↦ mapping_found a known
+]

@@ -1,0 +1,7 @@
+mod Numbers
+mod Shape
+mod Written
+mod Known
+mod Turns
+mod Ticks
+mod Counts

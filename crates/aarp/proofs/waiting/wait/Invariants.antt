@@ -1,0 +1,16 @@
+use Rattle.std.proofs.Common.{◌≡◌, ◌≤◌, ◌++◌, length, take, drop}
+use Rattle.aarp.specs.Mapping.{waited, to_ask, given_up}
+use Rattle.aarp.proofs.waiting.wait.Given as goal
+
+abbrev pub invariant-loop-step : goal.invariant-loop-step
+invariant-loop-step l = record {
+  items : l.queue.items ≡ drop l._step l.fn.queue.items ++ waited (take l._step l.fn.queue.items);
+  capacity : l.queue.capacity ≡ l.fn.queue.capacity;
+  end : l._step-end ≡ length l.fn.queue.items;
+  few : length l.fn.queue.items ≤ 16;
+  cap : l.fn.queue.capacity ≡ 16;
+  ask : l.asks.ask ≡ to_ask (take l._step l.fn.queue.items);
+  given_up : l.asks.given_up ≡ given_up (take l._step l.fn.queue.items);
+  ask_few : length l.asks.ask ≤ l._step;
+  given_up_few : length l.asks.given_up ≤ l._step;
+}

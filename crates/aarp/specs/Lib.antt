@@ -1,0 +1,3 @@
+pub mod Packets
+pub mod Choosing
+pub mod Mapping

@@ -1,0 +1,82 @@
+//! A short list of addresses, kept inline.
+
+ghost use Rattle.std.specs.Prelude.{◌≡◌, ◌<◌, ◌≤◌, ◌==◌, [], ◌∷◌, ◌++◌, length};
+ghost use Rattle.std.specs.List.{list_any};
+ghost use Rattle.at_base.specs.Address.{same_address};
+
+use at_base::Addr;
+use std::marker::Model;
+
+/// The most addresses of a list.
+const MAX_ADDRESSES: usize = 16;
+
+/// At most 16 addresses, without memory of their own.
+///
+/// This project's own.
+#[derive(Debug, Drop)]
+pub struct Addresses {
+    items: [Addr; MAX_ADDRESSES],
+    len: usize,
+}
+
+impl Model for Addresses {
+    ghost use Rattle.std.specs.Prelude.{◌≤◌, List, take};
+    ghost use Rattle.at_base.specs.declared.address.Addr.{Addr as AddrValue};
+
+    ghost Value = { List AddrValue };
+
+    ghost view = { λ a. take a.len a.items };
+
+    ghost invariant = { λ a. a.len ≤ 16 };
+}
+
+impl Addresses {
+    /// No address.
+    pub fn new() -> Addresses
+        ensures { result ≡ [] }
+    {
+        Addresses {
+            items: [Addr::NONE; MAX_ADDRESSES],
+            len: 0,
+        }
+    }
+
+    /// The number of addresses, at most 16.
+    pub fn len(&self) -> usize
+        ensures value { result ≡ length self.now }
+        ensures few { result ≤ 16 }
+    {
+        self.as_slice().len()
+    }
+
+    /// Whether there are no addresses.
+    pub fn is_empty(&self) -> bool
+        ensures { result ≡ (length self.now == 0) }
+    {
+        self.len() == 0
+    }
+
+    /// The addresses, in order.
+    pub fn as_slice(&self) -> &[Addr]
+        ensures value { result.now ≡ self.now }
+        ensures few { length self.now ≤ 16 }
+    {
+        &self.items[..self.len]
+    }
+
+    /// Whether the address is one of these.
+    pub fn contains(&self, addr: Addr) -> bool
+        ensures { result ≡ list_any (same_address addr) self.now }
+    {
+        self.as_slice().iter().any(|item| addr == *item)
+    }
+
+    /// Adds an address. That there is room for it is the caller's condition.
+    pub fn push(&mut self, addr: Addr)
+        requires { length self.old < 16 }
+        ensures { self.new ≡ self.old ++ addr ∷ [] }
+    {
+        self.items[self.len] = addr;
+        self.len += 1;
+    }
+}

@@ -1,0 +1,17 @@
+//! Datagrams that wait for a mapping.
+
+use at_base::{Addr, Bytes};
+
+/// The most datagrams that a port holds.
+pub const MAX_HELD: usize = 16;
+
+/// A datagram that waits until the hardware address of its next station is known.
+#[derive(Debug, Drop)]
+pub struct Held {
+    /// The station that it goes to next, on the port's cable.
+    pub next: Addr,
+    /// How often that address has been asked for, 1 to 10. `Mapper::hold` sets it.
+    pub asked: u8,
+    /// The datagram.
+    pub bytes: Bytes,
+}

@@ -1,0 +1,18 @@
+//! AARP: the choice of a station's address, and the mapping of addresses to hardware addresses.
+#![tactic(auto)]
+
+mod addresses;
+mod chooser;
+mod held;
+mod laws;
+mod mapper;
+mod packet;
+mod waiting;
+
+pub use addresses::Addresses;
+pub use chooser::{Chooser, are_on};
+pub use held::{Held, MAX_HELD};
+pub use laws::written_is_read;
+pub use mapper::{MAX_MAPPINGS, Mapper};
+pub use packet::{Function, PACKET_LEN, Packet};
+pub use waiting::Asks;

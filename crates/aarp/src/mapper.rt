@@ -1,0 +1,117 @@
+//! The mappings of addresses that a port knows, and the datagrams that it holds.
+
+ghost use Rattle.std.specs.Prelude.{◌≡◌, [], IfOk, OnOk, OnErr, IsOk, IsSome, IsOkUnless};
+ghost use Rattle.std.specs.List.{list_any};
+ghost use Rattle.aarp.specs.Mapping.{IsMappings, mapping_of, learnt, is_for, holding, pushed_out};
+ghost use Rattle.aarp.specs.Mapping.{released, without_oldest, to_ask, given_up, waited};
+
+use crate::held::{Held, MAX_HELD};
+use crate::waiting::{self, Asks};
+use at_base::{Addr, Error, Hw};
+use circular_buffer::HeapCircularBuffer;
+use lru::LruCache;
+use std::alloc::Global;
+use std::marker::Model;
+use std::num::NonZeroUsize;
+
+/// The most mappings that a port knows.
+pub const MAX_MAPPINGS: usize = 256;
+
+/// The hardware addresses that a port knows, and the datagrams that wait for one.
+///
+/// Inside AppleTalk, the chapter on AARP; the counts and limits are this project's own.
+#[derive(Drop)]
+pub struct Mapper {
+    known: LruCache<Addr, Hw>,
+    held: HeapCircularBuffer<Held>,
+}
+
+impl Model for Mapper {
+    ghost use Rattle.std.specs.Prelude.{◌≡◌, IsTrue};
+    ghost use Rattle.std.specs.List.{list_all};
+    ghost use Rattle.aarp.specs.Mapping.{Mappings, is_counted};
+
+    ghost Value = { Mappings };
+
+    ghost view = { λ m. record { known = m.known.entries; held = m.held.items } };
+
+    ghost invariant = { λ m. (m.known.cap ≡ 256)
+        × (m.held.capacity ≡ 16)
+        × IsTrue (list_all is_counted m.held.items) };
+}
+
+impl Mapper {
+    /// Knows and holds nothing. Error: `Memory`.
+    pub fn new(alloc: Global) -> Result<Mapper, Error>
+        ensures ok { IfOk result (λ m. m ≡ record { known = []; held = [] }) }
+        ensures refused { IsOkUnless result Error.Memory }
+    {
+        let cap = NonZeroUsize::new(MAX_MAPPINGS).unwrap();
+        let known = LruCache::new(alloc, cap)?;
+        let held = HeapCircularBuffer::with_capacity(alloc, MAX_HELD)?;
+        Ok(Mapper { known, held })
+    }
+
+    /// The hardware address that was last learnt for the address. A look leaves the order in which
+    /// mappings are forgotten. Allocates nothing.
+    pub fn look(&self, addr: Addr) -> Option<Hw>
+        ensures value { result ≡ mapping_of addr self.now.known }
+        ensures valid { IsMappings self.now }
+    {
+        // the lengths tell the prover what always holds
+        let _known = self.known.len();
+        let _held = self.held.len();
+        self.known.peek(&addr).copied()
+    }
+
+    /// Learns a mapping, and forgets the one learnt longest ago where 256 others are known.
+    ///
+    /// Error: `Memory`, only for an address that isn't known yet; nothing changes.
+    pub fn learn(&mut self, addr: Addr, hw: Hw) -> Result<(), Error>
+        ensures ok { OnOk result
+            (self.new ≡ record self.old { known = learnt addr hw self.old.known }) }
+        ensures known { IsSome (mapping_of addr self.old.known) → IsOk result }
+        ensures refused { IsOkUnless result Error.Memory }
+        ensures unchanged { OnErr result (self.new ≡ self.old) }
+    {
+        let _len = self.known.len();
+        self.known.put(addr, hw)?;
+        Ok(())
+    }
+
+    /// Whether a datagram is held for the address. Allocates nothing.
+    pub fn holds(&self, addr: Addr) -> bool
+        ensures { result ≡ list_any (is_for addr) self.now.held }
+    {
+        waiting::holds(&self.held, addr)
+    }
+
+    /// Holds a datagram, and gives the oldest one back where 16 are held. Its count is that of its
+    /// address, 1 where nothing was held for it. Allocates nothing.
+    pub fn hold(&mut self, held: Held) -> Option<Held>
+        ensures held { self.new ≡ record self.old { held = holding held self.old.held } }
+        ensures oldest { result ≡ pushed_out held self.old.held }
+    {
+        let _len = self.held.len();
+        let mut held = held;
+        held.asked = waiting::asked_for(&self.held, held.next);
+        self.held.push_back(held)
+    }
+
+    /// The oldest datagram held for the address. The others keep their order. Allocates nothing.
+    pub fn release(&mut self, addr: Addr) -> Option<Held>
+        ensures oldest { result ≡ released addr self.old.held }
+        ensures left { self.new ≡ record self.old { held = without_oldest addr self.old.held } }
+    {
+        waiting::release(&mut self.held, addr)
+    }
+
+    /// A tick passes: which addresses to ask for, and which are given up. Allocates nothing.
+    pub fn tick(&mut self) -> Asks
+        ensures ask { result.ask ≡ to_ask self.old.held }
+        ensures given_up { result.given_up ≡ given_up self.old.held }
+        ensures waits { self.new ≡ record self.old { held = waited self.old.held } }
+    {
+        waiting::wait(&mut self.held)
+    }
+}

@@ -1,0 +1,163 @@
+//! Datagrams that wait for a mapping, oldest first: a ring that is turned where one is taken out of
+//! its middle.
+
+ghost use Rattle.std.specs.Prelude.{◌≡◌, ◌<◌, ◌≤◌, ◌+◌, ◌++◌, ◌∷◌, [], length, take, drop};
+ghost use Rattle.std.specs.Prelude.{find, position, remove, slice_get, if◌then◌else◌};
+ghost use Rattle.std.specs.Option.{option_copied};
+ghost use Rattle.std.specs.List.{list_any};
+ghost use Rattle.aarp.specs.Mapping.{is_for, asked_for as count_for, released, without_oldest};
+ghost use Rattle.aarp.specs.Mapping.{waited, to_ask, given_up, is_asked_again, noted};
+
+use crate::addresses::Addresses;
+use crate::held::Held;
+use at_base::Addr;
+use circular_buffer::HeapCircularBuffer;
+
+/// How often an address is asked for.
+const MAX_ASKED: u8 = 10;
+
+/// What a tick asks for: lists of at most 16 addresses, each once, the oldest held first.
+///
+/// This project's own.
+#[derive(Debug, Drop)]
+pub struct Asks {
+    /// To ask for now.
+    pub ask: Addresses,
+    /// Asked for ten times without an answer; what was held for them is gone.
+    pub given_up: Addresses,
+}
+
+/// Whether a datagram waits for the address.
+pub(crate) fn holds(queue: &HeapCircularBuffer<Held>, addr: Addr) -> bool
+    ensures { result ≡ list_any (is_for addr) queue.now.items }
+{
+    queue.iter().any(|held| held.next == addr)
+}
+
+/// The oldest datagram for the address.
+fn oldest_for(queue: &HeapCircularBuffer<Held>, addr: Addr) -> Option<&Held>
+    ensures { option_copied result ≡ find (is_for addr) queue.now.items }
+{
+    queue.iter().find(|held| held.next == addr)
+}
+
+/// How often the address was asked for, and 1 where nothing waits for it.
+pub(crate) fn asked_for(queue: &HeapCircularBuffer<Held>, addr: Addr) -> u8
+    ensures { result ≡ count_for addr queue.now.items }
+{
+    match oldest_for(queue, addr) {
+        Some(held) => held.asked,
+        None => 1,
+    }
+}
+
+/// The place of the oldest datagram for the address.
+fn place_of(queue: &HeapCircularBuffer<Held>, addr: Addr) -> Option<usize>
+    ensures { result ≡ position (is_for addr) queue.now.items }
+{
+    queue.iter().position(|held| held.next == addr)
+}
+
+/// Puts the oldest datagram after the others.
+fn turn_once(queue: &mut HeapCircularBuffer<Held>)
+    ensures turned { queue.new.items ≡ drop 1 queue.old.items ++ take 1 queue.old.items }
+    ensures capacity { queue.new.capacity ≡ queue.old.capacity }
+{
+    let _len = queue.len();
+    if let Some(held) = queue.pop_front() {
+        let _ = queue.push_back(held);
+    }
+}
+
+/// Puts the first `count` datagrams after the others.
+fn turn(queue: &mut HeapCircularBuffer<Held>, count: usize)
+    requires { count ≤ length queue.old.items }
+    ensures turned { queue.new.items ≡ drop count queue.old.items ++ take count queue.old.items }
+    ensures capacity { queue.new.capacity ≡ queue.old.capacity }
+{
+    let _len = queue.len();
+    for _step in 0..count {
+        turn_once(queue);
+    }
+}
+
+/// Takes out the datagram at a place, and keeps the order of the others.
+fn remove_at(queue: &mut HeapCircularBuffer<Held>, place: usize) -> Option<Held>
+    requires { place < length queue.old.items }
+    ensures taken { result ≡ slice_get queue.old.items place }
+    ensures rest { queue.new.items ≡ remove queue.old.items place }
+    ensures capacity { queue.new.capacity ≡ queue.old.capacity }
+{
+    let len = queue.len();
+    turn(queue, place);
+    let taken = queue.pop_front();
+    turn(queue, len - place - 1);
+    taken
+}
+
+/// Takes out the oldest datagram for the address, and keeps the order of the others.
+pub(crate) fn release(queue: &mut HeapCircularBuffer<Held>, addr: Addr) -> Option<Held>
+    ensures oldest { result ≡ released addr queue.old.items }
+    ensures left { queue.new.items ≡ without_oldest addr queue.old.items }
+    ensures capacity { queue.new.capacity ≡ queue.old.capacity }
+{
+    match place_of(queue, addr) {
+        Some(place) => remove_at(queue, place),
+        None => None,
+    }
+}
+
+/// Adds the address where it isn't one of these.
+fn note(addresses: &mut Addresses, addr: Addr)
+    requires { length addresses.old < 16 }
+    ensures noted { addresses.new ≡ noted addr addresses.old }
+    ensures few { length addresses.new ≤ 1 + length addresses.old }
+{
+    if !addresses.contains(addr) {
+        addresses.push(addr);
+    }
+}
+
+/// A datagram that was taken out waits on after the others, or is given up.
+fn wait_on(queue: &mut HeapCircularBuffer<Held>, asks: &mut Asks, held: Held)
+    requires room { length queue.old.items < queue.old.capacity }
+    requires ask_room { length asks.old.ask < 16 }
+    requires given_up_room { length asks.old.given_up < 16 }
+    ensures items { queue.new.items ≡ queue.old.items ++ waited (held ∷ []) }
+    ensures capacity { queue.new.capacity ≡ queue.old.capacity }
+    ensures ask { asks.new.ask
+        ≡ (if is_asked_again held then noted held.next asks.old.ask else asks.old.ask) }
+    ensures given_up { asks.new.given_up
+        ≡ (if is_asked_again held then asks.old.given_up else noted held.next asks.old.given_up) }
+    ensures ask_few { length asks.new.ask ≤ 1 + length asks.old.ask }
+    ensures given_up_few { length asks.new.given_up ≤ 1 + length asks.old.given_up }
+{
+    let mut held = held;
+    if held.asked < MAX_ASKED {
+        held.asked += 1;
+        note(&mut asks.ask, held.next);
+        let _ = queue.push_back(held);
+    } else {
+        note(&mut asks.given_up, held.next);
+    }
+}
+
+/// A tick passes: which addresses to ask for, and which are given up.
+pub(crate) fn wait(queue: &mut HeapCircularBuffer<Held>) -> Asks
+    requires { queue.old.capacity ≡ 16 }
+    ensures ask { result.ask ≡ to_ask queue.old.items }
+    ensures given_up { result.given_up ≡ given_up queue.old.items }
+    ensures waits { queue.new.items ≡ waited queue.old.items }
+    ensures capacity { queue.new.capacity ≡ queue.old.capacity }
+{
+    let mut asks = Asks {
+        ask: Addresses::new(),
+        given_up: Addresses::new(),
+    };
+    for _step in 0..queue.len() {
+        if let Some(held) = queue.pop_front() {
+            wait_on(queue, &mut asks, held);
+        }
+    }
+    asks
+}
