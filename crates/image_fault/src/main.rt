@@ -1,13 +1,13 @@
-//! Prints what reading answers to the image on standard input: `image`, or the place and the cause
-//! of its first fault. `scripts/compare` holds that against another reader of images.
+//! Prints what reading the image on standard input gives: `image`, or the place and the cause of its
+//! first fault. `scripts/compare` compares that with another reader of images.
 #![tactic(auto)]
 
 use at_base::Error;
 use std::io::Read;
 use table_image::read;
 
-/// The answer as a line.
-fn told<R: Print>(rt: &R, answer: Result<(), Error>) -> Result<(), std::io::Error> {
+/// Prints the answer as a line.
+fn print<R: Print>(rt: &R, answer: Result<(), Error>) -> Result<(), std::io::Error> {
     match answer {
         Ok(()) => println!(rt; "image"),
         Err(Error::BadImage(place, cause)) => println!(rt; "{place} {cause:?}"),
@@ -19,5 +19,5 @@ fn main(rt: HostRuntime) -> Result<(), std::io::Error> {
     let mut bytes = Vec::new(rt.alloc());
     rt.reader().read_to_end(&mut bytes)?;
     let answer = read(rt.alloc(), bytes.as_slice()).map(|_| ());
-    told(&rt, answer)
+    print(&rt, answer)
 }

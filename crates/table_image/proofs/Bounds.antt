@@ -1,86 +1,202 @@
 -- What an image holds is within its limits.
-use Rattle.std.proofs.Common.{◌≡◌, ℕ, zero, suc, ◌+◌, ◌≤◌, Bool, true, false, cond, ltb, List, [], ◌∷◌, length, Some, None, slice_get, refl, ap, subst, arith}
-use Rattle.std.proofs.lemmas.Bool.{ltb-false}
-use Rattle.at_base.specs.declared.error.Cause.TheVariants.{Count, Order}
+use Rattle.std.proofs.Common.{◌≡◌, ℕ, zero, suc, ◌+◌, ◌≤◌, ◌<◌, Bool, true, false, cond, ltb, List, [], ◌∷◌, length, Some, None, slice_get}
+use Rattle.std.proofs.Common.{refl, ap, subst, arith}
+use Rattle.std.proofs.lemmas.Bool.{ltb-false, ltb-true}
+use Rattle.at_base.specs.declared.error.Cause.TheVariants.{Count, Index, Name, Order, Value}
 use Rattle.at_base.specs.Grammar.{Grammar}
 use Rattle.at_base.specs.Spelling.{ListPasses, IsValue}
-use Rattle.table_image.specs.Internet.{Internet, AreRising, IsWithinLimits, IsBounded}
-use Rattle.table_image.specs.Limits.{most, most_ports}
-use Rattle.table_image.specs.Flaws.{Wrong, Here}
-use Rattle.table_image.specs.Tests.{rising}
-use Rattle.table_image.specs.Spelling.{counted, port_spelling, row_spelling, zone_list_spelling, router_spelling, node_spelling, front_spelling, cable_spelling, image_spelling}
+use Rattle.at_base.specs.Text.{is_name, IsName}
+use Rattle.at_base.proofs.Fields.{is_right, not_wrong}
+use Rattle.table_image.specs.Internet.{Internet, Every, Rises, AreZones, IsRow, IsEntity, IsNodeName, IsWithinLimits, IsNodeWithinLimits}
+use Rattle.table_image.specs.Internet.{IsBounded}
+use Rattle.table_image.specs.Limits.{max_cables, max_routers, max_nodes, max_ports, max_rows, max_zone_lists, max_zones, max_names}
+use Rattle.table_image.specs.Limits.{max_text, max_distance}
+use Rattle.table_image.specs.Flaws.{Wrong, Here, Before}
+use Rattle.table_image.specs.Tests.{below, rising, enumerator, is_entity}
+use Rattle.table_image.specs.Spelling.{counted, text_spelling, zone_spelling, zones_spelling, port_spelling, row_spelling}
+use Rattle.table_image.specs.Spelling.{zone_list_spelling, router_spelling, name_spelling, node_spelling, front_spelling, cable_spelling}
+use Rattle.table_image.specs.Spelling.{image_spelling}
+use Rattle.table_image.specs.declared.cable.Cable.{Cable}
+use Rattle.table_image.specs.declared.port.Port.{Port}
 use Rattle.table_image.specs.declared.row.Row.{Row}
+use Rattle.table_image.specs.declared.zone_list.ZoneList.{ZoneList}
 use Rattle.table_image.specs.declared.router.Router.{Router}
+use Rattle.table_image.specs.declared.node.NodeName.{NodeName}
+use Rattle.table_image.specs.declared.node.Node.{Node}
 use Rattle.table_image.proofs.Shape.{within_bounds}
 
-pub counted_few : {B : Type 0} (limit : ℕ) (item : ℕ → Grammar Wrong true B) (next : B → ℕ) (xs : List B) → IsValue (counted limit item next) xs → length xs ≤ limit
+-- ---- counted lists
+
+pub counted_few : {B : Type 0} (limit : ℕ) (item : ℕ → Grammar Wrong true B) (next : B → ℕ) (xs : List B)
+    → IsValue (counted limit item next) xs → length xs ≤ limit
 unfolding counted
 counted_few limit item next xs h = (within_bounds 0 limit Count (length xs) h.0.1).1
 
-pub counted_each : {B : Type 0} (limit : ℕ) (item : ℕ → Grammar Wrong true B) (next : B → ℕ) (xs : List B) → IsValue (counted limit item next) xs → ListPasses (λ low. IsValue (item low)) next 0 xs
+pub counted_each : {B : Type 0} (limit : ℕ) (item : ℕ → Grammar Wrong true B) (next : B → ℕ) (xs : List B)
+    → IsValue (counted limit item next) xs → ListPasses (λ low. IsValue (item low)) next 0 xs
 unfolding counted
 counted_each limit item next xs h = h.1.1
 
-one_passes : {B : Type 0} (passes : ℕ → B → Type 0) (next : B → ℕ) (low : ℕ) (xs : List B) (k : ℕ) (x : B) → ListPasses passes next low xs → slice_get xs k ≡ Some x → (n : ℕ) × passes n x
-one_passes passes next low [] k x h e = cc
-one_passes {B} passes next low (y ∷ ys) zero x h e = let same : y ≡ x = cc in (low, subst (passes low) same h.0)
-one_passes passes next low (y ∷ ys) (suc k) x h e = one_passes passes next (next y) ys k x h.1 e
+every_passes : {B : Type 0} (passes : ℕ → B → Type 0) (holds : B → Type 0) (next : B → ℕ) → ((low : ℕ) (x : B) → passes low x → holds x)
+    → (low : ℕ) (xs : List B) → ListPasses passes next low xs → Every holds xs
+every_passes passes holds next one low [] h k x e = absurd cc
+every_passes {B} passes holds next one low (y ∷ ys) h zero x e = let same : y ≡ x = cc in subst holds same (one low y h.0)
+every_passes passes holds next one low (y ∷ ys) h (suc k) x e = every_passes passes holds next one (next y) ys h.1 k x e
+
+-- each part of a counted list has what each value of its format has
+every : {B : Type 0} (limit : ℕ) (item : ℕ → Grammar Wrong true B) (next : B → ℕ) (holds : B → Type 0) → ((low : ℕ) (x : B)
+    → IsValue (item low) x → holds x) → (xs : List B) → IsValue (counted limit item next) xs → Every holds xs
+every limit item next holds one xs h = every_passes (λ low. IsValue (item low)) holds next one 0 xs (counted_each limit item next xs h)
+
+-- a list whose parts leave one more than their number to the next one rises
+module _ {X : Type 0} (passes : ℕ → X → Type 0) (number : X → ℕ) (above : (low : ℕ) (x : X) → passes low x → low ≤ number x) where
+  all_above : (low : ℕ) (xs : List X) → ListPasses passes (λ x. number x + 1) low xs → (k : ℕ) (b : X) → slice_get xs k ≡ Some b
+      → low ≤ number b
+  all_above low [] h k b e = cc
+  all_above low (x ∷ xs) h zero b e =
+      let first = above low x h.0 in
+      let same : x ≡ b = cc in
+      let starts : number x ≡ number b = ap number same in
+      omega arith
+  all_above low (x ∷ xs) h (suc k) b e =
+      let first = above low x h.0 in
+      let later = all_above (number x + 1) xs h.1 k b e in
+      omega arith
+
+  rise : (low : ℕ) (xs : List X) → ListPasses passes (λ x. number x + 1) low xs → Rises number xs
+  rise low [] h j k a b ea eb lt = cc
+  rise low (x ∷ xs) h zero zero a b ea eb lt = absurd (omega arith)
+  rise low (x ∷ xs) h (suc j) zero a b ea eb lt = absurd (omega arith)
+  rise low (x ∷ xs) h zero (suc k) a b ea eb lt =
+      let same : x ≡ a = cc in
+      let starts : number x ≡ number a = ap number same in
+      let later = all_above (number x + 1) xs h.1 k b eb in
+      omega arith
+  rise low (x ∷ xs) h (suc j) (suc k) a b ea eb lt = rise (number x + 1) xs h.1 j k a b ea eb (omega arith)
+
+-- ---- fields
 
 not_below : (low n : ℕ) → rising low n ≡ None → low ≤ n
-not_below low n e = go (ltb n low) refl e
-  where
-    go : (b : Bool) → ltb n low ≡ b → cond b (Some (Here Order)) None ≡ None → low ≤ n
-    go true e f = absurd cc
-    go false e f = ltb-false n low e
+not_below low n e = ltb-false _ _ (not_wrong (ltb n low) (Here Order) None e).0
+
+is_index : (count n : ℕ) → below count n ≡ None → n < count
+is_index count n e = ltb-true _ _ (is_right (ltb n count) (Here Index) e)
+
+counts_up : (low n : ℕ) → enumerator low n ≡ None → (1 ≤ n) × (low ≤ n)
+counts_up low n e =
+    let a = not_wrong (ltb n 1) (Here Value) (rising low n) e in
+    (ltb-false _ _ a.0, not_below low n a.1)
+
+name_is : (s : List ℕ) → IsValue zone_spelling s → IsName s
+unfolding text_spelling
+name_is s h = is_right (is_name s) (Before Name) h.1.0.1
+
+entity_is : (s : List ℕ) → IsValue (text_spelling is_entity) s → IsEntity s
+unfolding text_spelling
+entity_is s h =
+    let len = within_bounds 1 max_text Name (length s) h.0.1 in
+    record { some = len.0; few = len.1; test = is_right (is_entity s) (Before Name) h.1.0.1 }
+
+-- ---- parts
+
+zones_are : (zones : List (List ℕ)) → IsValue zones_spelling zones → AreZones zones
+unfolding zones_spelling
+zones_are zones h = record {
+  few = counted_few max_zones (λ low. zone_spelling) (λ name. 0) zones h;
+  each = every max_zones (λ low. zone_spelling) (λ name. 0) (λ zone. IsName zone) (λ low. name_is) zones h;
+}
+
+cable_zones : (cable : Cable) → IsValue cable_spelling cable → AreZones cable.zones
+unfolding cable_spelling
+cable_zones cable h = zones_are cable.zones h.1.1.0
+
+port_cable : (cables : ℕ) (port : Port) → IsValue (port_spelling cables) port → port.cable < cables
+unfolding port_spelling
+port_cable cables port h = is_index cables port.cable h.0.1
 
 row_above : (ports low : ℕ) (row : Row) → IsValue (row_spelling ports low) row → low ≤ row.start
 unfolding row_spelling
 row_above ports low row h = not_below low row.start h.0.1
 
-all_above : (ports low : ℕ) (rows : List Row) → ListPasses (λ low. IsValue (row_spelling ports low)) (λ r. r.start + 1) low rows → (k : ℕ) (b : Row) → slice_get rows k ≡ Some b → low ≤ b.start
-all_above ports low [] h k b e = cc
-all_above ports low (row ∷ rows) h zero b e =
-    let first = row_above ports low row h.0 in
-    let same : row ≡ b = cc in
-    let starts : row.start ≡ b.start = ap (λ (r : Row). r.start) same in
-    omega arith
-all_above ports low (row ∷ rows) h (suc k) b e =
-    let first = row_above ports low row h.0 in
-    let later = all_above ports (row.start + 1) rows h.1 k b e in
-    omega arith
+row_is : (ports low : ℕ) (row : Row) → IsValue (row_spelling ports low) row → IsRow ports row
+unfolding row_spelling
+row_is ports low row h =
+    record { distance = (within_bounds 0 max_distance Value row.distance h.1.1.0.1).1; port = is_index ports row.port h.1.1.1.0.1 }
 
-rows_rise : (ports low : ℕ) (rows : List Row) → ListPasses (λ low. IsValue (row_spelling ports low)) (λ r. r.start + 1) low rows → AreRising rows
-rows_rise ports low [] h j k a b ea eb lt = cc
-rows_rise ports low (row ∷ rows) h zero zero a b ea eb lt = absurd (omega arith)
-rows_rise ports low (row ∷ rows) h (suc j) zero a b ea eb lt = absurd (omega arith)
-rows_rise ports low (row ∷ rows) h zero (suc k) a b ea eb lt =
-    let same : row ≡ a = cc in
-    let starts : row.start ≡ a.start = ap (λ (r : Row). r.start) same in
-    let later = all_above ports (row.start + 1) rows h.1 k b eb in
-    omega arith
-rows_rise ports low (row ∷ rows) h (suc j) (suc k) a b ea eb lt = rows_rise ports (row.start + 1) rows h.1 j k a b ea eb (omega arith)
+list_above : (low : ℕ) (list : ZoneList) → IsValue (zone_list_spelling low) list → low ≤ list.start
+unfolding zone_list_spelling
+list_above low list h = not_below low list.start h.0.1
 
-router_limits : (cables : ℕ) (router : Router) → IsValue (router_spelling cables) router → IsWithinLimits router
+list_zones : (low : ℕ) (list : ZoneList) → IsValue (zone_list_spelling low) list → AreZones list.zones
+unfolding zone_list_spelling
+list_zones low list h = zones_are list.zones h.1.1.1.0
+
+name_above : (low : ℕ) (name : NodeName) → IsValue (name_spelling low) name → low ≤ name.enumerator
+unfolding name_spelling
+name_above low name h = (counts_up low name.enumerator h.1.0.1).1
+
+node_name_is : (low : ℕ) (name : NodeName) → IsValue (name_spelling low) name → IsNodeName name
+unfolding name_spelling
+node_name_is low name h =
+    let socket = within_bounds 1 254 Value name.socket h.0.1 in
+    record {
+      socket_low = socket.0;
+      socket_high = socket.1;
+      enumerator = (counts_up low name.enumerator h.1.0.1).0;
+      object = entity_is name.object h.1.1.0;
+      kind = entity_is name.kind h.1.1.1.0;
+    }
+
+router_limits : (cables : ℕ) (router : Router) → IsValue (router_spelling cables) router → IsWithinLimits cables router
 unfolding router_spelling
-router_limits cables router h = record {
-  ports = counted_few most_ports (λ low. port_spelling cables) (λ p. 0) router.ports h.0;
-  rows = counted_few most (row_spelling (length router.ports)) (λ r. r.start + 1) router.rows h.1.0;
-  lists = counted_few most zone_list_spelling (λ l. l.start + 1) router.lists h.1.1.0;
-  rising = rows_rise (length router.ports) 0 router.rows (counted_each most (row_spelling (length router.ports)) (λ r. r.start + 1) router.rows h.1.0);
-}
+router_limits cables router h =
+    let ports = length router.ports in
+    record {
+      ports = counted_few max_ports (λ low. port_spelling cables) (λ p. 0) router.ports h.0;
+      rows = counted_few max_rows (row_spelling ports) (λ r. r.start + 1) router.rows h.1.0;
+      lists = counted_few max_zone_lists zone_list_spelling (λ l. l.start + 1) router.lists h.1.1.0;
+      rising = rise (λ low row. IsValue (row_spelling ports low) row) (λ r. r.start) (row_above ports) 0 router.rows (counted_each max_rows
+          (row_spelling ports) (λ r. r.start + 1) router.rows h.1.0);
+      lists_rising = rise (λ low list. IsValue (zone_list_spelling low) list) (λ l. l.start) list_above 0 router.lists
+          (counted_each max_zone_lists zone_list_spelling (λ l. l.start + 1) router.lists h.1.1.0);
+      each_port = every max_ports (λ low. port_spelling cables) (λ p. 0) (λ port. port.cable < cables)
+          (λ low. port_cable cables) router.ports h.0;
+      each_row = every max_rows (row_spelling ports) (λ r. r.start + 1) (IsRow ports) (row_is ports) router.rows h.1.0;
+      each_list = every max_zone_lists zone_list_spelling (λ l. l.start + 1) (λ list. AreZones list.zones) list_zones router.lists h.1.1.0;
+    }
 
-cables_few : (i : Internet) → IsValue front_spelling i.cables → length i.cables ≤ most
+node_limits : (cables : ℕ) (node : Node) → IsValue (node_spelling cables) node → IsNodeWithinLimits cables node
+unfolding node_spelling
+node_limits cables node h =
+    let names = h.1.1.1.1.1.0 in
+    record {
+      cable = is_index cables node.cable h.0.1;
+      zone = name_is node.zone h.1.1.1.0;
+      names = counted_few max_names name_spelling (λ n. n.enumerator + 1) node.names names;
+      rising = rise (λ low name. IsValue (name_spelling low) name) (λ n. n.enumerator) name_above 0 node.names
+          (counted_each max_names name_spelling (λ n. n.enumerator + 1) node.names names);
+      each_name = every max_names name_spelling (λ n. n.enumerator + 1) IsNodeName node_name_is node.names names;
+    }
+
+-- ---- images
+
+pub front_cables : (cables : List Cable) → IsValue front_spelling cables
+    → IsValue (counted max_cables (λ low. cable_spelling) (λ c. 0)) cables
 unfolding front_spelling
-cables_few i h = counted_few most (λ low. cable_spelling) (λ c. 0) i.cables h.1.1.0
+front_cables cables h = h.1.1.0
 
 pub image_bounded : (i : Internet) → IsValue image_spelling i → IsBounded i
 unfolding image_spelling
-image_bounded i h = record {
-  cables = cables_few i h.0;
-  routers = counted_few most (λ low. router_spelling (length i.cables)) (λ r. 0) i.routers h.1.0;
-  nodes = counted_few most (λ low. node_spelling (length i.cables)) (λ n. 0) i.nodes h.1.1.0;
-  each = λ r router e. (
-      let one = one_passes (λ low. IsValue (router_spelling (length i.cables))) (λ r. 0) 0 i.routers r router (counted_each most (λ low. router_spelling (length i.cables)) (λ r. 0) i.routers h.1.0) e in
-      router_limits (length i.cables) router one.1
-      );
-}
+image_bounded i h =
+    let cables = length i.cables in
+    let first = front_cables i.cables h.0 in
+    record {
+      cables = counted_few max_cables (λ low. cable_spelling) (λ c. 0) i.cables first;
+      routers = counted_few max_routers (λ low. router_spelling cables) (λ r. 0) i.routers h.1.0;
+      nodes = counted_few max_nodes (λ low. node_spelling cables) (λ n. 0) i.nodes h.1.1.0;
+      each = every max_routers (λ low. router_spelling cables) (λ r. 0) (IsWithinLimits cables)
+          (λ low. router_limits cables) i.routers h.1.0;
+      each_cable = every max_cables (λ low. cable_spelling) (λ c. 0) (λ cable. AreZones cable.zones) (λ low. cable_zones) i.cables first;
+      each_node = every max_nodes (λ low. node_spelling cables) (λ n. 0) (IsNodeWithinLimits cables)
+          (λ low. node_limits cables) i.nodes h.1.1.0;
+    }

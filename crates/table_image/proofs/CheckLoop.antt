@@ -1,5 +1,6 @@
 -- Checking items one after the other, as a loop does.
-use Rattle.std.proofs.Common.{◌≡◌, ℕ, suc, ◌+◌, ◌*◌, ◌<◌, ◌≤◌, Bool, true, false, Result, Ok, Err, MatchResult, List, ◌∷◌, length, get_or, drop, refl, sym, ap, subst, ◌∙◌, arith, inl, inr}
+use Rattle.std.proofs.Common.{◌≡◌, ℕ, suc, ◌+◌, ◌*◌, ◌<◌, ◌≤◌, Bool, true, false, Result, Ok, Err, MatchResult, List, ◌∷◌, length, get_or}
+use Rattle.std.proofs.Common.{drop, refl, sym, ap, subst, ◌∙◌, arith, inl, inr}
 use Rattle.std.specs.List.{list_all}
 use Rattle.std.proofs.Math.Seq.{drop-cons}
 use Rattle.std.proofs.Math.ListN.{drop_of_length-le}
@@ -12,15 +13,17 @@ use Rattle.table_image.specs.Flaws.{Wrong}
 use Rattle.table_image.specs.Checking.{ListFlawAt, FlawAt}
 use Rattle.table_image.specs.declared.checking.Misfit.{Misfit}
 
--- a loop stands before item i, at a place, with the number that the item before it leaves
+-- a loop is before item i, at an offset, with the number that the item before it leaves
 pub record Standing {B : Type 0} (item : ℕ → Grammar Wrong true B) (next : B → ℕ) (xs : List B) (start i low at : ℕ) : Type 0 where
   pub passes : ListPasses (λ low. IsValue (item low)) next low (drop i xs) → ListPasses (λ low. IsValue (item low)) next 0 xs
-  pub ends : at + length (list_bytes (λ low. bytes_of (item low)) next low (drop i xs)) ≡ start + length (list_bytes (λ low. bytes_of (item low)) next 0 xs)
-  pub flawed : (q : ℕ) (w : Wrong) → ListFlawAt (λ low. FlawAt (item low)) (λ low. bytes_of (item low)) (λ low. IsValue (item low)) next low (drop i xs) at q w
+  pub ends : at + length (list_bytes (λ low. bytes_of (item low)) next low (drop i xs)) ≡ start + length (list_bytes (λ low. bytes_of (item
+      low)) next 0 xs)
+  pub flawed : (q : ℕ) (w : Wrong)
+      → ListFlawAt (λ low. FlawAt (item low)) (λ low. bytes_of (item low)) (λ low. IsValue (item low)) next low (drop i xs) at q w
       → ListFlawAt (λ low. FlawAt (item low)) (λ low. bytes_of (item low)) (λ low. IsValue (item low)) next 0 xs start q w
 
-pub stands : {B : Type 0} (item : ℕ → Grammar Wrong true B) (next : B → ℕ) (xs : List B) (start : ℕ) → Standing item next xs start 0 0 start
-stands item next xs start = record { passes = λ h. h; ends = refl; flawed = λ q w h. h }
+pub begins : {B : Type 0} (item : ℕ → Grammar Wrong true B) (next : B → ℕ) (xs : List B) (start : ℕ) → Standing item next xs start 0 0 start
+begins item next xs start = record { passes = λ h. h; ends = refl; flawed = λ q w h. h }
 
 -- item i, and those after it
 pub from_item : {B : Type 0} (xs : List B) (i : ℕ) (x : B) → i < length xs → x ≡ get_or xs i x → drop i xs ≡ x ∷ drop (i + 1) xs
@@ -28,36 +31,51 @@ from_item {B} xs i x lt e =
     let next : suc i ≡ i + 1 = omega arith in
     drop-cons xs i x lt ∙ (ap (λ (y : B). y ∷ drop (suc i) xs) (sym e) ∙ ap (λ (n : ℕ). x ∷ drop n xs) next)
 
-pub goes_on : {B : Type 0} (item : ℕ → Grammar Wrong true B) (next : B → ℕ) (xs : List B) (start i low at : ℕ) (x : B) (end : ℕ) → i < length xs → x ≡ get_or xs i x
-    → IsValue (item low) x → end ≡ at + length (bytes_of (item low) x) → Standing item next xs start i low at → Standing item next xs start (i + 1) (next x) end
+pub goes_on : {B : Type 0} (item : ℕ → Grammar Wrong true B) (next : B → ℕ) (xs : List B) (start i low at : ℕ) (x : B) (end : ℕ)
+    → i < length xs → x ≡ get_or xs i x
+    → IsValue (item low) x → end ≡ at + length (bytes_of (item low) x) → Standing item next xs start i low at → Standing item next xs start
+    (i + 1) (next x) end
 goes_on {B} item next xs start i low at x end lt e value far so_far =
     let spell = λ (low : ℕ). bytes_of (item low) in
     let here = from_item xs i x lt e in
     let ends = so_far.ends in
-    let spelled : length (list_bytes (λ low. bytes_of (item low)) next low (drop i xs)) ≡ length (bytes_of (item low) x) + length (list_bytes (λ low. bytes_of (item low)) next (next x) (drop (i + 1) xs)) =
-    ap (λ (ys : List B). length (list_bytes (λ low. bytes_of (item low)) next low ys)) here ∙ length-append (bytes_of (item low) x) (list_bytes (λ low. bytes_of (item low)) next (next x) (drop (i + 1) xs)) in
+    let spelled : length (list_bytes (λ low. bytes_of (item low)) next low (drop i xs)) ≡ length (bytes_of (item low) x) + length
+    (list_bytes (λ low. bytes_of (item low)) next (next x) (drop (i + 1) xs)) =
+    ap (λ (ys : List B). length (list_bytes (λ low. bytes_of (item low)) next low ys)) here ∙ length-append (bytes_of (item low) x)
+    (list_bytes (λ low. bytes_of (item low)) next (next x) (drop (i + 1) xs)) in
     record {
       passes = λ h. so_far.passes (subst (λ (ys : List B). ListPasses (λ low. IsValue (item low)) next low ys) (sym here) (value, h));
       ends = omega arith;
-      flawed = λ q w h. so_far.flawed q w (subst (λ (ys : List B). ListFlawAt (λ low. FlawAt (item low)) (λ low. bytes_of (item low)) (λ low. IsValue (item low)) next low ys at q w) (sym here)
-          (inr (value, subst (λ (n : ℕ). ListFlawAt (λ low. FlawAt (item low)) (λ low. bytes_of (item low)) (λ low. IsValue (item low)) next (next x) (drop (i + 1) xs) n q w) far h)));
+      flawed = λ q w h. so_far.flawed q w (subst (λ (ys : List B). ListFlawAt (λ low. FlawAt (item low)) (λ low. bytes_of (item low))
+          (λ low. IsValue (item low)) next low ys at q w) (sym here)
+          (inr (
+            value,
+            subst (λ (n : ℕ). ListFlawAt (λ low. FlawAt (item low)) (λ low. bytes_of (item low)) (λ low. IsValue (item low)) next
+                (next x) (drop (i + 1) xs) n q w) far h,
+          )));
     }
 
-pub stops : {B : Type 0} (item : ℕ → Grammar Wrong true B) (next : B → ℕ) (xs : List B) (start i low at : ℕ) (x : B) (q : ℕ) (w : Wrong) → i < length xs → x ≡ get_or xs i x
-    → FlawAt (item low) x at q w → Standing item next xs start i low at → ListFlawAt (λ low. FlawAt (item low)) (λ low. bytes_of (item low)) (λ low. IsValue (item low)) next 0 xs start q w
+pub stops : {B : Type 0} (item : ℕ → Grammar Wrong true B) (next : B → ℕ) (xs : List B) (start i low at : ℕ) (x : B) (q : ℕ) (w : Wrong)
+    → i < length xs → x ≡ get_or xs i x
+    → FlawAt (item low) x at q w → Standing item next xs start i low at → ListFlawAt (λ low. FlawAt (item low)) (λ low. bytes_of (item low))
+    (λ low. IsValue (item low)) next 0 xs start q w
 stops {B} item next xs start i low at x q w lt e flaw so_far =
-    so_far.flawed q w (subst (λ (ys : List B). ListFlawAt (λ low. FlawAt (item low)) (λ low. bytes_of (item low)) (λ low. IsValue (item low)) next low ys at q w) (sym (from_item xs i x lt e)) (inl flaw))
+    so_far.flawed q w (subst (λ (ys : List B). ListFlawAt (λ low. FlawAt (item low)) (λ low. bytes_of (item low)) (λ low. IsValue
+    (item low)) next low ys at q w) (sym (from_item xs i x lt e)) (inl flaw))
 
-pub is_through : {B : Type 0} (item : ℕ → Grammar Wrong true B) (next : B → ℕ) (xs : List B) (start i low at : ℕ) → length xs ≤ i → Standing item next xs start i low at
+pub is_through : {B : Type 0} (item : ℕ → Grammar Wrong true B) (next : B → ℕ) (xs : List B) (start i low at : ℕ) → length xs ≤ i
+    → Standing item next xs start i low at
     → ListPasses (λ low. IsValue (item low)) next 0 xs × (at ≡ start + length (list_bytes (λ low. bytes_of (item low)) next 0 xs))
 is_through {B} item next xs start i low at le so_far =
     let none = drop_of_length-le xs le in
     let ends = so_far.ends in
-    let nothing : length (list_bytes (λ low. bytes_of (item low)) next low (drop i xs)) ≡ 0 = ap (λ (ys : List B). length (list_bytes (λ low. bytes_of (item low)) next low ys)) none in
+    let nothing : length (list_bytes (λ low. bytes_of (item low)) next low (drop i xs)) ≡ 0 =
+    ap (λ (ys : List B). length (list_bytes (λ low. bytes_of (item low)) next low ys)) none in
     (so_far.passes (subst (λ (ys : List B). ListPasses (λ low. IsValue (item low)) next low ys) (sym none) tt), omega arith)
 
 -- each item passes a test that all pass
-pub one_of_all : {B : Type 0} (test : B → Bool) (xs : List B) (i : ℕ) (x : B) → list_all test xs ≡ true → i < length xs → x ≡ get_or xs i x → test x ≡ true
+pub one_of_all : {B : Type 0} (test : B → Bool) (xs : List B) (i : ℕ) (x : B) → list_all test xs ≡ true → i < length xs → x ≡ get_or xs i x
+    → test x ≡ true
 one_of_all {B} test xs i x all lt e =
     elim (test x) as (λ (b : Bool). test x ≡ b → b ≡ true) [
       | true ↦ λ h. refl

@@ -1,5 +1,6 @@
 -- What the checks of parts say, part by part.
-use Rattle.std.proofs.Common.{◌≡◌, ℕ, ◌+◌, ◌^◌, ◌<◌, ◌≤◌, Bool, true, false, ltb, ◌&&◌, not, nat_le, ◌-◌, List, [], length, Some, None, Result, Ok, Err, refl, sym, ap, subst, arith, inl, inr}
+use Rattle.std.proofs.Common.{◌≡◌, ℕ, ◌+◌, ◌^◌, ◌<◌, ◌≤◌, Bool, true, false, ltb, ◌&&◌, not, nat_le, ◌-◌, List, [], length, Some, None}
+use Rattle.std.proofs.Common.{Result, Ok, Err, refl, sym, ap, subst, arith, inl, inr}
 use Rattle.std.specs.List.{list_all}
 use Rattle.std.proofs.lemmas.Bool.{le-ltb, lt-ltb, and_parts, leb-true}
 use Rattle.std.proofs.lemmas.List.{length-append}
@@ -15,7 +16,8 @@ use Rattle.at_base.proofs.Fields.{length-field_bytes}
 use Rattle.at_base.specs.Spelling.{field_bytes, list_bytes, bytes_of, IsValue, Passes}
 use Rattle.table_image.specs.Flaws.{Wrong, Here, Before}
 use Rattle.table_image.specs.Tests.{within, below, rising, is_entity}
-use Rattle.table_image.specs.Spelling.{counted, text_spelling, zone_spelling, address_spelling, port_spelling, row_spelling, state_number, state_of}
+use Rattle.table_image.specs.Spelling.{counted, text_spelling, zone_spelling, address_spelling, port_spelling, row_spelling, state_number}
+use Rattle.table_image.specs.Spelling.{state_of}
 use Rattle.table_image.specs.Checking.{FlawAt, Checks, ChecksList}
 use Rattle.table_image.specs.declared.checking.Misfit.{Misfit}
 use Rattle.table_image.specs.declared.port.Port.{Port}
@@ -27,7 +29,8 @@ is_within least most c n low high =
     let b : ltb most n ≡ false = le-ltb _ _ high in
     rw (a, b) refl
 
-pub counted_checks : {B : Type 0} (limit : ℕ) (item : ℕ → Grammar Wrong true B) (next : B → ℕ) (xs : List B) (at : ℕ) (r : Result ℕ Misfit) → length xs ≤ limit → limit < 256
+pub counted_checks : {B : Type 0} (limit : ℕ) (item : ℕ → Grammar Wrong true B) (next : B → ℕ) (xs : List B) (at : ℕ) (r : Result ℕ Misfit)
+    → length xs ≤ limit → limit < 256
     → ChecksList item next xs (at + 1) r → Checks (counted limit item next) xs at r
 unfolding counted
 counted_checks limit item next xs at (Ok end) few small h =
@@ -78,10 +81,13 @@ pub record FitsPort (p : Port) : Type 0 where
 pub port_passes : (cables : ℕ) (p : Port) (at : ℕ) → FitsPort p → p.cable < cables → Checks (port_spelling cables) p at (Ok (at + 10))
 unfolding port_spelling address_spelling
 port_passes cables p at f lt =
-    let hw = f.hardware in
-    ((((f.cable, is_below cables p.cable lt), (address_value p.address f.net f.node, ((f.hardware, refl), refl)))), (let len = length-append p.hardware.0 [] in omega arith))
+    let hw = f.hardware in (
+      (((f.cable, is_below cables p.cable lt), (address_value p.address f.net f.node, ((f.hardware, refl), refl)))),
+      (let len = length-append p.hardware.0 [] in omega arith),
+    )
 
-pub port_misses : (cables : ℕ) (p : Port) (at : ℕ) → FitsPort p → cables ≤ p.cable → Checks (port_spelling cables) p at (Err (record { place = at; cause = Index }))
+pub port_misses : (cables : ℕ) (p : Port) (at : ℕ) → FitsPort p → cables ≤ p.cable → Checks (port_spelling cables) p at (Err
+    (record { place = at; cause = Index }))
 unfolding port_spelling
 port_misses cables p at f le = (at, Here Index, inl (f.cable, not_below cables p.cable le, refl), refl)
 
@@ -106,7 +112,8 @@ pub record FitsRow (row : Row) : Type 0 where
   pub net : row.next.net < 2 ^ 16
   pub node : row.next.node < 2 ^ 8
 
-pub row_passes : (ports low : ℕ) (row : Row) (at : ℕ) → FitsRow row → low ≤ row.start → row.distance ≤ 31 → row.port < ports → Checks (row_spelling ports low) row at (Ok (at + 10))
+pub row_passes : (ports low : ℕ) (row : Row) (at : ℕ) → FitsRow row → low ≤ row.start → row.distance ≤ 31 → row.port < ports
+    → Checks (row_spelling ports low) row at (Ok (at + 10))
 unfolding row_spelling address_spelling
 row_passes ports low row at f rise near there =
     let small = state_small row.state in (
@@ -122,7 +129,14 @@ row_passes ports low row at f rise near there =
                 address_value row.next f.net f.node,
                 (
                   (omega arith, is_within 0 3 Value (state_number row.state) (omega arith) small),
-                  ap (λ (s : State). record { start = row.start; end = row.end; distance = row.distance; port = row.port; next = row.next; state = s }) (state_back row.state),
+                  ap (λ (s : State). record {
+                    start = row.start;
+                    end = row.end;
+                    distance = row.distance;
+                    port = row.port;
+                    next = row.next;
+                    state = s;
+                  }) (state_back row.state),
                 ),
               ),
             ),
@@ -132,19 +146,54 @@ row_passes ports low row at f rise near there =
       refl,
     )
 
-pub row_falls : (ports low : ℕ) (row : Row) (at : ℕ) → FitsRow row → row.start < low → Checks (row_spelling ports low) row at (Err (record { place = at; cause = Order }))
+pub row_falls : (ports low : ℕ) (row : Row) (at : ℕ) → FitsRow row → row.start < low → Checks (row_spelling ports low) row at (Err
+    (record { place = at; cause = Order }))
 unfolding row_spelling
 row_falls ports low row at f lt = (at, Here Order, inl (f.start, falls low row.start lt, refl), refl)
 
-pub row_far : (ports low : ℕ) (row : Row) (at : ℕ) → FitsRow row → low ≤ row.start → 31 < row.distance → Checks (row_spelling ports low) row at (Err (record { place = at + 4; cause = Value }))
+pub row_far : (ports low : ℕ) (row : Row) (at : ℕ) → FitsRow row → low ≤ row.start → 31 < row.distance → Checks
+    (row_spelling ports low) row at (Err (record { place = at + 4; cause = Value }))
 unfolding row_spelling
-row_far ports low row at f rise far =
-    (at + 4, Here Value, inr ((f.start, rises low row.start rise), inr ((f.end, refl), inl (f.distance, too_high 0 31 Value row.distance (omega arith) far, omega arith))), refl)
+row_far ports low row at f rise far = (
+  at + 4,
+  Here Value,
+  inr (
+    (f.start, rises low row.start rise),
+    inr (
+      (f.end, refl),
+      inl (
+        f.distance,
+        too_high 0 31 Value row.distance
+            (omega arith) far,
+        omega arith,
+      ),
+    ),
+  ),
+  refl,
+)
 
-pub row_misses : (ports low : ℕ) (row : Row) (at : ℕ) → FitsRow row → low ≤ row.start → row.distance ≤ 31 → ports ≤ row.port → Checks (row_spelling ports low) row at (Err (record { place = at + 5; cause = Index }))
+pub row_misses : (ports low : ℕ) (row : Row) (at : ℕ) → FitsRow row → low ≤ row.start → row.distance ≤ 31 → ports ≤ row.port → Checks
+    (row_spelling ports low) row at (Err (record { place = at + 5; cause = Index }))
 unfolding row_spelling
-row_misses ports low row at f rise near le =
-    (at + 5, Here Index, inr ((f.start, rises low row.start rise), inr ((f.end, refl), inr ((f.distance, is_within 0 31 Value row.distance (omega arith) near), inl (f.port, not_below ports row.port le, omega arith)))), refl)
+row_misses ports low row at f rise near le = (
+  at + 5,
+  Here Index,
+  inr (
+    (f.start, rises low row.start rise),
+    inr (
+      (f.end, refl),
+      inr (
+        (
+          f.distance,
+          is_within 0 31 Value row.distance
+              (omega arith) near,
+        ),
+        inl (f.port, not_below ports row.port le, omega arith),
+      ),
+    ),
+  ),
+  refl,
+)
 
 -- ---- texts and zones
 
@@ -172,7 +221,8 @@ name_passes s at end h far =
     let spelled = length-text is_name s in
     (text_value is_name s h len.0 len.1, omega arith)
 
-pub entity_passes : (s : List ℕ) (at end : ℕ) → is_entity s ≡ true → 1 ≤ length s → length s ≤ 32 → end ≡ at + 1 + length s → Checks (text_spelling is_entity) s at (Ok end)
+pub entity_passes : (s : List ℕ) (at end : ℕ) → is_entity s ≡ true → 1 ≤ length s → length s ≤ 32 → end ≡ at + 1 + length s
+    → Checks (text_spelling is_entity) s at (Ok end)
 entity_passes s at end h some few far =
     let spelled = length-text is_entity s in
     (text_value is_entity s h some few, omega arith)
@@ -181,17 +231,25 @@ pub entity_empty : (s : List ℕ) (at : ℕ) → length s ≡ 0 → Checks (text
 unfolding text_spelling
 entity_empty s at none = (at, Here Name, inl (omega arith, too_low 1 32 Name (length s) (omega arith), refl), refl)
 
-pub entity_wrong : (s : List ℕ) (at : ℕ) → is_entity s ≡ false → 1 ≤ length s → length s ≤ 32 → Checks (text_spelling is_entity) s at (Err (record { place = at; cause = Name }))
+pub entity_wrong : (s : List ℕ) (at : ℕ) → is_entity s ≡ false → 1 ≤ length s → length s ≤ 32 → Checks (text_spelling is_entity) s at (Err
+    (record { place = at; cause = Name }))
 unfolding text_spelling
 entity_wrong s at bad some few =
     let fits : length s < 256 = omega arith in
-    let back : at + 1 - 1 ≡ at = omega arith in
-    (at + 1, Before Name, inr ((fits, is_within 1 32 Name (length s) some few), inl (refl, rw bad refl, refl)), ap (λ (n : ℕ). record { place = n; cause = Name }) (sym back))
+    let back : at + 1 - 1 ≡ at = omega arith in (
+      at + 1,
+      Before Name,
+      inr ((fits, is_within 1 32 Name (length s) some few), inl (refl, rw bad refl, refl)),
+      ap
+          (λ (n : ℕ). record { place = n; cause = Name }) (sym back),
+    )
 
 -- ---- parts with lists
 
 -- one part after another that was passed
-pub after_part : {A B : Type 0} (g : Grammar Wrong true B) (get : A → B) (after : B → Grammar Wrong true A) (y : A) (at middle : ℕ) (r : Result ℕ Misfit) → Checks g (get y) at (Ok middle) → Checks (after (get y)) y middle r
+pub after_part : {A B : Type 0} (g : Grammar Wrong true B) (get : A → B) (after : B
+    → Grammar Wrong true A) (y : A) (at middle : ℕ) (r : Result ℕ Misfit) → Checks g (get y) at (Ok middle) → Checks (after
+    (get y)) y middle r
     → Checks (part g get after) y at r
 after_part g get after y at middle (Ok end) h k =
     let far = h.1 in let further = k.1 in
@@ -200,11 +258,13 @@ after_part g get after y at middle (Ok end) h k =
 after_part g get after y at middle (Err m) h k = (k.0, k.1, inr (h.0, subst (λ (n : ℕ). FlawAt (after (get y)) y n k.0 k.1) h.1 k.2), k.3)
 
 -- a part that has a flaw
-pub in_part : {A B : Type 0} (g : Grammar Wrong true B) (get : A → B) (after : B → Grammar Wrong true A) (y : A) (at : ℕ) (m : Misfit) → Checks g (get y) at (Err m) → Checks (part g get after) y at (Err m)
+pub in_part : {A B : Type 0} (g : Grammar Wrong true B) (get : A → B) (after : B → Grammar Wrong true A) (y : A) (at : ℕ) (m : Misfit)
+    → Checks g (get y) at (Err m) → Checks (part g get after) y at (Err m)
 in_part g get after y at m h = (h.0, h.1, inl h.2, h.3)
 
 -- a field that passes, and then the others
-pub after_field : {A V : Type 0} (fd : Field Wrong V) (get : A → V) (after : V → Grammar Wrong true A) (y : A) (at : ℕ) (r : Result ℕ Misfit) → Passes fd (get y) → Checks (after (get y)) y (at + field_len fd) r
+pub after_field : {A V : Type 0} (fd : Field Wrong V) (get : A → V) (after : V
+    → Grammar Wrong true A) (y : A) (at : ℕ) (r : Result ℕ Misfit) → Passes fd (get y) → Checks (after (get y)) y (at + field_len fd) r
     → Checks (field fd get after) y at r
 after_field fd get after y at (Ok end) p k =
     let further = k.1 in
@@ -218,6 +278,7 @@ pub at_end : {A : Type 0} (x y : A) (at : ℕ) → x ≡ y → Checks (done x) y
 at_end x y at e = (e, omega arith)
 
 -- the last part
-pub last_part : {A B : Type 0} (g : Grammar Wrong true B) (get : A → B) (make : B → A) (y : A) (at : ℕ) (r : Result ℕ Misfit) → make (get y) ≡ y → Checks g (get y) at r → Checks (part g get (λ v. done (make v))) y at r
+pub last_part : {A B : Type 0} (g : Grammar Wrong true B) (get : A → B) (make : B → A) (y : A) (at : ℕ) (r : Result ℕ Misfit)
+    → make (get y) ≡ y → Checks g (get y) at r → Checks (part g get (λ v. done (make v))) y at r
 last_part g get make y at (Ok end) e h = after_part g get (λ v. done (make v)) y at end (Ok end) h (at_end (make (get y)) y end e)
 last_part g get make y at (Err m) e h = in_part g get (λ v. done (make v)) y at m h

@@ -1,5 +1,6 @@
 -- What the checks of parts with lists say.
-use Rattle.std.proofs.Common.{◌≡◌, ℕ, ◌+◌, ◌^◌, ◌<◌, ◌≤◌, Bool, true, false, ltb, ◌&&◌, nat_le, List, [], ◌∷◌, length, Some, None, Result, Ok, Err, refl, ap, subst, arith, inl, inr}
+use Rattle.std.proofs.Common.{◌≡◌, ℕ, ◌+◌, ◌^◌, ◌<◌, ◌≤◌, Bool, true, false, ltb, ◌&&◌, nat_le, List, [], ◌∷◌, length, Some, None, Result}
+use Rattle.std.proofs.Common.{Ok, Err, refl, ap, subst, arith, inl, inr}
 use Rattle.std.specs.List.{list_all}
 use Rattle.std.proofs.lemmas.Bool.{and_parts, leb-true, le-ltb, lt-ltb}
 use Rattle.std.specs.Prelude.{◌⊎◌}
@@ -11,8 +12,10 @@ use Rattle.at_base.specs.Spelling.{bytes_of, IsValue, Passes}
 use Rattle.table_image.specs.Flaws.{Wrong, Here}
 use Rattle.table_image.specs.Tests.{enumerator, is_entity}
 use Rattle.table_image.specs.Short.{short_list, short_router}
-use Rattle.table_image.specs.Limits.{most, most_ports, most_names}
-use Rattle.table_image.specs.Spelling.{counted, text_spelling, zone_spelling, zones_spelling, address_spelling, port_spelling, row_spelling, zone_list_spelling, flag_number, flag_of, cable_spelling, router_spelling, own_router_spelling, name_spelling, node_spelling, front_spelling, image_spelling}
+use Rattle.table_image.specs.Limits.{max_cables, max_routers, max_nodes, max_ports, max_rows, max_zone_lists, max_names}
+use Rattle.table_image.specs.Spelling.{counted, text_spelling, zone_spelling, zones_spelling, address_spelling, port_spelling, row_spelling}
+use Rattle.table_image.specs.Spelling.{zone_list_spelling, flag_number, flag_of, cable_spelling, router_spelling, own_router_spelling}
+use Rattle.table_image.specs.Spelling.{name_spelling, node_spelling, front_spelling, image_spelling}
 use Rattle.table_image.specs.Internet.{Internet}
 use Rattle.table_image.specs.Checking.{Checks}
 use Rattle.table_image.specs.declared.checking.Misfit.{Misfit}
@@ -21,36 +24,45 @@ use Rattle.table_image.specs.declared.zone_list.ZoneList.{ZoneList}
 use Rattle.table_image.specs.declared.router.Router.{Router}
 use Rattle.table_image.specs.declared.node.NodeName.{NodeName}
 use Rattle.table_image.specs.declared.node.Node.{Node}
-use Rattle.table_image.proofs.Checked.{is_within, too_low, too_high, rises, falls, is_below, not_below, address_value, after_part, in_part, after_field, last_part}
+use Rattle.table_image.proofs.Checked.{is_within, too_low, too_high, rises, falls, is_below, not_below, address_value, after_part, in_part}
+use Rattle.table_image.proofs.Checked.{after_field, last_part}
 
 -- a check that says so
 record Says {A : Type 0} (g : Grammar Wrong true A) (y : A) (at : ℕ) (r : Result ℕ Misfit) : Type 0 where
   it : Checks g y at r
 
-says_field : {A V : Type 0} (fd : Field Wrong V) (get : A → V) (after : V → Grammar Wrong true A) (y : A) (at : ℕ) (r : Result ℕ Misfit) → Passes fd (get y) → Says (after (get y)) y (at + field_len fd) r
+says_field : {A V : Type 0} (fd : Field Wrong V) (get : A → V) (after : V → Grammar Wrong true A) (y : A) (at : ℕ) (r : Result ℕ Misfit)
+    → Passes fd (get y) → Says (after (get y)) y (at + field_len fd) r
     → Says (field fd get after) y at r
 says_field fd get after y at r p k = record { it = after_field fd get after y at r p k.it }
 
-says_part : {A B : Type 0} (g : Grammar Wrong true B) (get : A → B) (after : B → Grammar Wrong true A) (y : A) (at middle : ℕ) (r : Result ℕ Misfit) → Checks g (get y) at (Ok middle) → Says (after (get y)) y middle r
+says_part : {A B : Type 0} (g : Grammar Wrong true B) (get : A → B) (after : B
+    → Grammar Wrong true A) (y : A) (at middle : ℕ) (r : Result ℕ Misfit) → Checks g (get y) at (Ok middle) → Says (after
+    (get y)) y middle r
     → Says (part g get after) y at r
 says_part g get after y at middle r h k = record { it = after_part g get after y at middle r h k.it }
 
-says_in_part : {A B : Type 0} (g : Grammar Wrong true B) (get : A → B) (after : B → Grammar Wrong true A) (y : A) (at : ℕ) (m : Misfit) → Checks g (get y) at (Err m) → Says (part g get after) y at (Err m)
+says_in_part : {A B : Type 0} (g : Grammar Wrong true B) (get : A → B) (after : B → Grammar Wrong true A) (y : A) (at : ℕ) (m : Misfit)
+    → Checks g (get y) at (Err m) → Says (part g get after) y at (Err m)
 says_in_part g get after y at m h = record { it = in_part g get after y at m h }
 
-says_last : {A B : Type 0} (g : Grammar Wrong true B) (get : A → B) (make : B → A) (y : A) (at : ℕ) (r : Result ℕ Misfit) → make (get y) ≡ y → Checks g (get y) at r → Says (part g get (λ v. done (make v))) y at r
+says_last : {A B : Type 0} (g : Grammar Wrong true B) (get : A → B) (make : B → A) (y : A) (at : ℕ) (r : Result ℕ Misfit) → make (get y) ≡ y
+    → Checks g (get y) at r → Says (part g get (λ v. done (make v))) y at r
 says_last g get make y at r e h = record { it = last_part g get make y at r e h }
 
 moved : {A : Type 0} (g : Grammar Wrong true A) (y : A) (a b : ℕ) (r : Result ℕ Misfit) → a ≡ b → Checks g y a r → Checks g y b r
 moved g y a b r e = subst (λ (n : ℕ). Checks g y n r) e
 
-cable_says : (c : Cable) (at : ℕ) (r : Result ℕ Misfit) → c.start < 2 ^ 16 → c.end < 2 ^ 16 → Checks zones_spelling c.zones (at + 4) r → Says cable_spelling c at r
+cable_says : (c : Cable) (at : ℕ) (r : Result ℕ Misfit) → c.start < 2 ^ 16 → c.end < 2 ^ 16 → Checks zones_spelling c.zones (at + 4) r
+    → Says cable_spelling c at r
 unfolding cable_spelling
 cable_says c at r start end h =
     says_field _ _ _ c at r (start, refl) (says_field _ _ _ c (at + 2) r (end, refl)
-    (says_last zones_spelling (λ c. c.zones) (λ names. record { start = c.start; end = c.end; zones = names }) c (at + 2 + 2) r refl (moved zones_spelling c.zones (at + 4) (at + 2 + 2) r (omega arith) h)))
+    (says_last zones_spelling (λ c. c.zones) (λ names. record { start = c.start; end = c.end; zones = names }) c (at + 2 + 2) r refl
+    (moved zones_spelling c.zones (at + 4) (at + 2 + 2) r (omega arith) h)))
 
-pub cable_checks : (c : Cable) (at : ℕ) (r : Result ℕ Misfit) → c.start < 2 ^ 16 → c.end < 2 ^ 16 → Checks zones_spelling c.zones (at + 4) r → Checks cable_spelling c at r
+pub cable_checks : (c : Cable) (at : ℕ) (r : Result ℕ Misfit) → c.start < 2 ^ 16 → c.end < 2 ^ 16 → Checks zones_spelling c.zones (at + 4) r
+    → Checks cable_spelling c at r
 cable_checks c at r start end h = (cable_says c at r start end h).it
 
 flag_small : (b : Bool) → flag_number b ≤ 1
@@ -61,20 +73,29 @@ flag_back : (b : Bool) → flag_of (flag_number b) ≡ b
 flag_back true = refl
 flag_back false = refl
 
-list_says : (low : ℕ) (l : ZoneList) (at : ℕ) (r : Result ℕ Misfit) → l.start < 2 ^ 16 → l.end < 2 ^ 16 → low ≤ l.start → Checks zones_spelling l.zones (at + 5) r → Says (zone_list_spelling low) l at r
+list_says : (low : ℕ) (l : ZoneList) (at : ℕ) (r : Result ℕ Misfit) → l.start < 2 ^ 16 → l.end < 2 ^ 16 → low ≤ l.start
+    → Checks zones_spelling l.zones (at + 5) r → Says (zone_list_spelling low) l at r
 unfolding zone_list_spelling
 list_says low l at r start end rise h =
     let small = flag_small l.complete in
     says_field _ _ _ l at r (start, rises low l.start rise) (says_field _ _ _ l (at + 2) r (end, refl)
     (says_field _ _ _ l (at + 2 + 2) r (omega arith, is_within 0 1 Value (flag_number l.complete) (omega arith) small)
-    (says_last zones_spelling (λ l. l.zones) (λ names. record { start = l.start; end = l.end; complete = flag_of (flag_number l.complete); zones = names }) l (at + 2 + 2 + 1) r
+    (says_last zones_spelling (λ l. l.zones) (λ names. record {
+      start = l.start;
+      end = l.end;
+      complete = flag_of
+          (flag_number l.complete);
+      zones = names;
+    }) l (at + 2 + 2 + 1) r
     (ap (λ (b : Bool). record { start = l.start; end = l.end; complete = b; zones = l.zones }) (flag_back l.complete))
     (moved zones_spelling l.zones (at + 5) (at + 2 + 2 + 1) r (omega arith) h))))
 
-pub list_checks : (low : ℕ) (l : ZoneList) (at : ℕ) (r : Result ℕ Misfit) → l.start < 2 ^ 16 → l.end < 2 ^ 16 → low ≤ l.start → Checks zones_spelling l.zones (at + 5) r → Checks (zone_list_spelling low) l at r
+pub list_checks : (low : ℕ) (l : ZoneList) (at : ℕ) (r : Result ℕ Misfit) → l.start < 2 ^ 16 → l.end < 2 ^ 16 → low ≤ l.start
+    → Checks zones_spelling l.zones (at + 5) r → Checks (zone_list_spelling low) l at r
 list_checks low l at r start end rise h = (list_says low l at r start end rise h).it
 
-pub list_falls : (low : ℕ) (l : ZoneList) (at : ℕ) → l.start < 2 ^ 16 → l.start < low → Checks (zone_list_spelling low) l at (Err (record { place = at; cause = Order }))
+pub list_falls : (low : ℕ) (l : ZoneList) (at : ℕ) → l.start < 2 ^ 16 → l.start < low → Checks (zone_list_spelling low) l at (Err
+    (record { place = at; cause = Order }))
 unfolding zone_list_spelling
 list_falls low l at start lt = (at, Here Order, inl (start, falls low l.start lt, refl), refl)
 
@@ -94,66 +115,105 @@ pub record FitsName (n : NodeName) : Type 0 where
   pub socket : n.socket < 2 ^ 8
   pub enumerator : n.enumerator < 2 ^ 8
 
-pub name_socket : (low : ℕ) (n : NodeName) (at : ℕ) → n.socket < 2 ^ 8 → (n.socket < 1) ⊎ ((1 ≤ n.socket) × (254 < n.socket)) → Checks (name_spelling low) n at (Err (record { place = at; cause = Value }))
+pub name_socket : (low : ℕ) (n : NodeName) (at : ℕ) → n.socket < 2 ^ 8 → (n.socket < 1) ⊎ ((1 ≤ n.socket) × (254 < n.socket)) → Checks
+    (name_spelling low) n at (Err (record { place = at; cause = Value }))
 unfolding name_spelling
 name_socket low n at f (inl none) = (at, Here Value, inl (f, too_low 1 254 Value n.socket none, refl), refl)
 name_socket low n at f (inr h) = (at, Here Value, inl (f, too_high 1 254 Value n.socket h.0 h.1, refl), refl)
 
-pub name_zero : (low : ℕ) (n : NodeName) (at : ℕ) → FitsName n → 1 ≤ n.socket → n.socket ≤ 254 → n.enumerator < 1 → Checks (name_spelling low) n at (Err (record { place = at + 1; cause = Value }))
+pub name_zero : (low : ℕ) (n : NodeName) (at : ℕ) → FitsName n → 1 ≤ n.socket → n.socket ≤ 254 → n.enumerator < 1 → Checks
+    (name_spelling low) n at (Err (record { place = at + 1; cause = Value }))
 unfolding name_spelling
-name_zero low n at f some few none = (at + 1, Here Value, inr ((f.socket, is_within 1 254 Value n.socket some few), inl (f.enumerator, no_enumerator low n.enumerator none, refl)), refl)
+name_zero low n at f some few none = (
+  at + 1,
+  Here Value,
+  inr (
+    (f.socket, is_within 1 254 Value n.socket some few),
+    inl
+        (f.enumerator, no_enumerator low n.enumerator none, refl),
+  ),
+  refl,
+)
 
-pub name_falls : (low : ℕ) (n : NodeName) (at : ℕ) → FitsName n → 1 ≤ n.socket → n.socket ≤ 254 → 1 ≤ n.enumerator → n.enumerator < low → Checks (name_spelling low) n at (Err (record { place = at + 1; cause = Order }))
+pub name_falls : (low : ℕ) (n : NodeName) (at : ℕ) → FitsName n → 1 ≤ n.socket → n.socket ≤ 254 → 1 ≤ n.enumerator → n.enumerator < low
+    → Checks (name_spelling low) n at (Err (record { place = at + 1; cause = Order }))
 unfolding name_spelling
-name_falls low n at f some few first lt = (at + 1, Here Order, inr ((f.socket, is_within 1 254 Value n.socket some few), inl (f.enumerator, falling low n.enumerator first lt, refl)), refl)
+name_falls low n at f some few first lt = (
+  at + 1,
+  Here Order,
+  inr (
+    (f.socket, is_within 1 254 Value n.socket some few),
+    inl
+        (f.enumerator, falling low n.enumerator first lt, refl),
+  ),
+  refl,
+)
 
-name_says_object : (low : ℕ) (n : NodeName) (at : ℕ) (m : Misfit) → FitsName n → 1 ≤ n.socket → n.socket ≤ 254 → 1 ≤ n.enumerator → low ≤ n.enumerator → Checks (text_spelling is_entity) n.object (at + 2) (Err m) → Says (name_spelling low) n at (Err m)
+name_says_object : (low : ℕ) (n : NodeName) (at : ℕ) (m : Misfit) → FitsName n → 1 ≤ n.socket → n.socket ≤ 254 → 1 ≤ n.enumerator
+    → low ≤ n.enumerator → Checks (text_spelling is_entity) n.object (at + 2) (Err m) → Says (name_spelling low) n at (Err m)
 unfolding name_spelling
 name_says_object low n at m f some few first le h =
-    says_field _ _ _ n at (Err m) (f.socket, is_within 1 254 Value n.socket some few) (says_field _ _ _ n (at + 1) (Err m) (f.enumerator, enumerates low n.enumerator first le)
+    says_field _ _ _ n at (Err m) (f.socket, is_within 1 254 Value n.socket some few) (says_field _ _ _ n (at + 1) (Err m)
+    (f.enumerator, enumerates low n.enumerator first le)
     (says_in_part _ _ _ n (at + 1 + 1) m (moved (text_spelling is_entity) n.object (at + 2) (at + 1 + 1) (Err m) (omega arith) h)))
 
-pub name_object : (low : ℕ) (n : NodeName) (at : ℕ) (m : Misfit) → FitsName n → 1 ≤ n.socket → n.socket ≤ 254 → 1 ≤ n.enumerator → low ≤ n.enumerator → Checks (text_spelling is_entity) n.object (at + 2) (Err m) → Checks (name_spelling low) n at (Err m)
+pub name_object : (low : ℕ) (n : NodeName) (at : ℕ) (m : Misfit) → FitsName n → 1 ≤ n.socket → n.socket ≤ 254 → 1 ≤ n.enumerator
+    → low ≤ n.enumerator → Checks (text_spelling is_entity) n.object (at + 2) (Err m) → Checks (name_spelling low) n at (Err m)
 name_object low n at m f some few first le h = (name_says_object low n at m f some few first le h).it
 
-name_says_kind : (low : ℕ) (n : NodeName) (at middle : ℕ) (r : Result ℕ Misfit) → FitsName n → 1 ≤ n.socket → n.socket ≤ 254 → 1 ≤ n.enumerator → low ≤ n.enumerator → Checks (text_spelling is_entity) n.object (at + 2) (Ok middle)
+name_says_kind : (low : ℕ) (n : NodeName) (at middle : ℕ) (r : Result ℕ Misfit) → FitsName n → 1 ≤ n.socket → n.socket ≤ 254
+    → 1 ≤ n.enumerator → low ≤ n.enumerator → Checks (text_spelling is_entity) n.object (at + 2) (Ok middle)
     → Checks (text_spelling is_entity) n.kind middle r → Says (name_spelling low) n at r
 unfolding name_spelling
 name_says_kind low n at middle r f some few first le h k =
-    says_field _ _ _ n at r (f.socket, is_within 1 254 Value n.socket some few) (says_field _ _ _ n (at + 1) r (f.enumerator, enumerates low n.enumerator first le)
+    says_field _ _ _ n at r (f.socket, is_within 1 254 Value n.socket some few) (says_field _ _ _ n (at + 1) r
+    (f.enumerator, enumerates low n.enumerator first le)
     (says_part _ _ _ n (at + 1 + 1) middle r (moved (text_spelling is_entity) n.object (at + 2) (at + 1 + 1) (Ok middle) (omega arith) h)
-    (says_last (text_spelling is_entity) (λ n. n.kind) (λ kind. record { socket = n.socket; enumerator = n.enumerator; object = n.object; kind = kind }) n middle r refl k)))
+    (says_last (text_spelling is_entity) (λ n. n.kind)
+    (λ kind. record { socket = n.socket; enumerator = n.enumerator; object = n.object; kind = kind }) n middle r refl k)))
 
-pub name_kind : (low : ℕ) (n : NodeName) (at middle : ℕ) (r : Result ℕ Misfit) → FitsName n → 1 ≤ n.socket → n.socket ≤ 254 → 1 ≤ n.enumerator → low ≤ n.enumerator → Checks (text_spelling is_entity) n.object (at + 2) (Ok middle)
+pub name_kind : (low : ℕ) (n : NodeName) (at middle : ℕ) (r : Result ℕ Misfit) → FitsName n → 1 ≤ n.socket → n.socket ≤ 254
+    → 1 ≤ n.enumerator → low ≤ n.enumerator → Checks (text_spelling is_entity) n.object (at + 2) (Ok middle)
     → Checks (text_spelling is_entity) n.kind middle r → Checks (name_spelling low) n at r
 name_kind low n at middle r f some few first le h k = (name_says_kind low n at middle r f some few first le h k).it
 
 -- ---- routers
 
-router_says_ports : (cables : ℕ) (x : Router) (at : ℕ) (m : Misfit) → Checks (counted most_ports (λ low. port_spelling cables) (λ p. 0)) x.ports at (Err m) → Says (router_spelling cables) x at (Err m)
+router_says_ports : (cables : ℕ) (x : Router) (at : ℕ) (m : Misfit)
+    → Checks (counted max_ports (λ low. port_spelling cables) (λ p. 0)) x.ports at (Err m) → Says (router_spelling cables) x at (Err m)
 unfolding router_spelling
 router_says_ports cables x at m h = says_in_part _ _ _ x at m h
 
-pub router_ports : (cables : ℕ) (x : Router) (at : ℕ) (m : Misfit) → Checks (counted most_ports (λ low. port_spelling cables) (λ p. 0)) x.ports at (Err m) → Checks (router_spelling cables) x at (Err m)
+pub router_ports : (cables : ℕ) (x : Router) (at : ℕ) (m : Misfit)
+    → Checks (counted max_ports (λ low. port_spelling cables) (λ p. 0)) x.ports at (Err m) → Checks (router_spelling cables) x at (Err m)
 router_ports cables x at m h = (router_says_ports cables x at m h).it
 
-router_says_rows : (cables : ℕ) (x : Router) (at middle : ℕ) (m : Misfit) → Checks (counted most_ports (λ low. port_spelling cables) (λ p. 0)) x.ports at (Ok middle)
-    → Checks (counted most (row_spelling (length x.ports)) (λ r. r.start + 1)) x.rows middle (Err m) → Says (router_spelling cables) x at (Err m)
+router_says_rows : (cables : ℕ) (x : Router) (at middle : ℕ) (m : Misfit)
+    → Checks (counted max_ports (λ low. port_spelling cables) (λ p. 0)) x.ports at (Ok middle)
+    → Checks (counted max_rows (row_spelling (length x.ports)) (λ r. r.start + 1)) x.rows middle (Err m) → Says
+    (router_spelling cables) x at (Err m)
 unfolding router_spelling
 router_says_rows cables x at middle m h k = says_part _ _ _ x at middle (Err m) h (says_in_part _ _ _ x middle m k)
 
-pub router_rows : (cables : ℕ) (x : Router) (at middle : ℕ) (m : Misfit) → Checks (counted most_ports (λ low. port_spelling cables) (λ p. 0)) x.ports at (Ok middle)
-    → Checks (counted most (row_spelling (length x.ports)) (λ r. r.start + 1)) x.rows middle (Err m) → Checks (router_spelling cables) x at (Err m)
+pub router_rows : (cables : ℕ) (x : Router) (at middle : ℕ) (m : Misfit)
+    → Checks (counted max_ports (λ low. port_spelling cables) (λ p. 0)) x.ports at (Ok middle)
+    → Checks (counted max_rows (row_spelling (length x.ports)) (λ r. r.start + 1)) x.rows middle (Err m) → Checks
+    (router_spelling cables) x at (Err m)
 router_rows cables x at middle m h k = (router_says_rows cables x at middle m h k).it
 
-router_says : (cables : ℕ) (x : Router) (at a b : ℕ) (r : Result ℕ Misfit) → Checks (counted most_ports (λ low. port_spelling cables) (λ p. 0)) x.ports at (Ok a)
-    → Checks (counted most (row_spelling (length x.ports)) (λ r. r.start + 1)) x.rows a (Ok b) → Checks (counted most zone_list_spelling (λ l. l.start + 1)) x.lists b r → Says (router_spelling cables) x at r
+router_says : (cables : ℕ) (x : Router) (at a b : ℕ) (r : Result ℕ Misfit)
+    → Checks (counted max_ports (λ low. port_spelling cables) (λ p. 0)) x.ports at (Ok a)
+    → Checks (counted max_rows (row_spelling (length x.ports)) (λ r. r.start + 1)) x.rows a (Ok b) → Checks
+    (counted max_zone_lists zone_list_spelling (λ l. l.start + 1)) x.lists b r → Says (router_spelling cables) x at r
 unfolding router_spelling
 router_says cables x at a b r h k j =
-    says_part _ _ _ x at a r h (says_part _ _ _ x a b r k (says_last (counted most zone_list_spelling (λ l. l.start + 1)) (λ x. x.lists) (λ lists. record { ports = x.ports; rows = x.rows; lists = lists }) x b r refl j))
+    says_part _ _ _ x at a r h (says_part _ _ _ x a b r k (says_last (counted max_zone_lists zone_list_spelling (λ l. l.start + 1))
+    (λ x. x.lists) (λ lists. record { ports = x.ports; rows = x.rows; lists = lists }) x b r refl j))
 
-pub router_checks : (cables : ℕ) (x : Router) (at a b : ℕ) (r : Result ℕ Misfit) → Checks (counted most_ports (λ low. port_spelling cables) (λ p. 0)) x.ports at (Ok a)
-    → Checks (counted most (row_spelling (length x.ports)) (λ r. r.start + 1)) x.rows a (Ok b) → Checks (counted most zone_list_spelling (λ l. l.start + 1)) x.lists b r → Checks (router_spelling cables) x at r
+pub router_checks : (cables : ℕ) (x : Router) (at a b : ℕ) (r : Result ℕ Misfit)
+    → Checks (counted max_ports (λ low. port_spelling cables) (λ p. 0)) x.ports at (Ok a)
+    → Checks (counted max_rows (row_spelling (length x.ports)) (λ r. r.start + 1)) x.rows a (Ok b) → Checks
+    (counted max_zone_lists zone_list_spelling (λ l. l.start + 1)) x.lists b r → Checks (router_spelling cables) x at r
 router_checks cables x at a b r h k j = (router_says cables x at a b r h k j).it
 
 -- ---- nodes
@@ -165,7 +225,8 @@ pub record FitsNode (n : Node) : Type 0 where
   pub node : n.address.node < 2 ^ 8
   pub hardware : length n.hardware.0 ≡ 6
 
-pub node_misses : (cables : ℕ) (n : Node) (at : ℕ) → FitsNode n → cables ≤ n.cable → Checks (node_spelling cables) n at (Err (record { place = at; cause = Index }))
+pub node_misses : (cables : ℕ) (n : Node) (at : ℕ) → FitsNode n → cables ≤ n.cable → Checks (node_spelling cables) n at (Err
+    (record { place = at; cause = Index }))
 unfolding node_spelling
 node_misses cables n at f le = (at, Here Index, inl (f.cable, not_below cables n.cable le, refl), refl)
 
@@ -173,35 +234,43 @@ length-address : (a : Addr) → length (bytes_of address_spelling a) ≡ 3
 unfolding address_spelling
 length-address a = refl
 
-node_says : (cables : ℕ) (n : Node) (at a b : ℕ) (r : Result ℕ Misfit) → FitsNode n → n.cable < cables → Checks zone_spelling n.zone (at + 10) (Ok a) → Checks own_router_spelling n.router a (Ok b)
-    → Checks (counted most_names name_spelling (λ n. n.enumerator + 1)) n.names b r → Says (node_spelling cables) n at r
+node_says : (cables : ℕ) (n : Node) (at a b : ℕ) (r : Result ℕ Misfit) → FitsNode n → n.cable < cables
+    → Checks zone_spelling n.zone (at + 10) (Ok a) → Checks own_router_spelling n.router a (Ok b)
+    → Checks (counted max_names name_spelling (λ n. n.enumerator + 1)) n.names b r → Says (node_spelling cables) n at r
 unfolding node_spelling
 node_says cables n at a b r f lt h k j =
     let size = length-address n.address in
     let where_zone : at + 10 ≡ at + 1 + 3 + 6 = omega arith in
-    says_field _ _ _ n at r (f.cable, is_below cables n.cable lt) (says_part _ _ _ n (at + 1) (at + 1 + 3) r (address_value n.address f.net f.node, omega arith)
-    (says_field _ _ _ n (at + 1 + 3) r (f.hardware, refl) (says_part _ _ _ n (at + 1 + 3 + 6) a r (moved zone_spelling n.zone (at + 10) (at + 1 + 3 + 6) (Ok a) where_zone h)
+    says_field _ _ _ n at r (f.cable, is_below cables n.cable lt) (says_part _ _ _ n (at + 1) (at + 1 + 3) r
+    (address_value n.address f.net f.node, omega arith)
+    (says_field _ _ _ n (at + 1 + 3) r (f.hardware, refl) (says_part _ _ _ n (at + 1 + 3 + 6) a r (moved zone_spelling n.zone (at + 10)
+    (at + 1 + 3 + 6) (Ok a) where_zone h)
     (says_part _ _ _ n a b r k
-    (says_last (counted most_names name_spelling (λ n. n.enumerator + 1)) (λ n. n.names) (λ names. record { cable = n.cable; address = n.address; hardware = n.hardware; zone = n.zone; router = n.router; names = names }) n b r refl j)))))
+    (says_last (counted max_names name_spelling (λ n. n.enumerator + 1)) (λ n. n.names)
+    (λ names. record { cable = n.cable; address = n.address; hardware = n.hardware; zone = n.zone; router = n.router; names = names }) n b r
+    refl j)))))
 
-pub node_checks : (cables : ℕ) (n : Node) (at a b : ℕ) (r : Result ℕ Misfit) → FitsNode n → n.cable < cables → Checks zone_spelling n.zone (at + 10) (Ok a) → Checks own_router_spelling n.router a (Ok b)
-    → Checks (counted most_names name_spelling (λ n. n.enumerator + 1)) n.names b r → Checks (node_spelling cables) n at r
+pub node_checks : (cables : ℕ) (n : Node) (at a b : ℕ) (r : Result ℕ Misfit) → FitsNode n → n.cable < cables
+    → Checks zone_spelling n.zone (at + 10) (Ok a) → Checks own_router_spelling n.router a (Ok b)
+    → Checks (counted max_names name_spelling (λ n. n.enumerator + 1)) n.names b r → Checks (node_spelling cables) n at r
 node_checks cables n at a b r f lt h k j = (node_says cables n at a b r f lt h k j).it
 
 -- ---- short lists
 
 -- the parts of a router's lists
 pub record IsShortRouter (x : Router) : Type 0 where
-  pub ports : length x.ports ≤ most_ports
-  pub rows : length x.rows ≤ most
-  pub lists : length x.lists ≤ most
+  pub ports : length x.ports ≤ max_ports
+  pub rows : length x.rows ≤ max_rows
+  pub lists : length x.lists ≤ max_zone_lists
   pub each : list_all short_list x.lists ≡ true
 
 pub router_short : (x : Router) → short_router x ≡ true → IsShortRouter x
 router_short x h =
-    let a = and_parts (nat_le (length x.ports) most_ports && nat_le (length x.rows) most && nat_le (length x.lists) most) (list_all short_list x.lists) h in
-    let b = and_parts (nat_le (length x.ports) most_ports && nat_le (length x.rows) most) (nat_le (length x.lists) most) a.0 in
-    let c = and_parts (nat_le (length x.ports) most_ports) (nat_le (length x.rows) most) b.0 in
+    let a =
+    and_parts (nat_le (length x.ports) max_ports && nat_le (length x.rows) max_rows && nat_le (length x.lists) max_zone_lists)
+    (list_all short_list x.lists) h in
+    let b = and_parts (nat_le (length x.ports) max_ports && nat_le (length x.rows) max_rows) (nat_le (length x.lists) max_zone_lists) a.0 in
+    let c = and_parts (nat_le (length x.ports) max_ports) (nat_le (length x.rows) max_rows) b.0 in
     record { ports = leb-true _ _ c.0; rows = leb-true _ _ c.1; lists = leb-true _ _ b.1; each = a.1 }
 
 pub all_true : {A : Type 0} (xs : List A) → list_all (λ x. true) xs ≡ true
@@ -228,35 +297,43 @@ some_value a net node = ((omega arith, is_within 0 1 Value 1 (omega arith) (omeg
 
 -- ---- the whole image
 
-front_says : (cables : List Cable) (r : Result ℕ Misfit) → Checks (counted most (λ low. cable_spelling) (λ c. 0)) cables 5 r → Says front_spelling cables 0 r
+front_says : (cables : List Cable) (r : Result ℕ Misfit) → Checks (counted max_cables (λ low. cable_spelling) (λ c. 0)) cables 5 r
+    → Says front_spelling cables 0 r
 unfolding front_spelling
 front_says cables r h =
     says_field _ _ _ cables 0 r (refl, refl) (says_field _ _ _ cables 4 r (omega arith, refl)
-    (says_last (counted most (λ low. cable_spelling) (λ c. 0)) (λ c. c) (λ cables. cables) cables 5 r refl h))
+    (says_last (counted max_cables (λ low. cable_spelling) (λ c. 0)) (λ c. c) (λ cables. cables) cables 5 r refl h))
 
-image_says_cables : (i : Internet) (m : Misfit) → Checks (counted most (λ low. cable_spelling) (λ c. 0)) i.cables 5 (Err m) → Says image_spelling i 0 (Err m)
+image_says_cables : (i : Internet) (m : Misfit) → Checks (counted max_cables (λ low. cable_spelling) (λ c. 0)) i.cables 5 (Err m)
+    → Says image_spelling i 0 (Err m)
 unfolding image_spelling
 image_says_cables i m h = says_in_part _ _ _ i 0 m (front_says i.cables (Err m) h).it
 
-pub image_cables : (i : Internet) (m : Misfit) → Checks (counted most (λ low. cable_spelling) (λ c. 0)) i.cables 5 (Err m) → Checks image_spelling i 0 (Err m)
+pub image_cables : (i : Internet) (m : Misfit) → Checks (counted max_cables (λ low. cable_spelling) (λ c. 0)) i.cables 5 (Err m)
+    → Checks image_spelling i 0 (Err m)
 image_cables i m h = (image_says_cables i m h).it
 
-image_says_routers : (i : Internet) (a : ℕ) (m : Misfit) → Checks (counted most (λ low. cable_spelling) (λ c. 0)) i.cables 5 (Ok a)
-    → Checks (counted most (λ low. router_spelling (length i.cables)) (λ r. 0)) i.routers a (Err m) → Says image_spelling i 0 (Err m)
+image_says_routers : (i : Internet) (a : ℕ) (m : Misfit) → Checks (counted max_cables (λ low. cable_spelling) (λ c. 0)) i.cables 5 (Ok a)
+    → Checks (counted max_routers (λ low. router_spelling (length i.cables)) (λ r. 0)) i.routers a (Err m) → Says image_spelling i 0 (Err m)
 unfolding image_spelling
 image_says_routers i a m h k = says_part _ _ _ i 0 a (Err m) (front_says i.cables (Ok a) h).it (says_in_part _ _ _ i a m k)
 
-pub image_routers : (i : Internet) (a : ℕ) (m : Misfit) → Checks (counted most (λ low. cable_spelling) (λ c. 0)) i.cables 5 (Ok a)
-    → Checks (counted most (λ low. router_spelling (length i.cables)) (λ r. 0)) i.routers a (Err m) → Checks image_spelling i 0 (Err m)
+pub image_routers : (i : Internet) (a : ℕ) (m : Misfit) → Checks (counted max_cables (λ low. cable_spelling) (λ c. 0)) i.cables 5 (Ok a)
+    → Checks (counted max_routers (λ low. router_spelling (length i.cables)) (λ r. 0)) i.routers a (Err m) → Checks image_spelling i 0
+    (Err m)
 image_routers i a m h k = (image_says_routers i a m h k).it
 
-image_says : (i : Internet) (a b : ℕ) (r : Result ℕ Misfit) → Checks (counted most (λ low. cable_spelling) (λ c. 0)) i.cables 5 (Ok a)
-    → Checks (counted most (λ low. router_spelling (length i.cables)) (λ r. 0)) i.routers a (Ok b) → Checks (counted most (λ low. node_spelling (length i.cables)) (λ n. 0)) i.nodes b r → Says image_spelling i 0 r
+image_says : (i : Internet) (a b : ℕ) (r : Result ℕ Misfit) → Checks (counted max_cables (λ low. cable_spelling) (λ c. 0)) i.cables 5 (Ok a)
+    → Checks (counted max_routers (λ low. router_spelling (length i.cables)) (λ r. 0)) i.routers a (Ok b) → Checks (counted max_nodes
+    (λ low. node_spelling (length i.cables)) (λ n. 0)) i.nodes b r → Says image_spelling i 0 r
 unfolding image_spelling
 image_says i a b r h k j =
     says_part _ _ _ i 0 a r (front_says i.cables (Ok a) h).it (says_part _ _ _ i a b r k
-    (says_last (counted most (λ low. node_spelling (length i.cables)) (λ n. 0)) (λ i. i.nodes) (λ nodes. record { cables = i.cables; routers = i.routers; nodes = nodes }) i b r refl j))
+    (says_last (counted max_nodes (λ low. node_spelling (length i.cables)) (λ n. 0)) (λ i. i.nodes)
+    (λ nodes. record { cables = i.cables; routers = i.routers; nodes = nodes }) i b r refl j))
 
-pub image_checks : (i : Internet) (a b : ℕ) (r : Result ℕ Misfit) → Checks (counted most (λ low. cable_spelling) (λ c. 0)) i.cables 5 (Ok a)
-    → Checks (counted most (λ low. router_spelling (length i.cables)) (λ r. 0)) i.routers a (Ok b) → Checks (counted most (λ low. node_spelling (length i.cables)) (λ n. 0)) i.nodes b r → Checks image_spelling i 0 r
+pub image_checks : (i : Internet) (a b : ℕ) (r : Result ℕ Misfit)
+    → Checks (counted max_cables (λ low. cable_spelling) (λ c. 0)) i.cables 5 (Ok a)
+    → Checks (counted max_routers (λ low. router_spelling (length i.cables)) (λ r. 0)) i.routers a (Ok b) → Checks (counted max_nodes
+    (λ low. node_spelling (length i.cables)) (λ n. 0)) i.nodes b r → Checks image_spelling i 0 r
 image_checks i a b r h k j = (image_says i a b r h k j).it

@@ -1,5 +1,6 @@
 -- Reading items one after the other, as a loop does.
-use Rattle.std.proofs.Common.{◌≡◌, ℕ, suc, ◌-◌, ◌+◌, ◌≤◌, ◌<◌, List, [], ◌∷◌, ◌++◌, length, take, get_or, Result, Ok, Err, refl, sym, ap, subst, ◌∙◌, append_assoc, arith}
+use Rattle.std.proofs.Common.{◌≡◌, ℕ, suc, ◌-◌, ◌+◌, ◌≤◌, ◌<◌, List, [], ◌∷◌, ◌++◌, length, take, get_or, Result, Ok, Err, refl, sym, ap}
+use Rattle.std.proofs.Common.{subst, ◌∙◌, append_assoc, arith}
 use Rattle.std.proofs.Math.Seq.{take-suc}
 use Rattle.std.proofs.lemmas.List.{append-nil, length-append}
 use Rattle.at_base.specs.Reading.{◌>>=◌, list_at}
@@ -16,23 +17,27 @@ Reader A = ℕ → List ℕ → Result (A × List ℕ) Flaw
 abbrev pub with_front : {A : Type 0} → List A → Result (List A × List ℕ) Flaw → Result (List A × List ℕ) Flaw
 with_front front reading = reading >>= λ x. Ok (front ++ x.0, x.1)
 
-regroup : {A : Type 0} (front : List A) (y : A) (reading : Result (List A × List ℕ) Flaw) → with_front front (reading >>= λ x. Ok (y ∷ x.0, x.1)) ≡ with_front (front ++ y ∷ []) reading
+regroup : {A : Type 0} (front : List A) (y : A) (reading : Result (List A × List ℕ) Flaw)
+    → with_front front (reading >>= λ x. Ok (y ∷ x.0, x.1)) ≡ with_front (front ++ y ∷ []) reading
 regroup {A} front y (Ok x) = ap (λ (ys : List A). Ok (ys, x.1)) (simp append_assoc)
 regroup front y (Err f) = refl
 
 -- one more item was read
-pub goes_on : {A : Type 0} (item : Reader A) (next : A → ℕ) (front : List A) (low count i : ℕ) (bytes : List ℕ) (y : A) (after : List ℕ) (total : Result (List A × List ℕ) Flaw)
+pub goes_on : {A : Type 0} (item : Reader A) (next : A
+    → ℕ) (front : List A) (low count i : ℕ) (bytes : List ℕ) (y : A) (after : List ℕ) (total : Result (List A × List ℕ) Flaw)
     → i < count → item low bytes ≡ Ok (y, after)
     → with_front front (list_at item next low (count - i) bytes) ≡ total
     → with_front (front ++ y ∷ []) (list_at item next (next y) (count - (i + 1)) after) ≡ total
 goes_on item next front low count i bytes y after total lt h so_far =
     let k : count - i ≡ suc (count - (i + 1)) = omega arith in
-    let one : with_front front (list_at item next low (count - i) bytes) ≡ with_front (front ++ y ∷ []) (list_at item next (next y) (count - (i + 1)) after) =
+    let one : with_front front (list_at item next low (count - i) bytes) ≡ with_front (front ++ y ∷ []) (list_at item next (next y) (count -
+    (i + 1)) after) =
     rw (k, h) (regroup front y (list_at item next (next y) (count - (i + 1)) after)) in
     sym one ∙ so_far
 
 -- one more item of a list was met
-pub goes_on_in : {A : Type 0} (item : Reader A) (next : A → ℕ) (xs : List A) (low i : ℕ) (bytes : List ℕ) (y : A) (after : List ℕ) (total : Result (List A × List ℕ) Flaw)
+pub goes_on_in : {A : Type 0} (item : Reader A) (next : A
+    → ℕ) (xs : List A) (low i : ℕ) (bytes : List ℕ) (y : A) (after : List ℕ) (total : Result (List A × List ℕ) Flaw)
     → i < length xs → y ≡ get_or xs i y → item low bytes ≡ Ok (y, after)
     → with_front (take i xs) (list_at item next low (length xs - i) bytes) ≡ total
     → with_front (take (i + 1) xs) (list_at item next (next y) (length xs - (i + 1)) after) ≡ total
@@ -44,7 +49,8 @@ goes_on_in {A} item next xs low i bytes y after total lt e h so_far =
     (goes_on item next (take i xs) low (length xs) i bytes y after total lt h so_far)
 
 -- an item has a flaw
-pub refuses : {A : Type 0} (item : Reader A) (next : A → ℕ) (f : Flaw) (front : List A) (low count i : ℕ) (bytes : List ℕ) (total : Result (List A × List ℕ) Flaw)
+pub refuses : {A : Type 0} (item : Reader A) (next : A
+    → ℕ) (f : Flaw) (front : List A) (low count i : ℕ) (bytes : List ℕ) (total : Result (List A × List ℕ) Flaw)
     → i < count → item low bytes ≡ Err f
     → with_front front (list_at item next low (count - i) bytes) ≡ total → total ≡ Err f
 refuses {A} item next f front low count i bytes total lt h so_far =
@@ -53,27 +59,35 @@ refuses {A} item next f front low count i bytes total lt h so_far =
     sym so_far ∙ one
 
 -- reading an item stopped
-pub stops_as : {A : Type 0} (item : Reader A) (next : A → ℕ) (e : Stop) (front : List A) (low count i : ℕ) (bytes : List ℕ) (total : Result (List A × List ℕ) Flaw)
+pub stops_as : {A : Type 0} (item : Reader A) (next : A
+    → ℕ) (e : Stop) (front : List A) (low count i : ℕ) (bytes : List ℕ) (total : Result (List A × List ℕ) Flaw)
     → i < count → StopsAs e (item low bytes)
     → with_front front (list_at item next low (count - i) bytes) ≡ total → StopsAs e total
 stops_as item next stops.Memory front low count i bytes total lt h so_far = tt
-stops_as item next (stops.Refused f) front low count i bytes total lt h so_far = refuses item next f front low count i bytes total lt h so_far
+stops_as item next (stops.Refused f) front low count i bytes total lt h so_far =
+    refuses item next f front low count i bytes total lt h so_far
 
 -- all items were read
-pub is_done : {A : Type 0} (item : Reader A) (next : A → ℕ) (front : List A) (low count i : ℕ) (bytes : List ℕ) (total : Result (List A × List ℕ) Flaw)
+pub is_done : {A : Type 0} (item : Reader A) (next : A
+    → ℕ) (front : List A) (low count i : ℕ) (bytes : List ℕ) (total : Result (List A × List ℕ) Flaw)
     → count ≤ i → with_front front (list_at item next low (count - i) bytes) ≡ total → total ≡ Ok (front, bytes)
 is_done {A} item next front low count i bytes total le so_far =
     let k : count - i ≡ 0 = omega arith in
-    let one : with_front front (list_at item next low (count - i) bytes) ≡ Ok (front, bytes) = rw k (ap (λ (ys : List A). Ok (ys, bytes)) (append-nil front)) in
+    let one : with_front front (list_at item next low (count - i) bytes) ≡ Ok (front, bytes) =
+    rw k (ap (λ (ys : List A). Ok (ys, bytes)) (append-nil front)) in
     sym so_far ∙ one
 
 -- ---- going past items without keeping them
 
 -- some items were read before, as many as the loop has turned
 abbrev pub Passed : {A : Type 0} → Reader A → (A → ℕ) → ℕ → ℕ → ℕ → List ℕ → Result (List A × List ℕ) Flaw → Type 0
-Passed {A = A} item next low count i bytes total = (front : List A) × (length front ≡ i) × (with_front front (list_at item next low (count - i) bytes) ≡ total)
+Passed {A =
+    A} item next low count i bytes total = (front : List A) × (length front ≡ i) × (with_front front (list_at item next low
+    (count - i) bytes) ≡ total)
 
-pub passes_more : {A : Type 0} (item : Reader A) (next : A → ℕ) (low count i : ℕ) (bytes : List ℕ) (y : A) (after : List ℕ) (total : Result (List A × List ℕ) Flaw)
-    → i < count → item low bytes ≡ Ok (y, after) → Passed item next low count i bytes total → Passed item next (next y) count (i + 1) after total
+pub passes_more : {A : Type 0} (item : Reader A) (next : A
+    → ℕ) (low count i : ℕ) (bytes : List ℕ) (y : A) (after : List ℕ) (total : Result (List A × List ℕ) Flaw)
+    → i < count → item low bytes ≡ Ok (y, after) → Passed item next low count i bytes total → Passed item next (next y) count
+    (i + 1) after total
 passes_more item next low count i bytes y after total lt h (front, len, so_far) =
     (front ++ y ∷ [], omega (arith, length-append front (y ∷ [])), goes_on item next front low count i bytes y after total lt h so_far)

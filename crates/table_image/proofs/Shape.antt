@@ -1,4 +1,4 @@
--- Each part of an image stands where its projection finds it.
+-- Each part of an image is where its projection finds it.
 use Rattle.std.proofs.Common.{◌≡◌, ℕ, zero, suc, ◌≤◌, Bool, true, cond, ltb, List, length, Some, None, refl, sym, arith}
 use Rattle.std.proofs.lemmas.Bool.{ltb-false}
 use Rattle.at_base.specs.Text.{is_name, same_bytes}
@@ -8,10 +8,13 @@ use Rattle.at_base.specs.Grammar.{Grammar}
 use Rattle.at_base.specs.Lawful.{Has, IsLawful}
 use Rattle.at_base.proofs.Fields.{is_right, not_wrong}
 use Rattle.at_base.proofs.Texts.{same_bytes_is}
-use Rattle.table_image.specs.Limits.{most, most_ports, most_zones, most_names}
+use Rattle.table_image.specs.Limits.{max_cables, max_routers, max_nodes, max_ports, max_rows, max_zone_lists, max_zones, max_names}
 use Rattle.table_image.specs.Flaws.{Wrong, Here}
 use Rattle.table_image.specs.Tests.{within, magic, is_magic, is_entity}
-use Rattle.table_image.specs.Spelling.{counted, text_spelling, zone_spelling, zones_spelling, address_spelling, cable_spelling, port_spelling, row_spelling, state_number, state_of, zone_list_spelling, flag_number, flag_of, router_spelling, own_router_number, behind_flag, own_router_spelling, name_spelling, node_spelling, front_spelling, image_spelling}
+use Rattle.table_image.specs.Spelling.{counted, text_spelling, zone_spelling, zones_spelling, address_spelling, cable_spelling}
+use Rattle.table_image.specs.Spelling.{port_spelling, row_spelling, state_number, state_of, zone_list_spelling, flag_number, flag_of}
+use Rattle.table_image.specs.Spelling.{router_spelling, own_router_number, after_flag, own_router_spelling, name_spelling, node_spelling}
+use Rattle.table_image.specs.Spelling.{front_spelling, image_spelling}
 
 pub within_bounds : (least most : ℕ) (c : Cause) (n : ℕ) → within least most c n ≡ None → (least ≤ n) × (n ≤ most)
 within_bounds least most c n e =
@@ -22,7 +25,8 @@ within_bounds least most c n e =
 magic_is : (s : List ℕ) → is_magic s ≡ None → magic ≡ s
 magic_is s e = sym (same_bytes_is s magic (is_right (same_bytes s magic) (Here Magic) e))
 
-counted_lawful : {B : Type 0} (limit : ℕ) (item : ℕ → Grammar Wrong true B) (next : B → ℕ) → ((low : ℕ) → IsLawful (item low)) → IsLawful (counted limit item next)
+counted_lawful : {B : Type 0} (limit : ℕ) (item : ℕ → Grammar Wrong true B) (next : B → ℕ) → ((low : ℕ) → IsLawful (item low))
+    → IsLawful (counted limit item next)
 unfolding counted
 counted_lawful limit item next items = λ count p. (λ xs len. len, (items, λ xs len. (refl, tt)))
 
@@ -35,7 +39,7 @@ zone_lawful = text_lawful is_name
 
 zones_lawful : IsLawful zones_spelling
 unfolding zones_spelling
-zones_lawful = counted_lawful most_zones (λ low. zone_spelling) (λ name. 0) (λ low. zone_lawful)
+zones_lawful = counted_lawful max_zones (λ low. zone_spelling) (λ name. 0) (λ low. zone_lawful)
 
 address_lawful : IsLawful address_spelling
 unfolding address_spelling
@@ -47,7 +51,8 @@ cable_lawful = λ start p. (λ end q. λ names r. refl, λ end q. (λ names r. r
 
 port_lawful : (cables : ℕ) → IsLawful (port_spelling cables)
 unfolding port_spelling
-port_lawful cables = λ cable p. (λ address r. λ hardware q. refl, (address_lawful, λ address r. (λ hardware q. refl, λ hardware q. (refl, tt))))
+port_lawful cables =
+    λ cable p. (λ address r. λ hardware q. refl, (address_lawful, λ address r. (λ hardware q. refl, λ hardware q. (refl, tt))))
 
 state_is : (n : ℕ) → n ≤ 3 → state_number (state_of n) ≡ n
 state_is zero h = refl
@@ -92,24 +97,24 @@ zone_list_lawful low =
 router_lawful : (cables : ℕ) → IsLawful (router_spelling cables)
 unfolding router_spelling
 router_lawful cables = (
-  counted_lawful most_ports (λ low. port_spelling cables) (λ p. 0) (λ low. port_lawful cables),
+  counted_lawful max_ports (λ low. port_spelling cables) (λ p. 0) (λ low. port_lawful cables),
   λ ports p. (
     λ rows q lists r. refl,
     (
-      counted_lawful most (row_spelling (length ports)) _ (row_lawful (length ports)),
-      λ rows q. (λ lists r. refl, (counted_lawful most zone_list_spelling _ zone_list_lawful, λ lists r. (refl, tt))),
+      counted_lawful max_rows (row_spelling (length ports)) _ (row_lawful (length ports)),
+      λ rows q. (λ lists r. refl, (counted_lawful max_zone_lists zone_list_spelling _ zone_list_lawful, λ lists r. (refl, tt))),
     ),
   ),
 )
 
-behind_lawful : (flag : ℕ) → flag ≤ 1 → Has own_router_number flag (behind_flag flag) × IsLawful (behind_flag flag)
-behind_lawful zero h = (refl, tt)
-behind_lawful (suc zero) h = (λ a q. refl, (address_lawful, λ a q. (refl, tt)))
-behind_lawful (suc (suc n)) h = absurd (omega arith)
+after_flag_lawful : (flag : ℕ) → flag ≤ 1 → Has own_router_number flag (after_flag flag) × IsLawful (after_flag flag)
+after_flag_lawful zero h = (refl, tt)
+after_flag_lawful (suc zero) h = (λ a q. refl, (address_lawful, λ a q. (refl, tt)))
+after_flag_lawful (suc (suc n)) h = absurd (omega arith)
 
 own_router_lawful : IsLawful own_router_spelling
 unfolding own_router_spelling
-own_router_lawful = λ flag p. behind_lawful flag (within_bounds 0 1 Value flag p.1).1
+own_router_lawful = λ flag p. after_flag_lawful flag (within_bounds 0 1 Value flag p.1).1
 
 name_lawful : (low : ℕ) → IsLawful (name_spelling low)
 unfolding name_spelling
@@ -137,7 +142,17 @@ node_lawful cables =
               zone_lawful,
               λ zone p2. (
                 λ router p3 names p4. refl,
-                (own_router_lawful, λ router p3. (λ names p4. refl, (counted_lawful most_names name_spelling _ name_lawful, λ names p4. (refl, tt)))),
+                (
+                  own_router_lawful,
+                  λ router p3. (
+                    λ names p4. refl,
+                    (
+                      counted_lawful max_names name_spelling _ name_lawful,
+                      λ names p4.
+                          (refl, tt),
+                    ),
+                  ),
+                ),
               ),
             ),
           ),
@@ -152,7 +167,7 @@ front_lawful =
       λ version q cables r. magic_is s p.1,
       λ version q. (
         λ cables r. (let h = within_bounds 1 1 Version version q.1 in omega arith),
-        (counted_lawful most (λ low. cable_spelling) (λ c. 0) (λ low. cable_lawful), λ cables r. (refl, tt)),
+        (counted_lawful max_cables (λ low. cable_spelling) (λ c. 0) (λ low. cable_lawful), λ cables r. (refl, tt)),
       ),
     )
 
@@ -163,10 +178,14 @@ image_lawful = (
   λ cables p. (
     λ routers q nodes r. refl,
     (
-      counted_lawful most (λ low. router_spelling (length cables)) (λ r. 0) (λ low. router_lawful (length cables)),
+      counted_lawful max_routers (λ low. router_spelling (length cables)) (λ r. 0) (λ low. router_lawful (length cables)),
       λ routers q. (
         λ nodes r. refl,
-        (counted_lawful most (λ low. node_spelling (length cables)) (λ n. 0) (λ low. node_lawful (length cables)), λ nodes r. (refl, tt)),
+        (
+          counted_lawful max_nodes (λ low. node_spelling (length cables)) (λ n. 0) (λ low. node_lawful (length cables)),
+          λ nodes r.
+              (refl, tt),
+        ),
       ),
     ),
   ),

@@ -1,5 +1,6 @@
 -- Whole images: what is read, what is accepted, what is refused, and where.
-use Rattle.std.proofs.Common.{◌≡◌, ℕ, ◌+◌, ◌^◌, ◌≤◌, ◌<◌, Bool, true, false, cond, eqb, List, [], ◌++◌, length, Ok, Err, refl, sym, ap, subst, ◌∙◌, inl, inr, arith}
+use Rattle.std.proofs.Common.{◌≡◌, ℕ, ◌+◌, ◌^◌, ◌≤◌, ◌<◌, Bool, true, false, cond, eqb, List, [], ◌++◌, length, Ok, Err, refl, sym, ap}
+use Rattle.std.proofs.Common.{subst, ◌∙◌, inl, inr, arith}
 use Rattle.std.specs.Prelude.{◌≢◌}
 use Rattle.std.proofs.lemmas.Bool.{eqb-true}
 use Rattle.std.proofs.lemmas.List.{append-nil, nil_from_length}
@@ -16,17 +17,20 @@ use Rattle.table_image.specs.Spelling.{image_spelling}
 use Rattle.table_image.specs.Reading.{image_at, IsFirstFlaw, Refuses}
 use Rattle.table_image.specs.declared.flaw.Flaw.{Flaw}
 use Rattle.table_image.proofs.Shape.{image_lawful}
-use Rattle.table_image.proofs.Extents.{most_bytes, image_reaches}
+use Rattle.table_image.specs.Sizes.{image_size}
+use Rattle.table_image.proofs.Extents.{image_reaches}
 
 -- what is read is spelled so
 pub all_takes : (bytes : List ℕ) (x : Internet) → IsBytes bytes → image_at bytes ≡ Ok x → Spells image_spelling bytes x
 unfolding image_at
 all_takes bytes x fits e =
-    let a = bind_ok (read flaws image_spelling bytes) (λ y. cond (eqb (length y.1) 0) (Ok y.0) (Err (flaw_of (length y.1) (Here Trailing)))) x e in
+    let a =
+    bind_ok (read flaws image_spelling bytes) (λ y. cond (eqb (length y.1) 0) (Ok y.0) (Err (flaw_of (length y.1) (Here Trailing)))) x e in
     let p = pass_ok (eqb (length a.0.1) 0) (flaw_of (length a.0.1) (Here Trailing)) a.0.0 x a.2 in
     let nothing : a.0.1 ≡ [] = nil_from_length a.0.1 (eqb-true _ _ p.0) in
     let t = read_takes flaws image_spelling image_lawful bytes a.0 fits a.1 in
-    let whole : bytes ≡ bytes_of image_spelling a.0.0 = t.0.parts ∙ ap (λ (r : List ℕ). bytes_of image_spelling a.0.0 ++ r) nothing ∙ append-nil (bytes_of image_spelling a.0.0) in
+    let whole : bytes ≡ bytes_of image_spelling a.0.0 =
+    t.0.parts ∙ ap (λ (r : List ℕ). bytes_of image_spelling a.0.0 ++ r) nothing ∙ append-nil (bytes_of image_spelling a.0.0) in
     subst (λ (y : Internet). Spells image_spelling bytes y) p.1 (t.1, whole)
 
 -- what is spelled so is read
@@ -40,7 +44,8 @@ all_again bytes x s =
 pub all_refuses : (bytes : List ℕ) (f : Flaw) → IsBytes bytes → image_at bytes ≡ Err f → IsFirstFlaw bytes f
 unfolding image_at
 all_refuses bytes f fits e =
-    elim (bind_err (read flaws image_spelling bytes) (λ y. cond (eqb (length y.1) 0) (Ok y.0) (Err (flaw_of (length y.1) (Here Trailing)))) f e) [
+    elim (bind_err (read flaws image_spelling bytes) (λ y. cond (eqb (length y.1) 0) (Ok y.0) (Err (flaw_of (length y.1)
+    (Here Trailing)))) f e) [
       | inl p ↦ inl (read_fault flaws image_spelling image_lawful bytes f fits p)
       | inr a ↦
           let p = pass_err (eqb (length a.0.1) 0) (flaw_of (length a.0.1) (Here Trailing)) f a.0.0 a.2 in
@@ -49,8 +54,9 @@ all_refuses bytes f fits e =
           inr (a.0.0, a.0.1, t.0.parts, t.1, some, p.1)
     ]
 
-behind : (x : Internet) (rest : List ℕ) (f : Flaw) → rest ≢ [] → f ≡ flaw_of (length rest) (Here Trailing) → cond (eqb (length rest) 0) (Ok x) (Err (flaw_of (length rest) (Here Trailing))) ≡ Err f
-behind x rest f some is = go (eqb (length rest) 0) refl
+trailing : (x : Internet) (rest : List ℕ) (f : Flaw) → rest ≢ [] → f ≡ flaw_of (length rest) (Here Trailing)
+    → cond (eqb (length rest) 0) (Ok x) (Err (flaw_of (length rest) (Here Trailing))) ≡ Err f
+trailing x rest f some is = go (eqb (length rest) 0) refl
   where
     go : (b : Bool) → eqb (length rest) 0 ≡ b → cond b (Ok x) (Err (flaw_of (length rest) (Here Trailing))) ≡ Err f
     go true e = absurd (some (nil_from_length rest (eqb-true _ _ e)))
@@ -61,8 +67,9 @@ pub all_refused : (bytes : List ℕ) (f : Flaw) → IsFirstFlaw bytes f → imag
 unfolding image_at
 all_refused bytes f (inl h) = rw (read_refused flaws image_spelling image_lawful bytes f h) refl
 all_refused bytes f (inr (x, rest, parts, value, some, is)) =
-    let taken : read flaws image_spelling bytes ≡ Ok (x, rest) = rw parts (read_again flaws image_spelling image_lawful x rest value (follows_all image_spelling x rest)) in
-    rw taken (behind x rest f some is)
+    let taken : read flaws image_spelling bytes ≡ Ok (x, rest) =
+    rw parts (read_again flaws image_spelling image_lawful x rest value (follows_all image_spelling x rest)) in
+    rw taken (trailing x rest f some is)
 
 -- two images with the same bytes are one
 pub one_reading : (bytes : List ℕ) (x y : Internet) → image_at bytes ≡ Ok x → Spells image_spelling bytes y → x ≡ y
@@ -72,22 +79,23 @@ one_reading bytes x y e s = let f : image_at bytes ≡ Ok y = all_again bytes y 
 pub no_flaw : (bytes : List ℕ) (x : Internet) (f : Flaw) → Spells image_spelling bytes x → image_at bytes ≡ Err f → ⊥
 no_flaw bytes x f s e = let g : image_at bytes ≡ Ok x = all_again bytes x s in cc
 
--- a flaw is told at most so many bytes from the start
-pub told_early : (bytes : List ℕ) (f : Flaw) → IsBytes bytes → image_at bytes ≡ Err f → length bytes ≤ f.left + most_bytes
+-- a flaw is reported at most so many bytes from the start
+pub reported_early : (bytes : List ℕ) (f : Flaw) → IsBytes bytes → image_at bytes ≡ Err f → length bytes ≤ f.left + image_size
 unfolding image_at
-told_early bytes f fits e =
-    elim (bind_err (read flaws image_spelling bytes) (λ y. cond (eqb (length y.1) 0) (Ok y.0) (Err (flaw_of (length y.1) (Here Trailing)))) f e) [
+reported_early bytes f fits e =
+    elim (bind_err (read flaws image_spelling bytes) (λ y. cond (eqb (length y.1) 0) (Ok y.0) (Err (flaw_of (length y.1)
+    (Here Trailing)))) f e) [
       | inl p ↦ image_reaches.within_it.err_within bytes f fits p
       | inr a ↦
           let p = pass_err (eqb (length a.0.1) 0) (flaw_of (length a.0.1) (Here Trailing)) f a.0.0 a.2 in
-          let told = ap (λ (g : Flaw). g.left) p.1 in
+          let reported = ap (λ (g : Flaw). g.left) p.1 in
           let taken = (image_reaches.within_it.ok_within bytes a.0 fits a.1).0 in
-          omega (arith, told, taken)
+          omega (arith, reported, taken)
     ]
 
 -- so its place fits 32 bits
 pub place_fits : (bytes : List ℕ) (f : Flaw) → IsBytes bytes → image_at bytes ≡ Err f → length bytes < f.left + 2 ^ 32
-place_fits bytes f fits e = let early = told_early bytes f fits e in omega (arith, early)
+place_fits bytes f fits e = let early = reported_early bytes f fits e in omega (arith, early)
 
 -- there is one flaw
 pub one_flaw : (bytes : List ℕ) (f g : Flaw) → image_at bytes ≡ Err f → IsFirstFlaw bytes g → f ≡ g
@@ -97,7 +105,7 @@ one_flaw bytes f g e h = err_is {A = Internet} f g (sym e ∙ all_refused bytes 
 pub read_no_flaw : (bytes : List ℕ) (x : Internet) (f : Flaw) → image_at bytes ≡ Ok x → IsFirstFlaw bytes f → ⊥
 read_no_flaw bytes x f e h = let g : image_at bytes ≡ Err f = all_refused bytes f h in cc
 
--- what refuses bytes that spell an image is want of memory
+-- what refuses bytes that spell an image is a failed allocation
 pub only_memory : (bytes : List ℕ) (x : Internet) (e : Error) → Spells image_spelling bytes x → Refuses bytes e → e ≡ Memory
 only_memory bytes x e s (inl h) = h.0
 only_memory bytes x e s (inr (f, h, is)) = absurd (no_flaw bytes x f s (all_refused bytes f h))

@@ -1,5 +1,5 @@
--- Parts that are handed in: whether a value is one of its format, and else its first flaw, and how far from a start its
--- field stands when the parts are spelled in order. (own)
+-- Checks of a value: whether it is one of its format, and else its first flaw, with the offset of the flaw's field from a
+-- start if the value were written there. This project's own.
 use Rattle.std.specs.Prelude.{◌≡◌, ℕ, ◌+◌, ◌-◌, ◌≤◌, ◌⊎◌, true, List, [], ◌∷◌, length, Some, Result, Ok, Err}
 use Rattle.at_base.specs.Grammar.{Grammar, done, field, part, list, room}
 use Rattle.at_base.specs.Spelling.{Fits, wrong_with, Passes, list_bytes, bytes_of, ListPasses, IsValue}
@@ -8,12 +8,13 @@ use Rattle.table_image.specs.Flaws.{Wrong, Here, Before}
 use Rattle.table_image.specs.declared.checking.Misfit.{Misfit}
 
 -- items that pass, and then one whose flaw this is
-abbrev pub ListFlawAt : {B : Type 0} → (ℕ → B → ℕ → ℕ → Wrong → Type 0) → (ℕ → B → List ℕ) → (ℕ → B → Type 0) → (B → ℕ) → ℕ → List B → ℕ → ℕ → Wrong → Type 0
+abbrev pub ListFlawAt : {B : Type 0} → (ℕ → B → ℕ → ℕ → Wrong → Type 0) → (ℕ → B → List ℕ) → (ℕ → B → Type 0) → (B → ℕ) → ℕ → List B → ℕ → ℕ
+    → Wrong → Type 0
 ListFlawAt flawed spell passes next low [] at q w = ⊥
 ListFlawAt flawed spell passes next low (x ∷ xs) at q w =
     flawed low x at q w ⊎ (passes low x × ListFlawAt flawed spell passes next (next x) xs (at + length (spell low x)) q w)
 
--- The value's first flaw is w, and its field stands at q, where the value stands at `at`.
+-- The value's first flaw is w, and its field is at the offset q, where the value begins at `at`.
 abbrev pub FlawAt : {A : Type 0} → Grammar Wrong true A → A → ℕ → ℕ → Wrong → Type 0
 FlawAt (done x) y at q w = ⊥
 FlawAt (field fd get after) y at q w =
@@ -23,22 +24,24 @@ FlawAt (part g get after) y at q w =
 FlawAt (list item next n get after) y at q w =
     (length (get y) ≡ n)
     × (ListFlawAt (λ low. FlawAt (item low)) (λ low. bytes_of (item low)) (λ low. IsValue (item low)) next 0 (get y) at q w
-    ⊎ (ListPasses (λ low. IsValue (item low)) next 0 (get y) × FlawAt (after (get y)) y (at + length (list_bytes (λ low. bytes_of (item low)) next 0 (get y))) q w))
+    ⊎ (ListPasses (λ low. IsValue (item low)) next 0 (get y) × FlawAt (after (get y)) y (at + length (list_bytes (λ low. bytes_of
+    (item low)) next 0 (get y))) q w))
 FlawAt (room n g) y at q w = (n ≤ length (bytes_of g y)) × FlawAt g y at q w
 
--- where a flaw is told: at its field, or at the byte before it
-abbrev pub told : ℕ → Wrong → Misfit
-told q (Here cause) = record { place = q; cause = cause }
-told q (Before cause) = record { place = q - 1; cause = cause }
+-- the offset at which a flaw is reported: that of its field, or of the byte before it
+abbrev pub reported : ℕ → Wrong → Misfit
+reported q (Here cause) = record { place = q; cause = cause }
+reported q (Before cause) = record { place = q - 1; cause = cause }
 
--- what a check of a value that stands at `at` returned: where it ends, or its first flaw
+-- what a check of a value that begins at `at` returned: the offset of its end, or its first flaw
 abbrev pub Checks : {A : Type 0} → Grammar Wrong true A → A → ℕ → Result ℕ Misfit → Type 0
 Checks g y at (Ok end) = IsValue g y × (end ≡ at + length (bytes_of g y))
-Checks g y at (Err m) = (q : ℕ) × (w : Wrong) × FlawAt g y at q w × (m ≡ told q w)
+Checks g y at (Err m) = (q : ℕ) × (w : Wrong) × FlawAt g y at q w × (m ≡ reported q w)
 
 -- the same of items one after the other
 abbrev pub ChecksList : {B : Type 0} → (ℕ → Grammar Wrong true B) → (B → ℕ) → List B → ℕ → Result ℕ Misfit → Type 0
 ChecksList item next xs at (Ok end) =
     ListPasses (λ low. IsValue (item low)) next 0 xs × (end ≡ at + length (list_bytes (λ low. bytes_of (item low)) next 0 xs))
 ChecksList item next xs at (Err m) =
-    (q : ℕ) × (w : Wrong) × ListFlawAt (λ low. FlawAt (item low)) (λ low. bytes_of (item low)) (λ low. IsValue (item low)) next 0 xs at q w × (m ≡ told q w)
+    (q : ℕ) × (w : Wrong) × ListFlawAt (λ low. FlawAt (item low)) (λ low. bytes_of (item low)) (λ low. IsValue (item low)) next 0 xs at q w
+    × (m ≡ reported q w)

@@ -1,4 +1,5 @@
--- Flaws of an image: the cause, and how many bytes of the input are left from the byte on where it is told. (own)
+-- Flaws of an image: the cause, and how many bytes of the input are left from the byte on at which it is reported.
+-- This project's own.
 use Rattle.std.specs.Prelude.{◌≡◌, ℕ, ◌+◌, List, Result, Ok, Err}
 use Rattle.at_base.specs.declared.error.Cause.{Cause}
 use Rattle.at_base.specs.declared.error.Cause.TheVariants.{Cut}
@@ -7,7 +8,7 @@ use Rattle.table_image.specs.declared.flaw.Flaw.{Flaw}
 use Rattle.table_image.specs.declared.flaw.Stop.{Stop}
 use Rattle.table_image.specs.declared.flaw.Stop.TheVariants as stops
 
--- what is wrong with a field, told at its first byte, or at the byte before it: the length byte of a text
+-- what is wrong with a field, reported at its first byte, or at the byte before it: the length byte of a text
 pub data Wrong : Type 0 where
   Here : Cause → Wrong
   Before : Cause → Wrong
@@ -21,12 +22,12 @@ flaw_of left (Before cause) = record { left = 1 + left; cause = cause }
 abbrev pub flaws : Refusals Wrong Flaw
 flaws = record { cut = record { left = 0; cause = Cut }; placed = flaw_of }
 
--- why reading stopped is what reading answers, unless memory ran out
+-- why reading stopped is what reading answers, unless an allocation failed
 abbrev pub StopsAs : {Y : Type 0} → Stop → Result Y Flaw → Type 0
 StopsAs stops.Memory reading = Unit {0}
 StopsAs (stops.Refused f) reading = reading ≡ Err f
 
--- what a function returned, seen by view, is what reading gives, unless memory ran out
+-- what a function returned, seen by view, is what reading gives, unless an allocation failed
 abbrev pub GivesOrStops : {X Y : Type 0} → (X → Y) → Result X Stop → Result Y Flaw → Type 0
 GivesOrStops view (Ok x) reading = reading ≡ Ok (view x)
 GivesOrStops view (Err e) reading = StopsAs e reading

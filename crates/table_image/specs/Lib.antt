@@ -1,11 +1,11 @@
 pub mod Internet
 pub mod Limits
+pub mod Sizes
 pub mod Listed
 pub mod Flaws
 pub mod Tests
 pub mod Spelling
 pub mod Reading
-pub mod Same
 pub mod Short
 pub mod Checking
 pub mod Rows

@@ -1,8 +1,8 @@
--- Lists that are no longer than an image may have them. (own)
+-- Lists that are within their limits. This project's own.
 use Rattle.std.specs.Prelude.{Bool, ◌&&◌, length, nat_le}
 use Rattle.std.specs.List.{list_all}
 use Rattle.table_image.specs.Internet.{Internet}
-use Rattle.table_image.specs.Limits.{most, most_ports, most_zones, most_names}
+use Rattle.table_image.specs.Limits.{max_cables, max_routers, max_nodes, max_ports, max_rows, max_zone_lists, max_zones, max_names}
 use Rattle.table_image.specs.declared.cable.Cable.{Cable}
 use Rattle.table_image.specs.declared.zone_list.ZoneList.{ZoneList}
 use Rattle.table_image.specs.declared.router.Router.{Router}
@@ -10,22 +10,24 @@ use Rattle.table_image.specs.declared.node.Node.{Node}
 
 -- a cable's zones
 abbrev pub short_cable : Cable → Bool
-short_cable c = nat_le (length c.zones) most_zones
+short_cable c = nat_le (length c.zones) max_zones
 
 -- the zones of a zone list
 abbrev pub short_list : ZoneList → Bool
-short_list l = nat_le (length l.zones) most_zones
+short_list l = nat_le (length l.zones) max_zones
 
 -- a router's ports, rows and zone lists
 abbrev pub short_router : Router → Bool
-short_router r = nat_le (length r.ports) most_ports && nat_le (length r.rows) most && nat_le (length r.lists) most && list_all short_list r.lists
+short_router r =
+    nat_le (length r.ports) max_ports && nat_le (length r.rows) max_rows && nat_le (length r.lists) max_zone_lists
+    && list_all short_list r.lists
 
 -- a node's names
 abbrev pub short_node : Node → Bool
-short_node n = nat_le (length n.names) most_names
+short_node n = nat_le (length n.names) max_names
 
 -- every list of an internet
 abbrev pub is_short : Internet → Bool
 is_short i =
-    nat_le (length i.cables) most && nat_le (length i.routers) most && nat_le (length i.nodes) most
+    nat_le (length i.cables) max_cables && nat_le (length i.routers) max_routers && nat_le (length i.nodes) max_nodes
     && list_all short_cable i.cables && list_all short_router i.routers && list_all short_node i.nodes

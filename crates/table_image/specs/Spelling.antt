@@ -1,5 +1,5 @@
 -- The image of an internet's tables, version 1, as a format: its parts, their order and their tests. docs/FORMATS.md has
--- the same as a table. (own)
+-- the same as a table. This project's own.
 use Rattle.std.specs.Prelude.{ℕ, zero, suc, ◌+◌, Bool, true, false, ◌==◌, List, length, Option, Some, None, if◌then◌else◌, unwrap_or}
 use Rattle.at_base.specs.declared.address.Addr.{Addr}
 use Rattle.at_base.specs.declared.error.Cause.TheVariants.{Count, Name, Value, Version}
@@ -8,7 +8,9 @@ use Rattle.at_base.specs.Grammar.{Grammar, done, field, part, list, number, run,
 use Rattle.rtmp.specs.declared.state.State.{State}
 use Rattle.rtmp.specs.declared.state.State.TheVariants.{Good, Suspect, Bad, Last}
 use Rattle.table_image.specs.Internet.{Internet}
-use Rattle.table_image.specs.Limits.{most, most_ports, most_zones, most_names}
+use Rattle.table_image.specs.Limits.{max_cables, max_routers, max_nodes, max_ports, max_rows, max_zone_lists, max_zones, max_names}
+use Rattle.table_image.specs.Limits.{max_text, max_distance}
+use Rattle.table_image.specs.Sizes.{hardware_size}
 use Rattle.table_image.specs.Flaws.{Wrong, Before}
 use Rattle.table_image.specs.Tests.{any, within, below, rising, enumerator, magic, is_magic, is_entity}
 use Rattle.table_image.specs.declared.cable.Cable.{Cable}
@@ -25,10 +27,10 @@ counted limit item next =
     field (number one (within 0 limit Count)) (λ xs. length xs) (λ count.
     list item next count (λ xs. xs) (λ xs. done xs))
 
--- 1 to 32 bytes behind their number, at which the fault is where they break their test
+-- a length of 1 to 32 and so many bytes; where the bytes break their test, the fault is at the length
 unfoldable pub text_spelling : (List ℕ → Bool) → Grammar Wrong true (List ℕ)
 text_spelling good =
-    field (number one (within 1 32 Name)) (λ s. length s) (λ len.
+    field (number one (within 1 max_text Name)) (λ s. length s) (λ len.
     field (run len (λ s. if good s then None else Some (Before Name))) (λ s. s) (λ s.
     done s))
 
@@ -36,9 +38,9 @@ text_spelling good =
 abbrev pub zone_spelling : Grammar Wrong true (List ℕ)
 zone_spelling = text_spelling is_name
 
--- zones behind their count
+-- a count and zones
 unfoldable pub zones_spelling : Grammar Wrong true (List (List ℕ))
-zones_spelling = counted most_zones (λ low. zone_spelling) (λ name. 0)
+zones_spelling = counted max_zones (λ low. zone_spelling) (λ name. 0)
 
 -- a network and a node
 unfoldable pub address_spelling : Grammar Wrong true Addr
@@ -60,7 +62,7 @@ unfoldable pub port_spelling : ℕ → Grammar Wrong true Port
 port_spelling cables =
     field (number one (below cables)) (λ p. p.cable) (λ cable.
     part address_spelling (λ p. p.address) (λ address.
-    field (run 6 any) (λ p. p.hardware.0) (λ hardware.
+    field (run hardware_size any) (λ p. p.hardware.0) (λ hardware.
     done (record { cable = cable; address = address; hardware = record { 0 = hardware } }))))
 
 -- the number of a state
@@ -82,7 +84,7 @@ unfoldable pub row_spelling : ℕ → ℕ → Grammar Wrong true Row
 row_spelling ports low =
     field (number two (rising low)) (λ r. r.start) (λ start.
     field (number two any) (λ r. r.end) (λ end.
-    field (number one (within 0 31 Value)) (λ r. r.distance) (λ distance.
+    field (number one (within 0 max_distance Value)) (λ r. r.distance) (λ distance.
     field (number one (below ports)) (λ r. r.port) (λ port.
     part address_spelling (λ r. r.next) (λ next.
     field (number one (within 0 3 Value)) (λ r. state_number r.state) (λ state.
@@ -109,9 +111,9 @@ zone_list_spelling low =
 -- a router, where there are so many cables: ports, rows, zone lists
 unfoldable pub router_spelling : ℕ → Grammar Wrong true Router
 router_spelling cables =
-    part (counted most_ports (λ low. port_spelling cables) (λ p. 0)) (λ r. r.ports) (λ ports.
-    part (counted most (row_spelling (length ports)) (λ r. r.start + 1)) (λ r. r.rows) (λ rows.
-    part (counted most zone_list_spelling (λ l. l.start + 1)) (λ r. r.lists) (λ lists.
+    part (counted max_ports (λ low. port_spelling cables) (λ p. 0)) (λ r. r.ports) (λ ports.
+    part (counted max_rows (row_spelling (length ports)) (λ r. r.start + 1)) (λ r. r.rows) (λ rows.
+    part (counted max_zone_lists zone_list_spelling (λ l. l.start + 1)) (λ r. r.lists) (λ lists.
     done (record { ports = ports; rows = rows; lists = lists }))))
 
 -- no address
@@ -123,14 +125,14 @@ abbrev pub own_router_number : Option Addr → ℕ
 own_router_number None = 0
 own_router_number (Some a) = 1
 
--- what stands behind that flag
-abbrev pub behind_flag : ℕ → Grammar Wrong true (Option Addr)
-behind_flag zero = done None
-behind_flag (suc n) = part address_spelling (λ o. unwrap_or o nowhere) (λ a. done (Some a))
+-- what follows that flag
+abbrev pub after_flag : ℕ → Grammar Wrong true (Option Addr)
+after_flag zero = done None
+after_flag (suc n) = part address_spelling (λ o. unwrap_or o nowhere) (λ a. done (Some a))
 
 -- a node's router: a flag, and an address where it is 1
 unfoldable pub own_router_spelling : Grammar Wrong true (Option Addr)
-own_router_spelling = field (number one (within 0 1 Value)) own_router_number behind_flag
+own_router_spelling = field (number one (within 0 1 Value)) own_router_number after_flag
 
 -- a node's name above the one before it: socket, enumerator, object, type
 unfoldable pub name_spelling : ℕ → Grammar Wrong true NodeName
@@ -146,24 +148,31 @@ unfoldable pub node_spelling : ℕ → Grammar Wrong true Node
 node_spelling cables =
     field (number one (below cables)) (λ n. n.cable) (λ cable.
     part address_spelling (λ n. n.address) (λ address.
-    field (run 6 any) (λ n. n.hardware.0) (λ hardware.
+    field (run hardware_size any) (λ n. n.hardware.0) (λ hardware.
     part zone_spelling (λ n. n.zone) (λ zone.
     part own_router_spelling (λ n. n.router) (λ router.
-    part (counted most_names name_spelling (λ n. n.enumerator + 1)) (λ n. n.names) (λ names.
-    done (record { cable = cable; address = address; hardware = record { 0 = hardware }; zone = zone; router = router; names = names })))))))
+    part (counted max_names name_spelling (λ n. n.enumerator + 1)) (λ n. n.names) (λ names.
+    done (record {
+      cable = cable;
+      address = address;
+      hardware = record { 0 = hardware };
+      zone = zone;
+      router = router;
+      names = names;
+    })))))))
 
 -- the head and the cables
 unfoldable pub front_spelling : Grammar Wrong true (List Cable)
 front_spelling =
     field (run 4 is_magic) (λ c. magic) (λ s.
     field (number one (within 1 1 Version)) (λ c. 1) (λ version.
-    part (counted most (λ low. cable_spelling) (λ c. 0)) (λ c. c) (λ cables.
+    part (counted max_cables (λ low. cable_spelling) (λ c. 0)) (λ c. c) (λ cables.
     done cables)))
 
 -- an image: the head and the cables, the routers, the nodes
 unfoldable pub image_spelling : Grammar Wrong true Internet
 image_spelling =
     part front_spelling (λ i. i.cables) (λ cables.
-    part (counted most (λ low. router_spelling (length cables)) (λ r. 0)) (λ i. i.routers) (λ routers.
-    part (counted most (λ low. node_spelling (length cables)) (λ n. 0)) (λ i. i.nodes) (λ nodes.
+    part (counted max_routers (λ low. router_spelling (length cables)) (λ r. 0)) (λ i. i.routers) (λ routers.
+    part (counted max_nodes (λ low. node_spelling (length cables)) (λ n. 0)) (λ i. i.nodes) (λ nodes.
     done (record { cables = cables; routers = routers; nodes = nodes }))))

@@ -1,4 +1,4 @@
--- The tests of an image's fields. (own)
+-- The tests of an image's fields. This project's own; is_entity is of Inside AppleTalk, the chapter on NBP.
 use Rattle.std.specs.Prelude.{ℕ, Bool, ◌&&◌, not, ◌==◌, List, [], ◌∷◌, Option, Some, None, nat_lt, if◌then◌else◌}
 use Rattle.std.specs.List.{list_all}
 use Rattle.at_base.specs.declared.error.Cause.{Cause}
@@ -14,7 +14,7 @@ any n = None
 abbrev pub within : ℕ → ℕ → Cause → ℕ → Option Wrong
 within least most cause n = if nat_lt n least then Some (Here cause) else if nat_lt most n then Some (Here cause) else None
 
--- a place in a list of so many
+-- a 0-based index into a list of so many
 abbrev pub below : ℕ → ℕ → Option Wrong
 below count n = if nat_lt n count then None else Some (Here Index)
 

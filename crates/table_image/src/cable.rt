@@ -1,4 +1,4 @@
-//! Cables, as an image has them.
+//! Cables of an internet.
 
 ghost use Rattle.std.specs.Prelude.{◌≡◌};
 ghost use Rattle.table_image.specs.Spelling.{cable_spelling};
@@ -9,21 +9,25 @@ use crate::input::u16_at;
 use crate::item::{Item, ReadItem, WriteItem};
 use crate::listed::Listed;
 use crate::output::put_u16;
+use crate::sizes::RANGE_SIZE;
 use crate::zones::{check_zones, pass_zones, put_zones, zones_at};
 use at_base::Name;
 use std::alloc::{AllocError, Global};
 
-/// A cable: its first and last network, and its zones, of which the first is the default.
-#[derive(Debug, Drop)]
+/// A cable: a network of the internet, in AppleTalk Phase 2 a range of network numbers.
+///
+/// Inside AppleTalk, the chapters on DDP and ZIP.
+#[derive(Debug, PartialEq, Eq, Drop)]
 pub struct Cable {
+    /// The first network number of its range; no rule of the image ties it to `end`.
     pub start: u16,
+    /// The last network number of its range.
     pub end: u16,
+    /// The names of its zones, at most `MAX_ZONES`; the first is the default zone.
     pub zones: Listed<Name>,
 }
 
 impl Item for Cable {
-    ghost use Rattle.table_image.specs.Same.{cable_same};
-
     ghost spelling = { λ known low. cable_spelling };
 
     ghost next = { λ _. 0 };
@@ -32,7 +36,7 @@ impl Item for Cable {
         0
     }
 
-    ghost same = { cable_same };
+    fn written_alike() {}
 }
 
 impl ReadItem for Cable {
@@ -70,13 +74,15 @@ impl WriteItem for Cable {
 
 impl CheckItem for Cable {
     ghost use Rattle.table_image.specs.Short.{short_cable};
+    ghost use Rattle.table_image.specs.Sizes.{cable_size};
 
     ghost short = { short_cable };
 
-    ghost most = { 2117 };
+    ghost max_size = { cable_size };
 
     fn check_one(&self, _known: usize, _low: u32, at: usize) -> Result<usize, Misfit> {
+        // Read for the prover alone: a field that is read is known to fit its type.
         let (_start, _end) = (self.start, self.end);
-        check_zones(at + 4, &self.zones)
+        check_zones(at + RANGE_SIZE, &self.zones)
     }
 }

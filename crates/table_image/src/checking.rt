@@ -1,4 +1,4 @@
-//! Checks of parts that are handed in, as reading would judge them if they were spelled in order.
+//! Checks of parts, as reading would judge them if they were written in order.
 
 ghost use Rattle.std.specs.Prelude.{◌≡◌, ◌+◌, ◌*◌, ◌^◌, ◌<◌, ◌≤◌, ℕ, Bool, length, IsTrue};
 ghost use Rattle.std.specs.Prelude.{MatchResult};
@@ -10,7 +10,8 @@ use crate::item::Item;
 use crate::listed::Listed;
 use at_base::Cause;
 
-/// A part that is wrong, and the place where reading would tell it.
+/// What is wrong with a part, and the offset from the image's first byte at which reading would
+/// report it.
 #[derive(Clone, Copy, Debug, PartialEq, Eq)]
 pub struct Misfit {
     pub place: usize,
@@ -23,22 +24,24 @@ pub trait CheckItem: Item {
     ghost short: { Self → Bool };
 
     // The most bytes that such a part takes.
-    ghost most: { ℕ };
+    ghost max_size: { ℕ };
 
-    /// Checks the part, which would stand at `at`: where it would end, or its first flaw.
+    /// Checks the part, which would begin at the offset `at`, where it may refer to `known` other
+    /// parts and may not be below `low`: the offset of its end, or its first flaw.
     fn check_one(&self, known: usize, low: u32, at: usize) -> Result<usize, Misfit>
         requires short { IsTrue (short self.now) }
-        requires room { at + most < 2 ^ 40 }
+        requires room { at + max_size < 2 ^ 40 }
         ensures checked { Checks (Self.spelling known low) self.now at result }
-        ensures near { MatchResult result (λ end. end ≤ at + most) (λ m. m.place ≤ at + most) };
+        ensures near { MatchResult result (λ end. end ≤ at + max_size)
+            (λ m. m.place ≤ at + max_size) };
 }
 
 fn check_list<T: CheckItem>(known: usize, at: usize, items: &[T]) -> Result<usize, Misfit>
     requires short { IsTrue (list_all T.short items.now) }
-    requires room { at + length items.now * T.most < 2 ^ 40 }
+    requires room { at + length items.now * T.max_size < 2 ^ 40 }
     ensures checked { ChecksList (T.spelling known) T.next items.now at result }
-    ensures near { MatchResult result (λ end. end ≤ at + length items.now * T.most)
-        (λ m. m.place ≤ at + length items.now * T.most) }
+    ensures near { MatchResult result (λ end. end ≤ at + length items.now * T.max_size)
+        (λ m. m.place ≤ at + length items.now * T.max_size) }
 {
     let mut end = at;
     let mut low = 0;
@@ -49,7 +52,7 @@ fn check_list<T: CheckItem>(known: usize, at: usize, items: &[T]) -> Result<usiz
     Ok(end)
 }
 
-/// Checks the count and the parts.
+/// Checks the count, which would be at the offset `at`, and the parts.
 pub(crate) fn check_counted<T: CheckItem>(
     limit: u8,
     known: usize,
@@ -58,10 +61,10 @@ pub(crate) fn check_counted<T: CheckItem>(
 ) -> Result<usize, Misfit>
     requires short { IsTrue (list_all T.short items.now) }
     requires few { length items.now ≤ limit }
-    requires room { at + 1 + limit * T.most < 2 ^ 40 }
+    requires room { at + 1 + limit * T.max_size < 2 ^ 40 }
     ensures checked { Checks (counted limit (T.spelling known) T.next) items.now at result }
-    ensures near { MatchResult result (λ end. end ≤ at + 1 + limit * T.most)
-        (λ m. m.place ≤ at + 1 + limit * T.most) }
+    ensures near { MatchResult result (λ end. end ≤ at + 1 + limit * T.max_size)
+        (λ m. m.place ≤ at + 1 + limit * T.max_size) }
 {
     check_list(known, at + 1, items.as_slice())
 }

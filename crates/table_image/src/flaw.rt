@@ -7,14 +7,14 @@ use at_base::Cause;
 use std::alloc::{AllocError, AllocFailed};
 
 /// What is wrong with an image. A reader of a part knows how many bytes are `left` of the input
-/// from the place on where the flaw is told, and not the place itself.
+/// from the byte on at which the flaw is reported, and not that byte's offset.
 #[derive(Clone, Copy, Debug, PartialEq, Eq)]
 pub struct Flaw {
     pub left: usize,
     pub cause: Cause,
 }
 
-/// Memory ran out, or the image has a flaw.
+/// An allocation failed, or the image has a flaw.
 #[derive(Clone, Copy, Debug, PartialEq, Eq)]
 pub enum Stop {
     Memory,

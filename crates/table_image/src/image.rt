@@ -8,6 +8,7 @@ ghost use Rattle.at_base.specs.Spelling.{bytes_of, IsValue, Spells};
 ghost use Rattle.at_base.specs.Reading.{read as read_by, Gives};
 ghost use Rattle.table_image.specs.Internet.{Internet, IsBounded, internet};
 ghost use Rattle.table_image.specs.Flaws.{flaws, GivesOrStops, GoesPast};
+ghost use Rattle.table_image.specs.Limits.{max_routers, max_nodes};
 ghost use Rattle.table_image.specs.Spelling.{counted, front_spelling, router_spelling};
 ghost use Rattle.table_image.specs.Spelling.{node_spelling, image_spelling};
 ghost use Rattle.table_image.specs.Reading.{image_at, IsFirstFlaw, refusal, Refuses, RefusesFirst};
@@ -17,7 +18,7 @@ use crate::cable::Cable;
 use crate::flaw::{Flaw, Stop};
 use crate::input::{byte_within, magic_at, wrong};
 use crate::item::{counted_of, pass_counted, put_counted};
-use crate::limits::MOST;
+use crate::limits::{MAX_CABLES, MAX_NODES, MAX_ROUTERS};
 use crate::listed::Listed;
 use crate::making::{are_short, check_parts};
 use crate::node::Node;
@@ -27,7 +28,10 @@ use at_base::{Bytes, Cause, Error};
 use std::alloc::{AllocError, Global};
 use std::marker::Model;
 
-/// The tables of an internet, each of whose fields passes its test.
+/// The tables of an internet: a value of the format, whose indexes, orders, texts and limits are as
+/// reading wants them.
+///
+/// This project's own.
 #[derive(Debug, Drop)]
 pub struct Image {
     cables: Listed<Cable>,
@@ -48,9 +52,11 @@ impl Model for Image {
 }
 
 impl Image {
-    /// The image of these parts, which takes no memory. Errors: `Full` where a list is longer than
-    /// an image may have it; else `BadImage`, the first flaw of the parts if they were spelled in
-    /// order. (own)
+    /// The image of these parts, without an allocation. Errors: `Full` where a list is longer than
+    /// its limit; else `BadImage`, the first flaw of the parts if they were written in order, with
+    /// its offset from the first byte.
+    ///
+    /// This project's own.
     pub fn make(cables: Vec<Cable>, routers: Vec<Router>, nodes: Vec<Node>) -> Result<Image, Error>
         ensures made { OkIff result
             (IsValue image_spelling (internet cables.items routers.items nodes.items))
@@ -83,26 +89,29 @@ impl Image {
         }
     }
 
-    /// The cables, in order.
+    /// The cables, at most `MAX_CABLES`; ports and nodes have their indexes, from 0.
     pub fn cables(&self) -> &[Cable]
         ensures value { result.now ≡ self.now.cables }
         ensures bounded { IsBounded self.now }
+        ensures valid { IsValue image_spelling self.now }
     {
         self.cables.as_slice()
     }
 
-    /// The routers, in order.
+    /// The routers, at most `MAX_ROUTERS`, in the order of the image.
     pub fn routers(&self) -> &[Router]
         ensures value { result.now ≡ self.now.routers }
         ensures bounded { IsBounded self.now }
+        ensures valid { IsValue image_spelling self.now }
     {
         self.routers.as_slice()
     }
 
-    /// The nodes, in order.
+    /// The nodes, at most `MAX_NODES`, in the order of the image.
     pub fn nodes(&self) -> &[Node]
         ensures value { result.now ≡ self.now.nodes }
         ensures bounded { IsBounded self.now }
+        ensures valid { IsValue image_spelling self.now }
     {
         self.nodes.as_slice()
     }
@@ -121,7 +130,7 @@ fn front_of(alloc: Global, bytes: &[u8]) -> Result<(Listed<Cable>, &[u8]), Stop>
 {
     let (_, rest) = magic_at(bytes)?;
     let (_, rest) = byte_within(rest, 1, 1, Cause::Version)?;
-    counted_of::<Cable>(alloc, MOST, 0, &[], rest)
+    counted_of::<Cable>(alloc, MAX_CABLES, 0, &[], rest)
 }
 
 fn routers_of<'a>(
@@ -130,10 +139,10 @@ fn routers_of<'a>(
     bytes: &'a [u8],
 ) -> Result<(Listed<Router>, &'a [u8]), Stop>
     ensures { GivesOrStops (λ x. (x.0, x.1.now)) result
-        (read_by flaws (counted 200 (λ low. router_spelling (length cables.now)) (λ r. 0))
+        (read_by flaws (counted max_routers (λ low. router_spelling (length cables.now)) (λ r. 0))
         bytes.now) }
 {
-    counted_of::<Router>(alloc, MOST, cables.len(), &[], bytes)
+    counted_of::<Router>(alloc, MAX_ROUTERS, cables.len(), &[], bytes)
 }
 
 fn nodes_of<'a>(
@@ -142,10 +151,10 @@ fn nodes_of<'a>(
     bytes: &'a [u8],
 ) -> Result<(Listed<Node>, &'a [u8]), Stop>
     ensures { GivesOrStops (λ x. (x.0, x.1.now)) result
-        (read_by flaws (counted 200 (λ low. node_spelling (length cables.now)) (λ n. 0))
+        (read_by flaws (counted max_nodes (λ low. node_spelling (length cables.now)) (λ n. 0))
         bytes.now) }
 {
-    counted_of::<Node>(alloc, MOST, cables.len(), &[], bytes)
+    counted_of::<Node>(alloc, MAX_NODES, cables.len(), &[], bytes)
 }
 
 #[tactic(auto, unfolding(crate::specs::Spelling::image_spelling))]
@@ -177,7 +186,7 @@ fn whole(alloc: Global, bytes: &[u8]) -> Result<Parts, Stop>
     Ok(parts)
 }
 
-// Goes through the whole input without memory.
+// Goes past the head and the cables without an allocation.
 #[tactic(auto, unfolding(crate::specs::Spelling::front_spelling))]
 fn pass_front(bytes: &[u8]) -> Result<(usize, &[u8]), Flaw>
     ensures { GoesPast (λ cables. length cables) (λ x. (x.0, x.1.now)) result
@@ -185,7 +194,7 @@ fn pass_front(bytes: &[u8]) -> Result<(usize, &[u8]), Flaw>
 {
     let (_magic, rest) = magic_at(bytes)?;
     let (_version, rest) = byte_within(rest, 1, 1, Cause::Version)?;
-    pass_counted::<Cable>(MOST, 0, rest)
+    pass_counted::<Cable>(MAX_CABLES, 0, rest)
 }
 
 #[tactic(auto, unfolding(crate::specs::Spelling::image_spelling))]
@@ -194,8 +203,8 @@ fn pass_image(bytes: &[u8]) -> Result<(usize, &[u8]), Flaw>
         (read_by flaws image_spelling bytes.now) }
 {
     let (cables, rest) = pass_front(bytes)?;
-    let (_routers, rest) = pass_counted::<Router>(MOST, cables, rest)?;
-    let (_nodes, rest) = pass_counted::<Node>(MOST, cables, rest)?;
+    let (_routers, rest) = pass_counted::<Router>(MAX_ROUTERS, cables, rest)?;
+    let (_nodes, rest) = pass_counted::<Node>(MAX_NODES, cables, rest)?;
     Ok((cables, rest))
 }
 
@@ -220,8 +229,8 @@ fn refused(bytes: &[u8], flaw: Flaw) -> Error
     Error::BadImage(place as u32, flaw.cause)
 }
 
-// Memory ran out. Whether it is the answer is told by the rest of the input, which is looked
-// through without memory.
+// An allocation failed. That is the answer only where the bytes spell an image, so the whole input
+// is looked through without an allocation.
 fn refused_for_memory(bytes: &[u8]) -> Error
     ensures refused { Refuses bytes.now result }
     ensures first { (f : ImageFlaw) → IsFirstFlaw bytes.now f → result ≡ refusal bytes.now f }
@@ -232,8 +241,10 @@ fn refused_for_memory(bytes: &[u8]) -> Error
     }
 }
 
-/// The image that the bytes spell. Errors: `BadImage`, the first flaw of bytes that spell no image;
-/// `Memory`, only where they spell one. (own)
+/// The image that the bytes spell, all of them. Errors: `BadImage`, the first flaw of bytes that
+/// spell no image, with its offset from the first byte; `Memory`, only where they spell one.
+///
+/// This project's own.
 pub fn read(alloc: Global, bytes: &[u8]) -> Result<Image, Error>
     // What is read is spelled so.
     ensures found { IfOk result (λ i. Spells image_spelling bytes.now i) }
@@ -242,7 +253,7 @@ pub fn read(alloc: Global, bytes: &[u8]) -> Result<Image, Error>
         → MatchResult result (λ j. j ≡ i) (λ e. e ≡ Error.Memory) }
     // Where the bytes have a flaw, it is the answer.
     ensures first { (f : ImageFlaw) → IsFirstFlaw bytes.now f → result ≡ Err (refusal bytes.now f) }
-    // A refusal is the first flaw, or for want of memory, and that where the bytes spell an image.
+    // A refusal is the first flaw, or a failed allocation, and that where the bytes spell an image.
     ensures refused { IfErr result (Refuses bytes.now) }
 {
     match whole(alloc, bytes) {
@@ -269,18 +280,30 @@ fn put_image(out: &mut Vec<u8>, image: &Image) -> Result<(), AllocError>
 {
     out.extend_from_slice(&[0x41, 0x54, 0x49, 0x4D])?;
     put_byte(out, 1)?;
-    put_counted(out, MOST, 0, &image.cables)?;
-    put_counted(out, MOST, image.cables.len(), &image.routers)?;
-    put_counted(out, MOST, image.cables.len(), &image.nodes)
+    put_counted(out, MAX_CABLES, 0, &image.cables)?;
+    put_counted(out, MAX_ROUTERS, image.cables.len(), &image.routers)?;
+    put_counted(out, MAX_NODES, image.cables.len(), &image.nodes)
 }
 
-/// The one spelling of an image. Error: `Memory`. (own)
+// How many bytes the image is written as: a check of its parts ends where their last byte would.
+fn written_len(image: &Image) -> usize
+    ensures len { result ≡ length (bytes_of image_spelling image.now) }
+    ensures valid { IsValue image_spelling image.now }
+{
+    match check_parts(&image.cables, &image.routers, &image.nodes) {
+        Ok(end) => end,
+        Err(_) => 0,
+    }
+}
+
+/// The one spelling of an image, in one allocation of its length. Error: `Memory`.
+///
+/// This project's own.
 pub fn write(alloc: Global, image: &Image) -> Result<Bytes, Error>
     ensures spelled { IfOk result (λ bytes. Spells image_spelling bytes image.now) }
     ensures refused { IsOkUnless result Error.Memory }
 {
-    let mut out = Vec::new(alloc);
-    let _opened = &image.cables;
+    let mut out = Vec::with_capacity(alloc, written_len(image))?;
     put_image(&mut out, image)?;
     Ok(Bytes::from_vec(out))
 }

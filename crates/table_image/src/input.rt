@@ -12,6 +12,8 @@ ghost use Rattle.table_image.specs.Tests.{is_entity as entity, is_magic};
 ghost use Rattle.table_image.specs.Spelling.{address_spelling, text_spelling};
 
 use crate::flaw::Flaw;
+use crate::limits::MAX_TEXT;
+use crate::sizes::{BYTE_SIZE, HARDWARE_SIZE, NETWORK_SIZE};
 use at_base::{Addr, Cause, Hw, Name, Text32, is_zone_name};
 
 fn cut() -> Flaw
@@ -52,7 +54,7 @@ pub(crate) fn byte_within(
     ensures { Gives (λ x. (x.0, x.1.now)) result
         (field_at flaws (number one (within least most cause)) bytes.now) }
 {
-    let (front, rest) = split(bytes, 1)?;
+    let (front, rest) = split(bytes, BYTE_SIZE)?;
     let byte = u8::from_be_bytes([front[0]]);
     if byte < least || most < byte {
         return Err(wrong(bytes, cause));
@@ -63,11 +65,11 @@ pub(crate) fn byte_within(
 fn byte_at(bytes: &[u8]) -> Result<(u8, &[u8]), Flaw>
     ensures { Gives (λ x. (x.0, x.1.now)) result (field_at flaws (number one any) bytes.now) }
 {
-    let (front, rest) = split(bytes, 1)?;
+    let (front, rest) = split(bytes, BYTE_SIZE)?;
     Ok((u8::from_be_bytes([front[0]]), rest))
 }
 
-/// A place in a list of so many.
+/// A 0-based index into a list of `count`.
 pub(crate) fn index_at(bytes: &[u8], count: usize) -> Result<(u8, &[u8]), Flaw>
     ensures { Gives (λ x. (x.0, x.1.now)) result
         (field_at flaws (number one (below count)) bytes.now) }
@@ -98,7 +100,7 @@ pub(crate) fn enumerator_at(bytes: &[u8], low: u32) -> Result<(u8, &[u8]), Flaw>
 pub(crate) fn u16_at(bytes: &[u8]) -> Result<(u16, &[u8]), Flaw>
     ensures { Gives (λ x. (x.0, x.1.now)) result (field_at flaws (number two any) bytes.now) }
 {
-    let (front, rest) = split(bytes, 2)?;
+    let (front, rest) = split(bytes, NETWORK_SIZE)?;
     Ok((u16::from_be_bytes([front[0], front[1]]), rest))
 }
 
@@ -129,7 +131,7 @@ pub(crate) fn magic_at(bytes: &[u8]) -> Result<(&[u8], &[u8]), Flaw>
 pub(crate) fn hardware_at(bytes: &[u8]) -> Result<(Hw, &[u8]), Flaw>
     ensures { Gives (λ x. (x.0.0, x.1.now)) result (field_at flaws (run 6 any) bytes.now) }
 {
-    let (front, rest) = split(bytes, 6)?;
+    let (front, rest) = split(bytes, HARDWARE_SIZE)?;
     let mut hardware = [0; 6];
     hardware.copy_from_slice(front);
     Ok((Hw(hardware), rest))
@@ -145,7 +147,7 @@ pub(crate) fn address_at(bytes: &[u8]) -> Result<(Addr, &[u8]), Flaw>
     Ok((Addr { net, node }, rest))
 }
 
-// A text is refused at its length byte, which is the one before its first.
+// A text is refused at its length byte, the one before its first byte.
 fn wrong_text(after: &[u8]) -> Flaw
     ensures { result ≡ record { left = 1 + length after.now; cause = Cause.Name } }
 {
@@ -160,7 +162,7 @@ fn wrong_text(after: &[u8]) -> Flaw
 pub(crate) fn name_at(bytes: &[u8]) -> Result<(Name, &[u8]), Flaw>
     ensures { Gives (λ x. (x.0, x.1.now)) result (read flaws (text_spelling is_name) bytes.now) }
 {
-    let (len, after) = byte_within(bytes, 1, 32, Cause::Name)?;
+    let (len, after) = byte_within(bytes, 1, MAX_TEXT, Cause::Name)?;
     let (text, rest) = split(after, len as usize)?;
     if !is_zone_name(text) {
         return Err(wrong_text(after));
@@ -202,7 +204,7 @@ pub(crate) fn is_entity(text: &[u8]) -> bool
 pub(crate) fn entity_at(bytes: &[u8]) -> Result<(Text32, &[u8]), Flaw>
     ensures { Gives (λ x. (x.0, x.1.now)) result (read flaws (text_spelling entity) bytes.now) }
 {
-    let (len, after) = byte_within(bytes, 1, 32, Cause::Name)?;
+    let (len, after) = byte_within(bytes, 1, MAX_TEXT, Cause::Name)?;
     let (text, rest) = split(after, len as usize)?;
     if !is_entity(text) {
         return Err(wrong_text(after));

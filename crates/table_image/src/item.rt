@@ -1,4 +1,4 @@
-//! Parts of which there are several, one after the other, behind their count.
+//! Lists of parts, after a count.
 
 ghost use Rattle.std.specs.Prelude.{◌≡◌, ◌++◌, ℕ, true, length, OnOk};
 ghost use Rattle.std.specs.List.{flat_map};
@@ -28,9 +28,10 @@ pub trait Item: Drop {
     fn next_low(&self) -> u32
         ensures { result ≡ next self.now };
 
-    // What a part is written as doesn't depend on the parts around it.
-    ghost same: { (known low : ℕ) (x : Self)
-        → bytes_of (spelling known low) x ≡ bytes_of (spelling 0 0) x };
+    /// A law, which costs nothing: a part is written alike, whatever parts are around it.
+    fn written_alike()
+        ensures { (known low : ℕ) (x : Self)
+            → bytes_of (spelling known low) x ≡ bytes_of (spelling 0 0) x };
 }
 
 /// A part that can be read.
@@ -47,14 +48,14 @@ pub trait ReadItem: Item {
         ensures { GivesOrStops (λ x. (x.0, x.1.now)) result
             (read flaws (Self.spelling known low) bytes.now) };
 
-    /// Goes past the part at the front of the bytes, without memory: the number that it leaves, and
-    /// the bytes after it.
+    /// Goes past the part at the front of the bytes without an allocation: the number that it
+    /// leaves, and the bytes after it.
     fn pass_one(known: usize, low: u32, bytes: &[u8]) -> Result<(u32, &[u8]), Flaw>
         ensures { GoesPast Self.next (λ x. (x.0, x.1.now)) result
             (read flaws (Self.spelling known low) bytes.now) };
 }
 
-/// A part that is read without memory.
+/// A part that is read without an allocation.
 pub trait FlatItem: Item {
     /// The part at the front of the bytes, and the bytes after it.
     fn flat_at(known: usize, low: u32, bytes: &[u8]) -> Result<(Self, &[u8]), Flaw>
@@ -92,7 +93,7 @@ pub trait WriteItem: Item {
             (out.new.items ≡ out.old.items ++ bytes_of (Self.spelling 0 0) self.now) };
 }
 
-// A list of one takes no memory beyond that of its item.
+// A list of one needs no allocation beyond those of its item.
 fn single_of<'a, T: ReadItem>(
     alloc: Global,
     known: usize,
@@ -106,8 +107,8 @@ fn single_of<'a, T: ReadItem>(
     Ok((Listed::one(item), rest))
 }
 
-// The count tells how much room the list needs, so it is made once. A part may be like the one at
-// its place in the other list, or else like the one before it.
+// The count says how much room the list needs, so it is allocated once. A part may be like the one
+// with its index in the other list, or else like the one before it.
 fn list_of<'a, T: ReadItem>(
     alloc: Global,
     known: usize,
@@ -165,7 +166,7 @@ fn pass_list<T: ReadItem>(known: usize, count: u8, bytes: &[u8]) -> Result<(usiz
     Ok((count as usize, rest))
 }
 
-/// Goes past as many parts as the count says, and tells how many there were.
+/// Goes past as many parts as the count says, and returns their number.
 #[tactic(auto, unfolding(crate::specs::Spelling::counted))]
 pub(crate) fn pass_counted<T: ReadItem>(
     limit: u8,
@@ -190,7 +191,7 @@ fn put_list<T: WriteItem>(out: &mut Vec<u8>, items: &[T]) -> Result<(), AllocErr
 }
 
 /// Writes the count and the parts. The limit and the number of parts that they may refer to change
-/// nothing that is written; they tell which format it is.
+/// nothing that is written; they say which format it is.
 pub(crate) fn put_counted<T: WriteItem>(
     out: &mut Vec<u8>,
     _limit: u8,
@@ -201,6 +202,7 @@ pub(crate) fn put_counted<T: WriteItem>(
         (out.new.items ≡ out.old.items ++ bytes_of (counted _limit (T.spelling _known) T.next)
         items.now) }
 {
+    T::written_alike();
     put_count(out, items.len())?;
     put_list(out, items.as_slice())?;
     Ok(())

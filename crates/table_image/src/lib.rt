@@ -1,4 +1,4 @@
-//! The tables of an internet, frozen: the image, and its bytes.
+//! The tables of an internet at one moment: the image, and its bytes.
 #![tactic(auto)]
 
 mod cable;
@@ -15,17 +15,18 @@ mod output;
 mod port;
 mod router;
 mod row;
+mod sizes;
 mod zone_list;
 mod zones;
 
 pub use cable::Cable;
 pub use image::{Image, one_spelling, read, write};
+pub use limits::{
+    MAX_CABLES, MAX_NAMES, MAX_NODES, MAX_PORTS, MAX_ROUTERS, MAX_ROWS, MAX_ZONE_LISTS, MAX_ZONES,
+};
 pub use listed::Listed;
 pub use node::{Node, NodeName};
 pub use port::Port;
 pub use router::Router;
 pub use row::Row;
 pub use zone_list::ZoneList;
-
-#[cfg(test)]
-mod tests;

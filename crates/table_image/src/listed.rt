@@ -1,24 +1,31 @@
 //! Lists of the crate's own, which contracts see as lists.
 
 ghost use Rattle.std.specs.Prelude.{◌≡◌, ◌∷◌, ◌==◌, [], length, IfSome};
+ghost use Rattle.std.specs.Slice.Iter.{iter_rest};
+ghost use Rattle.std.specs.Cmp.{on_per, on_equiv};
+ghost use Rattle.std.specs.Cmp.Lexicographic.{pointwise, lists_per, lists_equiv};
 
 use std::alloc::Global;
+use std::convert::AsSlice;
 use std::marker::Model;
-use std::rc::Rc;
+use std::ops::DerefSlice;
+use std::slice;
+use std::sync::Arc;
 
-/// Some values, one after the other.
+/// Values one after the other, as a slice that owns its memory; a clause sees the list of them.
+/// This project's own.
 #[derive(Debug, Drop)]
 pub struct Listed<T> {
     kept: Kept<T>,
 }
 
-// Most zone lists of a router have one zone: a list of one stands in place, and takes no memory of
+// Most zone lists of a router have one zone: a list of one is kept in place, and takes no memory of
 // its own. Longer ones are those of the other routers, so they are kept once for all.
 #[derive(Debug, Drop)]
 enum Kept<T> {
     One([T; 1]),
     Many(Vec<T>),
-    Shared(Rc<Vec<T>, Global>),
+    Shared(Arc<Vec<T>, Global>),
 }
 
 impl<T> Model for Listed<T> {
@@ -31,7 +38,7 @@ impl<T> Model for Listed<T> {
 }
 
 impl<T> Listed<T> {
-    /// The one value as a list, which takes no memory.
+    /// The one value as a list, without an allocation.
     pub fn one(item: T) -> Listed<T>
         ensures { result ≡ item ∷ [] }
     {
@@ -40,7 +47,7 @@ impl<T> Listed<T> {
         }
     }
 
-    /// The values of the vector, which takes no memory.
+    /// The values of the vector, without an allocation.
     pub fn from_vec(items: Vec<T>) -> Listed<T>
         ensures { result ≡ items.items }
     {
@@ -60,29 +67,81 @@ impl<T> Listed<T> {
         }
     }
 
-    /// How many values there are.
+    /// The number of values.
     pub fn len(&self) -> usize
         ensures { result ≡ length self.now }
     {
         self.as_slice().len()
     }
 
-    /// Whether there is none.
+    /// Whether there is no value.
     pub fn is_empty(&self) -> bool
         ensures { result ≡ (length self.now == 0) }
     {
         self.as_slice().is_empty()
     }
+
+    /// The values, from the first to the last.
+    pub fn iter(&self) -> slice::Iter<'_, T>
+        ensures { iter_rest result ≡ self.now }
+    {
+        self.as_slice().iter()
+    }
+}
+
+impl<T> DerefSlice for Listed<T> {
+    type Elem = T;
+
+    ghost deref_gives = { λ a xs. xs ≡ a };
+
+    fn deref(&self) -> &[T] {
+        self.as_slice()
+    }
+}
+
+impl<T> AsSlice<T> for Listed<T> {
+    ghost items = { λ a. a };
+
+    fn as_slice(&self) -> &[T] {
+        self.as_slice()
+    }
+}
+
+impl<'a, T> IntoIterator for &'a Listed<T> {
+    type Item = &'a T;
+
+    type IntoIter = slice::Iter<'a, T>;
+
+    ghost into_iter_gives = { λ a it. iter_rest it ≡ a.now };
+
+    fn into_iter(self) -> slice::Iter<'a, T> {
+        self.iter()
+    }
+}
+
+// Lists are equal where their values are, in the same order, however they keep them.
+impl<T: PartialEq> PartialEq for Listed<T> {
+    ghost eq = { λ a b. pointwise T.eq a b };
+
+    ghost laws = { on_per (λ a. a) (lists_per T.laws) };
+
+    fn eq(&self, other: &Self) -> bool {
+        self.as_slice() == other.as_slice()
+    }
+}
+
+impl<T: Eq> Eq for Listed<T> {
+    ghost laws = { on_equiv (λ a. a) (lists_equiv T.Eq.laws) };
 }
 
 impl<T: Drop> Listed<T> {
-    /// The same values, which may have several owners from now on. Where memory runs out they have
+    /// The same values, which may have several owners from now on. If allocation fails they have
     /// one, as before.
     pub(crate) fn into_shared(self, alloc: Global) -> Listed<T>
         ensures { result ≡ self }
     {
         let kept = match self.kept {
-            Kept::Many(items) => match Rc::new(alloc, items) {
+            Kept::Many(items) => match Arc::new(alloc, items) {
                 Ok(shared) => Kept::Shared(shared),
                 Err(refused) => Kept::Many(refused.value),
             },
@@ -96,7 +155,7 @@ impl<T: Drop> Listed<T> {
         ensures { IfSome result (λ other. other ≡ self.now) }
     {
         match &self.kept {
-            Kept::Shared(items) => match items.clone() {
+            Kept::Shared(items) => match Arc::try_clone(items) {
                 Ok(items) => Some(Listed {
                     kept: Kept::Shared(items),
                 }),

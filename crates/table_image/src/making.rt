@@ -1,4 +1,4 @@
-//! Images of parts that are handed in.
+//! Checks of the parts that an image is made of.
 
 ghost use Rattle.std.specs.Prelude.{◌≡◌, ◌+◌, ◌^◌, ◌<◌, ◌≤◌, ◌&&◌, IsTrue, IfErr, length};
 ghost use Rattle.std.specs.List.{list_all};
@@ -10,10 +10,13 @@ ghost use Rattle.table_image.specs.Checking.{Checks};
 
 use crate::cable::Cable;
 use crate::checking::{Misfit, check_counted};
-use crate::limits::{MOST, MOST_NAMES, MOST_PORTS, MOST_ZONES};
+use crate::limits::{
+    MAX_CABLES, MAX_NAMES, MAX_NODES, MAX_PORTS, MAX_ROUTERS, MAX_ROWS, MAX_ZONE_LISTS, MAX_ZONES,
+};
 use crate::listed::Listed;
 use crate::node::Node;
 use crate::router::Router;
+use crate::sizes::HEAD_SIZE;
 use crate::zone_list::ZoneList;
 
 fn lists_are_short(lists: &[ZoneList]) -> bool
@@ -21,7 +24,7 @@ fn lists_are_short(lists: &[ZoneList]) -> bool
 {
     lists
         .iter()
-        .all(|list| list.zones.len() <= MOST_ZONES as usize)
+        .all(|list| list.zones.len() <= MAX_ZONES as usize)
 }
 
 fn cables_are_short(cables: &[Cable]) -> bool
@@ -29,15 +32,15 @@ fn cables_are_short(cables: &[Cable]) -> bool
 {
     cables
         .iter()
-        .all(|cable| cable.zones.len() <= MOST_ZONES as usize)
+        .all(|cable| cable.zones.len() <= MAX_ZONES as usize)
 }
 
 fn router_is_short(router: &Router) -> bool
     ensures { result ≡ short_router router.now }
 {
-    router.ports.len() <= MOST_PORTS as usize
-        && router.rows.len() <= MOST as usize
-        && router.lists.len() <= MOST as usize
+    router.ports.len() <= MAX_PORTS as usize
+        && router.rows.len() <= MAX_ROWS as usize
+        && router.lists.len() <= MAX_ZONE_LISTS as usize
         && lists_are_short(router.lists.as_slice())
 }
 
@@ -52,10 +55,10 @@ fn nodes_are_short(nodes: &[Node]) -> bool
 {
     nodes
         .iter()
-        .all(|node| node.names.len() <= MOST_NAMES as usize)
+        .all(|node| node.names.len() <= MAX_NAMES as usize)
 }
 
-/// Whether every list is no longer than an image may have it.
+/// Whether every list is within its limit.
 pub(crate) fn are_short(
     cables: &Listed<Cable>,
     routers: &Listed<Router>,
@@ -63,15 +66,16 @@ pub(crate) fn are_short(
 ) -> bool
     ensures { result ≡ is_short (internet cables.now routers.now nodes.now) }
 {
-    cables.len() <= MOST as usize
-        && routers.len() <= MOST as usize
-        && nodes.len() <= MOST as usize
+    cables.len() <= MAX_CABLES as usize
+        && routers.len() <= MAX_ROUTERS as usize
+        && nodes.len() <= MAX_NODES as usize
         && cables_are_short(cables.as_slice())
         && routers_are_short(routers.as_slice())
         && nodes_are_short(nodes.as_slice())
 }
 
-/// Checks the parts, as reading would judge them if they were spelled in order.
+/// Checks the parts, as reading would judge them if they were written in order: the length of the
+/// image, or the first flaw.
 pub(crate) fn check_parts(
     cables: &Listed<Cable>,
     routers: &Listed<Router>,
@@ -81,12 +85,12 @@ pub(crate) fn check_parts(
     ensures checked { Checks image_spelling (internet cables.now routers.now nodes.now) 0 result }
     ensures near { IfErr result (λ m. m.place < 2 ^ 32) }
 {
-    let end = match check_counted(MOST, 0, 5, cables) {
+    let end = match check_counted(MAX_CABLES, 0, HEAD_SIZE, cables) {
         Ok(end) => end,
         Err(misfit) => return Err(misfit),
     };
-    match check_counted(MOST, cables.len(), end, routers) {
-        Ok(end) => check_counted(MOST, cables.len(), end, nodes),
+    match check_counted(MAX_ROUTERS, cables.len(), end, routers) {
+        Ok(end) => check_counted(MAX_NODES, cables.len(), end, nodes),
         Err(misfit) => Err(misfit),
     }
 }

@@ -1,4 +1,4 @@
-//! Nodes, as an image has them, and their names.
+//! Nodes of an internet, and their names.
 
 ghost use Rattle.std.specs.Prelude.{◌≡◌, ◌+◌, ◌^◌, ◌<◌, ◌≤◌, ◌++◌, length, OnOk, MatchResult};
 ghost use Rattle.at_base.specs.Spelling.{bytes_of, IsValue};
@@ -8,6 +8,7 @@ ghost use Rattle.table_image.specs.Tests.{is_entity as is_entity_text};
 ghost use Rattle.table_image.specs.Flaws.{flaws, GoesPast};
 ghost use Rattle.table_image.specs.Spelling.{node_spelling, name_spelling, own_router_spelling};
 ghost use Rattle.table_image.specs.Spelling.{text_spelling};
+ghost use Rattle.table_image.specs.Sizes.{text_size, own_router_size as own_size};
 
 use crate::checking::{CheckItem, Misfit, check_counted};
 use crate::flaw::{Flaw, Stop};
@@ -15,36 +16,49 @@ use crate::input::{
     address_at, byte_within, entity_at, enumerator_at, hardware_at, index_at, is_entity, name_at,
 };
 use crate::item::{FlatItem, Item, ReadItem, WriteItem, counted_of, pass_counted, put_counted};
-use crate::limits::MOST_NAMES;
+use crate::limits::MAX_NAMES;
 use crate::listed::Listed;
 use crate::output::{put_address, put_byte, put_text};
+use crate::sizes::{BYTE_SIZE, OWN_ROUTER_SIZE, PORT_SIZE};
 use at_base::{Addr, Cause, Hw, Name, Text32};
 use std::alloc::{AllocError, Global};
 
-/// A name that a node has registered; `kind` is the name's type.
-#[derive(Clone, Copy, Debug)]
+/// A name that a node has registered for one of its sockets. Its zone is the node's.
+///
+/// Inside AppleTalk, the chapter on NBP.
+#[derive(Clone, Copy, Debug, PartialEq, Eq)]
 pub struct NodeName {
+    /// The number of the socket, 1 to 254.
     pub socket: u8,
+    /// The number that tells a node's names apart, 1 to 255. The names of a node rise strictly by
+    /// it.
     pub enumerator: u8,
+    /// The object: 1 to 32 bytes, none of them the wildcard C5, and not `=` alone.
     pub object: Text32,
+    /// The type, of which the same holds.
     pub kind: Text32,
 }
 
-/// A node: the place of its cable among the cables, from 0, its addresses there, its zone, the
-/// router that it sends through, and its names.
-#[derive(Debug, Drop)]
+/// A node: a station that isn't a router.
+///
+/// Inside AppleTalk, the chapters on DDP, ZIP and NBP.
+#[derive(Debug, PartialEq, Eq, Drop)]
 pub struct Node {
+    /// The 0-based index of its cable in the image's cables.
     pub cable: u8,
+    /// Its network address on that cable.
     pub address: Addr,
+    /// Its hardware address on that cable, 6 bytes.
     pub hardware: Hw,
+    /// The name of the zone that it is in.
     pub zone: Name,
+    /// The address of the router that it sends through; `None` where it has heard of none.
     pub router: Option<Addr>,
+    /// The names that it has registered, at most `MAX_NAMES`, strictly rising by enumerators.
     pub names: Listed<NodeName>,
 }
 
 impl Item for NodeName {
-    ghost use Rattle.table_image.specs.Same.{name_same};
-
     ghost spelling = { λ known low. name_spelling low };
 
     ghost next = { λ n. n.enumerator + 1 };
@@ -53,7 +67,8 @@ impl Item for NodeName {
         u32::from(self.enumerator) + 1
     }
 
-    ghost same = { name_same };
+    #[tactic(auto, unfolding(crate::specs::Spelling::name_spelling))]
+    fn written_alike() {}
 }
 
 impl FlatItem for NodeName {
@@ -117,8 +132,6 @@ fn put_own_router(out: &mut Vec<u8>, router: Option<Addr>) -> Result<(), AllocEr
 }
 
 impl Item for Node {
-    ghost use Rattle.table_image.specs.Same.{node_same};
-
     ghost spelling = { λ known low. node_spelling known };
 
     ghost next = { λ _. 0 };
@@ -127,7 +140,8 @@ impl Item for Node {
         0
     }
 
-    ghost same = { node_same };
+    #[tactic(auto, unfolding(crate::specs::Spelling::node_spelling))]
+    fn written_alike() {}
 }
 
 impl ReadItem for Node {
@@ -147,7 +161,7 @@ impl ReadItem for Node {
             Err(flaw) => return Err(Stop::Refused(flaw)),
         };
         let (router, rest) = own_router_at(rest)?;
-        let (names, rest) = counted_of::<NodeName>(alloc, MOST_NAMES, 0, &[], rest)?;
+        let (names, rest) = counted_of::<NodeName>(alloc, MAX_NAMES, 0, &[], rest)?;
         Ok((
             Node {
                 cable,
@@ -171,7 +185,7 @@ impl ReadItem for Node {
             Err(flaw) => return Err(flaw),
         };
         let (_router, rest) = own_router_at(rest)?;
-        let (_names, rest) = pass_counted::<NodeName>(MOST_NAMES, 0, rest)?;
+        let (_names, rest) = pass_counted::<NodeName>(MAX_NAMES, 0, rest)?;
         Ok((0, rest))
     }
 }
@@ -184,14 +198,15 @@ impl WriteItem for Node {
         out.extend_from_slice(&self.hardware.0)?;
         put_text(out, self.zone.as_slice())?;
         put_own_router(out, self.router)?;
-        put_counted(out, MOST_NAMES, 0, &self.names)
+        put_counted(out, MAX_NAMES, 0, &self.names)
     }
 }
 
 fn check_entity(text: &Text32, at: usize) -> Result<usize, Misfit>
-    requires { at + 33 < 2 ^ 40 }
+    requires { at + text_size < 2 ^ 40 }
     ensures checked { Checks (text_spelling is_entity_text) text.now at result }
-    ensures near { MatchResult result (λ end. end ≤ at + 33) (λ m. m.place ≤ at + 33) }
+    ensures near { MatchResult result (λ end. end ≤ at + text_size)
+        (λ m. m.place ≤ at + text_size) }
 {
     let bytes = text.as_slice();
     let wrong = Misfit {
@@ -204,15 +219,21 @@ fn check_entity(text: &Text32, at: usize) -> Result<usize, Misfit>
     if !is_entity(bytes) {
         return Err(wrong);
     }
-    Ok(at + 1 + bytes.len())
+    Ok(at + BYTE_SIZE + bytes.len())
 }
+
+// The offsets of a name's enumerator and object from its first byte.
+const ENUMERATOR_AT: usize = BYTE_SIZE;
+
+const OBJECT_AT: usize = ENUMERATOR_AT + BYTE_SIZE;
 
 impl CheckItem for NodeName {
     ghost use Rattle.std.specs.Prelude.{true};
+    ghost use Rattle.table_image.specs.Sizes.{name_size};
 
     ghost short = { λ name. true };
 
-    ghost most = { 68 };
+    ghost max_size = { name_size };
 
     fn check_one(&self, _known: usize, low: u32, at: usize) -> Result<usize, Misfit> {
         let wrong = Misfit {
@@ -227,17 +248,17 @@ impl CheckItem for NodeName {
         }
         if self.enumerator < 1 {
             return Err(Misfit {
-                place: at + 1,
+                place: at + ENUMERATOR_AT,
                 cause: Cause::Value,
             });
         }
         if u32::from(self.enumerator) < low {
             return Err(Misfit {
-                place: at + 1,
+                place: at + ENUMERATOR_AT,
                 cause: Cause::Order,
             });
         }
-        match check_entity(&self.object, at + 2) {
+        match check_entity(&self.object, at + OBJECT_AT) {
             Ok(end) => check_entity(&self.kind, end),
             Err(misfit) => Err(misfit),
         }
@@ -247,25 +268,31 @@ impl CheckItem for NodeName {
 fn own_router_size(router: Option<Addr>) -> usize
     ensures size { result ≡ length (bytes_of own_router_spelling router) }
     ensures value { IsValue own_router_spelling router }
-    ensures few { result ≤ 4 }
+    ensures few { result ≤ own_size }
 {
     match router {
-        None => 1,
+        None => BYTE_SIZE,
         Some(address) => {
+            // Read for the prover alone: a field that is read is known to fit its type.
             let (_net, _node) = (address.net, address.node);
-            4
+            OWN_ROUTER_SIZE
         }
     }
 }
 
+// The offset of the text of a node's zone from the node's first byte: its length is before it.
+const ZONE_TEXT_AT: usize = PORT_SIZE + BYTE_SIZE;
+
 impl CheckItem for Node {
     ghost use Rattle.table_image.specs.Short.{short_node};
+    ghost use Rattle.table_image.specs.Sizes.{node_size};
 
     ghost short = { short_node };
 
-    ghost most = { 2224 };
+    ghost max_size = { node_size };
 
     fn check_one(&self, known: usize, _low: u32, at: usize) -> Result<usize, Misfit> {
+        // Read for the prover alone: a field that is read is known to fit its type.
         let (_net, _node) = (self.address.net, self.address.node);
         let _hardware = self.hardware.as_slice();
         if self.cable as usize >= known {
@@ -275,7 +302,7 @@ impl CheckItem for Node {
             });
         }
         let zone = self.zone.as_slice();
-        let end = at + 11 + zone.len() + own_router_size(self.router);
-        check_counted(MOST_NAMES, 0, end, &self.names)
+        let end = at + ZONE_TEXT_AT + zone.len() + own_router_size(self.router);
+        check_counted(MAX_NAMES, 0, end, &self.names)
     }
 }

@@ -3,6 +3,7 @@
 ghost use Rattle.std.specs.Prelude.{◌≡◌, ◌≤◌, ◌++◌, ◌∷◌, length, OnOk};
 ghost use Rattle.std.specs.Int.{w8, w16, to_be_bytes};
 ghost use Rattle.at_base.specs.Spelling.{bytes_of};
+ghost use Rattle.table_image.specs.Limits.{max_text};
 ghost use Rattle.table_image.specs.Spelling.{address_spelling};
 
 use at_base::Addr;
@@ -30,9 +31,9 @@ pub(crate) fn put_count(out: &mut Vec<u8>, count: usize) -> Result<(), AllocErro
     Ok(())
 }
 
-/// A text behind its length.
+/// A text after its length.
 pub(crate) fn put_text(out: &mut Vec<u8>, text: &[u8]) -> Result<(), AllocError>
-    requires { length text.now ≤ 32 }
+    requires { length text.now ≤ max_text }
     ensures { OnOk result (out.new.items ≡ out.old.items ++ length text.now ∷ text.now) }
 {
     out.push(text.len() as u8)?;

@@ -8,20 +8,24 @@ use crate::flaw::Flaw;
 use crate::input::{address_at, hardware_at, index_at};
 use crate::item::{FlatItem, Item, WriteItem};
 use crate::output::{put_address, put_byte};
+use crate::sizes::PORT_SIZE;
 use at_base::{Addr, Cause, Hw};
 use std::alloc::AllocError;
 
-/// A port: the place of its cable among the cables, from 0, and its addresses there.
-#[derive(Clone, Copy, Debug)]
+/// A port of a router: where the router is attached to a cable.
+///
+/// Inside AppleTalk, the chapter on RTMP.
+#[derive(Clone, Copy, Debug, PartialEq, Eq)]
 pub struct Port {
+    /// The 0-based index of its cable in the image's cables.
     pub cable: u8,
+    /// The router's network address on that cable.
     pub address: Addr,
+    /// The router's hardware address on that cable, 6 bytes.
     pub hardware: Hw,
 }
 
 impl Item for Port {
-    ghost use Rattle.table_image.specs.Same.{port_same};
-
     ghost spelling = { λ known low. port_spelling known };
 
     ghost next = { λ _. 0 };
@@ -30,7 +34,8 @@ impl Item for Port {
         0
     }
 
-    ghost same = { port_same };
+    #[tactic(auto, unfolding(crate::specs::Spelling::port_spelling))]
+    fn written_alike() {}
 }
 
 impl FlatItem for Port {
@@ -61,12 +66,14 @@ impl WriteItem for Port {
 
 impl CheckItem for Port {
     ghost use Rattle.std.specs.Prelude.{true};
+    ghost use Rattle.table_image.specs.Sizes.{port_size};
 
     ghost short = { λ port. true };
 
-    ghost most = { 10 };
+    ghost max_size = { port_size };
 
     fn check_one(&self, known: usize, _low: u32, at: usize) -> Result<usize, Misfit> {
+        // Read for the prover alone: a field that is read is known to fit its type.
         let (_net, _node) = (self.address.net, self.address.node);
         let _hardware = self.hardware.as_slice();
         if self.cable as usize >= known {
@@ -75,6 +82,6 @@ impl CheckItem for Port {
                 cause: Cause::Index,
             });
         }
-        Ok(at + 10)
+        Ok(at + PORT_SIZE)
     }
 }

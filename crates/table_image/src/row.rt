@@ -7,27 +7,37 @@ use crate::checking::{CheckItem, Misfit};
 use crate::flaw::Flaw;
 use crate::input::{address_at, byte_within, index_at, rising_at, u16_at};
 use crate::item::{FlatItem, Item, WriteItem};
+use crate::limits::MAX_DISTANCE;
 use crate::output::{put_address, put_byte, put_u16};
+use crate::sizes::{BYTE_SIZE, RANGE_SIZE, ROW_SIZE};
 use at_base::{Addr, Cause};
 use rtmp::State;
 use std::alloc::AllocError;
 
-/// A row of a routing table: how far the networks from `start` to `end` are, in routers, and by
-/// which port, a place from 0, and next router. A direct row has the next router 0.0.
-#[derive(Clone, Copy, Debug)]
+/// A row of a routing table: how a router reaches the networks from `start` to `end`.
+///
+/// Inside AppleTalk, the chapter on RTMP.
+#[derive(Clone, Copy, Debug, PartialEq, Eq)]
 pub struct Row {
+    /// The first network number of the range. The rows of a router rise strictly by it.
     pub start: u16,
+    /// The last network number of the range.
     pub end: u16,
+    /// How many routers a datagram passes on its way there, 0 to 31: 0 where a port is on the
+    /// cable.
     pub distance: u8,
+    /// The 0-based index, in the router's ports, of the port that a datagram leaves by.
     pub port: u8,
+    /// The address of the next router on that port's cable; 0.0 where there is none.
     pub next: Addr,
+    /// How lately the row was confirmed.
     pub state: State,
 }
 
 impl Row {
     ghost use Rattle.table_image.specs.Rows.{is_direct as direct};
 
-    /// Whether the row is direct: its networks are those of a cable that the port stands on.
+    /// Whether the row is direct: its networks are those of the port's own cable.
     pub fn is_direct(&self) -> bool
         ensures { result ≡ direct self.now }
     {
@@ -58,8 +68,6 @@ fn number_of(state: State) -> u8
 }
 
 impl Item for Row {
-    ghost use Rattle.table_image.specs.Same.{row_same};
-
     ghost spelling = { row_spelling };
 
     ghost next = { λ r. r.start + 1 };
@@ -68,7 +76,8 @@ impl Item for Row {
         u32::from(self.start) + 1
     }
 
-    ghost same = { row_same };
+    #[tactic(auto, unfolding(crate::specs::Spelling::row_spelling))]
+    fn written_alike() {}
 }
 
 impl FlatItem for Row {
@@ -76,7 +85,7 @@ impl FlatItem for Row {
     fn flat_at(known: usize, low: u32, bytes: &[u8]) -> Result<(Row, &[u8]), Flaw> {
         let (start, rest) = rising_at(bytes, low)?;
         let (end, rest) = u16_at(rest)?;
-        let (distance, rest) = byte_within(rest, 0, 31, Cause::Value)?;
+        let (distance, rest) = byte_within(rest, 0, MAX_DISTANCE, Cause::Value)?;
         let (port, rest) = index_at(rest, known)?;
         let (next, rest) = address_at(rest)?;
         let (number, rest) = byte_within(rest, 0, 3, Cause::Value)?;
@@ -106,14 +115,21 @@ impl WriteItem for Row {
     }
 }
 
+// The offsets of a row's distance and port from its first byte.
+const DISTANCE_AT: usize = RANGE_SIZE;
+
+const PORT_AT: usize = DISTANCE_AT + BYTE_SIZE;
+
 impl CheckItem for Row {
     ghost use Rattle.std.specs.Prelude.{true};
+    ghost use Rattle.table_image.specs.Sizes.{row_size};
 
     ghost short = { λ row. true };
 
-    ghost most = { 10 };
+    ghost max_size = { row_size };
 
     fn check_one(&self, known: usize, low: u32, at: usize) -> Result<usize, Misfit> {
+        // Read for the prover alone: a field that is read is known to fit its type.
         let (_end, _net, _node) = (self.end, self.next.net, self.next.node);
         if u32::from(self.start) < low {
             return Err(Misfit {
@@ -121,18 +137,18 @@ impl CheckItem for Row {
                 cause: Cause::Order,
             });
         }
-        if self.distance > 31 {
+        if self.distance > MAX_DISTANCE {
             return Err(Misfit {
-                place: at + 4,
+                place: at + DISTANCE_AT,
                 cause: Cause::Value,
             });
         }
         if self.port as usize >= known {
             return Err(Misfit {
-                place: at + 5,
+                place: at + PORT_AT,
                 cause: Cause::Index,
             });
         }
-        Ok(at + 10)
+        Ok(at + ROW_SIZE)
     }
 }

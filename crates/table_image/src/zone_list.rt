@@ -9,22 +9,28 @@ use crate::input::{byte_within, rising_at, u16_at};
 use crate::item::{Item, ReadItem, WriteItem};
 use crate::listed::Listed;
 use crate::output::{put_byte, put_u16};
+use crate::sizes::{BYTE_SIZE, RANGE_SIZE};
 use crate::zones::{check_zones, pass_zones, put_zones, zones_at};
 use at_base::{Cause, Name};
 use std::alloc::{AllocError, Global};
 
-/// The zones of the networks from `start` to `end`, as a router knows them.
-#[derive(Debug, Drop)]
+/// A row of a router's zone information table: what it knows of the zones of the networks from
+/// `start` to `end`.
+///
+/// Inside AppleTalk, the chapter on ZIP.
+#[derive(Debug, PartialEq, Eq, Drop)]
 pub struct ZoneList {
+    /// The first network number of the range. The zone lists of a router rise strictly by it.
     pub start: u16,
+    /// The last network number of the range.
     pub end: u16,
+    /// Whether the router has heard of all zones of the range.
     pub complete: bool,
+    /// The names of the zones, at most `MAX_ZONES`; the first is the default zone.
     pub zones: Listed<Name>,
 }
 
 impl Item for ZoneList {
-    ghost use Rattle.table_image.specs.Same.{zone_list_same};
-
     ghost spelling = { λ known low. zone_list_spelling low };
 
     ghost next = { λ l. l.start + 1 };
@@ -33,7 +39,8 @@ impl Item for ZoneList {
         u32::from(self.start) + 1
     }
 
-    ghost same = { zone_list_same };
+    #[tactic(auto, unfolding(crate::specs::Spelling::zone_list_spelling))]
+    fn written_alike() {}
 }
 
 impl ReadItem for ZoneList {
@@ -80,14 +87,19 @@ impl WriteItem for ZoneList {
     }
 }
 
+// The offset of a list's zones from its first byte.
+const ZONES_AT: usize = RANGE_SIZE + BYTE_SIZE;
+
 impl CheckItem for ZoneList {
     ghost use Rattle.table_image.specs.Short.{short_list};
+    ghost use Rattle.table_image.specs.Sizes.{zone_list_size};
 
     ghost short = { short_list };
 
-    ghost most = { 2118 };
+    ghost max_size = { zone_list_size };
 
     fn check_one(&self, _known: usize, low: u32, at: usize) -> Result<usize, Misfit> {
+        // Read for the prover alone: a field that is read is known to fit its type.
         let _end = self.end;
         if u32::from(self.start) < low {
             return Err(Misfit {
@@ -95,6 +107,6 @@ impl CheckItem for ZoneList {
                 cause: Cause::Order,
             });
         }
-        check_zones(at + 5, &self.zones)
+        check_zones(at + ZONES_AT, &self.zones)
     }
 }

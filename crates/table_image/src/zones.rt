@@ -1,4 +1,4 @@
-//! Zones behind their count.
+//! Lists of zones, after a count.
 
 ghost use Rattle.std.specs.Prelude.{◌≡◌, ◌++◌, ◌+◌, ◌^◌, ◌<◌, ◌≤◌, length};
 ghost use Rattle.std.specs.Prelude.{Ok, OnOk, IfSome, MatchResult};
@@ -6,21 +6,22 @@ ghost use Rattle.at_base.specs.Spelling.{bytes_of};
 ghost use Rattle.at_base.specs.Reading.{read, list_at};
 ghost use Rattle.table_image.specs.Checking.{Checks};
 ghost use Rattle.table_image.specs.Flaws.{flaws, GivesOrStops, GoesPast};
+ghost use Rattle.table_image.specs.Limits.{max_zones};
+ghost use Rattle.table_image.specs.Sizes.{zones_size};
 ghost use Rattle.table_image.specs.Spelling.{zone_spelling, zones_spelling};
 
 use crate::checking::{CheckItem, Misfit, check_counted};
 use crate::flaw::{Flaw, Stop};
 use crate::input::name_at;
 use crate::item::{FlatItem, Item, WriteItem, counted_of, pass_counted, put_counted};
-use crate::limits::MOST_ZONES;
+use crate::limits::MAX_ZONES;
 use crate::listed::Listed;
 use crate::output::put_text;
+use crate::sizes::BYTE_SIZE;
 use at_base::Name;
 use std::alloc::{AllocError, Global};
 
 impl Item for Name {
-    ghost use Rattle.table_image.specs.Same.{zone_same};
-
     ghost spelling = { λ known low. zone_spelling };
 
     ghost next = { λ _. 0 };
@@ -29,7 +30,7 @@ impl Item for Name {
         0
     }
 
-    ghost same = { zone_same };
+    fn written_alike() {}
 }
 
 impl FlatItem for Name {
@@ -50,11 +51,11 @@ impl WriteItem for Name {
 fn new_zones_at(alloc: Global, bytes: &[u8]) -> Result<(Listed<Name>, &[u8]), Stop>
     ensures { GivesOrStops (λ x. (x.0, x.1.now)) result (read flaws zones_spelling bytes.now) }
 {
-    let (zones, rest) = counted_of(alloc, MOST_ZONES, 0, &[], bytes)?;
+    let (zones, rest) = counted_of(alloc, MAX_ZONES, 0, &[], bytes)?;
     Ok((zones.into_shared(alloc), rest))
 }
 
-// The bytes after the name, where it stands at their front.
+// The bytes after the name, where they begin with it.
 #[tactic(auto, unfolding(crate::specs::Spelling::text_spelling))]
 fn after_name<'a>(name: &Name, bytes: &'a [u8]) -> Option<&'a [u8]>
     ensures { IfSome result
@@ -72,7 +73,7 @@ fn after_name<'a>(name: &Name, bytes: &'a [u8]) -> Option<&'a [u8]>
     Some(rest)
 }
 
-// The bytes after the names, where they stand one after the other at their front.
+// The bytes after the names, where they begin with them one after the other.
 fn after_names<'a>(names: &[Name], bytes: &'a [u8]) -> Option<&'a [u8]>
     ensures { IfSome result (λ rest.
         list_at (λ low. read flaws zone_spelling) (λ name. 0) 0 (length names.now) bytes.now
@@ -85,7 +86,7 @@ fn after_names<'a>(names: &[Name], bytes: &'a [u8]) -> Option<&'a [u8]>
     Some(rest)
 }
 
-// The same zones once more, where they stand at the front of the bytes and may have several owners.
+// The same zones once more, where the bytes begin with them and they may have several owners.
 #[tactic(auto, unfolding(crate::specs::Spelling::zones_spelling, crate::specs::Spelling::counted))]
 fn zones_again<'a>(zones: &Listed<Name>, bytes: &'a [u8]) -> Option<(Listed<Name>, &'a [u8])>
     ensures { IfSome result
@@ -93,14 +94,14 @@ fn zones_again<'a>(zones: &Listed<Name>, bytes: &'a [u8]) -> Option<(Listed<Name
 {
     let again = zones.share()?;
     let (count, after) = bytes.split_first()?;
-    if *count > MOST_ZONES || *count as usize != zones.len() {
+    if *count > MAX_ZONES || *count as usize != zones.len() {
         return None;
     }
     let rest = after_names(zones.as_slice(), after)?;
     Some((again, rest))
 }
 
-/// Zones behind their count. Where they are those of the other list, they are kept once.
+/// A count and zones. Where they are those of the other list, they are kept once.
 pub(crate) fn zones_at<'a>(
     alloc: Global,
     like: Option<&Listed<Name>>,
@@ -114,42 +115,44 @@ pub(crate) fn zones_at<'a>(
     }
 }
 
-/// Goes past zones behind their count, and tells how many there were.
+/// Goes past a count and zones, and returns the number of zones.
 #[tactic(auto, unfolding(crate::specs::Spelling::zones_spelling))]
 pub(crate) fn pass_zones(bytes: &[u8]) -> Result<(usize, &[u8]), Flaw>
     ensures { GoesPast (λ xs. length xs) (λ x. (x.0, x.1.now)) result
         (read flaws zones_spelling bytes.now) }
 {
-    pass_counted::<Name>(MOST_ZONES, 0, bytes)
+    pass_counted::<Name>(MAX_ZONES, 0, bytes)
 }
 
-/// Writes zones behind their count.
+/// Writes a count and zones.
 #[tactic(auto, unfolding(crate::specs::Spelling::zones_spelling))]
 pub(crate) fn put_zones(out: &mut Vec<u8>, names: &Listed<Name>) -> Result<(), AllocError>
     ensures { OnOk result (out.new.items ≡ out.old.items ++ bytes_of zones_spelling names.now) }
 {
-    put_counted(out, MOST_ZONES, 0, names)
+    put_counted(out, MAX_ZONES, 0, names)
 }
 
 impl CheckItem for Name {
     ghost use Rattle.std.specs.Prelude.{true};
+    ghost use Rattle.table_image.specs.Sizes.{text_size};
 
     ghost short = { λ name. true };
 
-    ghost most = { 33 };
+    ghost max_size = { text_size };
 
     fn check_one(&self, _known: usize, _low: u32, at: usize) -> Result<usize, Misfit> {
-        Ok(at + 1 + self.as_slice().len())
+        Ok(at + BYTE_SIZE + self.as_slice().len())
     }
 }
 
-/// Checks zones behind their count.
+/// Checks a count and zones.
 #[tactic(auto, unfolding(crate::specs::Spelling::zones_spelling))]
 pub(crate) fn check_zones(at: usize, names: &Listed<Name>) -> Result<usize, Misfit>
-    requires few { length names.now ≤ 64 }
-    requires room { at + 2113 < 2 ^ 40 }
+    requires few { length names.now ≤ max_zones }
+    requires room { at + zones_size < 2 ^ 40 }
     ensures checked { Checks zones_spelling names.now at result }
-    ensures near { MatchResult result (λ end. end ≤ at + 2113) (λ m. m.place ≤ at + 2113) }
+    ensures near { MatchResult result (λ end. end ≤ at + zones_size)
+        (λ m. m.place ≤ at + zones_size) }
 {
-    check_counted(MOST_ZONES, 0, at, names)
+    check_counted(MAX_ZONES, 0, at, names)
 }

@@ -5,10 +5,11 @@ use Rattle.table_image.proofs.checking.check_counted.Goals as goal
 
 pub returns-clause-checked : goal.returns-clause-checked
 returns-clause-checked g c =
-    counted_checks c.args.limit (g.T.Item.spelling c.args.known) g.T.Item.next c.args.items.now c.args.at c.check_list.result c.requires.few (omega arith)
+    counted_checks c.args.limit (g.T.Item.spelling c.args.known) g.T.Item.next c.args.items.now c.args.at c.check_list.result c.requires.few
+    (omega arith)
     (rw (← c.as_slice.ensures) c.check_list.ensures.checked)
 
 pub returns-clause-near : goal.returns-clause-near
 returns-clause-near g c =
-    near_limit (length c.args.items.now) c.args.limit g.T.CheckItem.most c.args.at c.check_list.result c.requires.few
+    near_limit (length c.args.items.now) c.args.limit g.T.CheckItem.max_size c.args.at c.check_list.result c.requires.few
     (rw (← c.as_slice.ensures) c.check_list.ensures.near)

@@ -22,7 +22,8 @@ pub returns-in-Ok-clause-first : goal.returns-in-Ok-clause-first
 returns-in-Ok-clause-first c = λ f h. absurd (read_no_flaw c.args.bytes.now _ f c.in-Ok.ensures h)
 
 pub returns-in-Err-Memory-clause-only : goal.returns-in-Err-Memory-clause-only
-returns-in-Err-Memory-clause-only c = λ x s. only_memory c.args.bytes.now x c.refused_for_memory.result s c.refused_for_memory.ensures.refused
+returns-in-Err-Memory-clause-only c =
+    λ x s. only_memory c.args.bytes.now x c.refused_for_memory.result s c.refused_for_memory.ensures.refused
 
 pub returns-in-Err-Refused-clause-only : goal.returns-in-Err-Refused-clause-only
 returns-in-Err-Refused-clause-only c =
@@ -34,9 +35,15 @@ pub returns-in-Err-Refused-clause-first : goal.returns-in-Err-Refused-clause-fir
 returns-in-Err-Refused-clause-first c =
     λ f h.
     let flawed = rw c.in-Err-Refused.field-0-is at (c.in-Err-Refused.ensures {u = tt}) in
-    ap (λ (e : Error). Err e) (c.refused.ensures ∙ ap (refusal c.args.bytes.now) (one_flaw c.args.bytes.now c.in-Err-Refused.flaw f flawed h))
+    ap (λ (e : Error). Err e) (c.refused.ensures ∙ ap (refusal c.args.bytes.now)
+    (one_flaw c.args.bytes.now c.in-Err-Refused.flaw f flawed h))
 
 pub returns-in-Err-Refused-clause-refused : goal.returns-in-Err-Refused-clause-refused
 returns-in-Err-Refused-clause-refused c =
     let flawed = rw c.in-Err-Refused.field-0-is at (c.in-Err-Refused.ensures {u = tt}) in
-    inr (c.in-Err-Refused.flaw, all_refuses c.args.bytes.now c.in-Err-Refused.flaw (λ i. omega (arith, c.type_inv.bytes i)) flawed, c.refused.ensures)
+    inr (
+      c.in-Err-Refused.flaw,
+      all_refuses c.args.bytes.now c.in-Err-Refused.flaw (λ i. omega
+          (arith, c.type_inv.bytes i)) flawed,
+      c.refused.ensures,
+    )

@@ -16,7 +16,12 @@ returns-in-Ok-clause-first c = λ f h. (let found = c.in-Ok.ensures.spells in ab
 
 pub returns-in-Err-clause-refused : goal.returns-in-Err-clause-refused
 returns-in-Err-clause-refused c =
-    inr (c.in-Err.flaw, all_refuses c.args.bytes.now c.in-Err.flaw (λ i. omega (arith, c.type_inv.bytes i)) c.in-Err.ensures.flawed, c.refused.ensures)
+    inr (
+      c.in-Err.flaw,
+      all_refuses c.args.bytes.now c.in-Err.flaw (λ i. omega
+          (arith, c.type_inv.bytes i)) c.in-Err.ensures.flawed,
+      c.refused.ensures,
+    )
 
 pub returns-in-Err-clause-first : goal.returns-in-Err-clause-first
 returns-in-Err-clause-first c =

@@ -3,5 +3,6 @@ use Rattle.table_image.proofs.item.put_counted.Goals as goal
 
 pub returns : goal.returns
 returns g c =
-    counted_written g.T.Item.spelling g.T.Item.next g.met.T.Item.same c.args._limit c.args._known c.args.items.now c.args.out.now.items c.put_count.new.out.items c.put_list.new.out.items
+    counted_written g.T.Item.spelling g.T.Item.next c.written_alike.ensures c.args._limit c.args._known c.args.items.now
+    c.args.out.now.items c.put_count.new.out.items c.put_list.new.out.items
     (rw (← c.len.ensures) c.in_ok-put_count.ensures) (rw (← c.as_slice.ensures) c.in_ok-put_list.ensures)

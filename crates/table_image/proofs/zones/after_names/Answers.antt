@@ -10,4 +10,5 @@ loop-name-preserved c =
     let item = λ (low : ℕ). read flaws zone_spelling in
     let next : List ℕ → ℕ = λ name. 0 in
     goes_on_in item next c.args.names.now 0 c.loop-name.name-index c.loop-name.rest.now
-    c.name-item.result c.in_ok-rest.rest.now (list_at item next 0 (length c.args.names.now) c.args.bytes.now) c.loop-name-test.true c.name-item.is c.in_ok-rest.ensures c.loop-name.invariant
+    c.name-item.result c.in_ok-rest.rest.now (list_at item next 0
+    (length c.args.names.now) c.args.bytes.now) c.loop-name-test.true c.name-item.is c.in_ok-rest.ensures c.loop-name.invariant

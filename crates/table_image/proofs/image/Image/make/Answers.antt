@@ -42,4 +42,4 @@ returns-in-Err-clause-flaw c =
     let i : Internet = record { cables = c.args.cables.items; routers = c.args.routers.items; nodes = c.args.nodes.items } in
     let checked = rw (c.from_vec-cables.ensures, c.from_vec-routers.ensures, c.from_vec-nodes.ensures) at c.in-Err.ensures.checked in
     let m = misfits i c.in-Err.misfit checked in
-    (m.flaw, m.first, m.is_told)
+    (m.flaw, m.first, m.is_reported)

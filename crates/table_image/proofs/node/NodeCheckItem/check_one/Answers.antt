@@ -8,12 +8,14 @@ check_counted-requires c = (omega arith, (all_true c.args.self.now.names, (searc
 
 pub returns-then-self-known-clause-checked : goal.returns-then-self-known-clause-checked
 returns-then-self-known-clause-checked c =
-    let f : FitsNode c.args.self.now = record { cable = omega arith; net = omega arith; node = omega arith; hardware = c.as_slice-hardware.ensures.six } in
+    let f : FitsNode c.args.self.now =
+    record { cable = omega arith; net = omega arith; node = omega arith; hardware = c.as_slice-hardware.ensures.six } in
     node_misses c.args.known c.args.self.now c.args.at f (omega arith)
 
 pub returns-clause-checked : goal.returns-clause-checked
 returns-clause-checked c =
-    let f : FitsNode c.args.self.now = record { cable = omega arith; net = omega arith; node = omega arith; hardware = c.as_slice-hardware.ensures.six } in
+    let f : FitsNode c.args.self.now =
+    record { cable = omega arith; net = omega arith; node = omega arith; hardware = c.as_slice-hardware.ensures.six } in
     let len = ap (λ (s : List ℕ). length s) c.as_slice-zone.ensures.value in
     let size = c.own_router_size.ensures.size in
     let zone_end = c.args.at + 11 + length c.as_slice-zone.result.now in

@@ -15,12 +15,14 @@ returns-then-from-low-clause-checked c =
 pub returns-in-Err-clause-checked : goal.returns-in-Err-clause-checked
 returns-in-Err-clause-checked c =
     let f : FitsName c.args.self.now = record { socket = omega arith; enumerator = omega arith } in
-    name_object c.args.low c.args.self.now c.args.at c.in-Err.misfit f (omega arith) (omega arith) (omega arith) (omega arith) c.in-Err.ensures.checked
+    name_object c.args.low c.args.self.now c.args.at c.in-Err.misfit f (omega arith) (omega arith) (omega arith)
+    (omega arith) c.in-Err.ensures.checked
 
 pub returns-in-Ok-clause-checked : goal.returns-in-Ok-clause-checked
 returns-in-Ok-clause-checked c =
     let f : FitsName c.args.self.now = record { socket = omega arith; enumerator = omega arith } in
-    name_kind c.args.low c.args.self.now c.args.at c.in-Ok.end c.check_entity-in-Ok.result f (omega arith) (omega arith) (omega arith) (omega arith) c.in-Ok.ensures.checked c.check_entity-in-Ok.ensures.checked
+    name_kind c.args.low c.args.self.now c.args.at c.in-Ok.end c.check_entity-in-Ok.result f (omega arith) (omega arith) (omega arith)
+    (omega arith) c.in-Ok.ensures.checked c.check_entity-in-Ok.ensures.checked
 
 pub returns-then-self-lt1-clause-checked : goal.returns-then-self-lt1-clause-checked
 returns-then-self-lt1-clause-checked c = name_socket c.args.low c.args.self.now c.args.at (omega arith) (inl (omega arith))

@@ -14,6 +14,7 @@ returns c =
         router = c.in_ok-_router._router;
         names = names.0;
       },
-      rw (c.in_ok-_cable.ensures, c.in_ok-_address.ensures, c.in_ok-_hardware.ensures, c.in-Ok.ensures, c.in_ok-_router.ensures, names.1) refl,
+      rw (c.in_ok-_cable.ensures, c.in_ok-_address.ensures, c.in_ok-_hardware.ensures, c.in-Ok.ensures, c.in_ok-_router.ensures, names.1)
+          refl,
       refl,
     )

@@ -13,9 +13,11 @@ returns-in-Err-clause-checked c = router_ports c.args.known c.args.self.now c.ar
 
 pub returns-in-Err-check_counted-clause-checked : goal.returns-in-Err-check_counted-clause-checked
 returns-in-Err-check_counted-clause-checked c =
-    router_rows c.args.known c.args.self.now c.args.at c.in-Ok.end c.in-Err-check_counted.misfit c.in-Ok.ensures.checked (rw (← c.len.ensures) c.in-Err-check_counted.ensures.checked)
+    router_rows c.args.known c.args.self.now c.args.at c.in-Ok.end c.in-Err-check_counted.misfit c.in-Ok.ensures.checked (rw
+    (← c.len.ensures) c.in-Err-check_counted.ensures.checked)
 
 pub returns-in-Ok-check_counted-clause-checked : goal.returns-in-Ok-check_counted-clause-checked
 returns-in-Ok-check_counted-clause-checked c =
-    router_checks c.args.known c.args.self.now c.args.at c.in-Ok.end c.in-Ok-check_counted.end c.check_counted-in-Ok-check_counted.result c.in-Ok.ensures.checked (rw (← c.len.ensures) c.in-Ok-check_counted.ensures.checked)
+    router_checks c.args.known c.args.self.now c.args.at c.in-Ok.end c.in-Ok-check_counted.end c.check_counted-in-Ok-check_counted.result
+    c.in-Ok.ensures.checked (rw (← c.len.ensures) c.in-Ok-check_counted.ensures.checked)
     c.check_counted-in-Ok-check_counted.ensures.checked

@@ -6,4 +6,6 @@ pub returns-then-from-low-clause-checked : goal.returns-then-from-low-clause-che
 returns-then-from-low-clause-checked c = list_falls c.args.low c.args.self.now c.args.at (omega arith) (omega arith)
 
 pub returns-clause-checked : goal.returns-clause-checked
-returns-clause-checked c = list_checks c.args.low c.args.self.now c.args.at c.check_zones.result (omega arith) (omega arith) (omega arith) c.check_zones.ensures.checked
+returns-clause-checked c =
+    list_checks c.args.low c.args.self.now c.args.at c.check_zones.result (omega arith) (omega arith)
+    (omega arith) c.check_zones.ensures.checked

@@ -1,9 +1,9 @@
 //! Whether a part of an image is the one that is wanted, and parts to make an image of.
 
-use crate::*;
 use at_base::{Addr, Error, Hw, Name};
 use rtmp::State;
 use std::alloc::Global;
+use table_image::{Cable, Image, Listed, Node, NodeName, Router, Row, ZoneList};
 
 /// The names are these, in this order.
 pub(crate) fn are(names: &Listed<Name>, want: &[&[u8]]) -> bool {

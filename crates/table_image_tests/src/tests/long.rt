@@ -1,9 +1,9 @@
 //! Parts with one list that is longer by one than an image may have it.
 
-use crate::*;
 use at_base::{Addr, Error, Hw, Name, Text32};
 use rtmp::State;
 use std::alloc::Global;
+use table_image::{Cable, Image, Listed, Node, NodeName, Port, Router, Row, ZoneList};
 
 /// Which list is too long.
 #[derive(Clone, Copy)]

@@ -1,64 +1,49 @@
 //! What `read`, `write` and `Image::make` answer to images worked out by hand. Each test passes
 //! whichever single request for memory is refused: on `Memory` it calls again.
 
+mod again;
+mod equal;
 mod faults;
-mod images;
 mod long;
 mod parts;
+mod readme;
+mod whole;
 
-use super::*;
-use at_base::{Addr, Bytes, Cause, Error};
-use faults::{
-    lengths_and_indices, second_lists, three_limits, two_faults, values_names_and_orders,
+use again::{bad, is_written_as, read_again, three_numbers, write_again};
+use at_base::{Addr, Cause, Error};
+use equal::{
+    cables_differ, lists_differ, names_differ, nodes_differ, ports_differ, routers_differ,
+    rows_differ,
 };
-use images::{
-    exchanged, most_cables, most_parts, most_zones, nothing, put, three_cables, three_with,
-    two_names, two_with,
+use example_images::three_cables::{
+    CABLE_1, FIRST_LIST_2, FIRST_ROW_1, FIRST_ROW_2, FIRST_ROW_3, LEN,
+};
+use example_images::{
+    fields, many_cables, many_parts, many_stations, many_zones, nothing, put, three_cables,
+    two_names,
+};
+use faults::{
+    lengths_and_indices, second_lists, texts, three_limits, two_faults, values_and_orders,
 };
 use long::{TooLong, refusal_of};
 use parts::{
     has_ports, has_rows, is_cable, is_list, is_name, is_node, made, made_with_a_lost_port, row,
 };
+use readme::lines_of;
 use rtmp::State;
-use std::alloc::Global;
 use std::test::Fail;
-
-/// What `read` gives, called again where its memory was refused. A fault is the answer at the first
-/// call.
-fn read_again(alloc: Global, bytes: &[u8]) -> Result<Image, Error> {
-    match read(alloc, bytes) {
-        Err(Error::Memory) => read(alloc, bytes),
-        answer => answer,
-    }
-}
-
-/// The refusal of bytes that spell no image.
-fn bad(place: u32, cause: Cause) -> Option<Error> {
-    Some(Error::BadImage(place, cause))
-}
-
-/// What `write` gives, called again where its memory was refused.
-fn write_again(alloc: Global, image: &Image) -> Result<Bytes, Error> {
-    match write(alloc, image) {
-        Err(Error::Memory) => write(alloc, image),
-        answer => answer,
-    }
-}
-
-/// The image is written as these bytes.
-fn is_written_as(alloc: Global, image: &Image, bytes: &[u8]) -> bool {
-    match write_again(alloc, image) {
-        Ok(written) => written.as_slice() == bytes,
-        Err(_) => false,
-    }
-}
+use table_image::{Listed, MAX_CABLES, one_spelling, read};
+use whole::{
+    first_state, has_64_zones, has_200_stations, has_full_parts, is_789, let_pass,
+    let_pass_in_names, lists_compare, refusal,
+};
 
 #[test]
 fn an_image_is_written_as_it_was_read(rt: HostRuntime) -> Result<(), Fail> {
-    let three = read_again(rt.alloc(), &three_cables())?;
-    assert!(rt; is_written_as(rt.alloc(), &three, &three_cables()));
-    let two = read_again(rt.alloc(), &two_names())?;
-    assert!(rt; is_written_as(rt.alloc(), &two, &two_names()));
+    let three = read_again(rt.alloc(), &three_cables::image())?;
+    assert!(rt; is_written_as(rt.alloc(), &three, &three_cables::image()));
+    let two = read_again(rt.alloc(), &two_names::image())?;
+    assert!(rt; is_written_as(rt.alloc(), &two, &two_names::image()));
     one_spelling();
     Ok(())
 }
@@ -75,7 +60,7 @@ fn an_image_may_have_no_cable_router_or_node(rt: HostRuntime) -> Result<(), Fail
 
 #[test]
 fn a_cable_has_its_range_and_zones(rt: HostRuntime) -> Result<(), Fail> {
-    let image = read_again(rt.alloc(), &three_cables())?;
+    let image = read_again(rt.alloc(), &three_cables::image())?;
     let cables = image.cables();
     assert_eq!(rt; cables.len(), 3);
     assert!(rt; is_cable(&cables[0], 10, 19, &[b"Red".as_slice()]));
@@ -86,7 +71,7 @@ fn a_cable_has_its_range_and_zones(rt: HostRuntime) -> Result<(), Fail> {
 
 #[test]
 fn a_router_has_its_ports(rt: HostRuntime) -> Result<(), Fail> {
-    let image = read_again(rt.alloc(), &three_cables())?;
+    let image = read_again(rt.alloc(), &three_cables::image())?;
     let routers = image.routers();
     assert_eq!(rt; routers.len(), 2);
     let first = [
@@ -104,7 +89,10 @@ fn a_router_has_its_ports(rt: HostRuntime) -> Result<(), Fail> {
 
 #[test]
 fn a_router_has_its_rows(rt: HostRuntime) -> Result<(), Fail> {
-    let image = read_again(rt.alloc(), &three_with(91, 3))?;
+    let image = read_again(
+        rt.alloc(),
+        &three_cables::image_with(FIRST_ROW_3 + fields::ROW_STATE, 3),
+    )?;
     let routers = image.routers();
     assert_eq!(rt; routers.len(), 2);
     let nobody = Addr { net: 0, node: 0 };
@@ -124,16 +112,27 @@ fn a_router_has_its_rows(rt: HostRuntime) -> Result<(), Fail> {
 }
 
 #[test]
+fn the_readme_prints_rows(rt: HostRuntime) -> Result<(), Fail> {
+    let bytes = three_cables::image();
+    let lines = match lines_of(rt.alloc(), &bytes, 0) {
+        Err(Error::Memory) => lines_of(rt.alloc(), &bytes, 0)?,
+        answer => answer?,
+    };
+    let want = ["10-19 direct", "20-29 direct", "30-39 distance 1 by 20.2"];
+    assert_eq!(rt; lines.len(), want.len());
+    for (line, text) in lines.iter().zip(want.iter()) {
+        assert_eq!(rt; line.as_str(), *text);
+    }
+    Ok(())
+}
+
+#[test]
 fn a_state_has_its_number(rt: HostRuntime) -> Result<(), Fail> {
     let states = [State::Good, State::Suspect, State::Bad, State::Last];
     for (number, want) in (0..4u8).zip(states.iter()) {
-        let bytes = three_with(71, number);
+        let bytes = three_cables::image_with(FIRST_ROW_1 + fields::ROW_STATE, number);
         let image = read_again(rt.alloc(), &bytes)?;
-        let routers = image.routers();
-        assert_eq!(rt; routers.len(), 2);
-        let rows = routers[0].rows.as_slice();
-        assert_eq!(rt; rows.len(), 3);
-        assert_eq!(rt; rows[0].state, *want);
+        assert_eq!(rt; first_state(&image), Some(*want));
         assert!(rt; is_written_as(rt.alloc(), &image, &bytes));
     }
     Ok(())
@@ -141,7 +140,10 @@ fn a_state_has_its_number(rt: HostRuntime) -> Result<(), Fail> {
 
 #[test]
 fn a_router_has_its_zone_lists(rt: HostRuntime) -> Result<(), Fail> {
-    let image = read_again(rt.alloc(), &three_with(107, 0))?;
+    let image = read_again(
+        rt.alloc(),
+        &three_cables::image_with(FIRST_LIST_2 + fields::LIST_COMPLETE, 0),
+    )?;
     let routers = image.routers();
     assert_eq!(rt; routers.len(), 2);
     let lists = routers[0].lists.as_slice();
@@ -162,7 +164,7 @@ fn a_router_has_its_zone_lists(rt: HostRuntime) -> Result<(), Fail> {
 
 #[test]
 fn a_node_has_its_address_zone_router_and_names(rt: HostRuntime) -> Result<(), Fail> {
-    let image = read_again(rt.alloc(), &three_cables())?;
+    let image = read_again(rt.alloc(), &three_cables::image())?;
     let nodes = image.nodes();
     assert_eq!(rt; nodes.len(), 2);
     let router = Some(Addr { net: 10, node: 1 });
@@ -178,7 +180,7 @@ fn a_node_has_its_address_zone_router_and_names(rt: HostRuntime) -> Result<(), F
 
 #[test]
 fn a_node_may_have_no_router_and_several_names(rt: HostRuntime) -> Result<(), Fail> {
-    let image = read_again(rt.alloc(), &two_names())?;
+    let image = read_again(rt.alloc(), &two_names::image())?;
     let nodes = image.nodes();
     assert_eq!(rt; nodes.len(), 1);
     assert!(rt; is_node(&nodes[0], 0, Addr { net: 1, node: 1 }, 1, b"A", None));
@@ -191,8 +193,8 @@ fn a_node_may_have_no_router_and_several_names(rt: HostRuntime) -> Result<(), Fa
 
 #[test]
 fn a_cut_image_is_refused_at_its_end(rt: HostRuntime) {
-    let bytes = three_cables();
-    for len in 0..276u32 {
+    let bytes = three_cables::image();
+    for len in 0..LEN as u32 {
         let answer = read(rt.alloc(), &bytes[..len as usize]).err();
         assert_eq!(rt; answer, bad(len, Cause::Cut), "at {len}");
     }
@@ -201,7 +203,7 @@ fn a_cut_image_is_refused_at_its_end(rt: HostRuntime) {
 #[test]
 fn bytes_may_not_follow_the_nodes(rt: HostRuntime) {
     let mut longer = [0; 278];
-    put(&mut longer, 0, &three_cables());
+    put(&mut longer, 0, &three_cables::image());
     for len in [277, 278] {
         let answer = read(rt.alloc(), &longer[..len]).err();
         assert_eq!(rt; answer, bad(276, Cause::Trailing), "at {len}");
@@ -214,47 +216,34 @@ fn bytes_may_not_follow_the_nodes(rt: HostRuntime) {
 
 #[test]
 fn rows_rise(rt: HostRuntime) {
-    let answer = read(rt.alloc(), &exchanged()).err();
-    assert_eq!(rt; answer, bad(72, Cause::Order));
+    let answer = read(rt.alloc(), &three_cables::rows_exchanged()).err();
+    assert_eq!(rt; answer, bad(FIRST_ROW_2 as u32, Cause::Order));
 }
 
 #[test]
-fn a_bad_length_or_index_is_told_at_its_field(rt: HostRuntime) {
-    for (place, byte, at, cause) in lengths_and_indices() {
-        let answer = read(rt.alloc(), &three_with(place, byte)).err();
-        assert_eq!(rt; answer, bad(at, cause), "{byte} at {place}");
-    }
-}
-
-#[test]
-fn a_bad_value_name_or_order_is_told_at_its_field(rt: HostRuntime) {
-    for (place, byte, at, cause) in values_names_and_orders() {
-        let answer = read(rt.alloc(), &three_with(place, byte)).err();
-        assert_eq!(rt; answer, bad(at, cause), "{byte} at {place}");
-    }
-}
-
-#[test]
-fn names_have_enumerators_that_rise(rt: HostRuntime) {
-    for (place, byte, at, cause) in two_faults() {
-        let answer = read(rt.alloc(), &two_with(place, byte)).err();
-        assert_eq!(rt; answer, bad(at, cause), "{byte} at {place}");
-    }
+fn a_field_is_refused_at_its_place(rt: HostRuntime) {
+    assert_eq!(rt; let_pass(rt.alloc(), &lengths_and_indices()), None);
+    assert_eq!(rt; let_pass(rt.alloc(), &values_and_orders()), None);
+    assert_eq!(rt; let_pass(rt.alloc(), &texts()), None);
+    assert_eq!(rt; let_pass_in_names(rt.alloc(), &two_faults()), None);
 }
 
 #[test]
 fn a_length_is_refused_before_its_bytes_are_looked_for(rt: HostRuntime) {
-    let long = three_with(11, 33);
-    assert_eq!(rt; read(rt.alloc(), &long[..12]).err(), bad(11, Cause::Name));
-    let odd = three_with(12, 0x1F);
-    assert_eq!(rt; read(rt.alloc(), &odd[..14]).err(), bad(14, Cause::Cut));
-    assert_eq!(rt; read(rt.alloc(), &odd[..15]).err(), bad(11, Cause::Name));
+    let zone = CABLE_1 + fields::CABLE_ZONES + 1;
+    let long = three_cables::image_with(zone, 33);
+    let want = bad(zone as u32, Cause::Name);
+    assert_eq!(rt; refusal(rt.alloc(), &long, zone + 1), want);
+    let odd = three_cables::image_with(zone + fields::TEXT, 0x1F);
+    let cut = bad(zone as u32 + 3, Cause::Cut);
+    assert_eq!(rt; refusal(rt.alloc(), &odd, zone + 3), cut);
+    assert_eq!(rt; refusal(rt.alloc(), &odd, zone + 4), want);
 }
 
 #[test]
 fn the_limits_of_fields_may_be_reached(rt: HostRuntime) -> Result<(), Fail> {
     for (place, byte) in three_limits() {
-        let bytes = three_with(place, byte);
+        let bytes = three_cables::image_with(place, byte);
         let image = read_again(rt.alloc(), &bytes)?;
         assert!(rt;
             is_written_as(rt.alloc(), &image, &bytes),
@@ -265,36 +254,57 @@ fn the_limits_of_fields_may_be_reached(rt: HostRuntime) -> Result<(), Fail> {
 }
 
 #[test]
-fn lists_may_be_as_long_as_their_limits(rt: HostRuntime) -> Result<(), Fail> {
-    let image = read_again(rt.alloc(), &most_cables())?;
-    assert_eq!(rt; image.cables().len(), 200);
-    let bytes = most_zones();
+fn there_may_be_200_cables_routers_and_nodes(rt: HostRuntime) -> Result<(), Fail> {
+    let image = read_again(rt.alloc(), &many_cables())?;
+    assert_eq!(rt; image.cables().len(), MAX_CABLES as usize);
+    let bytes = many_stations();
     let image = read_again(rt.alloc(), &bytes)?;
-    let cables = image.cables();
-    assert_eq!(rt; cables.len(), 1);
-    assert_eq!(rt; cables[0].zones.len(), 64);
+    assert!(rt; has_200_stations(&image));
+    assert!(rt; is_written_as(rt.alloc(), &image, &bytes));
+    Ok(())
+}
+
+#[test]
+fn a_cable_and_a_zone_list_may_have_64_zones(rt: HostRuntime) -> Result<(), Fail> {
+    let bytes = many_zones();
+    let image = read_again(rt.alloc(), &bytes)?;
+    assert_eq!(rt; has_64_zones(&image), Some(true));
     assert!(rt; is_written_as(rt.alloc(), &image, &bytes));
     Ok(())
 }
 
 #[test]
 fn a_router_and_a_node_may_have_as_many_parts_as_their_limits(rt: HostRuntime) -> Result<(), Fail> {
-    let bytes = most_parts();
+    let bytes = many_parts();
     let image = read_again(rt.alloc(), &bytes)?;
-    assert_eq!(rt; image.routers().len(), 1);
-    assert_eq!(rt; image.nodes().len(), 1);
-    assert_eq!(rt; image.routers()[0].ports.len(), 16);
-    assert_eq!(rt; image.nodes()[0].names.len(), 32);
+    assert_eq!(rt; has_full_parts(&image), Some(true));
     assert!(rt; is_written_as(rt.alloc(), &image, &bytes));
     Ok(())
 }
 
-/// A vector of three numbers, made again where its memory was refused.
-fn three_numbers(alloc: Global) -> Option<Vec<u8>> {
-    match Vec::from_slice(alloc, &[7, 8, 9]) {
-        Ok(made) => Some(made),
-        Err(_) => Vec::from_slice(alloc, &[7, 8, 9]).ok(),
-    }
+#[test]
+fn parts_are_equal_where_each_field_is(rt: HostRuntime) -> Result<(), Fail> {
+    assert!(rt; ports_differ());
+    assert!(rt; rows_differ());
+    assert!(rt; cables_differ()?);
+    assert!(rt; lists_differ()?);
+    assert!(rt; names_differ()?);
+    assert!(rt; nodes_differ()?);
+    assert!(rt; routers_differ()?);
+    Ok(())
+}
+
+/// A value that another thread may have.
+fn is_send<T: Send>(_value: &T) {}
+
+#[test]
+fn writing_takes_as_many_bytes_as_it_needs(rt: HostRuntime) -> Result<(), Fail> {
+    let image = read_again(rt.alloc(), &three_cables::image())?;
+    is_send(&image);
+    let written = write_again(rt.alloc(), &image)?.into_vec();
+    assert_eq!(rt; written.len(), LEN);
+    assert_eq!(rt; written.capacity(), LEN);
+    Ok(())
 }
 
 #[test]
@@ -316,31 +326,20 @@ fn a_list_is_its_vector(rt: HostRuntime) -> Result<(), Fail> {
     Ok(())
 }
 
-/// Three numbers in a list that may have several owners, made again where a request for memory was
-/// refused, since it has one owner then.
-fn shared_numbers(alloc: Global) -> Option<Listed<u8>> {
-    let listed = Listed::from_vec(three_numbers(alloc)?).into_shared(alloc);
-    match listed.share() {
-        Some(_) => Some(listed),
-        None => Some(Listed::from_vec(three_numbers(alloc)?).into_shared(alloc)),
-    }
-}
-
 #[test]
-fn a_shared_list_has_the_same_values(rt: HostRuntime) -> Result<(), Fail> {
-    let listed = shared_numbers(rt.alloc()).ok_or("no memory")?;
-    let again = listed.share().ok_or("one owner")?;
-    drop(listed);
-    assert_eq!(rt; again.as_slice(), [7, 8, 9].as_slice());
-    assert!(rt; Listed::one(7).share().is_none());
-    assert!(rt; Listed::one(7).into_shared(rt.alloc()).share().is_none());
+fn a_list_is_gone_through_in_order(rt: HostRuntime) -> Result<(), Fail> {
+    let listed = Listed::from_vec(three_numbers(rt.alloc()).ok_or("no memory")?);
+    assert!(rt; is_789(&listed));
+    let again = Listed::from_vec(three_numbers(rt.alloc()).ok_or("no memory")?);
+    let empty = Listed::from_vec(Vec::new(rt.alloc()));
+    assert!(rt; lists_compare(&listed, &again, &empty));
     Ok(())
 }
 
 #[test]
 fn zone_lists_that_differ_are_told_apart(rt: HostRuntime) -> Result<(), Fail> {
     for (place, byte) in second_lists() {
-        let bytes = three_with(place, byte);
+        let bytes = three_cables::image_with(place, byte);
         let image = read_again(rt.alloc(), &bytes)?;
         assert!(rt;
             is_written_as(rt.alloc(), &image, &bytes),

@@ -1,0 +1,161 @@
+//! The image of `examples/three-cables.image`: three cables in a row, two routers between them, and
+//! a node at either end.
+
+use crate::put;
+
+/// Its cables. Each constant is the offset of a part, or of a count, which its comment says.
+pub const CABLE_1: usize = 6;
+
+pub const CABLE_2: usize = 15;
+
+pub const CABLE_3: usize = 29;
+
+/// The number of routers.
+pub const ROUTERS: usize = 39;
+
+/// The first router: the number of ports, and the ports; of rows; of zone lists.
+pub const FIRST_PORTS: usize = 40;
+
+pub const FIRST_PORT_1: usize = 41;
+
+pub const FIRST_PORT_2: usize = 51;
+
+pub const FIRST_ROWS: usize = 61;
+
+pub const FIRST_ROW_1: usize = 62;
+
+pub const FIRST_ROW_2: usize = 72;
+
+pub const FIRST_ROW_3: usize = 82;
+
+pub const FIRST_LISTS: usize = 92;
+
+pub const FIRST_LIST_1: usize = 93;
+
+pub const FIRST_LIST_2: usize = 103;
+
+pub const FIRST_LIST_3: usize = 118;
+
+/// The second router.
+pub const SECOND_PORTS: usize = 129;
+
+pub const SECOND_PORT_1: usize = 130;
+
+pub const SECOND_PORT_2: usize = 140;
+
+pub const SECOND_ROWS: usize = 150;
+
+pub const SECOND_ROW_1: usize = 151;
+
+pub const SECOND_ROW_2: usize = 161;
+
+pub const SECOND_ROW_3: usize = 171;
+
+pub const SECOND_LISTS: usize = 181;
+
+pub const SECOND_LIST_1: usize = 182;
+
+pub const SECOND_LIST_2: usize = 192;
+
+pub const SECOND_LIST_3: usize = 207;
+
+/// The two zones of its second zone list.
+pub const SECOND_LIST_2_RED: usize = 198;
+
+pub const SECOND_LIST_2_BLUE: usize = 202;
+
+/// The number of nodes.
+pub const NODES: usize = 218;
+
+/// The first node: cable and addresses, zone, router, the number of names.
+pub const NODE_1: usize = 219;
+
+pub const NODE_1_ZONE: usize = 229;
+
+pub const NODE_1_ROUTER: usize = 233;
+
+pub const NODE_1_NAMES: usize = 237;
+
+/// The second node, whose one name has an object and a type.
+pub const NODE_2: usize = 238;
+
+pub const NODE_2_ZONE: usize = 248;
+
+pub const NODE_2_ROUTER: usize = 253;
+
+pub const NODE_2_NAMES: usize = 257;
+
+pub const NODE_2_NAME: usize = 258;
+
+pub const NODE_2_OBJECT: usize = 260;
+
+pub const NODE_2_TYPE: usize = 264;
+
+/// How many bytes the image has.
+pub const LEN: usize = 276;
+
+const BYTES: [u8; 276] = [
+    0x41, 0x54, 0x49, 0x4D, 0x01, // the magic number and the version
+    0x03, // CABLES
+    0x00, 0x0A, 0x00, 0x13, 0x01, 0x03, 0x52, 0x65, 0x64, // CABLE_1: 10-19 with Red
+    0x00, 0x14, 0x00, 0x1D, 0x02, 0x03, 0x52, 0x65, 0x64, // CABLE_2: 20-29 with Red
+    0x04, 0x42, 0x6C, 0x75, 0x65, // and Blue
+    0x00, 0x1E, 0x00, 0x27, 0x01, 0x04, 0x42, 0x6C, 0x75, 0x65, // CABLE_3: 30-39 with Blue
+    0x02, // ROUTERS
+    0x02, // FIRST_PORTS
+    0x00, 0x00, 0x0A, 0x01, 0x02, 0x00, 0x00, 0x00, 0x00, 0x01, // FIRST_PORT_1: 10.1
+    0x01, 0x00, 0x14, 0x01, 0x02, 0x00, 0x00, 0x00, 0x00, 0x02, // FIRST_PORT_2: 20.1
+    0x03, // FIRST_ROWS
+    0x00, 0x0A, 0x00, 0x13, 0x00, 0x00, 0x00, 0x00, 0x00, 0x00, // FIRST_ROW_1: 10-19 direct
+    0x00, 0x14, 0x00, 0x1D, 0x00, 0x01, 0x00, 0x00, 0x00, 0x00, // FIRST_ROW_2: 20-29 direct
+    0x00, 0x1E, 0x00, 0x27, 0x01, 0x01, 0x00, 0x14, 0x02, 0x00, // FIRST_ROW_3: 30-39 by 20.2
+    0x03, // FIRST_LISTS
+    0x00, 0x0A, 0x00, 0x13, 0x01, 0x01, 0x03, 0x52, 0x65, 0x64, // FIRST_LIST_1: 10-19
+    0x00, 0x14, 0x00, 0x1D, 0x01, 0x02, 0x03, 0x52, 0x65, 0x64, // FIRST_LIST_2: 20-29
+    0x04, 0x42, 0x6C, 0x75, 0x65, // with Blue too
+    0x00, 0x1E, 0x00, 0x27, 0x01, 0x01, 0x04, 0x42, 0x6C, 0x75, 0x65, // FIRST_LIST_3: 30-39
+    0x02, // SECOND_PORTS
+    0x01, 0x00, 0x14, 0x02, 0x02, 0x00, 0x00, 0x00, 0x00, 0x03, // SECOND_PORT_1: 20.2
+    0x02, 0x00, 0x1E, 0x01, 0x02, 0x00, 0x00, 0x00, 0x00, 0x04, // SECOND_PORT_2: 30.1
+    0x03, // SECOND_ROWS
+    0x00, 0x0A, 0x00, 0x13, 0x01, 0x00, 0x00, 0x14, 0x01, 0x00, // SECOND_ROW_1: 10-19 by 20.1
+    0x00, 0x14, 0x00, 0x1D, 0x00, 0x00, 0x00, 0x00, 0x00, 0x00, // SECOND_ROW_2: 20-29 direct
+    0x00, 0x1E, 0x00, 0x27, 0x00, 0x01, 0x00, 0x00, 0x00, 0x00, // SECOND_ROW_3: 30-39 direct
+    0x03, // SECOND_LISTS
+    0x00, 0x0A, 0x00, 0x13, 0x01, 0x01, 0x03, 0x52, 0x65, 0x64, // SECOND_LIST_1: 10-19
+    0x00, 0x14, 0x00, 0x1D, 0x01, 0x02, 0x03, 0x52, 0x65, 0x64, // SECOND_LIST_2: 20-29
+    0x04, 0x42, 0x6C, 0x75, 0x65, // with Blue too
+    0x00, 0x1E, 0x00, 0x27, 0x01, 0x01, 0x04, 0x42, 0x6C, 0x75, 0x65, // SECOND_LIST_3: 30-39
+    0x02, // NODES
+    0x00, 0x00, 0x0A, 0x07, 0x02, 0x00, 0x00, 0x00, 0x00, 0x05, // NODE_1: 10.7
+    0x03, 0x52, 0x65, 0x64, // NODE_1_ZONE: Red
+    0x01, 0x00, 0x0A, 0x01, // NODE_1_ROUTER: 10.1
+    0x00, // NODE_1_NAMES
+    0x02, 0x00, 0x1E, 0x05, 0x02, 0x00, 0x00, 0x00, 0x00, 0x06, // NODE_2: 30.5
+    0x04, 0x42, 0x6C, 0x75, 0x65, // NODE_2_ZONE: Blue
+    0x01, 0x00, 0x1E, 0x01, // NODE_2_ROUTER: 30.1
+    0x01, // NODE_2_NAMES
+    0x81, 0x01, // NODE_2_NAME: its socket and enumerator
+    0x03, 0x6C, 0x61, 0x62, // NODE_2_OBJECT: lab
+    0x0B, 0x4C, 0x61, 0x73, 0x65, 0x72, 0x57, 0x72, 0x69, 0x74, 0x65, 0x72, // NODE_2_TYPE
+];
+
+/// The image.
+pub fn image() -> [u8; 276] {
+    BYTES
+}
+
+/// The image with another byte at an offset.
+pub fn image_with(offset: usize, byte: u8) -> [u8; 276] {
+    let mut bytes = image();
+    put(&mut bytes, offset, &[byte]);
+    bytes
+}
+
+/// The image with the first two rows of the first router exchanged.
+pub fn rows_exchanged() -> [u8; 276] {
+    let mut bytes = image();
+    put(&mut bytes, FIRST_ROW_1, &BYTES[FIRST_ROW_2..FIRST_ROW_3]);
+    put(&mut bytes, FIRST_ROW_2, &BYTES[FIRST_ROW_1..FIRST_ROW_2]);
+    bytes
+}
