@@ -1,6 +1,6 @@
 -- Routing tables: finite maps from ranges to rows, and what each message and each moment does to them.
 -- (Inside AppleTalk, the chapter on RTMP)
-use Rattle.std.specs.Prelude.{◌≡◌, ℕ, ◌+◌, ◌≤◌, Bool, true, false, not, ◌&&◌, ◌||◌, ◌==◌, IsTrue, List, [], ◌∷◌, ◌++◌, length, map, filter, fold, find, Option, Some, None, nat_le, nat_lt, if◌then◌else◌}
+use Rattle.std.specs.Prelude.{ℕ, ◌+◌, ◌≤◌, Bool, true, false, not, ◌&&◌, ◌||◌, ◌==◌, IsTrue, List, [], ◌∷◌, length, map, filter, fold, find, Option, Some, None, nat_le, nat_lt, if◌then◌else◌}
 use Rattle.std.specs.List.{list_all, list_any}
 use Rattle.at_base.specs.declared.address.Addr.{Addr}
 use Rattle.at_base.specs.Address.{is_none, same_address}
@@ -85,7 +85,7 @@ after_hearing row t s port =
     if is_direct row then (row, Ignored)
     else if nat_le t 14 && (not (is_usable row.state) || nat_le (t + 1) row.distance) then (heard_row row.range t s port, Changed)
     else if same_address row.next s && row.port == port then
-      (if nat_le t 14 then heard_row row.range t s port else record row { state = Bad }, Changed)
+    (if nat_le t 14 then heard_row row.range t s port else record row { state = Bad }, Changed)
     else (row, Ignored)
 
 -- a new range is added where it is near enough and overlaps none

@@ -92,13 +92,7 @@ pub trait RouteTable: Drop {
     ///
     /// Errors, both only where the range is new: `Full` where there are `MAX_ROWS` rows; `Memory`.
     /// A refusal changes nothing.
-    fn hear(
-        &mut self,
-        range: Range,
-        distance: u8,
-        source: Addr,
-        port: u8,
-    ) -> Result<Change, Error>
+    fn hear(&mut self, range: Range, distance: u8, source: Addr, port: u8) -> Result<Change, Error>
         ensures ok { IfOk result
             (λ change. (rows self.new, change) ≡ heard range distance source port (rows self.old)) }
         ensures full { (result ≡ Err Error.Full)

@@ -40,13 +40,7 @@ fn third_at(low: u32, bytes: &[u8]) -> Result<(u8, &[u8]), Error>
 }
 
 /// The last byte of an extended tuple, at which its range is judged.
-fn version_at(
-    low: u32,
-    start: u16,
-    third: u8,
-    end: u16,
-    bytes: &[u8],
-) -> Result<(u8, &[u8]), Error>
+fn version_at(low: u32, start: u16, third: u8, end: u16, bytes: &[u8]) -> Result<(u8, &[u8]), Error>
     ensures read { Gives (λ x. (x.0, x.1.now)) result
         (field_at packets (number one (wrong_extension low start third end)) bytes.now) }
     ensures valid { OnOk result (is_range start end ≡ true) }

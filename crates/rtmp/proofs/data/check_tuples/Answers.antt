@@ -16,8 +16,7 @@ loop-rest-smaller c =
 
 pub loop-rest-preserved : goal.loop-rest-preserved
 loop-rest-preserved c =
-    let less = shorter_after packets (written_tuple c.loop-rest.low) (written_lawful c.loop-rest.low) (written_long c.loop-rest.low) c.loop-rest.rest.now _ c.in-Ok.after.now c.loop-rest.invariant.0 c.in-Ok.ensures.read in
-    (
+    let less = shorter_after packets (written_tuple c.loop-rest.low) (written_lawful c.loop-rest.low) (written_long c.loop-rest.low) c.loop-rest.rest.now _ c.in-Ok.after.now c.loop-rest.invariant.0 c.in-Ok.ensures.read in (
       rest_is_bytes packets (written_tuple c.loop-rest.low) (written_lawful c.loop-rest.low) c.loop-rest.rest.now _ c.in-Ok.after.now c.loop-rest.invariant.0 c.in-Ok.ensures.read,
       goes_on_in (λ n. read packets (written_tuple n)) (λ t. 1) c.loop-rest.low c.loop-rest.rest.now _ c.in-Ok.after.now _ less c.in-Ok.ensures.read c.loop-rest.invariant.1,
     )

@@ -1,5 +1,5 @@
 -- What hearing of a range leaves of a table.
-use Rattle.std.proofs.Common.{◌≡◌, ℕ, ◌+◌, ◌<◌, ◌≤◌, Bool, true, false, cond, not, ◌&&◌, ◌||◌, ◌==◌, List, [], ◌∷◌, length, find, Option, Some, None, refl, sym, ap, ◌∙◌, arith, nat_le, nat_lt, true≢false}
+use Rattle.std.proofs.Common.{◌≡◌, ℕ, ◌+◌, ◌<◌, ◌≤◌, Bool, true, false, cond, not, ◌&&◌, ◌||◌, ◌==◌, List, [], ◌∷◌, length, find, Some, None, refl, sym, ap, ◌∙◌, arith, nat_le}
 use Rattle.std.specs.List.{list_all, list_any}
 use Rattle.std.proofs.lemmas.Bool.{and_parts, not-true, leb-true, le-leb}
 use Rattle.at_base.specs.Address.{same_address}
@@ -36,6 +36,7 @@ hearing_keeps row t s port good = step (is_direct row) (nat_le t 14) (not (is_us
   where
     valid : is_range row.range.start row.range.end ≡ true
     valid = (and_parts (is_range row.range.start row.range.end) (nat_le row.distance 31) good).0
+
     step : (direct near nearer next : Bool) → nat_le t 14 ≡ near
         → Keeps row (cond direct (row, Ignored) (cond (near && nearer) (heard_row row.range t s port, Changed) (cond next (cond near (heard_row row.range t s port) (record row { state = Bad }), Changed) (row, Ignored))))
     step true near nearer next e = record { good = good; old = λ h. cc }
