@@ -126,8 +126,8 @@ numbered port own me n rows bytes there h net node valid is =
     rw (there, is) (data_spelled me own (map sent_tuple (take 96 (drop (n * 96) (of_other_ports port rows)))) net node valid (window_good port (n * 96) rows h.each))
 
 -- the parts, written one after the other
-pub laid : (me : Addr) (own : Span) (rest a b c d : List ℕ) → a ≡ [] → b ≡ a ++ head_bytes me → c ≡ b ++ tuple_bytes (own_tuple own) → d ≡ c ++ rest → d ≡ head_bytes me ++ tuple_bytes (own_tuple own) ++ rest
-laid me own rest a b c d pa pb pc pd = rw (pd, pc, pb, pa) refl
+pub laid : (me : Addr) (own : Span) (rest a b d : List ℕ) → a ≡ [] → b ≡ a ++ head_bytes me ++ tuple_bytes (own_tuple own) → d ≡ b ++ rest → d ≡ head_bytes me ++ tuple_bytes (own_tuple own) ++ rest
+laid me own rest a b d pa pb pd = rw (pd, pb, pa) refl
 
 -- the packet of a number: the first one, or one for which rows are left
 pub there_first : (n len : ℕ) → n ≤ 0 → (n == 0 || nat_lt (n * 96) len) ≡ true

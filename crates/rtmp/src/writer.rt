@@ -6,7 +6,7 @@ ghost use Rattle.at_base.specs.Range.{IsRange};
 ghost use Rattle.rtmp.specs.Bytes.{head_bytes, tuple_bytes as bytes_of_tuple, tuples_bytes};
 ghost use Rattle.rtmp.specs.Routes.{IsRouteMap};
 ghost use Rattle.rtmp.specs.Sending.{packet_numbered, IsPacket, sent_tuple as tuple_of_row};
-ghost use Rattle.rtmp.specs.Sending.{of_other_ports};
+ghost use Rattle.rtmp.specs.Sending.{of_other_ports, own_tuple};
 
 use crate::row::Row;
 use crate::table::RouteTable;
@@ -63,6 +63,23 @@ fn put_tuple(bytes: &mut Vec<u8>, tuple: Tuple) -> Result<(), Error>
     bytes.extend_from_slice(&tuple.range.end().to_be_bytes())?;
     bytes.push(0x82)?;
     Ok(())
+}
+
+/// Appends what each packet begins with: the router, and the range of the port's cable at distance 0.
+fn put_front(bytes: &mut Vec<u8>, me: Addr, own: Range) -> Result<(), Error>
+    ensures put { OnOk result (bytes.new.items
+        ≡ bytes.old.items ++ head_bytes me ++ bytes_of_tuple (own_tuple own)) }
+    ensures valid { OnOk result (IsRange own.start own.end) }
+    ensures refused { IsOkUnless result Error.Memory }
+{
+    put_head(bytes, me)?;
+    put_tuple(
+        bytes,
+        Tuple {
+            range: own,
+            distance: 0,
+        },
+    )
 }
 
 /// The number of rows of the other ports.
@@ -134,14 +151,7 @@ pub fn write_data<T: RouteTable>(
     }
     let count = (others - left_out).min(MAX_ROWS_IN_PACKET);
     let mut bytes = Vec::with_capacity(alloc, HEAD_LEN + TUPLE_LEN * (1 + count))?;
-    put_head(&mut bytes, me)?;
-    put_tuple(
-        &mut bytes,
-        Tuple {
-            range: own,
-            distance: 0,
-        },
-    )?;
+    put_front(&mut bytes, me, own)?;
     put_rows(&mut bytes, table, port, left_out)?;
     Ok(Some(Bytes::from_vec(bytes)))
 }
