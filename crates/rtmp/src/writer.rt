@@ -65,7 +65,7 @@ fn put_tuple(bytes: &mut Vec<u8>, tuple: Tuple) -> Result<(), Error>
     Ok(())
 }
 
-/// Appends what each packet begins with: the router, and the range of the port's cable at distance 0.
+/// Appends what each packet begins with: the router, and the port's own range at distance 0.
 fn put_front(bytes: &mut Vec<u8>, me: Addr, own: Range) -> Result<(), Error>
     ensures put { OnOk result (bytes.new.items
         ≡ bytes.old.items ++ head_bytes me ++ bytes_of_tuple (own_tuple own)) }
@@ -127,9 +127,9 @@ fn put_rows<T: RouteTable>(
     Ok(())
 }
 
-/// The packet of routing data, numbered from 0, that router `me` sends on a port whose cable has the
-/// range `own`: that range at distance 0, and up to 96 rows of the other ports by rising range; and
-/// none after the last. Error: `Memory`.
+/// The packet of routing data, numbered from 0, that router `me` sends on a port whose cable has
+/// the range `own`: that range at distance 0, and up to 96 rows of the other ports by rising range;
+/// and none after the last. Error: `Memory`.
 ///
 /// Inside AppleTalk, the chapter on RTMP.
 pub fn write_data<T: RouteTable>(

@@ -92,7 +92,7 @@ pub(crate) fn is_poisoned<T: RouteTable>(alloc: Global) -> Result<bool, Error> {
     Ok(direct_stay && has_rows(&table, &rows))
 }
 
-/// The row for a network is the usable one whose range holds it, from the first network to the last.
+/// The row for a network is the usable one whose range holds it, to the ends of the range.
 pub(crate) fn is_found<T: RouteTable>(alloc: Global) -> Result<bool, Error> {
     let mut rows = [
         row(10, 19, 0, 0, at(0, 0))?,
