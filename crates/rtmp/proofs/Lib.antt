@@ -1,4 +1,6 @@
 pub mod Maps
-pub mod Hearing
+pub mod Heard
 pub mod Shape
-pub mod Tuples
+pub mod InPlace
+pub mod Sent
+pub mod Spelled

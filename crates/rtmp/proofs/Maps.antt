@@ -3,7 +3,7 @@ use Rattle.std.proofs.Common.{◌≡◌, ℕ, zero, suc, ◌+◌, ◌<◌, ◌�
 use Rattle.std.proofs.Common.{map, filter, take, drop, set, insert, get_or, refl, sym, ap, ◌∙◌, arith, nat_lt, nat_le}
 use Rattle.std.specs.List.{list_all, list_any}
 use Rattle.std.proofs.lemmas.Bool.Decides.{nat_tests}
-use Rattle.std.proofs.lemmas.Bool.{and_parts, or_parts, ltb-true, ltb-false, lt-ltb, le-ltb, eqb-true}
+use Rattle.std.proofs.lemmas.Bool.{and_parts, or_parts, ltb-true, ltb-false, lt-ltb, eqb-true}
 use Rattle.at_base.specs.Range.{Span, overlaps, same_range, is_range}
 use Rattle.at_base.proofs.Ranges.{ends_of}
 use Rattle.at_base.specs.Address.{same_address}
@@ -231,11 +231,18 @@ poisoned_map next rows h = updated_map (poisoned_row next) (poisoned_range next)
 
 -- a row is replaced by one of its range
 replaced_range : (row r : Row) → (replaced_row row r).range ≡ r.range
+<<<<<<< HEAD
 replaced_range row r =
     (elim (same_range r.range row.range) as (λ b. same_range r.range row.range ≡ b → (replaced_row row r).range ≡ r.range) [
       | true ↦ λ t. rw t (sym (one_range r.range row.range t))
       | false ↦ λ t. rw t refl
     ]) refl
+=======
+replaced_range row r = (elim (same_range r.range row.range) as (λ b. same_range r.range row.range ≡ b → (replaced_row row r).range ≡ r.range) [
+  | true ↦ λ t. rw t (sym (one_range r.range row.range t))
+  | false ↦ λ t. rw t refl
+]) refl
+>>>>>>> 8a0ecac3c8ffa8f89b11118936e6bf79cf55caeb
 
 replaced_good : (row : Row) → is_row row ≡ true → (r : Row) → is_row r ≡ true → is_row (replaced_row row r) ≡ true
 replaced_good row new r h = elim (same_range r.range row.range) as (λ b. is_row (cond b row r) ≡ true) [ true ↦ new | false ↦ h ]

@@ -1,6 +1,5 @@
 -- Each part of a packet of routing data stands where its projection finds it.
-use Rattle.std.proofs.Common.{◌≡◌, ℕ, ◌≤◌, ◌<◌, ◌+◌, Bool, true, false, length, refl, arith}
-use Rattle.std.proofs.lemmas.List.{length-append}
+use Rattle.std.proofs.Common.{ℕ, ◌≤◌, Bool, true, false, length, refl, arith}
 use Rattle.at_base.specs.declared.error.Field.TheVariants.{IdLength}
 use Rattle.at_base.specs.Spelling.{IsValue, bytes_of}
 use Rattle.at_base.specs.Lawful.{IsLawful}

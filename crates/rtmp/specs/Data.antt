@@ -1,7 +1,11 @@
 -- Packets of routing data: the router that sends them, the range of its port's cable, and how far other ranges are.
 -- (Inside AppleTalk, the chapter on RTMP)
+<<<<<<< HEAD
 use Rattle.std.specs.Prelude.{◌≡◌, ℕ, ◌+◌, ◌*◌, ◌%◌, Bool, true, false, not, ◌&&◌, ◌==◌, List, [], ◌∷◌, length, map, Option, Some, None}
 use Rattle.std.specs.Prelude.{Result, Ok, Err, nat_le, nat_lt, if◌then◌else◌}
+=======
+use Rattle.std.specs.Prelude.{◌≡◌, ℕ, ◌+◌, ◌%◌, Bool, true, false, not, ◌&&◌, ◌==◌, List, [], ◌∷◌, length, map, Option, Some, None, Result, Ok, Err, nat_le, nat_lt, if◌then◌else◌}
+>>>>>>> 8a0ecac3c8ffa8f89b11118936e6bf79cf55caeb
 use Rattle.at_base.specs.declared.address.Addr.{Addr}
 use Rattle.at_base.specs.declared.error.Field.TheVariants.{IdLength, Version}
 use Rattle.at_base.specs.declared.error.Error.{Error}

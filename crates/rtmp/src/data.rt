@@ -8,7 +8,7 @@ ghost use Rattle.rtmp.specs.Data.{tuples_of, own_range};
 
 use crate::tuple::Tuple;
 use crate::written::{tuple_of, written_at};
-use at_base::packet::{address_at, byte_at, byte_only, u16_at};
+use at_base::packet::{byte_at, byte_only, u16_at};
 use at_base::{Addr, Error, Field, Range};
 use std::marker::Model;
 
@@ -96,6 +96,16 @@ impl<'a> DataPacket<'a> {
         self.router
     }
 
+    /// The range of the sender's port: that of the first tuple.
+    pub fn own(&self) -> Range
+        ensures { result ≡ own_range self.now }
+    {
+        match next_in(0, self.tuples) {
+            Some((first, _)) => first.range,
+            None => unreachable!(),
+        }
+    }
+
     /// The extended tuples, in order; the first one is the range of the sender's port.
     pub fn tuples(&self) -> Tuples<'a>
         ensures { result ≡ tuples_of self.now.written }
@@ -111,6 +121,7 @@ impl<'a> DataPacket<'a> {
 fn next_in(low: u32, bytes: &[u8]) -> Option<(Tuple, &[u8])>
     requires { IsTuples low bytes.now }
     ensures none { IfNone result (tuples_of (written_in low bytes.now) ≡ []) }
+    ensures first { IfNone result (low ≡ 0 → bytes.now ≡ []) }
     ensures some { IfSome result (λ x. tuples_of (written_in low bytes.now)
         ≡ x.0 ∷ tuples_of (written_in 1 x.1.now)) }
     ensures rest { IfSome result (λ x. IsTuples 1 x.1.now) }

@@ -2,16 +2,23 @@
 #![tactic(auto)]
 
 mod data;
+mod hearing;
+mod laws;
 mod plain;
 mod row;
 mod state;
 mod table;
 mod tuple;
 mod update;
+mod writer;
 mod written;
 
+pub use data::{DataPacket, Tuples};
+pub use hearing::hear_packet;
+pub use laws::data_is_read_back;
 pub use plain::PlainTable;
 pub use row::Row;
 pub use state::State;
 pub use table::{Change, MAX_DISTANCE, MAX_ROWS, RouteTable};
 pub use tuple::Tuple;
+pub use writer::{MAX_ROWS_IN_PACKET, UNREACHABLE, write_data};

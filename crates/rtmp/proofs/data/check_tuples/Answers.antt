@@ -17,12 +17,18 @@ loop-rest-smaller c =
 
 pub loop-rest-preserved : goal.loop-rest-preserved
 loop-rest-preserved c =
+<<<<<<< HEAD
     let less = shorter_after packets (written_tuple c.loop-rest.low) (written_lawful c.loop-rest.low)
     (written_long c.loop-rest.low) c.loop-rest.rest.now _ c.in-Ok.after.now c.loop-rest.invariant.0 c.in-Ok.ensures.read in (
       rest_is_bytes packets (written_tuple c.loop-rest.low)
           (written_lawful c.loop-rest.low) c.loop-rest.rest.now _ c.in-Ok.after.now c.loop-rest.invariant.0 c.in-Ok.ensures.read,
       goes_on_in (λ n. read packets (written_tuple n))
           (λ t. 1) c.loop-rest.low c.loop-rest.rest.now _ c.in-Ok.after.now _ less c.in-Ok.ensures.read c.loop-rest.invariant.1,
+=======
+    let less = shorter_after packets (written_tuple c.loop-rest.low) (written_lawful c.loop-rest.low) (written_long c.loop-rest.low) c.loop-rest.rest.now _ c.in-Ok.after.now c.loop-rest.invariant.0 c.in-Ok.ensures.read in (
+      rest_is_bytes packets (written_tuple c.loop-rest.low) (written_lawful c.loop-rest.low) c.loop-rest.rest.now _ c.in-Ok.after.now c.loop-rest.invariant.0 c.in-Ok.ensures.read,
+      goes_on_in (λ n. read packets (written_tuple n)) (λ t. 1) c.loop-rest.low c.loop-rest.rest.now _ c.in-Ok.after.now _ less c.in-Ok.ensures.read c.loop-rest.invariant.1,
+>>>>>>> 8a0ecac3c8ffa8f89b11118936e6bf79cf55caeb
     )
 
 pub returns-in-Err : goal.returns-in-Err

@@ -1,6 +1,3 @@
-use Rattle.std.proofs.Common.{◌≡◌, ◌∙◌, ap}
-use Rattle.rtmp.specs.Routes.{added}
-use Rattle.rtmp.specs.Updates.{before}
 use Rattle.rtmp.proofs.Maps.{put_at}
 use Rattle.rtmp.proofs.plain.put.Goals as goal
 

@@ -1,8 +1,7 @@
-use Rattle.std.proofs.Common.{◌≡◌, ◌<◌, Some, None, length, true, refl, sym, ap, ◌∙◌, arith}
+use Rattle.std.proofs.Common.{◌≡◌, Some, true, refl, sym, ap, ◌∙◌, arith}
 use Rattle.std.specs.Option.{option_copied}
-use Rattle.rtmp.specs.declared.row.Row.{Row}
-use Rattle.rtmp.specs.Routes.{row_at, after_hearing, heard_row, is_new, replaced}
-use Rattle.rtmp.proofs.Hearing.{There, there, new, new_map}
+use Rattle.rtmp.specs.Routes.{row_at, is_new}
+use Rattle.rtmp.proofs.Heard.{there, new_map}
 use Rattle.rtmp.proofs.plain.PlainTableRouteTable.hear.Goals as goal
 
 -- the row that was found, and what hearing leaves

@@ -1,6 +1,10 @@
 -- What hearing of a range leaves of a table.
+<<<<<<< HEAD:crates/rtmp/proofs/Hearing.antt
 use Rattle.std.proofs.Common.{◌≡◌, ℕ, ◌+◌, ◌<◌, ◌≤◌, Bool, true, false, cond, not, ◌&&◌, ◌||◌, ◌==◌, List, [], ◌∷◌, length, find, Option}
 use Rattle.std.proofs.Common.{Some, None, refl, sym, ap, ◌∙◌, arith, nat_le, nat_lt, true≢false}
+=======
+use Rattle.std.proofs.Common.{◌≡◌, ℕ, ◌+◌, ◌<◌, ◌≤◌, Bool, true, false, cond, not, ◌&&◌, ◌||◌, ◌==◌, List, [], ◌∷◌, length, find, Some, None, refl, sym, ap, ◌∙◌, arith, nat_le}
+>>>>>>> 8a0ecac3c8ffa8f89b11118936e6bf79cf55caeb:crates/rtmp/proofs/Heard.antt
 use Rattle.std.specs.List.{list_all, list_any}
 use Rattle.std.proofs.lemmas.Bool.{and_parts, not-true, leb-true, le-leb}
 use Rattle.at_base.specs.Address.{same_address}

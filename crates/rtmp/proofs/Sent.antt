@@ -1,0 +1,141 @@
+-- The rows that a port sends, one by one, as a loop over the table's indexes finds them.
+use Rattle.std.proofs.Common.{◌≡◌, ℕ, zero, suc, ◌+◌, ◌-◌, ◌<◌, ◌≤◌, Bool, true, false, ◌==◌, List, [], ◌∷◌, ◌++◌, length, map, take, drop, Some, None, refl, sym, ap, ◌∙◌, arith, append_assoc}
+use Rattle.std.specs.Prelude.{◌*◌, ◌||◌, slice_get, not, nat_lt}
+use Rattle.std.specs.List.{list_all}
+use Rattle.std.proofs.lemmas.Bool.{and_parts, leb-true, le-leb, lt-ltb, eq-eqb, ne_eqb}
+use Rattle.std.specs.Prelude.{nat_le}
+use Rattle.at_base.specs.declared.address.Addr.{Addr}
+use Rattle.at_base.specs.Range.{Span, is_range}
+use Rattle.rtmp.specs.declared.row.Row.{Row}
+use Rattle.rtmp.specs.Bytes.{head_bytes, tuple_bytes, tuples_bytes}
+use Rattle.rtmp.specs.Routes.{IsRouteMap, is_row}
+use Rattle.rtmp.specs.Sending.{IsPacket, of_other_ports, own_tuple, packet_numbered, sent_tuple}
+use Rattle.rtmp.specs.States.{is_usable}
+use Rattle.rtmp.proofs.Maps.{all_filter}
+use Rattle.rtmp.proofs.Spelled.{is_tuple, data_spelled}
+
+-- ---- A row at an index
+
+pub row_next : (rows : List Row) (i : ℕ) (r : Row) → slice_get rows i ≡ Some r → drop i rows ≡ r ∷ drop (i + 1) rows
+row_next [] i r h = absurd cc
+row_next (a ∷ rows) zero r h = let same : a ≡ r = cc in ap (λ (x : Row). x ∷ rows) same
+row_next (a ∷ rows) (suc i) r h = let n : suc i + 1 ≡ suc (i + 1) = omega arith in rw n (row_next rows i r h)
+
+pub none_next : (rows : List Row) (i : ℕ) → slice_get rows i ≡ None → i < length rows → ⊥
+none_next [] i h lt = omega arith
+none_next (a ∷ rows) zero h lt = cc
+none_next (a ∷ rows) (suc i) h lt = none_next rows i h (omega arith)
+
+row_good : (rows : List Row) (i : ℕ) (r : Row) → list_all is_row rows ≡ true → slice_get rows i ≡ Some r → is_row r ≡ true
+row_good [] i r each h = absurd cc
+row_good (a ∷ rows) zero r each h = let same : a ≡ r = cc in rw (← same) (and_parts (is_row a) (list_all is_row rows) each).0
+row_good (a ∷ rows) (suc i) r each h = row_good rows i r (and_parts (is_row a) (list_all is_row rows) each).1 h
+
+-- what is sent of a row fits its byte
+pub sent_near : (r : Row) → is_row r ≡ true → (sent_tuple r).distance ≤ 31
+sent_near r h =
+    let near : r.distance ≤ 31 = leb-true _ _ (and_parts (is_range r.range.start r.range.end) (nat_le r.distance 31) h).1 in
+    (elim (is_usable r.state) as (λ b. is_usable r.state ≡ b → (sent_tuple r).distance ≤ 31) [
+      | true ↦ λ t. rw t near
+      | false ↦ λ t. rw t (omega arith)
+    ]) refl
+
+pub sent_at : (rows : List Row) (i : ℕ) (r : Row) → list_all is_row rows ≡ true → slice_get rows i ≡ Some r → (sent_tuple r).distance ≤ 31
+sent_at rows i r each h = sent_near r (row_good rows i r each h)
+
+-- ---- Rows of the other ports
+
+pub others_skip : (port : ℕ) (r : Row) (rows : List Row) → r.port ≡ port → of_other_ports port (r ∷ rows) ≡ of_other_ports port rows
+others_skip port r rows t = rw (eq-eqb r.port port t) refl
+
+pub others_take : (port : ℕ) (r : Row) (rows : List Row) → (r.port ≡ port → ⊥) → of_other_ports port (r ∷ rows) ≡ r ∷ of_other_ports port rows
+others_take port r rows t = rw (ne_eqb r.port port t) refl
+
+-- the bytes of so many rows of the other ports, after so many that are left out
+abbrev pub window : ℕ → ℕ → ℕ → List Row → List ℕ
+window port left_out count rows = tuples_bytes (map sent_tuple (take count (drop left_out (of_other_ports port rows))))
+
+pub window_skip : (port left_out count : ℕ) (r : Row) (rows : List Row) → r.port ≡ port → window port left_out count (r ∷ rows) ≡ window port left_out count rows
+window_skip port left_out count r rows t = rw (others_skip port r rows t) refl
+
+pub window_later : (port left_out count : ℕ) (r : Row) (rows : List Row) → (r.port ≡ port → ⊥) → 0 < left_out → window port left_out count (r ∷ rows) ≡ window port (left_out - 1) count rows
+window_later port left_out count r rows t some =
+    let n : left_out ≡ suc (left_out - 1) = omega arith in
+    let e : drop left_out (r ∷ of_other_ports port rows) ≡ drop (left_out - 1) (of_other_ports port rows) = ap (λ (k : ℕ). drop k (r ∷ of_other_ports port rows)) n in
+    rw (others_take port r rows t, e) refl
+
+pub window_sent : (port count : ℕ) (r : Row) (rows : List Row) → (r.port ≡ port → ⊥) → 0 < count → window port 0 count (r ∷ rows) ≡ tuple_bytes (sent_tuple r) ++ window port 0 (count - 1) rows
+window_sent port count r rows t some =
+    let n : count ≡ suc (count - 1) = omega arith in
+    let e : take count (r ∷ of_other_ports port rows) ≡ r ∷ take (count - 1) (of_other_ports port rows) = ap (λ (k : ℕ). take k (r ∷ of_other_ports port rows)) n in
+    rw (others_take port r rows t, e) refl
+
+-- ---- What a step of the loop leaves: what is written, and what is left to be written, is all
+
+-- a row is written
+pub goes_on_written : (port left_out count : ℕ) (r : Row) (rest : List Row) (items written total : List ℕ)
+    → items ++ window port left_out count (r ∷ rest) ≡ total → (r.port ≡ port → ⊥) → left_out ≤ 0 → 0 < count
+    → written ≡ items ++ tuple_bytes (sent_tuple r) → written ++ window port left_out (count - 1) rest ≡ total
+goes_on_written port left_out count r rest items written total so_far other none some is =
+    let z : left_out ≡ 0 = omega arith in
+    let step : window port left_out count (r ∷ rest) ≡ tuple_bytes (sent_tuple r) ++ window port left_out (count - 1) rest = rw z (window_sent port count r rest other some) in
+    let bytes : written ++ window port left_out (count - 1) rest ≡ items ++ window port left_out count (r ∷ rest) = rw (is, step) (simp append_assoc) in
+    bytes ∙ so_far
+
+-- enough rows were written
+pub goes_on_full : (port left_out count : ℕ) (rows rest : List Row) (items total : List ℕ)
+    → items ++ window port left_out count rows ≡ total → count ≤ 0 → items ++ window port left_out count rest ≡ total
+goes_on_full port left_out count rows rest items total so_far none =
+    let z : count ≡ 0 = omega arith in
+    let a : window port left_out count rows ≡ [] = rw z refl in
+    let b : window port left_out count rest ≡ [] = rw z refl in
+    ap (λ (l : List ℕ). items ++ l) (b ∙ sym a) ∙ so_far
+
+-- ---- All that is sent can be written
+
+all_take : (n : ℕ) (rows : List Row) → list_all is_row rows ≡ true → list_all is_row (take n rows) ≡ true
+all_take zero rows h = refl
+all_take (suc n) [] h = refl
+all_take (suc n) (r ∷ rows) h = let p = and_parts (is_row r) (list_all is_row rows) h in rw (p.0, all_take n rows p.1) refl
+
+all_drop : (n : ℕ) (rows : List Row) → list_all is_row rows ≡ true → list_all is_row (drop n rows) ≡ true
+all_drop zero rows h = h
+all_drop (suc n) [] h = refl
+all_drop (suc n) (r ∷ rows) h = all_drop n rows (and_parts (is_row r) (list_all is_row rows) h).1
+
+all_sent : (rows : List Row) → list_all is_row rows ≡ true → list_all is_tuple (map sent_tuple rows) ≡ true
+all_sent [] h = refl
+all_sent (r ∷ rows) h =
+    let p = and_parts (is_row r) (list_all is_row rows) h in
+    let valid : is_range r.range.start r.range.end ≡ true = (and_parts (is_range r.range.start r.range.end) (nat_le r.distance 31) p.0).0 in
+    let near : nat_le (sent_tuple r).distance 31 ≡ true = le-leb _ _ (sent_near r p.0) in
+    rw (valid, near, all_sent rows p.1) refl
+
+pub window_good : (port left_out : ℕ) (rows : List Row) → list_all is_row rows ≡ true → list_all is_tuple (map sent_tuple (take 96 (drop left_out (of_other_ports port rows)))) ≡ true
+window_good port left_out rows h =
+    let others = of_other_ports port rows in
+    all_sent (take 96 (drop left_out others)) (all_take 96 (drop left_out others) (all_drop left_out others (all_filter (λ r. not (r.port == port)) rows h)))
+
+-- ---- The packet of a number
+
+pub numbered : (port : ℕ) (own : Span) (me : Addr) (n : ℕ) (rows : List Row) (bytes : List ℕ) → (n == 0 || nat_lt (n * 96) (length (of_other_ports port rows))) ≡ true
+    → (h : IsRouteMap rows) → me.net < 65536 → me.node < 256 → is_range own.start own.end ≡ true
+    → bytes ≡ head_bytes me ++ tuple_bytes (own_tuple own) ++ window port (n * 96) 96 rows
+    → IsPacket (packet_numbered port own me n rows) (Some bytes)
+numbered port own me n rows bytes there h net node valid is =
+    rw (there, is) (data_spelled me own (map sent_tuple (take 96 (drop (n * 96) (of_other_ports port rows)))) net node valid (window_good port (n * 96) rows h.each))
+
+-- the parts, written one after the other
+pub laid : (me : Addr) (own : Span) (rest a b d : List ℕ) → a ≡ [] → b ≡ a ++ head_bytes me ++ tuple_bytes (own_tuple own) → d ≡ b ++ rest → d ≡ head_bytes me ++ tuple_bytes (own_tuple own) ++ rest
+laid me own rest a b d pa pb pd = rw (pd, pb, pa) refl
+
+-- the packet of a number: the first one, or one for which rows are left
+pub there_first : (n len : ℕ) → n ≤ 0 → (n == 0 || nat_lt (n * 96) len) ≡ true
+there_first n len h = let z : n ≡ 0 = omega arith in rw z refl
+
+or_true : (b : Bool) → (b || true) ≡ true
+or_true true = refl
+or_true false = refl
+
+pub there_later : (n len : ℕ) → n * 96 < len → (n == 0 || nat_lt (n * 96) len) ≡ true
+there_later n len h = rw (lt-ltb (n * 96) len h) (or_true (n == 0))

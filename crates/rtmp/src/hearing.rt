@@ -1,0 +1,47 @@
+//! What a packet of routing data does to a routing table.
+
+ghost use Rattle.std.specs.Prelude.{◌≡◌, OnOk, IsOkUnless};
+ghost use Rattle.rtmp.specs.Data.{tuples_of};
+ghost use Rattle.rtmp.specs.Routes.{heard_packet, heard_within};
+
+use crate::data::DataPacket;
+use crate::table::RouteTable;
+use crate::tuple::Tuple;
+use at_base::{Addr, Error};
+
+/// Hears a tuple, and leaves it out where there is no room for its range. Error: `Memory`.
+fn hear_tuple<T: RouteTable>(
+    table: &mut T,
+    tuple: &Tuple,
+    source: Addr,
+    port: u8,
+) -> Result<(), Error>
+    ensures ok { OnOk result (T.rows table.new
+        ≡ heard_within tuple.now.range tuple.now.distance source port (T.rows table.old)) }
+    ensures refused { IsOkUnless result Error.Memory }
+{
+    match table.hear(tuple.range, tuple.distance, source, port) {
+        Ok(_) | Err(Error::Full) => Ok(()),
+        Err(error) => Err(error),
+    }
+}
+
+/// Hears each tuple of a packet that came in on a port, in order, and leaves out those for whose
+/// ranges there is no room. Error: `Memory`, after which only some of the tuples were heard.
+///
+/// Inside AppleTalk, the chapter on RTMP.
+pub fn hear_packet<T: RouteTable>(
+    table: &mut T,
+    packet: &DataPacket<'_>,
+    port: u8,
+) -> Result<(), Error>
+    ensures ok { OnOk result (T.rows table.new
+        ≡ heard_packet packet.now.router port (tuples_of packet.now.written) (T.rows table.old)) }
+    ensures refused { IsOkUnless result Error.Memory }
+{
+    let source = packet.router();
+    for tuple in packet.tuples() {
+        hear_tuple(table, &tuple, source, port)?;
+    }
+    Ok(())
+}

@@ -1,0 +1,157 @@
+//! What a router sends of its routing table.
+
+ghost use Rattle.std.specs.Prelude.{◌≡◌, ◌≤◌, ◌++◌, length, map, take, drop, IfOk, OnOk};
+ghost use Rattle.std.specs.Prelude.{IsOkUnless};
+ghost use Rattle.at_base.specs.Range.{IsRange};
+ghost use Rattle.rtmp.specs.Bytes.{head_bytes, tuple_bytes as bytes_of_tuple, tuples_bytes};
+ghost use Rattle.rtmp.specs.Routes.{IsRouteMap};
+ghost use Rattle.rtmp.specs.Sending.{packet_numbered, IsPacket, sent_tuple as tuple_of_row};
+ghost use Rattle.rtmp.specs.Sending.{of_other_ports, own_tuple};
+
+use crate::row::Row;
+use crate::table::RouteTable;
+use crate::tuple::Tuple;
+use at_base::{Addr, Bytes, Error, Range};
+use std::alloc::Global;
+
+/// The most rows in a packet, beside the port's own range.
+pub const MAX_ROWS_IN_PACKET: usize = 96;
+
+/// The distance that says that a range can't be reached.
+pub const UNREACHABLE: u8 = 31;
+
+/// The bytes before the tuples, and those of each tuple.
+const HEAD_LEN: usize = 4;
+
+const TUPLE_LEN: usize = 6;
+
+/// What is sent of a row.
+fn sent_tuple(row: &Row) -> Tuple
+    ensures { result ≡ tuple_of_row row.now }
+{
+    let distance = if row.state.is_usable() {
+        row.distance
+    } else {
+        UNREACHABLE
+    };
+    Tuple {
+        range: row.range,
+        distance,
+    }
+}
+
+/// Appends the router, before its tuples.
+fn put_head(bytes: &mut Vec<u8>, me: Addr) -> Result<(), Error>
+    ensures put { OnOk result (bytes.new.items ≡ bytes.old.items ++ head_bytes me) }
+    ensures refused { IsOkUnless result Error.Memory }
+{
+    bytes.extend_from_slice(&me.net.to_be_bytes())?;
+    bytes.push(8)?;
+    bytes.push(me.node)?;
+    Ok(())
+}
+
+/// Appends an extended tuple.
+fn put_tuple(bytes: &mut Vec<u8>, tuple: Tuple) -> Result<(), Error>
+    requires { tuple.distance ≤ 31 }
+    ensures put { OnOk result (bytes.new.items ≡ bytes.old.items ++ bytes_of_tuple tuple) }
+    ensures valid { OnOk result (IsRange tuple.range.start tuple.range.end) }
+    ensures refused { IsOkUnless result Error.Memory }
+{
+    bytes.extend_from_slice(&tuple.range.start().to_be_bytes())?;
+    bytes.push(128 + tuple.distance)?;
+    bytes.extend_from_slice(&tuple.range.end().to_be_bytes())?;
+    bytes.push(0x82)?;
+    Ok(())
+}
+
+/// Appends what each packet begins with: the router, and the port's own range at distance 0.
+fn put_front(bytes: &mut Vec<u8>, me: Addr, own: Range) -> Result<(), Error>
+    ensures put { OnOk result (bytes.new.items
+        ≡ bytes.old.items ++ head_bytes me ++ bytes_of_tuple (own_tuple own)) }
+    ensures valid { OnOk result (IsRange own.start own.end) }
+    ensures refused { IsOkUnless result Error.Memory }
+{
+    put_head(bytes, me)?;
+    put_tuple(
+        bytes,
+        Tuple {
+            range: own,
+            distance: 0,
+        },
+    )
+}
+
+/// The number of rows of the other ports.
+fn count_others<T: RouteTable>(table: &T, port: u8) -> usize
+    ensures value { result ≡ length (of_other_ports port (T.rows table.now)) }
+    ensures map { IsRouteMap (T.rows table.now) }
+{
+    let mut count = 0;
+    for index in 0..table.len() {
+        if let Some(row) = table.row(index) {
+            if row.port != port {
+                count += 1;
+            }
+        }
+    }
+    count
+}
+
+/// Appends up to 96 rows of the other ports, after so many that are left out.
+fn put_rows<T: RouteTable>(
+    bytes: &mut Vec<u8>,
+    table: &T,
+    port: u8,
+    left_out: usize,
+) -> Result<(), Error>
+    ensures put { OnOk result (bytes.new.items ≡ bytes.old.items ++ tuples_bytes
+        (map tuple_of_row (take 96 (drop left_out (of_other_ports port (T.rows table.now)))))) }
+    ensures refused { IsOkUnless result Error.Memory }
+{
+    let mut left_out = left_out;
+    let mut room = MAX_ROWS_IN_PACKET;
+    for index in 0..table.len() {
+        if let Some(row) = table.row(index) {
+            if row.port == port {
+                continue;
+            }
+            if left_out > 0 {
+                left_out -= 1;
+            } else if room > 0 {
+                room -= 1;
+                put_tuple(bytes, sent_tuple(&row))?;
+            }
+        }
+    }
+    Ok(())
+}
+
+/// The packet of routing data, numbered from 0, that router `me` sends on a port whose cable has
+/// the range `own`: that range at distance 0, and up to 96 rows of the other ports by rising range;
+/// and none after the last. Error: `Memory`.
+///
+/// Inside AppleTalk, the chapter on RTMP.
+pub fn write_data<T: RouteTable>(
+    alloc: Global,
+    table: &T,
+    port: u8,
+    own: Range,
+    me: Addr,
+    number: u16,
+) -> Result<Option<Bytes>, Error>
+    ensures made { IfOk result
+        (λ packet. IsPacket (packet_numbered port own me number (T.rows table.now)) packet) }
+    ensures refused { IsOkUnless result Error.Memory }
+{
+    let left_out = number as usize * MAX_ROWS_IN_PACKET;
+    let others = count_others(table, port);
+    if number > 0 && others <= left_out {
+        return Ok(None);
+    }
+    let count = (others - left_out).min(MAX_ROWS_IN_PACKET);
+    let mut bytes = Vec::with_capacity(alloc, HEAD_LEN + TUPLE_LEN * (1 + count))?;
+    put_front(&mut bytes, me, own)?;
+    put_rows(&mut bytes, table, port, left_out)?;
+    Ok(Some(Bytes::from_vec(bytes)))
+}
