@@ -1,11 +1,6 @@
 -- Routing tables: finite maps from ranges to rows, and what each message and each moment does to them.
 -- (Inside AppleTalk, the chapter on RTMP)
-<<<<<<< HEAD
-use Rattle.std.specs.Prelude.{◌≡◌, ℕ, ◌+◌, ◌≤◌, Bool, true, false, not, ◌&&◌, ◌||◌, ◌==◌, IsTrue, List, [], ◌∷◌, ◌++◌, length, map}
-use Rattle.std.specs.Prelude.{filter, fold, find, Option, Some, None, nat_le, nat_lt, if◌then◌else◌}
-=======
 use Rattle.std.specs.Prelude.{ℕ, ◌+◌, ◌≤◌, Bool, true, false, not, ◌&&◌, ◌||◌, ◌==◌, IsTrue, List, [], ◌∷◌, length, map, filter, fold, find, Option, Some, None, nat_le, nat_lt, if◌then◌else◌}
->>>>>>> 8a0ecac3c8ffa8f89b11118936e6bf79cf55caeb
 use Rattle.std.specs.List.{list_all, list_any}
 use Rattle.at_base.specs.declared.address.Addr.{Addr}
 use Rattle.at_base.specs.Address.{is_none, same_address}

@@ -1,4 +1,4 @@
--- Changes of the rows of a table, one by one. This project's own.
+-- Changes of the rows of a table, one by one. (own)
 use Rattle.std.specs.Prelude.{ℕ, suc, List, [], ◌∷◌, nat_lt, if◌then◌else◌}
 use Rattle.rtmp.specs.declared.row.Row.{Row}
 use Rattle.rtmp.specs.declared.update.Update.{Update}

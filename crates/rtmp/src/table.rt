@@ -1,7 +1,6 @@
 //! What a routing table is to the router above it.
 
-ghost use Rattle.std.specs.Prelude.{◌≡◌, ◌≢◌, ◌≤◌, ◌<◌, ◌⊎◌, ◌↔◌, [], true, false, length};
-ghost use Rattle.std.specs.Prelude.{slice_get, nat_le};
+ghost use Rattle.std.specs.Prelude.{◌≡◌, ◌≢◌, ◌≤◌, ◌<◌, ◌⊎◌, ◌↔◌, [], true, false, length, slice_get, nat_le};
 ghost use Rattle.std.specs.Prelude.{IfOk, IfErr, OnOk, OnErr, IsOk, IsTrue, IsOkUnless};
 ghost use Rattle.std.specs.List.{list_all};
 ghost use Rattle.rtmp.specs.Routes.{IsRouteMap, are_apart, row_for as row_in};
@@ -78,8 +77,7 @@ pub trait RouteTable: Drop {
             (λ e. (e ≡ Error.BadRange) ⊎ (e ≡ Error.Full) ⊎ (e ≡ Error.Memory)) }
         ensures unchanged { OnErr result (rows self.new ≡ rows self.old) };
 
-    /// A port stands on a cable of this range: the rows that overlap it go, and it is at distance
-    /// 0.
+    /// A port stands on a cable of this range: the rows that overlap it go, and it is at distance 0.
     ///
     /// Errors: `Full` where `MAX_ROWS` rows would be left beside it; `Memory`. A refusal changes
     /// nothing.
