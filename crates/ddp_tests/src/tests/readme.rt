@@ -15,8 +15,10 @@ pub(crate) fn ping(alloc: Global) -> Result<Bytes, Error> {
         kind: kind::AEP,
     };
     let mut bytes = write(alloc, &header, b"\x01ping")?.into_vec();
-    let hops = View::read(&bytes)?.hops() + 2;
-    set_hops(&mut bytes, hops);
+    let hops = View::read(&bytes)?.hops();
+    if hops <= 13 {
+        set_hops(&mut bytes, hops + 2);
+    }
     View::read(&bytes)?.check()?;
     Ok(Bytes::from_vec(bytes))
 }
