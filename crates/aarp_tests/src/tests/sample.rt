@@ -98,13 +98,60 @@ pub(crate) fn datagram(alloc: Global, next: Addr, byte: u8) -> Result<Held, Erro
     })
 }
 
-/// The byte of a datagram, and how often its address was asked for.
-pub(crate) fn told(held: &Option<Held>) -> Option<(u8, u8)> {
+/// Whether it is the datagram of this byte, whose address was asked for so often.
+pub(crate) fn is_datagram(held: &Option<Held>, byte: u8, asked: u8) -> bool {
     match held {
-        Some(held) => match held.bytes.as_slice() {
-            [byte] => Some((*byte, held.asked)),
-            _ => None,
-        },
-        None => None,
+        Some(held) => held.asked == asked && held.bytes.as_slice() == [byte].as_slice(),
+        None => false,
+    }
+}
+
+/// Whether these are the addresses, in order.
+pub(crate) fn are(addresses: &Addresses, expected: &[Addr]) -> bool {
+    addresses.as_slice() == expected
+}
+
+/// Whether the address is mapped to the hardware address.
+pub(crate) fn is_mapped(mapper: &Mapper, addr: Addr, hw: Hw) -> bool {
+    match mapper.look(addr) {
+        Some(found) => found == hw,
+        None => false,
+    }
+}
+
+/// Whether it is the address.
+pub(crate) fn is_address(found: Option<Addr>, expected: Addr) -> bool {
+    match found {
+        Some(addr) => addr == expected,
+        None => false,
+    }
+}
+
+/// Whether the chooser's next tick probes for the address.
+pub(crate) fn probes_for(chooser: &mut Chooser, expected: Addr) -> bool {
+    is_address(probed(chooser), expected)
+}
+
+/// Whether the chooser answers the packet with this one.
+pub(crate) fn answers(chooser: &Chooser, packet: &Packet, expected: &Packet) -> bool {
+    match chooser.answer(packet) {
+        Some(answer) => answer == *expected,
+        None => false,
+    }
+}
+
+/// Whether the packet is read from the bytes.
+pub(crate) fn reads(bytes: &[u8], expected: &Packet) -> bool {
+    match Packet::read(bytes) {
+        Ok(packet) => packet == *expected,
+        Err(_) => false,
+    }
+}
+
+/// Whether the bytes are refused for this.
+pub(crate) fn refuses(bytes: &[u8], expected: Error) -> bool {
+    match Packet::read(bytes) {
+        Ok(_) => false,
+        Err(error) => error == expected,
     }
 }
