@@ -1,9 +1,11 @@
 //! AARP packets, the choice of an address and waiting datagrams, worked out by hand.
 
+mod readme;
 mod sample;
 
 use aarp::*;
 use at_base::{Error, Field, Hw};
+use readme::chosen;
 use sample::*;
 use std::test::*;
 
@@ -315,5 +317,15 @@ fn a_release_keeps_the_order_of_the_others(rt: HostRuntime) -> Result<(), Fail> 
     assert!(rt; is_datagram(&mapper.release(at(10, 8)), 5, 2));
     assert!(rt; mapper.holds(at(10, 7)));
     assert!(rt; !mapper.holds(at(10, 8)));
+    Ok(())
+}
+
+#[test]
+fn the_readme_chooses_an_address(rt: HostRuntime) -> Result<(), Fail> {
+    let addr = match chosen(rt.alloc()) {
+        Err(Error::Memory) => chosen(rt.alloc())?,
+        answer => answer?,
+    };
+    assert_eq!(rt; addr, Some(at(10, 7)));
     Ok(())
 }

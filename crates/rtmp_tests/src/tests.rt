@@ -6,6 +6,7 @@ mod calls;
 mod equal;
 mod model;
 mod reading;
+mod readme;
 mod rows;
 mod sending;
 mod whole;
@@ -15,6 +16,7 @@ use at_base::{Addr, Error, Field, Range};
 use calls::{Call, same_answers};
 use equal::{rows_differ, states_and_changes_differ, tuples_differ};
 use reading::{FROM_20_2, VERSION, refusal, refusal_of_first, refusal_with, says};
+use readme::way_to;
 use rows::{at, has_rows, many_again, one, row, three, three_rows, tuple};
 use rtmp::*;
 use sending::{outline, sends};
@@ -391,5 +393,21 @@ fn values_are_equal_where_each_field_is(rt: HostRuntime) -> Result<(), Fail> {
     assert!(rt; rows_differ()?);
     assert!(rt; tuples_differ()?);
     assert!(rt; states_and_changes_differ());
+    Ok(())
+}
+
+#[test]
+fn the_readme_finds_the_way(rt: HostRuntime) -> Result<(), Fail> {
+    for (net, way) in [
+        (35, Some((1, at(20, 2)))),
+        (15, Some((0, Addr::NONE))),
+        (40, None),
+    ] {
+        let found = match way_to(rt.alloc(), net) {
+            Err(Error::Memory) => way_to(rt.alloc(), net)?,
+            answer => answer?,
+        };
+        assert_eq!(rt; found, way);
+    }
     Ok(())
 }
