@@ -138,9 +138,7 @@ fn a_router_takes_over_what_a_neighbour_says(rt: HostRuntime) -> Result<(), Fail
 
 /// After 30-39 at distance 3 over 20.2 on port 1: who says what, and what comes of it.
 #[test]
-fn a_way_that_is_no_longer_is_taken_and_a_longer_one_only_from_the_own_router(
-    rt: HostRuntime,
-) -> Result<(), Fail> {
+fn a_longer_way_is_taken_only_from_the_own_router(rt: HostRuntime) -> Result<(), Fail> {
     let own = at(20, 2);
     let other = at(40, 4);
     let cases = [
