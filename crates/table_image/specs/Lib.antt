@@ -9,3 +9,4 @@ pub mod Reading
 pub mod Short
 pub mod Checking
 pub mod Rows
+pub mod RouteRows

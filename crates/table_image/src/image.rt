@@ -1,7 +1,9 @@
 //! The image of an internet's tables.
 
 ghost use Rattle.std.specs.Prelude.{◌≡◌, ◌+◌, ◌^◌, ◌<◌, ◌++◌, ◌⊎◌, ℕ, List, length, OnOk, IfOk};
-ghost use Rattle.std.specs.Prelude.{IfErr, IsOkUnless, IsTrue, false, MatchResult};
+ghost use Rattle.std.specs.Prelude.{IfErr, IsOkUnless, IsTrue, false, MatchResult, ◌↔◌, ◌≤◌, map};
+ghost use Rattle.std.specs.Prelude.{Some, option_map};
+ghost use Rattle.table_image.specs.RouteRows.{route_row, have_ranges, rows_at};
 ghost use Rattle.std.specs.Result.{OkIff};
 ghost use Rattle.table_image.specs.Short.{is_short};
 ghost use Rattle.at_base.specs.Spelling.{bytes_of, IsValue, Spells};
@@ -23,9 +25,10 @@ use crate::listed::Listed;
 use crate::making::{are_short, check_parts};
 use crate::node::Node;
 use crate::output::put_byte;
+use crate::route_rows::{all_have_ranges, route_rows};
 use crate::router::Router;
 use crate::zone_list::ZoneList;
-use at_base::{Bytes, Cause, Error};
+use at_base::{Bytes, Cause, Error, What};
 use std::alloc::{AllocError, Global};
 use std::marker::Model;
 
@@ -115,6 +118,32 @@ impl Image {
         ensures valid { IsValue image_spelling self.now }
     {
         self.nodes.as_slice()
+    }
+
+    /// The rows of a router, by its index from 0, as rows of a routing table, in order.
+    ///
+    /// Errors: `NoSuch` of `Router`; else `BadRange` where the range of a row isn't valid; else
+    /// `Memory`.
+    ///
+    /// This project's own.
+    pub fn rows_of(&self, alloc: Global, router: u8) -> Result<Vec<rtmp::Row>, Error>
+        ensures ok { IfOk result
+            (λ made. option_map (map route_row) (rows_at router self.now) ≡ Some made.items) }
+        ensures none { (result ≡ Err (Error.NoSuch What.Router))
+            ↔ (length self.now.routers ≤ router) }
+        ensures range { (result ≡ Err Error.BadRange)
+            ↔ (option_map have_ranges (rows_at router self.now) ≡ Some false) }
+        ensures refused { IfErr result
+            (λ e. (e ≡ Error.NoSuch What.Router) ⊎ (e ≡ Error.BadRange) ⊎ (e ≡ Error.Memory)) }
+    {
+        let Some(found) = self.routers.as_slice().get(router as usize) else {
+            return Err(Error::NoSuch(What::Router));
+        };
+        let rows = found.rows.as_slice();
+        if !all_have_ranges(rows) {
+            return Err(Error::BadRange);
+        }
+        route_rows(alloc, rows)
     }
 }
 

@@ -13,6 +13,7 @@ mod making;
 mod node;
 mod output;
 mod port;
+mod route_rows;
 mod router;
 mod row;
 mod sizes;

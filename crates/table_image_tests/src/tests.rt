@@ -7,6 +7,7 @@ mod faults;
 mod long;
 mod parts;
 mod readme;
+mod routes;
 mod whole;
 
 use again::{bad, is_written_as, read_again, three_numbers, write_again};
@@ -30,6 +31,7 @@ use parts::{
     has_ports, has_rows, is_cable, is_list, is_name, is_node, made, made_with_a_lost_port, row,
 };
 use readme::lines_of;
+use routes::{has_no_range, has_routes};
 use rtmp::State;
 use std::test::Fail;
 use table_image::{Listed, MAX_CABLES, one_spelling, read};
@@ -388,4 +390,10 @@ fn parts_with_a_list_that_is_too_long_are_refused(rt: HostRuntime) {
     for list in lists {
         assert_eq!(rt; refusal_of(rt.alloc(), list), Some(Error::Full));
     }
+}
+
+#[test]
+fn rows_are_rows_of_a_routing_table(rt: HostRuntime) -> Result<(), Fail> {
+    assert!(rt; has_routes(rt.alloc())? && has_no_range(rt.alloc())?);
+    Ok(())
 }
