@@ -1,0 +1,3 @@
+pub mod Bitmaps
+pub mod Packets
+pub mod InPlace
