@@ -1,2 +1,3 @@
 pub mod Payload
 mod Shape
+mod Lists

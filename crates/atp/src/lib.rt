@@ -1,8 +1,15 @@
 //! Transactions: packets, a requester and a responder.
 #![tactic(auto)]
 
+mod answer;
+mod ask;
 mod laws;
 mod packet;
+mod request;
+mod responder;
 
+pub use ask::{AnswerPart, Peer};
 pub use laws::written_is_read;
 pub use packet::{HEADER_LEN, MAX_DATA, MAX_PARTS, Packet, write};
+pub use request::Todo;
+pub use responder::{MAX_REQUESTS, Responder};
