@@ -1,9 +1,9 @@
 -- Which of eight parts are meant: bit i of a bitmap is part i. (Inside AppleTalk, the chapter on ATP)
-use Rattle.std.specs.Prelude.{ℕ, ◌+◌, ◌*◌, ◌/◌, ◌%◌, ◌^◌, ◌==◌, Bool, true, false, List, [], ◌∷◌, ◌++◌, take, replicate, if◌then◌else◌}
+use Rattle.std.specs.Prelude.{ℕ, ◌+◌, ◌*◌, ◌/◌, ◌%◌, ◌^◌, ◌==◌, Bool, List, [], ◌∷◌, map, nat_lt, if◌then◌else◌}
 
 -- the first n of eight
 abbrev pub first_parts : ℕ → List Bool
-first_parts n = take 8 (replicate n true ++ replicate 8 false)
+first_parts n = map (λ i. nat_lt i n) (0 ∷ 1 ∷ 2 ∷ 3 ∷ 4 ∷ 5 ∷ 6 ∷ 7 ∷ [])
 
 -- the number of a bitmap
 abbrev pub bitmap : List Bool → ℕ

@@ -4,3 +4,4 @@ pub mod InPlace
 pub mod Answers
 pub mod Places
 pub mod Responding
+pub mod Requesting
