@@ -5,3 +5,5 @@ pub mod Answers
 pub mod Places
 pub mod Responding
 pub mod Requesting
+pub mod Slots
+pub mod Outcomes

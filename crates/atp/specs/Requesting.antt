@@ -1,5 +1,5 @@
 -- A requester: the transactions that it has open, by their IDs. (Inside AppleTalk, the chapter on ATP)
-use Rattle.std.specs.Prelude.{◌≡◌, ◌⊎◌, ℕ, suc, ◌+◌, ◌-◌, ◌%◌, ◌<◌, ◌≤◌, Bool, true, false, not, ◌&&◌, ◌==◌, List, [], ◌∷◌, ◌++◌, length, map, take, drop, filter_map, Option, Some, None, slice_get, slice_set, slice_index_or, nat_lt, if◌then◌else◌}
+use Rattle.std.specs.Prelude.{◌≡◌, ◌⊎◌, ℕ, suc, ◌+◌, ◌-◌, ◌%◌, ◌<◌, ◌≤◌, Bool, true, false, not, ◌&&◌, ◌==◌, List, [], ◌∷◌, ◌++◌, length, map, take, drop, filter_map, Option, Some, None, slice_get, slice_set, slice_index_or, count_by, is_some, nat_lt, nat_le, if◌then◌else◌}
 use Rattle.std.specs.List.{list_any}
 use Rattle.at_base.specs.Address.{same_address}
 use Rattle.atp.specs.declared.ask.Ask.{Ask}
@@ -7,7 +7,8 @@ use Rattle.atp.specs.declared.ask.Peer.{Peer}
 use Rattle.atp.specs.declared.ask.AnswerPart.{AnswerPart}
 use Rattle.atp.specs.declared.transaction.Transaction.{Transaction}
 use Rattle.atp.specs.Bitmaps.{first_parts, bitmap}
-use Rattle.atp.specs.Packets.{AtpPacket, is_response, is_end, wants_status}
+use Rattle.at_base.specs.Spelling.{bytes_of}
+use Rattle.atp.specs.Packets.{AtpPacket, packet, is_response, is_end, wants_status}
 
 -- What is known of an open transaction is what was asked, of whom; which parts are still missing; those that came; whether
 -- its request is due, and in how many ticks it will be otherwise; how many requests may still be sent; and whether it was
@@ -110,6 +111,17 @@ pub record IsAsk (ask : Ask) : Type 0 where
   pub tries : 1 ≤ ask.tries
   pub release : ask.release ≤ 7
 
+-- a request that may be sent: at most 8 parts, a release time of three bits, and at most 578 bytes of data
+pub record IsSendable (ask : Ask) : Type 0 where
+  pub few : ask.parts ≤ 8
+  pub release : ask.release ≤ 7
+  pub short : length ask.payload ≤ 578
+
+-- the bytes of the release that a packet calls for, if it calls for one
+abbrev pub release_for : Peer → AtpPacket → Option Transaction → Option (List ℕ)
+release_for from p None = None
+release_for from p (Some t) = if releases from p t then Some (bytes_of packet (release_of t)) else None
+
 -- ---- By ID: a finite map
 
 -- the transactions that are open, in the slots of a slab, and the next number to try for an ID
@@ -131,3 +143,21 @@ IsNextId first slots id =
 -- no two are of one ID
 abbrev pub AreApart : List (Option Transaction) → Type 0
 AreApart slots = (j k : ℕ) (t u : Transaction) → slice_index_or slots j None ≡ Some t → slice_index_or slots k None ≡ Some u → t.id ≡ u.id → j ≡ k
+
+-- how many are open
+abbrev pub open_count : List (Option Transaction) → ℕ
+open_count slots = count_by is_some slots
+
+-- the request of each open transaction may be sent
+abbrev pub AllSendable : List (Option Transaction) → Type 0
+AllSendable slots = (k : ℕ) (t : Transaction) → slice_index_or slots k None ≡ Some t → IsSendable t.ask
+
+-- what is known of an ID is due
+abbrev pub is_due_in : Option Transaction → Bool
+is_due_in None = false
+is_due_in (Some t) = is_due t
+
+-- This ID is due, and no lesser one is.
+pub record IsLeastDue (slots : List (Option Transaction)) (id : ℕ) : Type 0 where
+  pub due : is_due_in (known id slots) ≡ true
+  pub least : (other : ℕ) → is_due_in (known other slots) ≡ true → id ≤ other
