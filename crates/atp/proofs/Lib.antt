@@ -1,0 +1,8 @@
+pub mod Payload
+mod Shape
+mod Lists
+mod Known
+mod Free
+mod Slots
+mod Steps
+mod Due

@@ -1,0 +1,21 @@
+//! Transactions: packets, a requester and a responder.
+#![tactic(auto)]
+
+mod answer;
+mod ask;
+mod laws;
+mod outcome;
+mod packet;
+mod request;
+mod requester;
+mod responder;
+mod table;
+mod transaction;
+
+pub use ask::{AnswerPart, Ask, Peer};
+pub use laws::written_is_read;
+pub use outcome::{Outcome, Response};
+pub use packet::{HEADER_LEN, MAX_DATA, MAX_PARTS, Packet, write};
+pub use request::Todo;
+pub use requester::{MAX_OPEN, Requester};
+pub use responder::{MAX_REQUESTS, Responder};

@@ -1,0 +1,129 @@
+//! A request that was heard.
+
+ghost use Rattle.std.specs.Prelude.{◌≡◌, is_some, IfOk, IsOkUnless};
+ghost use Rattle.atp.specs.InPlace.{packet_value};
+ghost use Rattle.atp.specs.Responding.{is_of as of, is_over as over, new_request};
+ghost use Rattle.atp.specs.Responding.{older, repeated, same_peer, with_answer};
+
+use crate::answer::Answer;
+use crate::ask::Peer;
+use crate::packet::Packet;
+use at_base::Error;
+use std::alloc::Global;
+
+/// What is to be done for a packet that a responder heard.
+///
+/// Inside AppleTalk, the chapter on ATP.
+#[derive(Clone, Copy, Debug, PartialEq, Eq)]
+pub enum Todo {
+    /// A new request: its answer is wanted.
+    Ask,
+    /// A request that was answered: the answer that was kept is to be sent again.
+    Again,
+    /// A request that waits for its answer already.
+    Wait,
+    /// No request.
+    Nothing,
+}
+
+/// A request: who asked, by which number, for which parts; and its answer, which is kept for so many
+/// ticks more.
+#[derive(Debug, Drop)]
+pub(crate) struct Request {
+    pub(crate) from: Peer,
+    pub(crate) id: u16,
+    pub(crate) once: bool,
+    pub(crate) asked: u8,
+    pub(crate) release: u16,
+    pub(crate) answer: Option<Answer>,
+    pub(crate) left: u16,
+}
+
+/// Whether the two are one socket.
+fn is_same(a: Peer, b: Peer) -> bool
+    ensures { result ≡ same_peer a b }
+{
+    a.addr.net == b.addr.net && a.addr.node == b.addr.node && a.socket == b.socket
+}
+
+impl Request {
+    /// A new request, which has no answer yet.
+    pub(crate) fn new(from: Peer, packet: &Packet<'_>) -> Request
+        ensures { result ≡ new_request from (packet_value packet.now) }
+    {
+        Request {
+            from,
+            id: packet.id,
+            once: packet.is_exactly_once(),
+            asked: packet.part,
+            release: packet.release_ticks(),
+            answer: None,
+            left: 0,
+        }
+    }
+
+    /// A copy of the request. Error: `Memory`.
+    pub(crate) fn copy(&self, alloc: Global) -> Result<Request, Error>
+        ensures ok { IfOk result (λ request. request ≡ self.now) }
+        ensures err { IsOkUnless result Error.Memory }
+    {
+        let answer = match &self.answer {
+            Some(answer) => Some(Answer::copy(alloc, answer.as_slice())?),
+            None => None,
+        };
+        Ok(Request {
+            from: self.from,
+            id: self.id,
+            once: self.once,
+            asked: self.asked,
+            release: self.release,
+            answer,
+            left: self.left,
+        })
+    }
+
+    /// Whether it is of this asker and number.
+    pub(crate) fn is_of(&self, from: Peer, id: u16) -> bool
+        ensures { result ≡ of from id self.now }
+    {
+        is_same(self.from, from) && self.id == id
+    }
+
+    /// Whether it was answered.
+    pub(crate) fn is_answered(&self) -> bool
+        ensures { result ≡ is_some self.now.answer }
+    {
+        self.answer.is_some()
+    }
+
+    /// Begins the time of its answer anew.
+    pub(crate) fn repeat(&mut self)
+        ensures { self.new ≡ repeated self.old }
+    {
+        self.left = self.release;
+    }
+
+    /// Keeps its answer.
+    pub(crate) fn keep(&mut self, answer: Answer)
+        ensures { self.new ≡ with_answer answer self.old }
+    {
+        self.answer = Some(answer);
+        self.left = self.release;
+    }
+
+    /// Whether its answer has one tick left at most.
+    pub(crate) fn is_over(&self) -> bool
+        ensures { result ≡ over self.now }
+    {
+        self.answer.is_some() && self.left <= 1
+    }
+
+    /// Lets a tick pass, of which its answer has more than one left.
+    pub(crate) fn tick(&mut self)
+        ensures { self.new ≡ older self.old }
+    {
+        if self.answer.is_some() {
+            self.left = self.left.saturating_sub(1);
+        }
+    }
+}

@@ -1,0 +1,181 @@
+//! A requester: it asks, asks again for what is missing, and gives up after so many tries.
+
+ghost use Rattle.std.specs.Prelude.{◌≡◌, ◌≢◌, ◌⊎◌, ◌↔◌, ◌<◌, ◌≤◌, ◌+◌, ◌%◌, Some, None, true, false, ℕ, length, IfOk, IfErr, IfNone, IfSome, IsOkUnless, OnErr, OnOk};
+ghost use Rattle.std.specs.Option.{option_map};
+ghost use Rattle.at_base.specs.Spelling.{bytes_of};
+ghost use Rattle.at_base.specs.declared.error.What.TheVariants.{Transaction as Missing};
+ghost use Rattle.atp.specs.InPlace.{packet_value};
+ghost use Rattle.atp.specs.Packets.{packet as spelled_packet};
+ghost use Rattle.atp.specs.Requesting.{known, begun, sent, ticked, after_hearing, IsAsk, IsNextId};
+ghost use Rattle.atp.specs.Requesting.{IsLeastDue, is_due_in, open_count, release_for, request_of};
+ghost use Rattle.atp.specs.Outcomes.{left_open, outcome_of};
+
+use crate::ask::{Ask, Peer};
+use crate::outcome::Outcome;
+use crate::packet::{MAX_DATA, Packet};
+use crate::table::{
+    close_at, hear_at, insert, key_of, least_due, next_id, request_at, send_at, take, tick_all,
+};
+use crate::transaction::Transaction;
+use at_base::{Bytes, Error, What};
+use slab::Slab;
+use std::alloc::Global;
+use std::marker::Model;
+
+/// The most transactions that are open at once.
+pub const MAX_OPEN: usize = 32;
+
+/// The transactions that are open, by their numbers.
+///
+/// Inside AppleTalk, the chapter on ATP.
+#[derive(Debug, Drop)]
+pub struct Requester {
+    alloc: Global,
+    next: u16,
+    table: Slab<Transaction>,
+}
+
+impl Model for Requester {
+    ghost use Rattle.atp.specs.Requesting.{Transactions};
+    ghost use Rattle.atp.specs.Slots.{IsTable};
+
+    ghost Value = { Transactions };
+
+    ghost view = { λ r. record { next = r.next; slots = r.table.slots } };
+
+    ghost invariant = { λ r. IsTable r.table };
+}
+
+impl Requester {
+    /// No transactions; the number of the first one is tried from `first` on. Makes room for all
+    /// that may be open. Error: `Memory`.
+    pub fn new(alloc: Global, first: u16) -> Result<Requester, Error>
+        ensures next { IfOk result (λ r. r.next ≡ first) }
+        ensures none { IfOk result (λ r. (id : ℕ) → known id r.slots ≡ None) }
+        ensures refused { IsOkUnless result Error.Memory }
+    {
+        let table = Slab::with_capacity(alloc, MAX_OPEN)?;
+        Ok(Requester {
+            alloc,
+            next: first,
+            table,
+        })
+    }
+
+    /// Opens a transaction, whose request is then due. The number of the transaction. Allocates
+    /// nothing.
+    ///
+    /// Errors: `TooLong` above 578 bytes of data, `Full` where 32 are open. A refusal changes
+    /// nothing.
+    pub fn begin(&mut self, ask: Ask) -> Result<u16, Error>
+        requires { IsAsk ask }
+        ensures id { IfOk result (λ id. IsNextId self.old.next self.old.slots id) }
+        ensures begun { IfOk result (λ id. known id self.new.slots ≡ Some (begun id ask)) }
+        ensures others { IfOk result (λ id. (other : ℕ) → other ≢ id
+            → known other self.new.slots ≡ known other self.old.slots) }
+        ensures next { IfOk result (λ id. self.new.next ≡ (id + 1) % 65536) }
+        ensures long { (result ≡ Err Error.TooLong) ↔ (578 < length ask.payload) }
+        ensures full { (result ≡ Err Error.Full)
+            ↔ ((length ask.payload ≤ 578) × (32 ≤ open_count self.old.slots)) }
+        ensures refused { IfErr result (λ e. (e ≡ Error.TooLong) ⊎ (e ≡ Error.Full)) }
+        ensures kept { OnErr result (self.new ≡ self.old) }
+    {
+        if MAX_DATA < ask.payload.len() {
+            return Err(Error::TooLong);
+        }
+        if MAX_OPEN <= self.table.len() {
+            return Err(Error::Full);
+        }
+        let id = next_id(&self.table, self.next);
+        insert(&mut self.table, Transaction::new(id, ask));
+        self.next = id.wrapping_add(1);
+        Ok(id)
+    }
+
+    /// The least number of a transaction whose request is due. Allocates nothing.
+    pub fn due(&self) -> Option<u16>
+        ensures some { IfSome result (λ id. IsLeastDue self.now.slots id) }
+        ensures none { IfNone result ((id : ℕ) → is_due_in (known id self.now.slots) ≡ false) }
+    {
+        least_due(&self.table)
+    }
+
+    /// The bytes of a request that is due, for the parts that are missing. It counts as sent.
+    ///
+    /// Errors: `NoSuch` where no request of this number is due, `Memory`. A refusal changes nothing.
+    pub fn request(&mut self, id: u16) -> Result<Bytes, Error>
+        ensures ok { IfOk result (λ bytes. IfSome (known id self.old.slots)
+            (λ t. bytes ≡ bytes_of spelled_packet (request_of t))) }
+        ensures sent { OnOk result (known id self.new.slots
+            ≡ option_map sent (known id self.old.slots)) }
+        ensures others { (other : ℕ) → other ≢ id
+            → known other self.new.slots ≡ known other self.old.slots }
+        ensures next { self.new.next ≡ self.old.next }
+        ensures unasked { (result ≡ Err (Error.NoSuch Missing))
+            ↔ (is_due_in (known id self.old.slots) ≡ false) }
+        ensures refused { IfErr result (λ e. (e ≡ Error.NoSuch Missing) ⊎ (e ≡ Error.Memory)) }
+        ensures kept { OnErr result (self.new ≡ self.old) }
+    {
+        match key_of(&self.table, id) {
+            Some(key) => {
+                let bytes = request_at(self.alloc, &self.table, key)?;
+                send_at(&mut self.table, key);
+                Ok(bytes)
+            }
+            None => Err(Error::NoSuch(What::Transaction)),
+        }
+    }
+
+    /// Hears a packet. The bytes of a release, where the packet completes a transaction that is to
+    /// be carried out once.
+    ///
+    /// Error: `Memory`. A refusal changes nothing.
+    pub fn heard(&mut self, from: Peer, packet: &Packet<'_>) -> Result<Option<Bytes>, Error>
+        ensures ok { OnOk result (known packet.now.id self.new.slots
+            ≡ option_map (after_hearing from (packet_value packet.now))
+            (known packet.now.id self.old.slots)) }
+        ensures others { (other : ℕ) → other ≢ packet.now.id
+            → known other self.new.slots ≡ known other self.old.slots }
+        ensures next { self.new.next ≡ self.old.next }
+        ensures release { IfOk result (λ release. release
+            ≡ release_for from (packet_value packet.now) (known packet.now.id self.old.slots)) }
+        ensures refused { IsOkUnless result Error.Memory }
+        ensures kept { OnErr result (self.new ≡ self.old) }
+    {
+        match key_of(&self.table, packet.id) {
+            Some(key) => hear_at(self.alloc, &mut self.table, key, from, packet),
+            None => Ok(None),
+        }
+    }
+
+    /// Lets a tick pass for each transaction. Allocates nothing.
+    pub fn tick(&mut self)
+        ensures ticked { (id : ℕ) → known id self.new.slots
+            ≡ option_map ticked (known id self.old.slots) }
+        ensures next { self.new.next ≡ self.old.next }
+    {
+        tick_all(&mut self.table);
+    }
+
+    /// What became of a transaction, which is closed unless it waits. Allocates nothing.
+    ///
+    /// Error: `NoSuch` where no transaction of this number is open. A refusal changes nothing.
+    pub fn result(&mut self, id: u16) -> Result<Outcome, Error>
+        ensures ok { IfOk result (λ outcome. IfSome (known id self.old.slots)
+            (λ t. outcome ≡ outcome_of t)) }
+        ensures after { OnOk result (known id self.new.slots
+            ≡ left_open (known id self.old.slots)) }
+        ensures others { (other : ℕ) → other ≢ id
+            → known other self.new.slots ≡ known other self.old.slots }
+        ensures next { self.new.next ≡ self.old.next }
+        ensures unknown { (result ≡ Err (Error.NoSuch Missing))
+            ↔ (known id self.old.slots ≡ None) }
+        ensures refused { IsOkUnless result (Error.NoSuch Missing) }
+        ensures kept { OnErr result (self.new ≡ self.old) }
+    {
+        match key_of(&self.table, id) {
+            Some(key) => Ok(close_at(&mut self.table, key)),
+            None => Err(Error::NoSuch(What::Transaction)),
+        }
+    }
+}

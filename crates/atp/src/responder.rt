@@ -1,0 +1,300 @@
+//! A responder: it keeps what was asked, and the answers to requests that are carried out once.
+
+ghost use Rattle.std.specs.Prelude.{◌≡◌, ◌⊎◌, ◌<◌, ◌≤◌, ◌↔◌, ◌++◌, ◌∷◌, not, true, false, None, [], length, filter, map, position, is_some, IfOk, IfErr, IfNone, IfSome, IsOkUnless, OnErr, OnOk};
+ghost use Rattle.std.specs.Option.{option_copied};
+ghost use Rattle.atp.specs.InPlace.{packet_value};
+ghost use Rattle.atp.specs.Answers.{is_answer, answer_packets, bytes_of_all};
+ghost use Rattle.atp.specs.Places.{IsPlace, with_first};
+ghost use Rattle.atp.specs.Responding.{asked_again, asked_by, has_room as room_for, heard as hears};
+ghost use Rattle.atp.specs.Responding.{is_of, is_over, kept as kept_of, new_request, of_kind, older};
+ghost use Rattle.atp.specs.Responding.{parts_or_none, request_of, answered as with_answers};
+ghost use Rattle.atp.specs.Responding.{ticked, waits, with_answer, without};
+ghost use Rattle.atp.specs.declared.request.Request.{Request as RequestValue};
+ghost use Rattle.at_base.specs.declared.error.What.TheVariants.{Transaction};
+
+use crate::answer::{Answer, is_short, packets_of};
+use crate::ask::{AnswerPart, Peer};
+use crate::packet::Packet;
+use crate::request::{Request, Todo};
+use at_base::{Bytes, Error, What};
+use std::alloc::Global;
+use std::marker::Model;
+
+/// The most requests of each kind: those that are carried out once, and the others.
+pub const MAX_REQUESTS: usize = 64;
+
+/// The requests that were heard: those that wait for their answer, and those whose answer is kept.
+///
+/// Inside AppleTalk, the chapter on ATP.
+#[derive(Debug, Drop)]
+pub struct Responder {
+    requests: Vec<Request>,
+}
+
+impl Model for Responder {
+    ghost use Rattle.std.specs.Prelude.{List};
+    ghost use Rattle.atp.specs.declared.request.Request.{Request as RequestValue};
+
+    ghost Value = { List RequestValue };
+
+    ghost view = { λ r. r.requests.items };
+}
+
+/// The index of the first request of an asker and number.
+fn position_of(requests: &[Request], from: Peer, id: u16) -> Option<usize>
+    ensures { result ≡ position (is_of from id) requests.now }
+{
+    requests.iter().position(|request| request.is_of(from, id))
+}
+
+/// The index of the request of an asker and number.
+fn place_of(requests: &[Request], from: Peer, id: u16) -> Option<usize>
+    ensures none { IfNone result (request_of from id requests.now ≡ None) }
+    ensures some { IfSome result (λ place.
+        (r : RequestValue) × IsPlace (is_of from id) place requests.now r) }
+{
+    position_of(requests, from, id)
+}
+
+/// The number of requests of a kind.
+fn count_of(requests: &[Request], once: bool) -> usize
+    ensures { result ≡ of_kind once requests.now }
+{
+    requests
+        .iter()
+        .filter(|request| if once { request.once } else { !request.once })
+        .count()
+}
+
+/// A copy of each request.
+fn copy_all(alloc: Global, requests: &[Request]) -> Result<Vec<Request>, Error>
+    ensures ok { IfOk result (λ copies. copies.items ≡ requests.now) }
+    ensures err { IsOkUnless result Error.Memory }
+{
+    let mut copies = Vec::with_capacity(alloc, requests.len())?;
+    for request in requests {
+        copies.push(request.copy(alloc)?)?;
+    }
+    Ok(copies)
+}
+
+/// Takes out the request of an asker and number.
+fn forget(requests: &mut Vec<Request>, from: Peer, id: u16)
+    ensures { requests.new.items ≡ without from id requests.old.items }
+{
+    requests.retain(|request| !request.is_of(from, id));
+}
+
+/// Takes out the requests whose time is over.
+fn forget_old(requests: &mut Vec<Request>)
+    ensures { requests.new.items ≡ filter (λ r. not (is_over r)) requests.old.items }
+{
+    requests.retain(|request| !request.is_over());
+}
+
+/// Lets a tick pass for each of the requests.
+fn tick_all(requests: &mut [Request])
+    ensures { requests.new ≡ map older requests.old }
+{
+    for request in requests.iter_mut() {
+        request.tick();
+    }
+}
+
+/// The request of an asker and number.
+fn find(requests: &[Request], from: Peer, id: u16) -> Option<&Request>
+    ensures { option_copied result ≡ request_of from id requests.now }
+{
+    requests.iter().find(|request| request.is_of(from, id))
+}
+
+/// The index of a request that waits for its answer.
+fn waiting_place(requests: &[Request], from: Peer, id: u16) -> Option<usize>
+    ensures none { IfNone result (waits (request_of from id requests.now) ≡ false) }
+    ensures some { IfSome result (λ place. (r : RequestValue)
+        × IsPlace (is_of from id) place requests.now r × (is_some r.answer ≡ false)) }
+{
+    let place = place_of(requests, from, id)?;
+    if requests[place].is_answered() {
+        return None;
+    }
+    Some(place)
+}
+
+/// The answer that is kept for an asker and number.
+fn kept_answer(requests: &[Request], from: Peer, id: u16) -> Option<&Answer>
+    ensures { option_copied result ≡ kept_of (request_of from id requests.now) }
+{
+    let request = find(requests, from, id)?;
+    request.answer.as_ref()
+}
+
+/// Hears a request again: where it was answered, the time of its answer begins anew.
+fn hear_again(requests: &mut [Request], place: usize, from: Peer, id: u16) -> Todo
+    requires { (r : RequestValue) × IsPlace (is_of from id) place requests.old r }
+    ensures { IfSome (request_of from id requests.old)
+        (λ r. (result, requests.new) ≡ asked_again from id requests.old r) }
+{
+    let request = &mut requests[place];
+    if request.is_answered() {
+        request.repeat();
+        Todo::Again
+    } else {
+        Todo::Wait
+    }
+}
+
+/// Hears a new request, where there is room for it.
+fn hear_new(requests: &mut Vec<Request>, from: Peer, packet: &Packet<'_>) -> Result<Todo, Error>
+    ensures ok { IfOk result (λ todo. (todo ≡ Todo.Ask)
+        × (requests.new.items ≡ requests.old.items ++ new_request from (packet_value packet.now) ∷ [])) }
+    ensures full { (result ≡ Err Error.Full)
+        ↔ (room_for (packet_value packet.now) requests.old.items ≡ false) }
+    ensures refused { IfErr result (λ e. (e ≡ Error.Full) ⊎ (e ≡ Error.Memory)) }
+    ensures kept { OnErr result (requests.new.items ≡ requests.old.items) }
+{
+    if count_of(requests.as_slice(), packet.is_exactly_once()) >= MAX_REQUESTS {
+        return Err(Error::Full);
+    }
+    // Room is made first: a refusal then leaves the requests as they are.
+    requests.reserve(1)?;
+    requests.push(Request::new(from, packet)).unwrap();
+    Ok(Todo::Ask)
+}
+
+/// Keeps the answer to the request at a place.
+fn keep_at(requests: &mut [Request], place: usize, from: Peer, id: u16, answer: Answer)
+    requires { (r : RequestValue) × IsPlace (is_of from id) place requests.old r }
+    ensures { requests.new ≡ with_first (is_of from id) (with_answer answer) requests.old }
+{
+    requests[place].keep(answer);
+}
+
+impl Responder {
+    /// No requests. Error: `Memory`, which an empty responder never needs.
+    pub fn new(alloc: Global) -> Result<Responder, Error>
+        ensures ok { IfOk result (λ responder. responder ≡ []) }
+        ensures refused { IsOkUnless result Error.Memory }
+    {
+        Ok(Responder {
+            requests: Vec::new(alloc),
+        })
+    }
+
+    /// A copy, equal to it. Error: `Memory`.
+    pub fn copy(&self) -> Result<Responder, Error>
+        ensures ok { IfOk result (λ responder. responder ≡ self.now) }
+        ensures refused { IsOkUnless result Error.Memory }
+    {
+        match copy_all(*self.requests.allocator(), self.requests.as_slice()) {
+            Ok(requests) => Ok(Responder { requests }),
+            Err(error) => Err(error),
+        }
+    }
+
+    /// What is to be done for a packet from an asker. A release ends the request that it names.
+    ///
+    /// Errors: `Full` for a new request where 64 of its kind wait or are kept, `Memory` for a new
+    /// request. A refusal changes nothing.
+    pub fn heard(&mut self, from: Peer, packet: &Packet<'_>) -> Result<Todo, Error>
+        ensures ok { IfOk result (λ todo.
+            (todo, self.new) ≡ hears from (packet_value packet.now) self.old) }
+        ensures full { (result ≡ Err Error.Full)
+            ↔ (((hears from (packet_value packet.now) self.old).0 ≡ Todo.Ask)
+            × (room_for (packet_value packet.now) self.old ≡ false)) }
+        ensures refused { IfErr result (λ e. (e ≡ Error.Full) ⊎ (e ≡ Error.Memory)) }
+        ensures new_alone { IfErr result (λ e.
+            (hears from (packet_value packet.now) self.old).0 ≡ Todo.Ask) }
+        ensures kept { OnErr result (self.new ≡ self.old) }
+    {
+        if packet.is_release() {
+            self.released(from, packet.id);
+            return Ok(Todo::Nothing);
+        }
+        if !packet.is_request() {
+            return Ok(Todo::Nothing);
+        }
+        match place_of(self.requests.as_slice(), from, packet.id) {
+            Some(place) => Ok(hear_again(self.requests.as_mut_slice(), place, from, packet.id)),
+            None => hear_new(&mut self.requests, from, packet),
+        }
+    }
+
+    /// Keeps the answer to a request that is to be carried out once, and forgets any other request.
+    /// The packets of the parts that were asked for are the result.
+    ///
+    /// Errors: `NoSuch` where no request of this asker and number waits for its answer; `TooLong`
+    /// above 8 parts, or 578 bytes in a part; `Memory`. A refusal changes nothing.
+    pub fn respond(
+        &mut self,
+        from: Peer,
+        id: u16,
+        parts: &[AnswerPart],
+    ) -> Result<Vec<Bytes>, Error>
+        requires { 0 < length parts.now }
+        ensures ok { IfOk result (λ packets. packets.items ≡ bytes_of_all
+            (answer_packets id (asked_by (request_of from id self.old)) parts.now)) }
+        ensures after { OnOk result (self.new ≡ with_answers from id parts.now self.old) }
+        ensures unasked { (result ≡ Err (Error.NoSuch Transaction))
+            ↔ (waits (request_of from id self.old) ≡ false) }
+        ensures long { (result ≡ Err Error.TooLong)
+            ↔ ((waits (request_of from id self.old) ≡ true)
+            × (is_answer parts.now ≡ false)) }
+        ensures refused { IfErr result (λ e. (e ≡ Error.NoSuch Transaction)
+            ⊎ (e ≡ Error.TooLong) ⊎ (e ≡ Error.Memory)) }
+        ensures kept { OnErr result (self.new ≡ self.old) }
+    {
+        let place = match waiting_place(self.requests.as_slice(), from, id) {
+            Some(place) => place,
+            None => return Err(Error::NoSuch(What::Transaction)),
+        };
+        if !is_short(parts) {
+            return Err(Error::TooLong);
+        }
+        let alloc = *self.requests.allocator();
+        let packets = packets_of(alloc, id, self.requests[place].asked, parts)?;
+        if self.requests[place].once {
+            // The copy is made first: a refusal then leaves the request as it is.
+            let answer = Answer::copy(alloc, parts)?;
+            keep_at(self.requests.as_mut_slice(), place, from, id, answer);
+        } else {
+            forget(&mut self.requests, from, id);
+        }
+        Ok(packets)
+    }
+
+    /// The packets of those parts of a kept answer that a bitmap asks for.
+    ///
+    /// Errors: `NoSuch` where no answer of this asker and number is kept, `Memory`.
+    pub fn parts(&self, from: Peer, id: u16, bitmap: u8) -> Result<Vec<Bytes>, Error>
+        ensures ok { IfOk result (λ packets. packets.items ≡ bytes_of_all
+            (answer_packets id bitmap
+            (parts_or_none (kept_of (request_of from id self.now))))) }
+        ensures unasked { (result ≡ Err (Error.NoSuch Transaction))
+            ↔ (kept_of (request_of from id self.now) ≡ None) }
+        ensures refused { IfErr result (λ e. (e ≡ Error.NoSuch Transaction)
+            ⊎ (e ≡ Error.Memory)) }
+    {
+        match kept_answer(self.requests.as_slice(), from, id) {
+            Some(answer) => {
+                packets_of(*self.requests.allocator(), id, bitmap, answer.as_slice())
+            }
+            None => Err(Error::NoSuch(What::Transaction)),
+        }
+    }
+
+    /// Forgets the request of an asker and number. Allocates nothing.
+    pub fn released(&mut self, from: Peer, id: u16)
+        ensures { self.new ≡ without from id self.old }
+    {
+        forget(&mut self.requests, from, id);
+    }
+
+    /// Lets a tick pass, and forgets the answers whose time is over. Allocates nothing.
+    pub fn tick(&mut self)
+        ensures { self.new ≡ ticked self.old }
+    {
+        forget_old(&mut self.requests);
+        tick_all(self.requests.as_mut_slice());
+    }
+}

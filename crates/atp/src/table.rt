@@ -1,0 +1,275 @@
+//! Open transactions in the slots of a slab.
+
+ghost use Rattle.std.specs.Prelude.{◌≡◌, ◌≢◌, ◌⊎◌, ◌≤◌, ◌<◌, Some, None, false, true, ℕ, if◌then◌else◌, IfOk, IfErr, IfNone, IfSome, IsOkUnless, OnErr, OnOk};
+ghost use Rattle.std.specs.Option.{option_map};
+ghost use Rattle.slab.specs.Slab.{get, slab_len};
+ghost use Rattle.at_base.specs.Spelling.{bytes_of};
+ghost use Rattle.at_base.specs.declared.error.What.TheVariants.{Transaction as Missing};
+ghost use Rattle.atp.specs.InPlace.{packet_value};
+ghost use Rattle.atp.specs.Packets.{packet as spelled_packet};
+ghost use Rattle.atp.specs.Requesting.{known, IsNextId, IsSendable, is_due, is_due_in, request_of, sent, ticked};
+ghost use Rattle.atp.specs.Requesting.{is_complete, part_of, with_part, with_end, with_status};
+ghost use Rattle.atp.specs.Outcomes.{left_open, outcome_of};
+ghost use Rattle.atp.specs.Requesting.{IsLeastDue, is_heard, is_waiting, after_hearing};
+ghost use Rattle.atp.specs.Requesting.{release_for, release_of};
+ghost use Rattle.atp.specs.Slots.{IsTable, Put};
+ghost use Rattle.atp.specs.declared.transaction.Transaction.{Transaction as Value};
+
+use crate::ask::{AnswerPart, Peer};
+use crate::outcome::{Outcome, closed};
+use crate::packet::Packet;
+use crate::transaction::{Transaction, part_from};
+use at_base::{Bytes, Error, What};
+use slab::Slab;
+use std::alloc::Global;
+
+/// The key of the transaction with this number.
+pub(crate) fn key_of(table: &Slab<Transaction>, id: u16) -> Option<usize>
+    ensures none { IfNone result (known id table.now.slots ≡ None) }
+    ensures some { IfSome result (λ key. (t : Value) × (get table.now key ≡ Some t)
+        × (t.id ≡ id) × (known id table.now.slots ≡ Some t)) }
+{
+    for key in 0..table.capacity() {
+        if let Some(transaction) = table.get(key) {
+            if transaction.id == id {
+                return Some(key);
+            }
+        }
+    }
+    None
+}
+
+/// The first number from `first` on, and from 0 after 65,535, that no transaction has.
+pub(crate) fn next_id(table: &Slab<Transaction>, first: u16) -> u16
+    requires { slab_len table.now ≤ 32 }
+    ensures { IsNextId first table.now.slots result }
+{
+    for step in 0..33 {
+        let id = first.wrapping_add(step);
+        match key_of(table, id) {
+            Some(_) => {}
+            None => return id,
+        }
+    }
+    // not reached: of 33 numbers at most 32 are open
+    first
+}
+
+/// Puts a transaction into a slot that is vacant.
+pub(crate) fn insert(table: &mut Slab<Transaction>, transaction: Transaction)
+    requires table { IsTable table.old }
+    requires some { slab_len table.old < 32 }
+    requires fresh { known transaction.id table.old.slots ≡ None }
+    requires sendable { IsSendable transaction.ask }
+    ensures { Put table.old table.new transaction.id (Some transaction) }
+{
+    table.insert_reserved(transaction);
+}
+
+/// Takes the transaction at a key out.
+pub(crate) fn take(table: &mut Slab<Transaction>, key: usize) -> Option<Transaction>
+    requires { IsTable table.old }
+    ensures value { result ≡ get table.old key }
+    ensures taken { IfSome result (λ t. Put table.old table.new t.id None) }
+    ensures none { IfNone result (table.new ≡ table.old) }
+{
+    table.try_remove(key)
+}
+
+/// The request of the transaction at a key was sent.
+pub(crate) fn send_at(table: &mut Slab<Transaction>, key: usize)
+    requires { IsTable table.old }
+    ensures { (t : Value) → get table.old key ≡ Some t
+        → Put table.old table.new t.id (Some (sent t)) }
+{
+    if let Some(transaction) = table.get_mut(key) {
+        transaction.send();
+    }
+}
+
+/// Lets a tick pass for the transaction at a key.
+fn tick_at(table: &mut Slab<Transaction>, key: usize)
+    requires { IsTable table.old }
+    ensures table { IsTable table.new }
+    ensures at { get table.new key ≡ option_map ticked (get table.old key) }
+    ensures others { (k : ℕ) → k ≢ key → get table.new k ≡ get table.old k }
+{
+    if let Some(transaction) = table.get_mut(key) {
+        transaction.tick();
+    }
+}
+
+/// Lets a tick pass for each transaction.
+pub(crate) fn tick_all(table: &mut Slab<Transaction>)
+    requires { IsTable table.old }
+    ensures table { IsTable table.new }
+    ensures known { (id : ℕ)
+        → known id table.new.slots ≡ option_map ticked (known id table.old.slots) }
+{
+    for key in 0..table.capacity() {
+        tick_at(table, key);
+    }
+}
+
+/// The transaction at a key takes a packet that it hears. Whether it is complete then.
+pub(crate) fn hear_in(
+    table: &mut Slab<Transaction>,
+    key: usize,
+    packet: &Packet<'_>,
+    part: AnswerPart,
+) -> bool
+    requires table { IsTable table.old }
+    requires same { part ≡ part_of (packet_value packet.now) }
+    requires near { packet.now.part < 8 }
+    ensures changed { (t : Value) → get table.old key ≡ Some t → let p = packet_value packet.now in
+        Put table.old table.new t.id (Some (with_status p (with_end p (with_part p t)))) }
+    ensures complete { (t : Value) → get table.old key ≡ Some t → let p = packet_value packet.now in
+        result ≡ is_complete (with_status p (with_end p (with_part p t))) }
+{
+    if let Some(transaction) = table.get_mut(key) {
+        transaction.hear(packet, part);
+        transaction.is_complete()
+    } else {
+        false
+    }
+}
+
+/// The number of the transaction at a key, where its request is due.
+fn due_at(table: &Slab<Transaction>, key: usize) -> Option<u16>
+    ensures none { IfNone result ((t : Value) → get table.now key ≡ Some t → is_due t ≡ false) }
+    ensures some { IfSome result (λ id. (t : Value) × (get table.now key ≡ Some t)
+        × (t.id ≡ id) × (is_due t ≡ true)) }
+{
+    let transaction = table.get(key)?;
+    if transaction.is_due() {
+        Some(transaction.id)
+    } else {
+        None
+    }
+}
+
+/// The least number of a transaction whose request is due.
+pub(crate) fn least_due(table: &Slab<Transaction>) -> Option<u16>
+    requires { IsTable table.now }
+    ensures some { IfSome result (λ id. IsLeastDue table.now.slots id) }
+    ensures none { IfNone result ((id : ℕ) → is_due_in (known id table.now.slots) ≡ false) }
+{
+    let mut best = None;
+    for key in 0..table.capacity() {
+        if let Some(id) = due_at(table, key) {
+            match best {
+                Some(least) if least <= id => {}
+                _ => best = Some(id),
+            }
+        }
+    }
+    best
+}
+
+/// The bytes of the request at a key, where it is due.
+pub(crate) fn request_at(
+    alloc: Global,
+    table: &Slab<Transaction>,
+    key: usize,
+) -> Result<Bytes, Error>
+    requires { (t : Value) → get table.now key ≡ Some t → IsSendable t.ask }
+    ensures ok { IfOk result (λ bytes. (t : Value) → get table.now key ≡ Some t
+        → (is_due t ≡ true) × (bytes ≡ bytes_of spelled_packet (request_of t))) }
+    ensures err { IfErr result (λ e. (t : Value) → get table.now key ≡ Some t
+        → e ≡ (if is_due t then Error.Memory else Error.NoSuch Missing)) }
+    ensures refused { IfErr result (λ e. (e ≡ Error.NoSuch Missing) ⊎ (e ≡ Error.Memory)) }
+{
+    match table.get(key) {
+        Some(transaction) => {
+            if !transaction.is_due() {
+                return Err(Error::NoSuch(What::Transaction));
+            }
+            transaction.request(alloc)
+        }
+        None => Err(Error::NoSuch(What::Transaction)),
+    }
+}
+
+/// What became of the transaction at a key, which is closed unless it waits.
+pub(crate) fn close_at(table: &mut Slab<Transaction>, key: usize) -> Outcome
+    requires { IsTable table.old }
+    ensures outcome { (t : Value) → get table.old key ≡ Some t → result ≡ outcome_of t }
+    ensures after { (t : Value) → get table.old key ≡ Some t
+        → Put table.old table.new t.id (left_open (Some t)) }
+{
+    if waits_at(table, key) {
+        return Outcome::Waiting;
+    }
+    match take(table, key) {
+        Some(transaction) => closed(transaction),
+        None => Outcome::Waiting,
+    }
+}
+
+/// Whether the transaction at a key waits for parts.
+fn waits_at(table: &Slab<Transaction>, key: usize) -> bool
+    ensures { (t : Value) → get table.now key ≡ Some t → result ≡ is_waiting t }
+{
+    match table.get(key) {
+        Some(transaction) => transaction.is_waiting(),
+        None => false,
+    }
+}
+
+/// Whether the transaction at a key hears a packet.
+fn hears_at(table: &Slab<Transaction>, key: usize, from: Peer, packet: &Packet<'_>) -> bool
+    ensures { (t : Value) → get table.now key ≡ Some t
+        → result ≡ is_heard from (packet_value packet.now) t }
+{
+    match table.get(key) {
+        Some(transaction) => transaction.hears(from, packet),
+        None => false,
+    }
+}
+
+/// The bytes of the release of the transaction at a key, where it is to be carried out once.
+fn release_at(alloc: Global, table: &Slab<Transaction>, key: usize) -> Result<Option<Bytes>, Error>
+    ensures ok { IfOk result (λ release. (t : Value) → get table.now key ≡ Some t → release
+        ≡ (if t.ask.exactly_once then Some (bytes_of spelled_packet (release_of t)) else None)) }
+    ensures err { IsOkUnless result Error.Memory }
+{
+    match table.get(key) {
+        Some(transaction) if transaction.ask.exactly_once => {
+            Ok(Some(transaction.release(alloc)?))
+        }
+        _ => Ok(None),
+    }
+}
+
+/// The transaction at a key hears a packet. The bytes of a release, where the packet calls for one.
+pub(crate) fn hear_at(
+    alloc: Global,
+    table: &mut Slab<Transaction>,
+    key: usize,
+    from: Peer,
+    packet: &Packet<'_>,
+) -> Result<Option<Bytes>, Error>
+    requires table { IsTable table.old }
+    requires there { (t : Value) × (get table.old key ≡ Some t) }
+    ensures table { IsTable table.new }
+    ensures others { (t : Value) → get table.old key ≡ Some t → (other : ℕ) → other ≢ t.id
+        → known other table.new.slots ≡ known other table.old.slots }
+    ensures changed { OnOk result ((t : Value) → get table.old key ≡ Some t
+        → Put table.old table.new t.id (Some (after_hearing from (packet_value packet.now) t))) }
+    ensures release { IfOk result (λ release. (t : Value) → get table.old key ≡ Some t
+        → release ≡ release_for from (packet_value packet.now) (Some t)) }
+    ensures refused { IsOkUnless result Error.Memory }
+    ensures kept { OnErr result (table.new ≡ table.old) }
+{
+    if !hears_at(table, key, from, packet) {
+        return Ok(None);
+    }
+    // Both are made first: a refusal then leaves the transaction as it is.
+    let release = release_at(alloc, table, key)?;
+    let part = part_from(alloc, packet)?;
+    if hear_in(table, key, packet, part) {
+        Ok(release)
+    } else {
+        Ok(None)
+    }
+}
