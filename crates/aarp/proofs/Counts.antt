@@ -69,7 +69,7 @@ waited_counted (h ∷ xs) all =
     let b = both (is_counted h) (list_all is_counted xs) all in
     let rest = waited_counted xs b.1 in
     (elim (is_asked_again h) as (λ t. is_asked_again h ≡ t
-        → list_all is_counted (map asked_once_more (cond t (h ∷ filter is_asked_again xs) (filter is_asked_again xs))) ≡ true) [
+    → list_all is_counted (map asked_once_more (cond t (h ∷ filter is_asked_again xs) (filter is_asked_again xs))) ≡ true) [
       | true ↦ λ t. rw (more_counted h b.0 t) rest
       | false ↦ λ t. rest
     ]) refl

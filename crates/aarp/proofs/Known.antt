@@ -35,16 +35,16 @@ module _ {K V : Type 0} (eq : K → K → Bool) (same : (x y : K) → eq x y ≡
   others-present k f [] d h = cc
   others-present k f (e ∷ es) d h = (elim (eq k e.0) as (λ b. eq k e.0 ≡ b → (f.0 ≡ k) × (remove_entry (eq k) (e ∷ es)
       ≡ others k (e ∷ es)) × (suc (length (remove_entry (eq k) (e ∷ es))) ≡ length (e ∷ es))) [
-    | true ↦ λ t.
-        let is : k ≡ e.0 = same k e.0 t in
-        let found : e ≡ f = let h' = rw t at h in cc in
-        let apart : AllByRecursion (λ y. eq k y ≡ false) (keys_of es) = subst (λ j. AllByRecursion (λ y. eq j y
+        | true ↦ λ t.
+            let is : k ≡ e.0 = same k e.0 t in
+            let found : e ≡ f = let h' = rw t at h in cc in
+            let apart : AllByRecursion (λ y. eq k y ≡ false) (keys_of es) = subst (λ j. AllByRecursion (λ y. eq j y
             ≡ false) (keys_of es)) (sym is) (IsDistinct-head eq e.0 (keys_of es) d) in
-        (sym (is ∙ ap (λ p. p.0) found), rw t (sym (others-apart k es apart)), rw t refl)
-    | false ↦ λ t.
-        let on = others-present k f es (IsDistinct-tail eq e.0 (keys_of es) d) (rw t at h) in
-        (on.0, rw t (ap (λ l. e ∷ l) on.1), rw t (ap suc on.2))
-  ]) refl
+            (sym (is ∙ ap (λ p. p.0) found), rw t (sym (others-apart k es apart)), rw t refl)
+        | false ↦ λ t.
+            let on = others-present k f es (IsDistinct-tail eq e.0 (keys_of es) d) (rw t at h) in
+            (on.0, rw t (ap (λ l. e ∷ l) on.1), rw t (ap suc on.2))
+      ]) refl
 
   module _ (c : LruCache K V) (k : K) (v : V) (d : IsDistinct eq (keys_of c.entries)) (fits : length c.entries ≤ c.cap) (some : 0 <
       c.cap) where
@@ -55,7 +55,7 @@ module _ {K V : Type 0} (eq : K → K → Bool) (same : (x y : K) → eq x y ≡
     by_case (Some f) h =
         let p = others-present k f c.entries d h in
         let whole : take c.cap ((k, v) ∷ others k c.entries)
-            ≡ (k, v) ∷ others k c.entries = take_all c.cap ((k, v) ∷ others k c.entries) (rw (← p.1) (omega (arith, p.2))) in
+        ≡ (k, v) ∷ others k c.entries = take_all c.cap ((k, v) ∷ others k c.entries) (rw (← p.1) (omega (arith, p.2))) in
         rw (whole, p.1, p.0) refl
 
     -- what `put` leaves, as a filter and a cut
@@ -69,6 +69,6 @@ pub mapping_found : (a : Addr) (known : List (Addr × Hw)) → mapping_of a know
 mapping_found a [] = refl
 mapping_found a (m ∷ known) = elim (same_address a m.0) as (λ t. cond t (Some m.1) (mapping_of a known)
     ≡ cond t (Some m.1) (lookup (same_address a) known)) [
-  | true ↦ refl
-  | false ↦ mapping_found a known
-]
+      | true ↦ refl
+      | false ↦ mapping_found a known
+    ]

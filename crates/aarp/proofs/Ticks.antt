@@ -35,9 +35,9 @@ any_others : (x b : Addr) (xs : List Addr) → same_address b x ≡ false → li
 any_others x b [] h = refl
 any_others x b (y ∷ xs) h = (elim (same_address x y) as (λ t. same_address x y ≡ t
     → list_any (same_address b) (cond (not t) (y ∷ others x xs) (others x xs)) ≡ list_any (same_address b) (y ∷ xs)) [
-  | true ↦ λ e. rw (apart x b y h e) (any_others x b xs h)
-  | false ↦ λ e. rw (any_others x b xs h) refl
-]) refl
+      | true ↦ λ e. rw (apart x b y h e) (any_others x b xs h)
+      | false ↦ λ e. rw (any_others x b xs h) refl
+    ]) refl
 
 other_way : (x b : Addr) → same_address b x ≡ true → same_address x b ≡ true
 other_way x b h = grind arith
@@ -76,8 +76,8 @@ nexts_more : (p : Held → Bool) (xs : List Held) (h : Held) → each_once (next
     ≡ cond (p h) (noted h.next (each_once (nexts p xs))) (each_once (nexts p xs))
 nexts_more p xs h =
     let parts : nexts p (xs ++ h ∷ [])
-        ≡ nexts p xs ++ nexts p (h ∷ []) = ap (map (λ (g : Held). g.next)) (filter-append p xs (h ∷ []))
-        ∙ map-append (λ (g : Held). g.next) (filter p xs) (filter p (h ∷ [])) in
+    ≡ nexts p xs ++ nexts p (h ∷ []) = ap (map (λ (g : Held). g.next)) (filter-append p xs (h ∷ []))
+    ∙ map-append (λ (g : Held). g.next) (filter p xs) (filter p (h ∷ [])) in
     by_case (p h) refl parts
   where
     by_case : (t : Bool) → p h ≡ t → nexts p (xs ++ h ∷ []) ≡ nexts p xs ++ nexts p (h ∷ []) → each_once (nexts p (xs ++ h ∷ []))
@@ -89,9 +89,9 @@ length-waited : (xs : List Held) → length (waited xs) ≤ length xs
 length-waited [] = omega arith
 length-waited (h ∷ xs) = elim (is_asked_again h) as (λ t. length (map asked_once_more (cond t (h ∷ filter is_asked_again xs) (filter
     is_asked_again xs))) ≤ suc (length xs)) [
-  | true ↦ (let l = length-waited xs in omega arith)
-  | false ↦ (let l = length-waited xs in omega arith)
-]
+      | true ↦ (let l = length-waited xs in omega arith)
+      | false ↦ (let l = length-waited xs in omega arith)
+    ]
 
 -- a queue of which the first i were asked for, and the next one, h
 pub record Next (old : List Held) (i : ℕ) (h : Held) : Type 0 where
@@ -113,8 +113,12 @@ next old i h lt first =
           [])));
       ask = rw taken_is (nexts_more is_asked_again (take i old) h);
       given_up = rw taken_is (nexts_more (λ g. not (is_asked_again g)) (take i old) h ∙ turned (is_asked_again h) _ _);
-      room = rw rest_is (let l = length-waited (take i old) in omega (arith, length-append (drop (i + 1) old) (waited (take i old)),
-          length-drop (i + 1) old, length-take i old));
+      room = rw rest_is (let l = length-waited (take i old) in omega (
+        arith,
+        length-append (drop (i + 1) old) (waited (take i old)),
+        length-drop (i + 1) old,
+        length-take i old,
+      ));
     }
   where
     turned : (t : Bool) (xs ys : List Addr) → cond (not t) xs ys ≡ cond t ys xs

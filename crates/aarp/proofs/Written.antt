@@ -62,7 +62,7 @@ written_value p f =
 abbrev six : List ℕ → List ℕ → List ℕ
 six xs rest =
     slice_index_or xs 0 0 ∷ slice_index_or xs 1 0 ∷ slice_index_or xs 2 0 ∷ slice_index_or xs 3 0 ∷ slice_index_or xs 4 0 ∷
-        slice_index_or xs 5 0 ∷ rest
+    slice_index_or xs 5 0 ∷ rest
 
 six_are : (xs rest : List ℕ) → length xs ≡ 6 → six xs rest ≡ xs ++ rest
 six_are (a ∷ b ∷ c ∷ d ∷ e ∷ f ∷ []) rest h = refl

@@ -4,7 +4,8 @@ ghost use Rattle.std.specs.Prelude.{◌≡◌, IsTrue, IfOk, IfSome, IsOkUnless}
 ghost use Rattle.std.specs.List.{list_all};
 ghost use Rattle.aarp.specs.Choosing.{begun, ticked, heard as heard_by, settled as settled_at};
 ghost use Rattle.aarp.specs.Choosing.{answer as answer_of, is_conflict as conflict};
-ghost use Rattle.aarp.specs.Choosing.{upwards as next_upwards, probe_for, is_on, wants as is_wanted};
+ghost use Rattle.aarp.specs.Choosing.{upwards as next_upwards, probe_for, is_on};
+ghost use Rattle.aarp.specs.Choosing.{wants as is_wanted};
 
 use crate::packet::{Function, Packet};
 use at_base::{Addr, Error, Hw, Range};

@@ -1,12 +1,15 @@
 //! A responder: it keeps what was asked, and the answers to requests that are carried out once.
 
-ghost use Rattle.std.specs.Prelude.{◌≡◌, ◌⊎◌, ◌<◌, ◌≤◌, ◌↔◌, ◌++◌, ◌∷◌, not, true, false, None, [], length, filter, map, position, is_some, IfOk, IfErr, IfNone, IfSome, IsOkUnless, OnErr, OnOk};
+ghost use Rattle.std.specs.Prelude.{◌≡◌, ◌⊎◌, ◌<◌, ◌≤◌, ◌↔◌, ◌++◌, ◌∷◌, not, true, false, None, []};
+ghost use Rattle.std.specs.Prelude.{length, filter, map, position, is_some, IfOk, IfErr, IfNone};
+ghost use Rattle.std.specs.Prelude.{IfSome, IsOkUnless, OnErr, OnOk};
 ghost use Rattle.std.specs.Option.{option_copied};
 ghost use Rattle.atp.specs.InPlace.{packet_value};
 ghost use Rattle.atp.specs.Answers.{is_answer, answer_packets, bytes_of_all};
 ghost use Rattle.atp.specs.Places.{IsPlace, with_first};
 ghost use Rattle.atp.specs.Responding.{asked_again, asked_by, has_room as room_for, heard as hears};
-ghost use Rattle.atp.specs.Responding.{is_of, is_over, kept as kept_of, new_request, of_kind, older};
+ghost use Rattle.atp.specs.Responding.{is_of, is_over, kept as kept_of, new_request, of_kind};
+ghost use Rattle.atp.specs.Responding.{older};
 ghost use Rattle.atp.specs.Responding.{parts_or_none, request_of, answered as with_answers};
 ghost use Rattle.atp.specs.Responding.{ticked, waits, with_answer, without};
 ghost use Rattle.atp.specs.declared.request.Request.{Request as RequestValue};

@@ -1,13 +1,16 @@
 //! Open transactions in the slots of a slab.
 
-ghost use Rattle.std.specs.Prelude.{◌≡◌, ◌≢◌, ◌⊎◌, ◌≤◌, ◌<◌, Some, None, false, true, ℕ, if◌then◌else◌, IfOk, IfErr, IfNone, IfSome, IsOkUnless, OnErr, OnOk};
+ghost use Rattle.std.specs.Prelude.{◌≡◌, ◌≢◌, ◌⊎◌, ◌≤◌, ◌<◌, Some, None, false, true, ℕ};
+ghost use Rattle.std.specs.Prelude.{if◌then◌else◌, IfOk, IfErr, IfNone, IfSome, IsOkUnless, OnErr};
+ghost use Rattle.std.specs.Prelude.{OnOk};
 ghost use Rattle.std.specs.Option.{option_map};
 ghost use Rattle.slab.specs.Slab.{get, slab_len};
 ghost use Rattle.at_base.specs.Spelling.{bytes_of};
 ghost use Rattle.at_base.specs.declared.error.What.TheVariants.{Transaction as Missing};
 ghost use Rattle.atp.specs.InPlace.{packet_value};
 ghost use Rattle.atp.specs.Packets.{packet as spelled_packet};
-ghost use Rattle.atp.specs.Requesting.{known, IsNextId, IsSendable, is_due, is_due_in, request_of, sent, ticked};
+ghost use Rattle.atp.specs.Requesting.{known, IsNextId, IsSendable, is_due, is_due_in, request_of};
+ghost use Rattle.atp.specs.Requesting.{sent, ticked};
 ghost use Rattle.atp.specs.Requesting.{is_complete, part_of, with_part, with_end, with_status};
 ghost use Rattle.atp.specs.Outcomes.{left_open, outcome_of};
 ghost use Rattle.atp.specs.Requesting.{IsLeastDue, is_heard, is_waiting, after_hearing};

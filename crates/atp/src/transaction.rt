@@ -1,14 +1,18 @@
 //! One transaction that a requester has open.
 
-ghost use Rattle.std.specs.Prelude.{◌≡◌, ◌≤◌, ◌<◌, ◌+◌, ◌^◌, None, false, length, map, slice_index_or, take, drop, IfOk, IsOkUnless};
+ghost use Rattle.std.specs.Prelude.{◌≡◌, ◌≤◌, ◌<◌, ◌+◌, ◌^◌, None, false, length, map};
+ghost use Rattle.std.specs.Prelude.{slice_index_or, take, drop, IfOk, IsOkUnless};
 ghost use Rattle.std.specs.List.{list_any};
 ghost use Rattle.at_base.specs.Spelling.{bytes_of};
 ghost use Rattle.atp.specs.Bitmaps.{bitmap as number_of, first_parts as parts_below};
 ghost use Rattle.atp.specs.InPlace.{packet_value};
 ghost use Rattle.atp.specs.Packets.{packet as spelled_packet};
-ghost use Rattle.atp.specs.Requesting.{IsAsk, begun, is_complete as complete, is_waiting as waiting};
-ghost use Rattle.atp.specs.Requesting.{is_due as due, request_control, request_of, sent, ticked, cut};
-ghost use Rattle.atp.specs.Requesting.{with_part, with_end, with_status, answers, is_heard, release_of};
+ghost use Rattle.atp.specs.Requesting.{IsAsk, begun, is_complete as complete};
+ghost use Rattle.atp.specs.Requesting.{is_waiting as waiting};
+ghost use Rattle.atp.specs.Requesting.{is_due as due, request_control, request_of, sent, ticked};
+ghost use Rattle.atp.specs.Requesting.{cut};
+ghost use Rattle.atp.specs.Requesting.{with_part, with_end, with_status, answers, is_heard};
+ghost use Rattle.atp.specs.Requesting.{release_of};
 ghost use Rattle.atp.specs.Requesting.{part_of};
 
 use crate::ask::{AnswerPart, Ask, Peer};

@@ -3,7 +3,8 @@
 ghost use Rattle.std.specs.Prelude.{◌≡◌, ◌≢◌, ◌∷◌, [], length, IfOk, IfNone, IfSome};
 ghost use Rattle.at_base.specs.Packets.{packets};
 ghost use Rattle.at_base.specs.Reading.{Gives, Reads, many_at, read as read_by};
-ghost use Rattle.rtmp.specs.Data.{routing_data, written_tuple, written_in, IsTuples, data_in, tuples_of, own_range};
+ghost use Rattle.rtmp.specs.Data.{routing_data, written_tuple, written_in, IsTuples, data_in};
+ghost use Rattle.rtmp.specs.Data.{tuples_of, own_range};
 
 use crate::tuple::Tuple;
 use crate::written::{tuple_of, written_at};

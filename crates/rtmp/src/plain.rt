@@ -1,11 +1,14 @@
 //! A routing table as rows in a vector.
 
-ghost use Rattle.std.specs.Prelude.{◌≡◌, ◌≤◌, ◌<◌, length, not, true, filter, vec_len, vec_capacity};
+ghost use Rattle.std.specs.Prelude.{◌≡◌, ◌≤◌, ◌<◌, length, not, true, filter, vec_len};
+ghost use Rattle.std.specs.Prelude.{vec_capacity};
 ghost use Rattle.std.specs.List.{list_all, list_any};
 ghost use Rattle.std.specs.Option.{option_copied};
 ghost use Rattle.at_base.specs.Range.{IsRange, overlaps, is_range};
-ghost use Rattle.rtmp.specs.Routes.{are_apart, row_at, row_for as row_in, beside, added, is_over as over};
-ghost use Rattle.rtmp.specs.Routes.{after_hearing as hears, heard_row as new_row, direct_row as own_row, is_new as new_range};
+ghost use Rattle.rtmp.specs.Routes.{are_apart, row_at, row_for as row_in, beside, added};
+ghost use Rattle.rtmp.specs.Routes.{is_over as over};
+ghost use Rattle.rtmp.specs.Routes.{after_hearing as hears, heard_row as new_row};
+ghost use Rattle.rtmp.specs.Routes.{direct_row as own_row, is_new as new_range};
 ghost use Rattle.rtmp.specs.Updates.{before};
 
 use crate::row::Row;

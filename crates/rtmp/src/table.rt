@@ -1,6 +1,7 @@
 //! What a routing table is to the router above it.
 
-ghost use Rattle.std.specs.Prelude.{◌≡◌, ◌≢◌, ◌≤◌, ◌<◌, ◌⊎◌, ◌↔◌, [], true, false, length, slice_get, nat_le};
+ghost use Rattle.std.specs.Prelude.{◌≡◌, ◌≢◌, ◌≤◌, ◌<◌, ◌⊎◌, ◌↔◌, [], true, false, length};
+ghost use Rattle.std.specs.Prelude.{slice_get, nat_le};
 ghost use Rattle.std.specs.Prelude.{IfOk, IfErr, OnOk, OnErr, IsOk, IsTrue, IsOkUnless};
 ghost use Rattle.std.specs.List.{list_all};
 ghost use Rattle.rtmp.specs.Routes.{IsRouteMap, are_apart, row_for as row_in};

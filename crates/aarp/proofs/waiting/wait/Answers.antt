@@ -7,7 +7,7 @@ pub wait_on-requires-clause-room : goal.wait_on-requires-clause-room
 wait_on-requires-clause-room c =
     let was = c.loop-step.invariant in
     let n = next c.args.queue.now.items c.loop-step._step c.in-Some.held (omega arith) (rw was.items at (sym
-        c.pop_front.ensures.value ∙ c.in-Some.is)) in
+    c.pop_front.ensures.value ∙ c.in-Some.is)) in
     rw (c.pop_front.ensures.items, was.items, was.capacity) (omega (arith, n.room, was.few, was.cap))
 
 pub loop-step-preserved : goal.loop-step-preserved
@@ -17,7 +17,7 @@ loop-step-preserved c =
     elim c.match-pop_front.branch [
       | in-Some w ↦
           let n = next c.args.queue.now.items c.loop-step._step w.in-Some.held lt (rw was.items at (sym c.pop_front.ensures.value
-              ∙ w.in-Some.is)) in
+          ∙ w.in-Some.is)) in
           record {
             items = rw (w.queue-is, w.wait_on.ensures.items, c.pop_front.ensures.items, was.items) n.items;
             capacity = rw (w.queue-is, w.wait_on.ensures.capacity, c.pop_front.ensures.items) was.capacity;

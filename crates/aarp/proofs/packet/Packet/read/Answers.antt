@@ -9,7 +9,7 @@ use Rattle.aarp.proofs.packet.Packet.read.Goals as goal
 pub returns-in-Ok : goal.returns-in-Ok
 returns-in-Ok c =
     reads_ok packets packet (λ (w : Whole). w.packet) (λ (p : Packet). p) packet_lawful c.args.bytes.now c.in-Ok.packet _ _ (λ i.
-        omega (arith, c.type_inv.bytes i)) c.in-Ok.ensures refl
+    omega (arith, c.type_inv.bytes i)) c.in-Ok.ensures refl
 
 pub returns-in-Err : goal.returns-in-Err
 returns-in-Err c = reads_err packets packet (λ (w : Whole). w.packet) (λ (p : Packet). p) packet_lawful c.args.bytes.now _ (λ i.

@@ -6,8 +6,14 @@ pub returns : goal.returns
 returns c =
     let source = c.station.ensures in
     let target = c.station-2.ensures in
-    rw (c.copy_from_slice.ensures.after, c.head.ensures, c.copy_from_slice-2.ensures.after, source.bytes,
-        c.copy_from_slice-3.ensures.after, target.bytes)
+    rw (
+      c.copy_from_slice.ensures.after,
+      c.head.ensures,
+      c.copy_from_slice-2.ensures.after,
+      source.bytes,
+      c.copy_from_slice-3.ensures.after,
+      target.bytes,
+    )
     (plain_spelled c.args.self.now (record {
       source_hw = source.fits.0;
       source_net = source.fits.1;
