@@ -1,6 +1,5 @@
 //! Prints what reading the image on standard input gives: `image`, or the place and the cause of
-//! its
-//! first fault. `scripts/compare` compares that with another reader of images.
+//! its first fault. `scripts/compare` compares that with another reader of images.
 #![tactic(auto)]
 
 use at_base::Error;
