@@ -6,3 +6,4 @@ mod Free
 mod Slots
 mod Steps
 mod Due
+mod Copies

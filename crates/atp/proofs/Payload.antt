@@ -1,5 +1,5 @@
 -- The data of a packet: bytes up to the end of the input.
-use Rattle.std.proofs.Common.{◌≡◌, ℕ, zero, suc, ◌≤◌, ◌<◌, ◌%◌, ◌++◌, List, [], ◌∷◌, length, get_or, Ok, refl, ap, ◌∙◌, arith}
+use Rattle.std.proofs.Common.{◌≡◌, ℕ, zero, suc, ◌≤◌, ◌<◌, ◌%◌, ◌++◌, List, [], ◌∷◌, length, Ok, refl, ap, ◌∙◌, arith}
 use Rattle.at_base.specs.Packets.{packets}
 use Rattle.at_base.specs.Reading.{read, many_at}
 use Rattle.at_base.specs.Spelling.{bytes_of, list_bytes}

@@ -10,7 +10,7 @@ use Rattle.at_base.specs.Lawful.{IsLawful}
 use Rattle.at_base.proofs.Fields.{IsBytes}
 use Rattle.at_base.proofs.Readers.{reads_ok, reads_err, begins_one}
 use Rattle.atp.specs.declared.packet.Packet.{Packet}
-use Rattle.atp.specs.Packets.{AtpPacket, IsPacket, packet, data_byte, wrong_control, wrong_part}
+use Rattle.atp.specs.Packets.{AtpPacket, IsPacket, packet, data_byte, wrong_control}
 use Rattle.atp.specs.InPlace.{packet_value}
 use Rattle.atp.proofs.Payload.{payload_bytes}
 

@@ -6,4 +6,5 @@ pub mod Places
 pub mod Responding
 pub mod Requesting
 pub mod Slots
+pub mod Copies
 pub mod Outcomes

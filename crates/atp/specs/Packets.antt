@@ -1,5 +1,5 @@
 -- ATP packets: requests, responses and releases. (Inside AppleTalk, the chapter on ATP)
-use Rattle.std.specs.Prelude.{◌≡◌, ℕ, ◌+◌, ◌*◌, ◌/◌, ◌%◌, ◌^◌, ◌<◌, ◌≤◌, Bool, true, false, ◌&&◌, ◌==◌, IsTrue, List, length, slice_index, Option, Some, None, min, nat_lt, if◌then◌else◌}
+use Rattle.std.specs.Prelude.{◌≡◌, ℕ, ◌*◌, ◌/◌, ◌%◌, ◌^◌, ◌<◌, ◌≤◌, Bool, true, false, ◌&&◌, ◌==◌, IsTrue, List, length, slice_index, Option, Some, None, min, nat_lt, if◌then◌else◌}
 use Rattle.at_base.specs.declared.error.Field.TheVariants.{Control, Sequence}
 use Rattle.at_base.specs.declared.error.Error.{Error}
 use Rattle.at_base.specs.declared.error.Error.TheVariants.{BadLength, BadField}

@@ -1,5 +1,5 @@
 -- A requester: the transactions that it has open, by their IDs. (Inside AppleTalk, the chapter on ATP)
-use Rattle.std.specs.Prelude.{◌≡◌, ◌⊎◌, ℕ, suc, ◌+◌, ◌-◌, ◌%◌, ◌<◌, ◌≤◌, Bool, true, false, not, ◌&&◌, ◌==◌, List, [], ◌∷◌, ◌++◌, length, map, take, drop, filter_map, Option, Some, None, slice_get, slice_set, slice_index_or, count_by, is_some, nat_lt, nat_le, if◌then◌else◌}
+use Rattle.std.specs.Prelude.{◌≡◌, ℕ, ◌+◌, ◌-◌, ◌%◌, ◌<◌, ◌≤◌, Bool, true, false, not, ◌&&◌, ◌==◌, List, [], ◌∷◌, ◌++◌, length, map, take, drop, filter_map, Option, Some, None, slice_set, slice_index_or, count_by, is_some, nat_lt, if◌then◌else◌}
 use Rattle.std.specs.List.{list_any}
 use Rattle.at_base.specs.Address.{same_address}
 use Rattle.atp.specs.declared.ask.Ask.{Ask}

@@ -1,6 +1,6 @@
 -- A responder: requests that wait for their answer, and answers that are kept. (Inside AppleTalk, the chapter on ATP; that
 -- the time begins anew with each repeat is this project's own)
-use Rattle.std.specs.Prelude.{◌≡◌, ℕ, suc, ◌+◌, ◌-◌, ◌≤◌, Bool, true, false, not, ◌&&◌, ◌==◌, IsTrue, List, [], ◌∷◌, ◌++◌, length, map, filter, find, Option, Some, None, nat_lt, nat_le, is_some, if◌then◌else◌}
+use Rattle.std.specs.Prelude.{ℕ, ◌-◌, ◌≤◌, Bool, true, false, not, ◌&&◌, ◌==◌, IsTrue, List, [], ◌∷◌, ◌++◌, length, map, filter, find, Option, Some, None, nat_lt, nat_le, is_some, if◌then◌else◌}
 use Rattle.std.specs.List.{list_all, list_any}
 use Rattle.at_base.specs.Address.{same_address}
 use Rattle.atp.specs.declared.ask.Peer.{Peer}

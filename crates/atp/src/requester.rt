@@ -16,7 +16,8 @@ use crate::ask::{Ask, Peer};
 use crate::outcome::Outcome;
 use crate::packet::{MAX_DATA, Packet};
 use crate::table::{
-    close_at, hear_at, insert, key_of, least_due, next_id, request_at, send_at, take, tick_all,
+    close_at, copy_all, hear_at, insert, key_of, least_due, next_id, request_at, send_at, take,
+    tick_all,
 };
 use crate::transaction::Transaction;
 use at_base::{Bytes, Error, What};
@@ -60,6 +61,22 @@ impl Requester {
         Ok(Requester {
             alloc,
             next: first,
+            table,
+        })
+    }
+
+    /// A copy: of each number it knows what this one knows, and the next number is the same. Makes
+    /// room for all that may be open. Error: `Memory`.
+    pub fn copy(&self) -> Result<Requester, Error>
+        ensures next { IfOk result (λ r. r.next ≡ self.now.next) }
+        ensures same { IfOk result (λ r. (id : ℕ) → known id r.slots ≡ known id self.now.slots) }
+        ensures count { IfOk result (λ r. open_count r.slots ≡ open_count self.now.slots) }
+        ensures refused { IsOkUnless result Error.Memory }
+    {
+        let table = copy_all(self.alloc, &self.table)?;
+        Ok(Requester {
+            alloc: self.alloc,
+            next: self.next,
             table,
         })
     }

@@ -1,6 +1,6 @@
 //! Open transactions in the slots of a slab.
 
-ghost use Rattle.std.specs.Prelude.{◌≡◌, ◌≢◌, ◌⊎◌, ◌≤◌, ◌<◌, Some, None, false, true, ℕ};
+ghost use Rattle.std.specs.Prelude.{◌≡◌, ◌≢◌, ◌⊎◌, ◌≤◌, ◌<◌, ◌+◌, suc, Some, None, false, true, ℕ};
 ghost use Rattle.std.specs.Prelude.{if◌then◌else◌, IfOk, IfErr, IfNone, IfSome, IsOkUnless, OnErr};
 ghost use Rattle.std.specs.Prelude.{OnOk};
 ghost use Rattle.std.specs.Option.{option_map};
@@ -16,11 +16,13 @@ ghost use Rattle.atp.specs.Outcomes.{left_open, outcome_of};
 ghost use Rattle.atp.specs.Requesting.{IsLeastDue, is_heard, is_waiting, after_hearing};
 ghost use Rattle.atp.specs.Requesting.{release_for, release_of};
 ghost use Rattle.atp.specs.Slots.{IsTable, Put};
+ghost use Rattle.atp.specs.Copies.{CopiedTo, IsCopy};
 ghost use Rattle.atp.specs.declared.transaction.Transaction.{Transaction as Value};
 
 use crate::ask::{AnswerPart, Peer};
 use crate::outcome::{Outcome, closed};
 use crate::packet::Packet;
+use crate::requester::MAX_OPEN;
 use crate::transaction::{Transaction, part_from};
 use at_base::{Bytes, Error, What};
 use slab::Slab;
@@ -64,9 +66,41 @@ pub(crate) fn insert(table: &mut Slab<Transaction>, transaction: Transaction)
     requires some { slab_len table.old < 32 }
     requires fresh { known transaction.id table.old.slots ≡ None }
     requires sendable { IsSendable transaction.ask }
-    ensures { Put table.old table.new transaction.id (Some transaction) }
+    ensures put { Put table.old table.new transaction.id (Some transaction) }
+    ensures len { slab_len table.new ≡ slab_len table.old + 1 }
 {
     table.insert_reserved(transaction);
+}
+
+/// Copies the transaction at a key, if there is one. Error: `Memory`.
+fn copy_at(
+    alloc: Global,
+    table: &Slab<Transaction>,
+    key: usize,
+    copy: &mut Slab<Transaction>,
+) -> Result<(), Error>
+    requires table { IsTable table.now }
+    requires before { CopiedTo key table.now copy.old }
+    ensures copied { OnOk result (CopiedTo (suc key) table.now copy.new) }
+    ensures err { IsOkUnless result Error.Memory }
+{
+    if let Some(transaction) = table.get(key) {
+        insert(copy, transaction.copy(alloc)?);
+    }
+    Ok(())
+}
+
+/// A copy of the transactions, with room for as many as may be open. Error: `Memory`.
+pub(crate) fn copy_all(alloc: Global, table: &Slab<Transaction>) -> Result<Slab<Transaction>, Error>
+    requires { IsTable table.now }
+    ensures ok { IfOk result (λ copy. IsCopy table.now copy) }
+    ensures err { IsOkUnless result Error.Memory }
+{
+    let mut copy = Slab::with_capacity(alloc, MAX_OPEN)?;
+    for key in 0..table.capacity() {
+        copy_at(alloc, table, key, &mut copy)?;
+    }
+    Ok(copy)
 }
 
 /// Takes the transaction at a key out.

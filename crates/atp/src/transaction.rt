@@ -120,7 +120,56 @@ pub(crate) fn part_from(alloc: Global, packet: &Packet<'_>) -> Result<AnswerPart
     })
 }
 
+/// A copy of a part, if it is there. Error: `Memory`.
+fn copy_part(alloc: Global, part: &Option<AnswerPart>) -> Result<Option<AnswerPart>, Error>
+    ensures ok { IfOk result (λ copy. copy ≡ part.now) }
+    ensures err { IsOkUnless result Error.Memory }
+{
+    match part {
+        Some(part) => Ok(Some(part.copy(alloc)?)),
+        None => Ok(None),
+    }
+}
+
+/// A copy of the eight parts. Error: `Memory`.
+fn copy_parts(
+    alloc: Global,
+    parts: &[Option<AnswerPart>; 8],
+) -> Result<[Option<AnswerPart>; 8], Error>
+    ensures ok { IfOk result (λ copy. copy ≡ parts.now) }
+    ensures err { IsOkUnless result Error.Memory }
+{
+    let [a, b, c, d, e, f, g, h] = parts;
+    Ok([
+        copy_part(alloc, a)?,
+        copy_part(alloc, b)?,
+        copy_part(alloc, c)?,
+        copy_part(alloc, d)?,
+        copy_part(alloc, e)?,
+        copy_part(alloc, f)?,
+        copy_part(alloc, g)?,
+        copy_part(alloc, h)?,
+    ])
+}
+
 impl Transaction {
+    /// A copy, equal to it. Error: `Memory`.
+    pub(crate) fn copy(&self, alloc: Global) -> Result<Transaction, Error>
+        ensures ok { IfOk result (λ copy. copy ≡ self.now) }
+        ensures err { IsOkUnless result Error.Memory }
+    {
+        Ok(Transaction {
+            id: self.id,
+            ask: self.ask.copy(alloc)?,
+            missing: self.missing,
+            came: copy_parts(alloc, &self.came)?,
+            due: self.due,
+            wait: self.wait,
+            tries: self.tries,
+            failed: self.failed,
+        })
+    }
+
     /// A transaction that begins.
     pub(crate) fn new(id: u16, ask: Ask) -> Transaction
         ensures { result ≡ begun id ask }

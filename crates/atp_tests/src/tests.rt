@@ -8,8 +8,8 @@ mod calls;
 mod readme;
 
 use calls::{
-    CLIENT, SERVER, USER, ask, copied, hears, kept, request, requested, requester, respond,
-    response, ticks, ticks_at, todo,
+    CLIENT, SERVER, USER, ask, copied, copy_of, hears, kept, request, requested, requester,
+    respond, response, ticks, ticks_at, todo,
 };
 
 #[test]
@@ -141,6 +141,37 @@ fn it_fails_after_its_last_try(rt: HostRuntime) -> Result<(), Fail> {
     assert!(rt; matches!(requester.result(1), Ok(Outcome::Failed)));
     assert!(rt; matches!(requester.result(99), Err(Error::NoSuch(What::Transaction))));
     assert!(rt; matches!(requester.request(99), Err(Error::NoSuch(What::Transaction))));
+    Ok(())
+}
+
+/// A copy goes on as the other does, and apart from it: of two parts one came before it was made.
+#[test]
+fn a_copy_goes_on_apart(rt: HostRuntime) -> Result<(), Fail> {
+    let mut requester = requester(rt.alloc(), 1)?;
+    assert_eq!(rt; requester.begin(ask(rt.alloc(), 1, false)?)?, 1);
+    assert!(rt; matches!(requester.result(1), Ok(Outcome::Waiting)));
+    assert_eq!(rt; requester.begin(ask(rt.alloc(), 2, true)?)?, 2);
+    let mut part = response(0x80, 0, 10);
+    part[3] = 2;
+    assert!(rt; !hears(&mut requester, SERVER, &part)?);
+    let mut copy = copy_of(&requester)?;
+    assert!(rt; copy.due() == Some(1));
+    let bytes = requested(&mut copy, 2)?;
+    assert_eq!(rt; bytes.as_slice(), [0x60, 2, 0, 2, 8, 0, 0, 1].as_slice());
+    let mut last = response(0x90, 1, 11);
+    last[3] = 2;
+    assert!(rt; hears(&mut copy, SERVER, &last)?);
+    match copy.result(2)? {
+        Outcome::Complete(response) => {
+            let first = response.get(0);
+            assert_eq!(rt; response.len(), 2);
+            assert!(rt; matches!(first, Some(p) if p.payload.as_slice() == [10].as_slice()));
+        }
+        _ => assert!(rt; false),
+    }
+    assert_eq!(rt; copy.begin(ask(rt.alloc(), 1, false)?)?, 3);
+    assert!(rt; matches!(requester.result(2), Ok(Outcome::Waiting)));
+    assert_eq!(rt; requester.begin(ask(rt.alloc(), 1, false)?)?, 3);
     Ok(())
 }
 

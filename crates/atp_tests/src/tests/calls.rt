@@ -148,3 +148,10 @@ pub(crate) fn ticks_at(responder: &mut Responder, count: u16) {
         responder.tick();
     }
 }
+
+pub(crate) fn copy_of(requester: &Requester) -> Result<Requester, Error> {
+    match requester.copy() {
+        Err(Error::Memory) => requester.copy(),
+        answer => answer,
+    }
+}
