@@ -5,14 +5,14 @@ use Rattle.std.proofs.lemmas.Bool.{ltb-false, ltb-true}
 use Rattle.at_base.specs.declared.error.Cause.TheVariants.{Count, Index, Name, Order, Value}
 use Rattle.at_base.specs.Grammar.{Grammar}
 use Rattle.at_base.specs.Spelling.{ListPasses, IsValue}
-use Rattle.at_base.specs.Text.{is_name, IsName}
+use Rattle.at_base.specs.Text.{is_name, IsName, IsEntity, is_entity}
 use Rattle.at_base.proofs.Fields.{is_right, not_wrong}
-use Rattle.table_image.specs.Internet.{Internet, Every, Rises, AreZones, IsRow, IsEntity, IsNodeName, IsWithinLimits, IsNodeWithinLimits}
+use Rattle.table_image.specs.Internet.{Internet, Every, Rises, AreZones, IsRow, IsNodeName, IsWithinLimits, IsNodeWithinLimits}
 use Rattle.table_image.specs.Internet.{IsBounded}
 use Rattle.table_image.specs.Limits.{max_cables, max_routers, max_nodes, max_ports, max_rows, max_zone_lists, max_zones, max_names}
 use Rattle.table_image.specs.Limits.{max_text, max_distance}
 use Rattle.table_image.specs.Flaws.{Wrong, Here, Before}
-use Rattle.table_image.specs.Tests.{below, rising, enumerator, is_entity}
+use Rattle.table_image.specs.Tests.{below, rising, enumerator}
 use Rattle.table_image.specs.Spelling.{counted, text_spelling, zone_spelling, zones_spelling, port_spelling, row_spelling}
 use Rattle.table_image.specs.Spelling.{zone_list_spelling, router_spelling, name_spelling, node_spelling, front_spelling, cable_spelling}
 use Rattle.table_image.specs.Spelling.{image_spelling}

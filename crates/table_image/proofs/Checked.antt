@@ -9,13 +9,13 @@ use Rattle.at_base.specs.declared.error.Cause.TheVariants.{Count, Index, Name, O
 use Rattle.at_base.specs.declared.address.Addr.{Addr}
 use Rattle.rtmp.specs.declared.state.State.{State}
 use Rattle.rtmp.specs.declared.state.State.TheVariants.{Good, Suspect, Bad, Last}
-use Rattle.at_base.specs.Text.{is_name, IsName, is_printable, is_only}
+use Rattle.at_base.specs.Text.{is_name, IsName, is_printable, is_only, is_entity}
 use Rattle.at_base.specs.Grammar.{Grammar, Field, done, field, part}
 use Rattle.at_base.specs.FirstFault.{field_len}
 use Rattle.at_base.proofs.Fields.{length-field_bytes}
 use Rattle.at_base.specs.Spelling.{field_bytes, list_bytes, bytes_of, IsValue, Passes}
 use Rattle.table_image.specs.Flaws.{Wrong, Here, Before}
-use Rattle.table_image.specs.Tests.{within, below, rising, is_entity}
+use Rattle.table_image.specs.Tests.{within, below, rising}
 use Rattle.table_image.specs.Spelling.{counted, text_spelling, zone_spelling, address_spelling, port_spelling, row_spelling, state_number}
 use Rattle.table_image.specs.Spelling.{state_of}
 use Rattle.table_image.specs.Checking.{FlawAt, Checks, ChecksList}

@@ -10,7 +10,8 @@ use Rattle.at_base.specs.Grammar.{Grammar, Field, done, field, part}
 use Rattle.at_base.specs.FirstFault.{field_len}
 use Rattle.at_base.specs.Spelling.{bytes_of, IsValue, Passes}
 use Rattle.table_image.specs.Flaws.{Wrong, Here}
-use Rattle.table_image.specs.Tests.{enumerator, is_entity}
+use Rattle.table_image.specs.Tests.{enumerator}
+use Rattle.at_base.specs.Text.{is_entity}
 use Rattle.table_image.specs.Short.{short_list, short_router}
 use Rattle.table_image.specs.Limits.{max_cables, max_routers, max_nodes, max_ports, max_rows, max_zone_lists, max_names}
 use Rattle.table_image.specs.Spelling.{counted, text_spelling, zone_spelling, zones_spelling, address_spelling, port_spelling, row_spelling}

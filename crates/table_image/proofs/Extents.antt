@@ -10,9 +10,9 @@ use Rattle.at_base.specs.Reading.{read, field_at, list_at, ◌>>=◌}
 use Rattle.at_base.proofs.Fields.{IsBytes, ok, ok_is, bind_ok, bind_err, field_takes, field_fault, length-field_bytes}
 use Rattle.std.proofs.Math.Nat.{mul-le-mul_right}
 use Rattle.std.proofs.Common.{cond}
-use Rattle.at_base.specs.Text.{is_name}
+use Rattle.at_base.specs.Text.{is_name, is_entity}
 use Rattle.at_base.specs.declared.error.Cause.TheVariants.{Count, Name}
-use Rattle.table_image.specs.Tests.{within, is_entity}
+use Rattle.table_image.specs.Tests.{within}
 use Rattle.table_image.proofs.Shape.{within_bounds}
 use Rattle.table_image.specs.Limits.{max_cables, max_routers, max_nodes, max_ports, max_rows, max_zone_lists, max_zones, max_names}
 use Rattle.table_image.specs.Limits.{max_text}

@@ -1,7 +1,7 @@
 -- Each part of an image is where its projection finds it.
 use Rattle.std.proofs.Common.{◌≡◌, ℕ, zero, suc, ◌≤◌, Bool, true, cond, ltb, List, length, Some, None, refl, sym, arith}
 use Rattle.std.proofs.lemmas.Bool.{ltb-false}
-use Rattle.at_base.specs.Text.{is_name, same_bytes}
+use Rattle.at_base.specs.Text.{is_name, same_bytes, is_entity}
 use Rattle.at_base.specs.declared.error.Cause.{Cause}
 use Rattle.at_base.specs.declared.error.Cause.TheVariants.{Magic, Value, Version}
 use Rattle.at_base.specs.Grammar.{Grammar}
@@ -10,7 +10,7 @@ use Rattle.at_base.proofs.Fields.{is_right, not_wrong}
 use Rattle.at_base.proofs.Texts.{same_bytes_is}
 use Rattle.table_image.specs.Limits.{max_cables, max_routers, max_nodes, max_ports, max_rows, max_zone_lists, max_zones, max_names}
 use Rattle.table_image.specs.Flaws.{Wrong, Here}
-use Rattle.table_image.specs.Tests.{within, magic, is_magic, is_entity}
+use Rattle.table_image.specs.Tests.{within, magic, is_magic}
 use Rattle.table_image.specs.Spelling.{counted, text_spelling, zone_spelling, zones_spelling, address_spelling, cable_spelling}
 use Rattle.table_image.specs.Spelling.{port_spelling, row_spelling, state_number, state_of, zone_list_spelling, flag_number, flag_of}
 use Rattle.table_image.specs.Spelling.{router_spelling, own_router_number, after_flag, own_router_spelling, name_spelling, node_spelling}

@@ -1,9 +1,8 @@
 -- An internet: what an image holds, read as lists, and the limits that each part of it keeps. This project's own.
 use Rattle.std.specs.Prelude.{◌≡◌, ◌<◌, ◌≤◌, ℕ, List, length, Some, slice_get, IsTrue}
-use Rattle.at_base.specs.Text.{IsName}
+use Rattle.at_base.specs.Text.{IsEntity, IsName}
 use Rattle.table_image.specs.Limits.{max_cables, max_routers, max_nodes, max_ports, max_rows, max_zone_lists, max_zones, max_names}
-use Rattle.table_image.specs.Limits.{max_text, max_distance}
-use Rattle.table_image.specs.Tests.{is_entity}
+use Rattle.table_image.specs.Limits.{max_distance}
 use Rattle.table_image.specs.declared.cable.Cable.{Cable}
 use Rattle.table_image.specs.declared.port.Port.{Port}
 use Rattle.table_image.specs.declared.row.Row.{Row}
@@ -47,15 +46,6 @@ pub record IsRow (ports : ℕ) (row : Row) : Type 0 where
   pub distance : row.distance ≤ max_distance
   -- the index of a port of the router
   pub port : row.port < ports
-
--- an object or a type of a node's name
-pub record IsEntity (text : List ℕ) : Type 0 where
-  -- at least one byte
-  pub some : 1 ≤ length text
-  -- as many bytes as a name may have
-  pub few : length text ≤ max_text
-  -- no wildcard in it, and not the equals sign alone
-  pub test : IsTrue (is_entity text)
 
 -- a name that a node may have
 pub record IsNodeName (name : NodeName) : Type 0 where

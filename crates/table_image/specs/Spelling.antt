@@ -3,7 +3,7 @@
 use Rattle.std.specs.Prelude.{ℕ, zero, suc, ◌+◌, Bool, true, false, ◌==◌, List, length, Option, Some, None, if◌then◌else◌, unwrap_or}
 use Rattle.at_base.specs.declared.address.Addr.{Addr}
 use Rattle.at_base.specs.declared.error.Cause.TheVariants.{Count, Name, Value, Version}
-use Rattle.at_base.specs.Text.{is_name}
+use Rattle.at_base.specs.Text.{is_name, is_entity}
 use Rattle.at_base.specs.Grammar.{Grammar, done, field, part, list, number, run, one, two}
 use Rattle.rtmp.specs.declared.state.State.{State}
 use Rattle.rtmp.specs.declared.state.State.TheVariants.{Good, Suspect, Bad, Last}
@@ -12,7 +12,7 @@ use Rattle.table_image.specs.Limits.{max_cables, max_routers, max_nodes, max_por
 use Rattle.table_image.specs.Limits.{max_text, max_distance}
 use Rattle.table_image.specs.Sizes.{hardware_size}
 use Rattle.table_image.specs.Flaws.{Wrong, Before}
-use Rattle.table_image.specs.Tests.{any, within, below, rising, enumerator, magic, is_magic, is_entity}
+use Rattle.table_image.specs.Tests.{any, within, below, rising, enumerator, magic, is_magic}
 use Rattle.table_image.specs.declared.cable.Cable.{Cable}
 use Rattle.table_image.specs.declared.port.Port.{Port}
 use Rattle.table_image.specs.declared.row.Row.{Row}

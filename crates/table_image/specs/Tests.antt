@@ -1,9 +1,8 @@
--- The tests of an image's fields. This project's own; is_entity is of Inside AppleTalk, the chapter on NBP.
-use Rattle.std.specs.Prelude.{ℕ, Bool, ◌&&◌, not, ◌==◌, List, [], ◌∷◌, Option, Some, None, nat_lt, if◌then◌else◌}
-use Rattle.std.specs.List.{list_all}
+-- The tests of an image's fields. This project's own.
+use Rattle.std.specs.Prelude.{ℕ, List, [], ◌∷◌, Option, Some, None, nat_lt, if◌then◌else◌}
 use Rattle.at_base.specs.declared.error.Cause.{Cause}
 use Rattle.at_base.specs.declared.error.Cause.TheVariants.{Index, Magic, Order, Value}
-use Rattle.at_base.specs.Text.{is_only, same_bytes}
+use Rattle.at_base.specs.Text.{same_bytes}
 use Rattle.table_image.specs.Flaws.{Wrong, Here}
 
 -- any value
@@ -33,7 +32,3 @@ magic = 0x41 ∷ 0x54 ∷ 0x49 ∷ 0x4D ∷ []
 -- those four bytes
 abbrev pub is_magic : List ℕ → Option Wrong
 is_magic s = if same_bytes s magic then None else Some (Here Magic)
-
--- an object or a type that a node may have: no wildcard in it, and not the equals sign alone
-abbrev pub is_entity : List ℕ → Bool
-is_entity s = list_all (λ b. not (b == 0xC5)) s && not (is_only 61 s)

@@ -1,20 +1,19 @@
 //! Fields at the front of bytes: each function gives a field's value and the bytes after it, or the
 //! flaw.
 
-ghost use Rattle.std.specs.Prelude.{◌≡◌, ◌==◌, ◌+◌, ◌&&◌, true, not, fold, length};
-ghost use Rattle.std.specs.List.{list_all};
+ghost use Rattle.std.specs.Prelude.{◌≡◌, ◌+◌, length};
 ghost use Rattle.at_base.specs.Grammar.{number, run, one, two};
 ghost use Rattle.at_base.specs.Reading.{Gives, bytes_at, field_at, read};
-ghost use Rattle.at_base.specs.Text.{is_name, is_only};
+ghost use Rattle.at_base.specs.Text.{is_entity as entity, is_name};
 ghost use Rattle.table_image.specs.Flaws.{flaws};
 ghost use Rattle.table_image.specs.Tests.{any, within, below, rising, enumerator};
-ghost use Rattle.table_image.specs.Tests.{is_entity as entity, is_magic};
+ghost use Rattle.table_image.specs.Tests.{is_magic};
 ghost use Rattle.table_image.specs.Spelling.{address_spelling, text_spelling};
 
 use crate::flaw::Flaw;
 use crate::limits::MAX_TEXT;
 use crate::sizes::{BYTE_SIZE, HARDWARE_SIZE, NETWORK_SIZE};
-use at_base::{Addr, Cause, Hw, Name, Text32, is_zone_name};
+use at_base::{Addr, Cause, Hw, Name, Text32, is_entity, is_zone_name};
 
 fn cut() -> Flaw
     ensures { result ≡ record { left = 0; cause = Cause.Cut } }
@@ -168,35 +167,6 @@ pub(crate) fn name_at(bytes: &[u8]) -> Result<(Name, &[u8]), Flaw>
         return Err(wrong_text(after));
     }
     Ok((Name::of(text), rest))
-}
-
-// Goes on to the end where a byte is bad, so that it may look at many bytes at once.
-fn fold_no_wildcard(text: &[u8]) -> bool
-    ensures { result ≡ fold (λ good b. good && not (b == 0xC5)) true text.now }
-{
-    text.iter().fold(true, |good, b| good & (*b != 0xC5))
-}
-
-fn has_no_wildcard(text: &[u8]) -> bool
-    ensures { result ≡ list_all (λ b. not (b == 0xC5)) text.now }
-{
-    fold_no_wildcard(text)
-}
-
-fn is_equals(text: &[u8]) -> bool
-    ensures { result ≡ is_only 61 text.now }
-{
-    match text {
-        [b] => *b == b'=',
-        _ => false,
-    }
-}
-
-/// Whether the bytes may be an object or a type that a node has.
-pub(crate) fn is_entity(text: &[u8]) -> bool
-    ensures { result ≡ entity text.now }
-{
-    !is_equals(text) && has_no_wildcard(text)
 }
 
 /// An object or a type that a node may have.

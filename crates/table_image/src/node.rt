@@ -4,7 +4,7 @@ ghost use Rattle.std.specs.Prelude.{◌≡◌, ◌+◌, ◌^◌, ◌<◌, ◌≤
 ghost use Rattle.at_base.specs.Spelling.{bytes_of, IsValue};
 ghost use Rattle.at_base.specs.Reading.{Gives, read};
 ghost use Rattle.table_image.specs.Checking.{Checks};
-ghost use Rattle.table_image.specs.Tests.{is_entity as is_entity_text};
+ghost use Rattle.at_base.specs.Text.{is_entity as is_entity_text};
 ghost use Rattle.table_image.specs.Flaws.{flaws, GoesPast};
 ghost use Rattle.table_image.specs.Spelling.{node_spelling, name_spelling, own_router_spelling};
 ghost use Rattle.table_image.specs.Spelling.{text_spelling};
@@ -13,14 +13,14 @@ ghost use Rattle.table_image.specs.Sizes.{text_size, own_router_size as own_size
 use crate::checking::{CheckItem, Misfit, check_counted};
 use crate::flaw::{Flaw, Stop};
 use crate::input::{
-    address_at, byte_within, entity_at, enumerator_at, hardware_at, index_at, is_entity, name_at,
+    address_at, byte_within, entity_at, enumerator_at, hardware_at, index_at, name_at,
 };
 use crate::item::{FlatItem, Item, ReadItem, WriteItem, counted_of, pass_counted, put_counted};
 use crate::limits::MAX_NAMES;
 use crate::listed::Listed;
 use crate::output::{put_address, put_byte, put_text};
 use crate::sizes::{BYTE_SIZE, OWN_ROUTER_SIZE, PORT_SIZE};
-use at_base::{Addr, Cause, Hw, Name, Text32};
+use at_base::{Addr, Cause, Hw, Name, Text32, is_entity};
 use std::alloc::{AllocError, Global};
 
 /// A name that a node has registered for one of its sockets. Its zone is the node's.

@@ -1,5 +1,5 @@
 use Rattle.std.proofs.Common.{arith, ap, length, ◌+◌, List, ℕ, ◌≡◌, ◌∙◌, sym, true, false}
-use Rattle.table_image.specs.Tests.{is_entity}
+use Rattle.at_base.specs.Text.{is_entity}
 use Rattle.table_image.proofs.Checked.{entity_passes, entity_empty, entity_wrong}
 use Rattle.table_image.proofs.node.check_entity.Goals as goal
 
