@@ -4,6 +4,7 @@ use Rattle.std.specs.Prelude.{IsTrue, ◌↔◌, fold}
 use Rattle.std.specs.List.{list_all}
 use Rattle.std.proofs.lemmas.Bool.{and_parts}
 use Rattle.std.specs.Char.{to_ascii_lowercase}
+use Rattle.std.specs.Cmp.{IsEquivalence, IsPartialEquivalence, partial_equiv_from_equiv}
 use Rattle.at_base.specs.Text.{same_bytes, same_name, SameName}
 
 pub same_bytes_is : (a b : List ℕ) → same_bytes a b ≡ true → a ≡ b
@@ -47,3 +48,20 @@ and_true false = refl
 pub fold_and : (p : ℕ → Bool) (good : Bool) (bytes : List ℕ) → fold (λ g b. g && p b) good bytes ≡ (good && list_all p bytes)
 fold_and p good [] = and_true good
 fold_and p good (b ∷ bytes) = fold_and p (good && p b) bytes ∙ and_assoc good (p b) (list_all p bytes)
+
+
+-- ---- Names that are the same but for case are one key
+
+pub same_name_symm : (x y : List ℕ) → same_name x y ≡ same_name y x
+same_name_symm x y = test_is (same_name x y) y x (λ t. sym (same_name_is x y t), λ e. is_same_name x y (sym e))
+
+pub same_name_congr : (x y z : List ℕ) → same_name x y ≡ true → same_name x z ≡ same_name y z
+same_name_congr x y z same =
+    let one = same_name_is x y same in
+    test_is (same_name x z) y z (λ t. sym one ∙ same_name_is x z t, λ e. is_same_name x z (one ∙ e))
+
+pub names_alike : IsEquivalence same_name
+names_alike = record { refl = λ x. is_same_name x x refl; symm = same_name_symm; congr = same_name_congr }
+
+pub names_alike_in_part : IsPartialEquivalence same_name
+names_alike_in_part = partial_equiv_from_equiv names_alike

@@ -1,0 +1,6 @@
+use Rattle.std.proofs.Common.{◌≡◌, take, fold}
+use Rattle.zip_zones.specs.Zones.{with_name}
+use Rattle.zip_zones.proofs.table.insert_all.Given as goal
+
+abbrev pub invariant-loop-zone : goal.invariant-loop-zone
+invariant-loop-zone l = l.zones.keys ≡ fold with_name l.fn.zones.keys (take l.zone-index l.others)

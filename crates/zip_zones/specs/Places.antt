@@ -1,0 +1,23 @@
+-- Where the list of a range stands in a zone table. (own)
+use Rattle.std.specs.Prelude.{◌≡◌, ℕ, suc, ◌<◌, ◌≤◌, List, [], ◌∷◌, length, Option, Some, None, slice_get, slice_set, insert, nat_lt, if◌then◌else◌}
+use Rattle.at_base.specs.Range.{Span}
+use Rattle.zip_zones.specs.Zones.{Known, known_for, with_known}
+
+-- how many lists there are before the first one that doesn't start below a network
+abbrev pub before : ℕ → List Known → ℕ
+before start [] = 0
+before start (k ∷ table) = if nat_lt k.range.start start then suc (before start table) else 0
+
+-- The list of the range stands at an index: another one of the range takes its place.
+pub record IsAt (range : Span) (table : List Known) (i : ℕ) : Type 0 where
+  pub within : i < length table
+  pub known : Known
+  pub is : slice_get table i ≡ Some known
+  pub found : known_for range table ≡ Some known
+  pub put : (k : Known) → k.range ≡ range → with_known k table ≡ slice_set table i k
+
+-- The range has no list; one of it is put before an index.
+pub record IsBefore (range : Span) (table : List Known) (i : ℕ) : Type 0 where
+  pub within : i ≤ length table
+  pub none : known_for range table ≡ None
+  pub put : (k : Known) → k.range ≡ range → with_known k table ≡ insert table i k

@@ -1,0 +1,127 @@
+//! What is known of the zones of one range.
+
+ghost use Rattle.std.specs.Prelude.{◌≡◌, ◌<◌, ◌≤◌, [], length, true, IfOk, OnErr, OnOk};
+ghost use Rattle.std.specs.Prelude.{IsOkUnless};
+ghost use Rattle.zip_zones.specs.Zones.{each_once, has_zone as with_this, is_complete as complete};
+ghost use Rattle.zip_zones.specs.Zones.{set_list, with_zone};
+
+use crate::zone::Zone;
+use at_base::{Error, Name, Range};
+use indexmap::IndexSet;
+use std::alloc::Global;
+use std::marker::Model;
+
+/// What is known of the zones of a range: how many there are, and the names that came.
+#[derive(Drop)]
+pub(crate) struct KnownZones {
+    range: Range,
+    total: u8,
+    zones: IndexSet<Zone>,
+}
+
+impl Model for KnownZones {
+    ghost use Rattle.zip_zones.specs.Zones.{Known};
+
+    ghost Value = { Known };
+
+    ghost view = { λ k. record { range = k.range; total = k.total; names = k.zones.keys } };
+}
+
+/// The names, each once. Error: `Memory`.
+fn zones_of(alloc: Global, names: &[Name]) -> Result<IndexSet<Zone>, Error>
+    ensures ok { IfOk result (λ zones. zones.keys ≡ each_once names.now) }
+    ensures err { IsOkUnless result Error.Memory }
+{
+    let mut zones = IndexSet::new(alloc);
+    for name in names {
+        zones.insert(Zone::new(name))?;
+    }
+    Ok(zones)
+}
+
+impl KnownZones {
+    /// A list of so many zones, of which none has come.
+    pub(crate) fn new(alloc: Global, range: Range, total: u8) -> KnownZones
+        ensures { result ≡ record { range = range; total = total; names = [] } }
+    {
+        KnownZones {
+            range,
+            total,
+            zones: IndexSet::new(alloc),
+        }
+    }
+
+    /// The complete list of these names. Error: `Memory`.
+    pub(crate) fn of(alloc: Global, range: Range, names: &[Name]) -> Result<KnownZones, Error>
+        requires { length names.now ≤ 64 }
+        ensures ok { IfOk result (λ known. known ≡ set_list range names.now) }
+        ensures err { IsOkUnless result Error.Memory }
+    {
+        let zones = zones_of(alloc, names)?;
+        Ok(KnownZones {
+            range,
+            total: zones.len() as u8,
+            zones,
+        })
+    }
+
+    /// A copy, equal to it. Error: `Memory`.
+    pub(crate) fn copy(&self) -> Result<KnownZones, Error>
+        ensures ok { IfOk result (λ known. known ≡ self.now) }
+        ensures err { IsOkUnless result Error.Memory }
+    {
+        Ok(KnownZones {
+            range: self.range,
+            total: self.total,
+            zones: self.zones.clone()?,
+        })
+    }
+
+    /// Takes a name, unless the list is complete or has it. Error: `Memory`, which changes nothing.
+    pub(crate) fn take(&mut self, name: &Name) -> Result<(), Error>
+        ensures ok { OnOk result (self.new ≡ with_zone name.now self.old) }
+        ensures err { IsOkUnless result Error.Memory }
+        ensures kept { OnErr result (self.new ≡ self.old) }
+    {
+        if self.is_complete() {
+            return Ok(());
+        }
+        self.zones.insert(Zone::new(name))?;
+        Ok(())
+    }
+
+    /// The networks that have these zones.
+    pub(crate) fn range(&self) -> Range
+        ensures { result ≡ self.now.range }
+    {
+        self.range
+    }
+
+    /// How many zones there are.
+    pub(crate) fn total(&self) -> u8
+        ensures { result ≡ self.now.total }
+    {
+        self.total
+    }
+
+    /// The names that came.
+    pub(crate) fn zones(&self) -> &[Zone]
+        ensures { result.now ≡ self.now.names }
+    {
+        self.zones.as_slice()
+    }
+
+    /// Whether all names have come.
+    pub(crate) fn is_complete(&self) -> bool
+        ensures { result ≡ complete self.now }
+    {
+        self.zones.len() == self.total as usize
+    }
+
+    /// Whether the zone is one of those that came.
+    pub(crate) fn has(&self, zone: &Name) -> bool
+        ensures { result ≡ with_this zone.now self.now }
+    {
+        self.zones.contains(&Zone::new(zone))
+    }
+}

@@ -1,0 +1,385 @@
+//! What a router knows of the zones of an internet.
+
+ghost use Rattle.std.specs.Prelude.{◌≡◌, ◌⊎◌, ◌↔◌, ◌<◌, ◌≤◌, [], false, fold, length, option_map};
+ghost use Rattle.std.specs.Prelude.{slice_get, true, vec_capacity, vec_len, IfErr, IfNone, IfSome, None, Some};
+ghost use Rattle.std.specs.Prelude.{IfOk, IsOkUnless, OnErr, OnOk};
+ghost use Rattle.std.specs.Option.{option_copied};
+ghost use Rattle.zip_zones.specs.Zones.{IsZoneMap, all_zones, complete_at, heard, is_full_for};
+ghost use Rattle.zip_zones.specs.Zones.{lists_at, names_at, overlaps_another, ranges_of, set_list};
+ghost use Rattle.zip_zones.specs.Zones.{are_above, known_for, known_of, with_known, with_name};
+ghost use Rattle.zip_zones.specs.Zones.{list_of as list_before, with_zone, without};
+ghost use Rattle.zip_zones.specs.Places.{IsAt, IsBefore, before};
+ghost use Rattle.at_base.specs.Range.{IsRange};
+
+use crate::known::KnownZones;
+use crate::zone::Zone;
+use at_base::{Error, Name, Range};
+use indexmap::IndexSet;
+use std::alloc::Global;
+use std::marker::Model;
+
+/// The most lists of a zone table.
+pub const MAX_LISTS: usize = 200;
+
+/// The most zones of a range.
+pub const MAX_ZONES: usize = 64;
+
+/// What a router knows of the zones of each range: a finite map from disjoint ranges to lists of
+/// zones.
+///
+/// Inside AppleTalk, the chapter on ZIP.
+#[derive(Drop)]
+pub struct ZoneTable {
+    lists: Vec<KnownZones>,
+}
+
+impl Model for ZoneTable {
+    ghost use Rattle.std.specs.Prelude.{List};
+    ghost use Rattle.zip_zones.specs.Zones.{IsZoneMap, Known};
+
+    ghost Value = { List Known };
+
+    ghost view = { λ t. t.lists.items };
+
+    ghost invariant = { λ t. IsZoneMap t.lists.items };
+}
+
+/// The list of a range.
+fn list_for(lists: &[KnownZones], range: Range) -> Option<&KnownZones>
+    ensures { option_copied result ≡ known_for range lists.now }
+{
+    lists.iter().find(|known| known.range() == range)
+}
+
+/// The list whose range holds the network.
+fn list_of(lists: &[KnownZones], net: u16) -> Option<&KnownZones>
+    ensures { option_copied result ≡ known_of net lists.now }
+{
+    lists.iter().find(|known| known.range().holds(net))
+}
+
+/// Whether another range has a network in common with this one.
+fn overlaps_other(lists: &[KnownZones], range: Range) -> bool
+    ensures { result ≡ overlaps_another range lists.now }
+{
+    lists
+        .iter()
+        .any(|known| known.range().overlaps(&range) && known.range() != range)
+}
+
+/// Takes out the list of a range.
+fn take_out(lists: &mut Vec<KnownZones>, range: Range)
+    ensures kept { lists.new.items ≡ without range lists.old.items }
+    ensures room { vec_capacity lists.new ≡ vec_capacity lists.old }
+    ensures fewer { vec_len lists.new ≤ vec_len lists.old }
+{
+    lists.retain(|known| known.range() != range);
+}
+
+/// A copy of each list. Error: `Memory`.
+fn copy_all(alloc: Global, lists: &[KnownZones]) -> Result<Vec<KnownZones>, Error>
+    ensures ok { IfOk result (λ copies. copies.items ≡ lists.now) }
+    ensures err { IsOkUnless result Error.Memory }
+{
+    let mut copies = Vec::with_capacity(alloc, lists.len())?;
+    for known in lists {
+        copies.push(known.copy()?)?;
+    }
+    Ok(copies)
+}
+
+/// The names of zones. Error: `Memory`.
+fn names_from(alloc: Global, zones: &[Zone]) -> Result<Vec<Name>, Error>
+    ensures ok { IfOk result (λ names. names.items ≡ zones.now) }
+    ensures err { IsOkUnless result Error.Memory }
+{
+    let mut names = Vec::with_capacity(alloc, zones.len())?;
+    for zone in zones {
+        names.push(*zone.name())?;
+    }
+    Ok(names)
+}
+
+/// Adds each zone that isn't there. Error: `Memory`.
+fn insert_all(zones: &mut IndexSet<Zone>, others: &[Zone]) -> Result<(), Error>
+    ensures ok { OnOk result (zones.new.keys ≡ fold with_name zones.old.keys others.now) }
+    ensures err { IsOkUnless result Error.Memory }
+{
+    for zone in others {
+        zones.insert(*zone)?;
+    }
+    Ok(())
+}
+
+/// Does nothing: it tells the prover that a range is valid, which only a call can.
+fn recall_valid(range: Range)
+    ensures { IsRange range.start range.end }
+{
+    let _start = range.start();
+}
+
+/// The index of the list of a range; or the index before which one of it is put.
+fn place_of(lists: &[KnownZones], range: Range) -> Result<usize, usize>
+    requires { IsZoneMap lists.now }
+    ensures found { IfOk result (IsAt range lists.now) }
+    ensures missing { IfErr result (IsBefore range lists.now) }
+{
+    let place = place_for(lists, range.start());
+    if place < lists.len() && lists[place].range() == range {
+        Ok(place)
+    } else {
+        Err(place)
+    }
+}
+
+/// The number of lists that start below the network.
+fn place_for(lists: &[KnownZones], start: u16) -> usize
+    ensures place { result ≡ before start lists.now }
+    ensures inside { result ≤ length lists.now }
+{
+    let mut index = 0;
+    for known in lists {
+        if known.range().start() >= start {
+            return index;
+        }
+        index += 1;
+    }
+    index
+}
+
+/// Whether there is room for a list of a range, of so many zones. Errors: `BadRange` where another
+/// range overlaps it, `Full`.
+fn check_room(lists: &[KnownZones], range: Range, zones: usize) -> Result<(), Error>
+    ensures ok { OnOk result ((overlaps_another range lists.now ≡ false) × (zones ≤ 64)
+        × (is_full_for range lists.now ≡ false)) }
+    ensures range { (result ≡ Err Error.BadRange) ↔ (overlaps_another range lists.now ≡ true) }
+    ensures full { (result ≡ Err Error.Full) ↔ ((overlaps_another range lists.now ≡ false)
+        × ((64 < zones) ⊎ (is_full_for range lists.now ≡ true))) }
+    ensures refused { IfErr result (λ e. (e ≡ Error.BadRange) ⊎ (e ≡ Error.Full)) }
+{
+    if overlaps_other(lists, range) {
+        return Err(Error::BadRange);
+    }
+    if zones > MAX_ZONES {
+        return Err(Error::Full);
+    }
+    if list_for(lists, range).is_none() && lists.len() >= MAX_LISTS {
+        return Err(Error::Full);
+    }
+    Ok(())
+}
+
+/// Puts a list in its place, where there is room for it.
+fn put(lists: &mut Vec<KnownZones>, known: KnownZones)
+    requires map { IsZoneMap lists.old.items }
+    requires room { vec_len lists.old < vec_capacity lists.old }
+    ensures { lists.new.items ≡ with_known known lists.old.items }
+{
+    match place_of(lists.as_slice(), known.range()) {
+        Ok(place) => lists[place] = known,
+        Err(place) => lists.insert(place, known).unwrap(),
+    }
+}
+
+/// The index of the list of a range that has so many zones.
+fn place_to_go_on(lists: &[KnownZones], range: Range, total: u8) -> Option<usize>
+    requires { IsZoneMap lists.now }
+    ensures some { IfSome result (λ place. (at : IsAt range lists.now place)
+        × (list_before range total (Some at.known) ≡ at.known)) }
+    ensures none { IfNone result (list_before range total (known_for range lists.now)
+        ≡ record { range = range; total = total; names = [] }) }
+{
+    match place_of(lists, range) {
+        Ok(place) if lists[place].total() == total => Some(place),
+        _ => None,
+    }
+}
+
+/// Begins a list with a name, where there is no list of so many zones.
+fn begin(
+    lists: &mut Vec<KnownZones>,
+    range: Range,
+    total: u8,
+    name: &Name,
+) -> Result<(), Error>
+    requires { IsZoneMap lists.old.items }
+    ensures ok { OnOk result (lists.new.items ≡ with_known
+        (with_zone name.now (record { range = range; total = total; names = [] }))
+        lists.old.items) }
+    ensures err { IsOkUnless result Error.Memory }
+    ensures kept { OnErr result (lists.new.items ≡ lists.old.items) }
+{
+    let mut known = KnownZones::new(*lists.allocator(), range, total);
+    known.take(name)?;
+    // Room is made first: a refusal then leaves the lists as they are.
+    lists.reserve(1)?;
+    put(lists, known);
+    Ok(())
+}
+
+/// Takes a name of a range that has so many zones. Error: `Memory`, which changes nothing.
+fn hear(
+    lists: &mut Vec<KnownZones>,
+    range: Range,
+    total: u8,
+    name: &Name,
+) -> Result<(), Error>
+    requires { IsZoneMap lists.old.items }
+    ensures ok { OnOk result
+        (lists.new.items ≡ heard range total name.now lists.old.items) }
+    ensures err { IsOkUnless result Error.Memory }
+    ensures kept { OnErr result (lists.new.items ≡ lists.old.items) }
+{
+    match place_to_go_on(lists.as_slice(), range, total) {
+        Some(place) => lists[place].take(name),
+        None => begin(lists, range, total, name),
+    }
+}
+
+impl ZoneTable {
+    /// A table without lists. Error: `Memory`, which an empty table never needs.
+    pub fn new(alloc: Global) -> Result<ZoneTable, Error>
+        ensures ok { IfOk result (λ table. table ≡ []) }
+        ensures refused { IsOkUnless result Error.Memory }
+    {
+        Ok(ZoneTable {
+            lists: Vec::new(alloc),
+        })
+    }
+
+    /// A copy, equal to it. Error: `Memory`.
+    pub fn copy(&self) -> Result<ZoneTable, Error>
+        ensures ok { IfOk result (λ table. table ≡ self.now) }
+        ensures refused { IsOkUnless result Error.Memory }
+    {
+        let lists = copy_all(*self.lists.allocator(), self.lists.as_slice())?;
+        Ok(ZoneTable { lists })
+    }
+
+    /// Takes the names, each once without case, as the complete list of a range.
+    ///
+    /// Errors: `BadRange` where another range overlaps it; `Full` above 64 names, doubles counted
+    /// too, and where there are 200 lists of other ranges; `Memory`. A refusal changes nothing.
+    pub fn set(&mut self, range: Range, names: &[Name]) -> Result<(), Error>
+        ensures ok { OnOk result (self.new ≡ with_known (set_list range names.now) self.old) }
+        ensures range { (result ≡ Err Error.BadRange) ↔ (overlaps_another range self.old ≡ true) }
+        ensures full { (result ≡ Err Error.Full) ↔ ((overlaps_another range self.old ≡ false)
+            × ((64 < length names.now) ⊎ (is_full_for range self.old ≡ true))) }
+        ensures refused { IfErr result
+            (λ e. (e ≡ Error.BadRange) ⊎ (e ≡ Error.Full) ⊎ (e ≡ Error.Memory)) }
+        ensures kept { OnErr result (self.new ≡ self.old) }
+    {
+        check_room(self.lists.as_slice(), range, names.len())?;
+        recall_valid(range);
+        let known = KnownZones::of(*self.lists.allocator(), range, names)?;
+        // Room is made first: a refusal then leaves the lists as they are.
+        self.lists.reserve(1)?;
+        put(&mut self.lists, known);
+        Ok(())
+    }
+
+    /// Takes a name of a range that has so many zones. Another number than before starts its list
+    /// again; a list that is complete, or has the name in any case, stays.
+    ///
+    /// Errors: `BadRange` where another range overlaps it; `Full` above 64 zones, and where there
+    /// are 200 lists of other ranges; `Memory`. A refusal changes nothing.
+    pub fn add(&mut self, range: Range, total: u8, name: &Name) -> Result<(), Error>
+        ensures ok { OnOk result (self.new ≡ heard range total name.now self.old) }
+        ensures range { (result ≡ Err Error.BadRange) ↔ (overlaps_another range self.old ≡ true) }
+        ensures full { (result ≡ Err Error.Full) ↔ ((overlaps_another range self.old ≡ false)
+            × ((64 < total) ⊎ (is_full_for range self.old ≡ true))) }
+        ensures refused { IfErr result
+            (λ e. (e ≡ Error.BadRange) ⊎ (e ≡ Error.Full) ⊎ (e ≡ Error.Memory)) }
+        ensures kept { OnErr result (self.new ≡ self.old) }
+    {
+        check_room(self.lists.as_slice(), range, total as usize)?;
+        recall_valid(range);
+        hear(&mut self.lists, range, total, name)?;
+        Ok(())
+    }
+
+    /// Forgets the list of a range. Allocates nothing.
+    pub fn remove(&mut self, range: Range)
+        ensures { self.new ≡ without range self.old }
+    {
+        take_out(&mut self.lists, range);
+    }
+
+    /// Whether the network's list is complete. Allocates nothing.
+    pub fn complete(&self, net: u16) -> bool
+        ensures { result ≡ complete_at net self.now }
+    {
+        match list_of(self.lists.as_slice(), net) {
+            Some(known) => known.is_complete(),
+            None => false,
+        }
+    }
+
+    /// Whether the network's list has the zone, complete or not. Allocates nothing.
+    pub fn lists(&self, net: u16, zone: &Name) -> bool
+        ensures { result ≡ lists_at net zone.now self.now }
+    {
+        match list_of(self.lists.as_slice(), net) {
+            Some(known) => known.has(zone),
+            None => false,
+        }
+    }
+
+    /// The number of lists, at most `MAX_LISTS`. Allocates nothing.
+    pub fn len(&self) -> usize
+        ensures value { result ≡ length self.now }
+        ensures map { IsZoneMap self.now }
+    {
+        self.lists.len()
+    }
+
+    /// The range at an index, by rising range. Allocates nothing.
+    pub fn range_at(&self, index: usize) -> Option<Range>
+        ensures { result ≡ option_map (λ k. k.range) (slice_get self.now index) }
+    {
+        self.lists.get(index).map(|known| known.range())
+    }
+
+    /// The ranges whose lists have the zone, rising. Error: `Memory`.
+    pub fn cables_of(&self, zone: &Name) -> Result<Vec<Range>, Error>
+        ensures ok { IfOk result (λ ranges. ranges.items ≡ ranges_of zone.now self.now) }
+        ensures refused { IsOkUnless result Error.Memory }
+    {
+        let mut ranges = Vec::new(*self.lists.allocator());
+        for known in self.lists.as_slice() {
+            if known.has(zone) {
+                ranges.push(known.range())?;
+            }
+        }
+        Ok(ranges)
+    }
+
+    /// The names of the network's list as it stands, complete or not, and none where it has none.
+    /// Error: `Memory`.
+    pub fn names_of(&self, net: u16) -> Result<Vec<Name>, Error>
+        ensures ok { IfOk result (λ names. names.items ≡ names_at net self.now) }
+        ensures refused { IsOkUnless result Error.Memory }
+    {
+        let alloc = *self.lists.allocator();
+        match list_of(self.lists.as_slice(), net) {
+            Some(known) => names_from(alloc, known.zones()),
+            None => Ok(Vec::new(alloc)),
+        }
+    }
+
+    /// The zones of all complete lists by rising range, each once without case, as it was spelled
+    /// first. Error: `Memory`.
+    pub fn all(&self) -> Result<Vec<Name>, Error>
+        ensures ok { IfOk result (λ names. names.items ≡ all_zones self.now) }
+        ensures refused { IsOkUnless result Error.Memory }
+    {
+        let alloc = *self.lists.allocator();
+        let mut zones = IndexSet::new(alloc);
+        for known in self.lists.as_slice() {
+            if known.is_complete() {
+                insert_all(&mut zones, known.zones())?;
+            }
+        }
+        names_from(alloc, zones.as_slice())
+    }
+}
