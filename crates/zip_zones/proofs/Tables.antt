@@ -1,7 +1,7 @@
 -- Zone tables as lists by rising range: where a range stands, and what each change keeps.
-use Rattle.std.proofs.Common.{◌≡◌, ℕ, zero, suc, ◌+◌, ◌<◌, ◌≤◌, Bool, true, false, not, ◌&&◌, ◌==◌, List, [], ◌∷◌, ◌++◌, length, filter, set, insert, refl, sym, ap, ◌∙◌, arith, nat_lt, nat_le}
-use Rattle.std.specs.Prelude.{Option, Some, None, find, is_some, slice_get, slice_set, if◌then◌else◌}
-use Rattle.std.specs.List.{list_all, list_any}
+use Rattle.std.proofs.Common.{◌≡◌, ℕ, suc, ◌+◌, ◌<◌, ◌≤◌, Bool, true, false, not, ◌&&◌, ◌==◌, List, [], ◌∷◌, length, filter, set, insert, refl, sym, ap, ◌∙◌, arith, nat_lt, nat_le}
+use Rattle.std.specs.Prelude.{Option, Some, None, is_some, slice_get, slice_set, if◌then◌else◌}
+use Rattle.std.specs.List.{list_all}
 use Rattle.std.proofs.lemmas.Bool.Decides.{nat_tests}
 use Rattle.std.proofs.lemmas.Bool.{and_parts, or_parts, ltb-true, ltb-false, lt-ltb, eqb-true}
 use Rattle.at_base.specs.Range.{Span, overlaps, same_range, is_range}
@@ -281,6 +281,7 @@ length_over known low (k ∷ table) each h some =
   where
     not_same_head : nat_lt k.range.start known.range.start ≡ true → known_for known.range (k ∷ table) ≡ known_for known.range table
     not_same_head t = rw (not_same k.range known.range (ltb-true _ _ t)) refl
+
     clash : {b : Bool} → b ≡ false → b ≡ true → ⊥
     clash n y = cc
 
@@ -295,6 +296,7 @@ with_map known table new none room h = record {
   where
     full_there : is_some (known_for known.range table) ≡ false → is_full_for known.range table ≡ nat_le 200 (length table)
     full_there e = rw e refl
+
     few : (b : Bool) → is_some (known_for known.range table) ≡ b → length (with_known known table) ≤ 200
     few true e = let l = length_over known 0 table h.each h.apart e in let f = h.few in omega arith
     few false e =
@@ -370,6 +372,7 @@ list_known range total table valid few each = by_list (known_for range table) re
   where
     fresh : Known
     fresh = record { range = range; total = total; names = [] }
+
     by_list : (o : Option Known) → known_for range table ≡ o → (is_known (list_of range total o) ≡ true) × ((list_of range total o).range ≡ range)
     by_list None e = (fresh_known range total valid few, refl)
     by_list (Some x) e =

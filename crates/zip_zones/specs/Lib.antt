@@ -1,2 +1,3 @@
 pub mod Zones
 pub mod Places
+pub mod Pages

@@ -1,5 +1,5 @@
 -- Where the list of a range stands in a zone table. (own)
-use Rattle.std.specs.Prelude.{◌≡◌, ℕ, suc, ◌<◌, ◌≤◌, List, [], ◌∷◌, length, Option, Some, None, slice_get, slice_set, insert, nat_lt, if◌then◌else◌}
+use Rattle.std.specs.Prelude.{◌≡◌, ℕ, suc, ◌<◌, ◌≤◌, List, [], ◌∷◌, length, Some, None, slice_get, slice_set, insert, nat_lt, if◌then◌else◌}
 use Rattle.at_base.specs.Range.{Span}
 use Rattle.zip_zones.specs.Zones.{Known, known_for, with_known}
 

@@ -1,8 +1,11 @@
 //! Zone lists: what a router knows of the zones of each range, and the packets that say it.
 #![tactic(auto)]
 
+mod due;
 mod known;
+mod page;
 mod table;
 mod zone;
 
+pub use page::{MAX_PAGE, Page, zone_list_page};
 pub use table::{MAX_LISTS, MAX_ZONES, ZoneTable};

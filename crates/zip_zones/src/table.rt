@@ -7,7 +7,7 @@ ghost use Rattle.std.specs.Option.{option_copied};
 ghost use Rattle.zip_zones.specs.Zones.{IsZoneMap, all_zones, complete_at, heard, is_full_for};
 ghost use Rattle.zip_zones.specs.Zones.{lists_at, names_at, overlaps_another, ranges_of, set_list};
 ghost use Rattle.zip_zones.specs.Zones.{are_above, known_for, known_of, with_known, with_name};
-ghost use Rattle.zip_zones.specs.Zones.{list_of as list_before, with_zone, without};
+ghost use Rattle.zip_zones.specs.Zones.{is_answered as answered, list_of as list_before, with_zone, without};
 ghost use Rattle.zip_zones.specs.Places.{IsAt, IsBefore, before};
 ghost use Rattle.at_base.specs.Range.{IsRange};
 
@@ -62,9 +62,7 @@ fn list_of(lists: &[KnownZones], net: u16) -> Option<&KnownZones>
 fn overlaps_other(lists: &[KnownZones], range: Range) -> bool
     ensures { result ≡ overlaps_another range lists.now }
 {
-    lists
-        .iter()
-        .any(|known| known.range().overlaps(&range) && known.range() != range)
+    lists.iter().any(|known| known.range().overlaps(&range) && known.range() != range)
 }
 
 /// Takes out the list of a range.
@@ -196,12 +194,7 @@ fn place_to_go_on(lists: &[KnownZones], range: Range, total: u8) -> Option<usize
 }
 
 /// Begins a list with a name, where there is no list of so many zones.
-fn begin(
-    lists: &mut Vec<KnownZones>,
-    range: Range,
-    total: u8,
-    name: &Name,
-) -> Result<(), Error>
+fn begin(lists: &mut Vec<KnownZones>, range: Range, total: u8, name: &Name) -> Result<(), Error>
     requires { IsZoneMap lists.old.items }
     ensures ok { OnOk result (lists.new.items ≡ with_known
         (with_zone name.now (record { range = range; total = total; names = [] }))
@@ -218,12 +211,7 @@ fn begin(
 }
 
 /// Takes a name of a range that has so many zones. Error: `Memory`, which changes nothing.
-fn hear(
-    lists: &mut Vec<KnownZones>,
-    range: Range,
-    total: u8,
-    name: &Name,
-) -> Result<(), Error>
+fn hear(lists: &mut Vec<KnownZones>, range: Range, total: u8, name: &Name) -> Result<(), Error>
     requires { IsZoneMap lists.old.items }
     ensures ok { OnOk result
         (lists.new.items ≡ heard range total name.now lists.old.items) }
@@ -323,6 +311,21 @@ impl ZoneTable {
             Some(known) => known.has(zone),
             None => false,
         }
+    }
+
+    /// Whether the range has a complete list.
+    pub(crate) fn is_answered(&self, range: Range) -> bool
+        ensures { result ≡ answered self.now range }
+    {
+        match list_for(self.lists.as_slice(), range) {
+            Some(known) => known.is_complete(),
+            None => false,
+        }
+    }
+
+    /// What its lists are allocated by.
+    pub(crate) fn allocator(&self) -> Global {
+        *self.lists.allocator()
     }
 
     /// The number of lists, at most `MAX_LISTS`. Allocates nothing.

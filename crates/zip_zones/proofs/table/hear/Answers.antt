@@ -1,6 +1,6 @@
-use Rattle.std.proofs.Common.{◌≡◌, ℕ, Some, List, Result, Ok, Err, slice_get, slice_set, OnOk, ap, sym, ◌∙◌, refl, arith}
+use Rattle.std.proofs.Common.{◌≡◌, Some, Result, Ok, Err, slice_get, OnOk, refl}
 use Rattle.std.proofs.lemmas.Option.{slice_get_read}
-use Rattle.zip_zones.specs.Zones.{list_of, with_zone}
+use Rattle.zip_zones.specs.Zones.{list_of}
 use Rattle.zip_zones.specs.Places.{IsAt}
 use Rattle.zip_zones.proofs.Tables.{heard_over}
 use Rattle.zip_zones.proofs.table.hear.Goals as goal
@@ -13,7 +13,7 @@ pub returns-in-Some-clause-ok : goal.returns-in-Some-clause-ok
 returns-in-Some-clause-ok c =
     let items : c.as_slice.result.now ≡ c.args.lists.now.items = c.as_slice.ensures.value in
     let both : (at : IsAt c.args.range c.args.lists.now.items c.in-Some.place) × (list_of c.args.range c.args.total (Some at.known) ≡ at.known) =
-        rw (← items) c.in-Some.ensures.some in
+    rw (← items) c.in-Some.ensures.some in
     let at = both.0 in
     let there : slice_get c.args.lists.now.items c.in-Some.place ≡ Some c.index_mut.result.now = slice_get_read c.args.lists.now.items _ _ _ refl at.within c.index_mut.ensures.value in
     let known : slice_get c.args.lists.now.items c.in-Some.place ≡ Some at.known = at.is in

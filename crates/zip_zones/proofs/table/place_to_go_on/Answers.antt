@@ -1,6 +1,6 @@
-use Rattle.std.proofs.Common.{◌≡◌, ℕ, ◌==◌, true, false, Some, slice_get, ap, sym, ◌∙◌, refl, eq-eqb, eqb-true, arith}
+use Rattle.std.proofs.Common.{◌≡◌, ℕ, ◌==◌, true, false, Some, slice_get, ap, sym, ◌∙◌, refl, eq-eqb, eqb-true}
 use Rattle.std.proofs.lemmas.Option.{slice_get_read}
-use Rattle.zip_zones.specs.Zones.{Known, list_of}
+use Rattle.zip_zones.specs.Zones.{Known}
 use Rattle.zip_zones.proofs.table.place_to_go_on.Goals as goal
 
 pub returns-in-Ok-clause-some : goal.returns-in-Ok-clause-some

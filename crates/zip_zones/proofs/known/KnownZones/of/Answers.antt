@@ -1,4 +1,4 @@
-use Rattle.std.proofs.Common.{◌≡◌, ℕ, List, length, ap, ◌∙◌, arith}
+use Rattle.std.proofs.Common.{ℕ, List, length, ap, ◌∙◌, arith}
 use Rattle.zip_zones.proofs.Names.{not_more}
 use Rattle.zip_zones.proofs.known.KnownZones.of.Goals as goal
 

@@ -1,4 +1,4 @@
-use Rattle.std.proofs.Common.{◌≡◌, sym, ap}
+use Rattle.std.proofs.Common.{◌≡◌}
 use Rattle.zip_zones.proofs.Tables.{heard_map}
 use Rattle.zip_zones.proofs.table.ZoneTable.add.Goals as goal
 

@@ -1,4 +1,3 @@
-use Rattle.std.proofs.Common.{◌≡◌, sym, ap}
 use Rattle.zip_zones.proofs.Tables.{without_map}
 use Rattle.zip_zones.proofs.table.ZoneTable.remove.Goals as goal
 

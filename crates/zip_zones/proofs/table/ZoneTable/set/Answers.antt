@@ -1,4 +1,4 @@
-use Rattle.std.proofs.Common.{◌≡◌, sym, ap}
+use Rattle.std.proofs.Common.{◌≡◌}
 use Rattle.zip_zones.specs.Zones.{set_list}
 use Rattle.zip_zones.proofs.Tables.{with_map, set_known}
 use Rattle.zip_zones.proofs.table.ZoneTable.set.Goals as goal

@@ -1,0 +1,46 @@
+//! For which networks a router asks.
+
+ghost use Rattle.std.specs.Prelude.{◌≡◌, ◌&&◌, ◌++◌, ◌∷◌, [], not, IfOk, IsOkUnless, OnOk};
+ghost use Rattle.rtmp.specs.States.{is_usable};
+ghost use Rattle.zip_zones.specs.Zones.{due, is_answered};
+
+use crate::table::ZoneTable;
+use at_base::Error;
+use rtmp::{RouteTable, Row};
+use std::alloc::Global;
+
+/// Whether the zones of a row's range are asked for.
+fn is_due(zones: &ZoneTable, row: &Row) -> bool
+    ensures { result ≡ (is_usable row.now.state && not (is_answered zones.now row.now.range)) }
+{
+    row.state.is_usable() && !zones.is_answered(row.range)
+}
+
+/// Appends the first network of the row, where its zones are asked for. Error: `Memory`.
+fn put_due(starts: &mut Vec<u16>, zones: &ZoneTable, row: &Row) -> Result<(), Error>
+    ensures put { OnOk result
+        (starts.new.items ≡ starts.old.items ++ due (row.now ∷ []) zones.now) }
+    ensures err { IsOkUnless result Error.Memory }
+{
+    if is_due(zones, row) {
+        starts.push(row.range.start())?;
+    }
+    Ok(())
+}
+
+impl ZoneTable {
+    /// The first networks of the usable rows whose ranges have no complete list, rising. Error:
+    /// `Memory`.
+    pub fn queries_due<T: RouteTable>(&self, routes: &T) -> Result<Vec<u16>, Error>
+        ensures ok { IfOk result (λ starts. starts.items ≡ due (T.rows routes.now) self.now) }
+        ensures refused { IsOkUnless result Error.Memory }
+    {
+        let mut starts = Vec::new(self.allocator());
+        for index in 0..routes.len() {
+            if let Some(row) = routes.row(index) {
+                put_due(&mut starts, self, &row)?;
+            }
+        }
+        Ok(starts)
+    }
+}

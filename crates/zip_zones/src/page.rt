@@ -1,0 +1,85 @@
+//! The pages of a list of zones.
+
+ghost use Rattle.std.specs.Prelude.{◌≡◌, ◌≤◌, ◌++◌, drop, length, IfOk, IsOkUnless, OnOk};
+ghost use Rattle.zip_zones.specs.Pages.{fitting, from_index, name_bytes, names_bytes, page};
+
+use at_base::{Bytes, Error, Name};
+use std::alloc::Global;
+
+/// The most bytes of names in a page: the data of a response.
+pub const MAX_PAGE: usize = 578;
+
+/// A part of a list of zones, as the data of one response has it.
+///
+/// Inside AppleTalk, the chapter on ZIP.
+#[derive(Debug, Drop)]
+pub struct Page {
+    /// Whether the list has no names after these.
+    pub last: bool,
+    /// The number of names.
+    pub count: u16,
+    /// The names, each after its length.
+    pub bytes: Bytes,
+}
+
+/// Appends a name after its length.
+fn put_name(bytes: &mut Vec<u8>, name: &Name) -> Result<(), Error>
+    ensures put { OnOk result (bytes.new.items ≡ bytes.old.items ++ name_bytes name.now) }
+    ensures err { IsOkUnless result Error.Memory }
+{
+    let text = name.as_slice();
+    bytes.push(text.len() as u8)?;
+    bytes.extend_from_slice(text)?;
+    Ok(())
+}
+
+/// Appends as many names as fit into so many bytes. How many they are.
+fn put_names(bytes: &mut Vec<u8>, room: usize, names: &[Name]) -> Result<usize, Error>
+    ensures count { IfOk result (λ count. count ≡ length (fitting room names.now)) }
+    ensures few { IfOk result (λ count. count ≤ room) }
+    ensures put { OnOk result
+        (bytes.new.items ≡ bytes.old.items ++ names_bytes (fitting room names.now)) }
+    ensures err { IsOkUnless result Error.Memory }
+{
+    match names {
+        [] => Ok(0),
+        [name, rest @ ..] => {
+            let len = name.as_slice().len() + 1;
+            if room < len {
+                return Ok(0);
+            }
+            put_name(bytes, name)?;
+            let count = put_names(bytes, room - len, rest)?;
+            Ok(count + 1)
+        }
+    }
+}
+
+/// The names from an index on, where 1 is the first one, and so is 0.
+fn names_after(start: u16, names: &[Name]) -> &[Name]
+    ensures { result.now ≡ from_index start names.now }
+{
+    let skipped = start.saturating_sub(1) as usize;
+    if names.len() < skipped {
+        return &[];
+    }
+    &names[skipped..]
+}
+
+/// The page that begins with the name of an index, from 1: as many names as fit into 578 bytes. Index
+/// 0 counts as 1; past the end there are none, and the page is the last.
+///
+/// Inside AppleTalk, the chapter on ZIP. Error: `Memory`.
+pub fn zone_list_page(alloc: Global, start: u16, names: &[Name]) -> Result<Page, Error>
+    ensures ok { IfOk result (λ made. made ≡ page start names.now) }
+    ensures refused { IsOkUnless result Error.Memory }
+{
+    let rest = names_after(start, names);
+    let mut bytes = Vec::new(alloc);
+    let count = put_names(&mut bytes, MAX_PAGE, rest)?;
+    Ok(Page {
+        last: count == rest.len(),
+        count: count as u16,
+        bytes: Bytes::from_vec(bytes),
+    })
+}
