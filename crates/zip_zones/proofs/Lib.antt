@@ -1,3 +1,5 @@
 pub mod Names
 pub mod Tables
 pub mod Asked
+pub mod Shape
+pub mod InPlace

@@ -1,3 +1,4 @@
 pub mod Zones
 pub mod Places
 pub mod Pages
+pub mod Packets

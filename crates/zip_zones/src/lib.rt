@@ -2,10 +2,13 @@
 #![tactic(auto)]
 
 mod due;
+mod entries;
+mod entry;
 mod known;
 mod page;
 mod table;
 mod zone;
 
+pub use entry::Entry;
 pub use page::{MAX_PAGE, Page, zone_list_page};
 pub use table::{MAX_LISTS, MAX_ZONES, ZoneTable};

@@ -1,0 +1,78 @@
+//! Names of zones in replies, each with a network that has it.
+
+ghost use Rattle.std.specs.Prelude.{◌≡◌, ◌∷◌, [], length, IfNone, IfOk, IfSome, OnOk};
+ghost use Rattle.at_base.specs.Grammar.{number, two};
+ghost use Rattle.at_base.specs.Packets.{packets, text};
+ghost use Rattle.at_base.specs.Reading.{Gives, field_at, many_at, read as read_by};
+ghost use Rattle.zip_zones.specs.Packets.{entry as spelled_entry, next_net, wrong_name, wrong_net};
+ghost use Rattle.zip_zones.specs.Packets.{IsEntries, entries_in};
+
+use at_base::packet::{text_at, u16_at};
+use at_base::{Error, Field, Name, is_zone_name};
+use std::marker::Model;
+
+/// A network, and the name of one of its zones.
+///
+/// Inside AppleTalk, the chapter on ZIP.
+#[derive(Clone, Copy, Debug, PartialEq, Eq)]
+pub struct Entry {
+    /// The network, as the packet names it.
+    pub net: u16,
+    /// The name of the zone.
+    pub name: Name,
+}
+
+/// Whether all entries of a reply are of one network.
+#[derive(Clone, Copy, Debug, PartialEq, Eq)]
+pub(crate) enum Nets {
+    /// Of any.
+    Any,
+    /// Of the first one's.
+    One,
+}
+
+/// A network, which is the one before it where all are one.
+fn net_at(low: u32, bytes: &[u8]) -> Result<(u16, &[u8]), Error>
+    ensures { Gives (λ x. (x.0, x.1.now)) result
+        (field_at packets (number two (wrong_net low)) bytes.now) }
+{
+    let (net, rest) = u16_at(bytes)?;
+    if low != 0 && u32::from(net) + 1 != low {
+        return Err(Error::BadField(Field::Network));
+    }
+    Ok((net, rest))
+}
+
+/// The name of a zone, after its length.
+#[tactic(auto, unfolding(at_base::specs::Packets::text))]
+pub(crate) fn name_at(bytes: &[u8]) -> Result<(Name, &[u8]), Error>
+    ensures { Gives (λ x. (x.0, x.1.now)) result (read_by packets (text 1 wrong_name) bytes.now) }
+{
+    let (name, rest) = text_at(bytes, 1)?;
+    if !is_zone_name(name) {
+        return Err(Error::BadName);
+    }
+    Ok((Name::of(name), rest))
+}
+
+/// An entry, after one whose network is one less than `low`, or after none.
+#[tactic(auto, unfolding(crate::specs::Packets::entry))]
+pub(crate) fn entry_at(low: u32, bytes: &[u8]) -> Result<(Entry, &[u8]), Error>
+    ensures { Gives (λ x. (x.0, x.1.now)) result (read_by packets (spelled_entry low) bytes.now) }
+{
+    let (net, rest) = net_at(low, bytes)?;
+    match name_at(rest) {
+        Ok((name, rest)) => Ok((Entry { net, name }, rest)),
+        Err(error) => Err(error),
+    }
+}
+
+/// What an entry leaves for the one after it.
+pub(crate) fn low_after(nets: Nets, entry: &Entry) -> u32
+    ensures { result ≡ next_net nets entry.now }
+{
+    match nets {
+        Nets::Any => 0,
+        Nets::One => u32::from(entry.net) + 1,
+    }
+}
