@@ -3,3 +3,4 @@ pub mod Tables
 pub mod Asked
 pub mod Shape
 pub mod InPlace
+pub mod NetworksInPlace

@@ -2,3 +2,4 @@ pub mod Zones
 pub mod Places
 pub mod Pages
 pub mod Packets
+pub mod Networks

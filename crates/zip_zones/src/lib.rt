@@ -5,6 +5,7 @@ mod due;
 mod entries;
 mod entry;
 mod known;
+mod networks;
 mod page;
 mod table;
 mod zone;
