@@ -3,3 +3,4 @@ pub mod Places
 pub mod Pages
 pub mod Packets
 pub mod Networks
+pub mod Formats

@@ -6,10 +6,14 @@ mod entries;
 mod entry;
 mod known;
 mod networks;
+mod packet;
 mod page;
 mod table;
 mod zone;
 
+pub use entries::Entries;
 pub use entry::Entry;
+pub use networks::Networks;
+pub use packet::{Function, NetInfo, Packet};
 pub use page::{MAX_PAGE, Page, zone_list_page};
 pub use table::{MAX_LISTS, MAX_ZONES, ZoneTable};

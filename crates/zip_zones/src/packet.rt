@@ -1,0 +1,240 @@
+//! ZIP packets: a reader that borrows.
+
+ghost use Rattle.std.specs.Prelude.{◌≡◌, ◌/◌, ◌==◌, [], length};
+ghost use Rattle.at_base.specs.Grammar.{number, one};
+ghost use Rattle.at_base.specs.Packets.{packets, text, any};
+ghost use Rattle.at_base.specs.Reading.{Gives, Reads, field_at, read as read_by};
+ghost use Rattle.zip_zones.specs.Formats.{body, default_zone, function_of, packet as spelled_packet};
+ghost use Rattle.zip_zones.specs.Formats.{wrong_function};
+
+use crate::entries::{Entries, check_entries};
+use crate::entry::{Nets, name_at};
+use crate::networks::{Networks, check_networks};
+use at_base::packet::{byte_at, byte_only, hardware_at, run_at, text_at, u16_at};
+use at_base::{Error, Field, Hw, Name, Text32};
+
+/// What a ZIP packet is for.
+///
+/// Inside AppleTalk, the chapter on ZIP.
+#[derive(Clone, Copy, Debug, PartialEq, Eq)]
+pub enum Function {
+    /// Asks a router for the zones of networks.
+    Query,
+    /// Answers a query, for networks with few zones: all names of each are there.
+    Reply,
+    /// Asks for what a node wants to know of its cable.
+    GetNetInfo,
+    /// Answers that.
+    NetInfoReply,
+    /// Answers a query for one network, whose names may be in several packets.
+    ExtendedReply,
+}
+
+/// What a node is told of its cable.
+///
+/// Inside AppleTalk, the chapter on ZIP.
+#[derive(Clone, Copy, Debug, PartialEq, Eq)]
+pub struct NetInfo {
+    /// 80: the zone asked for isn't the cable's; 40: broadcasts are to be used for multicasts; 20:
+    /// the cable has one zone.
+    pub flags: u8,
+    /// The first network of the cable.
+    pub start: u16,
+    /// The last network of the cable.
+    pub end: u16,
+    /// The zone asked for, as it was asked.
+    pub asked: Text32,
+    /// The hardware address of the zone's group on the cable.
+    pub group: Hw,
+    /// The default zone of the cable, where the zone asked for isn't the cable's.
+    pub default: Option<Name>,
+}
+
+/// A ZIP packet in place. It borrows the input.
+///
+/// Inside AppleTalk, the chapter on ZIP.
+#[derive(Debug, Drop)]
+pub enum Packet<'a> {
+    /// Which networks are asked for.
+    Query(Networks<'a>),
+    /// How many networks the answer has, which is ignored, and the names.
+    Reply(u8, Entries<'a>),
+    /// Five bytes that are 0 where this project sends them and are ignored, and the zone asked for.
+    GetNetInfo([u8; 5], Text32),
+    /// What is said of the cable.
+    NetInfoReply(NetInfo),
+    /// How many zones the network has, and names of some of them.
+    ExtendedReply(u8, Entries<'a>),
+}
+
+/// The function of a number that has one.
+fn named(number: u8) -> Function
+    ensures { result ≡ function_of number }
+{
+    match number {
+        1 => Function::Query,
+        2 => Function::Reply,
+        5 => Function::GetNetInfo,
+        6 => Function::NetInfoReply,
+        _ => Function::ExtendedReply,
+    }
+}
+
+/// The number of a function.
+fn function_at(bytes: &[u8]) -> Result<(u8, &[u8]), Error>
+    ensures { Gives (λ x. (x.0, x.1.now)) result
+        (field_at packets (number one wrong_function) bytes.now) }
+{
+    let (number, rest) = byte_at(bytes)?;
+    match number {
+        1 | 2 | 5 | 6 | 8 => Ok((number, rest)),
+        _ => Err(Error::BadField(Field::Function)),
+    }
+}
+
+/// The zone asked for.
+fn asked_at(bytes: &[u8]) -> Result<(Text32, &[u8]), Error>
+    ensures { Gives (λ x. (x.0, x.1.now)) result (read_by packets (text 0 any) bytes.now) }
+{
+    let (asked, rest) = text_at(bytes, 0)?;
+    match Text32::new(asked) {
+        Ok(text) => Ok((text, rest)),
+        Err(_) => unreachable!(),
+    }
+}
+
+/// The default zone, where the flags say that it is there.
+#[tactic(auto, unfolding(crate::specs::Formats::default_zone))]
+fn default_at(flags: u8, bytes: &[u8]) -> Result<(Option<Name>, &[u8]), Error>
+    ensures { Gives (λ x. (x.0, x.1.now)) result
+        (read_by packets (default_zone (flags / 128 == 1)) bytes.now) }
+{
+    if flags / 128 != 1 {
+        return Ok((None, bytes));
+    }
+    match name_at(bytes) {
+        Ok((name, rest)) => Ok((Some(name), rest)),
+        Err(error) => Err(error),
+    }
+}
+
+/// The networks that are asked for.
+#[tactic(auto, unfolding(crate::specs::Formats::body, crate::specs::Networks::networks_read))]
+fn query_at(bytes: &[u8]) -> Result<(Packet<'_>, &[u8]), Error>
+    ensures { Gives (λ x. (x.0, x.1.now)) result
+        (read_by packets (body Function.Query) bytes.now) }
+{
+    let (count, networks) = byte_at(bytes)?;
+    let rest = check_networks(count, networks)?;
+    Ok((Packet::Query(Networks::new(count, networks)), rest))
+}
+
+/// Names of any networks.
+#[tactic(auto, unfolding(crate::specs::Formats::body))]
+fn reply_at(bytes: &[u8]) -> Result<(Packet<'_>, &[u8]), Error>
+    ensures { Gives (λ x. (x.0, x.1.now)) result
+        (read_by packets (body Function.Reply) bytes.now) }
+{
+    let (count, entries) = byte_at(bytes)?;
+    check_entries(Nets::Any, entries)?;
+    Ok((Packet::Reply(count, Entries::new(Nets::Any, entries)), &[]))
+}
+
+/// The zone asked for, and the bytes before it.
+#[tactic(auto, unfolding(crate::specs::Formats::body))]
+fn get_net_info_at(bytes: &[u8]) -> Result<(Packet<'_>, &[u8]), Error>
+    ensures { Gives (λ x. (x.0, x.1.now)) result
+        (read_by packets (body Function.GetNetInfo) bytes.now) }
+{
+    let (front, rest) = run_at(bytes, 5)?;
+    let mut unused = [0; 5];
+    unused.copy_from_slice(front);
+    match asked_at(rest) {
+        Ok((asked, rest)) => Ok((Packet::GetNetInfo(unused, asked), rest)),
+        Err(error) => Err(error),
+    }
+}
+
+/// Names of one network, at least one.
+#[tactic(auto, unfolding(crate::specs::Formats::body))]
+fn extended_at(bytes: &[u8]) -> Result<(Packet<'_>, &[u8]), Error>
+    ensures { Gives (λ x. (x.0, x.1.now)) result
+        (read_by packets (body Function.ExtendedReply) bytes.now) }
+{
+    let (total, entries) = byte_at(bytes)?;
+    check_entries(Nets::One, entries)?;
+    if entries.is_empty() {
+        return Err(Error::Truncated);
+    }
+    Ok((
+        Packet::ExtendedReply(total, Entries::new(Nets::One, entries)),
+        &[],
+    ))
+}
+
+/// The zone asked for, where it isn't a packet's first part.
+#[tactic(auto, unfolding(crate::specs::Formats::body))]
+fn net_info_at(bytes: &[u8]) -> Result<(Packet<'_>, &[u8]), Error>
+    ensures { Gives (λ x. (x.0, x.1.now)) result
+        (read_by packets (body Function.NetInfoReply) bytes.now) }
+{
+    let (flags, rest) = byte_at(bytes)?;
+    let (start, rest) = u16_at(rest)?;
+    let (end, rest) = u16_at(rest)?;
+    let (asked, rest) = match asked_at(rest) {
+        Ok(found) => found,
+        Err(error) => return Err(error),
+    };
+    let (_, rest) = byte_only(rest, 6, Field::Lengths)?;
+    let (group, rest) = hardware_at(rest)?;
+    let (default, rest) = match default_at(flags, rest) {
+        Ok(found) => found,
+        Err(error) => return Err(error),
+    };
+    let info = NetInfo {
+        flags,
+        start,
+        end,
+        asked,
+        group,
+        default,
+    };
+    Ok((Packet::NetInfoReply(info), rest))
+}
+
+/// The packet with which the bytes begin, and the bytes after it.
+#[tactic(auto, unfolding(crate::specs::Formats::packet))]
+fn parts_of(bytes: &[u8]) -> Result<(Packet<'_>, &[u8]), Error>
+    ensures { Gives (λ x. (x.0, x.1.now)) result (read_by packets spelled_packet bytes.now) }
+{
+    if bytes.len() < 2 {
+        return Err(Error::Truncated);
+    }
+    let (number, rest) = function_at(bytes)?;
+    match named(number) {
+        Function::Query => query_at(rest),
+        Function::Reply => reply_at(rest),
+        Function::GetNetInfo => get_net_info_at(rest),
+        Function::NetInfoReply => net_info_at(rest),
+        Function::ExtendedReply => extended_at(rest),
+    }
+}
+
+impl<'a> Packet<'a> {
+    /// The packet with which the bytes begin. What follows a query, a GetNetInfo and its reply is
+    /// ignored. Allocates nothing.
+    ///
+    /// Errors, from left to right: `Truncated` below 2 bytes, where the input ends within a part,
+    /// and where an extended reply has no name; `BadField` of `Function`, of `NameLength` where a
+    /// name hasn't 1 to 32 bytes, or the zone asked for has more than 32, of `Lengths` where the
+    /// hardware address isn't 6 bytes long, and of `Network` where an extended reply has names of
+    /// two networks; `BadName` where a name is no zone's.
+    pub fn read(bytes: &'a [u8]) -> Result<Packet<'a>, Error>
+        ensures { Reads packets spelled_packet (λ d. d) (λ p. p) bytes.now result }
+    {
+        match parts_of(bytes) {
+            Ok((packet, _)) => Ok(packet),
+            Err(error) => Err(error),
+        }
+    }
+}
