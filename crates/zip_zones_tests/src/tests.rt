@@ -1,0 +1,151 @@
+//! Zone tables and ZIP packets worked out by hand. Each test passes whichever single request for
+//! memory is refused: on `Memory` it calls again.
+
+mod again;
+mod packets;
+mod pages;
+mod tables;
+
+use at_base::{Error, Field};
+use packets::{
+    CABLE_10_19, GET_NET_INFO, INVALID_ZONE, NAMES_OF_20, QUERY, TWO_NETWORKS, asks_for, is_asked,
+    is_cut_everywhere, is_extended, is_info, is_invalid, is_reply,
+};
+use pages::{LONG, exact_page, has_page, is_page, long_page};
+use std::test::*;
+use tables::{
+    adds_each, all_once, are_cables, due_is, is_full_at_200, is_listed, is_removed, is_set,
+    loses_its_overlaps, totals_are_limited,
+};
+
+// ---- Zone tables
+
+/// Doubles in any case aren't counted, a further name is ignored, another total starts again.
+#[test]
+fn names_of_a_range_come_one_by_one(rt: HostRuntime) -> Result<(), Fail> {
+    assert!(rt; adds_each(rt.alloc())?);
+    Ok(())
+}
+
+#[test]
+fn a_list_that_is_set_has_each_name_once(rt: HostRuntime) -> Result<(), Fail> {
+    assert!(rt; is_set(rt.alloc())?);
+    assert!(rt; is_listed(rt.alloc())?);
+    assert!(rt; is_removed(rt.alloc())?);
+    Ok(())
+}
+
+#[test]
+fn another_range_must_not_overlap(rt: HostRuntime) -> Result<(), Fail> {
+    assert!(rt; loses_its_overlaps(rt.alloc())?);
+    Ok(())
+}
+
+#[test]
+fn a_range_has_at_most_64_zones(rt: HostRuntime) -> Result<(), Fail> {
+    assert!(rt; totals_are_limited(rt.alloc())?);
+    Ok(())
+}
+
+#[test]
+fn there_are_at_most_200_lists(rt: HostRuntime) -> Result<(), Fail> {
+    assert!(rt; is_full_at_200(rt.alloc())?);
+    Ok(())
+}
+
+#[test]
+fn the_cables_of_a_zone_rise(rt: HostRuntime) -> Result<(), Fail> {
+    assert!(rt; are_cables(rt.alloc(), b"blue", &[(20, 29), (30, 39)])?);
+    assert!(rt; are_cables(rt.alloc(), b"RED", &[(10, 19), (20, 29)])?);
+    assert!(rt; are_cables(rt.alloc(), b"Green", &[])?);
+    Ok(())
+}
+
+#[test]
+fn all_zones_are_those_of_complete_lists(rt: HostRuntime) -> Result<(), Fail> {
+    assert!(rt; all_once(rt.alloc())?);
+    Ok(())
+}
+
+/// Asked for are usable rows without a complete list.
+#[test]
+fn what_is_due_has_no_complete_list(rt: HostRuntime) -> Result<(), Fail> {
+    assert!(rt; due_is(rt.alloc())?);
+    Ok(())
+}
+
+// ---- Pages
+
+#[test]
+fn a_page_begins_at_its_index(rt: HostRuntime) -> Result<(), Fail> {
+    assert!(rt; is_page(rt.alloc(), 0, true, 2, b"\x03Red\x04Blue")?);
+    assert!(rt; is_page(rt.alloc(), 1, true, 2, b"\x03Red\x04Blue")?);
+    assert!(rt; is_page(rt.alloc(), 2, true, 1, b"\x04Blue")?);
+    assert!(rt; is_page(rt.alloc(), 3, true, 0, b"")?);
+    assert!(rt; is_page(rt.alloc(), 65535, true, 0, b"")?);
+    Ok(())
+}
+
+/// 17 names of 32 bytes leave 17 bytes: room for a name of 16.
+#[test]
+fn a_page_has_at_most_578_bytes(rt: HostRuntime) -> Result<(), Fail> {
+    assert!(rt; has_page(rt.alloc(), &long_page(LONG), 1, false, 17, 561)?);
+    assert!(rt; has_page(rt.alloc(), &exact_page(), 1, true, 18, 578)?);
+    assert!(rt; has_page(rt.alloc(), &long_page(LONG), 18, true, 1, 33)?);
+    Ok(())
+}
+
+// ---- Packets
+
+#[test]
+fn a_query_names_its_networks(rt: HostRuntime) -> Result<(), Fail> {
+    assert!(rt; asks_for(&QUERY, &[30, 20]));
+    assert!(rt; asks_for(&[1, 0], &[]));
+    assert!(rt; asks_for(&[1, 1, 0x12, 0x34, 0xFF], &[0x1234]));
+    assert!(rt; is_cut_everywhere(&QUERY));
+    Ok(())
+}
+
+#[test]
+fn replies_have_names_by_network(rt: HostRuntime) -> Result<(), Fail> {
+    assert!(rt; is_reply(&TWO_NETWORKS, 9, &[(30, b"Blue"), (20, b"Red")]));
+    assert!(rt; is_reply(&[2, 0], 0, &[]));
+    assert!(rt; is_extended(&NAMES_OF_20, 2, &[(20, b"Red"), (20, b"Blue")]));
+    Ok(())
+}
+
+#[test]
+fn what_a_node_asks_and_is_told_of_its_cable(rt: HostRuntime) -> Result<(), Fail> {
+    assert!(rt; is_asked(&GET_NET_INFO, b"red"));
+    assert!(rt; is_info(&CABLE_10_19));
+    assert!(rt; is_invalid(&INVALID_ZONE));
+    assert!(rt; is_cut_everywhere(&GET_NET_INFO));
+    assert!(rt; is_cut_everywhere(&CABLE_10_19));
+    assert!(rt; is_cut_everywhere(&INVALID_ZONE));
+    Ok(())
+}
+
+/// Each is the first fault from left to right.
+#[test]
+fn packets_are_refused_at_their_first_fault(rt: HostRuntime) -> Result<(), Fail> {
+    let function = Error::BadField(Field::Function);
+    let length = Error::BadField(Field::NameLength);
+    let network = Error::BadField(Field::Network);
+    let lengths = Error::BadField(Field::Lengths);
+    let mut long = [65; 50];
+    long[..5].copy_from_slice(&[2, 1, 0, 1, 33]);
+    assert!(rt; packets::is_refused(&[0, 0], function));
+    assert!(rt; packets::is_refused(&[7, 0], function));
+    assert!(rt; packets::is_refused(&[3], Error::Truncated));
+    assert!(rt; packets::is_refused(&[2, 1, 0, 1, 0], length));
+    assert!(rt; packets::is_refused(&long, length));
+    assert!(rt; packets::is_refused(&[2, 1, 0, 1, 1, b'*'], Error::BadName));
+    assert!(rt; packets::is_refused(&[2, 1, 0, 1, 1, 0x7F], Error::BadName));
+    assert!(rt; packets::is_refused(&[2, 1, 0, 1, 2, b'A'], Error::Truncated));
+    assert!(rt; packets::is_refused(&[8, 1], Error::Truncated));
+    assert!(rt; packets::is_refused(&[8, 1, 0, 1, 1, b'A', 0, 2, 0], network));
+    assert!(rt; packets::is_refused(&[8, 1, 0, 1, 1, b'*', 0, 2, 0], Error::BadName));
+    assert!(rt; packets::is_refused(&[6, 0, 0, 1, 0, 2, 0, 5], lengths));
+    assert!(rt; packets::is_refused(&[5, 0, 0, 0, 0, 0, 33], length));
+    Ok(())
+}

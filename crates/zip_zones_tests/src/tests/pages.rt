@@ -1,0 +1,58 @@
+//! What is compared of pages.
+
+use at_base::{Error, Name};
+use std::alloc::Global;
+use zip_zones::{Page, zone_list_page};
+
+/// A name of 32 bytes.
+pub(crate) const LONG: &[u8] = b"abcdefghijklmnopqrstuvwxyz012345";
+
+fn page(alloc: Global, start: u16, names: &[Name]) -> Result<Page, Error> {
+    match zone_list_page(alloc, start, names) {
+        Err(Error::Memory) => zone_list_page(alloc, start, names),
+        answer => answer,
+    }
+}
+
+/// 18 times a name.
+pub(crate) fn long_page(text: &[u8]) -> [Name; 18] {
+    match Name::new(text) {
+        Ok(name) => [name; 18],
+        Err(_) => unreachable!(),
+    }
+}
+
+/// 17 names of 32 bytes, and one of 16.
+pub(crate) fn exact_page() -> [Name; 18] {
+    let mut names = long_page(LONG);
+    if let Ok(name) = Name::new(&LONG[..16]) {
+        names[17] = name;
+    }
+    names
+}
+
+/// Whether the page of Red and Blue that begins at an index is this.
+pub(crate) fn is_page(
+    alloc: Global,
+    start: u16,
+    last: bool,
+    count: u16,
+    bytes: &[u8],
+) -> Result<bool, Error> {
+    let names = [Name::new(b"Red")?, Name::new(b"Blue")?];
+    let page = page(alloc, start, &names)?;
+    Ok(page.last == last && page.count == count && page.bytes.as_slice() == bytes)
+}
+
+/// Whether the page of these names has so many names and bytes.
+pub(crate) fn has_page(
+    alloc: Global,
+    names: &[Name],
+    start: u16,
+    last: bool,
+    count: u16,
+    len: usize,
+) -> Result<bool, Error> {
+    let page = page(alloc, start, names)?;
+    Ok(page.last == last && page.count == count && page.bytes.as_slice().len() == len)
+}
