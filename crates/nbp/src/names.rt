@@ -61,6 +61,15 @@ fn is_registrable(text: &Text32) -> bool
     1 <= text.len() && is_entity(text)
 }
 
+/// Whether a name may have this object and this type.
+fn are_registrable(object: &Text32, kind: &Text32) -> bool
+    ensures value { result ≡ (registrable object.now && registrable kind.now) }
+    ensures few { (length object.now ≤ 32) × (length kind.now ≤ 32) }
+{
+    let is_kind = is_registrable(kind);
+    is_registrable(object) && is_kind
+}
+
 /// Whether a name has this object and this type, whatever the case of their letters.
 fn is_taken(names: &[Named], object: &Text32, kind: &Text32) -> bool
     ensures { result ≡ taken_in object.now kind.now names.now }
@@ -200,19 +209,19 @@ impl Names {
           kind = kind;
         }) self.old) }
         ensures bad { (result ≡ Err Error.BadName)
-            ↔ (registrable object && registrable kind ≡ false) }
+            ↔ ((registrable object && registrable kind) ≡ false) }
         ensures taken { (result ≡ Err (Error.BadField Taken))
-            ↔ ((registrable object && registrable kind ≡ true)
+            ↔ (((registrable object && registrable kind) ≡ true)
             × (taken_in object kind self.old ≡ true)) }
         ensures full { (result ≡ Err Error.Full)
-            ↔ ((registrable object && registrable kind ≡ true)
+            ↔ (((registrable object && registrable kind) ≡ true)
             × (taken_in object kind self.old ≡ false)
             × (32 ≤ length self.old)) }
         ensures refused { IfErr result (λ e. (e ≡ Error.BadName) ⊎ (e ≡ Error.BadField Taken)
             ⊎ (e ≡ Error.Full) ⊎ (e ≡ Error.Memory)) }
         ensures kept { OnErr result (self.new ≡ self.old) }
     {
-        if !(is_registrable(&object) && is_registrable(&kind)) {
+        if !are_registrable(&object, &kind) {
             return Err(Error::BadName);
         }
         if is_taken(self.names.as_slice(), &object, &kind) {
