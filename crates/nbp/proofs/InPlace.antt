@@ -1,5 +1,5 @@
 -- Tuples in place: the first of so many, and the others after it.
-use Rattle.std.proofs.Common.{◌≡◌, ℕ, suc, List, [], ◌∷◌, Result, Ok, Err, refl, sym, ◌∙◌}
+use Rattle.std.proofs.Common.{◌≡◌, ℕ, suc, List, [], ◌∷◌, Ok, Err, refl, sym, ◌∙◌}
 use Rattle.at_base.specs.declared.error.Error.{Error}
 use Rattle.at_base.specs.Packets.{packets}
 use Rattle.at_base.specs.Reading.{◌>>=◌, read}
@@ -31,10 +31,14 @@ step n bytes t after h e =
     let first = first_read n bytes t after e in
     (elim (tuples_read n after) as (λ r. tuples_read n after ≡ r → Step n bytes t after) [
       | Ok x ↦ λ o. record { is = rw (first, o) refl; rest = record { rest = x.1; read = rw o refl } }
-      | Err f ↦ λ o. absurd (let bad : Err f ≡ ok {E = Error} {A = List Tuple × List ℕ} (tuples_in (suc n) bytes, h.rest) = sym (first ∙ rw o refl) ∙ h.read in cc)
+      | Err f ↦ λ o.
+          let bad : Err f ≡ ok {E = Error} {A = List Tuple × List ℕ} (tuples_in (suc n) bytes, h.rest) =
+          sym (first ∙ rw o refl) ∙ h.read in
+          absurd cc
     ]) refl
 
 pub not_refused : (n : ℕ) (bytes : List ℕ) (e : Error) → BeginWith (suc n) bytes → read packets tuple bytes ≡ Err e → ⊥
 not_refused n bytes e h f =
-    let bad : Err e ≡ ok {E = Error} {A = List Tuple × List ℕ} (tuples_in (suc n) bytes, h.rest) = sym (first_refused n bytes e f) ∙ h.read in
+    let bad : Err e ≡ ok {E = Error} {A = List Tuple × List ℕ} (tuples_in (suc n) bytes, h.rest) =
+    sym (first_refused n bytes e f) ∙ h.read in
     cc

@@ -1,6 +1,7 @@
 -- Patterns: where the first wildcard is, and that the test of a name says whether it matches.
-use Rattle.std.proofs.Common.{◌≡◌, ℕ, zero, suc, ◌+◌, ◌-◌, ◌<◌, ◌≤◌, Bool, true, false, cond, ◌&&◌, ◌||◌, ◌==◌, ltb, List, [], ◌∷◌, ◌++◌, length, map, take, drop, Option, Some, None, inl, inr, refl, sym, ap, ◌∙◌, arith, append_assoc, nat_le}
-use Rattle.std.specs.Prelude.{IsTrue, ◌↔◌, option_map, not}
+use Rattle.std.proofs.Common.{◌≡◌, ℕ, suc, ◌+◌, ◌-◌, ◌<◌, ◌≤◌, Bool, true, false, cond, ◌||◌, ◌==◌, ltb, List, [], ◌∷◌, ◌++◌, length, map}
+use Rattle.std.proofs.Common.{take, drop, Option, Some, None, inl, inr, refl, sym, ap, ◌∙◌, arith, append_assoc, nat_le}
+use Rattle.std.specs.Prelude.{IsTrue, ◌↔◌, option_map}
 use Rattle.std.specs.List.{position, position_or_len}
 use Rattle.std.specs.Char.{to_ascii_lowercase}
 use Rattle.std.proofs.lemmas.Bool.{and_parts, ltb-true, ltb-false, leb-true, le-leb}
@@ -29,7 +30,8 @@ split_there : (bytes : List ℕ) → position_or_len is_wildcard bytes < length 
     → split_at_wildcard bytes ≡ Some (split_after (position_or_len is_wildcard bytes) bytes)
 split_there [] lt = absurd (omega arith)
 split_there (b ∷ bytes) lt =
-    (elim (is_wildcard b) as (λ t. is_wildcard b ≡ t → split_at_wildcard (b ∷ bytes) ≡ Some (split_after (position_or_len is_wildcard (b ∷ bytes)) (b ∷ bytes))) [
+    (elim (is_wildcard b) as (λ t. is_wildcard b ≡ t →
+    split_at_wildcard (b ∷ bytes) ≡ Some (split_after (position_or_len is_wildcard (b ∷ bytes)) (b ∷ bytes))) [
       | true ↦ λ t. rw t refl
       | false ↦ λ t.
           let less = rw t at lt in
@@ -98,21 +100,25 @@ around_is before after name h =
     let front : lower before ≡ lower (front_of before name) = same_name_is before (front_of before name) q.0 in
     let back : lower after ≡ lower (end_of after name) = same_name_is after (end_of after name) q.1 in
     let run = run_in before after name in
-    let whole = parts_of before after name (leb-true _ _ p.0) in
-    (run, lower_parts before run after ∙ ap (λ (l : List ℕ). l ++ lower run ++ lower after) front
-    ∙ ap (λ (l : List ℕ). lower (front_of before name) ++ lower run ++ l) back
-    ∙ sym (lower_parts (front_of before name) run (end_of after name)) ∙ ap lower whole)
+    let whole = parts_of before after name (leb-true _ _ p.0) in (
+      run,
+      lower_parts before run after ∙ ap (λ (l : List ℕ). l ++ lower run ++ lower after) front
+          ∙ ap (λ (l : List ℕ). lower (front_of before name) ++ lower run ++ l) back
+          ∙ sym (lower_parts (front_of before name) run (end_of after name)) ∙ ap lower whole,
+    )
 
 is_around_if : (before after name run : List ℕ) → SameName (before ++ run ++ after) name → is_around before after name ≡ true
 is_around_if before after name run same =
     let e : lower before ++ lower run ++ lower after ≡ lower name = sym (lower_parts before run after) ∙ same in
     let lens : length (before ++ run ++ after) ≡ length name =
-    sym (length-map (before ++ run ++ after) to_ascii_lowercase) ∙ ap (λ (l : List ℕ). length l) same ∙ length-map name to_ascii_lowercase in
+    sym (length-map (before ++ run ++ after) to_ascii_lowercase) ∙ ap (λ (l : List ℕ). length l) same
+    ∙ length-map name to_ascii_lowercase in
     let len : length before + length run + length after ≡ length name =
     omega (arith, lens, length-append (before ++ run) after, length-append before run) in
     let le : nat_le (length before + length after) (length name) ≡ true = le-leb _ _ (omega (arith, len)) in
     let lb : length (lower before) ≡ length before = length-map before to_ascii_lowercase in
-    let grouped : lower before ++ (lower run ++ lower after) ≡ lower name = sym (append_assoc (lower before) (lower run) (lower after)) ∙ e in
+    let grouped : lower before ++ (lower run ++ lower after) ≡ lower name =
+    sym (append_assoc (lower before) (lower run) (lower after)) ∙ e in
     let front : lower before ≡ lower (front_of before name) =
     sym (take-append_seam (lower before) (lower run ++ lower after)) ∙ ap (take (length (lower before))) grouped
     ∙ ap (λ (k : ℕ). take k (lower name)) lb ∙ take-map to_ascii_lowercase (length before) name in
@@ -142,6 +148,7 @@ decides pattern name = (there (is_only 61 pattern) refl, back)
     there : (b : Bool) → is_only 61 pattern ≡ b → (b || is_like pattern name (split_at_wildcard pattern)) ≡ true → Matches pattern name
     there true t h = inl t
     there false t h = inr (like_is pattern name (split_at_wildcard pattern) h)
+
     back : Matches pattern name → matches pattern name ≡ true
     back (inl t) = rw t refl
     back (inr like) = or_right (is_only 61 pattern) _ (is_like_if pattern name (split_at_wildcard pattern) like)

@@ -1,8 +1,8 @@
 -- Registered names: the least free enumerator, and what a name more or less leaves of them.
-use Rattle.std.proofs.Common.{◌≡◌, ℕ, zero, suc, ◌+◌, ◌<◌, ◌≤◌, Bool, true, false, not, ◌&&◌, ◌||◌, ◌==◌, List, [], ◌∷◌, length, filter, insert, refl, sym, ap, ◌∙◌, arith, nat_lt, nat_le}
-use Rattle.std.specs.Prelude.{IsTrue}
+use Rattle.std.proofs.Common.{◌≡◌, ℕ, zero, suc, ◌+◌, ◌<◌, ◌≤◌, Bool, true, false, not, ◌||◌, ◌==◌, List, [], ◌∷◌, length, filter, insert}
+use Rattle.std.proofs.Common.{refl, ap, arith, nat_lt, nat_le}
 use Rattle.std.specs.List.{All}
-use Rattle.std.proofs.lemmas.Bool.{and_parts, or_parts, ltb-true, ltb-false, lt-ltb, leb-true, eqb-true, eq-eqb, ne_eqb, eqb-false}
+use Rattle.std.proofs.lemmas.Bool.{and_parts, or_parts, ltb-true, ltb-false, lt-ltb, leb-true, eqb-true, ne_eqb, eqb-false}
 use Rattle.std.proofs.lemmas.List.Elements.{All-filter}
 use Rattle.at_base.specs.Text.{IsEntity, is_entity}
 use Rattle.nbp.specs.declared.names.Named.{Named}
@@ -43,7 +43,8 @@ first_free low [] h = record { some = omega arith; free = refl; least = λ m lt 
 first_free low (n ∷ names) h =
     let p = and_parts (nat_lt low n.enumerator) (are_above n.enumerator names) h in
     let above = ltb-true _ _ p.0 in
-    (elim (n.enumerator == low + 1) as (λ b. (n.enumerator == low + 1) ≡ b → IsFirstFree low (free_from (low + 1) (n ∷ names)) (n ∷ names)) [
+    (elim (n.enumerator == low + 1) as (λ b. (n.enumerator == low + 1) ≡ b →
+    IsFirstFree low (free_from (low + 1) (n ∷ names)) (n ∷ names)) [
       | true ↦ λ t.
           let is : n.enumerator ≡ low + 1 = eqb-true _ _ t in
           let rest = first_free (low + 1) names (above_lower (low + 1) n.enumerator names (omega (arith, is)) p.1) in
@@ -89,7 +90,8 @@ least_free names h =
 pub put_at : (name : Named) (names : List Named) → insert names (before name.enumerator names) name ≡ with_name name names
 put_at name [] = refl
 put_at name (n ∷ names) =
-    (elim (nat_lt n.enumerator name.enumerator) as (λ b. nat_lt n.enumerator name.enumerator ≡ b → insert (n ∷ names) (before name.enumerator (n ∷ names)) name ≡ with_name name (n ∷ names)) [
+    (elim (nat_lt n.enumerator name.enumerator) as (λ b. nat_lt n.enumerator name.enumerator ≡ b →
+    insert (n ∷ names) (before name.enumerator (n ∷ names)) name ≡ with_name name (n ∷ names)) [
       | true ↦ λ t. rw t (ap (λ (l : List Named). n ∷ l) (put_at name names))
       | false ↦ λ t. rw t refl
     ]) refl
@@ -97,7 +99,8 @@ put_at name (n ∷ names) =
 length_with : (name : Named) (names : List Named) → length (with_name name names) ≡ suc (length names)
 length_with name [] = refl
 length_with name (n ∷ names) =
-    (elim (nat_lt n.enumerator name.enumerator) as (λ b. nat_lt n.enumerator name.enumerator ≡ b → length (with_name name (n ∷ names)) ≡ suc (suc (length names))) [
+    (elim (nat_lt n.enumerator name.enumerator) as (λ b. nat_lt n.enumerator name.enumerator ≡ b →
+    length (with_name name (n ∷ names)) ≡ suc (suc (length names))) [
       | true ↦ λ t. rw t (ap suc (length_with name names))
       | false ↦ λ t. rw t refl
     ]) refl
@@ -109,7 +112,8 @@ above_with name low (n ∷ names) free lt h =
     let p = and_parts (nat_lt low n.enumerator) (are_above n.enumerator names) h in
     let o = or_parts (n.enumerator == name.enumerator) (has name.enumerator names) free in
     let ne : n.enumerator ≡ name.enumerator → ⊥ = eqb-false _ _ o.0 in
-    (elim (nat_lt n.enumerator name.enumerator) as (λ b. nat_lt n.enumerator name.enumerator ≡ b → are_above low (with_name name (n ∷ names)) ≡ true) [
+    (elim (nat_lt n.enumerator name.enumerator) as (λ b. nat_lt n.enumerator name.enumerator ≡ b →
+    are_above low (with_name name (n ∷ names)) ≡ true) [
       | true ↦ λ t. rw (t, p.0) (above_with name n.enumerator names o.1 (ltb-true _ _ t) p.1)
       | false ↦ λ t.
           let le = ltb-false _ _ t in
@@ -130,7 +134,8 @@ all_tail n names each = λ k d lt. each (suc k) d (omega arith)
 each_with : (name : Named) (names : List Named) → IsNamed name → All IsNamed names → All IsNamed (with_name name names)
 each_with name [] new each = all_cons name [] new each
 each_with name (n ∷ names) new each =
-    (elim (nat_lt n.enumerator name.enumerator) as (λ b. nat_lt n.enumerator name.enumerator ≡ b → All IsNamed (with_name name (n ∷ names))) [
+    (elim (nat_lt n.enumerator name.enumerator) as (λ b. nat_lt n.enumerator name.enumerator ≡ b →
+    All IsNamed (with_name name (n ∷ names))) [
       | true ↦ λ t. rw t (all_cons n (with_name name names) (all_head n names each) (each_with name names new (all_tail n names each)))
       | false ↦ λ t. rw t (all_cons name (n ∷ names) new each)
     ]) refl

@@ -1,12 +1,12 @@
 -- The format of a packet: each part stands where its projection finds it; the bytes of a packet of one tuple; and that
 -- they are read back.
-use Rattle.std.proofs.Common.{◌≡◌, ℕ, zero, suc, ◌+◌, ◌*◌, ◌/◌, ◌%◌, ◌<◌, ◌≤◌, Bool, true, false, cond, List, [], ◌∷◌, ◌++◌, length, Option, Some, None, Ok, refl, sym, ap, ◌∙◌, arith, append_assoc}
+use Rattle.std.proofs.Common.{◌≡◌, ℕ, zero, suc, ◌+◌, ◌*◌, ◌/◌, ◌<◌, ◌≤◌, Bool, true, false, cond, List, [], ◌∷◌, ◌++◌, length, Some, None}
+use Rattle.std.proofs.Common.{Ok, refl, ap, ◌∙◌, arith, append_assoc}
 use Rattle.std.specs.Prelude.{nat_lt}
 use Rattle.std.specs.Int.{byte_at}
 use Rattle.std.proofs.lemmas.Bool.{ltb-false, le-ltb}
 use Rattle.std.proofs.lemmas.List.{append-nil}
 use Rattle.at_base.specs.declared.error.Error.{Error}
-use Rattle.at_base.specs.declared.error.Error.TheVariants.{BadField}
 use Rattle.at_base.specs.declared.error.Field.TheVariants.{NameLength}
 use Rattle.at_base.specs.Packets.{packets, any, within, text, address}
 use Rattle.at_base.specs.Reading.{read}
@@ -25,19 +25,25 @@ use Rattle.nbp.specs.Packets.{NbpPacket, IsTuple, tuple, packet, packet_of, fron
 
 pub tuple_lawful : IsLawful tuple
 unfolding tuple
-tuple_lawful = (address_lawful, λ at p. (
-  λ socket q enumerator r object s kind t zone u. refl,
-  λ socket q. (
-    λ enumerator r object s kind t zone u. refl,
-    λ enumerator r. (
-      λ object s kind t zone u. refl,
-      (text_lawful 1 any, λ object s. (
-        λ kind t zone u. refl,
-        (text_lawful 1 any, λ kind t. (λ zone u. refl, (text_lawful 0 any, λ zone u. (refl, tt)))),
-      )),
+tuple_lawful = (
+  address_lawful,
+  λ at p. (
+    λ socket q enumerator r object s kind t zone u. refl,
+    λ socket q. (
+      λ enumerator r object s kind t zone u. refl,
+      λ enumerator r. (
+        λ object s kind t zone u. refl,
+        (
+          text_lawful 1 any,
+          λ object s. (
+            λ kind t zone u. refl,
+            (text_lawful 1 any, λ kind t. (λ zone u. refl, (text_lawful 0 any, λ zone u. (refl, tt)))),
+          ),
+        ),
+      ),
     ),
   ),
-))
+)
 
 -- a function's number is that function's
 number_is : (n : ℕ) → is_function n ≡ true → number_of (function_of n) ≡ n
@@ -101,7 +107,8 @@ function_small ForwardRequest = omega arith
 -- the bytes as they are written
 pub written : (f : Function) (id : ℕ) (t : Tuple) → id < 256 → t.at.node < 256 → t.socket < 256 → t.enumerator < 256
     → length t.object ≤ 32 → length t.kind ≤ 32 → length t.zone ≤ 32
-    → front_bytes f id t.at t.socket t.enumerator ++ (length t.object ∷ t.object) ++ (length t.kind ∷ t.kind) ++ (length t.zone ∷ t.zone) ≡ bytes_of packet (packet_of f id t)
+    → front_bytes f id t.at t.socket t.enumerator ++ (length t.object ∷ t.object) ++ (length t.kind ∷ t.kind) ++ (length t.zone ∷ t.zone)
+    ≡ bytes_of packet (packet_of f id t)
 written f id t small node socket enumerator object kind zone =
     let small_head = function_small f in
     let a : byte_at 0 (number_of f * 16 + 1) ≡ number_of f * 16 + 1 = omega (arith, small_head) in
@@ -112,7 +119,8 @@ written f id t small node socket enumerator object kind zone =
     let o : byte_at 0 (length t.object) ≡ length t.object = omega arith in
     let k : byte_at 0 (length t.kind) ≡ length t.kind = omega arith in
     let z : byte_at 0 (length t.zone) ≡ length t.zone = omega arith in
-    let parts : (t.object ++ (length t.kind ∷ t.kind)) ++ (length t.zone ∷ t.zone) ≡ t.object ++ (length t.kind ∷ (t.kind ++ (length t.zone ∷ t.zone))) =
+    let parts : (t.object ++ (length t.kind ∷ t.kind)) ++ (length t.zone ∷ t.zone)
+    ≡ t.object ++ (length t.kind ∷ (t.kind ++ (length t.zone ∷ t.zone))) =
     append_assoc t.object (length t.kind ∷ t.kind) (length t.zone ∷ t.zone) in
     rw (laid f id t, a, b, c, d, e, o, k, z, parts) refl
 
@@ -168,6 +176,10 @@ same_key f g id t = refl
 -- bytes that follow the packet are no part of it
 pub key_alone : (p q : NbpPacket) (bytes rest : List ℕ) → Begins packet bytes p → Begins packet (bytes ++ rest) q → key q ≡ key p
 key_alone p q bytes rest (after, parts, h, f) c =
-    let b : Begins packet (bytes ++ rest) p =
-    (after ++ rest, ap (λ (l : List ℕ). l ++ rest) parts ∙ append_assoc (bytes_of packet p) after rest, h, follows_all packet p (after ++ rest)) in
+    let b : Begins packet (bytes ++ rest) p = (
+      after ++ rest,
+      ap (λ (l : List ℕ). l ++ rest) parts ∙ append_assoc (bytes_of packet p) after rest,
+      h,
+      follows_all packet p (after ++ rest),
+    ) in
     ap key (begins_one packets packet packet_lawful (bytes ++ rest) p q b c)

@@ -1,5 +1,6 @@
 -- When a name matches a pattern. (Inside AppleTalk, the chapter on NBP)
-use Rattle.std.specs.Prelude.{ℕ, ◌+◌, ◌-◌, ◌++◌, Bool, ◌&&◌, ◌||◌, ◌==◌, ◌⊎◌, IsTrue, List, [], ◌∷◌, length, take, drop, Option, Some, None, option_map, nat_le, if◌then◌else◌}
+use Rattle.std.specs.Prelude.{ℕ, ◌+◌, ◌-◌, ◌++◌, Bool, ◌&&◌, ◌||◌, ◌==◌, ◌⊎◌, IsTrue, List, [], ◌∷◌, length, take, drop, Option, Some, None}
+use Rattle.std.specs.Prelude.{option_map, nat_le, if◌then◌else◌}
 use Rattle.at_base.specs.Text.{is_only, same_name, SameName}
 
 -- the bytes before the first wildcard of a pattern and those after it, where it has one

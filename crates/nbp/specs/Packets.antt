@@ -1,5 +1,6 @@
 -- NBP packets: requests for names, lookups and replies. (Inside AppleTalk, the chapter on NBP)
-use Rattle.std.specs.Prelude.{◌≡◌, ℕ, ◌*◌, ◌+◌, ◌/◌, ◌%◌, ◌<◌, ◌≤◌, Bool, true, ◌&&◌, ◌||◌, ◌==◌, List, [], ◌∷◌, drop, length, Option, Some, None, Result, Ok, Err, nat_le, if◌then◌else◌}
+use Rattle.std.specs.Prelude.{◌≡◌, ℕ, ◌*◌, ◌+◌, ◌/◌, ◌%◌, ◌<◌, ◌≤◌, Bool, true, ◌&&◌, ◌||◌, ◌==◌, List, [], ◌∷◌, drop, length, Option, Some}
+use Rattle.std.specs.Prelude.{None, Result, Ok, Err, nat_le, if◌then◌else◌}
 use Rattle.std.specs.Int.{byte_at}
 use Rattle.at_base.specs.declared.address.Addr.{Addr}
 use Rattle.at_base.specs.declared.error.Error.{Error}

@@ -1,6 +1,7 @@
 -- The names that a node has registered for its sockets. (Inside AppleTalk, the chapter on NBP; enumerators from 1 and at
 -- most 32 names are this project's own)
-use Rattle.std.specs.Prelude.{◌≡◌, ℕ, suc, ◌+◌, ◌<◌, ◌≤◌, Bool, true, not, ◌&&◌, ◌==◌, IsTrue, List, [], ◌∷◌, length, map, filter, nat_le, nat_lt, if◌then◌else◌}
+use Rattle.std.specs.Prelude.{ℕ, suc, ◌+◌, ◌<◌, ◌≤◌, Bool, true, not, ◌&&◌, ◌==◌, IsTrue, List, [], ◌∷◌, length, map, filter, nat_le}
+use Rattle.std.specs.Prelude.{nat_lt, if◌then◌else◌}
 use Rattle.std.specs.List.{All, list_any}
 use Rattle.at_base.specs.Text.{IsEntity, is_entity, same_name}
 use Rattle.nbp.specs.declared.names.Named.{Named}

@@ -120,12 +120,13 @@ impl<'a> Model for Packet<'a> {
 }
 
 impl<'a> Packet<'a> {
-    /// The packet with which the bytes begin; what follows its tuples is ignored. Allocates nothing.
+    /// The packet with which the bytes begin; what follows its tuples is ignored. Allocates
+    /// nothing.
     ///
     /// Errors, from left to right: `Truncated` below 2 bytes; `BadField` of `Function` where that
-    /// isn't 1 to 4, and of `Count` where there isn't one tuple, or in a reply one at least; then
-    /// `Truncated` where the input ends within a part, and `BadField(NameLength)` where an object or
-    /// a type isn't of 1 to 32 bytes, or a zone of more than 32.
+    /// isn't 1 to 4, and of `Count` where there isn't one tuple, or in a reply at least one; then
+    /// `Truncated` where the input ends within a part, and `BadField(NameLength)` where an object
+    /// or a type hasn't 1 to 32 bytes, or a zone has more than 32.
     pub fn read(bytes: &'a [u8]) -> Result<Packet<'a>, Error>
         ensures { Reads packets spelled_packet (λ d. d) (λ p. p) bytes.now result }
     {

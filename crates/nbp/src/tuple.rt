@@ -126,7 +126,8 @@ impl<'a> TupleView<'a> {
 
 /// A text after its length, in place: from `least` to 32 bytes.
 fn name_at(bytes: &[u8], least: u8) -> Result<(&[u8], &[u8]), Error>
-    ensures read { Gives (λ x. (x.0.now, x.1.now)) result (read packets (text least any) bytes.now) }
+    ensures read { Gives (λ x. (x.0.now, x.1.now)) result
+        (read packets (text least any) bytes.now) }
     ensures some { IfOk result (λ x. least ≤ length x.0.now) }
     ensures few { IfOk result (λ x. length x.0.now ≤ 32) }
 {

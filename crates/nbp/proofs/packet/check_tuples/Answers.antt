@@ -1,4 +1,4 @@
-use Rattle.std.proofs.Common.{◌≡◌, ◌-◌, refl, arith}
+use Rattle.std.proofs.Common.{◌≡◌, ◌-◌, arith}
 use Rattle.at_base.specs.Packets.{packets}
 use Rattle.at_base.specs.Reading.{read}
 use Rattle.at_base.proofs.Loops.{starts, goes_on, stops}
