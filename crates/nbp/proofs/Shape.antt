@@ -1,16 +1,16 @@
 -- The format of a packet: each part stands where its projection finds it; the bytes of a packet of one tuple; and that
 -- they are read back.
 use Rattle.std.proofs.Common.{◌≡◌, ℕ, zero, suc, ◌+◌, ◌*◌, ◌/◌, ◌<◌, ◌≤◌, Bool, true, false, cond, List, [], ◌∷◌, ◌++◌, length, Some, None}
-use Rattle.std.proofs.Common.{Ok, refl, ap, ◌∙◌, arith, append_assoc}
-use Rattle.std.specs.Prelude.{nat_lt}
+use Rattle.std.proofs.Common.{Ok, refl, sym, ap, ◌∙◌, arith, append_assoc}
+use Rattle.std.specs.Prelude.{nat_lt, ◌||◌, ◌==◌, ◌%◌}
 use Rattle.std.specs.Int.{byte_at}
-use Rattle.std.proofs.lemmas.Bool.{ltb-false, le-ltb}
+use Rattle.std.proofs.lemmas.Bool.{ltb-false, le-ltb, eqb-true}
 use Rattle.std.proofs.lemmas.List.{append-nil}
 use Rattle.at_base.specs.declared.error.Error.{Error}
 use Rattle.at_base.specs.declared.error.Field.TheVariants.{NameLength}
 use Rattle.at_base.specs.Packets.{packets, any, within, text, address}
 use Rattle.at_base.specs.Reading.{read}
-use Rattle.at_base.specs.Spelling.{IsValue, Begins, bytes_of}
+use Rattle.at_base.specs.Spelling.{IsValue, ListPasses, Begins, bytes_of}
 use Rattle.at_base.specs.Lawful.{IsLawful}
 use Rattle.at_base.proofs.Fields.{IsBytes, not_wrong}
 use Rattle.at_base.proofs.Laws.{read_takes, follows_all}
@@ -19,7 +19,7 @@ use Rattle.at_base.proofs.Readers.{begins_one, spelled_begins}
 use Rattle.nbp.specs.declared.packet.Function.{Function}
 use Rattle.nbp.specs.declared.packet.Function.TheVariants.{BroadcastRequest, Lookup, Reply, ForwardRequest}
 use Rattle.nbp.specs.declared.tuple.Tuple.{Tuple}
-use Rattle.nbp.specs.Packets.{NbpPacket, IsTuple, tuple, packet, packet_of, front_bytes, key, number_of, function_of, is_function}
+use Rattle.nbp.specs.Packets.{NbpPacket, IsTuple, tuple, packet, packet_of, front_bytes, key, number_of, function_of, is_function, is_count}
 
 -- ---- Each part stands where its projection finds it
 
@@ -165,6 +165,71 @@ pub read_back : (f : Function) (id : ℕ) (t : Tuple) (rest : List ℕ) → id <
 read_back f id t rest small h =
     let b = spelled_begins packet (bytes_of packet (packet_of f id t)) rest (packet_of f id t) (packet_value f id t small h, refl) in
     (b, λ p c. begins_one packets packet packet_lawful (bytes_of packet (packet_of f id t) ++ rest) (packet_of f id t) p b c)
+
+-- ---- A request has one tuple
+
+right_count : (b c : Bool) (v w : Error) → cond b (cond c None (Some v)) (Some w) ≡ None → c ≡ true
+right_count true true v w h = refl
+right_count true false v w h = absurd cc
+right_count false c v w h = absurd cc
+
+or_false : (b : Bool) → (b || false) ≡ true → b ≡ true
+or_false true h = refl
+or_false false h = absurd cc
+
+count_is_one : (f : Function) (n : ℕ) → (f ≡ Reply → ⊥) → is_count (number_of f) n ≡ true → n ≡ 1
+count_is_one BroadcastRequest n other h = eqb-true _ _ (or_false (n == 1) h)
+count_is_one Lookup n other h = eqb-true _ _ (or_false (n == 1) h)
+count_is_one Reply n other h = absurd (other refl)
+count_is_one ForwardRequest n other h = eqb-true _ _ (or_false (n == 1) h)
+
+within_bounds : (least n : ℕ) → within least 32 NameLength n ≡ None → (least ≤ n) × (n ≤ 32)
+within_bounds least n h =
+    let some = not_wrong (nat_lt n least) _ _ h in
+    let few = not_wrong (nat_lt 32 n) _ _ some.1 in
+    (ltb-false _ _ some.0, ltb-false _ _ few.0)
+
+text_bounds : (least : ℕ) (s : List ℕ) → IsValue (text least any) s → (least ≤ length s) × (length s ≤ 32)
+unfolding text
+text_bounds least s h = within_bounds least (length s) h.0.1
+
+is_tuple : (t : Tuple) → IsValue tuple t → IsTuple t
+unfolding tuple address
+is_tuple t (((net, good_net), ((node, good_node), at)), ((socket, good), ((enumerator, right), (object, (kind, (zone, whole)))))) = record {
+  at_net = net;
+  at_node = node;
+  socket = socket;
+  enumerator = enumerator;
+  object_some = (text_bounds 1 t.object object).0;
+  object_few = (text_bounds 1 t.object object).1;
+  kind_some = (text_bounds 1 t.kind kind).0;
+  kind_few = (text_bounds 1 t.kind kind).1;
+  zone_few = (text_bounds 0 t.zone zone).1;
+}
+
+-- a list of one
+only_one : (f : Function) (id : ℕ) (tuples : List Tuple) → length tuples ≡ 1 → ListPasses (λ low. IsValue tuple) (λ t. 0) 0 tuples
+    → (t : Tuple) × IsTuple t × (record { function = f; id = id; tuples = tuples } ≡ packet_of f id t)
+only_one f id [] one each = absurd (omega arith)
+only_one f id (t ∷ []) one each = (t, is_tuple t each.0, refl)
+only_one f id (t ∷ u ∷ tuples) one each = absurd (omega arith)
+
+one_in : (f : Function) (id : ℕ) (tuples : List Tuple) → (f ≡ Reply → ⊥)
+    → IsValue packet (record { function = f; id = id; tuples = tuples })
+    → (t : Tuple) × IsTuple t × (record { function = f; id = id; tuples = tuples } ≡ packet_of f id t)
+unfolding packet
+one_in f id tuples other ((fits, good), (id_good, (len, each, whole))) =
+    let b = number_of f * 16 + length tuples in
+    let n : b / 16 ≡ number_of f = omega (arith, len) in
+    let m : b % 16 ≡ length tuples = omega (arith, len) in
+    let count : is_count (b / 16) (b % 16) ≡ true = right_count (is_function (b / 16)) _ _ _ good in
+    let same : is_count (number_of f) (length tuples) ≡ true =
+    sym (ap (is_count (number_of f)) m) ∙ sym (ap (λ (k : ℕ). is_count k (b % 16)) n) ∙ count in
+    only_one f id tuples (count_is_one f (length tuples) other same) each
+
+pub one_tuple : (p : NbpPacket) (bytes : List ℕ) → Begins packet bytes p → (p.function ≡ Reply → ⊥)
+    → (t : Tuple) × IsTuple t × (p ≡ packet_of p.function p.id t)
+one_tuple p bytes (rest, parts, h, f) other = one_in p.function p.id p.tuples other h
 
 -- ---- The key of a request
 

@@ -8,7 +8,9 @@ mod names;
 mod packet;
 mod tuple;
 
-pub use laws::{functions_leave_the_key, trailing_bytes_leave_the_key, written_is_read};
+pub use laws::{
+    functions_leave_the_key, requests_have_one_tuple, trailing_bytes_leave_the_key, written_is_read,
+};
 pub use matching::matches;
 pub use names::{MAX_NAMES, Named, Names};
 pub use packet::{Function, Packet, Tuples, write};

@@ -24,7 +24,7 @@ pub struct Tuple {
     pub object: Text32,
     /// The type, or a pattern for it.
     pub kind: Text32,
-    /// The zone; empty or `*` for the asker's own.
+    /// The zone. In a lookup, an empty one and `*` stand for that of whoever hears it.
     pub zone: Text32,
 }
 
@@ -101,7 +101,7 @@ impl<'a> TupleView<'a> {
         self.kind
     }
 
-    /// The zone; empty or `*` for the asker's own.
+    /// The zone. In a lookup, an empty one and `*` stand for that of whoever hears it.
     pub fn zone(&self) -> &'a [u8]
         ensures value { result.now ≡ self.now.zone }
         ensures few { length self.now.zone ≤ 32 }

@@ -9,8 +9,8 @@ use named::{
     answer_for, answers, copied, fill, finds, lab, load_two, no_names, register, rise_to, three,
 };
 use nbp::{
-    Function, MAX_NAMES, Packet, functions_leave_the_key, matches, trailing_bytes_leave_the_key,
-    written_is_read,
+    Function, MAX_NAMES, Packet, functions_leave_the_key, matches, requests_have_one_tuple,
+    trailing_bytes_leave_the_key, written_is_read,
 };
 use packets::{
     COUNT, FUNCTION, NAME_LENGTH, REPLY, REQUEST, TRUNCATED, answered, asked, full_reply,
@@ -57,6 +57,7 @@ fn each_function_has_its_number(rt: HostRuntime) -> Result<(), Fail> {
         assert_eq!(rt; bytes.as_slice(), expected.as_slice());
         assert!(rt; reads(&expected, function, 1, &tuple));
     }
+    requests_have_one_tuple();
     functions_leave_the_key();
     Ok(())
 }
