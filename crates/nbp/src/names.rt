@@ -66,6 +66,7 @@ fn are_registrable(object: &Text32, kind: &Text32) -> bool
     ensures value { result ≡ (registrable object.now && registrable kind.now) }
     ensures few { (length object.now ≤ 32) × (length kind.now ≤ 32) }
 {
+    // Both are looked at always, so that both are known to be short.
     let is_kind = is_registrable(kind);
     is_registrable(object) && is_kind
 }
@@ -155,6 +156,25 @@ fn answer_for(name: &Named) -> Tuple
     }
 }
 
+/// The tuples that answer for those of the names that both patterns match.
+fn answers_of(
+    alloc: Global,
+    names: &[Named],
+    object: &[u8],
+    kind: &[u8],
+) -> Result<Vec<Tuple>, Error>
+    ensures ok { IfOk result (λ tuples. tuples.items ≡ answers object.now kind.now names.now) }
+    ensures refused { IsOkUnless result Error.Memory }
+{
+    let mut tuples = Vec::with_capacity(alloc, names.len())?;
+    for name in names {
+        if is_asked_for(object, kind, name) {
+            tuples.push(answer_for(name))?;
+        }
+    }
+    Ok(tuples)
+}
+
 impl Names {
     /// No names. Error: `Memory`.
     pub fn new(alloc: Global) -> Result<Names, Error>
@@ -166,7 +186,8 @@ impl Names {
         })
     }
 
-    /// These names, as they are given; an object and a type may be there twice. Error: `Memory`.
+    /// These names, as they are given: at most 32 that a node may have, strictly rising by
+    /// enumerator; an object and a type may be there twice. Error: `Memory`.
     pub fn load(alloc: Global, names: &[Named]) -> Result<Names, Error>
         requires { IsNames names.now }
         ensures ok { IfOk result (λ loaded. loaded ≡ names.now) }
@@ -269,23 +290,4 @@ impl Names {
         let alloc = *self.names.allocator();
         answers_of(alloc, self.names.as_slice(), object, kind)
     }
-}
-
-/// The tuples that answer for those of the names that both patterns match.
-fn answers_of(
-    alloc: Global,
-    names: &[Named],
-    object: &[u8],
-    kind: &[u8],
-) -> Result<Vec<Tuple>, Error>
-    ensures ok { IfOk result (λ tuples. tuples.items ≡ answers object.now kind.now names.now) }
-    ensures refused { IsOkUnless result Error.Memory }
-{
-    let mut tuples = Vec::with_capacity(alloc, names.len())?;
-    for name in names {
-        if is_asked_for(object, kind, name) {
-            tuples.push(answer_for(name))?;
-        }
-    }
-    Ok(tuples)
 }
