@@ -91,6 +91,7 @@ fn other_functions_are_refused(rt: HostRuntime) -> Result<(), Fail> {
         assert_eq!(rt; refusal(&[head, 1]), FUNCTION);
         assert_eq!(rt; refusal(&[head]), TRUNCATED);
     }
+    assert_eq!(rt; refusal(&[0x10, 1]), COUNT);
     assert_eq!(rt; refusal(&[0x22, 1]), COUNT);
     assert_eq!(rt; refusal(&[0x22]), TRUNCATED);
     Ok(())
