@@ -1,0 +1,44 @@
+-- Tuples in place: the first of so many, and the others after it.
+use Rattle.std.proofs.Common.{◌≡◌, ℕ, suc, List, [], ◌∷◌, Ok, Err, refl, sym, ◌∙◌}
+use Rattle.at_base.specs.declared.error.Error.{Error}
+use Rattle.at_base.specs.Packets.{packets}
+use Rattle.at_base.specs.Reading.{◌>>=◌, read}
+use Rattle.at_base.proofs.Fields.{ok}
+use Rattle.nbp.specs.declared.tuple.Tuple.{Tuple}
+use Rattle.nbp.specs.Packets.{tuple, tuples_read, tuples_in, BeginWith}
+
+first_read : (n : ℕ) (bytes : List ℕ) (t : Tuple) (after : List ℕ) → read packets tuple bytes ≡ Ok (t, after)
+    → tuples_read (suc n) bytes ≡ (tuples_read n after >>= λ xs. Ok (t ∷ xs.0, xs.1))
+unfolding tuples_read
+first_read n bytes t after e = rw e refl
+
+first_refused : (n : ℕ) (bytes : List ℕ) (e : Error) → read packets tuple bytes ≡ Err e → tuples_read (suc n) bytes ≡ Err e
+unfolding tuples_read
+first_refused n bytes e h = rw h refl
+
+pub none_left : (bytes : List ℕ) → tuples_in 0 bytes ≡ []
+unfolding tuples_read
+none_left bytes = refl
+
+-- what is left after the first tuple
+pub record Step (n : ℕ) (bytes : List ℕ) (t : Tuple) (after : List ℕ) : Type 0 where
+  pub is : tuples_in (suc n) bytes ≡ t ∷ tuples_in n after
+  pub rest : BeginWith n after
+
+pub step : (n : ℕ) (bytes : List ℕ) (t : Tuple) (after : List ℕ) → BeginWith (suc n) bytes → read packets tuple bytes ≡ Ok (t, after)
+    → Step n bytes t after
+step n bytes t after h e =
+    let first = first_read n bytes t after e in
+    (elim (tuples_read n after) as (λ r. tuples_read n after ≡ r → Step n bytes t after) [
+      | Ok x ↦ λ o. record { is = rw (first, o) refl; rest = record { rest = x.1; read = rw o refl } }
+      | Err f ↦ λ o.
+          let bad : Err f ≡ ok {E = Error} {A = List Tuple × List ℕ} (tuples_in (suc n) bytes, h.rest) =
+          sym (first ∙ rw o refl) ∙ h.read in
+          absurd cc
+    ]) refl
+
+pub not_refused : (n : ℕ) (bytes : List ℕ) (e : Error) → BeginWith (suc n) bytes → read packets tuple bytes ≡ Err e → ⊥
+not_refused n bytes e h f =
+    let bad : Err e ≡ ok {E = Error} {A = List Tuple × List ℕ} (tuples_in (suc n) bytes, h.rest) =
+    sym (first_refused n bytes e f) ∙ h.read in
+    cc

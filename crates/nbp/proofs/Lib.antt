@@ -1,0 +1,4 @@
+pub mod Patterns
+pub mod Shape
+pub mod InPlace
+pub mod Registering

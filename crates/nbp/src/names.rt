@@ -1,0 +1,293 @@
+//! The names that a node has registered.
+
+ghost use Rattle.std.specs.Prelude.{◌≡◌, ◌↔◌, ◌≤◌, ◌<◌, ◌&&◌, ◌⊎◌, [], length, true, false, not};
+ghost use Rattle.std.specs.Prelude.{IsTrue, IfOk, IfErr, OnOk, OnErr, IsOkUnless, vec_len};
+ghost use Rattle.std.specs.Prelude.{vec_capacity};
+ghost use Rattle.at_base.specs.declared.error.Field.TheVariants.{Taken};
+ghost use Rattle.at_base.specs.declared.error.What.TheVariants.{Name as NoName};
+ghost use Rattle.nbp.specs.Registered.{IsNames, IsLeastFree, is_taken as taken_in};
+ghost use Rattle.nbp.specs.Registered.{is_registrable as registrable, has as has_number};
+ghost use Rattle.nbp.specs.Registered.{free_from, with_name, without as without_number, before};
+ghost use Rattle.nbp.specs.Registered.{tuple_of, is_asked_for as asked_for, answers};
+
+use crate::matching::{matches, same};
+use crate::tuple::Tuple;
+use at_base::{Addr, Error, Field, Text32, What, is_entity};
+use std::alloc::Global;
+use std::marker::Model;
+
+/// The most names of a node. This project's own.
+pub const MAX_NAMES: usize = 32;
+
+/// A name that a node has registered for one of its sockets. Its zone is the node's.
+///
+/// Inside AppleTalk, the chapter on NBP.
+#[derive(Clone, Copy, Debug, PartialEq, Eq)]
+pub struct Named {
+    /// The number of the socket, 1 to 254.
+    pub socket: u8,
+    /// The number that tells the names of a node apart, from 1.
+    pub enumerator: u8,
+    /// The object: 1 to 32 bytes, none of them the wildcard C5, and not `=` alone.
+    pub object: Text32,
+    /// The type, of which the same holds.
+    pub kind: Text32,
+}
+
+/// The names that a node has registered, which contracts see as a list.
+#[derive(Debug, Drop)]
+pub struct Names {
+    names: Vec<Named>,
+}
+
+impl Model for Names {
+    ghost use Rattle.std.specs.Prelude.{List};
+    ghost use Rattle.nbp.specs.declared.names.Named.{Named as NamedValue};
+    ghost use Rattle.nbp.specs.Registered.{IsNames};
+
+    ghost Value = { List NamedValue };
+
+    ghost view = { λ n. n.names.items };
+
+    ghost invariant = { λ n. IsNames n.names.items };
+}
+
+/// Whether the text may be the object or the type of a name.
+fn is_registrable(text: &Text32) -> bool
+    ensures value { result ≡ registrable text.now }
+    ensures few { length text.now ≤ 32 }
+{
+    let text = text.as_slice();
+    1 <= text.len() && is_entity(text)
+}
+
+/// Whether a name may have this object and this type.
+fn are_registrable(object: &Text32, kind: &Text32) -> bool
+    ensures value { result ≡ (registrable object.now && registrable kind.now) }
+    ensures few { (length object.now ≤ 32) × (length kind.now ≤ 32) }
+{
+    // Both are looked at always, so that both are known to be short.
+    let is_kind = is_registrable(kind);
+    is_registrable(object) && is_kind
+}
+
+/// Whether a name has this object and this type, whatever the case of their letters.
+fn is_taken(names: &[Named], object: &Text32, kind: &Text32) -> bool
+    ensures { result ≡ taken_in object.now kind.now names.now }
+{
+    names.iter().any(|name| {
+        same(object.as_slice(), name.object.as_slice())
+            && same(kind.as_slice(), name.kind.as_slice())
+    })
+}
+
+/// Whether a name has this enumerator.
+fn has(names: &[Named], enumerator: u8) -> bool
+    ensures { result ≡ has_number enumerator names.now }
+{
+    names.iter().any(|name| name.enumerator == enumerator)
+}
+
+/// The least enumerator from 1 that none of the names has, which rise by enumerator.
+fn least_free(names: &[Named]) -> u8
+    requires few { length names.now ≤ 32 }
+    ensures value { result ≡ free_from 1 names.now }
+    ensures near { result ≤ 33 }
+{
+    let mut free = 1;
+    for name in names {
+        if name.enumerator != free {
+            return free;
+        }
+        free += 1;
+    }
+    free
+}
+
+/// The index of the first name whose enumerator isn't below this one, or the number of names.
+fn place_for(names: &[Named], enumerator: u8) -> usize
+    ensures place { result ≡ before enumerator names.now }
+    ensures inside { result ≤ length names.now }
+{
+    let mut index = 0;
+    for name in names {
+        if name.enumerator >= enumerator {
+            return index;
+        }
+        index += 1;
+    }
+    index
+}
+
+/// Adds the name, where there is room for it.
+fn put(names: &mut Vec<Named>, name: Named)
+    requires { vec_len names.old < vec_capacity names.old }
+    ensures { names.new.items ≡ with_name name names.old.items }
+{
+    let index = place_for(names.as_slice(), name.enumerator);
+    names.insert(index, name).unwrap();
+}
+
+/// Takes out the name with this enumerator.
+fn take_out(names: &mut Vec<Named>, enumerator: u8)
+    ensures { names.new.items ≡ without_number enumerator names.old.items }
+{
+    names.retain(|name| name.enumerator != enumerator);
+}
+
+/// Whether the name's object and type match these patterns.
+fn is_asked_for(object: &[u8], kind: &[u8], name: &Named) -> bool
+    ensures { result ≡ asked_for object.now kind.now name.now }
+{
+    matches(object, name.object.as_slice()) && matches(kind, name.kind.as_slice())
+}
+
+/// The tuple that answers for a name, without an address and a zone.
+fn answer_for(name: &Named) -> Tuple
+    ensures { result ≡ tuple_of name.now }
+{
+    Tuple {
+        at: Addr::NONE,
+        socket: name.socket,
+        enumerator: name.enumerator,
+        object: name.object,
+        kind: name.kind,
+        zone: Text32::new(&[]).unwrap(),
+    }
+}
+
+/// The tuples that answer for those of the names that both patterns match.
+fn answers_of(
+    alloc: Global,
+    names: &[Named],
+    object: &[u8],
+    kind: &[u8],
+) -> Result<Vec<Tuple>, Error>
+    ensures ok { IfOk result (λ tuples. tuples.items ≡ answers object.now kind.now names.now) }
+    ensures refused { IsOkUnless result Error.Memory }
+{
+    let mut tuples = Vec::with_capacity(alloc, names.len())?;
+    for name in names {
+        if is_asked_for(object, kind, name) {
+            tuples.push(answer_for(name))?;
+        }
+    }
+    Ok(tuples)
+}
+
+impl Names {
+    /// No names. Error: `Memory`.
+    pub fn new(alloc: Global) -> Result<Names, Error>
+        ensures ok { IfOk result (λ names. names ≡ []) }
+        ensures refused { IsOkUnless result Error.Memory }
+    {
+        Ok(Names {
+            names: Vec::new(alloc),
+        })
+    }
+
+    /// These names, as they are given: at most 32 that a node may have, strictly rising by
+    /// enumerator; an object and a type may be there twice. Error: `Memory`.
+    pub fn load(alloc: Global, names: &[Named]) -> Result<Names, Error>
+        requires { IsNames names.now }
+        ensures ok { IfOk result (λ loaded. loaded ≡ names.now) }
+        ensures refused { IsOkUnless result Error.Memory }
+    {
+        let names = Vec::from_slice(alloc, names)?;
+        Ok(Names { names })
+    }
+
+    /// The names, by rising enumerator. Allocates nothing.
+    pub fn entries(&self) -> &[Named]
+        ensures value { result.now ≡ self.now }
+        ensures names { IsNames self.now }
+    {
+        self.names.as_slice()
+    }
+
+    /// The same names. Error: `Memory`.
+    pub fn copy(&self) -> Result<Names, Error>
+        ensures ok { IfOk result (λ names. names ≡ self.now) }
+        ensures refused { IsOkUnless result Error.Memory }
+    {
+        let names = Vec::from_slice(*self.names.allocator(), self.names.as_slice())?;
+        Ok(Names { names })
+    }
+
+    /// Registers a name for a socket, and gives it the least free enumerator from 1.
+    ///
+    /// Errors: `BadName` where the object or the type is empty, is `=` alone or has a wildcard C5;
+    /// `BadField(Taken)` where the object and the type are registered, whatever the case of their
+    /// letters; `Full` where there are 32 names; `Memory`. A refusal changes nothing.
+    pub fn register(&mut self, object: Text32, kind: Text32, socket: u8) -> Result<u8, Error>
+        requires low { 1 ≤ socket }
+        requires high { socket ≤ 254 }
+        ensures free { IfOk result (λ e. IsLeastFree self.old e) }
+        ensures added { IfOk result (λ e. self.new ≡ with_name (record {
+          socket = socket;
+          enumerator = e;
+          object = object;
+          kind = kind;
+        }) self.old) }
+        ensures bad { (result ≡ Err Error.BadName)
+            ↔ ((registrable object && registrable kind) ≡ false) }
+        ensures taken { (result ≡ Err (Error.BadField Taken))
+            ↔ (((registrable object && registrable kind) ≡ true)
+            × (taken_in object kind self.old ≡ true)) }
+        ensures full { (result ≡ Err Error.Full)
+            ↔ (((registrable object && registrable kind) ≡ true)
+            × (taken_in object kind self.old ≡ false)
+            × (32 ≤ length self.old)) }
+        ensures refused { IfErr result (λ e. (e ≡ Error.BadName) ⊎ (e ≡ Error.BadField Taken)
+            ⊎ (e ≡ Error.Full) ⊎ (e ≡ Error.Memory)) }
+        ensures kept { OnErr result (self.new ≡ self.old) }
+    {
+        if !are_registrable(&object, &kind) {
+            return Err(Error::BadName);
+        }
+        if is_taken(self.names.as_slice(), &object, &kind) {
+            return Err(Error::BadField(Field::Taken));
+        }
+        if self.names.len() >= MAX_NAMES {
+            return Err(Error::Full);
+        }
+        // Room is made first: a refusal then leaves the names as they are.
+        self.names.reserve(1)?;
+        let enumerator = least_free(self.names.as_slice());
+        let name = Named {
+            socket,
+            enumerator,
+            object,
+            kind,
+        };
+        put(&mut self.names, name);
+        Ok(enumerator)
+    }
+
+    /// Takes out the name with this enumerator. Allocates nothing.
+    ///
+    /// Error: `NoSuch(Name)` where there is none; nothing changes then.
+    pub fn remove(&mut self, enumerator: u8) -> Result<(), Error>
+        ensures removed { OnOk result (self.new ≡ without_number enumerator self.old) }
+        ensures unknown { (result ≡ Err (Error.NoSuch NoName))
+            ↔ (has_number enumerator self.old ≡ false) }
+        ensures refused { IsOkUnless result (Error.NoSuch NoName) }
+        ensures kept { OnErr result (self.new ≡ self.old) }
+    {
+        if !has(self.names.as_slice(), enumerator) {
+            return Err(Error::NoSuch(What::Name));
+        }
+        take_out(&mut self.names, enumerator);
+        Ok(())
+    }
+
+    /// What answers a lookup: the names whose object and type match these patterns, by rising
+    /// enumerator, each without an address and a zone. Error: `Memory`.
+    pub fn answer(&self, object: &[u8], kind: &[u8]) -> Result<Vec<Tuple>, Error>
+        ensures ok { IfOk result (λ tuples. tuples.items ≡ answers object.now kind.now self.now) }
+        ensures refused { IsOkUnless result Error.Memory }
+    {
+        let alloc = *self.names.allocator();
+        answers_of(alloc, self.names.as_slice(), object, kind)
+    }
+}

@@ -1,0 +1,293 @@
+//! Packets that ask for names or answer: a reader that borrows, and a writer.
+
+ghost use Rattle.std.specs.Prelude.{◌≡◌, ◌<◌, ◌≤◌, ◌∷◌, ◌++◌, ◌*◌, ◌+◌, ◌-◌, ◌%◌, List, length};
+ghost use Rattle.std.specs.Prelude.{[], IfOk, IfNone, IfSome, IsOkUnless};
+ghost use Rattle.at_base.specs.Grammar.{number, one};
+ghost use Rattle.at_base.specs.Packets.{packets};
+ghost use Rattle.at_base.specs.Reading.{Gives, Reads, field_at, read as read_by};
+ghost use Rattle.at_base.specs.Spelling.{bytes_of};
+ghost use Rattle.nbp.specs.declared.tuple.Tuple.{Tuple as TupleValue};
+ghost use Rattle.nbp.specs.Packets.{packet as spelled_packet, wrong_head, number_of, function_of};
+ghost use Rattle.nbp.specs.Packets.{tuples_read, tuples_in, BeginWith, packet_of, front_bytes};
+
+use crate::tuple::{Tuple, TupleView, tuple_at};
+use at_base::packet::byte_at;
+use at_base::{Addr, Bytes, Error, Field, Text32};
+use std::alloc::Global;
+use std::marker::Model;
+
+/// What a packet is for.
+///
+/// Inside AppleTalk, the chapter on NBP.
+#[derive(Clone, Copy, Debug, PartialEq, Eq)]
+pub enum Function {
+    /// A node asks a router for the names of a zone.
+    BroadcastRequest,
+    /// The nodes of a cable's zone are asked for their names.
+    Lookup,
+    /// A node answers with names of its own.
+    Reply,
+    /// A router asks the routers of another cable to look up names there.
+    ForwardRequest,
+}
+
+/// The function of a number from 1 to 4.
+fn named(number: u8) -> Function
+    ensures { result ≡ function_of number }
+{
+    match number {
+        1 => Function::BroadcastRequest,
+        2 => Function::Lookup,
+        3 => Function::Reply,
+        _ => Function::ForwardRequest,
+    }
+}
+
+/// The first byte: a function that there is, and a number of tuples that it may have.
+fn head_at(bytes: &[u8]) -> Result<(u8, &[u8]), Error>
+    ensures read { Gives (λ x. (x.0, x.1.now)) result
+        (field_at packets (number one wrong_head) bytes.now) }
+    ensures some { IfOk result (λ x. 1 ≤ x.0 % 16) }
+{
+    let (head, rest) = byte_at(bytes)?;
+    let (number, count) = (head / 16, head % 16);
+    if number < 1 || 4 < number {
+        return Err(Error::BadField(Field::Function));
+    }
+    let is_reply = number == 3;
+    if count != 1 && !(is_reply && 1 <= count) {
+        return Err(Error::BadField(Field::Count));
+    }
+    Ok((head, rest))
+}
+
+/// Goes through so many tuples, and gives the bytes after them.
+fn check_tuples(count: u8, bytes: &[u8]) -> Result<&[u8], Error>
+    ensures { Gives (λ rest. (tuples_in count bytes.now, rest.now)) result
+        (tuples_read count bytes.now) }
+{
+    let mut rest = bytes;
+    for _ in 0..count {
+        match tuple_at(rest) {
+            Ok((_, after)) => rest = after,
+            Err(error) => return Err(error),
+        }
+    }
+    Ok(rest)
+}
+
+/// The function, the ID, and the number of the tuples, which are in place.
+#[tactic(auto, unfolding(crate::specs::Packets::packet, crate::specs::Packets::tuples_read))]
+fn parts_of(bytes: &[u8]) -> Result<(Packet<'_>, &[u8]), Error>
+    ensures { Gives (λ x. (x.0, x.1.now)) result (read_by packets spelled_packet bytes.now) }
+{
+    if bytes.len() < 2 {
+        return Err(Error::Truncated);
+    }
+    let (head, rest) = head_at(bytes)?;
+    let (id, tuples) = byte_at(rest)?;
+    let count = head % 16;
+    let rest = check_tuples(count, tuples)?;
+    let packet = Packet {
+        function: named(head / 16),
+        id,
+        count,
+        tuples,
+    };
+    Ok((packet, rest))
+}
+
+/// A packet in place, which contracts see as a packet. It borrows the input.
+///
+/// Inside AppleTalk, the chapter on NBP.
+#[derive(Debug, Drop)]
+pub struct Packet<'a> {
+    function: Function,
+    id: u8,
+    count: u8,
+    tuples: &'a [u8],
+}
+
+impl<'a> Model for Packet<'a> {
+    ghost use Rattle.std.specs.Prelude.{◌≤◌};
+    ghost use Rattle.nbp.specs.Packets.{NbpPacket, BeginWith, packet_in};
+
+    ghost Value = { NbpPacket };
+
+    ghost view = { λ p. packet_in p.function p.id p.count p.tuples.now };
+
+    ghost invariant = { λ p. (1 ≤ p.count) × BeginWith p.count p.tuples.now };
+}
+
+impl<'a> Packet<'a> {
+    /// The packet with which the bytes begin; what follows its tuples is ignored. Allocates
+    /// nothing.
+    ///
+    /// Errors, from left to right: `Truncated` below 2 bytes; `BadField` of `Function` where that
+    /// isn't 1 to 4, and of `Count` where there isn't one tuple, or in a reply at least one; then
+    /// `Truncated` where the input ends within a part, and `BadField(NameLength)` where an object
+    /// or a type hasn't 1 to 32 bytes, or a zone has more than 32.
+    pub fn read(bytes: &'a [u8]) -> Result<Packet<'a>, Error>
+        ensures { Reads packets spelled_packet (λ d. d) (λ p. p) bytes.now result }
+    {
+        match parts_of(bytes) {
+            Ok((packet, _)) => Ok(packet),
+            Err(error) => Err(error),
+        }
+    }
+
+    /// What it is for.
+    pub fn function(&self) -> Function
+        ensures { result ≡ self.now.function }
+    {
+        self.function
+    }
+
+    /// The ID by which the asker knows the replies to its request.
+    pub fn id(&self) -> u8
+        ensures { result ≡ self.now.id }
+    {
+        self.id
+    }
+
+    /// The first tuple; each packet has one.
+    pub fn first(&self) -> TupleView<'a>
+        ensures { (rest : List TupleValue) × (self.now.tuples ≡ result ∷ rest) }
+    {
+        match next_in(self.count, self.tuples) {
+            Some((tuple, _)) => tuple,
+            None => unreachable!(),
+        }
+    }
+
+    /// The tuples, in order.
+    pub fn tuples(&self) -> Tuples<'a>
+        ensures { result ≡ self.now.tuples }
+    {
+        Tuples {
+            left: self.count,
+            rest: self.tuples,
+        }
+    }
+}
+
+/// The first of so many tuples with which the bytes begin, and the bytes after it.
+fn next_in(left: u8, bytes: &[u8]) -> Option<(TupleView<'_>, &[u8])>
+    requires { BeginWith left bytes.now }
+    ensures none { IfNone result (left ≡ 0) }
+    ensures end { IfNone result (tuples_in left bytes.now ≡ []) }
+    ensures some { IfSome result (λ x. (1 ≤ left) × (tuples_in left bytes.now
+        ≡ x.0 ∷ tuples_in (left - 1) x.1.now)) }
+    ensures rest { IfSome result (λ x. BeginWith (left - 1) x.1.now) }
+{
+    if left == 0 {
+        return None;
+    }
+    match tuple_at(bytes) {
+        Ok((tuple, rest)) => Some((tuple, rest)),
+        Err(_) => unreachable!(),
+    }
+}
+
+/// The tuples of a packet that are left, which contracts see as a list.
+#[derive(Debug, Drop)]
+pub struct Tuples<'a> {
+    left: u8,
+    rest: &'a [u8],
+}
+
+impl<'a> Model for Tuples<'a> {
+    ghost use Rattle.std.specs.Prelude.{List};
+    ghost use Rattle.nbp.specs.declared.tuple.Tuple.{Tuple as TupleValue};
+    ghost use Rattle.nbp.specs.Packets.{BeginWith, tuples_in};
+
+    ghost Value = { List TupleValue };
+
+    ghost view = { λ t. tuples_in t.left t.rest.now };
+
+    ghost invariant = { λ t. BeginWith t.left t.rest.now };
+}
+
+impl<'a> Iterator for Tuples<'a> {
+    type Item = TupleView<'a>;
+
+    ghost use Rattle.std.specs.Prelude.{◌≡◌, ◌++◌, [], length, option_to_list, IfNone};
+    ghost use Rattle.std.specs.Iterator.{at_most};
+
+    ghost next_gives = { λ old result new. (old ≡ option_to_list result ++ new)
+        × IfNone result (old ≡ []) };
+
+    ghost remaining = { λ left. at_most (length left) };
+
+    fn next(&mut self) -> Option<TupleView<'a>> {
+        match next_in(self.left, self.rest) {
+            Some((tuple, rest)) => {
+                self.left -= 1;
+                self.rest = rest;
+                Some(tuple)
+            }
+            None => None,
+        }
+    }
+}
+
+/// The first byte of a packet of one tuple.
+fn head(function: Function) -> u8
+    ensures { result ≡ number_of function * 16 + 1 }
+{
+    match function {
+        Function::BroadcastRequest => 0x11,
+        Function::Lookup => 0x21,
+        Function::Reply => 0x31,
+        Function::ForwardRequest => 0x41,
+    }
+}
+
+/// The bytes before the texts.
+fn front(function: Function, id: u8, at: Addr, socket: u8, enumerator: u8) -> [u8; 7]
+    ensures bytes { result ≡ front_bytes function id at socket enumerator }
+    ensures fits { (at.node < 256) × (socket < 256) × (enumerator < 256) }
+{
+    let [high, low] = at.net.to_be_bytes();
+    [head(function), id, high, low, at.node, socket, enumerator]
+}
+
+/// Writes a text after its length.
+fn put_text(bytes: &mut Vec<u8>, text: &Text32) -> Result<(), Error>
+    ensures put { IfOk result (λ _. bytes.new.items
+        ≡ bytes.old.items ++ (length text.now ∷ text.now)) }
+    ensures few { length text.now ≤ 32 }
+    ensures refused { IsOkUnless result Error.Memory }
+{
+    let text = text.as_slice();
+    bytes.push(text.len() as u8)?;
+    bytes.extend_from_slice(text)?;
+    Ok(())
+}
+
+/// The bytes of a packet of one tuple. Allocates exactly its length.
+///
+/// Inside AppleTalk, the chapter on NBP.
+///
+/// Error: `Memory`.
+pub fn write(alloc: Global, function: Function, id: u8, tuple: &Tuple) -> Result<Bytes, Error>
+    ensures ok { IfOk result (λ bytes. bytes
+        ≡ bytes_of spelled_packet (packet_of function id tuple.now)) }
+    ensures refused { IsOkUnless result Error.Memory }
+{
+    let Tuple {
+        at,
+        socket,
+        enumerator,
+        object,
+        kind,
+        zone,
+    } = *tuple;
+    let len = object.as_slice().len() + kind.as_slice().len() + zone.as_slice().len();
+    let mut bytes = Vec::with_capacity(alloc, 10 + len)?;
+    bytes.extend_from_slice(&front(function, id, at, socket, enumerator))?;
+    put_text(&mut bytes, &object)?;
+    put_text(&mut bytes, &kind)?;
+    put_text(&mut bytes, &zone)?;
+    Ok(Bytes::from_vec(bytes))
+}
