@@ -4,6 +4,7 @@
 mod again;
 mod packets;
 mod pages;
+mod readme;
 mod tables;
 
 use at_base::{Error, Field};
@@ -71,6 +72,12 @@ fn all_zones_are_those_of_complete_lists(rt: HostRuntime) -> Result<(), Fail> {
 #[test]
 fn what_is_due_has_no_complete_list(rt: HostRuntime) -> Result<(), Fail> {
     assert!(rt; due_is(rt.alloc())?);
+    Ok(())
+}
+
+#[test]
+fn the_readme_finds_the_cables_of_blue(rt: HostRuntime) -> Result<(), Fail> {
+    assert!(rt; readme::is_on_10_19(rt.alloc())?);
     Ok(())
 }
 
