@@ -7,3 +7,4 @@ mod Slots
 mod Steps
 mod Due
 mod Copies
+mod Requests

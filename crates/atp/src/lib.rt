@@ -18,4 +18,4 @@ pub use outcome::{Outcome, Response};
 pub use packet::{HEADER_LEN, MAX_DATA, MAX_PARTS, Packet, write};
 pub use request::Todo;
 pub use requester::{MAX_OPEN, Requester};
-pub use responder::{MAX_REQUESTS, Responder};
+pub use responder::{MAX_REQUESTS, Responder, requests_are_few};
