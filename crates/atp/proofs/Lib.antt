@@ -8,3 +8,4 @@ mod Steps
 mod Due
 mod Copies
 mod Requests
+pub mod Complete

@@ -52,6 +52,12 @@ end_key p t = keeps (is_end p.control) (record t { missing = cut false (p.part +
 status_key : (p : AtpPacket) (t : Transaction) → key (with_status p t) ≡ key t
 status_key p t = keeps (wants_status p.control && is_waiting t && ltb 0 t.tries) (record t { due = true }) t t refl refl
 
+pub part_ask : (p : AtpPacket) (t : Transaction) → (with_part p t).ask ≡ t.ask
+part_ask p t = ap (λ (k : ℕ × Ask). k.1) (part_key p t)
+
+pub end_ask : (p : AtpPacket) (t : Transaction) → (with_end p t).ask ≡ t.ask
+end_ask p t = ap (λ (k : ℕ × Ask). k.1) (end_key p t)
+
 taken_key : (p : AtpPacket) (t : Transaction) → key (taken p t) ≡ key t
 taken_key p t = status_key p (with_end p (with_part p t)) ∙ end_key p (with_part p t) ∙ part_key p t
 

@@ -8,3 +8,4 @@ pub mod Requesting
 pub mod Slots
 pub mod Copies
 pub mod Outcomes
+pub mod Complete

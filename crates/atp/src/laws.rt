@@ -1,12 +1,42 @@
-//! Laws of transactions, for the crates above: each is the contract of a function that does nothing.
+//! Laws of transactions, for the crates above: each is the contract of a function that does
+//! nothing.
 
-ghost use Rattle.std.specs.Prelude.{◌≡◌, List, ℕ};
+ghost use Rattle.std.specs.Prelude.{◌≡◌, ◌↔◌, List, ℕ, false};
 ghost use Rattle.at_base.specs.Spelling.{bytes_of, Begins};
+ghost use Rattle.atp.specs.declared.ask.Ask.{Ask};
+ghost use Rattle.atp.specs.declared.ask.AnswerPart.{AnswerPart};
+ghost use Rattle.atp.specs.declared.outcome.Outcome.TheVariants.{Complete, Waiting};
+ghost use Rattle.atp.specs.Bitmaps.{asks_for};
+ghost use Rattle.atp.specs.Complete.{CompleteResponse, Step, history, is_missing, is_whole, run};
+ghost use Rattle.atp.specs.Outcomes.{outcome_of};
 ghost use Rattle.atp.specs.Packets.{AtpPacket, IsPacket, packet};
+ghost use Rattle.atp.specs.Requesting.{IsAsk, begun, request_of};
 
 /// What was written is read back, where nothing follows it.
 pub fn written_is_read()
     ensures { (p : AtpPacket) → IsPacket p
         → Begins packet (bytes_of packet p) p
         × ((d : AtpPacket) → Begins packet (bytes_of packet p) d → d ≡ p) }
+{}
+
+/// A response is complete exactly when each of its parts has come: after any steps of a transaction
+/// that may be asked, it is answered with the first copy of each part, up to the least one marked
+/// as the end, of the packets that it heard; it waits while one of these is missing; and its
+/// request asks for those that are.
+///
+/// The steps are what the calls of a requester do to the transaction of one number, between
+/// `begin`, which leaves it as `begun`, and `result`, which gives its `outcome_of`: `heard` a step
+/// `Came`, `request` a step `Sent`, `tick` a step `Tick`, by their clauses on `known`.
+pub fn complete_response()
+    ensures complete { (steps : List Step) (id : ℕ) (ask : Ask) (parts : List AnswerPart)
+        → IsAsk ask → let t = run steps (begun id ask) in
+        (outcome_of t ≡ Complete parts)
+        ↔ ((t.failed ≡ false) × CompleteResponse ask.parts (history steps id ask) parts) }
+    ensures waiting { (steps : List Step) (id : ℕ) (ask : Ask) → IsAsk ask
+        → let t = run steps (begun id ask) in
+        (outcome_of t ≡ Waiting)
+        ↔ ((t.failed ≡ false) × (is_whole ask.parts (history steps id ask) ≡ false)) }
+    ensures missing { (steps : List Step) (id : ℕ) (ask : Ask) (i : ℕ) → IsAsk ask
+        → asks_for (request_of (run steps (begun id ask))).part i
+        ≡ is_missing ask.parts (history steps id ask) i }
 {}
