@@ -9,3 +9,4 @@ mod Due
 mod Copies
 mod Requests
 pub mod Complete
+mod CompleteExample

@@ -9,3 +9,4 @@ pub mod Slots
 pub mod Copies
 pub mod Outcomes
 pub mod Complete
+pub mod CompleteExample

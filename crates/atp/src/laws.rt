@@ -1,16 +1,17 @@
 //! Laws of transactions, for the crates above: each is the contract of a function that does
 //! nothing.
 
-ghost use Rattle.std.specs.Prelude.{◌≡◌, ◌↔◌, List, ℕ, false};
+ghost use Rattle.std.specs.Prelude.{◌≡◌, ◌↔◌, ◌∷◌, [], List, ℕ, false};
 ghost use Rattle.at_base.specs.Spelling.{bytes_of, Begins};
 ghost use Rattle.atp.specs.declared.ask.Ask.{Ask};
 ghost use Rattle.atp.specs.declared.ask.AnswerPart.{AnswerPart};
 ghost use Rattle.atp.specs.declared.outcome.Outcome.TheVariants.{Complete, Waiting};
 ghost use Rattle.atp.specs.Bitmaps.{asks_for};
 ghost use Rattle.atp.specs.Complete.{CompleteResponse, Step, history, is_missing, is_whole, run};
+ghost use Rattle.atp.specs.CompleteExample.{heard, response, steps, three_parts};
 ghost use Rattle.atp.specs.Outcomes.{outcome_of};
 ghost use Rattle.atp.specs.Packets.{AtpPacket, IsPacket, packet};
-ghost use Rattle.atp.specs.Requesting.{IsAsk, begun, request_of};
+ghost use Rattle.atp.specs.Requesting.{IsAsk, begun, part_of, request_of};
 
 /// What was written is read back, where nothing follows it.
 pub fn written_is_read()
@@ -39,4 +40,15 @@ pub fn complete_response()
     ensures missing { (steps : List Step) (id : ℕ) (ask : Ask) (i : ℕ) → IsAsk ask
         → asks_for (request_of (run steps (begun id ask))).part i
         ≡ is_missing ask.parts (history steps id ask) i }
+{}
+
+/// An example: of three parts asked for, part 1 is the end. What came twice, from another socket or
+/// late isn't in the response. Without an end, the last part is missing until it comes.
+pub fn the_end_may_come_early()
+    ensures asked { IsAsk three_parts }
+    ensures heard { history steps 1 three_parts ≡ heard }
+    ensures complete { CompleteResponse 3 heard
+        (part_of (response 0x80 0 10) ∷ part_of (response 0x90 1 11) ∷ []) }
+    ensures missing { (parts : List AnswerPart)
+        → ¬ CompleteResponse 3 (response 0x80 0 10 ∷ response 0x80 1 11 ∷ []) parts }
 {}
