@@ -10,3 +10,4 @@ mod Copies
 mod Requests
 pub mod Complete
 mod CompleteExample
+mod Replies

@@ -10,3 +10,4 @@ pub mod Copies
 pub mod Outcomes
 pub mod Complete
 pub mod CompleteExample
+pub mod Replies

@@ -196,12 +196,17 @@ impl Responder {
         })
     }
 
+    /// What it takes memory from.
+    pub(crate) fn allocator(&self) -> Global {
+        *self.requests.allocator()
+    }
+
     /// A copy, equal to it. Error: `Memory`.
     pub fn copy(&self) -> Result<Responder, Error>
         ensures ok { IfOk result (λ responder. responder ≡ self.now) }
         ensures refused { IsOkUnless result Error.Memory }
     {
-        match copy_all(*self.requests.allocator(), self.requests.as_slice()) {
+        match copy_all(self.allocator(), self.requests.as_slice()) {
             Ok(requests) => Ok(Responder { requests }),
             Err(error) => Err(error),
         }
@@ -266,7 +271,7 @@ impl Responder {
         if !is_short(parts) {
             return Err(Error::TooLong);
         }
-        let alloc = *self.requests.allocator();
+        let alloc = self.allocator();
         let packets = packets_of(alloc, id, self.requests[place].asked, parts)?;
         if self.requests[place].once {
             // The copy is made first: a refusal then leaves the request as it is.
@@ -292,7 +297,7 @@ impl Responder {
     {
         match kept_answer(self.requests.as_slice(), from, id) {
             Some(answer) => {
-                packets_of(*self.requests.allocator(), id, bitmap, answer.as_slice())
+                packets_of(self.allocator(), id, bitmap, answer.as_slice())
             }
             None => Err(Error::NoSuch(What::Transaction)),
         }
