@@ -1,27 +1,26 @@
 -- What a transaction keeps is what came: which parts are missing, and the first copy of each of the others.
-use Rattle.std.proofs.Common.{◌≡◌, ◌≢◌, ℕ, zero, suc, ◌+◌, ◌<◌, ◌≤◌, ◌-◌, ◌/◌, ◌%◌, ◌*◌, ◌^◌, ◌==◌, ◌&&◌, ◌↔◌}
-use Rattle.std.proofs.Common.{Bool, true, false, cond, not, eqb, ltb, nat_lt, min, List, [], ◌∷◌, ◌++◌, length, map, take, drop}
-use Rattle.std.proofs.Common.{Option, Some, None, is_some, get_or, set, slice_get, filter_map, find, refl, sym, ap, subst, ◌∙◌}
+use Rattle.std.proofs.Common.{◌≡◌, ℕ, zero, suc, ◌+◌, ◌<◌, ◌≤◌, ◌-◌, ◌/◌, ◌%◌, ◌*◌, ◌==◌, ◌&&◌, ◌↔◌}
+use Rattle.std.proofs.Common.{Bool, true, false, cond, not, eqb, ltb, min, List, [], ◌∷◌, ◌++◌, length, map}
+use Rattle.std.proofs.Common.{Option, Some, None, is_some, get_or, slice_get, filter_map, refl, sym, ap, subst, ◌∙◌}
 use Rattle.std.proofs.Common.{inl, inr, arith}
 use Rattle.std.specs.List.{list_any}
 use Rattle.std.specs.Option.{option_map, option_or}
-use Rattle.std.proofs.lemmas.Bool.{and_parts, or_parts, cases_eq, cases_lt, ltb-true, ltb-false, lt-ltb, eqb-true}
-use Rattle.std.proofs.lemmas.Bool.Decides.{nat_tests}
-use Rattle.std.proofs.lemmas.List.{get_or-set_same, get_or-set_other, length-set, length-append, length-take, length-drop, length-map}
-use Rattle.std.proofs.lemmas.List.{get_or_past, get_or-take, get_or_append_left}
+use Rattle.std.proofs.lemmas.Bool.{and_parts, or_parts, cases_eq, ltb-true, lt-ltb, eqb-true}
+use Rattle.std.proofs.lemmas.List.{get_or-set_same, get_or-set_other, length-set}
 use Rattle.std.proofs.lemmas.List.Folds.{find-append}
 use Rattle.std.specs.Int.{bit_at}
 use Rattle.std.proofs.lemmas.Nat.Bits.{bit_at-zero, bit_at_lowest, bit_at-suc}
 use Rattle.atp.specs.declared.ask.AnswerPart.{AnswerPart}
 use Rattle.atp.specs.declared.ask.Ask.{Ask}
-use Rattle.atp.specs.declared.ask.Peer.{Peer}
 use Rattle.atp.specs.declared.transaction.Transaction.{Transaction}
 use Rattle.atp.specs.declared.outcome.Outcome.TheVariants.{Waiting, Complete}
 use Rattle.atp.specs.Outcomes.{outcome_of}
 use Rattle.atp.specs.Packets.{AtpPacket, is_end, wants_status}
-use Rattle.atp.specs.Requesting.{IsAsk, after_hearing, answers, begun, cut, is_complete, is_due, is_heard, is_waiting, part_of, parts_of, request_of, sent, ticked, with_end, with_part, with_status}
+use Rattle.atp.specs.Requesting.{IsAsk, begun, cut, is_complete, is_due, is_heard, is_waiting, part_of, parts_of}
+use Rattle.atp.specs.Requesting.{request_of, sent, ticked, with_end, with_part, with_status}
 use Rattle.atp.specs.Bitmaps.{asks_for, bitmap, first_parts}
-use Rattle.atp.specs.Complete.{CompleteResponse, Step, Came, Sent, Tick, after, all_below, first_copy, heard_after, heard_in, history, is_missing, is_whole, part_count, run}
+use Rattle.atp.specs.Complete.{CompleteResponse, Step, Came, Sent, Tick, after, all_below, first_copy, heard_after, heard_in, history}
+use Rattle.atp.specs.Complete.{is_missing, is_whole, part_count, run}
 use Rattle.atp.proofs.Steps.{end_ask, heard_near, part_ask, taken, taken_ask, ticked_ask}
 
 abbrev Slots : Type 0
@@ -29,11 +28,15 @@ Slots = List (Option AnswerPart)
 
 -- ---- The packets heard, and one more
 
-count_more : (asked : ℕ) (heard : List AtpPacket) (p : AtpPacket) → part_count asked (heard ++ p ∷ []) ≡ cond (is_end p.control) (min (p.part + 1) (part_count asked heard)) (part_count asked heard)
+count_more : (asked : ℕ) (heard : List AtpPacket) (p : AtpPacket)
+    → part_count asked (heard ++ p ∷ []) ≡ cond (is_end p.control) (min (p.part + 1) (part_count asked heard)) (part_count asked heard)
 count_more asked [] p = refl
 count_more asked (q ∷ heard) p =
     let rest = count_more asked heard p in
-    (elim (is_end q.control) as (λ b. is_end q.control ≡ b → part_count asked (q ∷ heard ++ p ∷ []) ≡ cond (is_end p.control) (min (p.part + 1) (part_count asked (q ∷ heard))) (part_count asked (q ∷ heard))) [
+    (elim (is_end q.control)
+        as (λ b. is_end q.control ≡ b
+        → part_count asked (q ∷ heard ++ p ∷ [])
+        ≡ cond (is_end p.control) (min (p.part + 1) (part_count asked (q ∷ heard))) (part_count asked (q ∷ heard))) [
       | true ↦ λ t. rw (t, rest) (swap (is_end p.control) (q.part + 1) (p.part + 1) (part_count asked heard))
       | false ↦ λ t. rw (t, rest) refl
     ]) refl
@@ -51,7 +54,8 @@ count_few asked (p ∷ heard) =
       | false ↦ λ t. rw t rest
     ]) refl
 
-copy_more : (i : ℕ) (heard : List AtpPacket) (p : AtpPacket) → first_copy i (heard ++ p ∷ []) ≡ option_or (first_copy i heard) (cond (eqb p.part i) (Some p) None)
+copy_more : (i : ℕ) (heard : List AtpPacket) (p : AtpPacket)
+    → first_copy i (heard ++ p ∷ []) ≡ option_or (first_copy i heard) (cond (eqb p.part i) (Some p) None)
 copy_more i heard p = find-append (λ (q : AtpPacket). q.part == i) heard (p ∷ [])
 
 -- ---- Eight slots, one of which changes, and of which the first stay
@@ -82,8 +86,10 @@ cut_length none (suc n) (x ∷ xs) = ap suc (cut_length none n xs)
 
 -- ---- A packet that is taken
 
-part_missing : (p : AtpPacket) (t : Transaction) → p.part < length t.missing → (i : ℕ) → get_or (with_part p t).missing i false ≡ not (eqb p.part i) && get_or t.missing i false
-part_missing p t lt i = (elim (get_or t.missing p.part false) as (λ b. get_or t.missing p.part false ≡ b → get_or (with_part p t).missing i false ≡ not (eqb p.part i) && get_or t.missing i false) [
+part_missing : (p : AtpPacket) (t : Transaction) → p.part < length t.missing → (i : ℕ)
+    → get_or (with_part p t).missing i false ≡ not (eqb p.part i) && get_or t.missing i false
+part_missing p t lt i = (elim (get_or t.missing p.part false)
+    as (λ b. get_or t.missing p.part false ≡ b → get_or (with_part p t).missing i false ≡ not (eqb p.part i) && get_or t.missing i false) [
     | true ↦ λ e. rw e (elim (cases_eq i p.part) [
       | inl same ↦ let q : eqb p.part p.part ≡ true = grind arith in rw (same, q) (get_or-set_same t.missing p.part false false lt)
       | inr differs ↦ let q : eqb p.part i ≡ false = grind arith in rw q (get_or-set_other t.missing p.part i false false differs)
@@ -96,7 +102,9 @@ part_missing p t lt i = (elim (get_or t.missing p.part false) as (λ b. get_or t
 
 part_came : (p : AtpPacket) (t : Transaction) → p.part < length t.came → (i : ℕ)
     → get_or (with_part p t).came i None ≡ cond (eqb p.part i && get_or t.missing p.part false) (Some (part_of p)) (get_or t.came i None)
-part_came p t lt i = (elim (get_or t.missing p.part false) as (λ b. get_or t.missing p.part false ≡ b → get_or (with_part p t).came i None ≡ cond (eqb p.part i && b) (Some (part_of p)) (get_or t.came i None)) [
+part_came p t lt i = (elim (get_or t.missing p.part false)
+    as (λ b. get_or t.missing p.part false ≡ b
+    → get_or (with_part p t).came i None ≡ cond (eqb p.part i && b) (Some (part_of p)) (get_or t.came i None)) [
     | true ↦ λ e. rw e (elim (cases_eq i p.part) [
       | inl same ↦ let q : eqb p.part p.part ≡ true = grind arith in rw (same, q) (get_or-set_same t.came p.part (Some (part_of p)) None lt)
       | inr differs ↦ let q : eqb p.part i ≡ false = grind arith in rw q (get_or-set_other t.came p.part i (Some (part_of p)) None differs)
@@ -108,26 +116,40 @@ part_came p t lt i = (elim (get_or t.missing p.part false) as (λ b. get_or t.mi
     never true = refl
     never false = refl
 
-part_lengths : (p : AtpPacket) (t : Transaction) → (length (with_part p t).missing ≡ length t.missing) × (length (with_part p t).came ≡ length t.came)
-part_lengths p t = (elim (get_or t.missing p.part false) as (λ b. get_or t.missing p.part false ≡ b → (length (with_part p t).missing ≡ length t.missing) × (length (with_part p t).came ≡ length t.came)) [
+part_lengths : (p : AtpPacket) (t : Transaction)
+    → (length (with_part p t).missing ≡ length t.missing) × (length (with_part p t).came ≡ length t.came)
+part_lengths p t = (elim (get_or t.missing p.part false)
+    as (λ b. get_or t.missing p.part false ≡ b
+    → (length (with_part p t).missing ≡ length t.missing) × (length (with_part p t).came ≡ length t.came)) [
     | true ↦ λ e. rw e (length-set t.missing p.part false, length-set t.came p.part (Some (part_of p)))
     | false ↦ λ e. rw e (refl, refl)
   ]) refl
 
-end_missing : (p : AtpPacket) (t : Transaction) (i : ℕ) → get_or (with_end p t).missing i false ≡ cond (is_end p.control) (cond (ltb i (p.part + 1)) (get_or t.missing i false) false) (get_or t.missing i false)
-end_missing p t i = (elim (is_end p.control) as (λ b. is_end p.control ≡ b → get_or (with_end p t).missing i false ≡ cond b (cond (ltb i (p.part + 1)) (get_or t.missing i false) false) (get_or t.missing i false)) [
+end_missing : (p : AtpPacket) (t : Transaction) (i : ℕ)
+    → get_or (with_end p t).missing i false
+    ≡ cond (is_end p.control) (cond (ltb i (p.part + 1)) (get_or t.missing i false) false) (get_or t.missing i false)
+end_missing p t i = (elim (is_end p.control)
+    as (λ b. is_end p.control ≡ b
+    → get_or (with_end p t).missing i false
+    ≡ cond b (cond (ltb i (p.part + 1)) (get_or t.missing i false) false) (get_or t.missing i false)) [
     | true ↦ λ e. rw e (cut_at false (p.part + 1) t.missing i)
     | false ↦ λ e. rw e refl
   ]) refl
 
-end_came : (p : AtpPacket) (t : Transaction) (i : ℕ) → get_or (with_end p t).came i None ≡ cond (is_end p.control) (cond (ltb i (p.part + 1)) (get_or t.came i None) None) (get_or t.came i None)
-end_came p t i = (elim (is_end p.control) as (λ b. is_end p.control ≡ b → get_or (with_end p t).came i None ≡ cond b (cond (ltb i (p.part + 1)) (get_or t.came i None) None) (get_or t.came i None)) [
+end_came : (p : AtpPacket) (t : Transaction) (i : ℕ)
+    → get_or (with_end p t).came i None
+    ≡ cond (is_end p.control) (cond (ltb i (p.part + 1)) (get_or t.came i None) None) (get_or t.came i None)
+end_came p t i = (elim (is_end p.control)
+    as (λ b. is_end p.control ≡ b
+    → get_or (with_end p t).came i None ≡ cond b (cond (ltb i (p.part + 1)) (get_or t.came i None) None) (get_or t.came i None)) [
     | true ↦ λ e. rw e (cut_at None (p.part + 1) t.came i)
     | false ↦ λ e. rw e refl
   ]) refl
 
-end_lengths : (p : AtpPacket) (t : Transaction) → (length (with_end p t).missing ≡ length t.missing) × (length (with_end p t).came ≡ length t.came)
-end_lengths p t = (elim (is_end p.control) as (λ b. is_end p.control ≡ b → (length (with_end p t).missing ≡ length t.missing) × (length (with_end p t).came ≡ length t.came)) [
+end_lengths : (p : AtpPacket) (t : Transaction)
+    → (length (with_end p t).missing ≡ length t.missing) × (length (with_end p t).came ≡ length t.came)
+end_lengths p t = (elim (is_end p.control)
+    as (λ b. is_end p.control ≡ b → (length (with_end p t).missing ≡ length t.missing) × (length (with_end p t).came ≡ length t.came)) [
     | true ↦ λ e. rw e (cut_length false (p.part + 1) t.missing, cut_length None (p.part + 1) t.came)
     | false ↦ λ e. rw e (refl, refl)
   ]) refl
@@ -149,8 +171,10 @@ pub record Keeps (t : Transaction) (heard : List AtpPacket) : Type 0 where
 abbrev with_due : Transaction → Bool → ℕ → ℕ → Bool → Transaction
 with_due t due wait tries failed = record t { due = due; wait = wait; tries = tries; failed = failed }
 
-keeps_on : (t : Transaction) (heard : List AtpPacket) (due : Bool) (wait tries : ℕ) (failed : Bool) → Keeps t heard → Keeps (with_due t due wait tries failed) heard
-keeps_on t heard due wait tries failed h = record { missing = h.missing; came = h.came; eight_missing = h.eight_missing; eight_came = h.eight_came }
+keeps_on : (t : Transaction) (heard : List AtpPacket) (due : Bool) (wait tries : ℕ) (failed : Bool) → Keeps t heard
+    → Keeps (with_due t due wait tries failed) heard
+keeps_on t heard due wait tries failed h = record
+    { missing = h.missing; came = h.came; eight_missing = h.eight_missing; eight_came = h.eight_came }
 
 keeps_if : (b : Bool) (t u : Transaction) (heard : List AtpPacket) → Keeps t heard → Keeps u heard → Keeps (cond b t u) heard
 keeps_if true t u heard a b = a
@@ -165,12 +189,18 @@ keeps_tick t heard h =
     let over = keeps_on t heard t.due 0 t.tries true h in
     let on = keeps_on t heard t.due (t.wait - 1) t.tries t.failed h in
     let fourth = keeps_if (ltb 0 t.tries) (record t { due = true; wait = 0 }) (record t { failed = true; wait = 0 }) heard due over in
-    let third = keeps_if (ltb 1 t.wait) (record t { wait = t.wait - 1 }) (cond (ltb 0 t.tries) (record t { due = true; wait = 0 }) (record t { failed = true; wait = 0 })) heard on fourth in
-    let second = keeps_if t.due t (cond (ltb 1 t.wait) (record t { wait = t.wait - 1 }) (cond (ltb 0 t.tries) (record t { due = true; wait = 0 }) (record t { failed = true; wait = 0 }))) heard h third in
-    keeps_if (not (is_waiting t)) t (cond t.due t (cond (ltb 1 t.wait) (record t { wait = t.wait - 1 }) (cond (ltb 0 t.tries) (record t { due = true; wait = 0 }) (record t { failed = true; wait = 0 })))) heard h second
+    let third = keeps_if (ltb 1 t.wait) (record t { wait = t.wait - 1 })
+        (cond (ltb 0 t.tries) (record t { due = true; wait = 0 }) (record t { failed = true; wait = 0 })) heard on fourth in
+    let second = keeps_if t.due t
+        (cond (ltb 1 t.wait) (record t { wait = t.wait - 1 })
+        (cond (ltb 0 t.tries) (record t { due = true; wait = 0 }) (record t { failed = true; wait = 0 }))) heard h third in
+    keeps_if (not (is_waiting t)) t
+        (cond t.due t (cond (ltb 1 t.wait) (record t { wait = t.wait - 1 })
+        (cond (ltb 0 t.tries) (record t { due = true; wait = 0 }) (record t { failed = true; wait = 0 })))) heard h second
 
 keeps_status : (p : AtpPacket) (t : Transaction) (heard : List AtpPacket) → Keeps t heard → Keeps (with_status p t) heard
-keeps_status p t heard h = keeps_if (wants_status p.control && is_waiting t && ltb 0 t.tries) (record t { due = true }) t heard (keeps_on t heard true t.wait t.tries t.failed h) h
+keeps_status p t heard h = keeps_if (wants_status p.control && is_waiting t && ltb 0 t.tries) (record t { due = true }) t heard
+    (keeps_on t heard true t.wait t.tries t.failed h) h
 
 -- ---- One packet more
 
@@ -183,7 +213,8 @@ bound true i k c = ltb_min i (k + 1) c
 bound false i k c = refl
 
 still_missing : (e a b s : Bool) (o : Option AtpPacket) (p : AtpPacket)
-    → cond e (cond b (not s && (a && not (is_some o))) false) (not s && (a && not (is_some o))) ≡ cond e (b && a) a && not (is_some (option_or o (cond s (Some p) None)))
+    → cond e (cond b (not s && (a && not (is_some o))) false) (not s && (a && not (is_some o)))
+        ≡ cond e (b && a) a && not (is_some (option_or o (cond s (Some p) None)))
 still_missing e a b s o p =
     first e b (not s && (a && not (is_some o)))
     ∙ swapped (cond e b true) s a (not (is_some o))
@@ -216,11 +247,14 @@ still_kept true a false x = refl
 still_kept false a b x = refl
 
 copied : (s : Bool) (k i c : ℕ) (p : AtpPacket) (heard : List AtpPacket) → eqb k i ≡ s
-    → cond (s && (ltb k c && not (is_some (first_copy k heard)))) (Some (part_of p)) (cond (ltb i c) (option_map part_of (first_copy i heard)) None)
+    → cond (s && (ltb k c && not (is_some (first_copy k heard)))) (Some (part_of p))
+        (cond (ltb i c) (option_map part_of (first_copy i heard)) None)
       ≡ cond (ltb i c) (option_map part_of (option_or (first_copy i heard) (cond s (Some p) None))) None
 copied true k i c p heard e = rw (eqb-true _ _ e) (first (ltb i c) (first_copy i heard))
   where
-    first : (a : Bool) (o : Option AtpPacket) → cond (a && not (is_some o)) (Some (part_of p)) (cond a (option_map part_of o) None) ≡ cond a (option_map part_of (option_or o (Some p))) None
+    first : (a : Bool) (o : Option AtpPacket)
+        → cond (a && not (is_some o)) (Some (part_of p)) (cond a (option_map part_of o) None)
+        ≡ cond a (option_map part_of (option_or o (Some p))) None
     first true None = refl
     first true (Some q) = refl
     first false None = refl
@@ -232,7 +266,8 @@ copied false k i c p heard e = rest (first_copy i heard)
     rest (Some q) = refl
 
 -- a packet that is taken is one more that was heard
-keeps_taken : (p : AtpPacket) (t : Transaction) (heard : List AtpPacket) → p.part < 8 → Keeps t heard → Keeps (with_end p (with_part p t)) (heard ++ p ∷ [])
+keeps_taken : (p : AtpPacket) (t : Transaction) (heard : List AtpPacket) → p.part < 8 → Keeps t heard
+    → Keeps (with_end p (with_part p t)) (heard ++ p ∷ [])
 keeps_taken p t heard near h =
     let l = part_lengths p t in
     let m = end_lengths p (with_part p t) in
@@ -240,12 +275,16 @@ keeps_taken p t heard near h =
     let lc : p.part < length t.came = rw h.eight_came near in
     record {
       missing = λ i.
-        rw (asked, end_missing p (with_part p t) i, part_missing p t lm i, h.missing i, count_more t.ask.parts heard p, copy_more i heard p, bound (is_end p.control) i p.part (part_count t.ask.parts heard))
-          (still_missing (is_end p.control) (ltb i (part_count t.ask.parts heard)) (ltb i (p.part + 1)) (eqb p.part i) (first_copy i heard) p);
+        rw (asked, end_missing p (with_part p t) i, part_missing p t lm i, h.missing i, count_more t.ask.parts heard p,
+            copy_more i heard p, bound (is_end p.control) i p.part (part_count t.ask.parts heard))
+          (still_missing (is_end p.control) (ltb i (part_count t.ask.parts heard)) (ltb i (p.part + 1)) (eqb p.part i)
+              (first_copy i heard) p);
       came = λ i.
-        rw (asked, end_came p (with_part p t) i, part_came p t lc i, h.came i, h.missing p.part, count_more t.ask.parts heard p, copy_more i heard p, bound (is_end p.control) i p.part (part_count t.ask.parts heard),
+        rw (asked, end_came p (with_part p t) i, part_came p t lc i, h.came i, h.missing p.part, count_more t.ask.parts heard p,
+            copy_more i heard p, bound (is_end p.control) i p.part (part_count t.ask.parts heard),
             copied (eqb p.part i) p.part i (part_count t.ask.parts heard) p heard refl)
-          (still_kept (is_end p.control) (ltb i (part_count t.ask.parts heard)) (ltb i (p.part + 1)) (option_map part_of (option_or (first_copy i heard) (cond (eqb p.part i) (Some p) None))));
+          (still_kept (is_end p.control) (ltb i (part_count t.ask.parts heard)) (ltb i (p.part + 1))
+              (option_map part_of (option_or (first_copy i heard) (cond (eqb p.part i) (Some p) None))));
       eight_missing = m.0 ∙ l.0 ∙ h.eight_missing;
       eight_came = m.1 ∙ l.1 ∙ h.eight_came;
     }
@@ -281,12 +320,14 @@ all_clear (b ∷ bits) h = rw (h 0, all_clear bits (λ i. h (suc i))) refl
 nothing_missing : (asked : ℕ) (heard : List AtpPacket) → is_whole asked heard ≡ true → (i : ℕ) → is_missing asked heard i ≡ false
 nothing_missing asked heard w i =
     (elim (ltb i (part_count asked heard)) as (λ b. ltb i (part_count asked heard) ≡ b → is_missing asked heard i ≡ false) [
-      | true ↦ λ e. let there = whole_at (part_count asked heard) (λ i. is_some (first_copy i heard)) w i (ltb-true _ _ e) in rw (e, there) refl
+      | true ↦ λ e. let there = whole_at (part_count asked heard) (λ i. is_some (first_copy i heard)) w i (ltb-true _ _ e) in
+          rw (e, there) refl
       | false ↦ λ e. rw e refl
     ]) refl
 
 none_missing : (asked : ℕ) (heard : List AtpPacket) → ((i : ℕ) → is_missing asked heard i ≡ false) → is_whole asked heard ≡ true
-none_missing asked heard h = whole_if (part_count asked heard) (λ i. is_some (first_copy i heard)) (λ i lt. there i (is_some (first_copy i heard)) refl lt)
+none_missing asked heard h = whole_if (part_count asked heard) (λ i. is_some (first_copy i heard))
+    (λ i lt. there i (is_some (first_copy i heard)) refl lt)
   where
     there : (i : ℕ) (b : Bool) → is_some (first_copy i heard) ≡ b → i < part_count asked heard → is_some (first_copy i heard) ≡ true
     there i true e lt = e
@@ -295,21 +336,28 @@ none_missing asked heard h = whole_if (part_count asked heard) (λ i. is_some (f
 pub complete_is : (t : Transaction) (heard : List AtpPacket) → Keeps t heard → is_complete t ≡ is_whole t.ask.parts heard
 complete_is t heard h = of_any (list_any (λ b. b) t.missing) refl (is_whole t.ask.parts heard) refl
   where
-    of_any : (a : Bool) → list_any (λ b. b) t.missing ≡ a → (w : Bool) → is_whole t.ask.parts heard ≡ w → not (list_any (λ b. b) t.missing) ≡ is_whole t.ask.parts heard
+    of_any : (a : Bool) → list_any (λ b. b) t.missing ≡ a → (w : Bool) → is_whole t.ask.parts heard ≡ w
+        → not (list_any (λ b. b) t.missing) ≡ is_whole t.ask.parts heard
     of_any false e true f = rw (e, f) refl
     of_any true e false f = rw (e, f) refl
-    of_any false e false f = absurd (let r : is_whole t.ask.parts heard ≡ true = none_missing t.ask.parts heard (λ i. sym (h.missing i) ∙ none_set t.missing e i) in let bad = sym f ∙ r in cc)
-    of_any true e true f = absurd (let r : list_any (λ b. b) t.missing ≡ false = all_clear t.missing (λ i. h.missing i ∙ nothing_missing t.ask.parts heard f i) in let bad = sym e ∙ r in cc)
+    of_any false e false f =
+        let r : is_whole t.ask.parts heard ≡ true = none_missing t.ask.parts heard (λ i. sym (h.missing i) ∙ none_set t.missing e i) in
+        absurd (let bad = sym f ∙ r in cc)
+    of_any true e true f =
+        let r : list_any (λ b. b) t.missing ≡ false = all_clear t.missing (λ i. h.missing i ∙ nothing_missing t.ask.parts heard f i) in
+        absurd (let bad = sym e ∙ r in cc)
 
 -- ---- Step by step
 
-keeps_step : (s : Step) (t : Transaction) (heard : List AtpPacket) → t.ask.parts ≤ 8 → Keeps t heard → Keeps (after s t) (heard_after s t heard)
+keeps_step : (s : Step) (t : Transaction) (heard : List AtpPacket) → t.ask.parts ≤ 8 → Keeps t heard
+    → Keeps (after s t) (heard_after s t heard)
 keeps_step Sent t heard few h = keeps_sent t heard h
 keeps_step Tick t heard few h = keeps_tick t heard h
 keeps_step (Came from p) t heard few h =
     rw (sym (complete_is t heard h)) (came (is_heard from p t) refl)
   where
-    came : (b : Bool) → is_heard from p t ≡ b → Keeps (cond (is_heard from p t) (taken p t) t) (cond (is_heard from p t) (heard ++ p ∷ []) heard)
+    came : (b : Bool) → is_heard from p t ≡ b
+        → Keeps (cond (is_heard from p t) (taken p t) t) (cond (is_heard from p t) (heard ++ p ∷ []) heard)
     came true e =
         let lt = heard_near from p t e in
         rw e (keeps_status p (with_end p (with_part p t)) (heard ++ p ∷ []) (keeps_taken p t heard (omega (arith, lt, few)) h))
@@ -332,7 +380,8 @@ pub run_ask : (steps : List Step) (t : Transaction) → (run steps t).ask ≡ t.
 run_ask [] t = refl
 run_ask (s ∷ steps) t = run_ask steps (after s t) ∙ step_ask s t
 
-pub keeps_run : (steps : List Step) (t : Transaction) (heard : List AtpPacket) → t.ask.parts ≤ 8 → Keeps t heard → Keeps (run steps t) (heard_in steps t heard)
+pub keeps_run : (steps : List Step) (t : Transaction) (heard : List AtpPacket) → t.ask.parts ≤ 8 → Keeps t heard
+    → Keeps (run steps t) (heard_in steps t heard)
 keeps_run [] t heard few h = h
 keeps_run (s ∷ steps) t heard few h =
     let same : (after s t).ask.parts ≡ t.ask.parts = ap (λ (a : Ask). a.parts) (step_ask s t) in
@@ -371,10 +420,12 @@ keeps_begun id ask few = record {
 -- of slots of which the first n are full and the others vacant, the first n
 packed : {X : Type 0} (slots : List (Option X)) (n : ℕ) → n ≤ length slots
     → ((i : ℕ) → i < n → is_some (get_or slots i None) ≡ true) → ((i : ℕ) → n ≤ i → get_or slots i None ≡ None)
-    → (length (filter_map (λ slot. slot) slots) ≡ n) × ((i : ℕ) → i < n → slice_get (filter_map (λ slot. slot) slots) i ≡ get_or slots i None)
+    → (length (filter_map (λ slot. slot) slots) ≡ n)
+        × ((i : ℕ) → i < n → slice_get (filter_map (λ slot. slot) slots) i ≡ get_or slots i None)
 packed [] n le full vacant = (omega (arith, le), λ i lt. absurd (omega (arith, le, lt)))
 packed {X} (None ∷ slots) n le full vacant =
-    let rest = packed slots 0 (omega arith) (λ i lt. absurd (omega (arith, lt))) (λ i least. vacant (suc i) (omega (arith, zero_is n refl))) in
+    let rest = packed slots 0 (omega arith) (λ i lt. absurd (omega (arith, lt)))
+        (λ i least. vacant (suc i) (omega (arith, zero_is n refl))) in
     let z = zero_is n refl in
     (rest.0 ∙ omega (arith, z), λ i lt. absurd (omega (arith, z, lt)))
   where
@@ -383,10 +434,12 @@ packed {X} (None ∷ slots) n le full vacant =
     zero_is (suc m) e = absurd (let bad = full 0 (omega (arith, e)) in cc)
 packed (Some x ∷ slots) zero le full vacant = absurd (let bad = vacant 0 (omega arith) in cc)
 packed {X} (Some x ∷ slots) (suc n) le full vacant =
-    let rest = packed slots n (omega (arith, le)) (λ i lt. full (suc i) (omega (arith, lt))) (λ i least. vacant (suc i) (omega (arith, least))) in
+    let rest = packed slots n (omega (arith, le)) (λ i lt. full (suc i) (omega (arith, lt)))
+        (λ i least. vacant (suc i) (omega (arith, least))) in
     (ap suc rest.0, at rest.1)
   where
-    at : ((i : ℕ) → i < n → slice_get (filter_map (λ slot. slot) slots) i ≡ get_or slots i None) → (i : ℕ) → i < suc n → slice_get (x ∷ filter_map (λ slot. slot) slots) i ≡ get_or (Some x ∷ slots) i None
+    at : ((i : ℕ) → i < n → slice_get (filter_map (λ slot. slot) slots) i ≡ get_or slots i None) → (i : ℕ) → i < suc n
+        → slice_get (x ∷ filter_map (λ slot. slot) slots) i ≡ get_or (Some x ∷ slots) i None
     at h zero lt = refl
     at h (suc i) lt = h i (omega (arith, lt))
 
@@ -395,7 +448,8 @@ brought : (o : Option AtpPacket) → is_some o ≡ true → (p : AtpPacket) × (
 brought None h = absurd cc
 brought (Some p) h = (p, refl)
 
-pub whole_parts : (t : Transaction) (heard : List AtpPacket) → t.ask.parts ≤ 8 → Keeps t heard → is_whole t.ask.parts heard ≡ true → CompleteResponse t.ask.parts heard (parts_of t)
+pub whole_parts : (t : Transaction) (heard : List AtpPacket) → t.ask.parts ≤ 8 → Keeps t heard → is_whole t.ask.parts heard ≡ true
+    → CompleteResponse t.ask.parts heard (parts_of t)
 whole_parts t heard few h w = record { count = all.0; each = each }
   where
     count : ℕ
@@ -414,19 +468,23 @@ whole_parts t heard few h w = record { count = all.0; each = each }
         let far : ltb i (part_count t.ask.parts heard) ≡ false = grind arith in
         h.came i ∙ rw far refl
 
-    all : (length (parts_of t) ≡ part_count t.ask.parts heard) × ((i : ℕ) → i < part_count t.ask.parts heard → slice_get (parts_of t) i ≡ get_or t.came i None)
+    all : (length (parts_of t) ≡ part_count t.ask.parts heard)
+        × ((i : ℕ) → i < part_count t.ask.parts heard → slice_get (parts_of t) i ≡ get_or t.came i None)
     all =
         let eight = h.eight_came in
         let least = count_few t.ask.parts heard in
         packed t.came (part_count t.ask.parts heard) (omega (arith, eight, least, few)) (λ i lt. let k = kept i lt in rw k refl) vacant
 
-    each : (i : ℕ) → i < part_count t.ask.parts heard → (p : AtpPacket) × (first_copy i heard ≡ Some p) × (slice_get (parts_of t) i ≡ Some (part_of p))
+    each : (i : ℕ) → i < part_count t.ask.parts heard
+        → (p : AtpPacket) × (first_copy i heard ≡ Some p) × (slice_get (parts_of t) i ≡ Some (part_of p))
     each i lt = ((there i lt).0, (there i lt).1, all.1 i lt ∙ kept i lt)
 
 -- ---- One complete response
 
-pub complete_whole : (asked : ℕ) (heard : List AtpPacket) (parts : List AnswerPart) → CompleteResponse asked heard parts → is_whole asked heard ≡ true
-complete_whole asked heard parts c = whole_if (part_count asked heard) (λ i. is_some (first_copy i heard)) (λ i lt. let e = (c.each i lt).1 in rw e refl)
+pub complete_whole : (asked : ℕ) (heard : List AtpPacket) (parts : List AnswerPart) → CompleteResponse asked heard parts
+    → is_whole asked heard ≡ true
+complete_whole asked heard parts c = whole_if (part_count asked heard) (λ i. is_some (first_copy i heard))
+    (λ i lt. let e = (c.each i lt).1 in rw e refl)
 
 same_items : {X : Type 0} (xs ys : List X) → length xs ≡ length ys → ((i : ℕ) → i < length xs → slice_get xs i ≡ slice_get ys i) → xs ≡ ys
 same_items [] [] e h = refl
@@ -437,7 +495,8 @@ same_items {X} (x ∷ xs) (y ∷ ys) e h =
     let rest = same_items xs ys (omega (arith, e)) (λ i lt. h (suc i) (omega (arith, lt))) in
     rw (first, rest) refl
 
-pub one_response : (asked : ℕ) (heard : List AtpPacket) (a b : List AnswerPart) → CompleteResponse asked heard a → CompleteResponse asked heard b → a ≡ b
+pub one_response : (asked : ℕ) (heard : List AtpPacket) (a b : List AnswerPart) → CompleteResponse asked heard a
+    → CompleteResponse asked heard b → a ≡ b
 one_response asked heard a b c d = same_items a b (c.count ∙ sym d.count) (λ i lt. at i (let n = c.count in omega (arith, n, lt)))
   where
     at : (i : ℕ) → i < part_count asked heard → slice_get a i ≡ slice_get b i
@@ -475,12 +534,14 @@ response : (t : Transaction) (heard : List AtpPacket) → t.ask.parts ≤ 8 → 
     → (outcome_of t ≡ Complete parts) ↔ ((t.failed ≡ false) × CompleteResponse t.ask.parts heard parts)
 response t heard few h parts = (forth t.failed refl (is_complete t) refl, back)
   where
-    forth : (b : Bool) → t.failed ≡ b → (c : Bool) → is_complete t ≡ c → outcome_of t ≡ Complete parts → (t.failed ≡ false) × CompleteResponse t.ask.parts heard parts
+    forth : (b : Bool) → t.failed ≡ b → (c : Bool) → is_complete t ≡ c → outcome_of t ≡ Complete parts
+        → (t.failed ≡ false) × CompleteResponse t.ask.parts heard parts
     forth true f c g e = absurd (let bad = (rw f at e) in cc)
     forth false f false g e = absurd (let bad = (rw (f, g) at e) in cc)
     forth false f true g e =
         let same : parts_of t ≡ parts = (let r = (rw (f, g) at e) in cc) in
-        (f, subst (λ (l : List AnswerPart). CompleteResponse t.ask.parts heard l) same (whole_parts t heard few h (sym (complete_is t heard h) ∙ g)))
+        (f, subst (λ (l : List AnswerPart). CompleteResponse t.ask.parts heard l) same
+            (whole_parts t heard few h (sym (complete_is t heard h) ∙ g)))
 
     back : (t.failed ≡ false) × CompleteResponse t.ask.parts heard parts → outcome_of t ≡ Complete parts
     back x =
@@ -489,10 +550,12 @@ response t heard few h parts = (forth t.failed refl (is_complete t) refl, back)
         let f = x.0 in
         rw (f, g) (ap Complete (one_response t.ask.parts heard (parts_of t) parts (whole_parts t heard few h w) x.1))
 
-open_still : (t : Transaction) (heard : List AtpPacket) → Keeps t heard → (outcome_of t ≡ Waiting) ↔ ((t.failed ≡ false) × (is_whole t.ask.parts heard ≡ false))
+open_still : (t : Transaction) (heard : List AtpPacket) → Keeps t heard
+    → (outcome_of t ≡ Waiting) ↔ ((t.failed ≡ false) × (is_whole t.ask.parts heard ≡ false))
 open_still t heard h = (forth t.failed refl (is_complete t) refl, back)
   where
-    forth : (b : Bool) → t.failed ≡ b → (c : Bool) → is_complete t ≡ c → outcome_of t ≡ Waiting → (t.failed ≡ false) × (is_whole t.ask.parts heard ≡ false)
+    forth : (b : Bool) → t.failed ≡ b → (c : Bool) → is_complete t ≡ c → outcome_of t ≡ Waiting
+        → (t.failed ≡ false) × (is_whole t.ask.parts heard ≡ false)
     forth true f c g e = absurd (let bad = (rw f at e) in cc)
     forth false f true g e = absurd (let bad = (rw (f, g) at e) in cc)
     forth false f false g e = (f, sym (complete_is t heard h) ∙ g)
@@ -515,20 +578,25 @@ keeps : (steps : List Step) (id : ℕ) (ask : Ask) → IsAsk ask → Keeps (ends
 keeps steps id ask is = keeps_run steps (begun id ask) [] is.few (keeps_begun id ask is.few)
 
 pub complete : (steps : List Step) (id : ℕ) (ask : Ask) (parts : List AnswerPart) → IsAsk ask
-    → (outcome_of (ends steps id ask) ≡ Complete parts) ↔ (((ends steps id ask).failed ≡ false) × CompleteResponse ask.parts (history steps id ask) parts)
+    → (outcome_of (ends steps id ask) ≡ Complete parts)
+        ↔ (((ends steps id ask).failed ≡ false) × CompleteResponse ask.parts (history steps id ask) parts)
 complete steps id ask parts is =
     let same = parts_asked steps id ask in
     let few = is.few in
-    subst (λ (n : ℕ). (outcome_of (ends steps id ask) ≡ Complete parts) ↔ (((ends steps id ask).failed ≡ false) × CompleteResponse n (history steps id ask) parts))
+    subst (λ (n : ℕ). (outcome_of (ends steps id ask) ≡ Complete parts)
+        ↔ (((ends steps id ask).failed ≡ false) × CompleteResponse n (history steps id ask) parts))
       same (response (ends steps id ask) (history steps id ask) (omega (arith, same, few)) (keeps steps id ask is) parts)
 
 pub waiting : (steps : List Step) (id : ℕ) (ask : Ask) → IsAsk ask
-    → (outcome_of (ends steps id ask) ≡ Waiting) ↔ (((ends steps id ask).failed ≡ false) × (is_whole ask.parts (history steps id ask) ≡ false))
+    → (outcome_of (ends steps id ask) ≡ Waiting)
+        ↔ (((ends steps id ask).failed ≡ false) × (is_whole ask.parts (history steps id ask) ≡ false))
 waiting steps id ask is =
-    subst (λ (n : ℕ). (outcome_of (ends steps id ask) ≡ Waiting) ↔ (((ends steps id ask).failed ≡ false) × (is_whole n (history steps id ask) ≡ false)))
+    subst (λ (n : ℕ). (outcome_of (ends steps id ask) ≡ Waiting)
+        ↔ (((ends steps id ask).failed ≡ false) × (is_whole n (history steps id ask) ≡ false)))
       (parts_asked steps id ask) (open_still (ends steps id ask) (history steps id ask) (keeps steps id ask is))
 
-pub asks_missing : (steps : List Step) (id : ℕ) (ask : Ask) (i : ℕ) → IsAsk ask → asks_for (request_of (ends steps id ask)).part i ≡ is_missing ask.parts (history steps id ask) i
+pub asks_missing : (steps : List Step) (id : ℕ) (ask : Ask) (i : ℕ) → IsAsk ask
+    → asks_for (request_of (ends steps id ask)).part i ≡ is_missing ask.parts (history steps id ask) i
 asks_missing steps id ask i is =
     bit_is (ends steps id ask).missing i ∙ (keeps steps id ask is).missing i
     ∙ ap (λ (n : ℕ). is_missing n (history steps id ask) i) (parts_asked steps id ask)

@@ -1,9 +1,9 @@
 -- What was heard, and the response that is complete with it.
-use Rattle.std.proofs.Common.{◌≡◌, ℕ, zero, suc, ◌<◌, List, [], ◌∷◌, slice_get, Some, None, refl, sym, ◌∙◌, arith}
+use Rattle.std.proofs.Common.{◌≡◌, ℕ, zero, suc, ◌<◌, List, [], ◌∷◌, slice_get, Some, refl, arith}
 use Rattle.atp.specs.declared.ask.AnswerPart.{AnswerPart}
 use Rattle.atp.specs.Packets.{AtpPacket}
 use Rattle.atp.specs.Requesting.{IsAsk, part_of}
-use Rattle.atp.specs.Complete.{CompleteResponse, first_copy, history, part_count}
+use Rattle.atp.specs.Complete.{CompleteResponse, first_copy, history}
 use Rattle.atp.specs.CompleteExample.{heard, response, steps, three_parts}
 
 pub may_be_asked : IsAsk three_parts
@@ -15,7 +15,9 @@ is_heard = refl
 pub is_complete : CompleteResponse 3 heard (part_of (response 0x80 0 10) ∷ part_of (response 0x90 1 11) ∷ [])
 is_complete = record { count = refl; each = each }
   where
-    each : (i : ℕ) → i < 2 → (p : AtpPacket) × (first_copy i heard ≡ Some p) × (slice_get (part_of (response 0x80 0 10) ∷ part_of (response 0x90 1 11) ∷ []) i ≡ Some (part_of p))
+    each : (i : ℕ) → i < 2
+        → (p : AtpPacket) × (first_copy i heard ≡ Some p)
+        × (slice_get (part_of (response 0x80 0 10) ∷ part_of (response 0x90 1 11) ∷ []) i ≡ Some (part_of p))
     each zero lt = (response 0x80 0 10, refl, refl)
     each (suc zero) lt = (response 0x90 1 11, refl, refl)
     each (suc (suc i)) lt = absurd (omega (arith, lt))

@@ -1,5 +1,5 @@
 -- A new request: it waits when it was heard, and forgetting it leaves what was held before.
-use Rattle.std.proofs.Common.{◌≡◌, ℕ, ◌++◌, ◌↔◌, Bool, true, false, cond, not, eqb, List, [], ◌∷◌, filter}
+use Rattle.std.proofs.Common.{◌≡◌, ℕ, ◌++◌, ◌↔◌, Bool, true, false, not, eqb, List, [], ◌∷◌, filter}
 use Rattle.std.proofs.Common.{Option, Some, None, Result, Ok, Err, is_some, refl, sym, ap, ◌∙◌, arith}
 use Rattle.std.specs.List.{find}
 use Rattle.std.proofs.lemmas.List.Folds.{find-append}
@@ -50,10 +50,12 @@ is_held from p rs held h =
     let new = h.unknown in
     rw (h.added, find-append (is_of from p.id) rs (new_request from p ∷ []), new, of_itself from p) refl
 
-pub now_waits : (from : Peer) (p : AtpPacket) (rs held : Requests) → (Ask, held) ≡ heard from p rs → waits (request_of from p.id held) ≡ true
+pub now_waits : (from : Peer) (p : AtpPacket) (rs held : Requests) → (Ask, held) ≡ heard from p rs
+    → waits (request_of from p.id held) ≡ true
 now_waits from p rs held e = rw (is_held from p rs held (is_new from p rs held e)) refl
 
-pub now_asked : (from : Peer) (p : AtpPacket) (rs held : Requests) → (Ask, held) ≡ heard from p rs → asked_by (request_of from p.id held) ≡ p.part
+pub now_asked : (from : Peer) (p : AtpPacket) (rs held : Requests) → (Ask, held) ≡ heard from p rs
+    → asked_by (request_of from p.id held) ≡ p.part
 now_asked from p rs held e = rw (is_held from p rs held (is_new from p rs held e)) refl
 
 -- forgetting what no one asked leaves all requests
@@ -79,6 +81,7 @@ room from p rs r todo is asks full = either (has_room p rs) refl
     either true e = e
     either false e = absurd (let bad : Ok todo ≡ Err Full = sym is ∙ full.1 (asks, e) in cc)
 
-pub reply_new : (from : Peer) (p : AtpPacket) (user : List AnswerPart) (rs held : Requests) → (Ask, held) ≡ heard from p rs → has_room p rs ≡ true
+pub reply_new : (from : Peer) (p : AtpPacket) (user : List AnswerPart) (rs held : Requests) → (Ask, held) ≡ heard from p rs
+    → has_room p rs ≡ true
     → reply from p user rs ≡ (answer_packets p.id p.part user, answered from p.id user held)
 reply_new from p user rs held e room = rw (sym e, room) refl

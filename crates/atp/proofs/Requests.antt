@@ -1,12 +1,12 @@
 -- What each call of a responder leaves of its requests: few of each kind, apart, and each within its time.
-use Rattle.std.proofs.Common.{◌≡◌, ℕ, zero, suc, ◌+◌, ◌-◌, ◌<◌, ◌≤◌, ◌^◌, ◌%◌, ◌*◌, ◌==◌, ◌&&◌}
-use Rattle.std.proofs.Common.{Bool, true, false, cond, not, eqb, ltb, nat_lt, nat_le, min, is_some}
-use Rattle.std.proofs.Common.{List, [], ◌∷◌, ◌++◌, length, map, filter, Option, Some, None, Result, Ok, Err, ◌↔◌}
-use Rattle.std.proofs.Common.{refl, sym, ap, subst, ◌∙◌, arith}
+use Rattle.std.proofs.Common.{◌≡◌, ℕ, suc, ◌+◌, ◌-◌, ◌<◌, ◌≤◌, ◌^◌, ◌%◌, ◌*◌, ◌&&◌}
+use Rattle.std.proofs.Common.{Bool, true, false, cond, not, eqb, nat_le, min, is_some}
+use Rattle.std.proofs.Common.{List, [], ◌∷◌, ◌++◌, length, map, filter, Some, None, Result, Ok, Err, ◌↔◌}
+use Rattle.std.proofs.Common.{refl, ap, ◌∙◌, arith}
 use Rattle.std.specs.List.{list_all, list_any, find}
 use Rattle.std.specs.Option.{IfSome}
 use Rattle.std.specs.Result.{IfOk, OnErr}
-use Rattle.std.proofs.lemmas.Bool.{and_parts, or_parts, ltb-true, eqb-true}
+use Rattle.std.proofs.lemmas.Bool.{and_parts, or_parts, ltb-true}
 use Rattle.std.proofs.lemmas.Bool.Decides.{nat_tests}
 use Rattle.std.proofs.Math.Nat.{pow-le-pow_right}
 use Rattle.at_base.specs.declared.error.Error.{Error}
@@ -19,7 +19,8 @@ use Rattle.atp.specs.declared.request.Todo.TheVariants.{Ask}
 use Rattle.atp.specs.Answers.{is_answer}
 use Rattle.atp.specs.Packets.{AtpPacket, is_exactly_once, release_ticks}
 use Rattle.atp.specs.Places.{with_first}
-use Rattle.atp.specs.Responding.{IsRequests, are_apart, asked_again, has_room, is_of, is_over, is_sound, may_be_sent, new_request, of_kind, older, repeated, request_of, same_peer, ticked, with_answer, without}
+use Rattle.atp.specs.Responding.{IsRequests, are_apart, asked_again, has_room, is_of, is_over, is_sound, may_be_sent, new_request}
+use Rattle.atp.specs.Responding.{of_kind, older, repeated, request_of, same_peer, ticked, with_answer, without}
 
 abbrev Requests : Type 0
 Requests = List Request
@@ -160,7 +161,8 @@ later rs ss all h =
       sound = later_sound rs ss all h.sound;
     }
 
-first_later : (p : Request → Bool) (f : Request → Request) → ((r : Request) → Later r (f r)) → (rs : Requests) → AllLater rs (with_first p f rs)
+first_later : (p : Request → Bool) (f : Request → Request) → ((r : Request) → Later r (f r)) → (rs : Requests)
+    → AllLater rs (with_first p f rs)
 first_later p f each [] = tt
 first_later p f each (r ∷ rs) =
     (elim (p r) as (λ b. p r ≡ b → AllLater (r ∷ rs) (with_first p f (r ∷ rs))) [
@@ -181,7 +183,8 @@ le_less : (m n : ℕ) → nat_le m n ≡ true → nat_le (m - 1) n ≡ true
 le_less m n h = grind (arith, nat_tests)
 
 -- the three tests of a sound request
-sound_parts : (r : Request) → is_sound r ≡ true → (nat_le r.release 2400 ≡ true) × (nat_le r.left r.release ≡ true) × (may_be_sent r.answer ≡ true)
+sound_parts : (r : Request) → is_sound r ≡ true
+    → (nat_le r.release 2400 ≡ true) × (nat_le r.left r.release ≡ true) × (may_be_sent r.answer ≡ true)
 sound_parts r h =
     let a = and_parts (nat_le r.release 2400 && nat_le r.left r.release) (may_be_sent r.answer) h in
     let b = and_parts (nat_le r.release 2400) (nat_le r.left r.release) a.0 in
@@ -273,7 +276,8 @@ new_sound from p =
     le_true : (m n : ℕ) → m ≤ n → nat_le m n ≡ true
     le_true m n le = grind (arith, nat_tests)
 
-pub appended : (from : Peer) (p : AtpPacket) (rs : Requests) → request_of from p.id rs ≡ None → has_room p rs ≡ true → IsRequests rs → IsRequests (rs ++ new_request from p ∷ [])
+pub appended : (from : Peer) (p : AtpPacket) (rs : Requests) → request_of from p.id rs ≡ None → has_room p rs ≡ true → IsRequests rs
+    → IsRequests (rs ++ new_request from p ∷ [])
 appended from p rs new room h = record {
     once = of_one true;
     other = of_one false;
@@ -308,9 +312,11 @@ asked_anew from id rs r h = (elim (is_some r.answer) as (λ b. is_some r.answer 
     | false ↦ λ t. rw t h
   ]) refl
 
-pub answered : (from : Peer) (id : ℕ) (parts : List AnswerPart) (rs : Requests) → is_answer parts ≡ true → IsRequests rs → IsRequests (with_first (is_of from id) (with_answer parts) rs)
+pub answered : (from : Peer) (id : ℕ) (parts : List AnswerPart) (rs : Requests) → is_answer parts ≡ true → IsRequests rs
+    → IsRequests (with_first (is_of from id) (with_answer parts) rs)
 answered from id parts rs short h =
-    later rs (with_first (is_of from id) (with_answer parts) rs) (first_later (is_of from id) (with_answer parts) (answer_later parts short) rs) h
+    later rs (with_first (is_of from id) (with_answer parts) rs)
+        (first_later (is_of from id) (with_answer parts) (answer_later parts short) rs) h
 
 pub passed : (rs : Requests) → IsRequests rs → IsRequests (ticked rs)
 passed rs h =

@@ -1,7 +1,7 @@
 -- What a complete response is, from the packets that came, whatever a requester keeps of them. (Inside AppleTalk, the
 -- chapter on ATP)
-use Rattle.std.specs.Prelude.{◌≡◌, ℕ, zero, suc, ◌+◌, ◌<◌, Bool, true, false, not, ◌&&◌, ◌==◌, List, [], ◌∷◌, ◌++◌, length}
-use Rattle.std.specs.Prelude.{Option, Some, None, find, is_some, min, nat_lt, slice_get, if◌then◌else◌}
+use Rattle.std.specs.Prelude.{◌≡◌, ℕ, zero, suc, ◌+◌, ◌<◌, Bool, true, not, ◌&&◌, ◌==◌, List, [], ◌∷◌, ◌++◌, length}
+use Rattle.std.specs.Prelude.{Option, Some, find, is_some, min, nat_lt, slice_get, if◌then◌else◌}
 use Rattle.atp.specs.declared.ask.AnswerPart.{AnswerPart}
 use Rattle.atp.specs.declared.ask.Ask.{Ask}
 use Rattle.atp.specs.declared.ask.Peer.{Peer}

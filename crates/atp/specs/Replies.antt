@@ -1,6 +1,6 @@
 -- What a responder sends for a packet, where the parts are at hand with which its user would answer. (Inside AppleTalk, the
 -- chapter on ATP; that a request is dropped where there is no room for it is this project's own)
-use Rattle.std.specs.Prelude.{ℕ, List, [], if◌then◌else◌}
+use Rattle.std.specs.Prelude.{List, [], if◌then◌else◌}
 use Rattle.atp.specs.declared.ask.AnswerPart.{AnswerPart}
 use Rattle.atp.specs.declared.ask.Peer.{Peer}
 use Rattle.atp.specs.declared.request.Request.{Request}

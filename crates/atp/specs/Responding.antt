@@ -1,6 +1,7 @@
 -- A responder: requests that wait for their answer, and answers that are kept. (Inside AppleTalk, the chapter on ATP; that
 -- the time begins anew with each repeat is this project's own)
-use Rattle.std.specs.Prelude.{ℕ, ◌-◌, ◌≤◌, Bool, true, false, not, ◌&&◌, ◌==◌, IsTrue, List, [], ◌∷◌, ◌++◌, length, map, filter, find, Option, Some, None, nat_lt, nat_le, is_some, if◌then◌else◌}
+use Rattle.std.specs.Prelude.{ℕ, ◌-◌, ◌≤◌, Bool, true, false, not, ◌&&◌, ◌==◌, IsTrue, List, [], ◌∷◌, ◌++◌, length, map, filter, find}
+use Rattle.std.specs.Prelude.{Option, Some, None, nat_lt, nat_le, is_some, if◌then◌else◌}
 use Rattle.std.specs.List.{list_all, list_any}
 use Rattle.at_base.specs.Address.{same_address}
 use Rattle.atp.specs.declared.ask.Peer.{Peer}
@@ -30,7 +31,15 @@ without from id requests = filter (λ r. not (is_of from id r)) requests
 
 -- a new request
 abbrev pub new_request : Peer → AtpPacket → Request
-new_request from p = record { from = from; id = p.id; once = is_exactly_once p.control; asked = p.part; release = release_ticks p.control; answer = None; left = 0 }
+new_request from p = record {
+  from = from;
+  id = p.id;
+  once = is_exactly_once p.control;
+  asked = p.part;
+  release = release_ticks p.control;
+  answer = None;
+  left = 0;
+}
 
 -- the request after it came again: the time of its answer begins anew
 abbrev pub repeated : Request → Request
@@ -80,6 +89,7 @@ abbrev pub kept : Option Request → Option (List AnswerPart)
 kept None = None
 kept (Some r) = r.answer
 
+-- the parts of an answer, if there is one
 abbrev pub parts_or_none : Option (List AnswerPart) → List AnswerPart
 parts_or_none None = []
 parts_or_none (Some parts) = parts

@@ -160,8 +160,8 @@ fn hear_again(requests: &mut Vec<Request>, place: usize, from: Peer, id: u16) ->
 
 /// Hears a new request, where there is room for it.
 fn hear_new(requests: &mut Vec<Request>, from: Peer, packet: &Packet<'_>) -> Result<Todo, Error>
-    ensures ok { IfOk result (λ todo. (todo ≡ Todo.Ask)
-        × (requests.new.items ≡ requests.old.items ++ new_request from (packet_value packet.now) ∷ [])) }
+    ensures ok { IfOk result (λ todo. (todo ≡ Todo.Ask) × (requests.new.items
+        ≡ requests.old.items ++ new_request from (packet_value packet.now) ∷ [])) }
     ensures full { (result ≡ Err Error.Full)
         ↔ (room_for (packet_value packet.now) requests.old.items ≡ false) }
     ensures refused { IfErr result (λ e. (e ≡ Error.Full) ⊎ (e ≡ Error.Memory)) }
