@@ -34,9 +34,9 @@ count_more asked [] p = refl
 count_more asked (q ∷ heard) p =
     let rest = count_more asked heard p in
     (elim (is_end q.control)
-        as (λ b. is_end q.control ≡ b
-        → part_count asked (q ∷ heard ++ p ∷ [])
-        ≡ cond (is_end p.control) (min (p.part + 1) (part_count asked (q ∷ heard))) (part_count asked (q ∷ heard))) [
+    as (λ b. is_end q.control ≡ b
+    → part_count asked (q ∷ heard ++ p ∷ [])
+    ≡ cond (is_end p.control) (min (p.part + 1) (part_count asked (q ∷ heard))) (part_count asked (q ∷ heard))) [
       | true ↦ λ t. rw (t, rest) (swap (is_end p.control) (q.part + 1) (p.part + 1) (part_count asked heard))
       | false ↦ λ t. rw (t, rest) refl
     ]) refl
@@ -90,27 +90,27 @@ part_missing : (p : AtpPacket) (t : Transaction) → p.part < length t.missing �
     → get_or (with_part p t).missing i false ≡ not (eqb p.part i) && get_or t.missing i false
 part_missing p t lt i = (elim (get_or t.missing p.part false)
     as (λ b. get_or t.missing p.part false ≡ b → get_or (with_part p t).missing i false ≡ not (eqb p.part i) && get_or t.missing i false) [
-    | true ↦ λ e. rw e (elim (cases_eq i p.part) [
-      | inl same ↦ let q : eqb p.part p.part ≡ true = grind arith in rw (same, q) (get_or-set_same t.missing p.part false false lt)
-      | inr differs ↦ let q : eqb p.part i ≡ false = grind arith in rw q (get_or-set_other t.missing p.part i false false differs)
-    ])
-    | false ↦ λ e. rw e (elim (cases_eq i p.part) [
-      | inl same ↦ let q : eqb p.part p.part ≡ true = grind arith in rw (same, q) e
-      | inr differs ↦ let q : eqb p.part i ≡ false = grind arith in rw q refl
-    ])
-  ]) refl
+      | true ↦ λ e. rw e (elim (cases_eq i p.part) [
+        | inl same ↦ let q : eqb p.part p.part ≡ true = grind arith in rw (same, q) (get_or-set_same t.missing p.part false false lt)
+        | inr differs ↦ let q : eqb p.part i ≡ false = grind arith in rw q (get_or-set_other t.missing p.part i false false differs)
+      ])
+      | false ↦ λ e. rw e (elim (cases_eq i p.part) [
+        | inl same ↦ let q : eqb p.part p.part ≡ true = grind arith in rw (same, q) e
+        | inr differs ↦ let q : eqb p.part i ≡ false = grind arith in rw q refl
+      ])
+    ]) refl
 
 part_came : (p : AtpPacket) (t : Transaction) → p.part < length t.came → (i : ℕ)
     → get_or (with_part p t).came i None ≡ cond (eqb p.part i && get_or t.missing p.part false) (Some (part_of p)) (get_or t.came i None)
 part_came p t lt i = (elim (get_or t.missing p.part false)
     as (λ b. get_or t.missing p.part false ≡ b
     → get_or (with_part p t).came i None ≡ cond (eqb p.part i && b) (Some (part_of p)) (get_or t.came i None)) [
-    | true ↦ λ e. rw e (elim (cases_eq i p.part) [
-      | inl same ↦ let q : eqb p.part p.part ≡ true = grind arith in rw (same, q) (get_or-set_same t.came p.part (Some (part_of p)) None lt)
-      | inr differs ↦ let q : eqb p.part i ≡ false = grind arith in rw q (get_or-set_other t.came p.part i (Some (part_of p)) None differs)
-    ])
-    | false ↦ λ e. rw e (never (eqb p.part i))
-  ]) refl ∙ refl
+      | true ↦ λ e. rw e (elim (cases_eq i p.part) [
+        | inl same ↦ let q : eqb p.part p.part ≡ true = grind arith in rw (same, q) (get_or-set_same t.came p.part (Some (part_of p)) None lt)
+        | inr differs ↦ let q : eqb p.part i ≡ false = grind arith in rw q (get_or-set_other t.came p.part i (Some (part_of p)) None differs)
+      ])
+      | false ↦ λ e. rw e (never (eqb p.part i))
+    ]) refl ∙ refl
   where
     never : (b : Bool) → get_or t.came i None ≡ cond (b && false) (Some (part_of p)) (get_or t.came i None)
     never true = refl
@@ -121,9 +121,9 @@ part_lengths : (p : AtpPacket) (t : Transaction)
 part_lengths p t = (elim (get_or t.missing p.part false)
     as (λ b. get_or t.missing p.part false ≡ b
     → (length (with_part p t).missing ≡ length t.missing) × (length (with_part p t).came ≡ length t.came)) [
-    | true ↦ λ e. rw e (length-set t.missing p.part false, length-set t.came p.part (Some (part_of p)))
-    | false ↦ λ e. rw e (refl, refl)
-  ]) refl
+      | true ↦ λ e. rw e (length-set t.missing p.part false, length-set t.came p.part (Some (part_of p)))
+      | false ↦ λ e. rw e (refl, refl)
+    ]) refl
 
 end_missing : (p : AtpPacket) (t : Transaction) (i : ℕ)
     → get_or (with_end p t).missing i false
@@ -132,9 +132,9 @@ end_missing p t i = (elim (is_end p.control)
     as (λ b. is_end p.control ≡ b
     → get_or (with_end p t).missing i false
     ≡ cond b (cond (ltb i (p.part + 1)) (get_or t.missing i false) false) (get_or t.missing i false)) [
-    | true ↦ λ e. rw e (cut_at false (p.part + 1) t.missing i)
-    | false ↦ λ e. rw e refl
-  ]) refl
+      | true ↦ λ e. rw e (cut_at false (p.part + 1) t.missing i)
+      | false ↦ λ e. rw e refl
+    ]) refl
 
 end_came : (p : AtpPacket) (t : Transaction) (i : ℕ)
     → get_or (with_end p t).came i None
@@ -142,17 +142,17 @@ end_came : (p : AtpPacket) (t : Transaction) (i : ℕ)
 end_came p t i = (elim (is_end p.control)
     as (λ b. is_end p.control ≡ b
     → get_or (with_end p t).came i None ≡ cond b (cond (ltb i (p.part + 1)) (get_or t.came i None) None) (get_or t.came i None)) [
-    | true ↦ λ e. rw e (cut_at None (p.part + 1) t.came i)
-    | false ↦ λ e. rw e refl
-  ]) refl
+      | true ↦ λ e. rw e (cut_at None (p.part + 1) t.came i)
+      | false ↦ λ e. rw e refl
+    ]) refl
 
 end_lengths : (p : AtpPacket) (t : Transaction)
     → (length (with_end p t).missing ≡ length t.missing) × (length (with_end p t).came ≡ length t.came)
 end_lengths p t = (elim (is_end p.control)
     as (λ b. is_end p.control ≡ b → (length (with_end p t).missing ≡ length t.missing) × (length (with_end p t).came ≡ length t.came)) [
-    | true ↦ λ e. rw e (cut_length false (p.part + 1) t.missing, cut_length None (p.part + 1) t.came)
-    | false ↦ λ e. rw e (refl, refl)
-  ]) refl
+      | true ↦ λ e. rw e (cut_length false (p.part + 1) t.missing, cut_length None (p.part + 1) t.came)
+      | false ↦ λ e. rw e (refl, refl)
+    ]) refl
 
 -- ---- What a transaction keeps
 
@@ -190,13 +190,13 @@ keeps_tick t heard h =
     let on = keeps_on t heard t.due (t.wait - 1) t.tries t.failed h in
     let fourth = keeps_if (ltb 0 t.tries) (record t { due = true; wait = 0 }) (record t { failed = true; wait = 0 }) heard due over in
     let third = keeps_if (ltb 1 t.wait) (record t { wait = t.wait - 1 })
-        (cond (ltb 0 t.tries) (record t { due = true; wait = 0 }) (record t { failed = true; wait = 0 })) heard on fourth in
+    (cond (ltb 0 t.tries) (record t { due = true; wait = 0 }) (record t { failed = true; wait = 0 })) heard on fourth in
     let second = keeps_if t.due t
-        (cond (ltb 1 t.wait) (record t { wait = t.wait - 1 })
-        (cond (ltb 0 t.tries) (record t { due = true; wait = 0 }) (record t { failed = true; wait = 0 }))) heard h third in
+    (cond (ltb 1 t.wait) (record t { wait = t.wait - 1 })
+    (cond (ltb 0 t.tries) (record t { due = true; wait = 0 }) (record t { failed = true; wait = 0 }))) heard h third in
     keeps_if (not (is_waiting t)) t
-        (cond t.due t (cond (ltb 1 t.wait) (record t { wait = t.wait - 1 })
-        (cond (ltb 0 t.tries) (record t { due = true; wait = 0 }) (record t { failed = true; wait = 0 })))) heard h second
+    (cond t.due t (cond (ltb 1 t.wait) (record t { wait = t.wait - 1 })
+    (cond (ltb 0 t.tries) (record t { due = true; wait = 0 }) (record t { failed = true; wait = 0 })))) heard h second
 
 keeps_status : (p : AtpPacket) (t : Transaction) (heard : List AtpPacket) → Keeps t heard → Keeps (with_status p t) heard
 keeps_status p t heard h = keeps_if (wants_status p.control && is_waiting t && ltb 0 t.tries) (record t { due = true }) t heard
@@ -214,7 +214,7 @@ bound false i k c = refl
 
 still_missing : (e a b s : Bool) (o : Option AtpPacket) (p : AtpPacket)
     → cond e (cond b (not s && (a && not (is_some o))) false) (not s && (a && not (is_some o)))
-        ≡ cond e (b && a) a && not (is_some (option_or o (cond s (Some p) None)))
+    ≡ cond e (b && a) a && not (is_some (option_or o (cond s (Some p) None)))
 still_missing e a b s o p =
     first e b (not s && (a && not (is_some o)))
     ∙ swapped (cond e b true) s a (not (is_some o))
@@ -248,8 +248,8 @@ still_kept false a b x = refl
 
 copied : (s : Bool) (k i c : ℕ) (p : AtpPacket) (heard : List AtpPacket) → eqb k i ≡ s
     → cond (s && (ltb k c && not (is_some (first_copy k heard)))) (Some (part_of p))
-        (cond (ltb i c) (option_map part_of (first_copy i heard)) None)
-      ≡ cond (ltb i c) (option_map part_of (option_or (first_copy i heard) (cond s (Some p) None))) None
+    (cond (ltb i c) (option_map part_of (first_copy i heard)) None)
+    ≡ cond (ltb i c) (option_map part_of (option_or (first_copy i heard) (cond s (Some p) None))) None
 copied true k i c p heard e = rw (eqb-true _ _ e) (first (ltb i c) (first_copy i heard))
   where
     first : (a : Bool) (o : Option AtpPacket)
@@ -275,16 +275,31 @@ keeps_taken p t heard near h =
     let lc : p.part < length t.came = rw h.eight_came near in
     record {
       missing = λ i.
-        rw (asked, end_missing p (with_part p t) i, part_missing p t lm i, h.missing i, count_more t.ask.parts heard p,
-            copy_more i heard p, bound (is_end p.control) i p.part (part_count t.ask.parts heard))
+          rw (
+            asked,
+            end_missing p (with_part p t) i,
+            part_missing p t lm i,
+            h.missing i,
+            count_more t.ask.parts heard p,
+            copy_more i heard p,
+            bound (is_end p.control) i p.part (part_count t.ask.parts heard),
+          )
           (still_missing (is_end p.control) (ltb i (part_count t.ask.parts heard)) (ltb i (p.part + 1)) (eqb p.part i)
-              (first_copy i heard) p);
+          (first_copy i heard) p);
       came = λ i.
-        rw (asked, end_came p (with_part p t) i, part_came p t lc i, h.came i, h.missing p.part, count_more t.ask.parts heard p,
-            copy_more i heard p, bound (is_end p.control) i p.part (part_count t.ask.parts heard),
-            copied (eqb p.part i) p.part i (part_count t.ask.parts heard) p heard refl)
+          rw (
+            asked,
+            end_came p (with_part p t) i,
+            part_came p t lc i,
+            h.came i,
+            h.missing p.part,
+            count_more t.ask.parts heard p,
+            copy_more i heard p,
+            bound (is_end p.control) i p.part (part_count t.ask.parts heard),
+            copied (eqb p.part i) p.part i (part_count t.ask.parts heard) p heard refl,
+          )
           (still_kept (is_end p.control) (ltb i (part_count t.ask.parts heard)) (ltb i (p.part + 1))
-              (option_map part_of (option_or (first_copy i heard) (cond (eqb p.part i) (Some p) None))));
+          (option_map part_of (option_or (first_copy i heard) (cond (eqb p.part i) (Some p) None))));
       eight_missing = m.0 ∙ l.0 ∙ h.eight_missing;
       eight_came = m.1 ∙ l.1 ∙ h.eight_came;
     }
@@ -394,11 +409,11 @@ and_true false = refl
 
 pub keeps_begun : (id : ℕ) (ask : Ask) → ask.parts ≤ 8 → Keeps (begun id ask) []
 keeps_begun id ask few = record {
-    missing = λ i. first i ∙ and_true (ltb i ask.parts);
-    came = λ i. nothing i ∙ both (ltb i ask.parts) None;
-    eight_missing = refl;
-    eight_came = refl;
-  }
+  missing = λ i. first i ∙ and_true (ltb i ask.parts);
+  came = λ i. nothing i ∙ both (ltb i ask.parts) None;
+  eight_missing = refl;
+  eight_came = refl;
+}
   where
     first : (i : ℕ) → get_or (first_parts ask.parts) i false ≡ ltb i ask.parts
     first zero = refl
@@ -421,11 +436,11 @@ keeps_begun id ask few = record {
 packed : {X : Type 0} (slots : List (Option X)) (n : ℕ) → n ≤ length slots
     → ((i : ℕ) → i < n → is_some (get_or slots i None) ≡ true) → ((i : ℕ) → n ≤ i → get_or slots i None ≡ None)
     → (length (filter_map (λ slot. slot) slots) ≡ n)
-        × ((i : ℕ) → i < n → slice_get (filter_map (λ slot. slot) slots) i ≡ get_or slots i None)
+    × ((i : ℕ) → i < n → slice_get (filter_map (λ slot. slot) slots) i ≡ get_or slots i None)
 packed [] n le full vacant = (omega (arith, le), λ i lt. absurd (omega (arith, le, lt)))
 packed {X} (None ∷ slots) n le full vacant =
     let rest = packed slots 0 (omega arith) (λ i lt. absurd (omega (arith, lt)))
-        (λ i least. vacant (suc i) (omega (arith, zero_is n refl))) in
+    (λ i least. vacant (suc i) (omega (arith, zero_is n refl))) in
     let z = zero_is n refl in
     (rest.0 ∙ omega (arith, z), λ i lt. absurd (omega (arith, z, lt)))
   where
@@ -435,7 +450,7 @@ packed {X} (None ∷ slots) n le full vacant =
 packed (Some x ∷ slots) zero le full vacant = absurd (let bad = vacant 0 (omega arith) in cc)
 packed {X} (Some x ∷ slots) (suc n) le full vacant =
     let rest = packed slots n (omega (arith, le)) (λ i lt. full (suc i) (omega (arith, lt)))
-        (λ i least. vacant (suc i) (omega (arith, least))) in
+    (λ i least. vacant (suc i) (omega (arith, least))) in
     (ap suc rest.0, at rest.1)
   where
     at : ((i : ℕ) → i < n → slice_get (filter_map (λ slot. slot) slots) i ≡ get_or slots i None) → (i : ℕ) → i < suc n
@@ -539,9 +554,11 @@ response t heard few h parts = (forth t.failed refl (is_complete t) refl, back)
     forth true f c g e = absurd (let bad = (rw f at e) in cc)
     forth false f false g e = absurd (let bad = (rw (f, g) at e) in cc)
     forth false f true g e =
-        let same : parts_of t ≡ parts = (let r = (rw (f, g) at e) in cc) in
-        (f, subst (λ (l : List AnswerPart). CompleteResponse t.ask.parts heard l) same
-            (whole_parts t heard few h (sym (complete_is t heard h) ∙ g)))
+        let same : parts_of t ≡ parts = (let r = (rw (f, g) at e) in cc) in (
+          f,
+          subst (λ (l : List AnswerPart). CompleteResponse t.ask.parts heard l) same
+              (whole_parts t heard few h (sym (complete_is t heard h) ∙ g)),
+        )
 
     back : (t.failed ≡ false) × CompleteResponse t.ask.parts heard parts → outcome_of t ≡ Complete parts
     back x =
@@ -579,21 +596,21 @@ keeps steps id ask is = keeps_run steps (begun id ask) [] is.few (keeps_begun id
 
 pub complete : (steps : List Step) (id : ℕ) (ask : Ask) (parts : List AnswerPart) → IsAsk ask
     → (outcome_of (ends steps id ask) ≡ Complete parts)
-        ↔ (((ends steps id ask).failed ≡ false) × CompleteResponse ask.parts (history steps id ask) parts)
+    ↔ (((ends steps id ask).failed ≡ false) × CompleteResponse ask.parts (history steps id ask) parts)
 complete steps id ask parts is =
     let same = parts_asked steps id ask in
     let few = is.few in
     subst (λ (n : ℕ). (outcome_of (ends steps id ask) ≡ Complete parts)
-        ↔ (((ends steps id ask).failed ≡ false) × CompleteResponse n (history steps id ask) parts))
-      same (response (ends steps id ask) (history steps id ask) (omega (arith, same, few)) (keeps steps id ask is) parts)
+    ↔ (((ends steps id ask).failed ≡ false) × CompleteResponse n (history steps id ask) parts))
+    same (response (ends steps id ask) (history steps id ask) (omega (arith, same, few)) (keeps steps id ask is) parts)
 
 pub waiting : (steps : List Step) (id : ℕ) (ask : Ask) → IsAsk ask
     → (outcome_of (ends steps id ask) ≡ Waiting)
-        ↔ (((ends steps id ask).failed ≡ false) × (is_whole ask.parts (history steps id ask) ≡ false))
+    ↔ (((ends steps id ask).failed ≡ false) × (is_whole ask.parts (history steps id ask) ≡ false))
 waiting steps id ask is =
     subst (λ (n : ℕ). (outcome_of (ends steps id ask) ≡ Waiting)
-        ↔ (((ends steps id ask).failed ≡ false) × (is_whole n (history steps id ask) ≡ false)))
-      (parts_asked steps id ask) (open_still (ends steps id ask) (history steps id ask) (keeps steps id ask is))
+    ↔ (((ends steps id ask).failed ≡ false) × (is_whole n (history steps id ask) ≡ false)))
+    (parts_asked steps id ask) (open_still (ends steps id ask) (history steps id ask) (keeps steps id ask is))
 
 pub asks_missing : (steps : List Step) (id : ℕ) (ask : Ask) (i : ℕ) → IsAsk ask
     → asks_for (request_of (ends steps id ask)).part i ≡ is_missing ask.parts (history steps id ask) i

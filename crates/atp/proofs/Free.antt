@@ -30,8 +30,12 @@ few : (first m : ℕ) (slots : Slots) → hits first m slots ≤ count_by is_som
 few first m [] = omega arith
 few first m (None ∷ slots) = omega (arith, few first m slots, sum_by-cons (λ (o : Option Transaction). cond (is_some o) 1 0) None slots)
 few first m (Some t ∷ slots) =
-    omega (arith, few first m slots, one_at_most (ltb (after first t.id) m),
-        sum_by-cons (λ (o : Option Transaction). cond (is_some o) 1 0) (Some t) slots)
+    omega (
+      arith,
+      few first m slots,
+      one_at_most (ltb (after first t.id) m),
+      sum_by-cons (λ (o : Option Transaction). cond (is_some o) 1 0) (Some t) slots,
+    )
 
 wider : (n m : ℕ) → bit (ltb n m) ≤ bit (ltb n (suc m))
 wider n m = grind arith
@@ -56,7 +60,7 @@ one_more first m [] t a b e = absurd cc
 one_more first m (None ∷ slots) t a b e = one_more first m slots t a b e
 one_more first m (Some u ∷ slots) t a b e =
     (elim (eqb u.id ((first + m) % 65536))
-        as (λ c. eqb u.id ((first + m) % 65536) ≡ c → suc (hits first m (Some u ∷ slots)) ≤ hits first (suc m) (Some u ∷ slots)) [
+    as (λ c. eqb u.id ((first + m) % 65536) ≡ c → suc (hits first m (Some u ∷ slots)) ≤ hits first (suc m) (Some u ∷ slots)) [
       | true ↦ λ c.
           let same : after first u.id ≡ m = ap (after first) (eqb-true _ _ c) ∙ its_place first m a b in
           let x = not_below (after first u.id) m same in

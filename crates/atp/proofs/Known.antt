@@ -106,7 +106,7 @@ apart_removed old new key h up j k t v a b same =
 pub others_known : (old new : Slab Transaction) (key id : ℕ) (slot : Option Transaction) → AreApart old.slots → AreApart new.slots
     → Updates old new key slot
     → ((t : Transaction) → get old key ≡ Some t → t.id ≢ id) → ((t : Transaction) → slot ≡ Some t → t.id ≢ id)
-        → known id new.slots ≡ known id old.slots
+    → known id new.slots ≡ known id old.slots
 others_known old new key id slot ho hn up was is =
     (elim (known id old.slots) as (λ (o : Option Transaction). known id old.slots ≡ o → known id new.slots ≡ o) [
       | None ↦ λ e. known_none id new.slots (λ k t a. elim (cases_eq k key) [

@@ -7,7 +7,7 @@ use Rattle.atp.specs.Places.{IsPlace}
 
 one_more : {X : Type 0} (f : X → X) (all : List X) (i : ℕ) (d : X) → i < length all
     → set (map f (take i all) ++ drop i all) i (f (get_or (map f (take i all) ++ drop i all) i d))
-        ≡ map f (take (suc i) all) ++ drop (suc i) all
+    ≡ map f (take (suc i) all) ++ drop (suc i) all
 one_more f [] i d lt = absurd (omega arith)
 one_more f (a ∷ all) zero d lt = refl
 one_more {X} f (a ∷ all) (suc i) d lt = ap (λ (l : List X). f a ∷ l) (one_more f all i d (omega arith))
@@ -73,7 +73,7 @@ not_at {X} p xs e = missing (ltb (position_or_len p xs) (length xs)) refl e
 -- a list of eight, item by item
 pub eight : {X : Type 0} (xs : List X) (a0 a1 a2 a3 a4 a5 a6 a7 d0 d1 d2 d3 d4 d5 d6 d7 : X) → length xs ≡ 8
     → a0 ≡ get_or xs 0 d0 → a1 ≡ get_or xs 1 d1 → a2 ≡ get_or xs 2 d2 → a3 ≡ get_or xs 3 d3 → a4 ≡ get_or xs 4 d4 → a5 ≡ get_or xs 5 d5
-        → a6 ≡ get_or xs 6 d6 → a7 ≡ get_or xs 7 d7
+    → a6 ≡ get_or xs 6 d6 → a7 ≡ get_or xs 7 d7
     → (a0 ∷ a1 ∷ a2 ∷ a3 ∷ a4 ∷ a5 ∷ a6 ∷ a7 ∷ []) ≡ xs
 eight [] a0 a1 a2 a3 a4 a5 a6 a7 d0 d1 d2 d3 d4 d5 d6 d7 e p0 p1 p2 p3 p4 p5 p6 p7 = absurd (omega (arith, e))
 eight (x0 ∷ []) a0 a1 a2 a3 a4 a5 a6 a7 d0 d1 d2 d3 d4 d5 d6 d7 e p0 p1 p2 p3 p4 p5 p6 p7 = absurd (omega (arith, e))

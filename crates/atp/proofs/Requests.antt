@@ -210,17 +210,17 @@ tick_later r = record { from = refl; id = refl; once = refl; sound = sound }
 
 older_later : (r : Request) → Later r (older r)
 older_later r = (elim (is_some r.answer) as (λ b. is_some r.answer ≡ b → Later r (older r)) [
-    | true ↦ λ t. rw t (tick_later r)
-    | false ↦ λ t. rw t (same r)
-  ]) refl
+  | true ↦ λ t. rw t (tick_later r)
+  | false ↦ λ t. rw t (same r)
+]) refl
 
 -- ---- One request more
 
 kind_count : (k : Request → Bool) (rs : Requests) (r : Request) → length (filter k (rs ++ r ∷ [])) ≡ length (filter k rs) + cond (k r) 1 0
 kind_count k [] r = (elim (k r) as (λ b. k r ≡ b → length (filter k (r ∷ [])) ≡ 0 + cond (k r) 1 0) [
-    | true ↦ λ t. rw t refl
-    | false ↦ λ t. rw t refl
-  ]) refl
+  | true ↦ λ t. rw t refl
+  | false ↦ λ t. rw t refl
+]) refl
 kind_count k (a ∷ rs) r =
     let rest = kind_count k rs r in
     (elim (k a) as (λ b. k a ≡ b → length (filter k (a ∷ rs ++ r ∷ [])) ≡ length (filter k (a ∷ rs)) + cond (k r) 1 0) [
@@ -279,11 +279,11 @@ new_sound from p =
 pub appended : (from : Peer) (p : AtpPacket) (rs : Requests) → request_of from p.id rs ≡ None → has_room p rs ≡ true → IsRequests rs
     → IsRequests (rs ++ new_request from p ∷ [])
 appended from p rs new room h = record {
-    once = of_one true;
-    other = of_one false;
-    apart = apart_more rs (new_request from p) h.apart (not_found (is_of from p.id) rs new);
-    sound = all_more is_sound rs (new_request from p) h.sound (new_sound from p);
-  }
+  once = of_one true;
+  other = of_one false;
+  apart = apart_more rs (new_request from p) h.apart (not_found (is_of from p.id) rs new);
+  sound = all_more is_sound rs (new_request from p) h.sound (new_sound from p);
+}
   where
     few : (once : Bool) → of_kind once rs ≤ 64
     few true = h.once
@@ -308,15 +308,15 @@ forgotten from id rs h = filtered (λ r. not (is_of from id r)) rs h
 
 pub asked_anew : (from : Peer) (id : ℕ) (rs : Requests) (r : Request) → IsRequests rs → IsRequests (asked_again from id rs r).1
 asked_anew from id rs r h = (elim (is_some r.answer) as (λ b. is_some r.answer ≡ b → IsRequests (asked_again from id rs r).1) [
-    | true ↦ λ t. rw t (later rs (with_first (is_of from id) repeated rs) (first_later (is_of from id) repeated repeat_later rs) h)
-    | false ↦ λ t. rw t h
-  ]) refl
+  | true ↦ λ t. rw t (later rs (with_first (is_of from id) repeated rs) (first_later (is_of from id) repeated repeat_later rs) h)
+  | false ↦ λ t. rw t h
+]) refl
 
 pub answered : (from : Peer) (id : ℕ) (parts : List AnswerPart) (rs : Requests) → is_answer parts ≡ true → IsRequests rs
     → IsRequests (with_first (is_of from id) (with_answer parts) rs)
 answered from id parts rs short h =
     later rs (with_first (is_of from id) (with_answer parts) rs)
-        (first_later (is_of from id) (with_answer parts) (answer_later parts short) rs) h
+    (first_later (is_of from id) (with_answer parts) (answer_later parts short) rs) h
 
 pub passed : (rs : Requests) → IsRequests rs → IsRequests (ticked rs)
 passed rs h =

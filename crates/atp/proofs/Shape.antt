@@ -67,9 +67,10 @@ right_part true n few = let le = few refl in grind arith
 pub value : (p : AtpPacket) → IsPacket p → IsValue packet p
 unfolding packet
 value p h =
-    let e = right_part (eqb (p.control / 64) 2) p.part h.in_response in
-    ((h.control, right_control p.control h.some),
-        ((h.part, rw e refl), ((h.id, refl), ((h.user, refl), (all_pass 0 p.payload h.payload, refl, refl)))))
+    let e = right_part (eqb (p.control / 64) 2) p.part h.in_response in (
+      (h.control, right_control p.control h.some),
+      ((h.part, rw e refl), ((h.id, refl), ((h.user, refl), (all_pass 0 p.payload h.payload, refl, refl)))),
+    )
 
 few_bytes : (p : AtpPacket) → IsPacket p → length (bytes_of packet p ++ []) ≤ 586
 few_bytes p h =

@@ -60,16 +60,21 @@ pub put : (old new : Slab Transaction) (key : ℕ) (t u : Transaction) → IsTab
 put old new key t u h e same asked is =
     let there : IsSome (get old key) = rw e refl in
     let up : Updates old new key (Some u) = subst (λ (s : Slab Transaction). Updates old s key (Some u)) (sym is)
-        (Updates-with_value old key u there) in
+    (Updates-with_value old key u there) in
     let ask : IsSendable u.ask = subst (λ (a : Ask). IsSendable a) (sym asked) (h.sendable key t e) in
     let apart : AreApart new.slots = apart_after old new key u h.apart up
-        (λ k v kn b w. no_other old key t h.apart e k v kn b (w ∙ same)) in
+    (λ k v kn b w. no_other old key t h.apart e k v kn b (w ∙ same)) in
     let len : slab_len new ≡ slab_len old = ap (λ (s : Slab Transaction). slab_len s) is ∙ count_set old.slots key t u e in
     let few = h.few in
     let room : 32 ≤ new.capacity = subst (λ (s : Slab Transaction). 32 ≤ s.capacity) (sym is) h.room in
     record {
-      table = record { apart = apart; sendable = sendable_after old new key u h.sendable up ask; few = omega
-          (arith, len, few); room = room };
+      table = record {
+        apart = apart;
+        sendable = sendable_after old new key u h.sendable up ask;
+        few = omega
+            (arith, len, few);
+        room = room;
+      };
       here = subst (λ (n : ℕ). known n new.slots ≡ Some u) same (known_is new.slots key u apart up.changed);
       others = λ other differs. others_known old new key other (Some u) h.apart apart up
           (λ v b w. (let r : Some v ≡ Some t = sym b ∙ e in let vt : v ≡ t = cc in differs (sym w ∙ ap (λ (x : Transaction). x.id) vt)))
@@ -84,8 +89,13 @@ added old new key t h some fresh ask vacant up len cap =
     let apart : AreApart new.slots = apart_after old new key t h.apart up (λ k v kn b. not_known t.id old.slots k v h.apart fresh b) in
     let room = h.room in
     record {
-      table = record { apart = apart; sendable = sendable_after old new key t h.sendable up ask; few = omega
-          (arith, len, some); room = omega (arith, cap, room) };
+      table = record {
+        apart = apart;
+        sendable = sendable_after old new key t h.sendable up ask;
+        few = omega
+            (arith, len, some);
+        room = omega (arith, cap, room);
+      };
       here = known_is new.slots key t apart up.changed;
       others = λ other differs. others_known old new key other (Some t) h.apart apart up
           (λ v b. absurd (let r : Some v ≡ None = sym b ∙ vacant in cc))
@@ -100,15 +110,20 @@ removed old new key t h e up len cap =
     let room = h.room in
     let few = h.few in
     let gone : (k : ℕ) (v : Transaction) → get new k ≡ Some v
-        → v.id ≢ t.id = λ (k : ℕ) (v : Transaction) (b : get new k ≡ Some v). (elim (cases_eq k key) as (λ c. v.id ≢ t.id) [
+    → v.id ≢ t.id = λ (k : ℕ) (v : Transaction) (b : get new k ≡ Some v). (elim (cases_eq k key) as (λ c. v.id ≢ t.id) [
       | inl kk ↦
           let at : get new key ≡ Some v = subst (λ (i : ℕ). get new i ≡ Some v) kk b in
           absurd (let r : Some v ≡ None = sym at ∙ up.changed in cc)
       | inr kn ↦ no_other old key t h.apart e k v kn (sym (up.others k kn) ∙ b)
     ]) in
     record {
-      table = record { apart = apart; sendable = sendable_removed old new key h.sendable up; few = omega (arith, len, few); room = omega
-          (arith, cap, room) };
+      table = record {
+        apart = apart;
+        sendable = sendable_removed old new key h.sendable up;
+        few = omega (arith, len, few);
+        room = omega
+            (arith, cap, room);
+      };
       here = known_none t.id new.slots gone;
       others = λ other differs. others_known old new key other None h.apart apart up
           (λ v b w. (let r : Some v ≡ Some t = sym b ∙ e in let vt : v ≡ t = cc in differs (sym w ∙ ap (λ (x : Transaction). x.id) vt)))

@@ -74,7 +74,7 @@ pub heard_near : (from : Peer) (p : AtpPacket) (t : Transaction) → is_heard fr
 heard_near from p t h =
     let a = both (is_waiting t) (answers from p t) h in
     let b = both (is_response p.control && (p.id == t.id) && same_address from.addr t.ask.to && (from.socket == t.ask.socket))
-        (ltb p.part t.ask.parts) a.1 in
+    (ltb p.part t.ask.parts) a.1 in
     ltb-true _ _ b.1
   where
     both : (a b : Bool) → a && b ≡ true → (a ≡ true) × (b ≡ true)

@@ -37,7 +37,7 @@ is_missing asked heard i = nat_lt i (part_count asked heard) && not (is_some (fi
 pub record CompleteResponse (asked : ℕ) (heard : List AtpPacket) (parts : List AnswerPart) : Type 0 where
   pub count : length parts ≡ part_count asked heard
   pub each : (i : ℕ) → i < part_count asked heard
-    → (p : AtpPacket) × (first_copy i heard ≡ Some p) × (slice_get parts i ≡ Some (part_of p))
+      → (p : AtpPacket) × (first_copy i heard ≡ Some p) × (slice_get parts i ≡ Some (part_of p))
 
 -- ---- What happens to an open transaction
 

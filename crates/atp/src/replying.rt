@@ -15,11 +15,7 @@ use crate::responder::Responder;
 use at_base::{Bytes, Error};
 
 /// The packets of a kept answer, where a packet asks for one.
-fn kept_packets(
-    responder: &Responder,
-    from: Peer,
-    packet: &Packet<'_>,
-) -> Result<Vec<Bytes>, Error>
+fn kept_packets(responder: &Responder, from: Peer, packet: &Packet<'_>) -> Result<Vec<Bytes>, Error>
     ensures ok { IfOk result (λ packets. packets.items
         ≡ bytes_of_all (packets_kept from (packet_value packet.now) responder.now)) }
     ensures err { IsOkUnless result Error.Memory }

@@ -296,9 +296,7 @@ impl Responder {
             ⊎ (e ≡ Error.Memory)) }
     {
         match kept_answer(self.requests.as_slice(), from, id) {
-            Some(answer) => {
-                packets_of(self.allocator(), id, bitmap, answer.as_slice())
-            }
+            Some(answer) => { packets_of(self.allocator(), id, bitmap, answer.as_slice()) }
             None => Err(Error::NoSuch(What::Transaction)),
         }
     }

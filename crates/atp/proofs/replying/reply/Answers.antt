@@ -15,12 +15,12 @@ returns-in-Ok-Ask-clause-ok c =
     let p = packet_value c.args.packet.now in
     let e = rw c.in-Ok-Ask.field-0-is at (c.in-Ok-Ask.ensures {u = tt}).ok in
     let has = room c.args.from p c.args.responder.now c.heard.result c.in-Ok-Ask.field-0 c.in-Ok-Ask.is
-        (sym (ap (λ (x : Todo × List Request). x.0) e)) c.heard.ensures.full in
+    (sym (ap (λ (x : Todo × List Request). x.0) e)) c.heard.ensures.full in
     rw (reply_new c.args.from p c.args.user.now c.args.responder.now c.heard.new.self e has)
-      (rw (now_asked c.args.from p c.args.responder.now c.heard.new.self e) at c.respond_or_forget.ensures.ok)
+    (rw (now_asked c.args.from p c.args.responder.now c.heard.new.self e) at c.respond_or_forget.ensures.ok)
 
 pub returns-in-Ok-Ask-clause-kept : goal.returns-in-Ok-Ask-clause-kept
 returns-in-Ok-Ask-clause-kept c =
     let e = rw c.in-Ok-Ask.field-0-is at (c.in-Ok-Ask.ensures {u = tt}).ok in
     rw (as_before c.args.from
-        (packet_value c.args.packet.now) c.args.responder.now c.heard.new.self e) at c.respond_or_forget.ensures.forgotten
+    (packet_value c.args.packet.now) c.args.responder.now c.heard.new.self e) at c.respond_or_forget.ensures.forgotten

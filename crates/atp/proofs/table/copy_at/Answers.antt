@@ -16,7 +16,7 @@ pub returns-in_ok-copy-clause-copied : goal.returns-in_ok-copy-clause-copied
 returns-in_ok-copy-clause-copied c =
     let at : get c.args.table.now c.args.key ≡ Some c.in_ok-copy.field-0 = sym c.in-Some.ensures ∙ ap Some (sym c.in_ok-copy.ensures.ok) in
     taken c.args.key c.args.table.now c.args.copy.now c.insert.new.table c.in_ok-copy.field-0 c.requires.table c.requires.before at
-        c.insert.ensures.put c.insert.ensures.len
+    c.insert.ensures.put c.insert.ensures.len
 
 pub returns-in_default-clause-copied : goal.returns-in_default-clause-copied
 returns-in_default-clause-copied c = vacant c.args.key c.args.table.now c.args.copy.now c.requires.before (sym c.in_default.ensures)

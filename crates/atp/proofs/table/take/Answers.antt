@@ -16,4 +16,4 @@ taken old new key (Some t) h e up len cap = removed old new key t h (sym e) up l
 pub returns-clause-taken : goal.returns-clause-taken
 returns-clause-taken c =
     taken c.args.table.now c.try_remove.new.self c.args.key c.try_remove.result c.requires c.try_remove.ensures.value
-        c.try_remove.ensures.updates c.try_remove.ensures.len c.try_remove.ensures.capacity
+    c.try_remove.ensures.updates c.try_remove.ensures.len c.try_remove.ensures.capacity
