@@ -11,3 +11,4 @@ mod Requests
 pub mod Complete
 mod CompleteExample
 mod Replies
+pub mod Keeping

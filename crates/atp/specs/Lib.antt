@@ -11,3 +11,4 @@ pub mod Outcomes
 pub mod Complete
 pub mod CompleteExample
 pub mod Replies
+pub mod Keeping
