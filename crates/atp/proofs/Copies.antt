@@ -1,5 +1,6 @@
 -- A copy of open transactions, slot by slot.
-use Rattle.std.proofs.Common.{◌≡◌, ◌≢◌, ℕ, zero, suc, ◌+◌, ◌<◌, ◌≤◌, cond, List, [], ◌∷◌, length, Option, Some, None, is_some, get_or, count_by, refl, sym, ap, subst, ◌∙◌, inl, inr, arith}
+use Rattle.std.proofs.Common.{◌≡◌, ◌≢◌, ℕ, zero, suc, ◌+◌, ◌<◌, ◌≤◌, cond, List, [], ◌∷◌, length, Option, Some, None, is_some, get_or}
+use Rattle.std.proofs.Common.{count_by, refl, sym, ap, subst, ◌∙◌, inl, inr, arith}
 use Rattle.std.proofs.lemmas.Bool.{cases_eq, cases_lt}
 use Rattle.std.proofs.lemmas.List.{get_or_past}
 use Rattle.std.proofs.lemmas.List.Sums.{sum_by-cons}
@@ -67,7 +68,8 @@ vacant n old copy h e =
     }
 
 -- the copy has nothing of the ID in the next slot
-pub fresh : (n : ℕ) (old copy : Slab Transaction) (t : Transaction) → IsTable old → CopiedTo n old copy → get old n ≡ Some t → known t.id copy.slots ≡ None
+pub fresh : (n : ℕ) (old copy : Slab Transaction) (t : Transaction) → IsTable old → CopiedTo n old copy → get old n ≡ Some t
+    → known t.id copy.slots ≡ None
 fresh n old copy t ho h e =
     (elim (known t.id copy.slots) as (λ (o : Option Transaction). known t.id copy.slots ≡ o → known t.id copy.slots ≡ None) [
       | None ↦ λ a. a
@@ -78,7 +80,8 @@ fresh n old copy t ho h e =
           absurd (omega (arith, place, r.1))
     ]) refl
 
-pub room : (n : ℕ) (old copy : Slab Transaction) (t : Transaction) → IsTable old → CopiedTo n old copy → get old n ≡ Some t → slab_len copy < 32
+pub room : (n : ℕ) (old copy : Slab Transaction) (t : Transaction) → IsTable old → CopiedTo n old copy → get old n ≡ Some t
+    → slab_len copy < 32
 room n old copy t ho h e =
     let one : tally (get old n) ≡ 1 = rw e refl in
     let c = h.count in
@@ -128,7 +131,8 @@ whole n old copy ho h le = record {
     below : (k : ℕ) (t : Transaction) → get old k ≡ Some t → k < n
     below k t a = elim (cases_lt k n) [
       | inl lt ↦ lt
-      | inr past ↦ absurd (let none : get old k ≡ None = get_or_past old.slots k None (omega (arith, le, past)) in let r : Some t ≡ None = sym a ∙ none in cc)
+      | inr past ↦ absurd (let none : get old k ≡ None = get_or_past old.slots k None (omega (arith, le, past)) in
+          let r : Some t ≡ None = sym a ∙ none in cc)
     ]
 
     unknown : (id : ℕ) → known id old.slots ≡ None → known id copy.slots ≡ None

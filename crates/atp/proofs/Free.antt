@@ -1,5 +1,6 @@
 -- Of so many numbers in a row, not all are open where fewer transactions are.
-use Rattle.std.proofs.Common.{◌≡◌, ℕ, zero, suc, ◌+◌, ◌-◌, ◌%◌, ◌<◌, ◌≤◌, Bool, true, false, cond, eqb, ltb, List, [], ◌∷◌, Option, Some, None, is_some, count_by, refl, ap, ◌∙◌, arith}
+use Rattle.std.proofs.Common.{◌≡◌, ℕ, zero, suc, ◌+◌, ◌-◌, ◌%◌, ◌<◌, ◌≤◌, Bool, true, false, cond, eqb, ltb, List, [], ◌∷◌, Option, Some}
+use Rattle.std.proofs.Common.{None, is_some, count_by, refl, ap, ◌∙◌, arith}
 use Rattle.std.proofs.lemmas.Bool.{eqb-true}
 use Rattle.std.proofs.lemmas.List.Sums.{sum_by-cons}
 use Rattle.atp.specs.declared.transaction.Transaction.{Transaction}
@@ -29,7 +30,12 @@ few : (first m : ℕ) (slots : Slots) → hits first m slots ≤ count_by is_som
 few first m [] = omega arith
 few first m (None ∷ slots) = omega (arith, few first m slots, sum_by-cons (λ (o : Option Transaction). cond (is_some o) 1 0) None slots)
 few first m (Some t ∷ slots) =
-    omega (arith, few first m slots, one_at_most (ltb (after first t.id) m), sum_by-cons (λ (o : Option Transaction). cond (is_some o) 1 0) (Some t) slots)
+    omega (
+      arith,
+      few first m slots,
+      one_at_most (ltb (after first t.id) m),
+      sum_by-cons (λ (o : Option Transaction). cond (is_some o) 1 0) (Some t) slots,
+    )
 
 wider : (n m : ℕ) → bit (ltb n m) ≤ bit (ltb n (suc m))
 wider n m = grind arith
@@ -48,11 +54,13 @@ not_below n m e = grind arith
 just_below : (n m : ℕ) → n ≡ m → bit (ltb n (suc m)) ≡ 1
 just_below n m e = grind arith
 
-one_more : (first m : ℕ) (slots : Slots) (t : Transaction) → first < 65536 → m < 65536 → known ((first + m) % 65536) slots ≡ Some t → suc (hits first m slots) ≤ hits first (suc m) slots
+one_more : (first m : ℕ) (slots : Slots) (t : Transaction) → first < 65536 → m < 65536 → known ((first + m) % 65536) slots ≡ Some t
+    → suc (hits first m slots) ≤ hits first (suc m) slots
 one_more first m [] t a b e = absurd cc
 one_more first m (None ∷ slots) t a b e = one_more first m slots t a b e
 one_more first m (Some u ∷ slots) t a b e =
-    (elim (eqb u.id ((first + m) % 65536)) as (λ c. eqb u.id ((first + m) % 65536) ≡ c → suc (hits first m (Some u ∷ slots)) ≤ hits first (suc m) (Some u ∷ slots)) [
+    (elim (eqb u.id ((first + m) % 65536))
+    as (λ c. eqb u.id ((first + m) % 65536) ≡ c → suc (hits first m (Some u ∷ slots)) ≤ hits first (suc m) (Some u ∷ slots)) [
       | true ↦ λ c.
           let same : after first u.id ≡ m = ap (after first) (eqb-true _ _ c) ∙ its_place first m a b in
           let x = not_below (after first u.id) m same in
@@ -61,14 +69,16 @@ one_more first m (Some u ∷ slots) t a b e =
       | false ↦ λ c. omega (arith, one_more first m slots t a b (rw c at e), wider (after first u.id) m)
     ]) refl
 
-all_hit : (first m : ℕ) (slots : Slots) → first < 65536 → m ≤ 65536 → ((k : ℕ) → k < m → (t : Transaction) × (known ((first + k) % 65536) slots ≡ Some t)) → m ≤ hits first m slots
+all_hit : (first m : ℕ) (slots : Slots) → first < 65536 → m ≤ 65536
+    → ((k : ℕ) → k < m → (t : Transaction) × (known ((first + k) % 65536) slots ≡ Some t)) → m ≤ hits first m slots
 all_hit first zero slots a b h = omega arith
 all_hit first (suc m) slots a b h =
     let last = h m (omega arith) in
     let before = all_hit first m slots a (omega arith) (λ k lt. h k (omega arith)) in
     omega (arith, before, one_more first m slots last.0 a (omega arith) last.1)
 
-pub not_all : (first : ℕ) (slots : Slots) → first < 65536 → count_by is_some slots ≤ 32 → ((k : ℕ) → k < 33 → (t : Transaction) × (known ((first + k) % 65536) slots ≡ Some t)) → ⊥
+pub not_all : (first : ℕ) (slots : Slots) → first < 65536 → count_by is_some slots ≤ 32
+    → ((k : ℕ) → k < 33 → (t : Transaction) × (known ((first + k) % 65536) slots ≡ Some t)) → ⊥
 not_all first slots a few_open h =
     let n = all_hit first 33 slots a (omega arith) h in
     omega (arith, n, few first 33 slots, few_open)

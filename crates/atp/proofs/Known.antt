@@ -1,5 +1,6 @@
 -- What is known of an ID, from the slots and back.
-use Rattle.std.proofs.Common.{◌≡◌, ◌≢◌, ℕ, zero, suc, true, false, eqb, List, [], ◌∷◌, Option, Some, None, get_or, refl, sym, ap, subst, ◌∙◌, inl, inr, arith}
+use Rattle.std.proofs.Common.{◌≡◌, ◌≢◌, ℕ, zero, suc, true, false, eqb, List, [], ◌∷◌, Option, Some, None, get_or, refl, sym, ap, subst}
+use Rattle.std.proofs.Common.{◌∙◌, inl, inr, arith}
 use Rattle.std.proofs.lemmas.Bool.{cases_eq, eqb-true}
 use Rattle.slab.specs.Slab.{Slab, get, Updates}
 use Rattle.atp.specs.declared.transaction.Transaction.{Transaction}
@@ -57,7 +58,8 @@ known_is (Some u ∷ slots) (suc k) t h e =
     rw (is_other u t.id differs) (known_is slots k t (apart_rest (Some u) slots h) e)
 
 -- an ID of which nothing is known stands in no slot
-pub not_known : (id : ℕ) (slots : Slots) (k : ℕ) (t : Transaction) → AreApart slots → known id slots ≡ None → get_or slots k None ≡ Some t → t.id ≢ id
+pub not_known : (id : ℕ) (slots : Slots) (k : ℕ) (t : Transaction) → AreApart slots → known id slots ≡ None → get_or slots k None ≡ Some t
+    → t.id ≢ id
 not_known id slots k t apart none e same =
     let is = known_is slots k t apart e in
     let bad : known id slots ≡ Some t = subst (λ (n : ℕ). known n slots ≡ Some t) same is in
@@ -101,8 +103,10 @@ apart_removed old new key h up j k t v a b same =
     ]
 
 -- an ID that neither the old slot nor the new one has
-pub others_known : (old new : Slab Transaction) (key id : ℕ) (slot : Option Transaction) → AreApart old.slots → AreApart new.slots → Updates old new key slot
-    → ((t : Transaction) → get old key ≡ Some t → t.id ≢ id) → ((t : Transaction) → slot ≡ Some t → t.id ≢ id) → known id new.slots ≡ known id old.slots
+pub others_known : (old new : Slab Transaction) (key id : ℕ) (slot : Option Transaction) → AreApart old.slots → AreApart new.slots
+    → Updates old new key slot
+    → ((t : Transaction) → get old key ≡ Some t → t.id ≢ id) → ((t : Transaction) → slot ≡ Some t → t.id ≢ id)
+    → known id new.slots ≡ known id old.slots
 others_known old new key id slot ho hn up was is =
     (elim (known id old.slots) as (λ (o : Option Transaction). known id old.slots ≡ o → known id new.slots ≡ o) [
       | None ↦ λ e. known_none id new.slots (λ k t a. elim (cases_eq k key) [

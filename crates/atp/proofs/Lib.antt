@@ -7,3 +7,8 @@ mod Slots
 mod Steps
 mod Due
 mod Copies
+mod Requests
+pub mod Complete
+mod CompleteExample
+mod Replies
+pub mod Keeping

@@ -14,7 +14,8 @@ byte_read low b rest lt =
     let whole : b ∷ rest ≡ bytes_of (data_byte low) b ++ rest = ap (λ (x : ℕ). x ∷ rest) (omega arith) in
     ap (read packets (data_byte low)) whole ∙ read_again packets (data_byte low) (λ n p. (refl, tt)) b rest ((omega arith, refl), refl) tt
 
-pub payload_read : (low most : ℕ) (bytes : List ℕ) → IsBytes bytes → length bytes ≤ most → many_at (λ low. read packets (data_byte low)) (λ b. 0) low most bytes ≡ Ok bytes
+pub payload_read : (low most : ℕ) (bytes : List ℕ) → IsBytes bytes → length bytes ≤ most
+    → many_at (λ low. read packets (data_byte low)) (λ b. 0) low most bytes ≡ Ok bytes
 payload_read low zero [] fits le = refl
 payload_read low zero (b ∷ bytes) fits le = absurd (omega arith)
 payload_read low (suc most) [] fits le = refl

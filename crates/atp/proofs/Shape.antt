@@ -1,5 +1,6 @@
 -- The format of a packet: each part stands where its projection finds it; and the bytes of a packet.
-use Rattle.std.proofs.Common.{◌≡◌, ℕ, suc, ◌≤◌, ◌<◌, ◌/◌, ◌&&◌, Bool, true, false, IsTrue, eqb, ltb, List, [], ◌∷◌, ◌++◌, length, None, Result, Ok, Err, refl, sym, arith}
+use Rattle.std.proofs.Common.{◌≡◌, ℕ, suc, ◌≤◌, ◌<◌, ◌/◌, ◌&&◌, Bool, true, false, IsTrue, eqb, ltb, List, [], ◌∷◌, ◌++◌, length, None}
+use Rattle.std.proofs.Common.{Result, Ok, Err, refl, sym, arith}
 use Rattle.std.specs.Int.{byte_at}
 use Rattle.std.proofs.lemmas.List.{append-nil, length-append}
 use Rattle.at_base.specs.declared.error.Error.{Error}
@@ -31,17 +32,20 @@ packet_lawful = (
 )
 
 -- from what reading gives, what the reader promises
-pub reads_of : (bytes : List ℕ) → IsBytes bytes → (r : Result Packet Error) → Gives (λ p. (packet_value p, [])) r (read packets packet bytes) → Reads packets packet (λ d. d) packet_value bytes r
+pub reads_of : (bytes : List ℕ) → IsBytes bytes → (r : Result Packet Error)
+    → Gives (λ p. (packet_value p, [])) r (read packets packet bytes) → Reads packets packet (λ d. d) packet_value bytes r
 reads_of bytes fits (Ok p) h = reads_ok packets packet (λ d. d) packet_value packet_lawful bytes p (packet_value p) [] fits h refl
 reads_of bytes fits (Err e) h = reads_err {X = Packet} packets packet (λ d. d) packet_value packet_lawful bytes e fits h
 
 -- the bytes of a packet
-pub bytes_laid : (p : AtpPacket) → IsBytes p.payload → bytes_of packet p ≡ byte_at 0 p.control ∷ byte_at 0 p.part ∷ byte_at 1 p.id ∷ byte_at 0 p.id ∷ (p.user ++ p.payload)
+pub bytes_laid : (p : AtpPacket) → IsBytes p.payload
+    → bytes_of packet p ≡ byte_at 0 p.control ∷ byte_at 0 p.part ∷ byte_at 1 p.id ∷ byte_at 0 p.id ∷ (p.user ++ p.payload)
 unfolding packet
 bytes_laid p fits = rw (payload_bytes 0 p.payload fits) refl
 
 -- the bytes as they are written
-pub written : (p : AtpPacket) → p.control < 256 → p.part < 256 → IsBytes p.payload → (p.control ∷ p.part ∷ byte_at 1 p.id ∷ byte_at 0 p.id ∷ []) ++ p.user ++ p.payload ≡ bytes_of packet p
+pub written : (p : AtpPacket) → p.control < 256 → p.part < 256 → IsBytes p.payload
+    → (p.control ∷ p.part ∷ byte_at 1 p.id ∷ byte_at 0 p.id ∷ []) ++ p.user ++ p.payload ≡ bytes_of packet p
 written p control part fits =
     let a : byte_at 0 p.control ≡ p.control = omega arith in
     let b : byte_at 0 p.part ≡ p.part = omega arith in
@@ -63,8 +67,10 @@ right_part true n few = let le = few refl in grind arith
 pub value : (p : AtpPacket) → IsPacket p → IsValue packet p
 unfolding packet
 value p h =
-    let e = right_part (eqb (p.control / 64) 2) p.part h.in_response in
-    ((h.control, right_control p.control h.some), ((h.part, rw e refl), ((h.id, refl), ((h.user, refl), (all_pass 0 p.payload h.payload, refl, refl)))))
+    let e = right_part (eqb (p.control / 64) 2) p.part h.in_response in (
+      (h.control, right_control p.control h.some),
+      ((h.part, rw e refl), ((h.id, refl), ((h.user, refl), (all_pass 0 p.payload h.payload, refl, refl)))),
+    )
 
 few_bytes : (p : AtpPacket) → IsPacket p → length (bytes_of packet p ++ []) ≤ 586
 few_bytes p h =
@@ -76,5 +82,6 @@ pub begins : (p : AtpPacket) → IsPacket p → Begins packet (bytes_of packet p
 unfolding packet
 begins p h = ([], sym (append-nil (bytes_of packet p)), value p h, (refl, few_bytes p h))
 
-pub read_back : (p : AtpPacket) → IsPacket p → Begins packet (bytes_of packet p) p × ((d : AtpPacket) → Begins packet (bytes_of packet p) d → d ≡ p)
+pub read_back : (p : AtpPacket) → IsPacket p
+    → Begins packet (bytes_of packet p) p × ((d : AtpPacket) → Begins packet (bytes_of packet p) d → d ≡ p)
 read_back p h = (begins p h, λ d b. begins_one packets packet packet_lawful (bytes_of packet p) p d (begins p h) b)

@@ -1,5 +1,6 @@
 -- One slot of the open transactions changes.
-use Rattle.std.proofs.Common.{◌≡◌, ◌≢◌, ℕ, zero, suc, ◌+◌, ◌<◌, ◌≤◌, cond, List, [], ◌∷◌, Option, Some, None, is_some, IsSome, get_or, set, count_by, refl, sym, ap, subst, ◌∙◌, inl, inr, arith}
+use Rattle.std.proofs.Common.{◌≡◌, ◌≢◌, ℕ, zero, suc, ◌+◌, ◌<◌, ◌≤◌, cond, List, [], ◌∷◌, Option, Some, None, is_some, IsSome, get_or}
+use Rattle.std.proofs.Common.{set, count_by, refl, sym, ap, subst, ◌∙◌, inl, inr, arith}
 use Rattle.std.specs.Option.{option_map}
 use Rattle.std.proofs.lemmas.Bool.{cases_eq}
 use Rattle.std.proofs.lemmas.List.Sums.{sum_by-cons}
@@ -15,7 +16,8 @@ abbrev tally : Option Transaction → ℕ
 tally o = cond (is_some o) 1 0
 
 -- a value in place of another leaves the count
-count_set : (slots : List (Option Transaction)) (key : ℕ) (t u : Transaction) → get_or slots key None ≡ Some t → count_by is_some (set slots key (Some u)) ≡ count_by is_some slots
+count_set : (slots : List (Option Transaction)) (key : ℕ) (t u : Transaction) → get_or slots key None ≡ Some t
+    → count_by is_some (set slots key (Some u)) ≡ count_by is_some slots
 count_set [] key t u e = refl
 count_set (o ∷ slots) zero t u e =
     let a = sum_by-cons tally (Some u) slots in
@@ -28,10 +30,12 @@ count_set (o ∷ slots) (suc key) t u e =
     omega (arith, a, b, count_set slots key t u e)
 
 -- no other slot has the ID of this one
-no_other : (old : Slab Transaction) (key : ℕ) (t : Transaction) → AreApart old.slots → get old key ≡ Some t → (k : ℕ) (v : Transaction) → k ≢ key → get old k ≡ Some v → v.id ≢ t.id
+no_other : (old : Slab Transaction) (key : ℕ) (t : Transaction) → AreApart old.slots → get old key ≡ Some t → (k : ℕ) (v : Transaction)
+    → k ≢ key → get old k ≡ Some v → v.id ≢ t.id
 no_other old key t h e k v kn b same = kn (h k key v t b e same)
 
-sendable_after : (old new : Slab Transaction) (key : ℕ) (u : Transaction) → AllSendable old.slots → Updates old new key (Some u) → IsSendable u.ask → AllSendable new.slots
+sendable_after : (old new : Slab Transaction) (key : ℕ) (u : Transaction) → AllSendable old.slots → Updates old new key (Some u)
+    → IsSendable u.ask → AllSendable new.slots
 sendable_after old new key u h up is k v e =
     elim (cases_eq k key) [
       | inl kk ↦
@@ -51,17 +55,26 @@ sendable_removed old new key h up k v e =
     ]
 
 -- another value in its place
-pub put : (old new : Slab Transaction) (key : ℕ) (t u : Transaction) → IsTable old → get old key ≡ Some t → u.id ≡ t.id → u.ask ≡ t.ask → new ≡ with_value old key u → Put old new t.id (Some u)
+pub put : (old new : Slab Transaction) (key : ℕ) (t u : Transaction) → IsTable old → get old key ≡ Some t → u.id ≡ t.id → u.ask ≡ t.ask
+    → new ≡ with_value old key u → Put old new t.id (Some u)
 put old new key t u h e same asked is =
     let there : IsSome (get old key) = rw e refl in
-    let up : Updates old new key (Some u) = subst (λ (s : Slab Transaction). Updates old s key (Some u)) (sym is) (Updates-with_value old key u there) in
+    let up : Updates old new key (Some u) = subst (λ (s : Slab Transaction). Updates old s key (Some u)) (sym is)
+    (Updates-with_value old key u there) in
     let ask : IsSendable u.ask = subst (λ (a : Ask). IsSendable a) (sym asked) (h.sendable key t e) in
-    let apart : AreApart new.slots = apart_after old new key u h.apart up (λ k v kn b w. no_other old key t h.apart e k v kn b (w ∙ same)) in
+    let apart : AreApart new.slots = apart_after old new key u h.apart up
+    (λ k v kn b w. no_other old key t h.apart e k v kn b (w ∙ same)) in
     let len : slab_len new ≡ slab_len old = ap (λ (s : Slab Transaction). slab_len s) is ∙ count_set old.slots key t u e in
     let few = h.few in
     let room : 32 ≤ new.capacity = subst (λ (s : Slab Transaction). 32 ≤ s.capacity) (sym is) h.room in
     record {
-      table = record { apart = apart; sendable = sendable_after old new key u h.sendable up ask; few = omega (arith, len, few); room = room };
+      table = record {
+        apart = apart;
+        sendable = sendable_after old new key u h.sendable up ask;
+        few = omega
+            (arith, len, few);
+        room = room;
+      };
       here = subst (λ (n : ℕ). known n new.slots ≡ Some u) same (known_is new.slots key u apart up.changed);
       others = λ other differs. others_known old new key other (Some u) h.apart apart up
           (λ v b w. (let r : Some v ≡ Some t = sym b ∙ e in let vt : v ≡ t = cc in differs (sym w ∙ ap (λ (x : Transaction). x.id) vt)))
@@ -69,13 +82,20 @@ put old new key t u h e same asked is =
     }
 
 -- a value in a slot that was vacant
-pub added : (old new : Slab Transaction) (key : ℕ) (t : Transaction) → IsTable old → slab_len old < 32 → known t.id old.slots ≡ None → IsSendable t.ask → get old key ≡ None
+pub added : (old new : Slab Transaction) (key : ℕ) (t : Transaction) → IsTable old → slab_len old < 32 → known t.id old.slots ≡ None
+    → IsSendable t.ask → get old key ≡ None
     → Updates old new key (Some t) → slab_len new ≡ slab_len old + 1 → old.capacity ≤ new.capacity → Put old new t.id (Some t)
 added old new key t h some fresh ask vacant up len cap =
     let apart : AreApart new.slots = apart_after old new key t h.apart up (λ k v kn b. not_known t.id old.slots k v h.apart fresh b) in
     let room = h.room in
     record {
-      table = record { apart = apart; sendable = sendable_after old new key t h.sendable up ask; few = omega (arith, len, some); room = omega (arith, cap, room) };
+      table = record {
+        apart = apart;
+        sendable = sendable_after old new key t h.sendable up ask;
+        few = omega
+            (arith, len, some);
+        room = omega (arith, cap, room);
+      };
       here = known_is new.slots key t apart up.changed;
       others = λ other differs. others_known old new key other (Some t) h.apart apart up
           (λ v b. absurd (let r : Some v ≡ None = sym b ∙ vacant in cc))
@@ -83,19 +103,27 @@ added old new key t h some fresh ask vacant up len cap =
     }
 
 -- a value that is taken out
-pub removed : (old new : Slab Transaction) (key : ℕ) (t : Transaction) → IsTable old → get old key ≡ Some t → Updates old new key None → slab_len new + 1 ≡ slab_len old → new.capacity ≡ old.capacity → Put old new t.id None
+pub removed : (old new : Slab Transaction) (key : ℕ) (t : Transaction) → IsTable old → get old key ≡ Some t → Updates old new key None
+    → slab_len new + 1 ≡ slab_len old → new.capacity ≡ old.capacity → Put old new t.id None
 removed old new key t h e up len cap =
     let apart : AreApart new.slots = apart_removed old new key h.apart up in
     let room = h.room in
     let few = h.few in
-    let gone : (k : ℕ) (v : Transaction) → get new k ≡ Some v → v.id ≢ t.id = λ (k : ℕ) (v : Transaction) (b : get new k ≡ Some v). (elim (cases_eq k key) as (λ c. v.id ≢ t.id) [
+    let gone : (k : ℕ) (v : Transaction) → get new k ≡ Some v
+    → v.id ≢ t.id = λ (k : ℕ) (v : Transaction) (b : get new k ≡ Some v). (elim (cases_eq k key) as (λ c. v.id ≢ t.id) [
       | inl kk ↦
           let at : get new key ≡ Some v = subst (λ (i : ℕ). get new i ≡ Some v) kk b in
           absurd (let r : Some v ≡ None = sym at ∙ up.changed in cc)
       | inr kn ↦ no_other old key t h.apart e k v kn (sym (up.others k kn) ∙ b)
     ]) in
     record {
-      table = record { apart = apart; sendable = sendable_removed old new key h.sendable up; few = omega (arith, len, few); room = omega (arith, cap, room) };
+      table = record {
+        apart = apart;
+        sendable = sendable_removed old new key h.sendable up;
+        few = omega (arith, len, few);
+        room = omega
+            (arith, cap, room);
+      };
       here = known_none t.id new.slots gone;
       others = λ other differs. others_known old new key other None h.apart apart up
           (λ v b w. (let r : Some v ≡ Some t = sym b ∙ e in let vt : v ≡ t = cc in differs (sym w ∙ ap (λ (x : Transaction). x.id) vt)))
@@ -104,7 +132,8 @@ removed old new key t h e up len cap =
 
 -- ---- every slot changes
 
-pub all_known : (f : Transaction → Transaction) → ((t : Transaction) → (f t).id ≡ t.id) → (old new : List (Option Transaction)) → AreApart old → AreApart new
+pub all_known : (f : Transaction → Transaction) → ((t : Transaction) → (f t).id ≡ t.id) → (old new : List (Option Transaction))
+    → AreApart old → AreApart new
     → ((k : ℕ) → get_or new k None ≡ option_map f (get_or old k None)) → (id : ℕ) → known id new ≡ option_map f (known id old)
 all_known f same old new ho hn each id =
     (elim (known id old) as (λ (o : Option Transaction). known id old ≡ o → known id new ≡ option_map f o) [
@@ -115,7 +144,8 @@ all_known f same old new ho hn each id =
           subst (λ (n : ℕ). known n new ≡ Some (f t)) (same t ∙ r.2) (known_is new r.0 (f t) hn at)
     ]) refl
   where
-    of_old : (k : ℕ) (u : Transaction) (o : Option Transaction) → get_or old k None ≡ o → Some u ≡ option_map f o → ((t : Transaction) → o ≡ Some t → t.id ≢ id) → u.id ≢ id
+    of_old : (k : ℕ) (u : Transaction) (o : Option Transaction) → get_or old k None ≡ o → Some u ≡ option_map f o
+        → ((t : Transaction) → o ≡ Some t → t.id ≢ id) → u.id ≢ id
     of_old k u None e a h = absurd cc
     of_old k u (Some t) e a h = let ut : u ≡ f t = cc in λ w. h t refl (sym (same t) ∙ sym (ap (λ (x : Transaction). x.id) ut) ∙ w)
 

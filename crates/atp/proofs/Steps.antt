@@ -44,13 +44,21 @@ abbrev pub taken : AtpPacket → Transaction → Transaction
 taken p t = with_status p (with_end p (with_part p t))
 
 part_key : (p : AtpPacket) (t : Transaction) → key (with_part p t) ≡ key t
-part_key p t = keeps (get_or t.missing p.part false) (record t { missing = set t.missing p.part false; came = set t.came p.part (Some (part_of p)) }) t t refl refl
+part_key p t = keeps (get_or t.missing p.part false)
+    (record t { missing = set t.missing p.part false; came = set t.came p.part (Some (part_of p)) }) t t refl refl
 
 end_key : (p : AtpPacket) (t : Transaction) → key (with_end p t) ≡ key t
-end_key p t = keeps (is_end p.control) (record t { missing = cut false (p.part + 1) t.missing; came = cut None (p.part + 1) t.came }) t t refl refl
+end_key p t = keeps (is_end p.control)
+    (record t { missing = cut false (p.part + 1) t.missing; came = cut None (p.part + 1) t.came }) t t refl refl
 
 status_key : (p : AtpPacket) (t : Transaction) → key (with_status p t) ≡ key t
 status_key p t = keeps (wants_status p.control && is_waiting t && ltb 0 t.tries) (record t { due = true }) t t refl refl
+
+pub part_ask : (p : AtpPacket) (t : Transaction) → (with_part p t).ask ≡ t.ask
+part_ask p t = ap (λ (k : ℕ × Ask). k.1) (part_key p t)
+
+pub end_ask : (p : AtpPacket) (t : Transaction) → (with_end p t).ask ≡ t.ask
+end_ask p t = ap (λ (k : ℕ × Ask). k.1) (end_key p t)
 
 taken_key : (p : AtpPacket) (t : Transaction) → key (taken p t) ≡ key t
 taken_key p t = status_key p (with_end p (with_part p t)) ∙ end_key p (with_part p t) ∙ part_key p t
@@ -65,7 +73,8 @@ taken_ask p t = ap (λ (k : ℕ × Ask). k.1) (taken_key p t)
 pub heard_near : (from : Peer) (p : AtpPacket) (t : Transaction) → is_heard from p t ≡ true → p.part < t.ask.parts
 heard_near from p t h =
     let a = both (is_waiting t) (answers from p t) h in
-    let b = both (is_response p.control && (p.id == t.id) && same_address from.addr t.ask.to && (from.socket == t.ask.socket)) (ltb p.part t.ask.parts) a.1 in
+    let b = both (is_response p.control && (p.id == t.id) && same_address from.addr t.ask.to && (from.socket == t.ask.socket))
+    (ltb p.part t.ask.parts) a.1 in
     ltb-true _ _ b.1
   where
     both : (a b : Bool) → a && b ≡ true → (a ≡ true) × (b ≡ true)

@@ -12,7 +12,13 @@ is_answer parts = nat_le (length parts) 8 && list_all (λ (part : AnswerPart). n
 
 -- the packet of part i of an answer of so many parts: the last one is marked so
 abbrev pub response_of : ℕ → ℕ → ℕ → AnswerPart → AtpPacket
-response_of id count i part = record { control = if suc i == count then 0x90 else 0x80; part = i; id = id; user = part.user; payload = part.payload }
+response_of id count i part = record {
+  control = if suc i == count then 0x90 else 0x80;
+  part = i;
+  id = id;
+  user = part.user;
+  payload = part.payload;
+}
 
 -- the packets of those parts that a bitmap asks for, from part i on
 abbrev pub responses : ℕ → ℕ → ℕ → ℕ → List AnswerPart → List AtpPacket

@@ -8,3 +8,7 @@ pub mod Requesting
 pub mod Slots
 pub mod Copies
 pub mod Outcomes
+pub mod Complete
+pub mod CompleteExample
+pub mod Replies
+pub mod Keeping

@@ -1,5 +1,6 @@
 -- ATP packets: requests, responses and releases. (Inside AppleTalk, the chapter on ATP)
-use Rattle.std.specs.Prelude.{◌≡◌, ℕ, ◌*◌, ◌/◌, ◌%◌, ◌^◌, ◌<◌, ◌≤◌, Bool, true, false, ◌&&◌, ◌==◌, IsTrue, List, length, slice_index, Option, Some, None, min, nat_lt, if◌then◌else◌}
+use Rattle.std.specs.Prelude.{◌≡◌, ℕ, ◌*◌, ◌/◌, ◌%◌, ◌^◌, ◌<◌, ◌≤◌, Bool, true, false, ◌&&◌, ◌==◌, IsTrue, List, length, slice_index}
+use Rattle.std.specs.Prelude.{Option, Some, None, min, nat_lt, if◌then◌else◌}
 use Rattle.at_base.specs.declared.error.Field.TheVariants.{Control, Sequence}
 use Rattle.at_base.specs.declared.error.Error.{Error}
 use Rattle.at_base.specs.declared.error.Error.TheVariants.{BadLength, BadField}
@@ -22,6 +23,7 @@ wrong_control control = if control / 64 == 0 then Some (BadField Control) else N
 abbrev pub wrong_part : ℕ → ℕ → Option Error
 wrong_part control part = if control / 64 == 2 && nat_lt 7 part then Some (BadField Sequence) else None
 
+-- one byte of data
 abbrev pub data_byte : ℕ → Grammar Error true ℕ
 data_byte low = field (number one any) (λ b. b) (λ b. done b)
 
@@ -33,16 +35,25 @@ packet =
     field (number one (wrong_part control)) (λ p. p.part) (λ part.
     field (number two any) (λ p. p.id) (λ id.
     field (run 4 any) (λ p. p.user) (λ user.
-    many data_byte (λ b. 0) (λ bytes. None) (λ p. p.payload) (λ payload. record { control = control; part = part; id = id; user = user; payload = payload })))))))
+    many data_byte (λ b. 0) (λ bytes. None) (λ p. p.payload) (λ payload. record {
+      control = control;
+      part = part;
+      id = id;
+      user = user;
+      payload = payload;
+    })))))))
 
 -- ---- What the control byte says
 
+-- the packet is a request
 abbrev pub is_request : ℕ → Bool
 is_request control = control / 64 == 1
 
+-- the packet is a part of a response
 abbrev pub is_response : ℕ → Bool
 is_response control = control / 64 == 2
 
+-- the packet says that the whole response has come
 abbrev pub is_release : ℕ → Bool
 is_release control = control / 64 == 3
 

@@ -1,5 +1,6 @@
 -- A requester: the transactions that it has open, by their IDs. (Inside AppleTalk, the chapter on ATP)
-use Rattle.std.specs.Prelude.{◌≡◌, ℕ, ◌+◌, ◌-◌, ◌%◌, ◌<◌, ◌≤◌, Bool, true, false, not, ◌&&◌, ◌==◌, List, [], ◌∷◌, ◌++◌, length, map, take, drop, filter_map, Option, Some, None, slice_set, slice_index_or, count_by, is_some, nat_lt, if◌then◌else◌}
+use Rattle.std.specs.Prelude.{◌≡◌, ℕ, ◌+◌, ◌-◌, ◌%◌, ◌<◌, ◌≤◌, Bool, true, false, not, ◌&&◌, ◌==◌, List, [], ◌∷◌, ◌++◌, length, map, take}
+use Rattle.std.specs.Prelude.{drop, filter_map, Option, Some, None, slice_set, slice_index_or, count_by, is_some, nat_lt, if◌then◌else◌}
 use Rattle.std.specs.List.{list_any}
 use Rattle.at_base.specs.Address.{same_address}
 use Rattle.atp.specs.declared.ask.Ask.{Ask}
@@ -20,7 +21,16 @@ no_parts = None ∷ None ∷ None ∷ None ∷ None ∷ None ∷ None ∷ None �
 
 -- a transaction that begins
 abbrev pub begun : ℕ → Ask → Transaction
-begun id ask = record { id = id; ask = ask; missing = first_parts ask.parts; came = no_parts; due = true; wait = 0; tries = ask.tries; failed = false }
+begun id ask = record {
+  id = id;
+  ask = ask;
+  missing = first_parts ask.parts;
+  came = no_parts;
+  due = true;
+  wait = 0;
+  tries = ask.tries;
+  failed = false;
+}
 
 -- no part is missing
 abbrev pub is_complete : Transaction → Bool
@@ -138,11 +148,14 @@ known id (Some t ∷ slots) = if t.id == id then Some t else known id slots
 -- The ID of the next transaction: the first one, from a number upwards and after 65,535 from 0, that isn't open.
 abbrev pub IsNextId : ℕ → List (Option Transaction) → ℕ → Type 0
 IsNextId first slots id =
-    (steps : ℕ) × (id ≡ (first + steps) % 65536) × (known id slots ≡ None) × ((k : ℕ) → k < steps → (t : Transaction) × (known ((first + k) % 65536) slots ≡ Some t))
+    (steps : ℕ) × (id ≡ (first + steps) % 65536) × (known id slots ≡ None)
+    × ((k : ℕ) → k < steps → (t : Transaction) × (known ((first + k) % 65536) slots ≡ Some t))
 
 -- no two are of one ID
 abbrev pub AreApart : List (Option Transaction) → Type 0
-AreApart slots = (j k : ℕ) (t u : Transaction) → slice_index_or slots j None ≡ Some t → slice_index_or slots k None ≡ Some u → t.id ≡ u.id → j ≡ k
+AreApart slots =
+    (j k : ℕ) (t u : Transaction) → slice_index_or slots j None ≡ Some t → slice_index_or slots k None ≡ Some u
+    → t.id ≡ u.id → j ≡ k
 
 -- how many are open
 abbrev pub open_count : List (Option Transaction) → ℕ

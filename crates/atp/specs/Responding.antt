@@ -1,6 +1,7 @@
 -- A responder: requests that wait for their answer, and answers that are kept. (Inside AppleTalk, the chapter on ATP; that
 -- the time begins anew with each repeat is this project's own)
-use Rattle.std.specs.Prelude.{ℕ, ◌-◌, ◌≤◌, Bool, true, false, not, ◌&&◌, ◌==◌, IsTrue, List, [], ◌∷◌, ◌++◌, length, map, filter, find, Option, Some, None, nat_lt, nat_le, is_some, if◌then◌else◌}
+use Rattle.std.specs.Prelude.{ℕ, ◌-◌, ◌≤◌, Bool, true, false, not, ◌&&◌, ◌==◌, IsTrue, List, [], ◌∷◌, ◌++◌, length, map, filter, find}
+use Rattle.std.specs.Prelude.{Option, Some, None, nat_lt, nat_le, is_some, if◌then◌else◌}
 use Rattle.std.specs.List.{list_all, list_any}
 use Rattle.at_base.specs.Address.{same_address}
 use Rattle.atp.specs.declared.ask.Peer.{Peer}
@@ -8,6 +9,7 @@ use Rattle.atp.specs.declared.ask.AnswerPart.{AnswerPart}
 use Rattle.atp.specs.declared.request.Request.{Request}
 use Rattle.atp.specs.declared.request.Todo.{Todo}
 use Rattle.atp.specs.declared.request.Todo.TheVariants.{Ask, Again, Wait, Nothing}
+use Rattle.atp.specs.Answers.{is_answer}
 use Rattle.atp.specs.Places.{with_first}
 use Rattle.atp.specs.Packets.{AtpPacket, is_request, is_release, is_exactly_once, release_ticks}
 
@@ -29,7 +31,15 @@ without from id requests = filter (λ r. not (is_of from id r)) requests
 
 -- a new request
 abbrev pub new_request : Peer → AtpPacket → Request
-new_request from p = record { from = from; id = p.id; once = is_exactly_once p.control; asked = p.part; release = release_ticks p.control; answer = None; left = 0 }
+new_request from p = record {
+  from = from;
+  id = p.id;
+  once = is_exactly_once p.control;
+  asked = p.part;
+  release = release_ticks p.control;
+  answer = None;
+  left = 0;
+}
 
 -- the request after it came again: the time of its answer begins anew
 abbrev pub repeated : Request → Request
@@ -79,6 +89,7 @@ abbrev pub kept : Option Request → Option (List AnswerPart)
 kept None = None
 kept (Some r) = r.answer
 
+-- the parts of an answer, if there is one
 abbrev pub parts_or_none : Option (List AnswerPart) → List AnswerPart
 parts_or_none None = []
 parts_or_none (Some parts) = parts
@@ -105,16 +116,21 @@ ticked requests = map older (filter (λ r. not (is_over r)) requests)
 
 -- ---- What holds of the requests of a responder at all times
 
--- its time is one of the release times or less, and its answer may be sent
+-- what is kept, if anything, may be sent
+abbrev pub may_be_sent : Option (List AnswerPart) → Bool
+may_be_sent None = true
+may_be_sent (Some parts) = is_answer parts
+
+-- Its release time is at most 2,400 ticks, no more than that is left of it, and its answer may be sent.
 abbrev pub is_sound : Request → Bool
-is_sound r = nat_le r.release 2400 && nat_le r.left r.release
+is_sound r = nat_le r.release 2400 && nat_le r.left r.release && may_be_sent r.answer
 
 -- no two are of one asker and ID
 abbrev pub are_apart : List Request → Bool
 are_apart [] = true
 are_apart (r ∷ requests) = not (list_any (is_of r.from r.id) requests) && are_apart requests
 
--- At most 64 of each kind, no two of one asker and ID, and each within its time.
+-- At most 64 of each kind, no two of one asker and ID, and each is sound.
 pub record IsRequests (requests : List Request) : Type 0 where
   pub once : of_kind true requests ≤ 64
   pub other : of_kind false requests ≤ 64

@@ -104,7 +104,8 @@ fn packet_of(
 ) -> Result<Bytes, Error>
     requires near { index < 8 }
     requires short { length part.now.payload ≤ 578 }
-    ensures ok { IfOk result (λ bytes. bytes ≡ bytes_of packet (response_of id count index part.now)) }
+    ensures ok { IfOk result (λ bytes. bytes
+        ≡ bytes_of packet (response_of id count index part.now)) }
     ensures err { IsOkUnless result Error.Memory }
 {
     let control = if index + 1 == count {

@@ -1,12 +1,78 @@
-//! Laws of transactions, for the crates above: each is the contract of a function that does nothing.
+//! Laws of transactions, for the crates above: each is the contract of a function that does
+//! nothing.
 
-ghost use Rattle.std.specs.Prelude.{◌≡◌, List, ℕ};
+ghost use Rattle.std.specs.Prelude.{◌≡◌, ◌↔◌, ◌∷◌, [], List, Some, ℕ, false, true};
 ghost use Rattle.at_base.specs.Spelling.{bytes_of, Begins};
-ghost use Rattle.atp.specs.Packets.{AtpPacket, IsPacket, packet};
+ghost use Rattle.atp.specs.declared.ask.Ask.{Ask};
+ghost use Rattle.atp.specs.declared.ask.AnswerPart.{AnswerPart};
+ghost use Rattle.atp.specs.declared.outcome.Outcome.TheVariants.{Complete, Waiting};
+ghost use Rattle.atp.specs.declared.ask.Peer.{Peer};
+ghost use Rattle.atp.specs.declared.request.Request.{Request};
+ghost use Rattle.atp.specs.declared.request.Todo.TheVariants.{Again};
+ghost use Rattle.atp.specs.Bitmaps.{asks_for};
+ghost use Rattle.atp.specs.Complete.{CompleteResponse, Step, history, is_missing, is_whole, run};
+ghost use Rattle.atp.specs.CompleteExample.{heard, response, steps, three_parts};
+ghost use Rattle.atp.specs.Keeping.{Event, lasts, run as held};
+ghost use Rattle.atp.specs.Outcomes.{outcome_of};
+ghost use Rattle.atp.specs.Packets.{AtpPacket, IsPacket, is_request, packet};
+ghost use Rattle.atp.specs.Requesting.{IsAsk, begun, part_of, request_of as asks};
+ghost use Rattle.atp.specs.Responding.{answered, heard as hears, kept, request_of};
 
 /// What was written is read back, where nothing follows it.
 pub fn written_is_read()
     ensures { (p : AtpPacket) → IsPacket p
         → Begins packet (bytes_of packet p) p
         × ((d : AtpPacket) → Begins packet (bytes_of packet p) d → d ≡ p) }
+{}
+
+/// A response is complete exactly when each of its parts has come: after any steps of a transaction
+/// that may be asked, it is answered with the first copy of each part, up to the least one marked
+/// as the end, of the packets that it heard; it waits while one of these is missing; and its
+/// request asks for those that are.
+///
+/// The steps are what the calls of a requester do to the transaction of one number, between
+/// `begin`, which leaves it as `begun`, and `result`, which gives its `outcome_of`: `heard` a step
+/// `Came`, `request` a step `Sent`, `tick` a step `Tick`, by their clauses on `known`.
+pub fn complete_response()
+    ensures complete { (steps : List Step) (id : ℕ) (ask : Ask) (parts : List AnswerPart)
+        → IsAsk ask → let t = run steps (begun id ask) in
+        (outcome_of t ≡ Complete parts)
+        ↔ ((t.failed ≡ false) × CompleteResponse ask.parts (history steps id ask) parts) }
+    ensures waiting { (steps : List Step) (id : ℕ) (ask : Ask) → IsAsk ask
+        → let t = run steps (begun id ask) in
+        (outcome_of t ≡ Waiting)
+        ↔ ((t.failed ≡ false) × (is_whole ask.parts (history steps id ask) ≡ false)) }
+    ensures missing { (steps : List Step) (id : ℕ) (ask : Ask) (i : ℕ) → IsAsk ask
+        → asks_for (asks (run steps (begun id ask))).part i
+        ≡ is_missing ask.parts (history steps id ask) i }
+{}
+
+/// An example: of three parts asked for, part 1 is the end. What came twice, from another socket or
+/// late isn't in the response. Without an end, the last part is missing until it comes.
+pub fn the_end_may_come_early()
+    ensures asked { IsAsk three_parts }
+    ensures heard { history steps 1 three_parts ≡ heard }
+    ensures complete { CompleteResponse 3 heard
+        (part_of (response 0x80 0 10) ∷ part_of (response 0x90 1 11) ∷ []) }
+    ensures missing { (parts : List AnswerPart)
+        → ¬ CompleteResponse 3 (response 0x80 0 10 ∷ response 0x80 1 11 ∷ []) parts }
+{}
+
+/// An answer to a request that is to be carried out once lasts: after any events before its
+/// release, and before its time is over, that answer is kept, and its asker gets it again for a
+/// request with that number, of whichever kind. So the user isn't asked twice.
+///
+/// The events are what the calls of a responder do, where they aren't refused: `heard`, `respond`,
+/// `released` and `tick`.
+pub fn a_kept_answer_lasts()
+    ensures kept { (from : Peer) (id : ℕ) (parts : List AnswerPart) (requests : List Request)
+        (r : Request) (events : List Event)
+        → request_of from id requests ≡ Some r → r.once ≡ true
+        → lasts from id r.release r.release events ≡ true
+        → kept (request_of from id (held events (answered from id parts requests)))
+        ≡ Some parts }
+    ensures again { (from : Peer) (id : ℕ) (requests : List Request) (parts : List AnswerPart)
+        (p : AtpPacket)
+        → kept (request_of from id requests) ≡ Some parts
+        → p.id ≡ id → is_request p.control ≡ true → (hears from p requests).0 ≡ Again }
 {}

@@ -6,6 +6,7 @@ mod ask;
 mod laws;
 mod outcome;
 mod packet;
+mod replying;
 mod request;
 mod requester;
 mod responder;
@@ -13,9 +14,12 @@ mod table;
 mod transaction;
 
 pub use ask::{AnswerPart, Ask, Peer};
-pub use laws::written_is_read;
+pub use laws::{
+    a_kept_answer_lasts, complete_response, the_end_may_come_early, written_is_read,
+};
 pub use outcome::{Outcome, Response};
 pub use packet::{HEADER_LEN, MAX_DATA, MAX_PARTS, Packet, write};
+pub use replying::reply;
 pub use request::Todo;
 pub use requester::{MAX_OPEN, Requester};
-pub use responder::{MAX_REQUESTS, Responder};
+pub use responder::{MAX_REQUESTS, Responder, requests_are_few};

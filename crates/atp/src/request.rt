@@ -26,8 +26,8 @@ pub enum Todo {
     Nothing,
 }
 
-/// A request: who asked, by which number, for which parts; and its answer, which is kept for so many
-/// ticks more.
+/// A request: who asked, by which number, for which parts; and its answer, which is kept for so
+/// many ticks more.
 #[derive(Debug, Drop)]
 pub(crate) struct Request {
     pub(crate) from: Peer,

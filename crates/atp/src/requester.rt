@@ -121,7 +121,8 @@ impl Requester {
 
     /// The bytes of a request that is due, for the parts that are missing. It counts as sent.
     ///
-    /// Errors: `NoSuch` where no request of this number is due, `Memory`. A refusal changes nothing.
+    /// Errors: `NoSuch` where no request of this number is due, `Memory`. A refusal changes
+    /// nothing.
     pub fn request(&mut self, id: u16) -> Result<Bytes, Error>
         ensures ok { IfOk result (λ bytes. IfSome (known id self.old.slots)
             (λ t. bytes ≡ bytes_of spelled_packet (request_of t))) }

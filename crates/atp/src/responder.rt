@@ -9,7 +9,7 @@ ghost use Rattle.atp.specs.Answers.{is_answer, answer_packets, bytes_of_all};
 ghost use Rattle.atp.specs.Places.{IsPlace, with_first};
 ghost use Rattle.atp.specs.Responding.{asked_again, asked_by, has_room as room_for, heard as hears};
 ghost use Rattle.atp.specs.Responding.{is_of, is_over, kept as kept_of, new_request, of_kind};
-ghost use Rattle.atp.specs.Responding.{older};
+ghost use Rattle.atp.specs.Responding.{IsRequests, older};
 ghost use Rattle.atp.specs.Responding.{parts_or_none, request_of, answered as with_answers};
 ghost use Rattle.atp.specs.Responding.{ticked, waits, with_answer, without};
 ghost use Rattle.atp.specs.declared.request.Request.{Request as RequestValue};
@@ -37,10 +37,13 @@ pub struct Responder {
 impl Model for Responder {
     ghost use Rattle.std.specs.Prelude.{List};
     ghost use Rattle.atp.specs.declared.request.Request.{Request as RequestValue};
+    ghost use Rattle.atp.specs.Responding.{IsRequests};
 
     ghost Value = { List RequestValue };
 
     ghost view = { λ r. r.requests.items };
+
+    ghost invariant = { λ r. IsRequests r.requests.items };
 }
 
 /// The index of the first request of an asker and number.
@@ -104,6 +107,14 @@ fn tick_all(requests: &mut [Request])
     }
 }
 
+/// Takes out the requests whose time is over, and lets a tick pass for the others.
+fn pass_tick(requests: &mut Vec<Request>)
+    ensures { requests.new.items ≡ ticked requests.old.items }
+{
+    forget_old(requests);
+    tick_all(requests.as_mut_slice());
+}
+
 /// The request of an asker and number.
 fn find(requests: &[Request], from: Peer, id: u16) -> Option<&Request>
     ensures { option_copied result ≡ request_of from id requests.now }
@@ -133,10 +144,10 @@ fn kept_answer(requests: &[Request], from: Peer, id: u16) -> Option<&Answer>
 }
 
 /// Hears a request again: where it was answered, the time of its answer begins anew.
-fn hear_again(requests: &mut [Request], place: usize, from: Peer, id: u16) -> Todo
-    requires { (r : RequestValue) × IsPlace (is_of from id) place requests.old r }
-    ensures { IfSome (request_of from id requests.old)
-        (λ r. (result, requests.new) ≡ asked_again from id requests.old r) }
+fn hear_again(requests: &mut Vec<Request>, place: usize, from: Peer, id: u16) -> Todo
+    requires { (r : RequestValue) × IsPlace (is_of from id) place requests.old.items r }
+    ensures { IfSome (request_of from id requests.old.items)
+        (λ r. (result, requests.new.items) ≡ asked_again from id requests.old.items r) }
 {
     let request = &mut requests[place];
     if request.is_answered() {
@@ -149,8 +160,8 @@ fn hear_again(requests: &mut [Request], place: usize, from: Peer, id: u16) -> To
 
 /// Hears a new request, where there is room for it.
 fn hear_new(requests: &mut Vec<Request>, from: Peer, packet: &Packet<'_>) -> Result<Todo, Error>
-    ensures ok { IfOk result (λ todo. (todo ≡ Todo.Ask)
-        × (requests.new.items ≡ requests.old.items ++ new_request from (packet_value packet.now) ∷ [])) }
+    ensures ok { IfOk result (λ todo. (todo ≡ Todo.Ask) × (requests.new.items
+        ≡ requests.old.items ++ new_request from (packet_value packet.now) ∷ [])) }
     ensures full { (result ≡ Err Error.Full)
         ↔ (room_for (packet_value packet.now) requests.old.items ≡ false) }
     ensures refused { IfErr result (λ e. (e ≡ Error.Full) ⊎ (e ≡ Error.Memory)) }
@@ -166,9 +177,10 @@ fn hear_new(requests: &mut Vec<Request>, from: Peer, packet: &Packet<'_>) -> Res
 }
 
 /// Keeps the answer to the request at a place.
-fn keep_at(requests: &mut [Request], place: usize, from: Peer, id: u16, answer: Answer)
-    requires { (r : RequestValue) × IsPlace (is_of from id) place requests.old r }
-    ensures { requests.new ≡ with_first (is_of from id) (with_answer answer) requests.old }
+fn keep_at(requests: &mut Vec<Request>, place: usize, from: Peer, id: u16, answer: Answer)
+    requires { (r : RequestValue) × IsPlace (is_of from id) place requests.old.items r }
+    ensures { requests.new.items
+        ≡ with_first (is_of from id) (with_answer answer) requests.old.items }
 {
     requests[place].keep(answer);
 }
@@ -184,12 +196,17 @@ impl Responder {
         })
     }
 
+    /// What it takes memory from.
+    pub(crate) fn allocator(&self) -> Global {
+        *self.requests.allocator()
+    }
+
     /// A copy, equal to it. Error: `Memory`.
     pub fn copy(&self) -> Result<Responder, Error>
         ensures ok { IfOk result (λ responder. responder ≡ self.now) }
         ensures refused { IsOkUnless result Error.Memory }
     {
-        match copy_all(*self.requests.allocator(), self.requests.as_slice()) {
+        match copy_all(self.allocator(), self.requests.as_slice()) {
             Ok(requests) => Ok(Responder { requests }),
             Err(error) => Err(error),
         }
@@ -218,7 +235,7 @@ impl Responder {
             return Ok(Todo::Nothing);
         }
         match place_of(self.requests.as_slice(), from, packet.id) {
-            Some(place) => Ok(hear_again(self.requests.as_mut_slice(), place, from, packet.id)),
+            Some(place) => Ok(hear_again(&mut self.requests, place, from, packet.id)),
             None => hear_new(&mut self.requests, from, packet),
         }
     }
@@ -254,12 +271,12 @@ impl Responder {
         if !is_short(parts) {
             return Err(Error::TooLong);
         }
-        let alloc = *self.requests.allocator();
+        let alloc = self.allocator();
         let packets = packets_of(alloc, id, self.requests[place].asked, parts)?;
         if self.requests[place].once {
             // The copy is made first: a refusal then leaves the request as it is.
             let answer = Answer::copy(alloc, parts)?;
-            keep_at(self.requests.as_mut_slice(), place, from, id, answer);
+            keep_at(&mut self.requests, place, from, id, answer);
         } else {
             forget(&mut self.requests, from, id);
         }
@@ -279,9 +296,7 @@ impl Responder {
             ⊎ (e ≡ Error.Memory)) }
     {
         match kept_answer(self.requests.as_slice(), from, id) {
-            Some(answer) => {
-                packets_of(*self.requests.allocator(), id, bitmap, answer.as_slice())
-            }
+            Some(answer) => { packets_of(self.allocator(), id, bitmap, answer.as_slice()) }
             None => Err(Error::NoSuch(What::Transaction)),
         }
     }
@@ -297,7 +312,14 @@ impl Responder {
     pub fn tick(&mut self)
         ensures { self.new ≡ ticked self.old }
     {
-        forget_old(&mut self.requests);
-        tick_all(self.requests.as_mut_slice());
+        pass_tick(&mut self.requests);
     }
+}
+
+/// Does nothing. Its contract says what holds of the requests of each responder: at most 64 of each
+/// kind, at most one of each asker and number, and each is sound.
+pub fn requests_are_few(responder: &Responder)
+    ensures { IsRequests responder.now }
+{
+    let _requests = &responder.requests;
 }

@@ -1,15 +1,27 @@
-//! Calls that are made again where their memory was refused, and the packets of the tests.
+//! Calls that are made again where their memory was refused.
 
 ghost use Rattle.std.specs.Prelude.{◌≤◌, IfOk};
 ghost use Rattle.atp.specs.Requesting.{IsAsk};
 
 use at_base::{Addr, Bytes, Error};
-use atp::{AnswerPart, Ask, Packet, Peer, Requester, Responder, Todo};
+use atp::{AnswerPart, Ask, Packet, Peer, Requester, Responder, Todo, reply};
 use std::alloc::Global;
 
 /// Who is asked.
 pub(crate) const SERVER: Peer = Peer {
     addr: Addr { net: 10, node: 1 },
+    socket: 6,
+};
+
+/// Another socket of its node.
+pub(crate) const SAME_NODE: Peer = Peer {
+    addr: Addr { net: 10, node: 1 },
+    socket: 7,
+};
+
+/// The same socket of another node.
+pub(crate) const SAME_SOCKET: Peer = Peer {
+    addr: Addr { net: 10, node: 7 },
     socket: 6,
 };
 
@@ -19,10 +31,16 @@ pub(crate) const CLIENT: Peer = Peer {
     socket: 128,
 };
 
+/// Another socket of its node.
+pub(crate) const OTHER: Peer = Peer {
+    addr: Addr { net: 10, node: 7 },
+    socket: 129,
+};
+
 /// The user bytes of each packet here.
 pub(crate) const USER: [u8; 4] = [8, 0, 0, 1];
 
-pub(crate) fn copied(alloc: Global, bytes: &[u8]) -> Result<Bytes, Error> {
+fn copied(alloc: Global, bytes: &[u8]) -> Result<Bytes, Error> {
     match Bytes::copy(alloc, bytes) {
         Err(Error::Memory) => Bytes::copy(alloc, bytes),
         answer => answer,
@@ -36,8 +54,8 @@ pub(crate) fn requester(alloc: Global, first: u16) -> Result<Requester, Error> {
     }
 }
 
-/// A request for so many parts, which is sent every two ticks, three times in all.
-pub(crate) fn ask(alloc: Global, parts: u8, exactly_once: bool) -> Result<Ask, Error>
+/// A request with this data for so many parts, which is sent every two ticks, three times in all.
+pub(crate) fn ask(alloc: Global, parts: u8, once: bool, data: &[u8]) -> Result<Ask, Error>
     requires some { 1 ≤ parts }
     requires few { parts ≤ 8 }
     ensures { IfOk result (λ a. IsAsk a) }
@@ -46,13 +64,26 @@ pub(crate) fn ask(alloc: Global, parts: u8, exactly_once: bool) -> Result<Ask, E
         to: SERVER.addr,
         socket: SERVER.socket,
         parts,
-        exactly_once,
+        exactly_once: once,
         release: 0,
         user: USER,
-        payload: copied(alloc, &[])?,
+        payload: copied(alloc, data)?,
         every: 2,
         tries: 3,
     })
+}
+
+/// Begins a transaction without data, for 1 to 8 parts.
+pub(crate) fn begin_again(
+    alloc: Global,
+    requester: &mut Requester,
+    parts: u8,
+    once: bool,
+) -> Result<u16, Error> {
+    if parts < 1 || 8 < parts {
+        return Err(Error::TooLong);
+    }
+    requester.begin(ask(alloc, parts, once, &[])?)
 }
 
 /// The bytes of the request that is due.
@@ -63,95 +94,89 @@ pub(crate) fn requested(requester: &mut Requester, id: u16) -> Result<Bytes, Err
     }
 }
 
-/// Hears a packet of these bytes. Whether a release is to be sent.
-pub(crate) fn hears(requester: &mut Requester, from: Peer, bytes: &[u8]) -> Result<bool, Error> {
-    let packet = Packet::read(bytes)?;
-    let answer = match requester.heard(from, &packet) {
-        Err(Error::Memory) => requester.heard(from, &packet),
-        answer => answer,
-    };
-    Ok(answer?.is_some())
-}
-
-/// What a responder is to do for a packet of these bytes.
-pub(crate) fn todo(responder: &mut Responder, from: Peer, bytes: &[u8]) -> Result<Todo, Error> {
-    let packet = Packet::read(bytes)?;
+/// What a responder is to do for a packet with this control byte, bitmap and number.
+pub(crate) fn todo(
+    responder: &mut Responder,
+    from: Peer,
+    [control, bitmap, id]: [u8; 3],
+) -> Result<Todo, Error> {
+    let bytes = [control, bitmap, 0, id, 8, 0, 0, 1];
+    let packet = Packet::read(&bytes)?;
     match responder.heard(from, &packet) {
         Err(Error::Memory) => responder.heard(from, &packet),
         answer => answer,
     }
 }
 
-/// The parts of an answer: so many, of one byte each.
-pub(crate) fn parts(alloc: Global, count: u8) -> Result<Vec<AnswerPart>, Error> {
+/// So many parts with the same data.
+pub(crate) fn parts_with(alloc: Global, count: u8, data: &[u8]) -> Result<Vec<AnswerPart>, Error> {
     let mut parts = Vec::new(alloc);
-    for index in 0..count {
-        let part = AnswerPart {
+    for _ in 0..count {
+        let payload = copied(alloc, data)?;
+        if let Err(failed) = parts.push(AnswerPart {
             user: USER,
-            payload: copied(alloc, &[index])?,
-        };
-        if let Err(failed) = parts.push(part) {
+            payload,
+        }) {
             parts.push(failed.value)?;
         }
     }
     Ok(parts)
 }
 
-/// Responds with so many parts, at least one.
+/// So many parts, each with its number as its data.
+pub(crate) fn parts_of(alloc: Global, count: u8) -> Result<Vec<AnswerPart>, Error> {
+    let mut parts = parts_with(alloc, count, &[])?;
+    let mut index = 0;
+    for part in parts.iter_mut() {
+        part.payload = copied(alloc, &[index])?;
+        index = index.wrapping_add(1);
+    }
+    Ok(parts)
+}
+
+/// Responds with at least one part.
 pub(crate) fn respond(
-    alloc: Global,
     responder: &mut Responder,
     from: Peer,
-    id: u16,
-    count: u8,
+    id: u8,
+    parts: &[AnswerPart],
 ) -> Result<Vec<Bytes>, Error> {
-    let parts = parts(alloc, count)?;
     if parts.len() == 0 {
         return Err(Error::TooLong);
     }
-    match responder.respond(from, id, parts.as_slice()) {
-        Err(Error::Memory) => responder.respond(from, id, parts.as_slice()),
+    match responder.respond(from, u16::from(id), parts) {
+        Err(Error::Memory) => responder.respond(from, u16::from(id), parts),
         answer => answer,
     }
 }
 
+/// Replies to a packet with this control byte, bitmap and number, where the user's answer has at
+/// least one part.
+pub(crate) fn replied(
+    responder: &mut Responder,
+    [control, bitmap, id]: [u8; 3],
+    user: &[AnswerPart],
+) -> Result<Vec<Bytes>, Error> {
+    let bytes = [control, bitmap, 0, id, 8, 0, 0, 1];
+    let packet = Packet::read(&bytes)?;
+    if user.len() == 0 {
+        return Err(Error::TooLong);
+    }
+    match reply(responder, CLIENT, &packet, user) {
+        Err(Error::Memory) => reply(responder, CLIENT, &packet, user),
+        answer => answer,
+    }
+}
+
+/// The packets of an answer that is kept.
 pub(crate) fn kept(
     responder: &Responder,
     from: Peer,
-    id: u16,
+    id: u8,
     bitmap: u8,
 ) -> Result<Vec<Bytes>, Error> {
-    match responder.parts(from, id, bitmap) {
-        Err(Error::Memory) => responder.parts(from, id, bitmap),
-        answer => answer,
-    }
-}
-
-/// A response of number 1: control byte, part, one byte of data.
-pub(crate) fn response(control: u8, part: u8, byte: u8) -> [u8; 9] {
-    [control, part, 0, 1, 8, 0, 0, 1, byte]
-}
-
-/// A request of a number: control byte, bitmap.
-pub(crate) fn request(control: u8, bitmap: u8, id: u8) -> [u8; 8] {
-    [control, bitmap, 0, id, 8, 0, 0, 1]
-}
-
-pub(crate) fn ticks(requester: &mut Requester, count: u16) {
-    for _ in 0..count {
-        requester.tick();
-    }
-}
-
-pub(crate) fn ticks_at(responder: &mut Responder, count: u16) {
-    for _ in 0..count {
-        responder.tick();
-    }
-}
-
-pub(crate) fn copy_of(requester: &Requester) -> Result<Requester, Error> {
-    match requester.copy() {
-        Err(Error::Memory) => requester.copy(),
+    match responder.parts(from, u16::from(id), bitmap) {
+        Err(Error::Memory) => responder.parts(from, u16::from(id), bitmap),
         answer => answer,
     }
 }

@@ -10,7 +10,8 @@ pub returns-then-not-hears_at-clause-changed : goal.returns-then-not-hears_at-cl
 returns-then-not-hears_at-clause-changed c = λ t e.
     let p = packet_value c.args.packet.now in
     let not_heard : is_heard c.args.from p t ≡ false = sym (c.hears_at.ensures t e) ∙ c.if-not-hears_at.true in
-    subst (λ (b : Bool). Put c.args.table.now c.args.table.now t.id (Some (cond b (taken p t) t))) (sym not_heard) (same_put c.args.table.now c.args.key t c.requires.table e)
+    subst (λ (b : Bool). Put c.args.table.now c.args.table.now t.id (Some (cond b (taken p t) t))) (sym not_heard)
+    (same_put c.args.table.now c.args.key t c.requires.table e)
 
 pub hear_in-requires-clause-near : goal.hear_in-requires-clause-near
 hear_in-requires-clause-near c =

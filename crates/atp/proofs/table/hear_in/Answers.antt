@@ -10,4 +10,5 @@ returns-in-Some-clause-changed c = λ t e.
     let p = packet_value c.args.packet.now in
     let there : Some c.in-Some.transaction.now ≡ Some t = c.in-Some.ensures.value ∙ e in
     let same : c.in-Some.transaction.now ≡ t = cc in
-    put c.args.table.now _ c.args.key t (taken p t) c.requires.table e (taken_id p t) (taken_ask p t) (ap (with_value c.args.table.now c.args.key) (c.hear.ensures ∙ ap (taken p) same))
+    put c.args.table.now _ c.args.key t (taken p t) c.requires.table e (taken_id p t) (taken_ask p t)
+    (ap (with_value c.args.table.now c.args.key) (c.hear.ensures ∙ ap (taken p) same))

@@ -5,7 +5,8 @@ use Rattle.atp.proofs.table.least_due.Goals as goal
 pub returns-clause-some : goal.returns-clause-some
 returns-clause-some c =
     let i = c.loop-key.invariant in
-    least c.args.table.now.slots c.loop-key.key c.loop-key.best c.requires.apart (omega (arith, i.within, c.loop-key-test.false)) i.some i.least
+    least c.args.table.now.slots c.loop-key.key c.loop-key.best c.requires.apart
+    (omega (arith, i.within, c.loop-key-test.false)) i.some i.least
 
 pub returns-clause-none : goal.returns-clause-none
 returns-clause-none c =

@@ -8,4 +8,5 @@ pub returns-in-Some : goal.returns-in-Some
 returns-in-Some c = λ t e.
     let there : Some c.in-Some.transaction.now ≡ Some t = c.in-Some.ensures.value ∙ e in
     let same : c.in-Some.transaction.now ≡ t = cc in
-    put c.args.table.now _ c.args.key t (sent t) c.requires e refl refl (ap (with_value c.args.table.now c.args.key) (c.send.ensures ∙ ap sent same))
+    put c.args.table.now _ c.args.key t (sent t) c.requires e refl refl
+    (ap (with_value c.args.table.now c.args.key) (c.send.ensures ∙ ap sent same))

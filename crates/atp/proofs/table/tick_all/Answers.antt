@@ -14,6 +14,7 @@ returns-clause-known c =
     (λ k. elim (cases_lt k c.loop-key.key) [
       | inl lt ↦ c.loop-key.invariant.before k lt
       | inr le ↦
-          let none : get c.args.table.now k ≡ None = get_or_past c.args.table.now.slots k None (omega (arith, c.loop-key.invariant.within, c.loop-key-test.false, le)) in
+          let none : get c.args.table.now k
+          ≡ None = get_or_past c.args.table.now.slots k None (omega (arith, c.loop-key.invariant.within, c.loop-key-test.false, le)) in
           c.loop-key.invariant.after k le ∙ none ∙ sym (ap (option_map ticked) none)
     ])

@@ -1,0 +1,91 @@
+//! What a responder sends for a packet, where its user's answer is at hand.
+
+ghost use Rattle.std.specs.Prelude.{◌≡◌, ◌⊎◌, ◌<◌, ◌↔◌, false, true, length, IfOk, IfErr};
+ghost use Rattle.std.specs.Prelude.{IsOkUnless, OnErr, OnOk};
+ghost use Rattle.atp.specs.Answers.{answer_packets, bytes_of_all, is_answer};
+ghost use Rattle.atp.specs.InPlace.{packet_value};
+ghost use Rattle.atp.specs.Replies.{kept_packets as packets_kept, reply as reply_to};
+ghost use Rattle.atp.specs.Responding.{answered, asked_by, request_of, waits, without};
+
+use crate::answer::is_short;
+use crate::ask::{AnswerPart, Peer};
+use crate::packet::Packet;
+use crate::request::Todo;
+use crate::responder::Responder;
+use at_base::{Bytes, Error};
+
+/// The packets of a kept answer, where a packet asks for one.
+fn kept_packets(responder: &Responder, from: Peer, packet: &Packet<'_>) -> Result<Vec<Bytes>, Error>
+    ensures ok { IfOk result (λ packets. packets.items
+        ≡ bytes_of_all (packets_kept from (packet_value packet.now) responder.now)) }
+    ensures err { IsOkUnless result Error.Memory }
+{
+    if !packet.is_request() {
+        return Ok(Vec::new(responder.allocator()));
+    }
+    match responder.parts(from, packet.id, packet.part) {
+        Ok(packets) => Ok(packets),
+        Err(Error::Memory) => Err(Error::Memory),
+        Err(_) => Ok(Vec::new(responder.allocator())),
+    }
+}
+
+/// Responds to a request that waits. Where memory is refused, the request is forgotten.
+fn respond_or_forget(
+    responder: &mut Responder,
+    from: Peer,
+    id: u16,
+    user: &[AnswerPart],
+) -> Result<Vec<Bytes>, Error>
+    requires some { 0 < length user.now }
+    requires short { is_answer user.now ≡ true }
+    requires waits { waits (request_of from id responder.old) ≡ true }
+    ensures ok { IfOk result (λ packets. packets.items ≡ bytes_of_all
+        (answer_packets id (asked_by (request_of from id responder.old)) user.now)) }
+    ensures after { OnOk result (responder.new ≡ answered from id user.now responder.old) }
+    ensures err { IsOkUnless result Error.Memory }
+    ensures forgotten { OnErr result (responder.new ≡ without from id responder.old) }
+{
+    match responder.respond(from, id, user) {
+        Ok(packets) => Ok(packets),
+        Err(error) => {
+            responder.released(from, id);
+            Err(error)
+        }
+    }
+}
+
+/// The packets that answer a packet from an asker: a new request is answered with the user's parts,
+/// one that came again with what is kept. Nothing is sent for another packet, for a request that
+/// waits, and for a new one where 64 of its kind wait or are kept.
+///
+/// Inside AppleTalk, the chapter on ATP.
+///
+/// Errors: `TooLong` above 8 parts, or 578 bytes in a part; `Memory`. A refusal changes nothing.
+pub fn reply(
+    responder: &mut Responder,
+    from: Peer,
+    packet: &Packet<'_>,
+    user: &[AnswerPart],
+) -> Result<Vec<Bytes>, Error>
+    requires { 0 < length user.now }
+    ensures ok { IfOk result (λ packets. packets.items ≡ bytes_of_all
+        (reply_to from (packet_value packet.now) user.now responder.old).0) }
+    ensures after { OnOk result (responder.new
+        ≡ (reply_to from (packet_value packet.now) user.now responder.old).1) }
+    ensures long { (result ≡ Err Error.TooLong) ↔ (is_answer user.now ≡ false) }
+    ensures refused { IfErr result (λ e. (e ≡ Error.TooLong) ⊎ (e ≡ Error.Memory)) }
+    ensures kept { OnErr result (responder.new ≡ responder.old) }
+{
+    if !is_short(user) {
+        return Err(Error::TooLong);
+    }
+    // What is kept is read first: a refusal then leaves the time of the answer as it is.
+    let kept = kept_packets(responder, from, packet)?;
+    match responder.heard(from, packet) {
+        Ok(Todo::Ask) => respond_or_forget(responder, from, packet.id, user),
+        Ok(Todo::Again | Todo::Wait | Todo::Nothing) => Ok(kept),
+        Err(Error::Full) => Ok(kept),
+        Err(error) => Err(error),
+    }
+}
