@@ -6,7 +6,7 @@ use at_base::{Addr, Error, Range};
 use rtmp::{Change, RouteTable, Row};
 
 /// A call of a routing table; ranges are the networks that they begin and end with.
-#[derive(Clone, Copy, Debug)]
+#[derive(Clone, Copy)]
 pub(crate) enum Call<'a> {
     Load(&'a [Row]),
     Direct(u16, u16, u8),
@@ -19,7 +19,7 @@ pub(crate) enum Call<'a> {
 }
 
 /// What a call answered.
-#[derive(Clone, Copy, Debug, PartialEq, Eq)]
+#[derive(Clone, Copy, PartialEq, Eq)]
 pub(crate) enum Answer {
     Nothing,
     Done(Result<(), Error>),

@@ -7,7 +7,7 @@ use rtmp::{Change, RouteTable, Row, State};
 use std::alloc::Global;
 
 /// What is known of a range.
-#[derive(Clone, Copy, Debug)]
+#[derive(Clone, Copy)]
 pub(crate) struct Known {
     distance: u8,
     port: u8,
@@ -43,7 +43,7 @@ impl Known {
 }
 
 /// Ranges, in no order, and what is known of each.
-#[derive(Debug, Drop)]
+#[derive(Drop)]
 pub(crate) struct Model {
     entries: Vec<(Range, Known)>,
 }
@@ -158,12 +158,21 @@ impl Model {
         }
     }
 
+    /// How many ranges begin below the network.
+    fn below(&self, net: u16) -> usize {
+        let mut count = 0usize;
+        for entry in &self.entries {
+            if entry.0.start() < net {
+                count = count.saturating_add(1);
+            }
+        }
+        count
+    }
+
     /// The row of the range below which so many ranges begin.
     fn row(&self, index: usize) -> Option<Row> {
         for entry in &self.entries {
-            let start = entry.0.start();
-            let below = self.entries.iter().filter(|other| other.0.start() < start);
-            if below.count() == index {
+            if self.below(entry.0.start()) == index {
                 return Some(row_of(entry));
             }
         }
