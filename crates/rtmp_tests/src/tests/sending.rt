@@ -81,8 +81,8 @@ pub(crate) fn ages_so(alloc: Global, periods: &[(u8, usize, usize)]) -> Result<b
     Ok(true)
 }
 
-/// Whether a packet begins with the range 60,000-60,009, how many ranges follow, and where the first
-/// and the last of these begin.
+/// Whether a packet begins with the range 60,000-60,009, how many ranges follow, and where the
+/// first and the last of these begin.
 pub(crate) type Outline = (bool, usize, u16, u16);
 
 fn outline_of(bytes: &[u8]) -> Result<Outline, Error> {
