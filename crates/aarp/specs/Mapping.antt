@@ -1,6 +1,7 @@
 -- The mapping of addresses to hardware addresses, and the datagrams that wait for one.
 -- (Inside AppleTalk, the chapter on AARP; the counts and limits are this project's own)
-use Rattle.std.specs.Prelude.{ℕ, ◌+◌, ◌≤◌, Bool, ◌&&◌, not, IsTrue, List, [], ◌∷◌, ◌++◌, length, map, filter, take, find, position, remove, slice_get, Option, Some, None, option_and_then, nat_lt, nat_le, if◌then◌else◌}
+use Rattle.std.specs.Prelude.{ℕ, ◌+◌, ◌≤◌, Bool, ◌&&◌, not, IsTrue, List, [], ◌∷◌, ◌++◌, length, map, filter, take, find, position, remove}
+use Rattle.std.specs.Prelude.{slice_get, Option, Some, None, option_and_then, nat_lt, nat_le, if◌then◌else◌}
 use Rattle.std.specs.List.{list_any, list_all, IsDistinct}
 use Rattle.std.specs.Option.{option_map_or}
 use Rattle.at_base.specs.declared.address.Addr.{Addr}
@@ -63,10 +64,11 @@ holding h held = kept (held ++ counted h held ∷ [])
 abbrev pub pushed_out : Held → List Held → Option Held
 pushed_out h held = if nat_lt (length held) 16 then None else slice_get held 0
 
--- the oldest datagram held for an address, and the others
+-- the oldest datagram held for an address
 abbrev pub released : Addr → List Held → Option Held
 released a held = option_and_then (slice_get held) (position (is_for a) held)
 
+-- the others
 abbrev pub without_oldest : Addr → List Held → List Held
 without_oldest a held = option_map_or (remove held) (position (is_for a) held) held
 
@@ -91,9 +93,10 @@ asked_once_more h = record h { asked = h.asked + 1 }
 abbrev pub waited : List Held → List Held
 waited held = map asked_once_more (filter is_asked_again held)
 
--- the addresses to ask for now, and those that are given up, each once and in the order of the oldest held for them
+-- the addresses to ask for now, each once and in the order of the oldest datagram held for them
 abbrev pub to_ask : List Held → List Addr
 to_ask held = each_once (map (λ h. h.next) (filter is_asked_again held))
 
+-- the addresses that are given up, in the same order
 abbrev pub given_up : List Held → List Addr
 given_up held = each_once (map (λ h. h.next) (filter (λ h. not (is_asked_again h)) held))

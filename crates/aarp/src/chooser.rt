@@ -58,8 +58,8 @@ impl Model for Chooser {
         × (c.probes ≤ 10) };
 }
 
-/// Whether a station on a cable of this range may have each of the addresses: a network of the range,
-/// and a node from 1 to 253. Allocates nothing.
+/// Whether a station on a cable of this range may have each of the addresses: a network of the
+/// range, and a node from 1 to 253. Allocates nothing.
 pub fn are_on(range: Range, addrs: &[Addr]) -> bool
     ensures { result ≡ list_all (is_on range) addrs.now }
 {
@@ -182,8 +182,8 @@ impl Chooser {
         Some(self.probe())
     }
 
-    /// A packet was heard on the port: where another station has the tentative address or probes for
-    /// it too, the next address is tried. A settled port keeps its address. Allocates nothing.
+    /// A packet was heard on the port: where another station has the tentative address or probes
+    /// for it too, the next address is tried. A settled port keeps its address. Allocates nothing.
     pub fn heard(&mut self, packet: &Packet)
         ensures { self.new ≡ heard_by packet.now self.old }
     {

@@ -1,4 +1,5 @@
-//! Laws of AARP packets, for the crates above: each is the contract of a function that does nothing.
+//! Laws of AARP packets, for the crates above: each is the contract of a function that does
+//! nothing.
 
 ghost use Rattle.std.specs.Prelude.{◌≡◌, ℕ, List, ◌++◌};
 ghost use Rattle.at_base.specs.Spelling.{Spells, Begins};

@@ -6,6 +6,7 @@ mod images;
 mod lines;
 mod readme;
 mod stations;
+mod verdicts;
 
 use audit::{
     Cause, Error, Fault, MAX_DISTANCE, Place, Rule, Summary, Verdict, audit, distances_fit,
@@ -15,14 +16,15 @@ use audit::{
 use example_images::three_cables::image;
 use example_images::three_cables_bytes as at;
 use images::{
-    BOTH, CABLES, SECOND, YES, change, changed, line_of_bytes, line_of_cable, line_of_parts,
-    with_row,
+    BOTH, CABLES, SECOND, YES, change, changed, check_each, line_of_bytes, line_of_cable,
+    line_of_parts, with_row,
 };
 use lines::line_again;
 use readme::report;
 use stations::{line_of_rows, line_of_stations};
 use std::alloc::Global;
 use std::test::Fail;
+use verdicts::{no_differs, yes_differs};
 
 #[test]
 fn the_example_has_this_line(rt: HostRuntime) -> Result<(), Fail> {
@@ -51,7 +53,7 @@ fn a_byte_too_many_is_no_image(rt: HostRuntime) {
 
 #[test]
 fn cables_stand_in_order(rt: HostRuntime) -> Result<(), Fail> {
-    cases::cables_stand_in_order(&rt, rt.alloc())
+    check_each(&rt, rt.alloc(), &cases::CABLE_ORDER)
 }
 
 #[test]
@@ -74,12 +76,12 @@ fn a_cable_has_zones_and_none_twice(rt: HostRuntime) -> Result<(), Fail> {
 
 #[test]
 fn stations_have_addresses_of_their_cables(rt: HostRuntime) -> Result<(), Fail> {
-    cases::stations_have_addresses_of_their_cables(&rt, rt.alloc())
+    check_each(&rt, rt.alloc(), &cases::STATIONS)
 }
 
 #[test]
 fn no_two_stations_have_one_address(rt: HostRuntime) -> Result<(), Fail> {
-    cases::no_two_stations_have_one_address(&rt, rt.alloc())
+    check_each(&rt, rt.alloc(), &cases::TWO_STATIONS)
 }
 
 #[test]
@@ -109,12 +111,12 @@ fn stations_far_apart_have_addresses_of_their_own(rt: HostRuntime) -> Result<(),
 
 #[test]
 fn rows_are_for_cables_and_direct_rows_direct(rt: HostRuntime) -> Result<(), Fail> {
-    cases::rows_are_for_cables_and_direct_rows_direct(&rt, rt.alloc())
+    check_each(&rt, rt.alloc(), &cases::ROWS)
 }
 
 #[test]
 fn distances_fit_and_next_routers_are_there(rt: HostRuntime) -> Result<(), Fail> {
-    cases::distances_fit_and_next_routers_are_there(&rt, rt.alloc())
+    check_each(&rt, rt.alloc(), &cases::NEXT_ROUTERS)
 }
 
 #[test]
@@ -161,7 +163,7 @@ fn the_next_router_is_one_nearer(rt: HostRuntime) -> Result<(), Fail> {
 
 #[test]
 fn rules_are_tried_in_their_order(rt: HostRuntime) -> Result<(), Fail> {
-    cases::rules_are_tried_in_their_order(&rt, rt.alloc())
+    check_each(&rt, rt.alloc(), &cases::TWO_RULES)
 }
 
 #[test]
@@ -282,50 +284,8 @@ fn a_line_is_allocated_at_its_longest(rt: HostRuntime) -> Result<(), Fail> {
 
 #[test]
 fn verdicts_differ_where_one_field_does(rt: HostRuntime) -> Result<(), Fail> {
-    let summary = Summary {
-        cables: 1,
-        routers: 2,
-        nodes: 3,
-        rows: 4,
-        greatest: 5,
-    };
-    let yes = Verdict::Yes(summary);
-    for other in [
-        Summary {
-            cables: 9,
-            ..summary
-        },
-        Summary {
-            routers: 9,
-            ..summary
-        },
-        Summary {
-            nodes: 9,
-            ..summary
-        },
-        Summary { rows: 9, ..summary },
-        Summary {
-            greatest: 9,
-            ..summary
-        },
-    ] {
-        assert!(rt; summary != other && yes != Verdict::Yes(other), "{other:?}");
-    }
-    let fault = Fault {
-        rule: 3,
-        place: Place::Row(1, 2),
-    };
-    let no = Verdict::No(fault);
-    for (rule, place) in [
-        (4, Place::Row(1, 2)),
-        (3, Place::Row(2, 2)),
-        (3, Place::Row(1, 1)),
-        (3, Place::Missing(1, 2)),
-    ] {
-        assert!(rt; no != Verdict::No(Fault { rule, place }), "C{rule} {place}");
-    }
-    assert!(rt; yes != no && yes == yes.clone()? && no == no.clone()?);
-    assert!(rt; summary == summary.clone()?);
+    assert!(rt; yes_differs()?);
+    assert!(rt; no_differs()?);
     Ok(())
 }
 

@@ -1,5 +1,6 @@
 -- What hearing of a range leaves of a table.
-use Rattle.std.proofs.Common.{◌≡◌, ℕ, ◌+◌, ◌<◌, ◌≤◌, Bool, true, false, cond, not, ◌&&◌, ◌||◌, ◌==◌, List, [], ◌∷◌, length, find, Some, None, refl, sym, ap, ◌∙◌, arith, nat_le}
+use Rattle.std.proofs.Common.{◌≡◌, ℕ, ◌+◌, ◌<◌, ◌≤◌, Bool, true, false, cond, not, ◌&&◌, ◌||◌, ◌==◌, List, [], ◌∷◌, length, find, Some}
+use Rattle.std.proofs.Common.{None, refl, sym, ap, ◌∙◌, arith, nat_le}
 use Rattle.std.specs.List.{list_all, list_any}
 use Rattle.std.proofs.lemmas.Bool.{and_parts, not-true, leb-true, le-leb}
 use Rattle.at_base.specs.Address.{same_address}
@@ -23,7 +24,8 @@ found_row p (r ∷ rows) row each h =
     ]) refl
 
 -- a row that was heard is one
-pub heard_good : (range : Span) (t : ℕ) (s : Addr) (port : ℕ) → is_range range.start range.end ≡ true → t ≤ 14 → is_row (heard_row range t s port) ≡ true
+pub heard_good : (range : Span) (t : ℕ) (s : Addr) (port : ℕ) → is_range range.start range.end ≡ true → t ≤ 14
+    → is_row (heard_row range t s port) ≡ true
 heard_good range t s port valid near = let far : nat_le (t + 1) 31 ≡ true = le-leb _ _ (omega arith) in rw (valid, far) refl
 
 -- what hearing leaves of a row: a row, whose range isn't new
@@ -32,13 +34,17 @@ pub record Keeps (row : Row) (after : Row × Change) : Type 0 where
   pub old : after.1 ≡ Added → ⊥
 
 hearing_keeps : (row : Row) (t : ℕ) (s : Addr) (port : ℕ) → is_row row ≡ true → Keeps row (after_hearing row t s port)
-hearing_keeps row t s port good = step (is_direct row) (nat_le t 14) (not (is_usable row.state) || nat_le (t + 1) row.distance) (same_address row.next s && row.port == port) refl
+hearing_keeps row t s port good =
+    step (is_direct row) (nat_le t 14) (not (is_usable row.state) || nat_le (t + 1) row.distance)
+      (same_address row.next s && row.port == port) refl
   where
     valid : is_range row.range.start row.range.end ≡ true
     valid = (and_parts (is_range row.range.start row.range.end) (nat_le row.distance 31) good).0
 
     step : (direct near nearer next : Bool) → nat_le t 14 ≡ near
-        → Keeps row (cond direct (row, Ignored) (cond (near && nearer) (heard_row row.range t s port, Changed) (cond next (cond near (heard_row row.range t s port) (record row { state = Bad }), Changed) (row, Ignored))))
+        → Keeps row (cond direct (row, Ignored)
+          (cond (near && nearer) (heard_row row.range t s port, Changed)
+            (cond next (cond near (heard_row row.range t s port) (record row { state = Bad }), Changed) (row, Ignored))))
     step true near nearer next e = record { good = good; old = λ h. cc }
     step false true true next e = record { good = heard_good row.range t s port valid (leb-true _ _ e); old = λ h. cc }
     step false true false true e = record { good = heard_good row.range t s port valid (leb-true _ _ e); old = λ h. cc }
@@ -52,7 +58,8 @@ pub record There (range : Span) (t : ℕ) (s : Addr) (port : ℕ) (rows : List R
   pub map : IsRouteMap (replaced (after_hearing row t s port).0 rows)
   pub old : (heard range t s port rows).1 ≡ Added → ⊥
 
-pub there : (range : Span) (t : ℕ) (s : Addr) (port : ℕ) (rows : List Row) (row : Row) → IsRouteMap rows → row_at range rows ≡ Some row → There range t s port rows row
+pub there : (range : Span) (t : ℕ) (s : Addr) (port : ℕ) (rows : List Row) (row : Row) → IsRouteMap rows → row_at range rows ≡ Some row
+    → There range t s port rows row
 there range t s port rows row h found =
     let k = hearing_keeps row t s port (found_row _ rows row h.each found) in
     let e : heard range t s port rows ≡ (replaced (after_hearing row t s port).0 rows, (after_hearing row t s port).1) = rw found refl in
@@ -63,14 +70,17 @@ there range t s port rows row h found =
     }
 
 -- a range that has none, and isn't added
-pub ignored : (range : Span) (t : ℕ) (s : Addr) (port : ℕ) (rows : List Row) → row_at range rows ≡ None → is_new range t rows ≡ false → heard range t s port rows ≡ (rows, Ignored)
+pub ignored : (range : Span) (t : ℕ) (s : Addr) (port : ℕ) (rows : List Row) → row_at range rows ≡ None → is_new range t rows ≡ false
+    → heard range t s port rows ≡ (rows, Ignored)
 ignored range t s port rows none new = rw (none, new) refl
 
 -- a range that is added
-pub new : (range : Span) (t : ℕ) (s : Addr) (port : ℕ) (rows : List Row) → row_at range rows ≡ None → is_new range t rows ≡ true → heard range t s port rows ≡ (added (heard_row range t s port) rows, Added)
+pub new : (range : Span) (t : ℕ) (s : Addr) (port : ℕ) (rows : List Row) → row_at range rows ≡ None → is_new range t rows ≡ true
+    → heard range t s port rows ≡ (added (heard_row range t s port) rows, Added)
 new range t s port rows none is = rw (none, is) refl
 
-pub new_map : (range : Span) (t : ℕ) (s : Addr) (port : ℕ) (rows : List Row) → IsRouteMap rows → is_range range.start range.end ≡ true → is_new range t rows ≡ true → length rows < 200 → IsRouteMap (added (heard_row range t s port) rows)
+pub new_map : (range : Span) (t : ℕ) (s : Addr) (port : ℕ) (rows : List Row) → IsRouteMap rows → is_range range.start range.end ≡ true
+    → is_new range t rows ≡ true → length rows < 200 → IsRouteMap (added (heard_row range t s port) rows)
 new_map range t s port rows h valid is room =
     let p = and_parts (nat_le t 14) (not (list_any (λ r. overlaps r.range range) rows)) is in
     added_map (heard_row range t s port) rows (heard_good range t s port valid (leb-true _ _ p.0)) (not-true _ p.1) room h

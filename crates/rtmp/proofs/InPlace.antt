@@ -26,7 +26,8 @@ pub record Step (low : ℕ) (bytes : List ℕ) (t : Written) (after : List ℕ) 
   pub rest : IsTuples 1 after
   pub is : written_in low bytes ≡ t ∷ written_in 1 after
 
-pub step : (low : ℕ) (bytes : List ℕ) (t : Written) (after : List ℕ) → IsBytes bytes → IsTuples low bytes → read packets (written_tuple low) bytes ≡ Ok (t, after) → Step low bytes t after
+pub step : (low : ℕ) (bytes : List ℕ) (t : Written) (after : List ℕ) → IsBytes bytes → IsTuples low bytes
+    → read packets (written_tuple low) bytes ≡ Ok (t, after) → Step low bytes t after
 unfolding written_in
 step low bytes t after fits whole e =
     let first = first_of (λ n. read packets (written_tuple n)) (λ t. 1) shrinks low bytes t after fits e in
@@ -36,7 +37,8 @@ step low bytes t after fits whole e =
       | Err f ↦ λ o. absurd (let bad : Err f ≡ ok {E = Error} (written_in low bytes) = sym (first ∙ rw o refl) ∙ whole in cc)
     ]) refl
 
-pub not_refused : (low : ℕ) (bytes : List ℕ) (e : Error) → 1 ≤ length bytes → IsTuples low bytes → read packets (written_tuple low) bytes ≡ Err e → ⊥
+pub not_refused : (low : ℕ) (bytes : List ℕ) (e : Error) → 1 ≤ length bytes → IsTuples low bytes
+    → read packets (written_tuple low) bytes ≡ Err e → ⊥
 not_refused low bytes e some whole h =
     let r = refused_first (λ n. read packets (written_tuple n)) (λ t. 1) low bytes e some h in
     let bad : Err e ≡ ok {E = Error} (written_in low bytes) = sym r ∙ whole in
@@ -53,7 +55,8 @@ first_extended t h =
     let e = rw extended at h.1.1.0 in
     said t.extension e.1.1
   where
-    said : (o : Option Extension) → (Some (record { end = (extension_or o).end; version = (extension_or o).version }) ≡ o) → (x : Tuple) × (tuple_of (record t { extension = o }) ≡ Some x)
+    said : (o : Option Extension) → (Some (record { end = (extension_or o).end; version = (extension_or o).version }) ≡ o)
+        → (x : Tuple) × (tuple_of (record t { extension = o }) ≡ Some x)
     said None e = absurd cc
     said (Some e) p = (_, refl)
 

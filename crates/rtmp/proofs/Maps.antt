@@ -1,5 +1,6 @@
 -- Finite maps as rows by rising range: what filters, updates of rows and a new row leave of them.
-use Rattle.std.proofs.Common.{◌≡◌, ℕ, zero, suc, ◌+◌, ◌<◌, ◌≤◌, Bool, true, false, cond, not, ◌&&◌, ◌==◌, List, [], ◌∷◌, ◌++◌, length, map, filter, take, drop, set, insert, get_or, refl, sym, ap, ◌∙◌, arith, nat_lt, nat_le}
+use Rattle.std.proofs.Common.{◌≡◌, ℕ, zero, suc, ◌+◌, ◌<◌, ◌≤◌, Bool, true, false, cond, not, ◌&&◌, ◌==◌, List, [], ◌∷◌, ◌++◌, length, map}
+use Rattle.std.proofs.Common.{filter, take, drop, set, insert, get_or, refl, sym, ap, ◌∙◌, arith, nat_lt, nat_le}
 use Rattle.std.specs.List.{list_all, list_any}
 use Rattle.std.proofs.lemmas.Bool.Decides.{nat_tests}
 use Rattle.std.proofs.lemmas.Bool.{and_parts, or_parts, ltb-true, ltb-false, lt-ltb, eqb-true}
@@ -9,7 +10,8 @@ use Rattle.at_base.specs.Address.{same_address}
 use Rattle.at_base.specs.declared.address.Addr.{Addr}
 use Rattle.rtmp.specs.declared.state.State.TheVariants.{Bad}
 use Rattle.rtmp.specs.declared.row.Row.{Row}
-use Rattle.rtmp.specs.Routes.{are_above, is_row, is_direct, added, beside, directed, direct_row, aged, aged_row, is_over, older, poisoned, poisoned_row, replaced, replaced_row, IsRouteMap}
+use Rattle.rtmp.specs.Routes.{are_above, is_row, is_direct, added, beside, directed, direct_row, aged, aged_row, is_over, older, poisoned}
+use Rattle.rtmp.specs.Routes.{poisoned_row, replaced, replaced_row, IsRouteMap}
 use Rattle.rtmp.specs.Updates.{before}
 
 -- ---- A valid row
@@ -29,7 +31,8 @@ above_lower low high (r ∷ rows) le h =
     let first : nat_lt low r.range.start ≡ true = lt-ltb _ _ (omega (arith, ltb-true _ _ p.0)) in
     rw (first, p.1) refl
 
-pub above_filter : (p : Row → Bool) (low : ℕ) (rows : List Row) → list_all is_row rows ≡ true → are_above low rows ≡ true → are_above low (filter p rows) ≡ true
+pub above_filter : (p : Row → Bool) (low : ℕ) (rows : List Row) → list_all is_row rows ≡ true → are_above low rows ≡ true
+    → are_above low (filter p rows) ≡ true
 above_filter p low [] each h = refl
 above_filter p low (r ∷ rows) each h =
     let q = and_parts (nat_lt low r.range.start) (are_above r.range.end rows) h in
@@ -52,11 +55,13 @@ all_filter p (r ∷ rows) each =
     ]) refl
 
 -- updates that leave ranges alone
-pub above_map : (f : Row → Row) → ((r : Row) → (f r).range ≡ r.range) → (low : ℕ) (rows : List Row) → are_above low (map f rows) ≡ are_above low rows
+pub above_map : (f : Row → Row) → ((r : Row) → (f r).range ≡ r.range) → (low : ℕ) (rows : List Row)
+    → are_above low (map f rows) ≡ are_above low rows
 above_map f same low [] = refl
 above_map f same low (r ∷ rows) = rw (same r, above_map f same r.range.end rows) refl
 
-pub all_map : (f : Row → Row) → ((r : Row) → is_row r ≡ true → is_row (f r) ≡ true) → (rows : List Row) → list_all is_row rows ≡ true → list_all is_row (map f rows) ≡ true
+pub all_map : (f : Row → Row) → ((r : Row) → is_row r ≡ true → is_row (f r) ≡ true) → (rows : List Row) → list_all is_row rows ≡ true
+    → list_all is_row (map f rows) ≡ true
 all_map f good [] each = refl
 all_map f good (r ∷ rows) each =
     let e = and_parts (is_row r) (list_all is_row rows) each in
@@ -72,7 +77,8 @@ apart r row none good new =
     let b = row_ends row new in
     (λ lt. grind (arith, nat_tests), λ le. grind (arith, nat_tests))
 
-pub above_added : (row : Row) (low : ℕ) (rows : List Row) → is_row row ≡ true → list_all is_row rows ≡ true → list_any (λ r. overlaps r.range row.range) rows ≡ false
+pub above_added : (row : Row) (low : ℕ) (rows : List Row) → is_row row ≡ true → list_all is_row rows ≡ true
+    → list_any (λ r. overlaps r.range row.range) rows ≡ false
     → low < row.range.start → are_above low rows ≡ true → are_above low (added row rows) ≡ true
 above_added row low [] new each none lt h = rw (lt-ltb low row.range.start lt) refl
 above_added row low (r ∷ rows) new each none lt h =
@@ -80,16 +86,19 @@ above_added row low (r ∷ rows) new each none lt h =
     let e = and_parts (is_row r) (list_all is_row rows) each in
     let o = or_parts (overlaps r.range row.range) (list_any (λ r. overlaps r.range row.range) rows) none in
     let sides = apart r row o.0 e.0 new in
-    (elim (nat_lt r.range.start row.range.start) as (λ b. nat_lt r.range.start row.range.start ≡ b → are_above low (added row (r ∷ rows)) ≡ true) [
+    (elim (nat_lt r.range.start row.range.start) as
+      (λ b. nat_lt r.range.start row.range.start ≡ b → are_above low (added row (r ∷ rows)) ≡ true) [
       | true ↦ λ t. rw (t, q.0) (above_added row r.range.end rows new e.1 o.1 (sides.0 (ltb-true _ _ t)) q.1)
-      | false ↦ λ t. let a = lt-ltb low row.range.start lt in let b = lt-ltb row.range.end r.range.start (sides.1 (ltb-false _ _ t)) in rw (t, a, b, q.1) refl
+      | false ↦ λ t. let a = lt-ltb low row.range.start lt in
+          let b = lt-ltb row.range.end r.range.start (sides.1 (ltb-false _ _ t)) in rw (t, a, b, q.1) refl
     ]) refl
 
 pub all_added : (row : Row) (rows : List Row) → is_row row ≡ true → list_all is_row rows ≡ true → list_all is_row (added row rows) ≡ true
 all_added row [] new each = rw new refl
 all_added row (r ∷ rows) new each =
     let e = and_parts (is_row r) (list_all is_row rows) each in
-    (elim (nat_lt r.range.start row.range.start) as (λ b. nat_lt r.range.start row.range.start ≡ b → list_all is_row (added row (r ∷ rows)) ≡ true) [
+    (elim (nat_lt r.range.start row.range.start) as
+      (λ b. nat_lt r.range.start row.range.start ≡ b → list_all is_row (added row (r ∷ rows)) ≡ true) [
       | true ↦ λ t. rw (t, e.0, all_added row rows new e.1) refl
       | false ↦ λ t. rw (t, new, e.0, e.1) refl
     ]) refl
@@ -97,7 +106,8 @@ all_added row (r ∷ rows) new each =
 pub length_added : (row : Row) (rows : List Row) → length (added row rows) ≡ suc (length rows)
 length_added row [] = refl
 length_added row (r ∷ rows) =
-    (elim (nat_lt r.range.start row.range.start) as (λ b. nat_lt r.range.start row.range.start ≡ b → length (added row (r ∷ rows)) ≡ suc (suc (length rows))) [
+    (elim (nat_lt r.range.start row.range.start) as
+      (λ b. nat_lt r.range.start row.range.start ≡ b → length (added row (r ∷ rows)) ≡ suc (suc (length rows))) [
       | true ↦ λ t. rw t (ap suc (length_added row rows))
       | false ↦ λ t. rw t refl
     ]) refl
@@ -106,7 +116,8 @@ length_added row (r ∷ rows) =
 pub put_at : (row : Row) (rows : List Row) → insert rows (before row.range.start rows) row ≡ added row rows
 put_at row [] = refl
 put_at row (r ∷ rows) =
-    (elim (nat_lt r.range.start row.range.start) as (λ b. nat_lt r.range.start row.range.start ≡ b → insert (r ∷ rows) (before row.range.start (r ∷ rows)) row ≡ added row (r ∷ rows)) [
+    (elim (nat_lt r.range.start row.range.start) as
+      (λ b. nat_lt r.range.start row.range.start ≡ b → insert (r ∷ rows) (before row.range.start (r ∷ rows)) row ≡ added row (r ∷ rows)) [
       | true ↦ λ t. rw t (ap (λ (l : List Row). r ∷ l) (put_at row rows))
       | false ↦ λ t. rw t refl
     ]) refl
@@ -114,13 +125,15 @@ put_at row (r ∷ rows) =
 -- ---- A loop that updates each row
 
 one_more : (f : Row → Row) (all : List Row) (i : ℕ) (d : Row) → i < length all
-    → set (map f (take i all) ++ drop i all) i (f (get_or (map f (take i all) ++ drop i all) i d)) ≡ map f (take (suc i) all) ++ drop (suc i) all
+    → set (map f (take i all) ++ drop i all) i (f (get_or (map f (take i all) ++ drop i all) i d))
+      ≡ map f (take (suc i) all) ++ drop (suc i) all
 one_more f [] i d lt = absurd (omega arith)
 one_more f (a ∷ all) zero d lt = refl
 one_more f (a ∷ all) (suc i) d lt = ap (λ (l : List Row). f a ∷ l) (one_more f all i d (omega arith))
 
 -- one row more is updated
-pub map_more : (f : Row → Row) (all rows : List Row) (i : ℕ) (r d : Row) → i < length all → rows ≡ map f (take i all) ++ drop i all → r ≡ f (get_or rows i d)
+pub map_more : (f : Row → Row) (all rows : List Row) (i : ℕ) (r d : Row) → i < length all → rows ≡ map f (take i all) ++ drop i all
+    → r ≡ f (get_or rows i d)
     → set rows i r ≡ map f (take (i + 1) all) ++ drop (i + 1) all
 map_more f all rows i r d lt so_far new =
     let n : i + 1 ≡ suc i = omega arith in
@@ -156,14 +169,16 @@ filtered_map p rows h = record {
   few = omega (arith, few_filter p rows, h.few);
 }
 
-pub updated_map : (f : Row → Row) → ((r : Row) → (f r).range ≡ r.range) → ((r : Row) → is_row r ≡ true → is_row (f r) ≡ true) → (rows : List Row) → IsRouteMap rows → IsRouteMap (map f rows)
+pub updated_map : (f : Row → Row) → ((r : Row) → (f r).range ≡ r.range) → ((r : Row) → is_row r ≡ true → is_row (f r) ≡ true)
+    → (rows : List Row) → IsRouteMap rows → IsRouteMap (map f rows)
 updated_map f same good rows h = record {
   apart = above_map f same 0 rows ∙ h.apart;
   each = all_map f good rows h.each;
   few = omega (arith, few_map f rows, h.few);
 }
 
-pub added_map : (row : Row) (rows : List Row) → is_row row ≡ true → list_any (λ r. overlaps r.range row.range) rows ≡ false → length rows < 200 → IsRouteMap rows → IsRouteMap (added row rows)
+pub added_map : (row : Row) (rows : List Row) → is_row row ≡ true → list_any (λ r. overlaps r.range row.range) rows ≡ false
+    → length rows < 200 → IsRouteMap rows → IsRouteMap (added row rows)
 added_map row rows new none room h = record {
   apart = above_added row 0 rows new h.each none (omega (arith, row_ends row new)) h.apart;
   each = all_added row rows new h.each;
@@ -174,7 +189,8 @@ added_map row rows new none room h = record {
 pub none_beside : (range : Span) (rows : List Row) → list_any (λ r. overlaps r.range range) (beside range rows) ≡ false
 none_beside range [] = refl
 none_beside range (r ∷ rows) =
-    (elim (overlaps r.range range) as (λ b. overlaps r.range range ≡ b → list_any (λ r. overlaps r.range range) (beside range (r ∷ rows)) ≡ false) [
+    (elim (overlaps r.range range) as
+      (λ b. overlaps r.range range ≡ b → list_any (λ r. overlaps r.range range) (beside range (r ∷ rows)) ≡ false) [
       | true ↦ λ t. rw t (none_beside range rows)
       | false ↦ λ t. rw (t, t) (none_beside range rows)
     ]) refl
@@ -182,7 +198,8 @@ none_beside range (r ∷ rows) =
 -- ---- Each update
 
 -- a list of valid ranges, none of whose rows is too far, is one of rows
-pub each_row : (rows : List Row) → list_all (λ r. is_range r.range.start r.range.end) rows ≡ true → list_all (λ r. nat_le r.distance 31) rows ≡ true → list_all is_row rows ≡ true
+pub each_row : (rows : List Row) → list_all (λ r. is_range r.range.start r.range.end) rows ≡ true
+    → list_all (λ r. nat_le r.distance 31) rows ≡ true → list_all is_row rows ≡ true
 each_row [] valid near = refl
 each_row (r ∷ rows) valid near =
     let v = and_parts (is_range r.range.start r.range.end) (list_all (λ r. is_range r.range.start r.range.end) rows) valid in
@@ -196,20 +213,26 @@ aged_good : (r : Row) → is_row r ≡ true → is_row (aged_row r) ≡ true
 aged_good r h = elim (is_direct r) as (λ b. is_row (cond b r (record r { state = older r.state })) ≡ true) [ true ↦ h | false ↦ h ]
 
 pub aged_map : (rows : List Row) → IsRouteMap rows → IsRouteMap (aged rows)
-aged_map rows h = updated_map aged_row aged_range aged_good (filter (λ r. not (is_over r)) rows) (filtered_map (λ r. not (is_over r)) rows h)
+aged_map rows h =
+    updated_map aged_row aged_range aged_good (filter (λ r. not (is_over r)) rows) (filtered_map (λ r. not (is_over r)) rows h)
 
 poisoned_range : (next : Addr) (r : Row) → (poisoned_row next r).range ≡ r.range
-poisoned_range next r = elim (not (is_direct r) && same_address r.next next) as (λ b. (cond b (record r { state = Bad }) r).range ≡ r.range) [ true ↦ refl | false ↦ refl ]
+poisoned_range next r =
+    elim (not (is_direct r) && same_address r.next next) as (λ b. (cond b (record r { state = Bad }) r).range ≡ r.range)
+      [ true ↦ refl | false ↦ refl ]
 
 poisoned_good : (next : Addr) (r : Row) → is_row r ≡ true → is_row (poisoned_row next r) ≡ true
-poisoned_good next r h = elim (not (is_direct r) && same_address r.next next) as (λ b. is_row (cond b (record r { state = Bad }) r) ≡ true) [ true ↦ h | false ↦ h ]
+poisoned_good next r h =
+    elim (not (is_direct r) && same_address r.next next) as (λ b. is_row (cond b (record r { state = Bad }) r) ≡ true)
+      [ true ↦ h | false ↦ h ]
 
 pub poisoned_map : (next : Addr) (rows : List Row) → IsRouteMap rows → IsRouteMap (poisoned next rows)
 poisoned_map next rows h = updated_map (poisoned_row next) (poisoned_range next) (poisoned_good next) rows h
 
 -- a row is replaced by one of its range
 replaced_range : (row r : Row) → (replaced_row row r).range ≡ r.range
-replaced_range row r = (elim (same_range r.range row.range) as (λ b. same_range r.range row.range ≡ b → (replaced_row row r).range ≡ r.range) [
+replaced_range row r =
+    (elim (same_range r.range row.range) as (λ b. same_range r.range row.range ≡ b → (replaced_row row r).range ≡ r.range) [
   | true ↦ λ t. rw t (sym (one_range r.range row.range t))
   | false ↦ λ t. rw t refl
 ]) refl
@@ -220,6 +243,8 @@ replaced_good row new r h = elim (same_range r.range row.range) as (λ b. is_row
 pub replaced_map : (row : Row) (rows : List Row) → is_row row ≡ true → IsRouteMap rows → IsRouteMap (replaced row rows)
 replaced_map row rows new h = updated_map (replaced_row row) (replaced_range row) (replaced_good row new) rows h
 
-pub directed_map : (range : Span) (port : ℕ) (rows : List Row) → is_range range.start range.end ≡ true → length (beside range rows) < 200 → IsRouteMap rows → IsRouteMap (directed range port rows)
+pub directed_map : (range : Span) (port : ℕ) (rows : List Row) → is_range range.start range.end ≡ true → length (beside range rows) < 200
+    → IsRouteMap rows → IsRouteMap (directed range port rows)
 directed_map range port rows valid room h =
-    added_map (direct_row range port) (beside range rows) (rw valid refl) (none_beside range rows) room (filtered_map (λ r. not (overlaps r.range range)) rows h)
+    added_map (direct_row range port) (beside range rows) (rw valid refl) (none_beside range rows) room
+      (filtered_map (λ r. not (overlaps r.range range)) rows h)

@@ -1,5 +1,6 @@
 -- The rows that a port sends, one by one, as a loop over the table's indexes finds them.
-use Rattle.std.proofs.Common.{◌≡◌, ℕ, zero, suc, ◌+◌, ◌-◌, ◌<◌, ◌≤◌, Bool, true, false, ◌==◌, List, [], ◌∷◌, ◌++◌, length, map, take, drop, Some, None, refl, sym, ap, ◌∙◌, arith, append_assoc}
+use Rattle.std.proofs.Common.{◌≡◌, ℕ, zero, suc, ◌+◌, ◌-◌, ◌<◌, ◌≤◌, Bool, true, false, ◌==◌, List, [], ◌∷◌, ◌++◌, length, map, take, drop}
+use Rattle.std.proofs.Common.{Some, None, refl, sym, ap, ◌∙◌, arith, append_assoc}
 use Rattle.std.specs.Prelude.{◌*◌, ◌||◌, slice_get, not, nat_lt}
 use Rattle.std.specs.List.{list_all}
 use Rattle.std.proofs.lemmas.Bool.{and_parts, leb-true, le-leb, lt-ltb, eq-eqb, ne_eqb}
@@ -48,26 +49,32 @@ sent_at rows i r each h = sent_near r (row_good rows i r each h)
 pub others_skip : (port : ℕ) (r : Row) (rows : List Row) → r.port ≡ port → of_other_ports port (r ∷ rows) ≡ of_other_ports port rows
 others_skip port r rows t = rw (eq-eqb r.port port t) refl
 
-pub others_take : (port : ℕ) (r : Row) (rows : List Row) → (r.port ≡ port → ⊥) → of_other_ports port (r ∷ rows) ≡ r ∷ of_other_ports port rows
+pub others_take : (port : ℕ) (r : Row) (rows : List Row) → (r.port ≡ port → ⊥)
+    → of_other_ports port (r ∷ rows) ≡ r ∷ of_other_ports port rows
 others_take port r rows t = rw (ne_eqb r.port port t) refl
 
 -- the bytes of so many rows of the other ports, after so many that are left out
 abbrev pub window : ℕ → ℕ → ℕ → List Row → List ℕ
 window port left_out count rows = tuples_bytes (map sent_tuple (take count (drop left_out (of_other_ports port rows))))
 
-pub window_skip : (port left_out count : ℕ) (r : Row) (rows : List Row) → r.port ≡ port → window port left_out count (r ∷ rows) ≡ window port left_out count rows
+pub window_skip : (port left_out count : ℕ) (r : Row) (rows : List Row) → r.port ≡ port
+    → window port left_out count (r ∷ rows) ≡ window port left_out count rows
 window_skip port left_out count r rows t = rw (others_skip port r rows t) refl
 
-pub window_later : (port left_out count : ℕ) (r : Row) (rows : List Row) → (r.port ≡ port → ⊥) → 0 < left_out → window port left_out count (r ∷ rows) ≡ window port (left_out - 1) count rows
+pub window_later : (port left_out count : ℕ) (r : Row) (rows : List Row) → (r.port ≡ port → ⊥) → 0 < left_out
+    → window port left_out count (r ∷ rows) ≡ window port (left_out - 1) count rows
 window_later port left_out count r rows t some =
     let n : left_out ≡ suc (left_out - 1) = omega arith in
-    let e : drop left_out (r ∷ of_other_ports port rows) ≡ drop (left_out - 1) (of_other_ports port rows) = ap (λ (k : ℕ). drop k (r ∷ of_other_ports port rows)) n in
+    let e : drop left_out (r ∷ of_other_ports port rows) ≡ drop (left_out - 1) (of_other_ports port rows) =
+      ap (λ (k : ℕ). drop k (r ∷ of_other_ports port rows)) n in
     rw (others_take port r rows t, e) refl
 
-pub window_sent : (port count : ℕ) (r : Row) (rows : List Row) → (r.port ≡ port → ⊥) → 0 < count → window port 0 count (r ∷ rows) ≡ tuple_bytes (sent_tuple r) ++ window port 0 (count - 1) rows
+pub window_sent : (port count : ℕ) (r : Row) (rows : List Row) → (r.port ≡ port → ⊥) → 0 < count
+    → window port 0 count (r ∷ rows) ≡ tuple_bytes (sent_tuple r) ++ window port 0 (count - 1) rows
 window_sent port count r rows t some =
     let n : count ≡ suc (count - 1) = omega arith in
-    let e : take count (r ∷ of_other_ports port rows) ≡ r ∷ take (count - 1) (of_other_ports port rows) = ap (λ (k : ℕ). take k (r ∷ of_other_ports port rows)) n in
+    let e : take count (r ∷ of_other_ports port rows) ≡ r ∷ take (count - 1) (of_other_ports port rows) =
+      ap (λ (k : ℕ). take k (r ∷ of_other_ports port rows)) n in
     rw (others_take port r rows t, e) refl
 
 -- ---- What a step of the loop leaves: what is written, and what is left to be written, is all
@@ -78,8 +85,10 @@ pub goes_on_written : (port left_out count : ℕ) (r : Row) (rest : List Row) (i
     → written ≡ items ++ tuple_bytes (sent_tuple r) → written ++ window port left_out (count - 1) rest ≡ total
 goes_on_written port left_out count r rest items written total so_far other none some is =
     let z : left_out ≡ 0 = omega arith in
-    let step : window port left_out count (r ∷ rest) ≡ tuple_bytes (sent_tuple r) ++ window port left_out (count - 1) rest = rw z (window_sent port count r rest other some) in
-    let bytes : written ++ window port left_out (count - 1) rest ≡ items ++ window port left_out count (r ∷ rest) = rw (is, step) (simp append_assoc) in
+    let step : window port left_out count (r ∷ rest) ≡ tuple_bytes (sent_tuple r) ++ window port left_out (count - 1) rest =
+      rw z (window_sent port count r rest other some) in
+    let bytes : written ++ window port left_out (count - 1) rest ≡ items ++ window port left_out count (r ∷ rest) =
+      rw (is, step) (simp append_assoc) in
     bytes ∙ so_far
 
 -- enough rows were written
@@ -111,22 +120,27 @@ all_sent (r ∷ rows) h =
     let near : nat_le (sent_tuple r).distance 31 ≡ true = le-leb _ _ (sent_near r p.0) in
     rw (valid, near, all_sent rows p.1) refl
 
-pub window_good : (port left_out : ℕ) (rows : List Row) → list_all is_row rows ≡ true → list_all is_tuple (map sent_tuple (take 96 (drop left_out (of_other_ports port rows)))) ≡ true
+pub window_good : (port left_out : ℕ) (rows : List Row) → list_all is_row rows ≡ true
+    → list_all is_tuple (map sent_tuple (take 96 (drop left_out (of_other_ports port rows)))) ≡ true
 window_good port left_out rows h =
     let others = of_other_ports port rows in
-    all_sent (take 96 (drop left_out others)) (all_take 96 (drop left_out others) (all_drop left_out others (all_filter (λ r. not (r.port == port)) rows h)))
+    all_sent (take 96 (drop left_out others))
+      (all_take 96 (drop left_out others) (all_drop left_out others (all_filter (λ r. not (r.port == port)) rows h)))
 
 -- ---- The packet of a number
 
-pub numbered : (port : ℕ) (own : Span) (me : Addr) (n : ℕ) (rows : List Row) (bytes : List ℕ) → (n == 0 || nat_lt (n * 96) (length (of_other_ports port rows))) ≡ true
+pub numbered : (port : ℕ) (own : Span) (me : Addr) (n : ℕ) (rows : List Row) (bytes : List ℕ)
+    → (n == 0 || nat_lt (n * 96) (length (of_other_ports port rows))) ≡ true
     → (h : IsRouteMap rows) → me.net < 65536 → me.node < 256 → is_range own.start own.end ≡ true
     → bytes ≡ head_bytes me ++ tuple_bytes (own_tuple own) ++ window port (n * 96) 96 rows
     → IsPacket (packet_numbered port own me n rows) (Some bytes)
 numbered port own me n rows bytes there h net node valid is =
-    rw (there, is) (data_spelled me own (map sent_tuple (take 96 (drop (n * 96) (of_other_ports port rows)))) net node valid (window_good port (n * 96) rows h.each))
+    rw (there, is) (data_spelled me own (map sent_tuple (take 96 (drop (n * 96) (of_other_ports port rows)))) net node valid
+      (window_good port (n * 96) rows h.each))
 
 -- the parts, written one after the other
-pub laid : (me : Addr) (own : Span) (rest a b d : List ℕ) → a ≡ [] → b ≡ a ++ head_bytes me ++ tuple_bytes (own_tuple own) → d ≡ b ++ rest → d ≡ head_bytes me ++ tuple_bytes (own_tuple own) ++ rest
+pub laid : (me : Addr) (own : Span) (rest a b d : List ℕ) → a ≡ [] → b ≡ a ++ head_bytes me ++ tuple_bytes (own_tuple own) → d ≡ b ++ rest
+    → d ≡ head_bytes me ++ tuple_bytes (own_tuple own) ++ rest
 laid me own rest a b d pa pb pd = rw (pd, pb, pa) refl
 
 -- the packet of a number: the first one, or one for which rows are left

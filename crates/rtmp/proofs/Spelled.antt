@@ -29,7 +29,8 @@ range_fits start end h = let e = ends_of start end h in (omega (arith, e), omega
 
 first_value : (own : Span) → is_range own.start own.end ≡ true → IsValue (written_tuple 0) (written_of (own_tuple own))
 unfolding written_tuple
-first_value own h = let f = range_fits own.start own.end h in ((f.0, refl), ((omega arith, refl), (((f.1, refl), ((omega arith, rw h refl), refl)), refl)))
+first_value own h =
+    let f = range_fits own.start own.end h in ((f.0, refl), ((omega arith, refl), (((f.1, refl), ((omega arith, rw h refl), refl)), refl)))
 
 later_value : (t : Tuple) → is_tuple t ≡ true → IsValue (written_tuple 1) (written_of t)
 unfolding written_tuple
@@ -49,11 +50,13 @@ written_bytes low t near =
 
 -- ---- All tuples
 
-later_values : (ts : List Tuple) → list_all is_tuple ts ≡ true → ListPasses (λ low. IsValue (written_tuple low)) (λ (w : Written). 1) 1 (map written_of ts)
+later_values : (ts : List Tuple) → list_all is_tuple ts ≡ true
+    → ListPasses (λ low. IsValue (written_tuple low)) (λ (w : Written). 1) 1 (map written_of ts)
 later_values [] h = tt
 later_values (t ∷ ts) h = let p = and_parts (is_tuple t) (list_all is_tuple ts) h in (later_value t p.0, later_values ts p.1)
 
-later_bytes : (ts : List Tuple) → list_all is_tuple ts ≡ true → list_bytes (λ low. bytes_of (written_tuple low)) (λ (w : Written). 1) 1 (map written_of ts) ≡ tuples_bytes ts
+later_bytes : (ts : List Tuple) → list_all is_tuple ts ≡ true
+    → list_bytes (λ low. bytes_of (written_tuple low)) (λ (w : Written). 1) 1 (map written_of ts) ≡ tuples_bytes ts
 later_bytes [] h = refl
 later_bytes (t ∷ ts) h =
     let p = and_parts (is_tuple t) (list_all is_tuple ts) h in
@@ -62,7 +65,8 @@ later_bytes (t ∷ ts) h =
 
 -- ---- The packet
 
-pub data_spelled : (me : Addr) (own : Span) (ts : List Tuple) → me.net < 65536 → me.node < 256 → is_range own.start own.end ≡ true → list_all is_tuple ts ≡ true
+pub data_spelled : (me : Addr) (own : Span) (ts : List Tuple) → me.net < 65536 → me.node < 256 → is_range own.start own.end ≡ true
+    → list_all is_tuple ts ≡ true
     → Spells routing_data (head_bytes me ++ tuples_bytes (own_tuple own ∷ ts)) (data_of me (own_tuple own ∷ ts))
 unfolding routing_data
 data_spelled me own ts net node valid h =
@@ -77,5 +81,6 @@ spelled_begins : (p : RoutingData) (bytes : List ℕ) → Spells routing_data by
 unfolding routing_data
 spelled_begins p bytes (h, parts) = ([], parts ∙ sym (append-nil _), h, refl)
 
-pub read_back : (p : RoutingData) (bytes : List ℕ) → Spells routing_data bytes p → Begins routing_data bytes p × ((q : RoutingData) → Begins routing_data bytes q → q ≡ p)
+pub read_back : (p : RoutingData) (bytes : List ℕ) → Spells routing_data bytes p
+    → Begins routing_data bytes p × ((q : RoutingData) → Begins routing_data bytes q → q ≡ p)
 read_back p bytes s = let b = spelled_begins p bytes s in (b, λ q c. begins_one packets routing_data data_lawful bytes p q b c)

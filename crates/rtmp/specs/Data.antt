@@ -1,6 +1,7 @@
 -- Packets of routing data: the router that sends them, the range of its port's cable, and how far other ranges are.
 -- (Inside AppleTalk, the chapter on RTMP)
-use Rattle.std.specs.Prelude.{◌≡◌, ℕ, ◌+◌, ◌%◌, Bool, true, false, not, ◌&&◌, ◌==◌, List, [], ◌∷◌, length, map, Option, Some, None, Result, Ok, Err, nat_le, nat_lt, if◌then◌else◌}
+use Rattle.std.specs.Prelude.{◌≡◌, ℕ, ◌+◌, ◌%◌, Bool, true, false, not, ◌&&◌, ◌==◌, List, [], ◌∷◌, length, map, Option, Some, None, Result}
+use Rattle.std.specs.Prelude.{Ok, Err, nat_le, nat_lt, if◌then◌else◌}
 use Rattle.at_base.specs.declared.address.Addr.{Addr}
 use Rattle.at_base.specs.declared.error.Field.TheVariants.{IdLength, Version}
 use Rattle.at_base.specs.declared.error.Error.{Error}
@@ -18,6 +19,7 @@ pub record RoutingData : Type 0 where
   pub router : Addr
   pub written : List Written
 
+-- the fields of an extended tuple's extension, and 0 for another's
 abbrev pub extension_or : Option Extension → Extension
 extension_or None = record { end = 0; version = 0 }
 extension_or (Some e) = e
@@ -60,7 +62,8 @@ routing_data =
     field (number two any) (λ p. p.router.net) (λ net.
     field (number one (only 8 IdLength)) (λ p. 8) (λ length_of_node.
     field (number one any) (λ p. p.router.node) (λ node.
-    many written_tuple (λ t. 1) at_least_one (λ p. p.written) (λ written. record { router = record { net = net; node = node }; written = written })))))
+    many written_tuple (λ t. 1) at_least_one (λ p. p.written)
+      (λ written. record { router = record { net = net; node = node }; written = written })))))
 
 -- what an extended tuple says: how far its range is; the others are skipped
 abbrev pub tuple_of : Written → Option Tuple

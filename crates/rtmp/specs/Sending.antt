@@ -1,5 +1,6 @@
 -- What a router sends of its routing table on a port. (Inside AppleTalk, the chapter on RTMP)
-use Rattle.std.specs.Prelude.{◌≡◌, ℕ, ◌*◌, not, ◌||◌, ◌==◌, List, ◌∷◌, length, map, filter, take, drop, Option, Some, None, nat_lt, if◌then◌else◌}
+use Rattle.std.specs.Prelude.{◌≡◌, ℕ, ◌*◌, not, ◌||◌, ◌==◌, List, ◌∷◌, length, map, filter, take, drop, Option, Some, None, nat_lt}
+use Rattle.std.specs.Prelude.{if◌then◌else◌}
 use Rattle.at_base.specs.declared.address.Addr.{Addr}
 use Rattle.at_base.specs.Range.{Span}
 use Rattle.rtmp.specs.States.{is_usable}

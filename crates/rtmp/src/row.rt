@@ -14,7 +14,7 @@ pub struct Row {
     pub distance: u8,
     /// The index of the router's port by which the way begins.
     pub port: u8,
-    /// The next router on that port's cable, and 0.0 where the port stands on the range's own cable.
+    /// The next router on that port's cable; 0.0 where the port stands on the range's own cable.
     pub next: Addr,
     /// How lately the row was confirmed.
     pub state: State,

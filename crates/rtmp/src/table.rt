@@ -78,7 +78,8 @@ pub trait RouteTable: Drop {
             (λ e. (e ≡ Error.BadRange) ⊎ (e ≡ Error.Full) ⊎ (e ≡ Error.Memory)) }
         ensures unchanged { OnErr result (rows self.new ≡ rows self.old) };
 
-    /// A port stands on a cable of this range: the rows that overlap it go, and it is at distance 0.
+    /// A port stands on a cable of this range: the cable is at distance 0, and the rows that
+    /// overlap it go.
     ///
     /// Errors: `Full` where `MAX_ROWS` rows would be left beside it; `Memory`. A refusal changes
     /// nothing.

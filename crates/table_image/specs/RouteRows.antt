@@ -9,7 +9,8 @@ use Rattle.table_image.specs.Internet.{Internet}
 
 -- the row of a routing table
 abbrev pub route_row : Row → RouteRow
-route_row r = record { range = record { start = r.start; end = r.end }; distance = r.distance; port = r.port; next = r.next; state = r.state }
+route_row r =
+    record { range = record { start = r.start; end = r.end }; distance = r.distance; port = r.port; next = r.next; state = r.state }
 
 -- the range of each row is valid
 abbrev pub have_ranges : List Row → Bool

@@ -5,7 +5,7 @@ use at_base::{Addr, Error, Hw, Range};
 use std::alloc::Global;
 
 /// The address of a port on the cable 10-19 that tries 10.7 first, after nobody objected to it.
-pub(crate) fn chosen(alloc: Global) -> Result<Option<Addr>, Error> {
+fn chosen(alloc: Global) -> Result<Option<Addr>, Error> {
     let range = Range::new(10, 19)?;
     let first = [Addr { net: 10, node: 7 }];
     if !are_on(range, &first) {
@@ -16,4 +16,12 @@ pub(crate) fn chosen(alloc: Global) -> Result<Option<Addr>, Error> {
         let _probe = chooser.tick();
     }
     Ok(chooser.settled())
+}
+
+/// The same, called again where its memory was refused.
+pub(crate) fn chosen_again(alloc: Global) -> Result<Option<Addr>, Error> {
+    match chosen(alloc) {
+        Err(Error::Memory) => chosen(alloc),
+        answer => answer,
+    }
 }

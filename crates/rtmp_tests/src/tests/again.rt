@@ -3,6 +3,7 @@
 ghost use Rattle.std.specs.Prelude.{◌≡◌, nat_le};
 ghost use Rattle.std.specs.List.{list_all};
 
+use super::rows::{Plain, row};
 use at_base::{Addr, Bytes, Error, Range};
 use rtmp::{Change, DataPacket, RouteTable, Row, hear_packet, write_data};
 use std::alloc::Global;
@@ -38,8 +39,24 @@ pub(crate) fn load_again<T: RouteTable>(table: &mut T, rows: &[Row]) -> Result<(
     }
 }
 
+fn rows_of(alloc: Global, plains: &[Plain]) -> Result<Vec<Row>, Error> {
+    let mut rows = Vec::new(alloc);
+    for plain in plains {
+        rows.push(row(plain)?)?;
+    }
+    Ok(rows)
+}
+
+/// The rows of these numbers.
+pub(crate) fn rows_again(alloc: Global, plains: &[Plain]) -> Result<Vec<Row>, Error> {
+    match rows_of(alloc, plains) {
+        Err(Error::Memory) => rows_of(alloc, plains),
+        answer => answer,
+    }
+}
+
 /// A table with these rows.
-pub(crate) fn table_of<T: RouteTable>(alloc: Global, rows: &[Row]) -> Result<T, Error> {
+pub(crate) fn load_of<T: RouteTable>(alloc: Global, rows: &[Row]) -> Result<T, Error> {
     let mut table = empty_again(alloc)?;
     load_again(&mut table, rows)?;
     Ok(table)
@@ -58,11 +75,13 @@ pub(crate) fn direct_again<T: RouteTable>(
 
 pub(crate) fn hear_again<T: RouteTable>(
     table: &mut T,
-    range: Range,
+    start: u16,
+    end: u16,
     distance: u8,
     source: Addr,
     port: u8,
 ) -> Result<Change, Error> {
+    let range = Range::new(start, end)?;
     match table.hear(range, distance, source, port) {
         Err(Error::Memory) => table.hear(range, distance, source, port),
         answer => answer,

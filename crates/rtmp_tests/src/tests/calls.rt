@@ -1,16 +1,16 @@
 //! Lists of calls, and two tables that are called alike.
 
 use super::again::{copy_again, direct_again, hear_again, load_again};
-use super::rows::{at, same_rows};
+use super::rows::same_rows;
 use at_base::{Addr, Error, Range};
 use rtmp::{Change, RouteTable, Row};
 
-/// A call of a routing table.
-#[derive(Clone, Copy, Debug)]
+/// A call of a routing table; ranges are the networks that they begin and end with.
+#[derive(Clone, Copy)]
 pub(crate) enum Call<'a> {
     Load(&'a [Row]),
-    Direct(Range, u8),
-    Hear(Range, u8, Addr, u8),
+    Direct(u16, u16, u8),
+    Hear(u16, u16, u8, Addr, u8),
     Age,
     Poison(Addr),
     Copy,
@@ -19,7 +19,7 @@ pub(crate) enum Call<'a> {
 }
 
 /// What a call answered.
-#[derive(Clone, Copy, Debug, PartialEq, Eq)]
+#[derive(Clone, Copy, PartialEq, Eq)]
 pub(crate) enum Answer {
     Nothing,
     Done(Result<(), Error>),
@@ -28,14 +28,27 @@ pub(crate) enum Answer {
     Found(Option<Row>),
 }
 
+pub(crate) const IGNORED: Answer = Answer::Heard(Ok(Change::Ignored));
+
+pub(crate) const CHANGED: Answer = Answer::Heard(Ok(Change::Changed));
+
+pub(crate) const ADDED: Answer = Answer::Heard(Ok(Change::Added));
+
+fn direct_answer<T: RouteTable>(table: &mut T, start: u16, end: u16, port: u8) -> Answer {
+    Answer::Done(match Range::new(start, end) {
+        Ok(range) => direct_again(table, range, port),
+        Err(error) => Err(error),
+    })
+}
+
 /// What the table answers.
 pub(crate) fn answer_of<T: RouteTable>(table: &mut T, call: &Call<'_>) -> Answer {
     match call {
         Call::Load(rows) => Answer::Done(load_again(table, rows)),
-        Call::Direct(range, port) => Answer::Done(direct_again(table, *range, *port)),
-        Call::Hear(range, distance, source, port) => {
-            Answer::Heard(hear_again(table, *range, *distance, *source, *port))
-        }
+        Call::Direct(start, end, port) => direct_answer(table, *start, *end, *port),
+        Call::Hear(start, end, distance, source, port) => Answer::Heard(hear_again(
+            table, *start, *end, *distance, *source, *port,
+        )),
         Call::Age => {
             table.age();
             Answer::Nothing
@@ -74,21 +87,23 @@ pub(crate) fn after(number: u32) -> u32 {
 
 /// A call that a number stands for. Ranges of 1, 11 and 21 networks begin at 1, 16 and so on,
 /// so that some are equal and some overlap; sources are four routers, on four ports.
-pub(crate) fn call_of<'a>(number: u32, rows: &'a [Row]) -> Result<Call<'a>, Error> {
-    let start = 1 + (number >> 8) % 40 * 15;
-    let last = start + (number >> 14) % 3 * 10;
-    let range = Range::new(start as u16, last as u16)?;
-    let source = at(20, ((number >> 16) % 4) as u8);
+pub(crate) fn call_of<'a>(number: u32, rows: &'a [Row]) -> Call<'a> {
+    let start = (1 + (number >> 8) % 40 * 15) as u16;
+    let end = start + ((number >> 14) % 3 * 10) as u16;
+    let source = Addr {
+        net: 20,
+        node: ((number >> 16) % 4) as u8,
+    };
     let port = ((number >> 18) % 4) as u8;
     let distance = ((number >> 20) % 20) as u8;
-    Ok(match number >> 27 {
+    match number >> 27 {
         0 => Call::Load(rows),
-        1 | 2 => Call::Direct(range, port),
+        1 | 2 => Call::Direct(start, end, port),
         3 | 4 => Call::Age,
         5 => Call::Poison(source),
         6 => Call::Copy,
         7 | 8 => Call::Row((number >> 10) as usize % 40),
-        9 | 10 => Call::RowFor(start as u16),
-        _ => Call::Hear(range, distance, source, port),
-    })
+        9 | 10 => Call::RowFor(start),
+        _ => Call::Hear(start, end, distance, source, port),
+    }
 }

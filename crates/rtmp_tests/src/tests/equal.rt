@@ -1,8 +1,11 @@
 //! Values that differ in one field alone.
 
-use super::rows::{at, row, tuple};
-use at_base::Error;
+use super::again::rows_again;
+use super::reading::tuple;
+use super::rows::{NEAR, Plain};
+use at_base::{Addr, Error};
 use rtmp::{Change, State};
+use std::alloc::Global;
 
 /// Each value equals itself and none of the others.
 fn all_differ<T: PartialEq>(values: &[T]) -> bool {
@@ -16,28 +19,28 @@ fn all_differ<T: PartialEq>(values: &[T]) -> bool {
     true
 }
 
-pub(crate) fn rows_differ() -> Result<bool, Error> {
-    let base = row(10, 19, 1, 2, at(20, 2))?;
-    let mut bad = base;
-    bad.state = State::Bad;
-    Ok(all_differ(&[
-        base,
-        row(11, 19, 1, 2, at(20, 2))?,
-        row(10, 18, 1, 2, at(20, 2))?,
-        row(10, 19, 2, 2, at(20, 2))?,
-        row(10, 19, 1, 1, at(20, 2))?,
-        row(10, 19, 1, 2, at(21, 2))?,
-        row(10, 19, 1, 2, at(20, 3))?,
-        bad,
-    ]))
+const ROWS: [Plain; 8] = [
+    (10, 19, 1, 2, NEAR, State::Good),
+    (11, 19, 1, 2, NEAR, State::Good),
+    (10, 18, 1, 2, NEAR, State::Good),
+    (10, 19, 2, 2, NEAR, State::Good),
+    (10, 19, 1, 1, NEAR, State::Good),
+    (10, 19, 1, 2, Addr { net: 21, node: 2 }, State::Good),
+    (10, 19, 1, 2, Addr { net: 20, node: 3 }, State::Good),
+    (10, 19, 1, 2, NEAR, State::Bad),
+];
+
+pub(crate) fn rows_differ(alloc: Global) -> Result<bool, Error> {
+    let rows = rows_again(alloc, &ROWS)?;
+    Ok(rows.len() == ROWS.len() && all_differ(rows.as_slice()))
 }
 
 pub(crate) fn tuples_differ() -> Result<bool, Error> {
     Ok(all_differ(&[
-        tuple(10, 19, 1)?,
-        tuple(11, 19, 1)?,
-        tuple(10, 18, 1)?,
-        tuple(10, 19, 2)?,
+        tuple(&(10, 19, 1))?,
+        tuple(&(11, 19, 1))?,
+        tuple(&(10, 18, 1))?,
+        tuple(&(10, 19, 2))?,
     ]))
 }
 

@@ -7,7 +7,7 @@ use rtmp::{Change, RouteTable, Row, State};
 use std::alloc::Global;
 
 /// What is known of a range.
-#[derive(Clone, Copy, Debug)]
+#[derive(Clone, Copy)]
 pub(crate) struct Known {
     distance: u8,
     port: u8,
@@ -43,7 +43,7 @@ impl Known {
 }
 
 /// Ranges, in no order, and what is known of each.
-#[derive(Debug, Drop)]
+#[derive(Drop)]
 pub(crate) struct Model {
     entries: Vec<(Range, Known)>,
 }
@@ -81,7 +81,8 @@ impl Model {
         Ok(())
     }
 
-    fn direct(&mut self, range: Range, port: u8) -> Result<(), Error> {
+    fn direct(&mut self, start: u16, end: u16, port: u8) -> Result<(), Error> {
+        let range = Range::new(start, end)?;
         self.entries.retain(|entry| !cross(entry.0, range));
         let known = Known {
             distance: 0,
@@ -92,25 +93,38 @@ impl Model {
         self.add(range, known)
     }
 
+    /// What comes of a range that has an entry; nothing where it has none.
+    fn hear_known(&mut self, range: Range, distance: u8, source: Addr, port: u8) -> Option<Change> {
+        for entry in self.entries.iter_mut() {
+            if entry.0 == range {
+                return Some(entry.1.hear(distance, source, port));
+            }
+        }
+        None
+    }
+
+    fn crosses(&self, range: Range) -> bool {
+        for entry in &self.entries {
+            if cross(entry.0, range) {
+                return true;
+            }
+        }
+        false
+    }
+
     fn hear(
         &mut self,
-        range: Range,
+        start: u16,
+        end: u16,
         distance: u8,
         source: Addr,
         port: u8,
     ) -> Result<Change, Error> {
-        let mut change = None;
-        let mut crossed = false;
-        for entry in self.entries.iter_mut() {
-            if entry.0 == range {
-                change = Some(entry.1.hear(distance, source, port));
-            }
-            crossed |= cross(entry.0, range);
-        }
-        if let Some(change) = change {
+        let range = Range::new(start, end)?;
+        if let Some(change) = self.hear_known(range, distance, source, port) {
             return Ok(change);
         }
-        if crossed || distance > 14 {
+        if distance > 14 || self.crosses(range) {
             return Ok(Change::Ignored);
         }
         let known = Known {
@@ -144,12 +158,21 @@ impl Model {
         }
     }
 
+    /// How many ranges begin below the network.
+    fn below(&self, net: u16) -> usize {
+        let mut count = 0usize;
+        for entry in &self.entries {
+            if entry.0.start() < net {
+                count = count.saturating_add(1);
+            }
+        }
+        count
+    }
+
     /// The row of the range below which so many ranges begin.
     fn row(&self, index: usize) -> Option<Row> {
         for entry in &self.entries {
-            let start = entry.0.start();
-            let below = self.entries.iter().filter(|other| other.0.start() < start);
-            if below.count() == index {
+            if self.below(entry.0.start()) == index {
                 return Some(row_of(entry));
             }
         }
@@ -170,9 +193,9 @@ impl Model {
     pub(crate) fn answer(&mut self, call: &Call<'_>) -> Answer {
         match call {
             Call::Load(rows) => Answer::Done(self.load(rows)),
-            Call::Direct(range, port) => Answer::Done(self.direct(*range, *port)),
-            Call::Hear(range, distance, source, port) => {
-                Answer::Heard(self.hear(*range, *distance, *source, *port))
+            Call::Direct(start, end, port) => Answer::Done(self.direct(*start, *end, *port)),
+            Call::Hear(start, end, distance, source, port) => {
+                Answer::Heard(self.hear(*start, *end, *distance, *source, *port))
             }
             Call::Age => {
                 self.age();

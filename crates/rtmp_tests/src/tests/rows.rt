@@ -1,57 +1,51 @@
 //! Rows and tables of the tests.
 
-use super::again::table_of;
+use super::again::{load_of, rows_again};
 use at_base::{Addr, Error, Range};
-use rtmp::{PlainTable, RouteTable, Row, State, Tuple};
+use rtmp::{RouteTable, Row, State};
 use std::alloc::Global;
 
-pub(crate) fn at(net: u16, node: u8) -> Addr {
-    Addr { net, node }
-}
+/// A row in plain numbers: its range, distance, port, next router and state.
+pub(crate) type Plain = (u16, u16, u8, u8, Addr, State);
 
-/// A good row of this range; it is direct where there is no next router.
-pub(crate) fn row(start: u16, end: u16, distance: u8, port: u8, next: Addr) -> Result<Row, Error> {
+/// 20.2, the next router of most rows.
+pub(crate) const NEAR: Addr = Addr { net: 20, node: 2 };
+
+/// 40.4, another router.
+pub(crate) const FAR: Addr = Addr { net: 40, node: 4 };
+
+/// The row of a router's own cable on port 0.
+pub(crate) const CABLE_10: Plain = (10, 19, 0, 0, Addr::NONE, State::Good);
+
+/// That on port 1.
+pub(crate) const CABLE_20: Plain = (20, 29, 0, 1, Addr::NONE, State::Good);
+
+/// The rows of a router with ports 10.1 and 20.1: two cables of its own, and one behind 20.2.
+pub(crate) const THREE: [Plain; 3] = [CABLE_10, CABLE_20, (30, 39, 1, 1, NEAR, State::Good)];
+
+/// The row of these numbers.
+pub(crate) fn row(plain: &Plain) -> Result<Row, Error> {
+    let (start, end, distance, port, next, state) = *plain;
     Ok(Row {
         range: Range::new(start, end)?,
         distance,
         port,
         next,
-        state: State::Good,
+        state,
     })
 }
 
-pub(crate) fn tuple(start: u16, end: u16, distance: u8) -> Result<Tuple, Error> {
-    Ok(Tuple {
-        range: Range::new(start, end)?,
-        distance,
-    })
-}
-
-/// The rows of a router with ports 10.1 and 20.1: two cables of its own, and one behind 20.2.
-pub(crate) fn three_rows() -> Result<[Row; 3], Error> {
-    Ok([
-        row(10, 19, 0, 0, Addr::NONE)?,
-        row(20, 29, 0, 1, Addr::NONE)?,
-        row(30, 39, 1, 1, at(20, 2))?,
-    ])
-}
-
-pub(crate) fn three(alloc: Global) -> Result<PlainTable, Error> {
-    table_of(alloc, &three_rows()?)
-}
-
-/// A table with one row, 30-39, at this distance over 20.2 on port 1 and in this state.
-pub(crate) fn one(alloc: Global, distance: u8, state: State) -> Result<PlainTable, Error> {
-    let mut known = row(30, 39, distance, 1, at(20, 2))?;
-    known.state = state;
-    table_of(alloc, &[known])
+/// A table with these rows.
+pub(crate) fn table_of<T: RouteTable>(alloc: Global, plains: &[Plain]) -> Result<T, Error> {
+    let rows = rows_again(alloc, plains)?;
+    load_of(alloc, rows.as_slice())
 }
 
 fn many_rows(alloc: Global, count: u16) -> Result<Vec<Row>, Error> {
     let mut rows = Vec::with_capacity(alloc, 201)?;
     for index in 0..count.min(201) {
         let start = 1 + 100 * index;
-        rows.push(row(start, start + 9, 1, 1, at(20, 2))?)?;
+        rows.push(row(&(start, start + 9, 1, 1, NEAR, State::Good))?)?;
     }
     Ok(rows)
 }
@@ -82,4 +76,14 @@ pub(crate) fn has_rows<T: RouteTable>(table: &T, rows: &[Row]) -> bool {
         }
     }
     table.len() == rows.len() && table.row(rows.len()).is_none()
+}
+
+/// The same of rows in plain numbers.
+pub(crate) fn has<T: RouteTable>(table: &T, plains: &[Plain]) -> Result<bool, Error> {
+    for (index, plain) in plains.iter().enumerate() {
+        if table.row(index) != Some(row(plain)?) {
+            return Ok(false);
+        }
+    }
+    Ok(table.len() == plains.len() && table.row(plains.len()).is_none())
 }

@@ -1,6 +1,6 @@
 //! Calls that are made again where a request for memory was refused.
 
-use at_base::{Bytes, Cause, Error};
+use at_base::{Bytes, Error};
 use std::alloc::Global;
 use table_image::{Image, read, write};
 
@@ -11,11 +11,6 @@ pub(crate) fn read_again(alloc: Global, bytes: &[u8]) -> Result<Image, Error> {
         Err(Error::Memory) => read(alloc, bytes),
         answer => answer,
     }
-}
-
-/// The refusal of bytes that spell no image.
-pub(crate) fn bad(place: u32, cause: Cause) -> Option<Error> {
-    Some(Error::BadImage(place, cause))
 }
 
 /// What `write` gives, called again where its memory was refused.
@@ -34,10 +29,8 @@ pub(crate) fn is_written_as(alloc: Global, image: &Image, bytes: &[u8]) -> bool 
     }
 }
 
-/// A vector of three numbers, made again where its memory was refused.
-pub(crate) fn three_numbers(alloc: Global) -> Option<Vec<u8>> {
-    match Vec::from_slice(alloc, &[7, 8, 9]) {
-        Ok(made) => Some(made),
-        Err(_) => Vec::from_slice(alloc, &[7, 8, 9]).ok(),
-    }
+/// The bytes are an image that is written as these bytes.
+pub(crate) fn is_kept(alloc: Global, bytes: &[u8]) -> Result<bool, Error> {
+    let image = read_again(alloc, bytes)?;
+    Ok(is_written_as(alloc, &image, bytes))
 }

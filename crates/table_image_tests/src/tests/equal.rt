@@ -27,10 +27,14 @@ fn cable(start: u16, end: u16, text: &[u8]) -> Result<Cable, Error> {
 }
 
 /// Each field of a cable is compared.
-pub(crate) fn cables_differ() -> Result<bool, Error> {
-    let others = [cable(9, 2, b"A")?, cable(1, 9, b"A")?, cable(1, 2, b"a")?];
+fn cables_differ() -> Result<bool, Error> {
     let base = cable(1, 2, b"A")?;
-    Ok(differs(&base, &others) && base == cable(1, 2, b"A")?)
+    for (start, end, text) in [(9, 2, b"A"), (1, 9, b"A"), (1, 2, b"a")] {
+        if !(base != cable(start, end, text)?) {
+            return Ok(false);
+        }
+    }
+    Ok(base == cable(1, 2, b"A")?)
 }
 
 fn list(start: u16, end: u16, complete: bool, text: &[u8]) -> Result<ZoneList, Error> {
@@ -43,15 +47,19 @@ fn list(start: u16, end: u16, complete: bool, text: &[u8]) -> Result<ZoneList, E
 }
 
 /// Each field of a zone list is compared.
-pub(crate) fn lists_differ() -> Result<bool, Error> {
-    let others = [
-        list(9, 2, true, b"A")?,
-        list(1, 9, true, b"A")?,
-        list(1, 2, false, b"A")?,
-        list(1, 2, true, b"B")?,
-    ];
+fn lists_differ() -> Result<bool, Error> {
     let base = list(1, 2, true, b"A")?;
-    Ok(differs(&base, &others) && base == list(1, 2, true, b"A")?)
+    for (start, end, complete, text) in [
+        (9, 2, true, b"A"),
+        (1, 9, true, b"A"),
+        (1, 2, false, b"A"),
+        (1, 2, true, b"B"),
+    ] {
+        if !(base != list(start, end, complete, text)?) {
+            return Ok(false);
+        }
+    }
+    Ok(base == list(1, 2, true, b"A")?)
 }
 
 const AT: Addr = Addr { net: 3, node: 4 };
@@ -67,7 +75,7 @@ fn port(cable: u8, address: Addr, hardware: Hw) -> Port {
 }
 
 /// Each field of a port is compared.
-pub(crate) fn ports_differ() -> bool {
+fn ports_differ() -> bool {
     let others = [
         port(1, AT, HARDWARE),
         port(0, Addr { net: 9, node: 4 }, HARDWARE),
@@ -80,7 +88,7 @@ pub(crate) fn ports_differ() -> bool {
 }
 
 /// Each field of a row is compared.
-pub(crate) fn rows_differ() -> bool {
+fn rows_differ() -> bool {
     let base = Row {
         start: 1,
         end: 2,
@@ -115,7 +123,7 @@ pub(crate) fn rows_differ() -> bool {
 }
 
 /// Each field of a name is compared.
-pub(crate) fn names_differ() -> Result<bool, Error> {
+fn names_differ() -> Result<bool, Error> {
     let base = NodeName {
         socket: 1,
         enumerator: 2,
@@ -184,17 +192,21 @@ fn node(other: Other) -> Result<Node, Error> {
 }
 
 /// Each field of a node is compared.
-pub(crate) fn nodes_differ() -> Result<bool, Error> {
-    let others = [
-        node(Other::First)?,
-        node(Other::Second)?,
-        node(Other::Third)?,
-        node(Other::Fourth)?,
-        node(Other::Fifth)?,
-        node(Other::Sixth)?,
-    ];
+fn nodes_differ() -> Result<bool, Error> {
     let base = node(Other::Nothing)?;
-    Ok(differs(&base, &others) && base == node(Other::Nothing)?)
+    for other in [
+        Other::First,
+        Other::Second,
+        Other::Third,
+        Other::Fourth,
+        Other::Fifth,
+        Other::Sixth,
+    ] {
+        if !(base != node(other)?) {
+            return Ok(false);
+        }
+    }
+    Ok(base == node(Other::Nothing)?)
 }
 
 fn router(cable: u8, distance: u8, complete: bool) -> Result<Router, Error> {
@@ -213,12 +225,25 @@ fn router(cable: u8, distance: u8, complete: bool) -> Result<Router, Error> {
 }
 
 /// Each field of a router is compared.
-pub(crate) fn routers_differ() -> Result<bool, Error> {
-    let others = [
-        router(9, 0, true)?,
-        router(0, 9, true)?,
-        router(0, 0, false)?,
-    ];
+fn routers_differ() -> Result<bool, Error> {
     let base = router(0, 0, true)?;
-    Ok(differs(&base, &others) && base == router(0, 0, true)?)
+    for (cable, distance, complete) in [(9, 0, true), (0, 9, true), (0, 0, false)] {
+        if !(base != router(cable, distance, complete)?) {
+            return Ok(false);
+        }
+    }
+    Ok(base == router(0, 0, true)?)
+}
+
+/// Each field of each part is compared.
+pub(crate) fn parts_differ() -> Result<bool, Error> {
+    Ok(
+        ports_differ()
+            && rows_differ()
+            && cables_differ()?
+            && lists_differ()?
+            && names_differ()?
+            && nodes_differ()?
+            && routers_differ()?,
+    )
 }

@@ -19,6 +19,19 @@ pub(crate) enum TooLong {
     Names,
 }
 
+/// Each of them.
+pub(crate) const ALL: [TooLong; 9] = [
+    TooLong::Cables,
+    TooLong::Zones,
+    TooLong::Routers,
+    TooLong::Ports,
+    TooLong::Rows,
+    TooLong::ZoneLists,
+    TooLong::ListedZones,
+    TooLong::Nodes,
+    TooLong::Names,
+];
+
 /// So many values of a kind.
 fn copies<T: Copy>(alloc: Global, value: T, count: u8) -> Result<Listed<T>, Error> {
     let mut values = Vec::new(alloc);
@@ -124,9 +137,19 @@ fn with_too_long(alloc: Global, list: TooLong) -> Result<Image, Error> {
 }
 
 /// What `Image::make` answers to parts with such a list, called again where memory was refused.
-pub(crate) fn refusal_of(alloc: Global, list: TooLong) -> Option<Error> {
+fn refusal_of(alloc: Global, list: TooLong) -> Option<Error> {
     match with_too_long(alloc, list) {
         Err(Error::Memory) => with_too_long(alloc, list).err(),
         answer => answer.err(),
     }
+}
+
+/// The index of the first of these lists that may be too long.
+pub(crate) fn let_pass_too_long(alloc: Global, lists: &[TooLong]) -> Option<usize> {
+    for (index, list) in lists.iter().enumerate() {
+        if refusal_of(alloc, *list) != Some(Error::Full) {
+            return Some(index);
+        }
+    }
+    None
 }

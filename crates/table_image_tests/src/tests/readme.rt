@@ -1,11 +1,12 @@
 //! The example of the README of `table_image`, as it is there.
 
 use at_base::Error;
+use example_images::three_cables;
 use std::alloc::Global;
 use table_image::{Row, read};
 
 /// A row as a line: its networks, its distance, and its next router, if it has one.
-pub(crate) fn line_of(alloc: Global, row: &Row) -> Result<String, Error> {
+fn line_of(alloc: Global, row: &Row) -> Result<String, Error> {
     let (start, end, distance, next) = (row.start, row.end, row.distance, row.next);
     if row.is_direct() {
         return Ok(format!(in alloc; "{start}-{end} direct")?);
@@ -14,7 +15,7 @@ pub(crate) fn line_of(alloc: Global, row: &Row) -> Result<String, Error> {
 }
 
 /// The rows of a router of the image that the bytes spell, each as a line.
-pub(crate) fn lines_of(alloc: Global, bytes: &[u8], router: usize) -> Result<Vec<String>, Error> {
+fn lines_of(alloc: Global, bytes: &[u8], router: usize) -> Result<Vec<String>, Error> {
     let image = read(alloc, bytes)?;
     let mut lines = Vec::new(alloc);
     if let Some(router) = image.routers().get(router) {
@@ -23,4 +24,19 @@ pub(crate) fn lines_of(alloc: Global, bytes: &[u8], router: usize) -> Result<Vec
         }
     }
     Ok(lines)
+}
+
+/// The rows of the first router of the three cables are these lines.
+pub(crate) fn prints(alloc: Global, want: &[&str]) -> Result<bool, Error> {
+    let bytes = three_cables::image();
+    let lines = match lines_of(alloc, &bytes, 0) {
+        Err(Error::Memory) => lines_of(alloc, &bytes, 0)?,
+        answer => answer?,
+    };
+    for (line, text) in lines.iter().zip(want.iter()) {
+        if line.as_str() != *text {
+            return Ok(false);
+        }
+    }
+    Ok(lines.len() == want.len())
 }

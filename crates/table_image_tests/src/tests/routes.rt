@@ -1,12 +1,45 @@
 //! Rows of an image as rows of routing tables.
 
 use super::again::read_again;
-use at_base::{Addr, Error, Range, What};
+use at_base::{Addr, Error, What};
 use example_images::three_cables;
 use example_images::three_cables::FIRST_ROW_1;
 use rtmp::{Row, State};
 use std::alloc::Global;
 use table_image::Image;
+
+/// A good row: its range, distance, port and next router.
+type Wanted = (u16, u16, u8, u8, Addr);
+
+/// The rows of the first of two routers.
+const FIRST: [Wanted; 3] = [
+    (10, 19, 0, 0, Addr::NONE),
+    (20, 29, 0, 1, Addr::NONE),
+    (30, 39, 1, 1, Addr { net: 20, node: 2 }),
+];
+
+/// The rows of the second.
+const SECOND: [Wanted; 3] = [
+    (10, 19, 1, 0, Addr { net: 20, node: 1 }),
+    (20, 29, 0, 0, Addr::NONE),
+    (30, 39, 0, 1, Addr::NONE),
+];
+
+fn is_row(row: &Row, want: &Wanted) -> bool {
+    let (start, end, distance, port, next) = *want;
+    (row.range.start(), row.range.end()) == (start, end)
+        && (row.distance, row.port, row.next) == (distance, port, next)
+        && row.state == State::Good
+}
+
+fn are_rows(rows: &[Row], want: &[Wanted]) -> bool {
+    for (row, other) in rows.iter().zip(want.iter()) {
+        if !is_row(row, other) {
+            return false;
+        }
+    }
+    rows.len() == want.len()
+}
 
 /// What `rows_of` gives, called again where its memory was refused.
 fn rows_again(alloc: Global, image: &Image, router: u8) -> Result<Vec<Row>, Error> {
@@ -16,40 +49,32 @@ fn rows_again(alloc: Global, image: &Image, router: u8) -> Result<Vec<Row>, Erro
     }
 }
 
-fn row(start: u16, end: u16, distance: u8, port: u8, next: Addr) -> Result<Row, Error> {
-    Ok(Row {
-        range: Range::new(start, end)?,
-        distance,
-        port,
-        next,
-        state: State::Good,
-    })
+fn has_rows(alloc: Global, image: &Image, router: u8, want: &[Wanted]) -> bool {
+    match rows_again(alloc, image, router) {
+        Ok(rows) => are_rows(rows.as_slice(), want),
+        Err(_) => false,
+    }
 }
 
-/// The rows of the first of two routers; a third one doesn't exist.
+fn refuses(alloc: Global, image: &Image, router: u8, error: Error) -> bool {
+    match rows_again(alloc, image, router) {
+        Ok(_) => false,
+        Err(refused) => refused == error,
+    }
+}
+
+/// The rows of two routers; a third one doesn't exist.
 pub(crate) fn has_routes(alloc: Global) -> Result<bool, Error> {
     let image = read_again(alloc, &three_cables::image())?;
-    let rows = rows_again(alloc, &image, 0)?;
-    let expected = [
-        row(10, 19, 0, 0, Addr::NONE)?,
-        row(20, 29, 0, 1, Addr::NONE)?,
-        row(30, 39, 1, 1, Addr { net: 20, node: 2 })?,
-    ];
-    let second = rows_again(alloc, &image, 1)?;
-    let third = rows_again(alloc, &image, 2);
     Ok(
-        rows.as_slice() == expected.as_slice()
-            && second.len() == 3
-            && matches!(third, Err(Error::NoSuch(What::Router))),
+        has_rows(alloc, &image, 0, &FIRST)
+            && has_rows(alloc, &image, 1, &SECOND)
+            && refuses(alloc, &image, 2, Error::NoSuch(What::Router)),
     )
 }
 
 /// An image may have a row from network 0 on, which is no range.
 pub(crate) fn has_no_range(alloc: Global) -> Result<bool, Error> {
-    let mut bytes = three_cables::image();
-    bytes[FIRST_ROW_1 + 1] = 0;
-    let image = read_again(alloc, &bytes)?;
-    let first = rows_again(alloc, &image, 0);
-    let second = rows_again(alloc, &image, 1);
-    Ok(matches!(first, Err(Error::BadRange)) && second.is_ok())
+    let image = read_again(alloc, &three_cables::image_with(FIRST_ROW_1 + 1, 0))?;
+    Ok(refuses(alloc, &image, 0, Error::BadRange) && has_rows(alloc, &image, 1, &SECOND))
 }

@@ -7,4 +7,5 @@ use Rattle.rtmp.proofs.plain.rows_are_apart.Given as goal
 abbrev pub invariant-loop-row : goal.invariant-loop-row
 invariant-loop-row l =
     (are_above 0 l.rows ≡ are_above l.end (drop l.row-index l.rows))
-    × (list_all (λ r. is_range r.range.start r.range.end) l.rows ≡ list_all (λ r. is_range r.range.start r.range.end) (drop l.row-index l.rows))
+    × (list_all (λ r. is_range r.range.start r.range.end) l.rows
+      ≡ list_all (λ r. is_range r.range.start r.range.end) (drop l.row-index l.rows))
