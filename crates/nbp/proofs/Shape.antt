@@ -1,7 +1,7 @@
 -- The format of a packet: each part stands where its projection finds it; the bytes of a packet of one tuple; and that
 -- they are read back.
 use Rattle.std.proofs.Common.{◌≡◌, ℕ, zero, suc, ◌+◌, ◌*◌, ◌/◌, ◌<◌, ◌≤◌, Bool, true, false, cond, List, [], ◌∷◌, ◌++◌, length, Some, None}
-use Rattle.std.proofs.Common.{Ok, refl, sym, ap, ◌∙◌, arith, append_assoc}
+use Rattle.std.proofs.Common.{refl, sym, ap, ◌∙◌, arith, append_assoc}
 use Rattle.std.specs.Prelude.{nat_lt, ◌||◌, ◌==◌, ◌%◌}
 use Rattle.std.specs.Int.{byte_at}
 use Rattle.std.proofs.lemmas.Bool.{ltb-false, le-ltb, eqb-true}
@@ -9,11 +9,10 @@ use Rattle.std.proofs.lemmas.List.{append-nil}
 use Rattle.at_base.specs.declared.error.Error.{Error}
 use Rattle.at_base.specs.declared.error.Field.TheVariants.{NameLength}
 use Rattle.at_base.specs.Packets.{packets, any, within, text, address}
-use Rattle.at_base.specs.Reading.{read}
 use Rattle.at_base.specs.Spelling.{IsValue, ListPasses, Begins, bytes_of}
 use Rattle.at_base.specs.Lawful.{IsLawful}
-use Rattle.at_base.proofs.Fields.{IsBytes, not_wrong}
-use Rattle.at_base.proofs.Laws.{read_takes, follows_all}
+use Rattle.at_base.proofs.Fields.{not_wrong}
+use Rattle.at_base.proofs.Laws.{follows_all}
 use Rattle.at_base.proofs.Packets.{address_lawful, text_lawful}
 use Rattle.at_base.proofs.Readers.{begins_one, spelled_begins}
 use Rattle.nbp.specs.declared.packet.Function.{Function}
@@ -67,16 +66,6 @@ packet_lawful = (
     λ id q. (λ tuples len. refl, ((λ low. tuple_lawful), λ tuples len. (refl, tt))),
   ),
 )
-
--- a text that is read has so many bytes
-pub text_short : (least : ℕ) (bytes s rest : List ℕ) → IsBytes bytes → read packets (text least any) bytes ≡ Ok (s, rest)
-    → (least ≤ length s) × (length s ≤ 32)
-unfolding text
-text_short least bytes s rest fits e =
-    let t = read_takes packets (text least any) (text_lawful least any) bytes (s, rest) fits e in
-    let some = not_wrong (nat_lt (length s) least) _ _ t.1.0.1 in
-    let few = not_wrong (nat_lt 32 (length s)) _ _ some.1 in
-    (ltb-false _ _ some.0, ltb-false _ _ few.0)
 
 -- ---- The bytes of a packet of one tuple
 

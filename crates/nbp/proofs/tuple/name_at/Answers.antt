@@ -1,5 +1,5 @@
 use Rattle.std.proofs.Common.{arith}
-use Rattle.nbp.proofs.Shape.{text_short}
+use Rattle.at_base.proofs.Packets.{text_short}
 use Rattle.nbp.proofs.tuple.name_at.Goals as goal
 
 pub returns-clause-some : goal.returns-clause-some
