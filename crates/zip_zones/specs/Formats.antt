@@ -82,11 +82,12 @@ info_of _ = no_info
 
 -- ---- The formats
 
--- the default zone, where it is there
+-- the bytes of a name, if there is one
 abbrev pub name_or_none : Option (List ℕ) → List ℕ
 name_or_none None = []
 name_or_none (Some name) = name
 
+-- the default zone, where it is there
 unfoldable pub default_zone : Bool → Grammar Error true (Option (List ℕ))
 default_zone false = done None
 default_zone true = part (text 1 wrong_name) name_or_none (λ name. done (Some name))

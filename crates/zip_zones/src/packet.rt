@@ -4,7 +4,8 @@ ghost use Rattle.std.specs.Prelude.{◌≡◌, ◌/◌, ◌==◌, [], length};
 ghost use Rattle.at_base.specs.Grammar.{number, one};
 ghost use Rattle.at_base.specs.Packets.{packets, text, any};
 ghost use Rattle.at_base.specs.Reading.{Gives, Reads, field_at, read as read_by};
-ghost use Rattle.zip_zones.specs.Formats.{body, default_zone, function_of, packet as spelled_packet};
+ghost use Rattle.zip_zones.specs.Formats.{body, default_zone, function_of};
+ghost use Rattle.zip_zones.specs.Formats.{packet as spelled_packet};
 ghost use Rattle.zip_zones.specs.Formats.{wrong_function};
 
 use crate::entries::{Entries, check_entries};

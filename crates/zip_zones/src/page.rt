@@ -66,8 +66,8 @@ fn names_after(start: u16, names: &[Name]) -> &[Name]
     &names[skipped..]
 }
 
-/// The page that begins with the name of an index, from 1: as many names as fit into 578 bytes. Index
-/// 0 counts as 1; past the end there are none, and the page is the last.
+/// The page that begins with the name of an index, from 1: as many names as fit into 578 bytes.
+/// Index 0 counts as 1; past the end there are none, and the page is the last.
 ///
 /// Inside AppleTalk, the chapter on ZIP. Error: `Memory`.
 pub fn zone_list_page(alloc: Global, start: u16, names: &[Name]) -> Result<Page, Error>
