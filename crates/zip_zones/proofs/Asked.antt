@@ -6,7 +6,8 @@ use Rattle.zip_zones.specs.Zones.{Known, due, is_answered}
 
 one_due : (row : Row) (rows : List Row) (zones : List Known) → due (row ∷ []) zones ++ due rows zones ≡ due (row ∷ rows) zones
 one_due row rows zones =
-    elim (is_usable row.state && not (is_answered zones row.range)) as (λ b. map (λ r. r.range.start) (if b then row ∷ [] else []) ++ due rows zones
+    elim (is_usable row.state && not (is_answered zones row.range))
+    as (λ b. map (λ r. r.range.start) (if b then row ∷ [] else []) ++ due rows zones
     ≡ map (λ r. r.range.start) (if b then row ∷ filter (λ r. is_usable r.state && not (is_answered zones r.range)) rows
     else filter (λ r. is_usable r.state && not (is_answered zones r.range)) rows)) [
       | true ↦ refl
@@ -17,5 +18,6 @@ one_due row rows zones =
 pub due_next : (starts : List ℕ) (row : Row) (rows : List Row) (zones : List Known)
     → (starts ++ due (row ∷ []) zones) ++ due rows zones ≡ starts ++ due (row ∷ rows) zones
 due_next starts row rows zones =
-    let grouped : (starts ++ due (row ∷ []) zones) ++ due rows zones ≡ starts ++ (due (row ∷ []) zones ++ due rows zones) = simp append_assoc in
+    let grouped : (starts ++ due (row ∷ []) zones) ++ due rows zones
+    ≡ starts ++ (due (row ∷ []) zones ++ due rows zones) = simp append_assoc in
     grouped ∙ ap (λ (l : List ℕ). starts ++ l) (one_due row rows zones)

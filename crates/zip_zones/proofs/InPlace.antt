@@ -28,7 +28,8 @@ unfolding entries_in
 step nets low bytes e after fits whole h =
     let first = first_of (λ n. read packets (entry n)) (next_net nets) shrinks low bytes e after fits h in
     (elim (many_at (λ n. read packets (entry n)) (next_net nets) (next_net nets e) (length after) after)
-    as (λ r. many_at (λ n. read packets (entry n)) (next_net nets) (next_net nets e) (length after) after ≡ r → Step nets low bytes e after) [
+    as (λ r. many_at (λ n. read packets (entry n)) (next_net nets) (next_net nets e) (length after) after ≡ r
+    → Step nets low bytes e after) [
       | Ok es ↦ λ o. record { rest = rw o refl; is = rw (first, o) refl }
       | Err f ↦ λ o. absurd (let bad : Err f ≡ ok {E = Error} (entries_in nets low bytes) = sym (first ∙ rw o refl) ∙ whole in cc)
     ]) refl

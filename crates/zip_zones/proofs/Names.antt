@@ -47,7 +47,8 @@ distinct_last (m ∷ names) name none h =
 
 pub distinct_with : (names : List (List ℕ)) (name : List ℕ) → are_distinct names ≡ true → are_distinct (with_name names name) ≡ true
 distinct_with names name h =
-    (elim (list_any (same_name name) names) as (λ b. list_any (same_name name) names ≡ b → are_distinct (if b then names else names ++ name ∷ []) ≡ true) [
+    (elim (list_any (same_name name) names) as (λ b. list_any (same_name name) names ≡ b
+    → are_distinct (if b then names else names ++ name ∷ []) ≡ true) [
       | true ↦ λ t. h
       | false ↦ λ t. distinct_last names name t h
     ]) refl

@@ -98,11 +98,16 @@ number_is (suc (suc (suc (suc (suc zero))))) h = refl
 number_is (suc (suc (suc (suc (suc (suc zero)))))) h = refl
 number_is (suc (suc (suc (suc (suc (suc (suc zero))))))) h = absurd cc
 number_is (suc (suc (suc (suc (suc (suc (suc (suc zero)))))))) h = refl
-number_is (suc (suc (suc (suc (suc (suc (suc (suc (suc n))))))))) h = absurd (past (suc (suc (suc (suc (suc (suc (suc (suc (suc n))))))))) (omega arith) h)
+number_is (suc (suc (suc (suc (suc (suc (suc (suc (suc n))))))))) h = absurd (past (suc (suc (suc (suc (suc (suc (suc (suc
+    (suc n))))))))) (omega arith) h)
 
 pub packet_lawful : IsLawful packet
 unfolding packet
 packet_lawful = (
   λ y h. omega (arith, body_long (function_of (number_of (function_in y))) y h.1),
-  λ n p. (subst (λ (m : ℕ). Has (λ p. number_of (function_in p)) m (body (function_of n))) (number_is n p.1) (head_has (function_of n)), body_lawful (function_of n)),
+  λ n p. (
+    subst (λ (m : ℕ). Has (λ p. number_of (function_in p)) m (body (function_of n))) (number_is n p.1) (head_has
+        (function_of n)),
+    body_lawful (function_of n),
+  ),
 )

@@ -1,5 +1,6 @@
 -- Zone tables as lists by rising range: where a range stands, and what each change keeps.
-use Rattle.std.proofs.Common.{◌≡◌, ℕ, suc, ◌+◌, ◌<◌, ◌≤◌, Bool, true, false, not, ◌&&◌, ◌==◌, List, [], ◌∷◌, length, filter, set, insert, refl, sym, ap, ◌∙◌, arith, nat_lt, nat_le}
+use Rattle.std.proofs.Common.{◌≡◌, ℕ, suc, ◌+◌, ◌<◌, ◌≤◌, Bool, true, false, not, ◌&&◌, ◌==◌, List, [], ◌∷◌, length, filter, set}
+use Rattle.std.proofs.Common.{insert, refl, sym, ap, ◌∙◌, arith, nat_lt, nat_le}
 use Rattle.std.specs.Prelude.{Option, Some, None, is_some, slice_get, slice_set, if◌then◌else◌}
 use Rattle.std.specs.List.{list_all}
 use Rattle.std.proofs.lemmas.Bool.Decides.{nat_tests}
@@ -15,7 +16,8 @@ use Rattle.zip_zones.specs.Places.{before, IsAt, IsBefore}
 
 pub known_ends : (k : Known) → is_known k ≡ true → (1 ≤ k.range.start) × (k.range.start ≤ k.range.end)
 known_ends k h =
-    let a = and_parts (is_range k.range.start k.range.end && nat_le k.total 64 && nat_le (length k.names) k.total) (are_distinct k.names) h in
+    let a = and_parts (is_range k.range.start k.range.end && nat_le k.total 64 && nat_le (length k.names) k.total)
+    (are_distinct k.names) h in
     let b = and_parts (is_range k.range.start k.range.end && nat_le k.total 64) (nat_le (length k.names) k.total) a.0 in
     let c = and_parts (is_range k.range.start k.range.end) (nat_le k.total 64) b.0 in
     let e = ends_of k.range.start k.range.end c.0 in
@@ -42,7 +44,8 @@ not_same_after a b lt =
 -- ---- Where a range stands
 
 -- above it there is none
-none_above : (range : Span) (high : ℕ) (table : List Known) → range.start ≤ high → list_all is_known table ≡ true → are_above high table ≡ true
+none_above : (range : Span) (high : ℕ) (table : List Known) → range.start ≤ high → list_all is_known table ≡ true
+    → are_above high table ≡ true
     → known_for range table ≡ None
 none_above range high [] le each h = refl
 none_above range high (k ∷ table) le each h =
@@ -103,7 +106,8 @@ pub put_before : (k : Known) (table : List Known)
 put_before k [] other = refl
 put_before k (y ∷ table) other =
     (elim (nat_lt y.range.start k.range.start) as (λ b. nat_lt y.range.start k.range.start ≡ b
-    → ((x : Known) → slice_get (y ∷ table) (if b then suc (before k.range.start table) else 0) ≡ Some x → same_range x.range k.range ≡ false)
+    → ((x : Known) → slice_get (y ∷ table) (if b then suc (before k.range.start table) else 0) ≡ Some x
+    → same_range x.range k.range ≡ false)
     → with_known k (y ∷ table) ≡ insert (y ∷ table) (if b then suc (before k.range.start table) else 0) k) [
       | true ↦ λ t other. rw t (ap (λ (l : List Known). y ∷ l) (put_before k table other))
       | false ↦ λ t other. rw (t, other y refl) refl
@@ -185,7 +189,8 @@ without_map range table h = record {
 
 -- two ranges that don't overlap: the one that starts first ends first
 apart : (k known : Known) → overlaps k.range known.range ≡ false → is_known k ≡ true → is_known known ≡ true
-    → (k.range.start < known.range.start → k.range.end < known.range.start) × (known.range.start ≤ k.range.start → known.range.end < k.range.start)
+    → (k.range.start < known.range.start → k.range.end < known.range.start) × (known.range.start ≤ k.range.start
+    → known.range.end < k.range.start)
 apart k known none good new =
     let a = known_ends k good in
     let b = known_ends known new in
@@ -201,14 +206,16 @@ no_overlap a b h n = by_test (overlaps a b) (same_range a b) h n
     by_test true false h n = cc
 
 pub above_with : (known : Known) (low : ℕ) (table : List Known) → is_known known ≡ true → list_all is_known table ≡ true
-    → overlaps_another known.range table ≡ false → low < known.range.start → are_above low table ≡ true → are_above low (with_known known table) ≡ true
+    → overlaps_another known.range table ≡ false → low < known.range.start → are_above low table ≡ true
+    → are_above low (with_known known table) ≡ true
 above_with known low [] new each none lt h = rw (lt-ltb low known.range.start lt) refl
 above_with known low (k ∷ table) new each none lt h =
     let q = and_parts (nat_lt low k.range.start) (are_above k.range.end table) h in
     let e = and_parts (is_known k) (list_all is_known table) each in
     let o = or_parts (overlaps k.range known.range && not (same_range k.range known.range)) (overlaps_another known.range table) none in
     (elim (nat_lt k.range.start known.range.start) as (λ b. nat_lt k.range.start known.range.start ≡ b
-    → are_above low (if b then k ∷ with_known known table else if same_range k.range known.range then known ∷ table else known ∷ k ∷ table) ≡ true) [
+    → are_above low (if b then k ∷ with_known known table else if same_range k.range known.range then known ∷ table else known ∷ k ∷
+    table) ≡ true) [
       | true ↦ λ t.
           let free = no_overlap k.range known.range o.0 (not_same k.range known.range (ltb-true _ _ t)) in
           let sides = apart k known free e.0 new in
@@ -217,7 +224,8 @@ above_with known low (k ∷ table) new each none lt h =
           (elim (same_range k.range known.range) as (λ s. same_range k.range known.range ≡ s
           → are_above low (if s then known ∷ table else known ∷ k ∷ table) ≡ true) [
             | true ↦ λ s.
-                let ends : k.range.end ≡ known.range.end = eqb-true _ _ (and_parts (k.range.start == known.range.start) (k.range.end == known.range.end) s).1 in
+                let ends : k.range.end ≡ known.range.end = eqb-true _ _ (and_parts (k.range.start == known.range.start)
+                (k.range.end == known.range.end) s).1 in
                 let rest : are_above known.range.end table ≡ true = ap (λ n. are_above n table) (sym ends) ∙ q.1 in
                 rw (lt-ltb low known.range.start lt, rest) refl
             | false ↦ λ s.
@@ -228,11 +236,13 @@ above_with known low (k ∷ table) new each none lt h =
           ]) refl
     ]) refl
 
-pub all_with : (known : Known) (table : List Known) → is_known known ≡ true → list_all is_known table ≡ true → list_all is_known (with_known known table) ≡ true
+pub all_with : (known : Known) (table : List Known) → is_known known ≡ true → list_all is_known table ≡ true
+    → list_all is_known (with_known known table) ≡ true
 all_with known [] new each = rw new refl
 all_with known (k ∷ table) new each =
     let e = and_parts (is_known k) (list_all is_known table) each in
-    (elim (nat_lt k.range.start known.range.start) as (λ b. list_all is_known (if b then k ∷ with_known known table else if same_range k.range known.range then known ∷ table else known ∷ k ∷ table) ≡ true) [
+    (elim (nat_lt k.range.start known.range.start) as (λ b. list_all is_known
+    (if b then k ∷ with_known known table else if same_range k.range known.range then known ∷ table else known ∷ k ∷ table) ≡ true) [
       | true ↦ rw (e.0) (all_with known table new e.1)
       | false ↦
           elim (same_range k.range known.range) as (λ s. list_all is_known (if s then known ∷ table else known ∷ k ∷ table) ≡ true) [
@@ -245,7 +255,9 @@ all_with known (k ∷ table) new each =
 pub length_with : (known : Known) (table : List Known) → length (with_known known table) ≤ length table + 1
 length_with known [] = omega arith
 length_with known (k ∷ table) =
-    elim (nat_lt k.range.start known.range.start) as (λ b. length (if b then k ∷ with_known known table else if same_range k.range known.range then known ∷ table else known ∷ k ∷ table) ≤ length (k ∷ table) + 1) [
+    elim (nat_lt k.range.start known.range.start) as (λ b. length
+    (if b then k ∷ with_known known table else if same_range k.range known.range then known ∷ table else known ∷ k ∷ table) ≤ length
+    (k ∷ table) + 1) [
       | true ↦ omega (arith, length_with known table)
       | false ↦
           elim (same_range k.range known.range) as (λ s. length (if s then known ∷ table else known ∷ k ∷ table) ≤ length (k ∷ table) + 1) [
@@ -263,7 +275,8 @@ length_over known low (k ∷ table) each h some =
     let e = and_parts (is_known k) (list_all is_known table) each in
     let ends = known_ends k e.0 in
     (elim (nat_lt k.range.start known.range.start) as (λ b. nat_lt k.range.start known.range.start ≡ b
-    → length (if b then k ∷ with_known known table else if same_range k.range known.range then known ∷ table else known ∷ k ∷ table) ≤ length (k ∷ table)) [
+    → length (if b then k ∷ with_known known table else if same_range k.range known.range then known ∷ table else known ∷ k ∷ table) ≤
+    length (k ∷ table)) [
       | true ↦ λ t.
           let later : is_some (known_for known.range table) ≡ true = rw (← not_same_head t) some in
           omega (arith, length_over known k.range.end table e.1 q.1 later)
@@ -273,7 +286,8 @@ length_over known low (k ∷ table) each h some =
             | true ↦ λ s. omega arith
             | false ↦ λ s.
                 let le = ltb-false _ _ t in
-                let none : known_for known.range (k ∷ table) ≡ None = rw s (none_above known.range k.range.end table (omega arith) e.1 q.1) in
+                let none : known_for known.range (k ∷ table)
+                ≡ None = rw s (none_above known.range k.range.end table (omega arith) e.1 q.1) in
                 let no : is_some (known_for known.range (k ∷ table)) ≡ false = ap is_some none in
                 absurd (clash no some)
           ]) refl
@@ -316,7 +330,8 @@ known_of_parts k valid few within distinct = rw (valid, distinct, le_test _ _ fe
 pub known_parts : (k : Known) → is_known k ≡ true
     → (is_range k.range.start k.range.end ≡ true) × (k.total ≤ 64) × (length k.names ≤ k.total) × (are_distinct k.names ≡ true)
 known_parts k h =
-    let a = and_parts (is_range k.range.start k.range.end && nat_le k.total 64 && nat_le (length k.names) k.total) (are_distinct k.names) h in
+    let a = and_parts (is_range k.range.start k.range.end && nat_le k.total 64 && nat_le (length k.names) k.total)
+    (are_distinct k.names) h in
     let b = and_parts (is_range k.range.start k.range.end && nat_le k.total 64) (nat_le (length k.names) k.total) a.0 in
     let c = and_parts (is_range k.range.start k.range.end) (nat_le k.total 64) b.0 in
     (c.0, le_of _ _ c.1, le_of _ _ b.1, a.1)
@@ -324,7 +339,8 @@ known_parts k h =
     le_of : (a b : ℕ) → nat_le a b ≡ true → a ≤ b
     le_of a b t = grind (arith, nat_tests)
 
-pub set_known : (range : Span) (names : List (List ℕ)) → is_range range.start range.end ≡ true → length names ≤ 64 → is_known (set_list range names) ≡ true
+pub set_known : (range : Span) (names : List (List ℕ)) → is_range range.start range.end ≡ true → length names ≤ 64
+    → is_known (set_list range names) ≡ true
 set_known range names valid few =
     known_of_parts (set_list range names) valid (omega (arith, not_more names)) (omega arith) (distinct_fold [] names refl)
 
@@ -338,7 +354,12 @@ zone_known name k h =
     (elim (is_complete k) as (λ b. is_complete k ≡ b → is_known (if b then k else record k { names = with_name k.names name }) ≡ true) [
       | true ↦ λ t. h
       | false ↦ λ t.
-          let few : length (with_name k.names name) ≤ k.total = omega (arith, one_longer k.names name, less (length k.names) k.total p.2 t) in
+          let few : length (with_name k.names name) ≤ k.total = omega (
+            arith,
+            one_longer k.names name,
+            less
+                (length k.names) k.total p.2 t,
+          ) in
           known_of_parts (record k { names = with_name k.names name }) p.0 p.1 few (distinct_with k.names name p.3)
     ]) refl
   where
@@ -366,14 +387,16 @@ one_range a b h =
     ap (λ (x : ℕ). made x a.end) s ∙ ap (made b.start) t
 
 -- the list before a name comes is one of the range
-pub list_known : (range : Span) (total : ℕ) (table : List Known) → is_range range.start range.end ≡ true → total ≤ 64 → list_all is_known table ≡ true
+pub list_known : (range : Span) (total : ℕ) (table : List Known) → is_range range.start range.end ≡ true → total ≤ 64
+    → list_all is_known table ≡ true
     → (is_known (list_of range total (known_for range table)) ≡ true) × ((list_of range total (known_for range table)).range ≡ range)
 list_known range total table valid few each = by_list (known_for range table) refl
   where
     fresh : Known
     fresh = record { range = range; total = total; names = [] }
 
-    by_list : (o : Option Known) → known_for range table ≡ o → (is_known (list_of range total o) ≡ true) × ((list_of range total o).range ≡ range)
+    by_list : (o : Option Known) → known_for range table ≡ o
+        → (is_known (list_of range total o) ≡ true) × ((list_of range total o).range ≡ range)
     by_list None e = (fresh_known range total valid few, refl)
     by_list (Some x) e =
         let f = found_known range table x each e in
@@ -383,7 +406,8 @@ list_known range total table valid few each = by_list (known_for range table) re
         ]
 
 same_after : (name : List ℕ) (k : Known) → (with_zone name k).range ≡ k.range
-same_after name k = elim (is_complete k) as (λ b. (if b then k else record k { names = with_name k.names name }).range ≡ k.range) [ true ↦ refl | false ↦ refl ]
+same_after name k = elim (is_complete k) as (λ b. (if b then k else record k { names = with_name k.names name }).range
+    ≡ k.range) [ true ↦ refl | false ↦ refl ]
 
 -- a name that came leaves a map
 pub heard_map : (range : Span) (total : ℕ) (name : List ℕ) (table : List Known) → is_range range.start range.end ≡ true → total ≤ 64
@@ -392,7 +416,8 @@ heard_map range total name table valid few none room h =
     let l = list_known range total table valid few h.each in
     let known = with_zone name (list_of range total (known_for range table)) in
     let same : known.range ≡ range = same_after name (list_of range total (known_for range table)) ∙ l.1 in
-    with_map known table (zone_known name (list_of range total (known_for range table)) l.0) (ap (λ s. overlaps_another s table) same ∙ none) (ap (λ s. is_full_for s table) same ∙ room) h
+    with_map known table (zone_known name (list_of range total (known_for range table)) l.0) (ap (λ s. overlaps_another s table) same
+    ∙ none) (ap (λ s. is_full_for s table) same ∙ room) h
 
 -- a list that goes on takes its own place
 pub heard_over : (range : Span) (total : ℕ) (name : List ℕ) (table : List Known) (place : ℕ) (at : IsAt range table place)

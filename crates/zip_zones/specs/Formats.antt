@@ -28,7 +28,8 @@ number_of f.ExtendedReply = 8
 -- the function of a number that has one
 abbrev pub function_of : ℕ → Function
 function_of n =
-    if n == 1 then f.Query else if n == 2 then f.Reply else if n == 5 then f.GetNetInfo else if n == 6 then f.NetInfoReply else f.ExtendedReply
+    if n == 1 then f.Query else if n == 2 then f.Reply else if n == 5 then f.GetNetInfo else if n == 6 then f.NetInfoReply else
+    f.ExtendedReply
 
 -- there is a function of this number
 abbrev pub wrong_function : ℕ → Option Error
@@ -116,7 +117,15 @@ body f.NetInfoReply =
     field (number one (only 6 Lengths)) (λ p. 6) (λ len.
     field (run 6 any) (λ p. (info_of p).group.0) (λ group.
     part (default_zone (flags / 128 == 1)) (λ p. (info_of p).default) (λ default.
-    done (p.NetInfoReply (record { flags = flags; start = start; end = end; asked = asked; group = record { 0 = group }; default = default })))))))))
+    done (p.NetInfoReply (record {
+      flags = flags;
+      start = start;
+      end = end;
+      asked = asked;
+      group = record { 0 = group };
+      default =
+          default;
+    })))))))))
 body f.ExtendedReply =
     field (number one any) count_of (λ total.
     many entry (next_net One) at_least_one entries_of (λ es. p.ExtendedReply total es))

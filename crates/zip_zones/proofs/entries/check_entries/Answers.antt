@@ -12,22 +12,29 @@ loop-rest-init c = (λ i. omega (arith, c.type_inv.bytes i), starts_in (λ n. re
 
 pub loop-rest-smaller : goal.loop-rest-smaller
 loop-rest-smaller c =
-    shorter_after packets (entry c.loop-rest.low) (entry_lawful c.loop-rest.low) (entry_long c.loop-rest.low) c.loop-rest.rest.now _ c.in-Ok.after.now c.loop-rest.invariant.0 c.in-Ok.ensures
+    shorter_after packets (entry c.loop-rest.low) (entry_lawful c.loop-rest.low)
+    (entry_long c.loop-rest.low) c.loop-rest.rest.now _ c.in-Ok.after.now c.loop-rest.invariant.0 c.in-Ok.ensures
 
 pub loop-rest-preserved : goal.loop-rest-preserved
 loop-rest-preserved c =
     let nets = c.args.nets in
     let entries = many_at (λ n. read packets (entry n)) (next_net nets) 0 (length c.args.bytes.now) c.args.bytes.now in
-    let less = shorter_after packets (entry c.loop-rest.low) (entry_lawful c.loop-rest.low) (entry_long c.loop-rest.low) c.loop-rest.rest.now _ c.in-Ok.after.now c.loop-rest.invariant.0 c.in-Ok.ensures in
-    let on : StandsIn (λ n. read packets (entry n)) (next_net nets) (next_net nets c.in-Ok.entry) c.in-Ok.after.now entries = goes_on_in (λ n. read packets (entry n)) (next_net nets) c.loop-rest.low c.loop-rest.rest.now _ c.in-Ok.after.now _ less c.in-Ok.ensures c.loop-rest.invariant.1 in (
-      rest_is_bytes packets (entry c.loop-rest.low) (entry_lawful c.loop-rest.low) c.loop-rest.rest.now _ c.in-Ok.after.now c.loop-rest.invariant.0 c.in-Ok.ensures,
-      subst (λ (low : ℕ). StandsIn (λ n. read packets (entry n)) (next_net nets) low c.in-Ok.after.now entries) (sym c.low_after-low.ensures) on,
+    let less = shorter_after packets (entry c.loop-rest.low) (entry_lawful c.loop-rest.low)
+    (entry_long c.loop-rest.low) c.loop-rest.rest.now _ c.in-Ok.after.now c.loop-rest.invariant.0 c.in-Ok.ensures in
+    let on : StandsIn (λ n. read packets (entry n)) (next_net nets) (next_net nets c.in-Ok.entry) c.in-Ok.after.now entries = goes_on_in
+    (λ n. read packets (entry n)) (next_net nets) c.loop-rest.low c.loop-rest.rest.now _ c.in-Ok.after.now _ less c.in-Ok.ensures
+    c.loop-rest.invariant.1 in (
+      rest_is_bytes packets (entry c.loop-rest.low) (entry_lawful c.loop-rest.low) c.loop-rest.rest.now _ c.in-Ok.after.now
+          c.loop-rest.invariant.0 c.in-Ok.ensures,
+      subst (λ (low : ℕ). StandsIn (λ n. read packets (entry n)) (next_net nets) low c.in-Ok.after.now entries)
+          (sym c.low_after-low.ensures) on,
     )
 
 pub returns-in-Err : goal.returns-in-Err
 returns-in-Err c =
     let some : 1 ≤ length c.loop-rest.rest.now = omega (arith, c.loop-rest-test.true) in
-    stops_in (λ n. read packets (entry n)) (next_net c.args.nets) c.in-Err.error c.loop-rest.low c.loop-rest.rest.now _ some c.in-Err.ensures c.loop-rest.invariant.1
+    stops_in (λ n. read packets (entry n)) (next_net c.args.nets) c.in-Err.error c.loop-rest.low c.loop-rest.rest.now _ some
+    c.in-Err.ensures c.loop-rest.invariant.1
 
 pub returns : goal.returns
 unfolding entries_in
@@ -35,6 +42,7 @@ returns c =
     let none : length c.loop-rest.rest.now ≡ 0 = omega (arith, c.loop-rest-test.false) in
     let nil : c.loop-rest.rest.now ≡ [] = nil_from_length c.loop-rest.rest.now none in
     let total = many_at (λ n. read packets (entry n)) (next_net c.args.nets) 0 (length c.args.bytes.now) c.args.bytes.now in
-    let stands : StandsIn (λ n. read packets (entry n)) (next_net c.args.nets) c.loop-rest.low [] total = subst (λ (r : List ℕ). StandsIn (λ n. read packets (entry n)) (next_net c.args.nets) c.loop-rest.low r total) nil c.loop-rest.invariant.1 in
+    let stands : StandsIn (λ n. read packets (entry n)) (next_net c.args.nets) c.loop-rest.low [] total = subst (λ
+    (r : List ℕ). StandsIn (λ n. read packets (entry n)) (next_net c.args.nets) c.loop-rest.low r total) nil c.loop-rest.invariant.1 in
     let all = ends_in (λ n. read packets (entry n)) (next_net c.args.nets) c.loop-rest.low _ stands in
     rw all.1 refl

@@ -8,7 +8,8 @@ use Rattle.zip_zones.proofs.entries.check_entries.Given as goal
 
 abbrev pub invariant-loop-rest : goal.invariant-loop-rest
 invariant-loop-rest l =
-    IsBytes l.rest × StandsIn (λ n. read packets (entry n)) (next_net l.nets) l.low l.rest (many_at (λ n. read packets (entry n)) (next_net l.nets) 0 (length l.bytes) l.bytes)
+    IsBytes l.rest × StandsIn (λ n. read packets (entry n)) (next_net l.nets) l.low l.rest (many_at (λ n. read packets (entry n))
+    (next_net l.nets) 0 (length l.bytes) l.bytes)
 
 abbrev pub decreases-loop-rest : goal.decreases-loop-rest
 decreases-loop-rest l = length l.rest

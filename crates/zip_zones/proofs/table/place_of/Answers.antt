@@ -9,21 +9,25 @@ use Rattle.zip_zones.proofs.table.place_of.Goals as goal
 
 pub returns-then-eq-clause-found : goal.returns-then-eq-clause-found
 returns-then-eq-clause-found c =
-    let at : c.place_for-place.result ≡ before c.args.range.start c.args.lists.now = c.place_for-place.ensures.place ∙ ap (λ (n : ℕ). before n c.args.lists.now) c.start.ensures.value in
+    let at : c.place_for-place.result ≡ before c.args.range.start c.args.lists.now = c.place_for-place.ensures.place
+    ∙ ap (λ (n : ℕ). before n c.args.lists.now) c.start.ensures.value in
     let lt : c.place_for-place.result < length c.args.lists.now = c.if-place-lists.true in
-    let there : slice_get c.args.lists.now c.place_for-place.result ≡ Some c.index-lists-place.result = slice_get_read c.args.lists.now _ _ _ refl lt c.index-lists-place.is in
+    let there : slice_get c.args.lists.now c.place_for-place.result
+    ≡ Some c.index-lists-place.result = slice_get_read c.args.lists.now _ _ _ refl lt c.index-lists-place.is in
     let same : same_range c.index-lists-place.result.range c.args.range ≡ true =
     ap (λ s. same_range s c.args.range) (sym c.range.ensures) ∙ sym c.eq.ensures ∙ c.if-eq.true in
     rw at (is_at c.args.range c.args.lists.now c.index-lists-place.result (rw (← at) there) same (rw (← at) lt))
 
 pub returns-else-place-lists-clause-missing : goal.returns-else-place-lists-clause-missing
 returns-else-place-lists-clause-missing c =
-    let at : c.place_for-place.result ≡ before c.args.range.start c.args.lists.now = c.place_for-place.ensures.place ∙ ap (λ (n : ℕ). before n c.args.lists.now) c.start.ensures.value in
+    let at : c.place_for-place.result ≡ before c.args.range.start c.args.lists.now = c.place_for-place.ensures.place
+    ∙ ap (λ (n : ℕ). before n c.args.lists.now) c.start.ensures.value in
     let other : (x : Known) → slice_get c.args.lists.now c.place_for-place.result ≡ Some x → same_range x.range c.args.range ≡ false =
     λ x e. elim c.else-place-lists.branch [
       | else-place-lists-via-then-place-lists+else-eq w ↦
           let lt : c.place_for-place.result < length c.args.lists.now = w.if-place-lists.true in
-          let there : slice_get c.args.lists.now c.place_for-place.result ≡ Some w.index-lists-place.result = slice_get_read c.args.lists.now _ _ _ refl lt w.index-lists-place.is in
+          let there : slice_get c.args.lists.now c.place_for-place.result
+          ≡ Some w.index-lists-place.result = slice_get_read c.args.lists.now _ _ _ refl lt w.index-lists-place.is in
           let one : x ≡ w.index-lists-place.result = cc in
           let same : same_range w.index-lists-place.result.range c.args.range ≡ false =
           ap (λ s. same_range s c.args.range) (sym w.range.ensures) ∙ sym w.eq.ensures ∙ w.if-eq.false in

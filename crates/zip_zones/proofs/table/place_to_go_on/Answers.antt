@@ -6,7 +6,8 @@ use Rattle.zip_zones.proofs.table.place_to_go_on.Goals as goal
 pub returns-in-Ok-clause-some : goal.returns-in-Ok-clause-some
 returns-in-Ok-clause-some c =
     let at = c.in-Ok.ensures.found in
-    let there : slice_get c.args.lists.now c.in-Ok.place ≡ Some c.index-lists-place.result = slice_get_read c.args.lists.now _ _ _ refl at.within c.index-lists-place.is in
+    let there : slice_get c.args.lists.now c.in-Ok.place ≡ Some c.index-lists-place.result = slice_get_read c.args.lists.now _ _ _ refl
+    at.within c.index-lists-place.is in
     let there_too : slice_get c.args.lists.now c.in-Ok.place ≡ Some at.known = at.is in
     let same : at.known ≡ c.index-lists-place.result = cc in
     let total : at.known.total ≡ c.args.total = ap (λ (k : Known). k.total) same ∙ sym c.total.ensures ∙ c.if-total.true in
@@ -15,7 +16,8 @@ returns-in-Ok-clause-some c =
 pub returns-in_default-clause-none : goal.returns-in_default-clause-none
 returns-in_default-clause-none c =
     let at = c.in-Ok.ensures.found in
-    let there : slice_get c.args.lists.now c.in-Ok.place ≡ Some c.index-lists-place.result = slice_get_read c.args.lists.now _ _ _ refl at.within c.index-lists-place.is in
+    let there : slice_get c.args.lists.now c.in-Ok.place ≡ Some c.index-lists-place.result = slice_get_read c.args.lists.now _ _ _ refl
+    at.within c.index-lists-place.is in
     let there_too : slice_get c.args.lists.now c.in-Ok.place ≡ Some at.known = at.is in
     let same : at.known ≡ c.index-lists-place.result = cc in
     let total : at.known.total ≡ c.total.result = ap (λ (k : Known). k.total) same ∙ sym c.total.ensures in

@@ -6,4 +6,5 @@ pub invariant_of-self-2 : goal.invariant_of-self-2
 invariant_of-self-2 c =
     let room = c.in_ok-check_room.ensures.ok in
     let items : c.as_slice.result.now ≡ c.self.inside.lists.items = c.as_slice.ensures.value in
-    rw (c.in_ok-hear.ensures.ok) (heard_map c.args.range c.args.total c.args.name.now c.self.inside.lists.items c.recall_valid.ensures room.1 (rw (← items) room.0) (rw (← items) room.2) c.self.invariant)
+    rw (c.in_ok-hear.ensures.ok) (heard_map c.args.range c.args.total c.args.name.now c.self.inside.lists.items c.recall_valid.ensures
+    room.1 (rw (← items) room.0) (rw (← items) room.2) c.self.invariant)

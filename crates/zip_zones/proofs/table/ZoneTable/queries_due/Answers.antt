@@ -10,8 +10,10 @@ loop-index-preserved g c = elim c.match-row.branch [
       let rows = g.T.RouteTable.rows c.args.routes.now in
       let next = row_next rows c.loop-index.index w.in-Some.row (sym c.row.ensures.value ∙ w.in-Some.is) in
       let so_far = rw next at c.loop-index.invariant in
-      rw (w.starts-is, w.in_ok-put_due.ensures.put) (due_next c.loop-index.starts.items w.in-Some.row (drop (c.loop-index.index + 1) rows) c.args.self.now ∙ so_far)
+      rw (w.starts-is, w.in_ok-put_due.ensures.put) (due_next c.loop-index.starts.items w.in-Some.row (drop
+      (c.loop-index.index + 1) rows) c.args.self.now ∙ so_far)
   | in_default w ↦
       let rows = g.T.RouteTable.rows c.args.routes.now in
-      absurd (none_next rows c.loop-index.index (sym c.row.ensures.value ∙ w.in_default.is) (omega (arith, c.loop-index-test.true, c.len-index-end.ensures.value)))
+      absurd (none_next rows c.loop-index.index (sym c.row.ensures.value
+      ∙ w.in_default.is) (omega (arith, c.loop-index-test.true, c.len-index-end.ensures.value)))
 ]

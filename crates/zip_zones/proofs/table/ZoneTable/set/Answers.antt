@@ -8,4 +8,6 @@ invariant_of-self-2 c =
     let room = c.in_ok-check_room.ensures.ok in
     let items : c.as_slice.result.now ≡ c.self.inside.lists.items = c.as_slice.ensures.value in
     let known = set_known c.args.range c.args.names.now c.recall_valid.ensures room.1 in
-    rw (c.put.ensures, c.in_ok-known.ensures.ok, c.reserve.ensures.items) (with_map (set_list c.args.range c.args.names.now) c.self.inside.lists.items known (rw (← items) room.0) (rw (← items) room.2) c.self.invariant)
+    rw (c.put.ensures, c.in_ok-known.ensures.ok, c.reserve.ensures.items) (with_map
+    (set_list c.args.range c.args.names.now) c.self.inside.lists.items known (rw (← items) room.0) (rw
+    (← items) room.2) c.self.invariant)
