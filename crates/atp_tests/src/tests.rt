@@ -16,9 +16,8 @@ mod requesting;
 mod responding;
 
 use calls::{CLIENT, USER, parts_of, replied, requester};
-use long::{begins_with, goes_round, responds_with};
 use requesting::{Step, wrong_at, wrong_step};
-use responding::{Act, are_parts, wrong_act, wrong_on};
+use responding::{Act, NONE, are_parts, wrong_on};
 
 // ---- Packets
 
@@ -67,8 +66,8 @@ fn what_was_written_is_read(rt: HostRuntime) -> Result<(), Fail> {
 
 #[test]
 fn a_requester_hears_what_it_asked_for(rt: HostRuntime) -> Result<(), Fail> {
-    for (name, steps) in asking::SCENARIOS {
-        assert_eq!(rt; wrong_at(rt.alloc(), steps)?, None, "{name}");
+    for (name, first, steps) in asking::SCENARIOS {
+        assert_eq!(rt; wrong_at(rt.alloc(), first, steps)?, None, "{name}");
     }
     complete_response();
     the_end_may_come_early();
@@ -96,56 +95,6 @@ fn a_copy_goes_on_apart(rt: HostRuntime) -> Result<(), Fail> {
     Ok(())
 }
 
-/// Numbers 65,535 and 0 to 30 are open, and no further one begins.
-#[test]
-fn numbers_go_past_65_535(rt: HostRuntime) -> Result<(), Fail> {
-    let mut requester = requester(rt.alloc(), 65_535)?;
-    let last = [Step::Begins(1, false, 65_535)];
-    assert_eq!(rt; wrong_step(rt.alloc(), &mut requester, &last)?, None);
-    for id in 0..31 {
-        let begins = [Step::Begins(1, false, id)];
-        assert_eq!(rt; wrong_step(rt.alloc(), &mut requester, &begins)?, None);
-    }
-    assert_eq!(rt;
-        begins_with(rt.alloc(), &mut requester, &[])?,
-        Err(Error::Full)
-    );
-    assert_eq!(rt;
-        wrong_step(rt.alloc(), &mut requester, &asking::PAST_30)?,
-        None
-    );
-    Ok(())
-}
-
-/// Number 65,535 stays open while the others come and go.
-#[test]
-fn a_number_that_is_open_is_passed_over(rt: HostRuntime) -> Result<(), Fail> {
-    let mut requester = requester(rt.alloc(), 65_535)?;
-    let open = [Step::Begins(1, false, 65_535)];
-    assert_eq!(rt; wrong_step(rt.alloc(), &mut requester, &open)?, None);
-    assert!(rt; goes_round(rt.alloc(), &mut requester)?);
-    let next = [Step::Begins(1, false, 0), Step::Waits(65_535)];
-    assert_eq!(rt; wrong_step(rt.alloc(), &mut requester, &next)?, None);
-    Ok(())
-}
-
-#[test]
-fn requests_and_answers_have_at_most_578_bytes(rt: HostRuntime) -> Result<(), Fail> {
-    let mut requester = requester(rt.alloc(), 1)?;
-    assert_eq!(rt;
-        begins_with(rt.alloc(), &mut requester, &[7; 579])?,
-        Err(Error::TooLong)
-    );
-    assert_eq!(rt; begins_with(rt.alloc(), &mut requester, &[7; 578])?, Ok(1));
-    assert_eq!(rt;
-        responds_with(rt.alloc(), 1, &[7; 579]),
-        Err(Error::TooLong)
-    );
-    assert_eq!(rt; responds_with(rt.alloc(), 9, &[7]), Err(Error::TooLong));
-    assert_eq!(rt; responds_with(rt.alloc(), 8, &[7; 578]), Ok(586));
-    Ok(())
-}
-
 // ---- A responder
 
 #[test]
@@ -153,6 +102,7 @@ fn a_responder_answers_what_it_is_asked(rt: HostRuntime) -> Result<(), Fail> {
     for (name, acts) in answering::SCENARIOS {
         assert_eq!(rt; wrong_on(rt.alloc(), acts)?, None, "{name}");
     }
+    requests_are_few(&Responder::new(rt.alloc())?);
     a_kept_answer_lasts();
     Ok(())
 }
@@ -164,49 +114,19 @@ fn kept_answers_go_with_their_time(rt: HostRuntime) -> Result<(), Fail> {
     let mut control: u8 = 0x60;
     for time in times {
         let acts = [
-            Act::Hears(CLIENT, 1, control, 1, Todo::Ask),
-            Act::Responds(CLIENT, 1, 1, &[(0x90, 0)]),
+            Act::Hears(CLIENT, 1, control, 1, Ok(Todo::Ask)),
+            Act::Responds(CLIENT, 1, 1, Ok(&[(0x90, 0)])),
             Act::Ticks(time - 1),
-            Act::Hears(CLIENT, 1, control, 1, Todo::Again),
+            Act::Hears(CLIENT, 1, control, 1, Ok(Todo::Again)),
             Act::Ticks(time - 1),
-            Act::Keeps(CLIENT, 1, 1, &[(0x90, 0)]),
+            Act::Keeps(CLIENT, 1, 1, Ok(&[(0x90, 0)])),
             Act::Ticks(1),
-            Act::KeepsNone(CLIENT, 1),
-            Act::Hears(CLIENT, 1, control, 1, Todo::Ask),
+            Act::Keeps(CLIENT, 1, 0xFF, Err(NONE)),
+            Act::Hears(CLIENT, 1, control, 1, Ok(Todo::Ask)),
         ];
         assert_eq!(rt; wrong_on(rt.alloc(), &acts)?, None, "for {time} ticks");
         control = control.wrapping_add(1);
     }
-    Ok(())
-}
-
-#[test]
-fn sixty_four_of_each_kind_are_held(rt: HostRuntime) -> Result<(), Fail> {
-    let mut responder = Responder::new(rt.alloc())?;
-    for id in 0..64 {
-        let acts = [
-            Act::Hears(CLIENT, id, 0x60, 1, Todo::Ask),
-            Act::Responds(CLIENT, id, 1, &[(0x90, 0)]),
-        ];
-        assert_eq!(rt; wrong_act(rt.alloc(), &mut responder, &acts)?, None);
-    }
-    for id in 64..128 {
-        let acts = [
-            Act::IsFull(CLIENT, 200, 0x60, 1),
-            Act::Hears(CLIENT, id, 0x40, 1, Todo::Ask),
-        ];
-        assert_eq!(rt; wrong_act(rt.alloc(), &mut responder, &acts)?, None);
-    }
-    requests_are_few(&responder);
-    let mut copy = match responder.copy() {
-        Err(Error::Memory) => responder.copy()?,
-        answer => answer?,
-    };
-    assert_eq!(rt;
-        wrong_act(rt.alloc(), &mut responder, &answering::AT_128)?,
-        None
-    );
-    assert_eq!(rt; wrong_act(rt.alloc(), &mut copy, &answering::AT_128)?, None);
     Ok(())
 }
 

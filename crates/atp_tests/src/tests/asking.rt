@@ -2,11 +2,13 @@
 
 use crate::tests::calls::{SAME_NODE, SAME_SOCKET};
 use crate::tests::requesting::Step;
+use at_base::Error;
 
-/// What happens to a new requester, and what it shows.
-pub(crate) const SCENARIOS: [(&str, &[Step<'static>]); 9] = [
+/// What happens to a new requester, with its first number, and what it shows.
+pub(crate) const SCENARIOS: [(&str, u16, &[Step<'static>]); 12] = [
     (
         "a middle part is asked for again",
+        1,
         &[
             Step::Begins(3, true, 1),
             Step::Due(Some(1)),
@@ -26,6 +28,7 @@ pub(crate) const SCENARIOS: [(&str, &[Step<'static>]); 9] = [
     ),
     (
         "the first part is asked for again, and the last one",
+        1,
         &[
             Step::Begins(3, false, 1),
             Step::Sends(1, 0x40, 7),
@@ -42,6 +45,7 @@ pub(crate) const SCENARIOS: [(&str, &[Step<'static>]); 9] = [
     ),
     (
         "parts after the end are left out, also one that came before it",
+        1,
         &[
             Step::Begins(8, false, 1),
             Step::Sends(1, 0x40, 0xFF),
@@ -56,6 +60,7 @@ pub(crate) const SCENARIOS: [(&str, &[Step<'static>]); 9] = [
     ),
     (
         "a part that comes twice keeps its first copy",
+        1,
         &[
             Step::Begins(2, false, 1),
             Step::Hears(1, 0x80, 0, 10),
@@ -67,6 +72,7 @@ pub(crate) const SCENARIOS: [(&str, &[Step<'static>]); 9] = [
     ),
     (
         "nothing but what was asked for, from whom was asked, is heard",
+        1,
         &[
             Step::Begins(2, true, 1),
             Step::Sends(1, 0x60, 3),
@@ -86,6 +92,7 @@ pub(crate) const SCENARIOS: [(&str, &[Step<'static>]); 9] = [
     ),
     (
         "the responder may want the request again, while tries are left",
+        1,
         &[
             Step::Begins(2, false, 1),
             Step::Sends(1, 0x40, 3),
@@ -107,6 +114,7 @@ pub(crate) const SCENARIOS: [(&str, &[Step<'static>]); 9] = [
     ),
     (
         "it fails after its last try",
+        1,
         &[
             Step::Begins(1, false, 1),
             Step::Due(Some(1)),
@@ -138,6 +146,7 @@ pub(crate) const SCENARIOS: [(&str, &[Step<'static>]); 9] = [
     ),
     (
         "a late response is ignored",
+        1,
         &[
             Step::Begins(2, true, 1),
             Step::Hears(1, 0x80, 0, 10),
@@ -153,6 +162,7 @@ pub(crate) const SCENARIOS: [(&str, &[Step<'static>]); 9] = [
     ),
     (
         "the least number is due",
+        1,
         &[
             Step::Begins(1, false, 1),
             Step::Begins(1, false, 2),
@@ -165,6 +175,41 @@ pub(crate) const SCENARIOS: [(&str, &[Step<'static>]); 9] = [
             Step::Due(Some(2)),
             Step::Completes(1, &[10]),
             Step::Begins(1, false, 3),
+        ],
+    ),
+    (
+        "numbers go past 65,535, and of 32 the least one is due",
+        65_535,
+        &[
+            Step::Begins(1, false, 65_535),
+            Step::BeginsAll(0, 30),
+            Step::BeginsWith(0, Err(Error::Full)),
+            Step::Due(Some(0)),
+            Step::Hears(7, 0x90, 0, 1),
+            Step::Completes(7, &[1]),
+            Step::Begins(1, false, 31),
+            Step::Due(Some(0)),
+        ],
+    ),
+    (
+        "a number that is open is passed over",
+        65_535,
+        &[
+            Step::Begins(1, false, 65_535),
+            Step::GoesRound,
+            Step::Begins(1, false, 0),
+            Step::Waits(65_535),
+        ],
+    ),
+    (
+        "a request has at most 578 bytes of data",
+        1,
+        &[
+            Step::BeginsWith(579, Err(Error::TooLong)),
+            Step::BeginsAll(1, 31),
+            Step::BeginsWith(578, Ok(32)),
+            Step::BeginsWith(578, Err(Error::Full)),
+            Step::BeginsWith(579, Err(Error::TooLong)),
         ],
     ),
 ];
@@ -183,13 +228,4 @@ pub(crate) const ON_THE_COPY: [Step<'static>; 5] = [
     Step::Releases(2, 0x90, 1, 11),
     Step::Completes(2, &[10, 11]),
     Step::Begins(1, false, 3),
-];
-
-/// Number 7 is closed, and the next one is 31.
-pub(crate) const PAST_30: [Step<'static>; 5] = [
-    Step::Due(Some(0)),
-    Step::Hears(7, 0x90, 0, 1),
-    Step::Completes(7, &[1]),
-    Step::Begins(1, false, 31),
-    Step::Due(Some(0)),
 ];

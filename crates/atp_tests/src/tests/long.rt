@@ -1,29 +1,52 @@
 //! Data of the greatest length, and numbers all the way round.
 
-use crate::tests::calls::{CLIENT, SERVER, ask, begin_again, kept, parts_with, respond, todo};
+use crate::tests::calls::{CLIENT, SERVER, ask, begin_again, parts_with, respond};
 use at_base::Error;
 use atp::{Outcome, Packet, Requester, Responder};
 use std::alloc::Global;
 
-/// What comes of a request with so much data.
-pub(crate) fn begins_with(
+/// As much data as a packet may have, and one byte more.
+const DATA: [u8; 579] = [7; 579];
+
+/// Whether transactions with these numbers begin, from the first to the last.
+pub(crate) fn begin_all(
     alloc: Global,
     requester: &mut Requester,
-    data: &[u8],
-) -> Result<Result<u16, Error>, Error> {
-    Ok(requester.begin(ask(alloc, 1, false, data)?))
+    first: u16,
+    last: u16,
+) -> Result<bool, Error> {
+    for id in first..=last {
+        if begin_again(alloc, requester, 1, false)? != id {
+            return Ok(false);
+        }
+    }
+    Ok(true)
 }
 
-/// What comes of a response of so many parts with this data: the length of its first packet, where
-/// it is kept.
-pub(crate) fn responds_with(alloc: Global, count: u8, data: &[u8]) -> Result<usize, Error> {
-    let mut responder = Responder::new(alloc)?;
-    let _todo = todo(&mut responder, CLIENT, [0x60, 1, 1])?;
-    let parts = parts_with(alloc, count, data)?;
-    let _sent = respond(&mut responder, CLIENT, 1, parts.as_slice())?;
-    match kept(&responder, CLIENT, 1, 1)?.first() {
-        Some(packet) => Ok(packet.len()),
-        None => Err(Error::Full),
+/// What comes of a transaction with so many bytes of data.
+pub(crate) fn begin_with(
+    alloc: Global,
+    requester: &mut Requester,
+    len: usize,
+) -> Result<Result<u16, Error>, Error> {
+    let data = DATA.get(..len).unwrap_or(&[]);
+    let ask = ask(alloc, 1, false, data)?;
+    Ok(requester.begin(ask))
+}
+
+/// Whether a response of so many parts with so many bytes each is kept for the client's request 1,
+/// or else refused as too long.
+pub(crate) fn is_kept_with(
+    alloc: Global,
+    responder: &mut Responder,
+    count: u8,
+    len: usize,
+) -> Result<bool, Error> {
+    let parts = parts_with(alloc, count, DATA.get(..len).unwrap_or(&[]))?;
+    match respond(responder, CLIENT, 1, parts.as_slice()) {
+        Ok(_) => Ok(true),
+        Err(Error::TooLong) => Ok(false),
+        Err(error) => Err(error),
     }
 }
 

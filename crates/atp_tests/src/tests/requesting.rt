@@ -1,6 +1,7 @@
 //! What happens to a requester, step by step, and what is to come of each step.
 
 use crate::tests::calls::{SERVER, begin_again, requested, requester};
+use crate::tests::long::{begin_all, begin_with, goes_round};
 use at_base::{Error, What};
 use atp::{Outcome, Packet, Peer, Requester, Response};
 use std::alloc::Global;
@@ -11,6 +12,12 @@ use std::alloc::Global;
 pub(crate) enum Step<'a> {
     /// A transaction for so many parts, to be carried out once or not, begins with this number.
     Begins(u8, bool, u16),
+    /// Transactions with these numbers begin, from the first to the last.
+    BeginsAll(u16, u16),
+    /// This comes of a transaction with so many bytes of data.
+    BeginsWith(usize, Result<u16, Error>),
+    /// The next transactions have the numbers 0 to 65,534, where each is closed before the next.
+    GoesRound,
     /// This is the least number that is due, or none is.
     Due(Option<u16>),
     /// This request is due.
@@ -83,6 +90,9 @@ fn ends(requester: &mut Requester, id: u16, step: &Step<'_>) -> bool {
 fn goes(alloc: Global, requester: &mut Requester, step: &Step<'_>) -> Result<bool, Error> {
     match *step {
         Step::Begins(parts, once, id) => Ok(begin_again(alloc, requester, parts, once)? == id),
+        Step::BeginsAll(first, last) => begin_all(alloc, requester, first, last),
+        Step::BeginsWith(len, wanted) => Ok(begin_with(alloc, requester, len)? == wanted),
+        Step::GoesRound => goes_round(alloc, requester),
         Step::Due(id) => Ok(requester.due() == id),
         Step::Sends(id, control, bitmap) => {
             let sent = requested(requester, u16::from(id))?;
@@ -127,7 +137,11 @@ pub(crate) fn wrong_step(
     Ok(None)
 }
 
-/// The same, where the requester is a new one, and its first number is 1.
-pub(crate) fn wrong_at(alloc: Global, steps: &[Step<'_>]) -> Result<Option<usize>, Error> {
-    wrong_step(alloc, &mut requester(alloc, 1)?, steps)
+/// The same, where the requester is a new one, with its first number.
+pub(crate) fn wrong_at(
+    alloc: Global,
+    first: u16,
+    steps: &[Step<'_>],
+) -> Result<Option<usize>, Error> {
+    wrong_step(alloc, &mut requester(alloc, first)?, steps)
 }
