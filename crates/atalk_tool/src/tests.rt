@@ -347,46 +347,34 @@ fn arguments_ask_for_an_audit(rt: HostRuntime) {
     assert_audits(&rt, ["atalk", "audit", ""].as_slice(), "");
 }
 
+fn assert_asks_for_nothing<'a>(
+    rt: &(impl Abort + AllocGlobal),
+    arguments: &'a [&'a str],
+    want: ParseError,
+) {
+    let fault = meaning(rt.alloc(), arguments).err();
+    assert_eq!(rt; fault, Some(want), "at {arguments:?}");
+}
+
 #[test]
 fn other_arguments_ask_for_nothing(rt: HostRuntime) {
-    let faults = [
-        (
-            ["atalk", "audit"].as_slice(),
-            ParseError::MissingRequiredArgument,
-        ),
-        (
-            ["atalk", "audit", "a", "b"].as_slice(),
-            ParseError::UnknownArgument,
-        ),
-        (
-            ["atalk", "audit", "-x"].as_slice(),
-            ParseError::UnknownArgument,
-        ),
-        (
-            ["atalk", "nonsense"].as_slice(),
-            ParseError::InvalidSubcommand,
-        ),
-        (["atalk", "help"].as_slice(), ParseError::InvalidSubcommand),
-        (["atalk", "-"].as_slice(), ParseError::InvalidSubcommand),
-        (
-            ["atalk", "--nonsense"].as_slice(),
-            ParseError::UnknownArgument,
-        ),
-        (["atalk", "--help"].as_slice(), ParseError::DisplayHelp),
-        (
-            ["atalk", "audit", "--help"].as_slice(),
-            ParseError::DisplayHelp,
-        ),
-        (
-            ["atalk", "--version"].as_slice(),
-            ParseError::DisplayVersion,
-        ),
-    ];
-    for (arguments, fault) in faults {
-        assert_eq!(rt;
-            meaning(rt.alloc(), arguments).err(),
-            Some(fault),
-            "at {arguments:?}"
-        );
-    }
+    let missing = ParseError::MissingRequiredArgument;
+    assert_asks_for_nothing(&rt, ["atalk", "audit"].as_slice(), missing);
+    let unknown = ParseError::UnknownArgument;
+    assert_asks_for_nothing(&rt, ["atalk", "audit", "a", "b"].as_slice(), unknown);
+    assert_asks_for_nothing(&rt, ["atalk", "audit", "-x"].as_slice(), unknown);
+    assert_asks_for_nothing(&rt, ["atalk", "--nonsense"].as_slice(), unknown);
+    let invalid = ParseError::InvalidSubcommand;
+    assert_asks_for_nothing(&rt, ["atalk", "nonsense"].as_slice(), invalid);
+    assert_asks_for_nothing(&rt, ["atalk", "help"].as_slice(), invalid);
+    assert_asks_for_nothing(&rt, ["atalk", "-"].as_slice(), invalid);
+}
+
+#[test]
+fn help_and_the_version_are_shown(rt: HostRuntime) {
+    let help = ParseError::DisplayHelp;
+    assert_asks_for_nothing(&rt, ["atalk", "--help"].as_slice(), help);
+    assert_asks_for_nothing(&rt, ["atalk", "audit", "--help"].as_slice(), help);
+    let version = ParseError::DisplayVersion;
+    assert_asks_for_nothing(&rt, ["atalk", "--version"].as_slice(), version);
 }
