@@ -49,7 +49,6 @@ pub fold_and : (p : ℕ → Bool) (good : Bool) (bytes : List ℕ) → fold (λ 
 fold_and p good [] = and_true good
 fold_and p good (b ∷ bytes) = fold_and p (good && p b) bytes ∙ and_assoc good (p b) (list_all p bytes)
 
-
 -- ---- Names that are the same but for case are one key
 
 pub same_name_symm : (x y : List ℕ) → same_name x y ≡ same_name y x

@@ -117,7 +117,7 @@ two_requests from asker id other differs r h = either (is_of asker other r) refl
         let peers : asker ≡ from = sym (one_peer r.from asker q.0) ∙ one_peer r.from from p.0 in
         let ids : other ≡ id = sym (eqb-true _ _ q.1) ∙ eqb-true _ _ p.1 in
         let same : is_same from id asker other ≡ true = ap (λ (a : Peer). is_same from id a other) peers
-            ∙ ap (λ (i : ℕ). is_same from id from i) ids ∙ same_itself from id in
+        ∙ ap (λ (i : ℕ). is_same from id from i) ids ∙ same_itself from id in
         absurd (let bad : true ≡ false = sym same ∙ differs in cc)
 
 -- ---- What is held of a kept answer
@@ -151,8 +151,14 @@ not_over n h = grind (arith, nat_tests)
 held_passed : (from : Peer) (id : ℕ) (parts : List AnswerPart) (release left : ℕ) (rs : Requests) → nat_lt 1 left ≡ true
     → Held from id parts release left rs → Held from id parts release (left - 1) (ticked rs)
 held_passed from id parts release left rs some h =
-    record { request = record r { left = r.left - 1 }; found = found; answer = answer; release_is = h.release_is; left_is = ap
-        (λ (n : ℕ). n - 1) h.left_is }
+    record {
+      request = record r { left = r.left - 1 };
+      found = found;
+      answer = answer;
+      release_is = h.release_is;
+      left_is = ap
+          (λ (n : ℕ). n - 1) h.left_is;
+    }
   where
     r : Request
     r = h.request
@@ -176,17 +182,17 @@ held_without : (from asker : Peer) (id other : ℕ) (parts : List AnswerPart) (r
     → Held from id parts release left rs → Held from id parts release left (without asker other rs)
 held_without from asker id other parts release left rs differs h =
     let stays : not (is_of asker other h.request)
-        ≡ true = ap not (two_requests from asker id other differs h.request (is_found (is_of from id) rs h.request h.found)) in
+    ≡ true = ap not (two_requests from asker id other differs h.request (is_found (is_of from id) rs h.request h.found)) in
     same_held from id parts release left rs (without asker other rs)
-      (found_kept (is_of from id) (λ r. not (is_of asker other r)) rs h.request h.found stays ∙ sym h.found) h
+    (found_kept (is_of from id) (λ r. not (is_of asker other r)) rs h.request h.found stays ∙ sym h.found) h
 
 held_with : (from asker : Peer) (id other : ℕ) (parts : List AnswerPart) (release left : ℕ) (f : Request → Request) (rs : Requests)
     → is_same from id asker other ≡ false
     → ((r : Request) → is_of from id (f r) ≡ is_of from id r) → Held from id parts release left rs
-        → Held from id parts release left (with_first (is_of asker other) f rs)
+    → Held from id parts release left (with_first (is_of asker other) f rs)
 held_with from asker id other parts release left f rs differs same h =
     same_held from id parts release left rs (with_first (is_of asker other) f rs)
-      (find_other (is_of from id) (is_of asker other) f same (two_requests from asker id other differs) rs) h
+    (find_other (is_of from id) (is_of asker other) f same (two_requests from asker id other differs) rs) h
 
 held_heard_other : (from asker : Peer) (id : ℕ) (p : AtpPacket) (parts : List AnswerPart) (release left : ℕ) (rs : Requests)
     → is_same from id asker p.id ≡ false
@@ -230,7 +236,7 @@ held_responded from asker id other parts answer release left rs h = of_same (is_
     of_same false e = of_waiting (waits (request_of asker other rs)) (request_of asker other rs) refl e
     of_same true e =
         let found : request_of asker other rs
-            ≡ Some h.request = ap (λ (q : Request → Bool). find q rs) (one_request from asker id other e) ∙ h.found in
+        ≡ Some h.request = ap (λ (q : Request → Bool). find q rs) (one_request from asker id other e) ∙ h.found in
         let a = h.answer in
         let none : waits (request_of asker other rs) ≡ false = rw (found, a) refl in
         rw none h
@@ -244,9 +250,9 @@ held_again from asker id p parts release left rs same asks h =
     let found : request_of asker p.id rs ≡ Some h.request = ap (λ (q : Request → Bool). find q rs) key ∙ h.found in
     let a = h.answer in
     let there : request_of from id (with_first (is_of from id) repeated rs) ≡ Some (repeated h.request) =
-        find_first (is_of from id) repeated (λ r. refl) rs ∙ ap (option_map repeated) h.found in
+    find_first (is_of from id) repeated (λ r. refl) rs ∙ ap (option_map repeated) h.found in
     let now : Held from id parts release release (with_first (is_of from id) repeated rs) =
-        record { request = repeated h.request; found = there; answer = h.answer; release_is = h.release_is; left_is = h.release_is } in
+    record { request = repeated h.request; found = there; answer = h.answer; release_is = h.release_is; left_is = h.release_is } in
     rw (asks, found, a) (subst (λ (q : Request → Bool). Held from id parts release release (with_first q repeated rs)) (sym key) now)
 
 held_heard : (from asker : Peer) (id : ℕ) (p : AtpPacket) (parts : List AnswerPart) (release left : ℕ) (rs : Requests) (events : List Event)
@@ -266,18 +272,18 @@ held_heard from asker id p parts release left rs events l h = of_same (is_same f
 
 held_on : (from : Peer) (id : ℕ) (parts : List AnswerPart) (release left : ℕ) (rs : Requests) (events : List Event)
     → lasts from id release left events ≡ true → Held from id parts release left rs
-        → (now : ℕ) × Held from id parts release now (run events rs)
+    → (now : ℕ) × Held from id parts release now (run events rs)
 held_on from id parts release left rs [] l h = (left, h)
 held_on from id parts release left rs (Heard asker p ∷ events) l h =
     let r = held_heard from asker id p parts release left rs events l h in
     held_on from id parts release r.0 (heard asker p rs).1 events r.2 r.1
 held_on from id parts release left rs (Responded asker other answer ∷ events) l h =
     held_on from id parts release left (held_after (Responded asker other answer) rs) events l
-        (held_responded from asker id other parts answer release left rs h)
+    (held_responded from asker id other parts answer release left rs h)
 held_on from id parts release left rs (Forgot asker other ∷ events) l h =
     let a = and_parts (not (is_same from id asker other)) (lasts from id release left events) l in
     held_on from id parts release left (without asker other rs) events a.1
-      (held_without from asker id other parts release left rs (not_true (is_same from id asker other) a.0) h)
+    (held_without from asker id other parts release left rs (not_true (is_same from id asker other) a.0) h)
   where
     not_true : (b : Bool) → not b ≡ true → b ≡ false
     not_true true e = absurd cc
@@ -290,12 +296,12 @@ held_on from id parts release left rs (Passed ∷ events) l h =
 held_now : (from : Peer) (id : ℕ) (parts : List AnswerPart) (rs : Requests) (r : Request) → request_of from id rs ≡ Some r → r.once ≡ true
     → Held from id parts r.release r.release (answered from id parts rs)
 held_now from id parts rs r found once = rw (found, once) (record {
-    request = with_answer parts r;
-    found = find_first (is_of from id) (with_answer parts) (λ r. refl) rs ∙ ap (option_map (with_answer parts)) found;
-    answer = refl;
-    release_is = refl;
-    left_is = refl;
-  })
+  request = with_answer parts r;
+  found = find_first (is_of from id) (with_answer parts) (λ r. refl) rs ∙ ap (option_map (with_answer parts)) found;
+  answer = refl;
+  release_is = refl;
+  left_is = refl;
+})
 
 pub still_kept : (from : Peer) (id : ℕ) (parts : List AnswerPart) (rs : Requests) (r : Request) (events : List Event)
     → request_of from id rs ≡ Some r → r.once ≡ true

@@ -14,9 +14,7 @@ mod table;
 mod transaction;
 
 pub use ask::{AnswerPart, Ask, Peer};
-pub use laws::{
-    a_kept_answer_lasts, complete_response, the_end_may_come_early, written_is_read,
-};
+pub use laws::{a_kept_answer_lasts, complete_response, the_end_may_come_early, written_is_read};
 pub use outcome::{Outcome, Response};
 pub use packet::{HEADER_LEN, MAX_DATA, MAX_PARTS, Packet, write};
 pub use replying::reply;

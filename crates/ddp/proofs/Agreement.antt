@@ -90,7 +90,7 @@ agreement bytes d (rest, parts, v, f) =
     let h = value_laid d v in
     let whole : laid d ++ rest ≡ bytes = sym (parts ∙ ap (λ (b : List ℕ). b ++ rest) (bytes_laid d)) in
     let there : Agrees (laid d ++ rest) d =
-      record { hops = laid_hops d rest h; target = laid_target d rest h; len = laid_length d rest h; body = laid_body d rest h } in
+    record { hops = laid_hops d rest h; target = laid_target d rest h; len = laid_length d rest h; body = laid_body d rest h } in
     subst (λ (b : List ℕ). Agrees b d) whole there
 
 pub value_agrees : (bytes : List ℕ) (d : Datagram) → Begins datagram bytes d

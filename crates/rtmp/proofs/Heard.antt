@@ -36,15 +36,15 @@ pub record Keeps (row : Row) (after : Row × Change) : Type 0 where
 hearing_keeps : (row : Row) (t : ℕ) (s : Addr) (port : ℕ) → is_row row ≡ true → Keeps row (after_hearing row t s port)
 hearing_keeps row t s port good =
     step (is_direct row) (nat_le t 14) (not (is_usable row.state) || nat_le (t + 1) row.distance)
-      (same_address row.next s && row.port == port) refl
+    (same_address row.next s && row.port == port) refl
   where
     valid : is_range row.range.start row.range.end ≡ true
     valid = (and_parts (is_range row.range.start row.range.end) (nat_le row.distance 31) good).0
 
     step : (direct near nearer next : Bool) → nat_le t 14 ≡ near
         → Keeps row (cond direct (row, Ignored)
-          (cond (near && nearer) (heard_row row.range t s port, Changed)
-            (cond next (cond near (heard_row row.range t s port) (record row { state = Bad }), Changed) (row, Ignored))))
+        (cond (near && nearer) (heard_row row.range t s port, Changed)
+        (cond next (cond near (heard_row row.range t s port) (record row { state = Bad }), Changed) (row, Ignored))))
     step true near nearer next e = record { good = good; old = λ h. cc }
     step false true true next e = record { good = heard_good row.range t s port valid (leb-true _ _ e); old = λ h. cc }
     step false true false true e = record { good = heard_good row.range t s port valid (leb-true _ _ e); old = λ h. cc }

@@ -87,7 +87,7 @@ above_added row low (r ∷ rows) new each none lt h =
     let o = or_parts (overlaps r.range row.range) (list_any (λ r. overlaps r.range row.range) rows) none in
     let sides = apart r row o.0 e.0 new in
     (elim (nat_lt r.range.start row.range.start) as
-      (λ b. nat_lt r.range.start row.range.start ≡ b → are_above low (added row (r ∷ rows)) ≡ true) [
+    (λ b. nat_lt r.range.start row.range.start ≡ b → are_above low (added row (r ∷ rows)) ≡ true) [
       | true ↦ λ t. rw (t, q.0) (above_added row r.range.end rows new e.1 o.1 (sides.0 (ltb-true _ _ t)) q.1)
       | false ↦ λ t. let a = lt-ltb low row.range.start lt in
           let b = lt-ltb row.range.end r.range.start (sides.1 (ltb-false _ _ t)) in rw (t, a, b, q.1) refl
@@ -98,7 +98,7 @@ all_added row [] new each = rw new refl
 all_added row (r ∷ rows) new each =
     let e = and_parts (is_row r) (list_all is_row rows) each in
     (elim (nat_lt r.range.start row.range.start) as
-      (λ b. nat_lt r.range.start row.range.start ≡ b → list_all is_row (added row (r ∷ rows)) ≡ true) [
+    (λ b. nat_lt r.range.start row.range.start ≡ b → list_all is_row (added row (r ∷ rows)) ≡ true) [
       | true ↦ λ t. rw (t, e.0, all_added row rows new e.1) refl
       | false ↦ λ t. rw (t, new, e.0, e.1) refl
     ]) refl
@@ -107,7 +107,7 @@ pub length_added : (row : Row) (rows : List Row) → length (added row rows) ≡
 length_added row [] = refl
 length_added row (r ∷ rows) =
     (elim (nat_lt r.range.start row.range.start) as
-      (λ b. nat_lt r.range.start row.range.start ≡ b → length (added row (r ∷ rows)) ≡ suc (suc (length rows))) [
+    (λ b. nat_lt r.range.start row.range.start ≡ b → length (added row (r ∷ rows)) ≡ suc (suc (length rows))) [
       | true ↦ λ t. rw t (ap suc (length_added row rows))
       | false ↦ λ t. rw t refl
     ]) refl
@@ -117,7 +117,7 @@ pub put_at : (row : Row) (rows : List Row) → insert rows (before row.range.sta
 put_at row [] = refl
 put_at row (r ∷ rows) =
     (elim (nat_lt r.range.start row.range.start) as
-      (λ b. nat_lt r.range.start row.range.start ≡ b → insert (r ∷ rows) (before row.range.start (r ∷ rows)) row ≡ added row (r ∷ rows)) [
+    (λ b. nat_lt r.range.start row.range.start ≡ b → insert (r ∷ rows) (before row.range.start (r ∷ rows)) row ≡ added row (r ∷ rows)) [
       | true ↦ λ t. rw t (ap (λ (l : List Row). r ∷ l) (put_at row rows))
       | false ↦ λ t. rw t refl
     ]) refl
@@ -126,7 +126,7 @@ put_at row (r ∷ rows) =
 
 one_more : (f : Row → Row) (all : List Row) (i : ℕ) (d : Row) → i < length all
     → set (map f (take i all) ++ drop i all) i (f (get_or (map f (take i all) ++ drop i all) i d))
-      ≡ map f (take (suc i) all) ++ drop (suc i) all
+    ≡ map f (take (suc i) all) ++ drop (suc i) all
 one_more f [] i d lt = absurd (omega arith)
 one_more f (a ∷ all) zero d lt = refl
 one_more f (a ∷ all) (suc i) d lt = ap (λ (l : List Row). f a ∷ l) (one_more f all i d (omega arith))
@@ -190,7 +190,7 @@ pub none_beside : (range : Span) (rows : List Row) → list_any (λ r. overlaps 
 none_beside range [] = refl
 none_beside range (r ∷ rows) =
     (elim (overlaps r.range range) as
-      (λ b. overlaps r.range range ≡ b → list_any (λ r. overlaps r.range range) (beside range (r ∷ rows)) ≡ false) [
+    (λ b. overlaps r.range range ≡ b → list_any (λ r. overlaps r.range range) (beside range (r ∷ rows)) ≡ false) [
       | true ↦ λ t. rw t (none_beside range rows)
       | false ↦ λ t. rw (t, t) (none_beside range rows)
     ]) refl
@@ -219,12 +219,12 @@ aged_map rows h =
 poisoned_range : (next : Addr) (r : Row) → (poisoned_row next r).range ≡ r.range
 poisoned_range next r =
     elim (not (is_direct r) && same_address r.next next) as (λ b. (cond b (record r { state = Bad }) r).range ≡ r.range)
-      [ true ↦ refl | false ↦ refl ]
+    [ true ↦ refl | false ↦ refl ]
 
 poisoned_good : (next : Addr) (r : Row) → is_row r ≡ true → is_row (poisoned_row next r) ≡ true
 poisoned_good next r h =
     elim (not (is_direct r) && same_address r.next next) as (λ b. is_row (cond b (record r { state = Bad }) r) ≡ true)
-      [ true ↦ h | false ↦ h ]
+    [ true ↦ h | false ↦ h ]
 
 pub poisoned_map : (next : Addr) (rows : List Row) → IsRouteMap rows → IsRouteMap (poisoned next rows)
 poisoned_map next rows h = updated_map (poisoned_row next) (poisoned_range next) (poisoned_good next) rows h
@@ -233,9 +233,9 @@ poisoned_map next rows h = updated_map (poisoned_row next) (poisoned_range next)
 replaced_range : (row r : Row) → (replaced_row row r).range ≡ r.range
 replaced_range row r =
     (elim (same_range r.range row.range) as (λ b. same_range r.range row.range ≡ b → (replaced_row row r).range ≡ r.range) [
-  | true ↦ λ t. rw t (sym (one_range r.range row.range t))
-  | false ↦ λ t. rw t refl
-]) refl
+      | true ↦ λ t. rw t (sym (one_range r.range row.range t))
+      | false ↦ λ t. rw t refl
+    ]) refl
 
 replaced_good : (row : Row) → is_row row ≡ true → (r : Row) → is_row r ≡ true → is_row (replaced_row row r) ≡ true
 replaced_good row new r h = elim (same_range r.range row.range) as (λ b. is_row (cond b row r) ≡ true) [ true ↦ new | false ↦ h ]
@@ -247,4 +247,4 @@ pub directed_map : (range : Span) (port : ℕ) (rows : List Row) → is_range ra
     → IsRouteMap rows → IsRouteMap (directed range port rows)
 directed_map range port rows valid room h =
     added_map (direct_row range port) (beside range rows) (rw valid refl) (none_beside range rows) room
-      (filtered_map (λ r. not (overlaps r.range range)) rows h)
+    (filtered_map (λ r. not (overlaps r.range range)) rows h)

@@ -66,7 +66,7 @@ pub window_later : (port left_out count : ℕ) (r : Row) (rows : List Row) → (
 window_later port left_out count r rows t some =
     let n : left_out ≡ suc (left_out - 1) = omega arith in
     let e : drop left_out (r ∷ of_other_ports port rows) ≡ drop (left_out - 1) (of_other_ports port rows) =
-      ap (λ (k : ℕ). drop k (r ∷ of_other_ports port rows)) n in
+    ap (λ (k : ℕ). drop k (r ∷ of_other_ports port rows)) n in
     rw (others_take port r rows t, e) refl
 
 pub window_sent : (port count : ℕ) (r : Row) (rows : List Row) → (r.port ≡ port → ⊥) → 0 < count
@@ -74,7 +74,7 @@ pub window_sent : (port count : ℕ) (r : Row) (rows : List Row) → (r.port ≡
 window_sent port count r rows t some =
     let n : count ≡ suc (count - 1) = omega arith in
     let e : take count (r ∷ of_other_ports port rows) ≡ r ∷ take (count - 1) (of_other_ports port rows) =
-      ap (λ (k : ℕ). take k (r ∷ of_other_ports port rows)) n in
+    ap (λ (k : ℕ). take k (r ∷ of_other_ports port rows)) n in
     rw (others_take port r rows t, e) refl
 
 -- ---- What a step of the loop leaves: what is written, and what is left to be written, is all
@@ -86,9 +86,9 @@ pub goes_on_written : (port left_out count : ℕ) (r : Row) (rest : List Row) (i
 goes_on_written port left_out count r rest items written total so_far other none some is =
     let z : left_out ≡ 0 = omega arith in
     let step : window port left_out count (r ∷ rest) ≡ tuple_bytes (sent_tuple r) ++ window port left_out (count - 1) rest =
-      rw z (window_sent port count r rest other some) in
+    rw z (window_sent port count r rest other some) in
     let bytes : written ++ window port left_out (count - 1) rest ≡ items ++ window port left_out count (r ∷ rest) =
-      rw (is, step) (simp append_assoc) in
+    rw (is, step) (simp append_assoc) in
     bytes ∙ so_far
 
 -- enough rows were written
@@ -125,7 +125,7 @@ pub window_good : (port left_out : ℕ) (rows : List Row) → list_all is_row ro
 window_good port left_out rows h =
     let others = of_other_ports port rows in
     all_sent (take 96 (drop left_out others))
-      (all_take 96 (drop left_out others) (all_drop left_out others (all_filter (λ r. not (r.port == port)) rows h)))
+    (all_take 96 (drop left_out others) (all_drop left_out others (all_filter (λ r. not (r.port == port)) rows h)))
 
 -- ---- The packet of a number
 
@@ -136,7 +136,7 @@ pub numbered : (port : ℕ) (own : Span) (me : Addr) (n : ℕ) (rows : List Row)
     → IsPacket (packet_numbered port own me n rows) (Some bytes)
 numbered port own me n rows bytes there h net node valid is =
     rw (there, is) (data_spelled me own (map sent_tuple (take 96 (drop (n * 96) (of_other_ports port rows)))) net node valid
-      (window_good port (n * 96) rows h.each))
+    (window_good port (n * 96) rows h.each))
 
 -- the parts, written one after the other
 pub laid : (me : Addr) (own : Span) (rest a b d : List ℕ) → a ≡ [] → b ≡ a ++ head_bytes me ++ tuple_bytes (own_tuple own) → d ≡ b ++ rest

@@ -14,8 +14,10 @@ extension_lawful low start third true = λ end p. (λ version q. refl, λ versio
 pub written_lawful : (low : ℕ) → IsLawful (written_tuple low)
 unfolding written_tuple
 written_lawful low =
-    λ start p. (λ third q extension r. refl,
-      λ third q. (λ extension r. refl, (extension_lawful low start third _, λ extension r. (refl, tt))))
+    λ start p. (
+      λ third q extension r. refl,
+      λ third q. (λ extension r. refl, (extension_lawful low start third _, λ extension r. (refl, tt))),
+    )
 
 pub written_long : (low : ℕ) (t : Written) → IsValue (written_tuple low) t → 1 ≤ length (bytes_of (written_tuple low) t)
 unfolding written_tuple

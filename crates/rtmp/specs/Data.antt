@@ -63,7 +63,7 @@ routing_data =
     field (number one (only 8 IdLength)) (λ p. 8) (λ length_of_node.
     field (number one any) (λ p. p.router.node) (λ node.
     many written_tuple (λ t. 1) at_least_one (λ p. p.written)
-      (λ written. record { router = record { net = net; node = node }; written = written })))))
+    (λ written. record { router = record { net = net; node = node }; written = written })))))
 
 -- what an extended tuple says: how far its range is; the others are skipped
 abbrev pub tuple_of : Written → Option Tuple

@@ -8,4 +8,4 @@ abbrev pub invariant-loop-row : goal.invariant-loop-row
 invariant-loop-row l =
     (are_above 0 l.rows ≡ are_above l.end (drop l.row-index l.rows))
     × (list_all (λ r. is_range r.range.start r.range.end) l.rows
-      ≡ list_all (λ r. is_range r.range.start r.range.end) (drop l.row-index l.rows))
+    ≡ list_all (λ r. is_range r.range.start r.range.end) (drop l.row-index l.rows))

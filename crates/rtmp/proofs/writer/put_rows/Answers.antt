@@ -9,8 +9,11 @@ pub loop-index-preserved-then-row-port : goal.loop-index-preserved-then-row-port
 loop-index-preserved-then-row-port g c =
     let rows = g.T.RouteTable.rows c.args.table.now in
     let next = row_next rows c.loop-index.index c.in-Some.row (sym c.row.ensures.value ∙ c.in-Some.is) in
-    rw (next, window_skip c.args.port c.loop-index.left_out c.loop-index.room c.in-Some.row (drop (c.loop-index.index + 1) rows)
-      c.if-row-port.true) at c.loop-index.invariant
+    rw (
+      next,
+      window_skip c.args.port c.loop-index.left_out c.loop-index.room c.in-Some.row (drop (c.loop-index.index + 1) rows)
+          c.if-row-port.true,
+    ) at c.loop-index.invariant
 
 pub put_tuple-requires : goal.put_tuple-requires
 put_tuple-requires g c =
@@ -23,8 +26,11 @@ loop-index-preserved g c = elim c.match-row.branch [
       let rows = g.T.RouteTable.rows c.args.table.now in
       let next = row_next rows c.loop-index.index w.in-Some.row (sym c.row.ensures.value ∙ w.in-Some.is) in
       let so_far =
-        rw (next, window_later c.args.port c.loop-index.left_out c.loop-index.room w.in-Some.row (drop (c.loop-index.index + 1) rows)
-          w.if-row-port.false w.if-left_out-gt0.true) at c.loop-index.invariant in
+      rw (
+        next,
+        window_later c.args.port c.loop-index.left_out c.loop-index.room w.in-Some.row (drop (c.loop-index.index + 1) rows)
+            w.if-row-port.false w.if-left_out-gt0.true,
+      ) at c.loop-index.invariant in
       rw (w.bytes-is, w.left_out-is, w.room-is) so_far
   | in-Some+else-row-port+else-left_out-gt0+then-room-gt0+in_ok-put_tuple w ↦
       let rows = g.T.RouteTable.rows c.args.table.now in
@@ -33,15 +39,15 @@ loop-index-preserved g c = elim c.match-row.branch [
       let written = (w.in_ok-put_tuple.ensures {u = tt}).put in
       rw (w.bytes-is, w.left_out-is, w.room-is)
       (goes_on_written c.args.port c.loop-index.left_out c.loop-index.room w.in-Some.row (drop (c.loop-index.index + 1) rows)
-        c.loop-index.bytes.items w.put_tuple.new.bytes.items _ so_far w.if-row-port.false w.if-left_out-gt0.false w.if-room-gt0.true
-          (rw w.sent_tuple.ensures at written))
+      c.loop-index.bytes.items w.put_tuple.new.bytes.items _ so_far w.if-row-port.false w.if-left_out-gt0.false w.if-room-gt0.true
+      (rw w.sent_tuple.ensures at written))
   | in-Some+else-row-port+else-left_out-gt0+else-room-gt0 w ↦
       rw (w.bytes-is, w.left_out-is, w.room-is)
       (goes_on_full c.args.port c.loop-index.left_out c.loop-index.room (drop c.loop-index.index (g.T.RouteTable.rows c.args.table.now))
-        (drop (c.loop-index.index + 1) (g.T.RouteTable.rows c.args.table.now)) c.loop-index.bytes.items _ c.loop-index.invariant
-          w.if-room-gt0.false)
+      (drop (c.loop-index.index + 1) (g.T.RouteTable.rows c.args.table.now)) c.loop-index.bytes.items _ c.loop-index.invariant
+      w.if-room-gt0.false)
   | in_default w ↦
       let rows = g.T.RouteTable.rows c.args.table.now in
       absurd (none_next rows c.loop-index.index (sym c.row.ensures.value ∙ w.in_default.is)
-        (omega (arith, c.loop-index-test.true, c.len-index-end.ensures.value)))
+      (omega (arith, c.loop-index-test.true, c.len-index-end.ensures.value)))
 ]

@@ -7,6 +7,6 @@ use Rattle.rtmp.proofs.writer.put_rows.Given as goal
 abbrev pub invariant-loop-index : goal.invariant-loop-index
 invariant-loop-index g l =
     l.bytes.items ++ tuples_bytes
-      (map sent_tuple (take l.room (drop l.left_out (of_other_ports l.port (drop l.index (g.T.RouteTable.rows l.table))))))
+    (map sent_tuple (take l.room (drop l.left_out (of_other_ports l.port (drop l.index (g.T.RouteTable.rows l.table))))))
     ≡ l.initial.bytes.items ++ tuples_bytes
-      (map sent_tuple (take 96 (drop l.initial.left_out (of_other_ports l.port (g.T.RouteTable.rows l.table)))))
+    (map sent_tuple (take 96 (drop l.initial.left_out (of_other_ports l.port (g.T.RouteTable.rows l.table)))))

@@ -7,7 +7,7 @@ pub invariant_of-self-2 : goal.invariant_of-self-2
 invariant_of-self-2 c =
     let same = (c.in_ok-reserve.ensures {u = tt}).items in
     let counted : c.count_beside.result ≡ length (beside c.args.range c.self.inside.rows.items) =
-      rw c.as_slice.ensures.value at c.count_beside.ensures in
+    rw c.as_slice.ensures.value at c.count_beside.ensures in
     let room : length (beside c.args.range c.self.inside.rows.items) < 200 = omega arith in
     rw (c.put.ensures, c.direct_row.ensures, c.keep_beside.ensures.kept, same)
-      (directed_map c.args.range c.args.port c.self.inside.rows.items c.recall_valid.ensures room c.self.invariant)
+    (directed_map c.args.range c.args.port c.self.inside.rows.items c.recall_valid.ensures room c.self.invariant)
