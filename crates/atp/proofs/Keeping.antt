@@ -1,17 +1,15 @@
 -- An answer that is kept is there until its release, or until its time is over.
-use Rattle.std.proofs.Common.{◌≡◌, ℕ, ◌-◌, ◌<◌, ◌≤◌, ◌==◌, ◌&&◌, ◌++◌, Bool, true, false, cond, not, eqb, ltb, nat_le, nat_lt}
+use Rattle.std.proofs.Common.{◌≡◌, ℕ, ◌-◌, ◌==◌, ◌++◌, Bool, true, false, cond, not, eqb, nat_le, nat_lt}
 use Rattle.std.proofs.Common.{List, [], ◌∷◌, filter, map, Option, Some, None, is_some, refl, sym, ap, subst, ◌∙◌, arith}
 use Rattle.std.specs.List.{find}
-use Rattle.std.specs.Option.{option_map, option_or}
-use Rattle.std.proofs.lemmas.Bool.{and_parts, eqb-true, ltb-true}
+use Rattle.std.specs.Option.{option_map}
+use Rattle.std.proofs.lemmas.Bool.{and_parts, eqb-true}
 use Rattle.std.proofs.lemmas.Bool.Decides.{nat_tests}
 use Rattle.std.proofs.lemmas.List.Folds.{find-append}
 use Rattle.at_base.specs.Address.{same_address}
-use Rattle.at_base.specs.declared.address.Addr.{Addr}
 use Rattle.atp.specs.declared.ask.AnswerPart.{AnswerPart}
 use Rattle.atp.specs.declared.ask.Peer.{Peer}
 use Rattle.atp.specs.declared.request.Request.{Request}
-use Rattle.atp.specs.declared.request.Todo.{Todo}
 use Rattle.atp.specs.declared.request.Todo.TheVariants.{Again}
 use Rattle.atp.specs.Keeping.{Event, Heard, Responded, Forgot, Passed, held_after, is_same, lasts, run}
 use Rattle.atp.specs.Packets.{AtpPacket, is_release, is_request}
