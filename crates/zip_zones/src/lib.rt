@@ -9,6 +9,7 @@ mod networks;
 mod packet;
 mod page;
 mod table;
+mod writer;
 mod zone;
 
 pub use entries::Entries;
@@ -17,3 +18,4 @@ pub use networks::Networks;
 pub use packet::{Function, NetInfo, Packet};
 pub use page::{MAX_PAGE, Page, zone_list_page};
 pub use table::{MAX_LISTS, MAX_ZONES, ZoneTable};
+pub use writer::{MAX_NETWORKS, write_extended, write_query};

@@ -5,6 +5,7 @@ mod again;
 mod packets;
 mod pages;
 mod tables;
+mod written;
 
 use at_base::{Error, Field};
 use packets::{
@@ -17,6 +18,7 @@ use tables::{
     adds_each, all_once, are_cables, due_is, is_full_at_200, is_listed, is_removed, is_set,
     loses_its_overlaps, totals_are_limited,
 };
+use written::{is_blue, is_query, is_red_and_blue, len_with, query_len};
 
 // ---- Zone tables
 
@@ -147,5 +149,37 @@ fn packets_are_refused_at_their_first_fault(rt: HostRuntime) -> Result<(), Fail>
     assert!(rt; packets::is_refused(&[8, 1, 0, 1, 1, b'*', 0, 2, 0], Error::BadName));
     assert!(rt; packets::is_refused(&[6, 0, 0, 1, 0, 2, 0, 5], lengths));
     assert!(rt; packets::is_refused(&[5, 0, 0, 0, 0, 0, 33], length));
+    Ok(())
+}
+
+// ---- Packets that are written
+
+#[test]
+fn a_query_is_written(rt: HostRuntime) -> Result<(), Fail> {
+    assert!(rt; is_query(rt.alloc(), &[30, 20], &QUERY)?);
+    assert!(rt; is_query(rt.alloc(), &[], &[1, 0])?);
+    assert!(rt; is_query(rt.alloc(), &[0x1234], &[1, 1, 0x12, 0x34])?);
+    Ok(())
+}
+
+#[test]
+fn a_query_names_at_most_255_networks(rt: HostRuntime) -> Result<(), Fail> {
+    assert_eq!(rt; query_len(rt.alloc(), &[0x0102; 255])?, 512);
+    assert!(rt; matches!(query_len(rt.alloc(), &[1; 256]), Err(Error::Full)));
+    Ok(())
+}
+
+#[test]
+fn names_of_one_network_are_written(rt: HostRuntime) -> Result<(), Fail> {
+    assert!(rt; is_blue(rt.alloc(), 30, 1, &[8, 1, 0, 30, 4, b'B', b'l', b'u', b'e'])?);
+    assert!(rt; is_red_and_blue(rt.alloc(), 20, 2, &NAMES_OF_20)?);
+    Ok(())
+}
+
+/// 16 names of 32 bytes leave 24 bytes: room for a name of 21.
+#[test]
+fn an_extended_reply_has_at_most_586_bytes(rt: HostRuntime) -> Result<(), Fail> {
+    assert_eq!(rt; len_with(rt.alloc(), &LONG[..21])?, 586);
+    assert!(rt; matches!(len_with(rt.alloc(), &LONG[..22]), Err(Error::TooLong)));
     Ok(())
 }
