@@ -1,15 +1,18 @@
 -- What is written are the bytes of the packet's format.
-use Rattle.std.proofs.Common.{◌≡◌, ℕ, ◌+◌, ◌≤◌, List, [], ◌∷◌, ◌++◌, length, refl, ap, arith}
-use Rattle.std.specs.Int.{byte_at}
+use Rattle.std.proofs.Common.{◌≡◌, ℕ, ◌+◌, ◌/◌, ◌==◌, ◌≤◌, Bool, true, false, List, [], ◌∷◌, ◌++◌, length, refl, ap, append_assoc, if◌then◌else◌, arith}
+use Rattle.std.specs.Prelude.{is_some}
+use Rattle.std.specs.Int.{byte_at, to_be_bytes, w16}
 use Rattle.std.proofs.lemmas.List.{append-nil}
+use Rattle.at_base.specs.Packets.{any, text}
 use Rattle.at_base.specs.Spelling.{bytes_of, list_bytes}
 use Rattle.zip_zones.specs.declared.entry.Entry.{Entry}
 use Rattle.zip_zones.specs.declared.entry.Nets.TheVariants.{One}
+use Rattle.zip_zones.specs.declared.packet.NetInfo.{NetInfo}
 use Rattle.zip_zones.specs.declared.packet.Packet.TheVariants as p
-use Rattle.zip_zones.specs.Formats.{body, packet}
+use Rattle.zip_zones.specs.Formats.{body, default_zone, packet}
 use Rattle.zip_zones.specs.Networks.{network}
 use Rattle.zip_zones.specs.Packets.{entry, next_net}
-use Rattle.zip_zones.specs.Written.{entries_bytes, networks_bytes}
+use Rattle.zip_zones.specs.Written.{default_for, entries_bytes, flags_for, networks_bytes}
 
 -- ---- Queries
 
@@ -38,3 +41,28 @@ unfolding packet body
 extended_written total es small =
     let number : byte_at 0 total ≡ total = omega arith in
     rw (number, entries_listed 0 es) refl
+
+-- ---- What a node is told of its cable
+
+-- the first flag says whether the default zone is named
+pub flag_tells : (found : Bool) (count : ℕ) (first : List ℕ) → (flags_for found count / 128 == 1) ≡ is_some (default_for found first)
+flag_tells found count first = by_flags found (count == 1)
+  where
+    by_flags : (f c : Bool) → (((if f then 0 else 128) + (if c then 32 else 0)) / 128 == 1) ≡ is_some (default_for f first)
+    by_flags true true = refl
+    by_flags true false = refl
+    by_flags false true = refl
+    by_flags false false = refl
+
+no_more : (t g d : List ℕ) → (t ++ 6 ∷ g) ++ d ≡ t ++ (6 ∷ (g ++ (d ++ [])))
+no_more t g d = rw (append-nil d, append_assoc t (6 ∷ g) d) refl
+
+pub info_written : (info : NetInfo) → info.flags ≤ 255 → (info.flags / 128 == 1) ≡ is_some info.default
+    → ((((6 ∷ info.flags ∷ []) ++ to_be_bytes w16 info.start ++ to_be_bytes w16 info.end) ++ bytes_of (text 0 any) info.asked) ++ 6 ∷ info.group.0)
+    ++ bytes_of (default_zone (is_some info.default)) info.default ≡ bytes_of packet (p.NetInfoReply info)
+unfolding packet body
+info_written info small tells =
+    let flags : byte_at 0 info.flags ≡ info.flags = omega arith in
+    rw (flags, tells)
+    (ap (λ (l : List ℕ). 6 ∷ info.flags ∷ to_be_bytes w16 info.start ++ (to_be_bytes w16 info.end ++ l))
+    (no_more (bytes_of (text 0 any) info.asked) info.group.0 (bytes_of (default_zone (is_some info.default)) info.default)))

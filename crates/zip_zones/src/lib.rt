@@ -1,6 +1,7 @@
 //! Zone lists: what a router knows of the zones of each range, and the packets that say it.
 #![tactic(auto)]
 
+mod answer;
 mod due;
 mod entries;
 mod entry;
@@ -12,6 +13,7 @@ mod table;
 mod writer;
 mod zone;
 
+pub use answer::answer_net_info;
 pub use entries::Entries;
 pub use entry::Entry;
 pub use networks::Networks;

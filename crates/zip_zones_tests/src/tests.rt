@@ -18,7 +18,7 @@ use tables::{
     adds_each, all_once, are_cables, due_is, is_full_at_200, is_listed, is_removed, is_set,
     loses_its_overlaps, totals_are_limited,
 };
-use written::{is_blue, is_query, is_red_and_blue, len_with, query_len};
+use written::{is_blue, is_query, is_red_and_blue, is_told_on_10, len_with, query_len, told_on_20};
 
 // ---- Zone tables
 
@@ -181,5 +181,28 @@ fn names_of_one_network_are_written(rt: HostRuntime) -> Result<(), Fail> {
 fn an_extended_reply_has_at_most_586_bytes(rt: HostRuntime) -> Result<(), Fail> {
     assert_eq!(rt; len_with(rt.alloc(), &LONG[..21])?, 586);
     assert!(rt; matches!(len_with(rt.alloc(), &LONG[..22]), Err(Error::TooLong)));
+    Ok(())
+}
+
+/// Of another zone it is told the default zone, and that zone's group.
+#[test]
+fn a_node_is_told_of_its_cable(rt: HostRuntime) -> Result<(), Fail> {
+    let other = [
+        6, 0xA0, 0, 10, 0, 19, 1, b'*', 6, 9, 0, 7, 0, 0, 0x38, 3, b'R', b'e', b'd',
+    ];
+    let none = [
+        6, 0xA0, 0, 10, 0, 19, 0, 6, 9, 0, 7, 0, 0, 0x38, 3, b'R', b'e', b'd',
+    ];
+    assert!(rt; is_told_on_10(rt.alloc(), b"red", &CABLE_10_19)?);
+    assert!(rt; is_told_on_10(rt.alloc(), b"*", &other)?);
+    assert!(rt; is_told_on_10(rt.alloc(), b"", &none)?);
+    Ok(())
+}
+
+#[test]
+fn a_node_is_told_the_group_of_its_zone(rt: HostRuntime) -> Result<(), Fail> {
+    assert_eq!(rt; told_on_20(rt.alloc(), b"BLUE")?, (0, 118));
+    assert_eq!(rt; told_on_20(rt.alloc(), b"Green")?, (0x80, 0x38));
+    assert_eq!(rt; told_on_20(rt.alloc(), &[0xFF; 32])?, (0x80, 0x38));
     Ok(())
 }
