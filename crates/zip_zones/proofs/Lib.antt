@@ -4,3 +4,4 @@ pub mod Asked
 pub mod Shape
 pub mod InPlace
 pub mod NetworksInPlace
+pub mod Written

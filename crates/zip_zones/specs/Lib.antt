@@ -4,3 +4,4 @@ pub mod Pages
 pub mod Packets
 pub mod Networks
 pub mod Formats
+pub mod Written

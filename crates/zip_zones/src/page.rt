@@ -23,7 +23,7 @@ pub struct Page {
 }
 
 /// Appends a name after its length.
-fn put_name(bytes: &mut Vec<u8>, name: &Name) -> Result<(), Error>
+pub(crate) fn put_name(bytes: &mut Vec<u8>, name: &Name) -> Result<(), Error>
     ensures put { OnOk result (bytes.new.items ≡ bytes.old.items ++ name_bytes name.now) }
     ensures err { IsOkUnless result Error.Memory }
 {

@@ -6,6 +6,7 @@ mod packets;
 mod pages;
 mod readme;
 mod tables;
+mod written;
 
 use at_base::{Error, Field};
 use packets::{
@@ -18,6 +19,7 @@ use tables::{
     adds_each, all_once, are_cables, due_is, is_full_at_200, is_listed, is_removed, is_set,
     loses_its_overlaps, totals_are_limited,
 };
+use written::{is_blue, is_query, is_red_and_blue, is_told_on_10, len_with, query_len, told_on_20};
 
 // ---- Zone tables
 
@@ -154,5 +156,60 @@ fn packets_are_refused_at_their_first_fault(rt: HostRuntime) -> Result<(), Fail>
     assert!(rt; packets::is_refused(&[8, 1, 0, 1, 1, b'*', 0, 2, 0], Error::BadName));
     assert!(rt; packets::is_refused(&[6, 0, 0, 1, 0, 2, 0, 5], lengths));
     assert!(rt; packets::is_refused(&[5, 0, 0, 0, 0, 0, 33], length));
+    Ok(())
+}
+
+// ---- Packets that are written
+
+#[test]
+fn a_query_is_written(rt: HostRuntime) -> Result<(), Fail> {
+    assert!(rt; is_query(rt.alloc(), &[30, 20], &QUERY)?);
+    assert!(rt; is_query(rt.alloc(), &[], &[1, 0])?);
+    assert!(rt; is_query(rt.alloc(), &[0x1234], &[1, 1, 0x12, 0x34])?);
+    Ok(())
+}
+
+#[test]
+fn a_query_names_at_most_255_networks(rt: HostRuntime) -> Result<(), Fail> {
+    assert_eq!(rt; query_len(rt.alloc(), &[0x0102; 255])?, 512);
+    assert!(rt; matches!(query_len(rt.alloc(), &[1; 256]), Err(Error::Full)));
+    Ok(())
+}
+
+#[test]
+fn names_of_one_network_are_written(rt: HostRuntime) -> Result<(), Fail> {
+    assert!(rt; is_blue(rt.alloc(), 30, 1, &[8, 1, 0, 30, 4, b'B', b'l', b'u', b'e'])?);
+    assert!(rt; is_red_and_blue(rt.alloc(), 20, 2, &NAMES_OF_20)?);
+    Ok(())
+}
+
+/// 16 names of 32 bytes leave 24 bytes: room for a name of 21.
+#[test]
+fn an_extended_reply_has_at_most_586_bytes(rt: HostRuntime) -> Result<(), Fail> {
+    assert_eq!(rt; len_with(rt.alloc(), &LONG[..21])?, 586);
+    assert!(rt; matches!(len_with(rt.alloc(), &LONG[..22]), Err(Error::TooLong)));
+    Ok(())
+}
+
+/// Of another zone it is told the default zone, and that zone's group.
+#[test]
+fn a_node_is_told_of_its_cable(rt: HostRuntime) -> Result<(), Fail> {
+    let other = [
+        6, 0xA0, 0, 10, 0, 19, 1, b'*', 6, 9, 0, 7, 0, 0, 0x38, 3, b'R', b'e', b'd',
+    ];
+    let none = [
+        6, 0xA0, 0, 10, 0, 19, 0, 6, 9, 0, 7, 0, 0, 0x38, 3, b'R', b'e', b'd',
+    ];
+    assert!(rt; is_told_on_10(rt.alloc(), b"red", &CABLE_10_19)?);
+    assert!(rt; is_told_on_10(rt.alloc(), b"*", &other)?);
+    assert!(rt; is_told_on_10(rt.alloc(), b"", &none)?);
+    Ok(())
+}
+
+#[test]
+fn a_node_is_told_the_group_of_its_zone(rt: HostRuntime) -> Result<(), Fail> {
+    assert_eq!(rt; told_on_20(rt.alloc(), b"BLUE")?, (0, 118));
+    assert_eq!(rt; told_on_20(rt.alloc(), b"Green")?, (0x80, 0x38));
+    assert_eq!(rt; told_on_20(rt.alloc(), &[0xFF; 32])?, (0x80, 0x38));
     Ok(())
 }

@@ -1,0 +1,73 @@
+-- ZIP packets as they are written. (Inside AppleTalk, the chapter on ZIP)
+use Rattle.std.specs.Prelude.{ℕ, ◌+◌, ◌%◌, Bool, ◌==◌, List, [], ◌∷◌, ◌++◌, length, map, find, Option, Some, None}
+use Rattle.std.specs.Prelude.{is_some, if◌then◌else◌}
+use Rattle.std.specs.Char.{to_ascii_uppercase}
+use Rattle.std.specs.Option.{unwrap_or}
+use Rattle.at_base.specs.declared.address.Hw.{Hw}
+use Rattle.at_base.specs.Checksum.{sum_of}
+use Rattle.at_base.specs.Range.{Span}
+use Rattle.at_base.specs.Spelling.{bytes_of}
+use Rattle.at_base.specs.Text.{is_name, same_name}
+use Rattle.zip_zones.specs.declared.entry.Entry.{Entry}
+use Rattle.zip_zones.specs.declared.packet.NetInfo.{NetInfo}
+use Rattle.zip_zones.specs.declared.packet.Packet.{Packet}
+use Rattle.zip_zones.specs.declared.packet.Packet.TheVariants as p
+use Rattle.zip_zones.specs.Networks.{network}
+use Rattle.zip_zones.specs.Packets.{entry}
+
+-- the bytes of networks, one after the other
+abbrev pub networks_bytes : List ℕ → List ℕ
+networks_bytes [] = []
+networks_bytes (net ∷ nets) = bytes_of network net ++ networks_bytes nets
+
+-- an entry for each of the names, all of one network
+abbrev pub entries_of : ℕ → List (List ℕ) → List Entry
+entries_of net names = map (λ name. record { net = net; name = name }) names
+
+-- the bytes of entries, one after the other
+abbrev pub entries_bytes : List Entry → List ℕ
+entries_bytes [] = []
+entries_bytes (e ∷ es) = bytes_of (entry 0) e ++ entries_bytes es
+
+-- the number of bytes of an entry for each of the names: its network takes two, and the length of the name one
+abbrev pub entries_size : List (List ℕ) → ℕ
+entries_size [] = 0
+entries_size (name ∷ names) = 3 + length name + entries_size names
+
+-- the reply with all these names of a network that has so many zones
+abbrev pub extended_reply : ℕ → ℕ → List (List ℕ) → Packet
+extended_reply net total names = p.ExtendedReply total (entries_of net names)
+
+-- ---- What a node is told of its cable
+
+-- the list's zone that a text names, in any case
+abbrev pub listed : List ℕ → List (List ℕ) → Option (List ℕ)
+listed asked names = if is_name asked then find (same_name asked) names else None
+
+-- the first name of a list, which is that of the default zone
+abbrev pub first_of : List (List ℕ) → List ℕ
+first_of [] = []
+first_of (name ∷ names) = name
+
+-- the hardware address of a zone's group
+abbrev pub zone_group : List ℕ → Hw
+zone_group zone = record { 0 = 9 ∷ 0 ∷ 7 ∷ 0 ∷ 0 ∷ (sum_of (map to_ascii_uppercase zone) % 253) ∷ [] }
+
+-- 80 (hex) where the zone asked for isn't listed, and 20 where so many zones are one
+abbrev pub flags_for : Bool → ℕ → ℕ
+flags_for found count = (if found then 0 else 128) + (if count == 1 then 32 else 0)
+
+-- the default zone is named where the zone asked for isn't listed
+abbrev pub default_for : Bool → List ℕ → Option (List ℕ)
+default_for found first = if found then None else Some first
+
+-- what a node that asks for a zone is told of a cable whose list has these names
+abbrev pub net_info : List ℕ → Span → List (List ℕ) → NetInfo
+net_info asked range names = record {
+  flags = flags_for (is_some (listed asked names)) (length names);
+  start = range.start;
+  end = range.end;
+  asked = asked;
+  group = zone_group (unwrap_or (listed asked names) (first_of names));
+  default = default_for (is_some (listed asked names)) (first_of names);
+}
