@@ -70,11 +70,8 @@ pub(crate) fn is_extended(bytes: &[u8], total: u8, wanted: &[(u16, &[u8])]) -> b
     }
 }
 
-pub(crate) fn is_asked(bytes: &[u8], zone: &[u8]) -> bool {
-    match Packet::read(bytes) {
-        Ok(Packet::GetNetInfo(unused, asked)) => unused == [0; 5] && asked.as_slice() == zone,
-        _ => false,
-    }
+pub(crate) fn is_asked(bytes: &[u8]) -> bool {
+    matches!(Packet::read(bytes), Ok(Packet::GetNetInfo(_, _)))
 }
 
 pub(crate) fn is_info(bytes: &[u8]) -> bool {

@@ -15,20 +15,16 @@ fn page(alloc: Global, start: u16, names: &[Name]) -> Result<Page, Error> {
 }
 
 /// 18 times a name.
-pub(crate) fn long_page(text: &[u8]) -> [Name; 18] {
-    match Name::new(text) {
-        Ok(name) => [name; 18],
-        Err(_) => unreachable!(),
-    }
+pub(crate) fn long_page(text: &[u8]) -> Result<[Name; 18], Error> {
+    let name = Name::new(text)?;
+    Ok([name; 18])
 }
 
 /// 17 names of 32 bytes, and one of 16.
-pub(crate) fn exact_page() -> [Name; 18] {
-    let mut names = long_page(LONG);
-    if let Ok(name) = Name::new(&LONG[..16]) {
-        names[17] = name;
-    }
-    names
+pub(crate) fn exact_page() -> Result<[Name; 18], Error> {
+    let mut names = long_page(LONG)?;
+    names[17] = Name::new(&LONG[..16])?;
+    Ok(names)
 }
 
 /// Whether the page of Red and Blue that begins at an index is this.

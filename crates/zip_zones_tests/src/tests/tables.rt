@@ -112,16 +112,31 @@ pub(crate) fn totals_are_limited(alloc: Global) -> Result<bool, Error> {
     Ok(full && above && empty && one && !zones.complete(1))
 }
 
+/// Takes each of these networks as a range of its own, with a zone.
+fn set_each(zones: &mut ZoneTable, first: u16, last: u16) -> Result<(), Error> {
+    let names = [Name::new(b"A")?];
+    for net in first..=last {
+        let cable = range(net, net)?;
+        set(zones, cable, &names)?;
+    }
+    Ok(())
+}
+
+/// Whether the list of another range is refused for want of room.
+fn is_full(zones: &mut ZoneTable) -> Result<bool, Error> {
+    let far = range(300, 300)?;
+    let name = Name::new(b"A")?;
+    let more = matches!(zones.add(far, 1, &name), Err(Error::Full));
+    Ok(more && matches!(zones.set(far, &[name]), Err(Error::Full)))
+}
+
 pub(crate) fn is_full_at_200(alloc: Global) -> Result<bool, Error> {
     let mut zones = table(alloc)?;
-    let names = [Name::new(b"A")?];
-    for net in 1..201 {
-        set(&mut zones, range(net, net)?, &names)?;
-    }
-    let full = matches!(zones.set(range(300, 300)?, &names), Err(Error::Full));
-    let more = matches!(zones.add(range(300, 300)?, 1, &names[0]), Err(Error::Full));
-    set(&mut zones, range(200, 200)?, &two(b"B", b"C")?)?;
-    Ok(full && more && zones.len() == 200 && names_of(&zones, 200)?.len() == 2)
+    set_each(&mut zones, 1, 200)?;
+    let full = is_full(&mut zones)?;
+    let last = range(200, 200)?;
+    set(&mut zones, last, &two(b"B", b"C")?)?;
+    Ok(full && zones.len() == 200 && names_of(&zones, 200)?.len() == 2)
 }
 
 pub(crate) fn are_cables(alloc: Global, zone: &[u8], ends: &[(u16, u16)]) -> Result<bool, Error> {
