@@ -2,6 +2,7 @@ pub mod Places
 pub mod Seats
 pub mod Routing
 pub mod Firsts
+pub mod ZoneLists
 pub mod Hints
 pub mod Rules
 pub mod Seen

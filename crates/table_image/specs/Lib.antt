@@ -10,3 +10,4 @@ pub mod Short
 pub mod Checking
 pub mod Rows
 pub mod RouteRows
+pub mod ZoneMaps
