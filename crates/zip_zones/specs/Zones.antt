@@ -1,6 +1,6 @@
 -- Zone tables: finite maps from ranges to lists of zones, and what each call does to them.
 -- (Inside AppleTalk, the chapter on ZIP)
-use Rattle.std.specs.Prelude.{ℕ, ◌≤◌, Bool, true, false, not, ◌&&◌, ◌==◌, IsTrue, List, [], ◌∷◌, ◌++◌, length, map, filter, fold, find}
+use Rattle.std.specs.Prelude.{ℕ, ◌≤◌, max, Bool, true, false, not, ◌&&◌, ◌==◌, IsTrue, List, [], ◌∷◌, ◌++◌, length, map, filter, fold, find}
 use Rattle.std.specs.Prelude.{Option, Some, None, nat_le, nat_lt, is_some, if◌then◌else◌}
 use Rattle.std.specs.List.{list_all, list_any}
 use Rattle.at_base.specs.Range.{Span, is_between, is_range, overlaps, same_range}
@@ -89,6 +89,23 @@ set_list range names = record { range = range; total = length (each_once names);
 abbrev pub list_of : Span → ℕ → Option Known → Known
 list_of range total None = record { range = range; total = total; names = [] }
 list_of range total (Some k) = if k.total == total then k else record { range = range; total = total; names = [] }
+
+-- the list of these names, of at least so many zones
+abbrev pub list_of_least : Span → ℕ → List (List ℕ) → Known
+list_of_least range least names = record { range = range; total = max least (length (each_once names)); names = each_once names }
+
+-- the last network of the last list, where there are lists after this network
+abbrev pub end_of : ℕ → List Known → ℕ
+end_of low [] = low
+end_of low (k ∷ table) = end_of k.range.end table
+
+-- the range starts above all lists
+abbrev pub is_past : Span → List Known → Bool
+is_past range table = nat_lt (end_of 0 table) range.start
+
+-- there is room for a list of these names after the others
+abbrev pub has_room : ℕ → List (List ℕ) → List Known → Bool
+has_room least names table = nat_le least 64 && nat_le (length names) 64 && nat_lt (length table) 200
 
 -- the list after a name came: one that is complete stays
 abbrev pub with_zone : List ℕ → Known → Known

@@ -3,7 +3,7 @@
 ghost use Rattle.std.specs.Prelude.{◌≡◌, ◌<◌, ◌≤◌, [], length, true, IfOk, OnErr, OnOk};
 ghost use Rattle.std.specs.Prelude.{IsOkUnless};
 ghost use Rattle.zip_zones.specs.Zones.{each_once, has_zone as with_this, is_complete as complete};
-ghost use Rattle.zip_zones.specs.Zones.{set_list, with_zone};
+ghost use Rattle.zip_zones.specs.Zones.{list_of_least, set_list, with_zone};
 
 use crate::zone::Zone;
 use at_base::{Error, Name, Range};
@@ -61,6 +61,25 @@ impl KnownZones {
         Ok(KnownZones {
             range,
             total: zones.len() as u8,
+            zones,
+        })
+    }
+
+    /// The list of these names, of at least so many zones. Error: `Memory`.
+    pub(crate) fn at_least(
+        alloc: Global,
+        range: Range,
+        least: u8,
+        names: &[Name],
+    ) -> Result<KnownZones, Error>
+        requires { length names.now ≤ 64 }
+        ensures ok { IfOk result (λ known. known ≡ list_of_least range least names.now) }
+        ensures err { IsOkUnless result Error.Memory }
+    {
+        let zones = zones_of(alloc, names)?;
+        Ok(KnownZones {
+            range,
+            total: least.max(zones.len() as u8),
             zones,
         })
     }

@@ -2,6 +2,7 @@
 #![tactic(auto)]
 
 mod answer;
+mod appending;
 mod due;
 mod entries;
 mod entry;

@@ -32,7 +32,7 @@ pub const MAX_ZONES: usize = 64;
 /// Inside AppleTalk, the chapter on ZIP.
 #[derive(Drop)]
 pub struct ZoneTable {
-    lists: Vec<KnownZones>,
+    pub(crate) lists: Vec<KnownZones>,
 }
 
 impl Model for ZoneTable {
@@ -112,7 +112,7 @@ fn insert_all(zones: &mut IndexSet<Zone>, others: &[Zone]) -> Result<(), Error>
 }
 
 /// Does nothing: it tells the prover that a range is valid, which only a call can.
-fn recall_valid(range: Range)
+pub(crate) fn recall_valid(range: Range)
     ensures { IsRange range.start range.end }
 {
     let _start = range.start();

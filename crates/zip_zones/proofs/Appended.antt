@@ -1,0 +1,110 @@
+-- Lists that are put after all others: what that keeps.
+use Rattle.std.proofs.Common.{◌≡◌, ℕ, zero, suc, ◌-◌, ◌<◌, ◌≤◌, true, ◌&&◌, List, [], ◌∷◌, ◌++◌, length, refl, arith}
+use Rattle.std.proofs.Common.{nat_lt, nat_le}
+use Rattle.std.specs.Prelude.{Some, slice_get}
+use Rattle.std.specs.List.{list_all}
+use Rattle.std.proofs.lemmas.Bool.Decides.{nat_tests}
+use Rattle.std.proofs.lemmas.Bool.{and_parts, ltb-true}
+use Rattle.std.proofs.lemmas.List.{length-append}
+use Rattle.std.proofs.Math.Nat.{le-max_right, max-le}
+use Rattle.at_base.specs.Range.{Span, is_range}
+use Rattle.zip_zones.specs.Zones.{Known, IsZoneMap, are_above, each_once, end_of, has_room, is_known, list_of_least}
+use Rattle.zip_zones.proofs.Names.{distinct_fold, not_more}
+use Rattle.zip_zones.proofs.Tables.{known_of_parts}
+
+-- the end of the list at the last index
+end_at : (low : ℕ) (table : List Known) (n : ℕ) (k : Known) → length table ≡ suc n → slice_get table n ≡ Some k → k.range.end ≡ end_of low table
+end_at low [] n k e g = cc
+end_at low (x ∷ []) zero k e g = cc
+end_at low (x ∷ []) (suc n) k e g = absurd (omega (arith, e))
+end_at low (x ∷ y ∷ table) zero k e g = absurd (omega (arith, e))
+end_at low (x ∷ y ∷ table) (suc n) k e g = end_at x.range.end (y ∷ table) n k (omega (arith, e)) g
+
+-- the end of the last list, where there is one
+pub end_found : (low : ℕ) (table : List Known) (k : Known) → slice_get table (length table - 1) ≡ Some k → k.range.end ≡ end_of low table
+end_found low [] k e = cc
+end_found low (x ∷ table) k e =
+    let last : length (x ∷ table) - 1 ≡ length table = omega arith in
+    end_at low (x ∷ table) (length table) k refl (rw (← last) e)
+
+above_last : (low : ℕ) (table : List Known) (k : Known) → are_above low table ≡ true → nat_lt (end_of low table) k.range.start ≡ true
+    → are_above low (table ++ k ∷ []) ≡ true
+above_last low [] k h past = rw past refl
+above_last low (x ∷ table) k h past =
+    let q = and_parts (nat_lt low x.range.start) (are_above x.range.end table) h in
+    rw (q.0, above_last x.range.end table k q.1 past) refl
+
+all_last : (table : List Known) (k : Known) → list_all is_known table ≡ true → is_known k ≡ true
+    → list_all is_known (table ++ k ∷ []) ≡ true
+all_last [] k each new = rw new refl
+all_last (x ∷ table) k each new =
+    let e = and_parts (is_known x) (list_all is_known table) each in
+    rw (e.0, all_last table k e.1 new) refl
+
+-- a list put after the others leaves a map
+pub append_map : (table : List Known) (k : Known) → IsZoneMap table → is_known k ≡ true → nat_lt (end_of 0 table) k.range.start ≡ true
+    → length table < 200 → IsZoneMap (table ++ k ∷ [])
+append_map table k h new past few = record {
+  apart = above_last 0 table k h.apart past;
+  each = all_last table k h.each new;
+  few = omega (arith, length-append table (k ∷ []), few);
+}
+
+-- the list of names is one that a table may have
+pub least_known : (range : Span) (least : ℕ) (names : List (List ℕ)) → is_range range.start range.end ≡ true → least ≤ 64
+    → length names ≤ 64 → is_known (list_of_least range least names) ≡ true
+least_known range least names valid few within =
+    known_of_parts (list_of_least range least names) valid (max-le few (omega (arith, not_more names, within))) (le-max_right least (length
+    (each_once names))) (distinct_fold [] names refl)
+
+-- what room for a list is
+pub room_parts : (least : ℕ) (names : List (List ℕ)) (table : List Known) → has_room least names table ≡ true
+    → (least ≤ 64) × (length names ≤ 64) × (length table < 200)
+room_parts least names table h =
+    let a = and_parts (nat_le least 64 && nat_le (length names) 64) (nat_lt (length table) 200) h in
+    let b = and_parts (nat_le least 64) (nat_le (length names) 64) a.0 in
+    (le_of _ _ b.0, le_of _ _ b.1, ltb-true _ _ a.1)
+  where
+    le_of : (a b : ℕ) → nat_le a b ≡ true → a ≤ b
+    le_of a b t = grind (arith, nat_tests)
+
+-- ---- What a map of several lists says of those at its front
+
+above_front : (low : ℕ) (a b : List Known) → are_above low (a ++ b) ≡ true → are_above low a ≡ true
+above_front low [] b h = refl
+above_front low (x ∷ a) b h =
+    let q = and_parts (nat_lt low x.range.start) (are_above x.range.end (a ++ b)) h in
+    rw (q.0, above_front x.range.end a b q.1) refl
+
+all_front : (a b : List Known) → list_all is_known (a ++ b) ≡ true → list_all is_known a ≡ true
+all_front [] b h = refl
+all_front (x ∷ a) b h =
+    let e = and_parts (is_known x) (list_all is_known (a ++ b)) h in
+    rw (e.0, all_front a b e.1) refl
+
+-- the lists at the front are a map
+pub front_map : (a b : List Known) → IsZoneMap (a ++ b) → IsZoneMap a
+front_map a b h = record {
+  apart = above_front 0 a b h.apart;
+  each = all_front a b h.each;
+  few = omega (arith, length-append a b, h.few);
+}
+
+past_last : (low : ℕ) (table : List Known) (k : Known) → are_above low (table ++ k ∷ []) ≡ true
+    → nat_lt (end_of low table) k.range.start ≡ true
+past_last low [] k h = (and_parts (nat_lt low k.range.start) true h).0
+past_last low (x ∷ table) k h =
+    let q = and_parts (nat_lt low x.range.start) (are_above x.range.end (table ++ k ∷ [])) h in
+    past_last x.range.end table k q.1
+
+known_last : (table : List Known) (k : Known) → list_all is_known (table ++ k ∷ []) ≡ true → is_known k ≡ true
+known_last [] k h = (and_parts (is_known k) true h).0
+known_last (x ∷ table) k h =
+    let e = and_parts (is_known x) (list_all is_known (table ++ k ∷ [])) h in
+    known_last table k e.1
+
+-- the last list of a map starts above the others, may be in a table, and there are less than 200 others
+pub last_parts : (table : List Known) (k : Known) → IsZoneMap (table ++ k ∷ [])
+    → (nat_lt (end_of 0 table) k.range.start ≡ true) × (is_known k ≡ true) × (length table < 200)
+last_parts table k h =
+    (past_last 0 table k h.apart, known_last table k h.each, omega (arith, length-append table (k ∷ []), h.few))

@@ -1,0 +1,75 @@
+//! Lists that are put after all others.
+
+ghost use Rattle.std.specs.Prelude.{◌≡◌, ◌⊎◌, ◌↔◌, ◌++◌, ◌∷◌, [], false, length, true};
+ghost use Rattle.std.specs.Prelude.{IfErr, IsOkUnless, OnErr, OnOk};
+ghost use Rattle.zip_zones.specs.Zones.{IsZoneMap, end_of, has_room as with_room};
+ghost use Rattle.zip_zones.specs.Zones.{is_past as past, list_of_least};
+
+use crate::known::KnownZones;
+use crate::table::{MAX_LISTS, MAX_ZONES, ZoneTable, recall_valid};
+use at_base::{Error, Name, Range};
+
+/// The last network of the last list, and 0 without lists.
+fn end(lists: &[KnownZones]) -> u16
+    ensures { result ≡ end_of 0 lists.now }
+{
+    match lists.last() {
+        Some(known) => known.range().end(),
+        None => 0,
+    }
+}
+
+/// Whether the range starts above all lists.
+fn is_past(lists: &[KnownZones], range: Range) -> bool
+    ensures { result ≡ past range lists.now }
+{
+    end(lists) < range.start()
+}
+
+/// Whether there is room for a list of these names after the others.
+fn has_room(lists: &[KnownZones], least: u8, names: &[Name]) -> bool
+    ensures { result ≡ with_room least names.now lists.now }
+{
+    least as usize <= MAX_ZONES && names.len() <= MAX_ZONES && lists.len() < MAX_LISTS
+}
+
+/// Puts a list after the others. Error: `Memory`, which changes nothing.
+fn put_last(lists: &mut Vec<KnownZones>, known: KnownZones) -> Result<(), Error>
+    ensures ok { OnOk result (lists.new.items ≡ lists.old.items ++ known ∷ []) }
+    ensures err { IsOkUnless result Error.Memory }
+    ensures kept { OnErr result (lists.new.items ≡ lists.old.items) }
+{
+    lists.push(known)?;
+    Ok(())
+}
+
+impl ZoneTable {
+    /// Takes the names, each once without case, as the list of a range above all others: of at least
+    /// so many zones. It is complete where it has as many names. Searches nothing.
+    ///
+    /// Errors: `BadRange` where the range isn't above all others; `Full` above 64 zones or names,
+    /// doubles counted too, and where there are 200 lists; `Memory`. A refusal changes nothing.
+    ///
+    /// This project's own.
+    pub fn append(&mut self, range: Range, least: u8, names: &[Name]) -> Result<(), Error>
+        ensures ok { OnOk result
+            (self.new ≡ self.old ++ list_of_least range least names.now ∷ []) }
+        ensures range { (result ≡ Err Error.BadRange) ↔ (past range self.old ≡ false) }
+        ensures full { (result ≡ Err Error.Full) ↔ ((past range self.old ≡ true)
+            × (with_room least names.now self.old ≡ false)) }
+        ensures refused { IfErr result
+            (λ e. (e ≡ Error.BadRange) ⊎ (e ≡ Error.Full) ⊎ (e ≡ Error.Memory)) }
+        ensures kept { OnErr result (self.new ≡ self.old) }
+    {
+        if !is_past(self.lists.as_slice(), range) {
+            return Err(Error::BadRange);
+        }
+        if !has_room(self.lists.as_slice(), least, names) {
+            return Err(Error::Full);
+        }
+        recall_valid(range);
+        let known = KnownZones::at_least(*self.lists.allocator(), range, least, names)?;
+        put_last(&mut self.lists, known)?;
+        Ok(())
+    }
+}
