@@ -1,6 +1,6 @@
 -- What an image holds is within its limits.
-use Rattle.std.proofs.Common.{◌≡◌, ℕ, zero, suc, ◌+◌, ◌≤◌, ◌<◌, Bool, true, false, cond, ltb, List, [], ◌∷◌, length, Some, None, slice_get}
-use Rattle.std.proofs.Common.{refl, ap, subst, arith}
+use Rattle.std.proofs.Common.{◌≡◌, ℕ, zero, suc, ◌+◌, ◌≤◌, ◌<◌, true, ltb, List, [], ◌∷◌, length, Some, None, slice_get}
+use Rattle.std.proofs.Common.{ap, subst, arith}
 use Rattle.std.proofs.lemmas.Bool.{ltb-false, ltb-true}
 use Rattle.at_base.specs.declared.error.Cause.TheVariants.{Count, Index, Name, Order, Value}
 use Rattle.at_base.specs.Grammar.{Grammar}

@@ -16,7 +16,7 @@ use Rattle.table_image.specs.Tests.{within}
 use Rattle.table_image.proofs.Shape.{within_bounds}
 use Rattle.table_image.specs.Limits.{max_cables, max_routers, max_nodes, max_ports, max_rows, max_zone_lists, max_zones, max_names}
 use Rattle.table_image.specs.Limits.{max_text}
-use Rattle.table_image.specs.Sizes.{byte_size, counted_size, text_size, zones_size, network_size, range_size, address_size, hardware_size}
+use Rattle.table_image.specs.Sizes.{byte_size, counted_size, text_size, zones_size, network_size, address_size, hardware_size}
 use Rattle.table_image.specs.Sizes.{cable_size, port_size, row_size, zone_list_size, router_size, own_router_size, name_size, node_size}
 use Rattle.table_image.specs.Sizes.{head_size, image_size}
 use Rattle.table_image.specs.Flaws.{Wrong, Here, Before, flaw_of, flaws}

@@ -9,3 +9,4 @@ pub mod CheckLoop
 pub mod Checked
 pub mod CheckedParts
 pub mod Made
+pub mod ZoneTables

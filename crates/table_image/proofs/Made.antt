@@ -10,8 +10,8 @@ use Rattle.table_image.specs.Internet.{Internet}
 use Rattle.table_image.specs.Limits.{max_cables, max_routers, max_nodes, max_ports, max_rows, max_zone_lists, max_zones, max_names}
 use Rattle.table_image.specs.Flaws.{Wrong, Here, Before, flaw_of, flaws}
 use Rattle.table_image.specs.Short.{short_cable, short_list, short_router, short_node, is_short}
-use Rattle.table_image.specs.Spelling.{counted, zone_spelling, zones_spelling, cable_spelling, port_spelling, row_spelling}
-use Rattle.table_image.specs.Spelling.{zone_list_spelling, router_spelling, name_spelling, node_spelling, front_spelling, image_spelling}
+use Rattle.table_image.specs.Spelling.{zone_spelling, zones_spelling, cable_spelling, port_spelling, row_spelling}
+use Rattle.table_image.specs.Spelling.{zone_list_spelling, router_spelling, name_spelling, node_spelling, image_spelling}
 use Rattle.table_image.specs.Reading.{IsFirstFlaw, refusal}
 use Rattle.table_image.specs.Checking.{Checks, reported}
 use Rattle.table_image.specs.declared.flaw.Flaw.{Flaw}

@@ -1,10 +1,9 @@
 -- Rows of an image as rows of routing tables. This project's own.
-use Rattle.std.specs.Prelude.{ℕ, Bool, List, map, Option, option_map, slice_get}
+use Rattle.std.specs.Prelude.{ℕ, Bool, List, Option, option_map, slice_get}
 use Rattle.std.specs.List.{list_all}
 use Rattle.at_base.specs.Range.{is_range}
 use Rattle.rtmp.specs.declared.row.Row.{Row as RouteRow}
 use Rattle.table_image.specs.declared.row.Row.{Row}
-use Rattle.table_image.specs.declared.router.Router.{Router}
 use Rattle.table_image.specs.Internet.{Internet}
 
 -- the row of a routing table

@@ -5,7 +5,6 @@ use Rattle.std.specs.List.{list_all}
 use Rattle.at_base.specs.Range.{Span, is_range}
 use Rattle.zip_zones.specs.Zones.{Known, are_above, each_once, set_list}
 use Rattle.table_image.specs.declared.zone_list.ZoneList.{ZoneList}
-use Rattle.table_image.specs.declared.router.Router.{Router}
 use Rattle.table_image.specs.Internet.{Internet}
 
 -- the networks of a zone list

@@ -18,6 +18,7 @@ mod router;
 mod row;
 mod sizes;
 mod zone_list;
+mod zone_maps;
 mod zones;
 
 pub use cable::Cable;

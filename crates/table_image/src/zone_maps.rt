@@ -1,0 +1,196 @@
+//! Zone lists of an image as zone tables.
+
+ghost use Rattle.std.specs.Prelude.{◌≡◌, ◌≤◌, ◌+◌, ◌⊎◌, ◌↔◌, ◌||◌, ◌++◌, ◌∷◌, [], length};
+ghost use Rattle.std.specs.Prelude.{false, true, nat_lt, option_map, if◌then◌else◌, IfErr, IfOk};
+ghost use Rattle.std.specs.Prelude.{IsOkUnless, OnOk, Some};
+ghost use Rattle.std.specs.Prelude.{is_some, slice_get, IfSome};
+ghost use Rattle.std.specs.List.{list_all};
+ghost use Rattle.std.specs.Option.{option_copied};
+ghost use Rattle.at_base.specs.Range.{is_range};
+ghost use Rattle.zip_zones.specs.Zones.{IsZoneMap, are_above};
+ghost use Rattle.table_image.specs.Internet.{Every};
+ghost use Rattle.table_image.specs.ZoneMaps.{have_few_zones, have_zone_ranges, is_told as told};
+ghost use Rattle.table_image.specs.ZoneMaps.{lists_at, zone_map};
+ghost use Rattle.table_image.specs.declared.zone_list.ZoneList.{ZoneList as ListValue};
+
+use crate::image::Image;
+use crate::limits::MAX_ZONES;
+use crate::router::Router;
+use crate::zone_list::ZoneList;
+use at_base::{Error, Range, What};
+use std::alloc::Global;
+use zip_zones::ZoneTable;
+
+/// Whether the range of the list is valid.
+fn has_range(list: &ZoneList) -> bool
+    ensures { result ≡ is_range list.now.start list.now.end }
+{
+    Range::new(list.start, list.end).is_ok()
+}
+
+/// Whether something is known of the zones.
+fn is_told(list: &ZoneList) -> bool
+    ensures { result ≡ told list.now }
+{
+    list.complete || !list.zones.is_empty()
+}
+
+/// Whether each list that is told starts above the one before it ends.
+fn are_apart(lists: &[ZoneList]) -> bool
+    ensures { result ≡ are_above 0 (zone_map lists.now) }
+{
+    let mut end = 0;
+    for list in lists {
+        if is_told(list) {
+            if list.start <= end {
+                return false;
+            }
+            end = list.end;
+        }
+    }
+    true
+}
+
+/// Whether the range of each list is valid.
+fn have_each_range(lists: &[ZoneList]) -> bool
+    ensures { result ≡ list_all (λ (l : ListValue). is_range l.start l.end) lists.now }
+{
+    lists.iter().all(has_range)
+}
+
+/// Whether the lists have ranges as a zone table's.
+fn have_ranges(lists: &[ZoneList]) -> bool
+    ensures { result ≡ have_zone_ranges lists.now }
+{
+    have_each_range(lists) && are_apart(lists)
+}
+
+/// Whether a zone table has room for the zones of a list of at most 64 names.
+fn is_short(list: &ZoneList) -> bool
+    ensures { result ≡ (list.now.complete || nat_lt (length list.now.zones) 64) }
+{
+    list.complete || list.zones.len() < MAX_ZONES as usize
+}
+
+/// Whether each list is complete or has less than 64 names.
+fn are_each_short(lists: &[ZoneList]) -> bool
+    ensures { result
+        ≡ list_all (λ (l : ListValue). l.complete || nat_lt (length l.zones) 64) lists.now }
+{
+    lists.iter().all(is_short)
+}
+
+/// Whether a zone table has room for the zones of each list.
+fn are_short(lists: &[ZoneList]) -> bool
+    requires { Every (λ (l : ListValue). length l.zones ≤ 64) lists.now }
+    ensures { result ≡ have_few_zones lists.now }
+{
+    are_each_short(lists)
+}
+
+/// How many zones there are at least.
+fn least_of(list: &ZoneList) -> u8
+    requires { length list.now.zones ≤ 64 }
+    ensures { result ≡ (if list.now.complete then 0 else length list.now.zones + 1) }
+{
+    if list.complete {
+        0
+    } else {
+        list.zones.len() as u8 + 1
+    }
+}
+
+/// Puts a list after those of the table, where something is known of its zones.
+fn put(table: &mut ZoneTable, list: &ZoneList) -> Result<(), Error>
+    requires map { IsZoneMap (table.old ++ zone_map (list.now ∷ [])) }
+    requires few { length list.now.zones ≤ 64 }
+    ensures ok { OnOk result (table.new ≡ table.old ++ zone_map (list.now ∷ [])) }
+    ensures err { IsOkUnless result Error.Memory }
+{
+    if !is_told(list) {
+        return Ok(());
+    }
+    let range = Range::new(list.start, list.end).unwrap();
+    table.append(range, least_of(list), list.zones.as_slice())
+}
+
+/// The zone table of these lists. Error: `Memory`.
+fn put_all(alloc: Global, lists: &[ZoneList]) -> Result<ZoneTable, Error>
+    requires map { IsZoneMap (zone_map lists.now) }
+    requires zones { Every (λ (l : ListValue). length l.zones ≤ 64) lists.now }
+    ensures ok { IfOk result (λ table. table ≡ zone_map lists.now) }
+    ensures err { IsOkUnless result Error.Memory }
+{
+    let mut table = ZoneTable::new(alloc)?;
+    for list in lists {
+        put(&mut table, list)?;
+    }
+    Ok(table)
+}
+
+/// The zone table of these lists. Errors: `BadRange`, `Full`, `Memory`, in this order.
+fn table_of(alloc: Global, lists: &[ZoneList]) -> Result<ZoneTable, Error>
+    requires few { length lists.now ≤ 200 }
+    requires zones { Every (λ (l : ListValue). length l.zones ≤ 64) lists.now }
+    ensures ok { IfOk result (λ table. table ≡ zone_map lists.now) }
+    ensures range { (result ≡ Err Error.BadRange) ↔ (have_zone_ranges lists.now ≡ false) }
+    ensures full { (result ≡ Err Error.Full) ↔ ((have_zone_ranges lists.now ≡ true)
+        × (have_few_zones lists.now ≡ false)) }
+    ensures refused { IfErr result
+        (λ e. (e ≡ Error.BadRange) ⊎ (e ≡ Error.Full) ⊎ (e ≡ Error.Memory)) }
+{
+    if !have_ranges(lists) {
+        return Err(Error::BadRange);
+    }
+    if !are_short(lists) {
+        return Err(Error::Full);
+    }
+    put_all(alloc, lists)
+}
+
+/// The router of an index.
+fn router_at(routers: &[Router], index: u8) -> Option<&Router>
+    ensures { option_copied result ≡ slice_get routers.now index }
+{
+    routers.get(index as usize)
+}
+
+/// The zone lists of a router, at most 200 of at most 64 names each.
+fn lists_of(image: &Image, router: u8) -> Option<&[ZoneList]>
+    ensures lists { option_copied result ≡ lists_at router image.now }
+    ensures there { is_some result ≡ nat_lt router (length image.now.routers) }
+    ensures few { IfSome result (λ lists. length lists.now ≤ 200) }
+    ensures zones { IfSome result
+        (λ lists. Every (λ (l : ListValue). length l.zones ≤ 64) lists.now) }
+{
+    let found = router_at(image.routers(), router)?;
+    Some(found.lists.as_slice())
+}
+
+impl Image {
+    /// The zone lists of a router, by its index from 0, as a zone table: a list that isn't complete
+    /// has one zone more in its total than it has names, and one without names is left out.
+    ///
+    /// Errors: `NoSuch` of `Router`; else `BadRange` where the range of a list isn't valid, or two
+    /// overlap; else `Full` where a list that isn't complete has 64 names; else `Memory`.
+    ///
+    /// This project's own.
+    pub fn zones_of(&self, alloc: Global, router: u8) -> Result<ZoneTable, Error>
+        ensures ok { IfOk result
+            (λ table. option_map zone_map (lists_at router self.now) ≡ Some table) }
+        ensures none { (result ≡ Err (Error.NoSuch What.Router))
+            ↔ (length self.now.routers ≤ router) }
+        ensures range { (result ≡ Err Error.BadRange)
+            ↔ (option_map have_zone_ranges (lists_at router self.now) ≡ Some false) }
+        ensures full { (result ≡ Err Error.Full)
+            ↔ ((option_map have_zone_ranges (lists_at router self.now) ≡ Some true)
+            × (option_map have_few_zones (lists_at router self.now) ≡ Some false)) }
+        ensures refused { IfErr result (λ e. (e ≡ Error.NoSuch What.Router)
+            ⊎ (e ≡ Error.BadRange) ⊎ (e ≡ Error.Full) ⊎ (e ≡ Error.Memory)) }
+    {
+        match lists_of(self, router) {
+            Some(lists) => table_of(alloc, lists),
+            None => Err(Error::NoSuch(What::Router)),
+        }
+    }
+}
