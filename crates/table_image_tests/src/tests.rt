@@ -13,6 +13,7 @@ mod parts;
 mod readme;
 mod routes;
 mod whole;
+mod zones;
 
 use again::{is_kept, write_again};
 use at_base::{Addr, Cause, Error};
@@ -36,6 +37,7 @@ use whole::{
     cut_and_let_pass, has_64_zones, has_200_cables, has_200_stations, has_full_parts, has_number,
     let_pass, let_pass_in_names, lost, reads_nothing, refuses, written_sizes,
 };
+use zones::{has_no_zone_table, has_what_is_told, has_zone_tables, waits_for_one_zone};
 
 #[test]
 fn an_image_is_written_as_it_was_read(rt: HostRuntime) -> Result<(), Fail> {
@@ -295,5 +297,14 @@ fn parts_with_a_list_that_is_too_long_are_refused(rt: HostRuntime) {
 fn rows_are_rows_of_a_routing_table(rt: HostRuntime) -> Result<(), Fail> {
     assert!(rt; has_routes(rt.alloc())?);
     assert!(rt; has_no_range(rt.alloc())?);
+    Ok(())
+}
+
+#[test]
+fn zone_lists_are_lists_of_a_zone_table(rt: HostRuntime) -> Result<(), Fail> {
+    assert!(rt; has_zone_tables(rt.alloc())?);
+    assert!(rt; has_what_is_told(rt.alloc())?);
+    assert!(rt; has_no_zone_table(rt.alloc())?);
+    assert!(rt; waits_for_one_zone(rt.alloc())?);
     Ok(())
 }
