@@ -1,3 +1,4 @@
 pub mod Packets
 pub mod Matching
 pub mod Registered
+pub mod Expansion

@@ -1,0 +1,77 @@
+//! What a router asks where it is asked for names in a zone.
+
+ghost use Rattle.std.specs.Prelude.{◌≡◌, map, position, IfOk, IsOkUnless};
+ghost use Rattle.at_base.specs.Range.{same_range};
+ghost use Rattle.nbp.specs.Expansion.{ask as ask_for, asks, listing as listed};
+
+use at_base::{Error, Name, Range, is_zone_name};
+use std::alloc::Global;
+use zip_zones::ZoneTable;
+
+/// What a router asks for one cable of the zone that it was asked for.
+#[derive(Clone, Copy, Debug, PartialEq, Eq)]
+pub enum Ask {
+    /// A lookup by the port of this index.
+    Lookup(usize),
+    /// A request forwarded to the routers of this network.
+    Forward(u16),
+}
+
+/// The ranges of the cables that have the zone. Error: `Memory`.
+fn listing(alloc: Global, zone: &[u8], table: &ZoneTable) -> Result<Vec<Range>, Error>
+    ensures ok { IfOk result (λ ranges. ranges.items ≡ listed zone.now table.now) }
+    ensures err { IsOkUnless result Error.Memory }
+{
+    if !is_zone_name(zone) {
+        return Ok(Vec::new(alloc));
+    }
+    table.cables_of(&Name::of(zone))
+}
+
+/// The index of the port of a range.
+fn port_of(range: Range, ports: &[Range]) -> Option<usize>
+    ensures { result ≡ position (same_range range) ports.now }
+{
+    ports.iter().position(|port| range == *port)
+}
+
+/// What is asked for a range.
+fn ask_of(range: Range, ports: &[Range]) -> Ask
+    ensures { result ≡ ask_for ports.now range }
+{
+    match port_of(range, ports) {
+        Some(port) => Ask::Lookup(port),
+        None => Ask::Forward(range.start()),
+    }
+}
+
+/// What is asked for each of the ranges. Error: `Memory`.
+fn asks_of(alloc: Global, ranges: &[Range], ports: &[Range]) -> Result<Vec<Ask>, Error>
+    ensures ok { IfOk result (λ made. made.items ≡ map (ask_for ports.now) ranges.now) }
+    ensures err { IsOkUnless result Error.Memory }
+{
+    let mut asked = Vec::with_capacity(alloc, ranges.len())?;
+    for range in ranges {
+        asked.push(ask_of(*range, ports))?;
+    }
+    Ok(asked)
+}
+
+/// What a router whose ports have these ranges asks where it is asked for names in a zone: for each
+/// range whose list has the zone, complete or not, in any case of its letters and by rising range, a
+/// lookup by the port of that very range, and where no port has it, a request forwarded to the
+/// range's first network. The star and what is no zone's name ask for nothing.
+///
+/// Inside AppleTalk, the chapter on NBP. Error: `Memory`.
+pub fn expand(
+    alloc: Global,
+    zone: &[u8],
+    table: &ZoneTable,
+    ports: &[Range],
+) -> Result<Vec<Ask>, Error>
+    ensures ok { IfOk result (λ made. made.items ≡ asks ports.now zone.now table.now) }
+    ensures refused { IsOkUnless result Error.Memory }
+{
+    let ranges = listing(alloc, zone, table)?;
+    asks_of(alloc, ranges.as_slice(), ports)
+}
