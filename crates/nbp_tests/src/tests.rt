@@ -1,10 +1,12 @@
 //! Names of services worked out by hand. What needs memory is called again where it was refused.
 
+mod expansion;
 mod named;
 mod packets;
 mod readme;
 
 use at_base::{Error, Field, Text32, What};
+use expansion::{asks_by_ports_of_the_range, asks_by_what_has_come, asks_each_cable};
 use named::{
     answer_for, answers, copied, fill, finds, lab, load_two, no_names, register, rise_to, three,
 };
@@ -338,5 +340,15 @@ fn the_example_of_the_readme(rt: HostRuntime) -> Result<(), Fail> {
     expected.zone = Text32::new(b"")?;
     assert!(rt; packet.function() == Function::Reply && packet.id() == 1);
     assert!(rt; packet.first().copy() == expected);
+    Ok(())
+}
+
+// ---- What a router asks
+
+#[test]
+fn a_router_asks_each_cable_of_a_zone(rt: HostRuntime) -> Result<(), Fail> {
+    assert!(rt; asks_each_cable(rt.alloc())?);
+    assert!(rt; asks_by_ports_of_the_range(rt.alloc())?);
+    assert!(rt; asks_by_what_has_come(rt.alloc())?);
     Ok(())
 }
