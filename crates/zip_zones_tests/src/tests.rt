@@ -16,8 +16,8 @@ use packets::{
 use pages::{LONG, exact_page, has_page, is_page, long_page};
 use std::test::*;
 use tables::{
-    adds_each, all_once, are_cables, due_is, is_full_at_200, is_listed, is_removed, is_set,
-    loses_its_overlaps, totals_are_limited,
+    adds_each, all_once, are_cables, due_is, is_full_at_200, is_listed, is_put_last, is_removed,
+    is_set, loses_its_overlaps, totals_are_limited,
 };
 use written::{is_blue, is_query, is_red_and_blue, is_told_on_10, len_with, query_len, told_on_20};
 
@@ -35,6 +35,12 @@ fn a_list_that_is_set_has_each_name_once(rt: HostRuntime) -> Result<(), Fail> {
     assert!(rt; is_set(rt.alloc())?);
     assert!(rt; is_listed(rt.alloc())?);
     assert!(rt; is_removed(rt.alloc())?);
+    Ok(())
+}
+
+#[test]
+fn a_list_above_all_others_is_put_after_them(rt: HostRuntime) -> Result<(), Fail> {
+    assert!(rt; is_put_last(rt.alloc())?);
     Ok(())
 }
 

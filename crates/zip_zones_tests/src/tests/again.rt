@@ -34,6 +34,18 @@ pub(crate) fn add(
     }
 }
 
+pub(crate) fn append(
+    table: &mut ZoneTable,
+    range: Range,
+    least: u8,
+    names: &[Name],
+) -> Result<(), Error> {
+    match table.append(range, least, names) {
+        Err(Error::Memory) => table.append(range, least, names),
+        answer => answer,
+    }
+}
+
 pub(crate) fn names_of(table: &ZoneTable, net: u16) -> Result<Vec<Name>, Error> {
     match table.names_of(net) {
         Err(Error::Memory) => table.names_of(net),

@@ -1,6 +1,6 @@
 //! What is compared of zone tables.
 
-use super::again::{add, all, cables_of, copy, names_of, range, set, table};
+use super::again::{add, all, append, cables_of, copy, names_of, range, set, table};
 use at_base::{Addr, Error, Name};
 use rtmp::{PlainTable, RouteTable};
 use std::alloc::Global;
@@ -112,6 +112,39 @@ pub(crate) fn totals_are_limited(alloc: Global) -> Result<bool, Error> {
     Ok(full && above && empty && one && !zones.complete(1))
 }
 
+/// Whether a list that begins at the last network of all others, or before it, is put after them.
+fn is_put_below(zones: &mut ZoneTable) -> Result<bool, Error> {
+    for (start, end) in [(29, 39), (22, 23), (5, 9), (20, 29)] {
+        if !matches!(
+            append(zones, range(start, end)?, 0, &[]),
+            Err(Error::BadRange)
+        ) {
+            return Ok(true);
+        }
+    }
+    Ok(false)
+}
+
+/// Whether a list of 65 zones, or of 65 names, is refused.
+fn is_full_at_64(zones: &mut ZoneTable) -> Result<bool, Error> {
+    let (above, name) = (range(30, 39)?, Name::new(b"A")?);
+    let full = matches!(append(zones, above, 65, &[name]), Err(Error::Full));
+    Ok(full && matches!(append(zones, above, 0, &[name; 65]), Err(Error::Full)))
+}
+
+/// A list has each name once, and at least so many zones.
+pub(crate) fn is_put_last(alloc: Global) -> Result<bool, Error> {
+    let mut zones = table(alloc)?;
+    append(&mut zones, range(10, 19)?, 0, &two(b"Red", b"rED")?)?;
+    append(&mut zones, range(20, 29)?, 3, &two(b"Red", b"Blue")?)?;
+    let refused = !is_put_below(&mut zones)? && is_full_at_64(&mut zones)?;
+    append(&mut zones, range(30, 39)?, 0, &[])?;
+    let complete = zones.complete(10) && !zones.complete(20) && zones.complete(30);
+    add(&mut zones, range(20, 29)?, 3, &Name::new(b"Green")?)?;
+    let once = names_of(&zones, 10)?.len() == 1 && names_of(&zones, 20)?.len() == 3;
+    Ok(refused && complete && once && zones.complete(20) && zones.len() == 3)
+}
+
 /// Takes each of these networks as a range of its own, with a zone.
 fn set_each(zones: &mut ZoneTable, first: u16, last: u16) -> Result<(), Error> {
     let names = [Name::new(b"A")?];
@@ -127,7 +160,8 @@ fn is_full(zones: &mut ZoneTable) -> Result<bool, Error> {
     let far = range(300, 300)?;
     let name = Name::new(b"A")?;
     let more = matches!(zones.add(far, 1, &name), Err(Error::Full));
-    Ok(more && matches!(zones.set(far, &[name]), Err(Error::Full)))
+    let last = matches!(zones.append(far, 1, &[name]), Err(Error::Full));
+    Ok(more && last && matches!(zones.set(far, &[name]), Err(Error::Full)))
 }
 
 pub(crate) fn is_full_at_200(alloc: Global) -> Result<bool, Error> {
