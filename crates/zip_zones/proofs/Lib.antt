@@ -5,3 +5,4 @@ pub mod Shape
 pub mod InPlace
 pub mod NetworksInPlace
 pub mod Written
+pub mod ReadBack

@@ -12,7 +12,7 @@ use Rattle.zip_zones.specs.declared.packet.Packet.TheVariants as p
 use Rattle.zip_zones.specs.Formats.{body, default_zone, packet}
 use Rattle.zip_zones.specs.Networks.{network}
 use Rattle.zip_zones.specs.Packets.{entry, next_net}
-use Rattle.zip_zones.specs.Written.{default_for, entries_bytes, flags_for, networks_bytes}
+use Rattle.zip_zones.specs.Written.{default_for, entries_bytes, flags_for, networks_bytes, question}
 
 -- ---- Queries
 
@@ -41,6 +41,13 @@ unfolding packet body
 extended_written total es small =
     let number : byte_at 0 total ≡ total = omega arith in
     rw (number, entries_listed 0 es) refl
+
+-- ---- What a node asks of its cable
+
+pub question_written : (asked : List ℕ)
+    → (5 ∷ 0 ∷ 0 ∷ 0 ∷ 0 ∷ 0 ∷ []) ++ bytes_of (text 0 any) asked ≡ bytes_of packet (question asked)
+unfolding packet body
+question_written asked = rw (append-nil (bytes_of (text 0 any) asked)) refl
 
 -- ---- What a node is told of its cable
 

@@ -88,7 +88,7 @@ fn front(flags: u8) -> [u8; 2]
 
 /// Appends a text after its length.
 #[tactic(auto, unfolding(at_base::specs::Packets::text))]
-fn put_text(bytes: &mut Vec<u8>, asked: &Text32) -> Result<(), Error>
+pub(crate) fn put_text(bytes: &mut Vec<u8>, asked: &Text32) -> Result<(), Error>
     ensures put { OnOk result
         (bytes.new.items ≡ bytes.old.items ++ bytes_of (text 0 any) asked.now) }
     ensures refused { IsOkUnless result Error.Memory }
@@ -153,9 +153,9 @@ fn write_info(alloc: Global, info: &NetInfo) -> Result<Bytes, Error>
     Ok(Bytes::from_vec(bytes))
 }
 
-/// The answer to a node that asks for a zone of a cable: the cable's range, whether its list has the
-/// zone in any case, the address of the zone's group, and the default zone, which is the first of
-/// the list, instead of a zone that isn't there. Allocates exactly its length, at once.
+/// The answer to a node that asks for a zone of a cable: the cable's range, whether its list has
+/// the zone in any case, the address of the zone's group, and the default zone, which is the first
+/// of the list, instead of a zone that isn't there. Allocates exactly its length, at once.
 ///
 /// Inside AppleTalk, the chapter on ZIP. Error: `Memory`.
 pub fn answer_net_info(
