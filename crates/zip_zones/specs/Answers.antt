@@ -1,4 +1,6 @@
--- What a router answers about zones, and what a reply does to its zone table. (Inside AppleTalk, the chapter on ZIP)
+-- What a router answers about zones, and what a reply does to its zone table. (Inside AppleTalk, the chapter on ZIP; that the
+-- first 16 networks of a query are looked at, that replies are extended, and the answers about a cable without zones are this
+-- project's own)
 use Rattle.std.specs.Prelude.{ℕ, ◌+◌, ◌-◌, Bool, true, false, not, ◌&&◌, ◌==◌, List, [], ◌∷◌, length, map, filter, fold, take}
 use Rattle.std.specs.Prelude.{Option, Some, None, nat_le, option_map, if◌then◌else◌}
 use Rattle.std.specs.Int.{from_be_bytes, to_be_bytes, w16}
@@ -48,6 +50,11 @@ abbrev pub replies : List Known → List ℕ → List Packet
 replies table nets = flat_map (replies_for table) (take 16 nets)
 
 -- ---- What a node is told of its cable
+
+-- the zone that a node asks for, where the packet is its question
+abbrev pub zone_asked : Packet → Option (List ℕ)
+zone_asked (p.GetNetInfo unused asked) = Some asked
+zone_asked _ = None
 
 -- the answer to a node that asks for a zone of a cable with these zones: none where there is no zone
 abbrev pub net_info_reply : List ℕ → Span → List (List ℕ) → Option Packet

@@ -10,7 +10,8 @@ ghost use Rattle.at_base.specs.Text.{IsName};
 ghost use Rattle.zip_zones.specs.declared.packet.Packet.TheVariants.{ExtendedReply, NetInfoReply};
 ghost use Rattle.zip_zones.specs.declared.packet.Packet.TheVariants.{Query, Reply};
 ghost use Rattle.zip_zones.specs.declared.zone_function.ZoneFunction.TheVariants.{GetLocalZones};
-ghost use Rattle.zip_zones.specs.declared.zone_function.ZoneFunction.TheVariants.{GetMyZone, GetZoneList};
+ghost use Rattle.zip_zones.specs.declared.zone_function.ZoneFunction.TheVariants.{GetMyZone};
+ghost use Rattle.zip_zones.specs.declared.zone_function.ZoneFunction.TheVariants.{GetZoneList};
 ghost use Rattle.zip_zones.specs.Answers.{after_reply, asked_page, net_info_reply, replies};
 ghost use Rattle.zip_zones.specs.Answers.{zone_page};
 ghost use Rattle.zip_zones.specs.Examples.{IsShown, blue, four_rows, known, long, named, red, span};
@@ -73,7 +74,8 @@ pub fn the_examples_of_replies()
 
 /// A node that asks for red on 10-19 is told of that cable, unless the cable has no zones.
 pub fn the_examples_of_net_info()
-    ensures told { option_map (bytes_of packet) (net_info_reply (codes "red") (span 10 19) (red ∷ []))
+    ensures told { option_map (bytes_of packet)
+        (net_info_reply (codes "red") (span 10 19) (red ∷ []))
         ≡ Some (6 ∷ 0x20 ∷ 0 ∷ 10 ∷ 0 ∷ 19 ∷ 3 ∷ codes "red" ++ 6 ∷ 9 ∷ 0 ∷ 7 ∷ 0 ∷ 0 ∷ 0x38 ∷ []) }
     ensures none { net_info_reply (codes "red") (span 10 19) [] ≡ None }
 {}
@@ -111,9 +113,11 @@ pub fn the_examples_of_replies_heard()
     ensures listed { after_reply four_rows
         (Reply 9 (named 30 blue ∷ named 20 red ∷ named 30 red ∷ named 30 blue ∷ [])) []
         ≡ known 20 29 1 (red ∷ []) ∷ known 30 39 2 (blue ∷ red ∷ []) ∷ [] }
-    ensures order { after_reply four_rows (Reply 2 (named 20 red ∷ named 25 blue ∷ named 20 red ∷ []))
-        [] ≡ known 20 29 1 (blue ∷ []) ∷ [] }
-    ensures direct { after_reply four_rows (Reply 1 (named 10 blue ∷ [])) three_lists ≡ three_lists }
+    ensures order { after_reply four_rows
+        (Reply 2 (named 20 red ∷ named 25 blue ∷ named 20 red ∷ [])) []
+        ≡ known 20 29 1 (blue ∷ []) ∷ [] }
+    ensures direct { after_reply four_rows (Reply 1 (named 10 blue ∷ [])) three_lists
+        ≡ three_lists }
     ensures bad { after_reply four_rows (ExtendedReply 1 (named 40 blue ∷ [])) [] ≡ [] }
     ensures unknown { after_reply four_rows (ExtendedReply 1 (named 50 blue ∷ [])) [] ≡ [] }
     ensures overlaps { after_reply four_rows (Reply 1 (named 20 blue ∷ []))
