@@ -8,18 +8,23 @@ mod readme;
 mod tables;
 mod written;
 
-use at_base::{Error, Field};
+use at_base::{Error, Field, Name};
 use packets::{
-    CABLE_10_19, GET_NET_INFO, INVALID_ZONE, NAMES_OF_20, QUERY, TWO_NETWORKS, asks_for, is_asked,
-    is_cut_everywhere, is_extended, is_info, is_invalid, is_reply,
+    CABLE_10_19, GET_NET_INFO, INVALID_ZONE, NAMES_OF_20, QUERY, TWO_NETWORKS, asks_for,
+    asks_nothing, has_unused, is_asked, is_cut_everywhere, is_extended, is_info, is_invalid,
+    is_reply,
 };
-use pages::{LONG, exact_page, has_page, is_page, long_page};
+use pages::{LONG, exact_page, has_page, is_answer, is_page, is_request, long_page};
 use std::test::*;
 use tables::{
     adds_each, all_once, are_cables, due_is, is_full_at_200, is_listed, is_removed, is_set,
     loses_its_overlaps, totals_are_limited,
 };
-use written::{is_blue, is_query, is_red_and_blue, is_told_on_10, len_with, query_len, told_on_20};
+use written::{
+    is_blue, is_long_question, is_query, is_question, is_red_and_blue, is_told_on_10, len_with,
+    query_len, told_on_20,
+};
+use zip_zones::ZoneFunction;
 
 // ---- Zone tables
 
@@ -104,6 +109,41 @@ fn a_page_has_at_most_578_bytes(rt: HostRuntime) -> Result<(), Fail> {
     Ok(())
 }
 
+/// The four user bytes of a request: its function, a byte that is ignored, an index.
+#[test]
+fn requests_for_zones_have_a_function_and_an_index(rt: HostRuntime) -> Result<(), Fail> {
+    assert!(rt; is_request([7, 0, 0, 0], ZoneFunction::GetMyZone, 0));
+    assert!(rt; is_request([8, 0, 0, 1], ZoneFunction::GetZoneList, 1));
+    assert!(rt; is_request([9, 255, 1, 2], ZoneFunction::GetLocalZones, 258));
+    assert!(rt; ZoneFunction::asked(&[6, 0, 0, 1]).is_none());
+    assert!(rt; ZoneFunction::asked(&[10, 0, 0, 1]).is_none());
+    Ok(())
+}
+
+#[test]
+fn a_node_is_told_its_zone_all_zones_or_those_of_its_cable(rt: HostRuntime) -> Result<(), Fail> {
+    let mine = ZoneFunction::GetMyZone;
+    let all = ZoneFunction::GetZoneList;
+    let local = ZoneFunction::GetLocalZones;
+    let names = [Name::new(b"Blue")?, Name::new(b"Red")?];
+    assert!(rt; is_answer(rt.alloc(), (mine, 2), &names, [0, 0, 0, 1], b"\x04Blue")?);
+    assert!(rt; is_answer(rt.alloc(), (mine, 1), &[], [1, 0, 0, 0], b"")?);
+    assert!(rt; is_answer(rt.alloc(), (all, 1), &[], [1, 0, 0, 2], b"\x03Red\x04Blue")?);
+    assert!(rt; is_answer(rt.alloc(), (all, 3), &names, [1, 0, 0, 0], b"")?);
+    assert!(rt;
+        is_answer(
+            rt.alloc(),
+            (local, 0),
+            &names,
+            [1, 0, 0, 2],
+            b"\x04Blue\x03Red"
+        )?
+    );
+    assert!(rt; is_answer(rt.alloc(), (local, 2), &names, [1, 0, 0, 1], b"\x03Red")?);
+    assert!(rt; is_answer(rt.alloc(), (local, 1), &[], [1, 0, 0, 0], b"")?);
+    Ok(())
+}
+
 // ---- Packets
 
 #[test]
@@ -125,7 +165,10 @@ fn replies_have_names_by_network(rt: HostRuntime) -> Result<(), Fail> {
 
 #[test]
 fn what_a_node_asks_and_is_told_of_its_cable(rt: HostRuntime) -> Result<(), Fail> {
-    assert!(rt; is_asked(&GET_NET_INFO));
+    assert!(rt; is_asked(&GET_NET_INFO, b"red"));
+    assert!(rt; is_asked(&[5, 1, 2, 3, 4, 5, 0, 9], b""));
+    assert!(rt; has_unused(&[5, 1, 2, 3, 4, 5, 0, 9], [1, 2, 3, 4, 5]));
+    assert!(rt; asks_nothing(&QUERY) && asks_nothing(&CABLE_10_19));
     assert!(rt; is_info(&CABLE_10_19));
     assert!(rt; is_invalid(&INVALID_ZONE));
     assert!(rt; is_cut_everywhere(&GET_NET_INFO));
@@ -188,6 +231,14 @@ fn names_of_one_network_are_written(rt: HostRuntime) -> Result<(), Fail> {
 fn an_extended_reply_has_at_most_586_bytes(rt: HostRuntime) -> Result<(), Fail> {
     assert_eq!(rt; len_with(rt.alloc(), &LONG[..21])?, 586);
     assert!(rt; matches!(len_with(rt.alloc(), &LONG[..22]), Err(Error::TooLong)));
+    Ok(())
+}
+
+#[test]
+fn what_a_node_asks_of_its_cable_is_written(rt: HostRuntime) -> Result<(), Fail> {
+    assert!(rt; is_question(rt.alloc(), b"red", &GET_NET_INFO)?);
+    assert!(rt; is_question(rt.alloc(), b"", &[5, 0, 0, 0, 0, 0, 0])?);
+    assert!(rt; is_long_question(rt.alloc())?);
     Ok(())
 }
 

@@ -6,7 +6,7 @@ ghost use Rattle.std.specs.Prelude.{◌<◌, length};
 use super::pages::LONG;
 use at_base::{Bytes, Error, Name, Range, Text32};
 use std::alloc::Global;
-use zip_zones::{answer_net_info, write_extended, write_query};
+use zip_zones::{answer_net_info, write_extended, write_get_net_info, write_query};
 
 fn query(alloc: Global, networks: &[u16]) -> Result<Bytes, Error> {
     match write_query(alloc, networks) {
@@ -83,4 +83,24 @@ pub(crate) fn told_on_20(alloc: Global, asked: &[u8]) -> Result<(u8, u8), Error>
         (Some(flags), Some(group)) => Ok((*flags, *group)),
         _ => Err(Error::Truncated),
     }
+}
+
+fn question(alloc: Global, asked: &[u8]) -> Result<Bytes, Error> {
+    let asked = Text32::new(asked)?;
+    match write_get_net_info(alloc, &asked) {
+        Err(Error::Memory) => write_get_net_info(alloc, &asked),
+        answer => answer,
+    }
+}
+
+/// Whether the question for a zone is this.
+pub(crate) fn is_question(alloc: Global, asked: &[u8], bytes: &[u8]) -> Result<bool, Error> {
+    Ok(question(alloc, asked)?.as_slice() == bytes)
+}
+
+/// Whether the question for a zone of 32 bytes that are no name is its head and these.
+pub(crate) fn is_long_question(alloc: Global) -> Result<bool, Error> {
+    let made = question(alloc, &[0xC5; 32])?;
+    let head = made.as_slice().get(..7) == Some([5, 0, 0, 0, 0, 0, 32].as_slice());
+    Ok(head && made.as_slice().get(7..) == Some([0xC5; 32].as_slice()))
 }
