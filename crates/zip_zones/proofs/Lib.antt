@@ -6,3 +6,4 @@ pub mod InPlace
 pub mod NetworksInPlace
 pub mod Written
 pub mod ReadBack
+pub mod Grouping

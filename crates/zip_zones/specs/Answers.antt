@@ -25,17 +25,26 @@ abbrev pub onto_first : List ℕ → List (List (List ℕ)) → List (List (List
 onto_first name [] = (name ∷ []) ∷ []
 onto_first name (group ∷ groups) = (name ∷ group) ∷ groups
 
--- The names in groups, in order: as many in the first one as their entries, of three bytes and the name, fit into so many
--- bytes, and as many in each later one as fit into 584.
-abbrev pub grouped : ℕ → List (List ℕ) → List (List (List ℕ))
-grouped room [] = []
-grouped room (name ∷ names) =
-    if nat_le (3 + length name) room then onto_first name (grouped (room - (3 + length name)) names)
-    else [] ∷ onto_first name (grouped (584 - (3 + length name)) names)
+-- as many names from the front as their entries, of three bytes and the name, fit into so many bytes
+abbrev pub first_group : ℕ → List (List ℕ) → List (List ℕ)
+first_group room [] = []
+first_group room (name ∷ names) = if nat_le (3 + length name) room then name ∷ first_group (room - (3 + length name)) names else []
+
+-- the names in groups, where the first group goes on and has so many bytes left
+abbrev pub going_on : ℕ → List (List ℕ) → List (List (List ℕ))
+going_on room [] = []
+going_on room (name ∷ names) =
+    if nat_le (3 + length name) room then onto_first name (going_on (room - (3 + length name)) names)
+    else [] ∷ onto_first name (going_on (584 - (3 + length name)) names)
+
+-- the names in groups, in order: each begins with a name, and has as many more as fit into 584 bytes with it
+abbrev pub grouped : List (List ℕ) → List (List (List ℕ))
+grouped [] = []
+grouped (name ∷ names) = onto_first name (going_on (584 - (3 + length name)) names)
 
 -- the replies with a list's names for a network that was asked for, as many in each as fit into its 586 bytes
 abbrev pub replies_with : ℕ → Known → List Packet
-replies_with net k = map (extended_reply net k.total) (grouped 584 k.names)
+replies_with net k = map (extended_reply net k.total) (grouped k.names)
 
 -- the replies for a network: none where its list isn't complete, or is empty
 abbrev pub replies_for : List Known → ℕ → List Packet
