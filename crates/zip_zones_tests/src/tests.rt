@@ -2,12 +2,14 @@
 //! memory is refused: on `Memory` it calls again.
 
 mod again;
+mod answered;
 mod packets;
 mod pages;
 mod readme;
 mod tables;
 mod written;
 
+use answered::{are_split, is_answered};
 use at_base::{Error, Field, Name};
 use packets::{
     CABLE_10_19, GET_NET_INFO, INVALID_ZONE, NAMES_OF_20, QUERY, TWO_NETWORKS, asks_for,
@@ -231,6 +233,26 @@ fn names_of_one_network_are_written(rt: HostRuntime) -> Result<(), Fail> {
 fn an_extended_reply_has_at_most_586_bytes(rt: HostRuntime) -> Result<(), Fail> {
     assert_eq!(rt; len_with(rt.alloc(), &LONG[..21])?, 586);
     assert!(rt; matches!(len_with(rt.alloc(), &LONG[..22]), Err(Error::TooLong)));
+    Ok(())
+}
+
+/// The replies repeat the number asked for; no list, or one that is empty or not complete, is not
+/// answered, and neither is the 17th network.
+#[test]
+fn a_query_is_answered_network_by_network(rt: HostRuntime) -> Result<(), Fail> {
+    let of_30: &[u8] = b"\x08\x01\x00\x1E\x04Blue";
+    let of_20: &[u8] = b"\x08\x02\x00\x14\x03Red\x00\x14\x04Blue";
+    let of_25: &[u8] = b"\x08\x02\x00\x19\x03Red\x00\x19\x04Blue";
+    let mut many = [0; 36];
+    many[..2].copy_from_slice(&[1, 17]);
+    many[35] = 30;
+    assert!(rt; is_answered(rt.alloc(), &QUERY, &[of_30, of_20])?);
+    assert!(rt; is_answered(rt.alloc(), &[1, 1, 0, 25], &[of_25])?);
+    assert!(rt; is_answered(rt.alloc(), &[1, 3, 0, 40, 0, 50, 0, 60], &[])?);
+    assert!(rt; is_answered(rt.alloc(), &many, &[])?);
+    many[33] = 25;
+    assert!(rt; is_answered(rt.alloc(), &many, &[of_25])?);
+    assert!(rt; are_split(rt.alloc())?);
     Ok(())
 }
 
