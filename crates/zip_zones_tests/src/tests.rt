@@ -16,15 +16,15 @@ use packets::{
     asks_nothing, has_unused, is_asked, is_cut_everywhere, is_extended, is_info, is_invalid,
     is_reply,
 };
-use pages::{LONG, exact_page, has_page, is_answer, is_page, is_request, long_page};
+use pages::{LONG, has_page, is_answer, is_page, is_request, long_page, page_with};
 use std::test::*;
 use tables::{
-    adds_each, all_once, are_cables, due_is, is_full_at_200, is_listed, is_removed, is_set,
-    loses_its_overlaps, totals_are_limited,
+    adds_each, all_once, are_cables, due_is, is_full_at_200, is_listed, is_read_incomplete,
+    is_removed, is_set, loses_its_overlaps, totals_are_limited,
 };
 use written::{
-    is_blue, is_long_question, is_query, is_question, is_red_and_blue, is_told_on_10, len_with,
-    query_len, told_on_20,
+    is_blue, is_long_question, is_query, is_question, is_red_and_blue, is_told_on_10,
+    is_told_on_20, len_with, query_len, told_on_20,
 };
 use zip_zones::ZoneFunction;
 
@@ -41,6 +41,7 @@ fn names_of_a_range_come_one_by_one(rt: HostRuntime) -> Result<(), Fail> {
 fn a_list_that_is_set_has_each_name_once(rt: HostRuntime) -> Result<(), Fail> {
     assert!(rt; is_set(rt.alloc())?);
     assert!(rt; is_listed(rt.alloc())?);
+    assert!(rt; is_read_incomplete(rt.alloc())?);
     assert!(rt; is_removed(rt.alloc())?);
     Ok(())
 }
@@ -68,6 +69,7 @@ fn the_cables_of_a_zone_rise(rt: HostRuntime) -> Result<(), Fail> {
     assert!(rt; are_cables(rt.alloc(), b"blue", &[(20, 29), (30, 39)])?);
     assert!(rt; are_cables(rt.alloc(), b"RED", &[(10, 19), (20, 29)])?);
     assert!(rt; are_cables(rt.alloc(), b"Green", &[])?);
+    assert!(rt; are_cables(rt.alloc(), b"Grey", &[(40, 49)])?);
     Ok(())
 }
 
@@ -106,7 +108,8 @@ fn a_page_begins_at_its_index(rt: HostRuntime) -> Result<(), Fail> {
 #[test]
 fn a_page_has_at_most_578_bytes(rt: HostRuntime) -> Result<(), Fail> {
     assert!(rt; has_page(rt.alloc(), &long_page(LONG)?, 1, false, 17, 561)?);
-    assert!(rt; has_page(rt.alloc(), &exact_page()?, 1, true, 18, 578)?);
+    assert!(rt; has_page(rt.alloc(), &page_with(&LONG[..16])?, 1, true, 18, 578)?);
+    assert!(rt; has_page(rt.alloc(), &page_with(&LONG[..17])?, 1, false, 17, 561)?);
     assert!(rt; has_page(rt.alloc(), &long_page(LONG)?, 18, true, 1, 33)?);
     Ok(())
 }
@@ -273,9 +276,14 @@ fn a_node_is_told_of_its_cable(rt: HostRuntime) -> Result<(), Fail> {
     let none = [
         6, 0xA0, 0, 10, 0, 19, 0, 6, 9, 0, 7, 0, 0, 0x38, 3, b'R', b'e', b'd',
     ];
+    let of_two = [
+        6, 0x80, 0, 20, 0, 29, 5, b'G', b'r', b'e', b'e', b'n', 6, 9, 0, 7, 0, 0, 0x38, 3, b'R',
+        b'e', b'd',
+    ];
     assert!(rt; is_told_on_10(rt.alloc(), b"red", &CABLE_10_19)?);
     assert!(rt; is_told_on_10(rt.alloc(), b"*", &other)?);
     assert!(rt; is_told_on_10(rt.alloc(), b"", &none)?);
+    assert!(rt; is_told_on_20(rt.alloc(), b"Green", &of_two)?);
     Ok(())
 }
 

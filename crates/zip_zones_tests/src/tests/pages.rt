@@ -21,10 +21,10 @@ pub(crate) fn long_page(text: &[u8]) -> Result<[Name; 18], Error> {
     Ok([name; 18])
 }
 
-/// 17 names of 32 bytes, and one of 16.
-pub(crate) fn exact_page() -> Result<[Name; 18], Error> {
+/// 17 names of 32 bytes, and this one.
+pub(crate) fn page_with(last: &[u8]) -> Result<[Name; 18], Error> {
     let mut names = long_page(LONG)?;
-    names[17] = Name::new(&LONG[..16])?;
+    names[17] = Name::new(last)?;
     Ok(names)
 }
 

@@ -74,6 +74,12 @@ pub(crate) fn is_told_on_10(alloc: Global, asked: &[u8], bytes: &[u8]) -> Result
     Ok(answer(alloc, asked, Range::new(10, 19)?, &names)?.as_slice() == bytes)
 }
 
+/// Whether the answer to a node on 20-29, whose zones are Red and Blue, is this.
+pub(crate) fn is_told_on_20(alloc: Global, asked: &[u8], bytes: &[u8]) -> Result<bool, Error> {
+    let names = [Name::new(b"Red")?, Name::new(b"Blue")?];
+    Ok(answer(alloc, asked, Range::new(20, 29)?, &names)?.as_slice() == bytes)
+}
+
 /// The flags and the group of the answer to a node on 20-29, whose zones are Red and Blue.
 pub(crate) fn told_on_20(alloc: Global, asked: &[u8]) -> Result<(u8, u8), Error> {
     let names = [Name::new(b"Red")?, Name::new(b"Blue")?];
