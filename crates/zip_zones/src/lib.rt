@@ -18,7 +18,7 @@ mod zone;
 mod zone_function;
 mod zone_page;
 
-pub use answer::answer_net_info;
+pub use answer::{answer_net_info, reply_net_info};
 pub use entries::Entries;
 pub use entry::Entry;
 pub use laws::{

@@ -24,7 +24,7 @@ use tables::{
 };
 use written::{
     is_blue, is_long_question, is_query, is_question, is_red_and_blue, is_told_on_10,
-    is_told_on_20, len_with, query_len, told_on_20,
+    is_told_on_20, is_told_where_zones_are, len_with, query_len, told_on_20,
 };
 use zip_zones::ZoneFunction;
 
@@ -281,6 +281,7 @@ fn a_node_is_told_of_its_cable(rt: HostRuntime) -> Result<(), Fail> {
         b'e', b'd',
     ];
     assert!(rt; is_told_on_10(rt.alloc(), b"red", &CABLE_10_19)?);
+    assert!(rt; is_told_where_zones_are(rt.alloc(), &CABLE_10_19)?);
     assert!(rt; is_told_on_10(rt.alloc(), b"*", &other)?);
     assert!(rt; is_told_on_10(rt.alloc(), b"", &none)?);
     assert!(rt; is_told_on_20(rt.alloc(), b"Green", &of_two)?);

@@ -6,7 +6,7 @@ ghost use Rattle.std.specs.Prelude.{◌<◌, length};
 use super::pages::LONG;
 use at_base::{Bytes, Error, Name, Range, Text32};
 use std::alloc::Global;
-use zip_zones::{answer_net_info, write_extended, write_get_net_info, write_query};
+use zip_zones::{answer_net_info, reply_net_info, write_extended, write_get_net_info, write_query};
 
 fn query(alloc: Global, networks: &[u16]) -> Result<Bytes, Error> {
     match write_query(alloc, networks) {
@@ -109,4 +109,23 @@ pub(crate) fn is_long_question(alloc: Global) -> Result<bool, Error> {
     let made = question(alloc, &[0xC5; 32])?;
     let head = made.as_slice().get(..7) == Some([5, 0, 0, 0, 0, 0, 32].as_slice());
     Ok(head && made.as_slice().get(7..) == Some([0xC5; 32].as_slice()))
+}
+
+fn reply(alloc: Global, names: &[Name]) -> Result<Option<Bytes>, Error> {
+    let asked = Text32::new(b"red")?;
+    let range = Range::new(10, 19)?;
+    match reply_net_info(alloc, &asked, range, names) {
+        Err(Error::Memory) => reply_net_info(alloc, &asked, range, names),
+        answer => answer,
+    }
+}
+
+/// Whether the answer to a node on 10-19 that asks for red is this where the cable's zone is Red,
+/// and none where the cable has no zone.
+pub(crate) fn is_told_where_zones_are(alloc: Global, bytes: &[u8]) -> Result<bool, Error> {
+    let told = match reply(alloc, &[Name::new(b"Red")?])? {
+        Some(answer) => answer.as_slice() == bytes,
+        None => false,
+    };
+    Ok(told && reply(alloc, &[])?.is_none())
 }
