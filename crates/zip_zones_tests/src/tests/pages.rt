@@ -72,8 +72,8 @@ fn answer(
     }
 }
 
-/// Whether the answer of a router that knows Red of 10-19, and Blue and Red of 20-29, to a node on a
-/// cable with these zones is this.
+/// Whether a router that knows Red of 10-19, and Blue and Red of 20-29, gives this answer to a node
+/// on a cable with these zones.
 pub(crate) fn is_answer(
     alloc: Global,
     request: (ZoneFunction, u16),
