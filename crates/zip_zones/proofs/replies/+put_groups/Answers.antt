@@ -1,13 +1,11 @@
-use Rattle.std.proofs.Common.{Ok, Err, OnOk, Result, ◌∙◌}
+use Rattle.std.proofs.Common.{List, ◌∙◌}
+use Rattle.std.proofs.lemmas.Result.{on_ok_weaker}
+use Rattle.at_base.specs.declared.bytes.Bytes.{Bytes}
 use Rattle.at_base.specs.Spelling.{bytes_of}
 use Rattle.zip_zones.specs.Formats.{packet as spelled_packet}
 use Rattle.zip_zones.specs.Written.{extended_reply}
 use Rattle.zip_zones.proofs.Grouping.{split_of, split_fits, split_more}
 use Rattle.zip_zones.proofs.replies.+put_groups.Goals as goal
-
-on_ok : {A E : Type 0} {P Q : Type 0} (r : Result A E) → OnOk r P → (P → Q) → OnOk r Q
-on_ok (Ok x) p f = f p
-on_ok (Err e) p f = p
 
 pub put_group-requires-clause-fits : goal.put_group-requires-clause-fits
 put_group-requires-clause-fits t c =
@@ -20,7 +18,11 @@ pub returns-in_ok-put_group-in-len1-up-clause-put : goal.returns-in_ok-put_group
 returns-in_ok-put_group-in-len1-up-clause-put t c =
     let split = split_of c.args.names.now c.name-item.result c.as_slice.result.now c.fitting.result c.in-len1-up.len_at_least
     c.name-item.is c.as_slice.ensures.value c.as_slice.ensures.short c.fitting.ensures.count in
-    on_ok c.put_groups.result c.put_groups.ensures.put (λ new.
-    new ∙ rw ((c.in_ok-put_group-in-len1-up.ensures {u = tt}).put, c.split_at.ensures.front, c.split_at.ensures.back)
+    on_ok_weaker c.put_groups.result (λ new.
+    ◌∙◌ {A = List Bytes} new (rw (
+      (c.in_ok-put_group-in-len1-up.ensures {u = tt}).put,
+      c.split_at.ensures.front,
+      c.split_at.ensures.back,
+    )
     (split_more (extended_reply c.args.net c.args.total) (bytes_of spelled_packet) c.args.made.now.items c.args.names.now
-    c.fitting.result split))
+    c.fitting.result split))) c.put_groups.ensures.put
