@@ -6,3 +6,5 @@ pub mod InPlace
 pub mod NetworksInPlace
 pub mod Written
 pub mod Appended
+pub mod ReadBack
+pub mod Grouping

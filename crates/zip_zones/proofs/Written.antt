@@ -1,5 +1,6 @@
 -- What is written are the bytes of the packet's format.
-use Rattle.std.proofs.Common.{◌≡◌, ℕ, ◌+◌, ◌/◌, ◌==◌, ◌≤◌, Bool, true, false, List, [], ◌∷◌, ◌++◌, length, refl, ap, append_assoc, if◌then◌else◌, arith}
+use Rattle.std.proofs.Common.{◌≡◌, ℕ, ◌+◌, ◌/◌, ◌==◌, ◌≤◌, Bool, true, false, List, [], ◌∷◌, ◌++◌, length, refl, ap}
+use Rattle.std.proofs.Common.{append_assoc, if◌then◌else◌, arith}
 use Rattle.std.specs.Prelude.{is_some}
 use Rattle.std.specs.Int.{byte_at, to_be_bytes, w16}
 use Rattle.std.proofs.lemmas.List.{append-nil}
@@ -12,7 +13,7 @@ use Rattle.zip_zones.specs.declared.packet.Packet.TheVariants as p
 use Rattle.zip_zones.specs.Formats.{body, default_zone, packet}
 use Rattle.zip_zones.specs.Networks.{network}
 use Rattle.zip_zones.specs.Packets.{entry, next_net}
-use Rattle.zip_zones.specs.Written.{default_for, entries_bytes, flags_for, networks_bytes}
+use Rattle.zip_zones.specs.Written.{default_for, entries_bytes, flags_for, networks_bytes, question}
 
 -- ---- Queries
 
@@ -36,11 +37,19 @@ entries_listed : (low : ℕ) (es : List Entry) → list_bytes (λ n. bytes_of (e
 entries_listed low [] = refl
 entries_listed low (e ∷ es) = rw (one_entry low e, entries_listed (e.net + 1) es) refl
 
-pub extended_written : (total : ℕ) (es : List Entry) → total ≤ 255 → (8 ∷ total ∷ []) ++ entries_bytes es ≡ bytes_of packet (p.ExtendedReply total es)
+pub extended_written : (total : ℕ) (es : List Entry) → total ≤ 255
+    → (8 ∷ total ∷ []) ++ entries_bytes es ≡ bytes_of packet (p.ExtendedReply total es)
 unfolding packet body
 extended_written total es small =
     let number : byte_at 0 total ≡ total = omega arith in
     rw (number, entries_listed 0 es) refl
+
+-- ---- What a node asks of its cable
+
+pub question_written : (asked : List ℕ)
+    → (5 ∷ 0 ∷ 0 ∷ 0 ∷ 0 ∷ 0 ∷ []) ++ bytes_of (text 0 any) asked ≡ bytes_of packet (question asked)
+unfolding packet body
+question_written asked = rw (append-nil (bytes_of (text 0 any) asked)) refl
 
 -- ---- What a node is told of its cable
 
@@ -58,8 +67,8 @@ no_more : (t g d : List ℕ) → (t ++ 6 ∷ g) ++ d ≡ t ++ (6 ∷ (g ++ (d ++
 no_more t g d = rw (append-nil d, append_assoc t (6 ∷ g) d) refl
 
 pub info_written : (info : NetInfo) → info.flags ≤ 255 → (info.flags / 128 == 1) ≡ is_some info.default
-    → ((((6 ∷ info.flags ∷ []) ++ to_be_bytes w16 info.start ++ to_be_bytes w16 info.end) ++ bytes_of (text 0 any) info.asked) ++ 6 ∷ info.group.0)
-    ++ bytes_of (default_zone (is_some info.default)) info.default ≡ bytes_of packet (p.NetInfoReply info)
+    → ((((6 ∷ info.flags ∷ []) ++ to_be_bytes w16 info.start ++ to_be_bytes w16 info.end) ++ bytes_of (text 0 any) info.asked)
+    ++ 6 ∷ info.group.0) ++ bytes_of (default_zone (is_some info.default)) info.default ≡ bytes_of packet (p.NetInfoReply info)
 unfolding packet body
 info_written info small tells =
     let flags : byte_at 0 info.flags ≡ info.flags = omega arith in

@@ -5,3 +5,5 @@ pub mod Packets
 pub mod Networks
 pub mod Formats
 pub mod Written
+pub mod Answers
+pub mod Examples

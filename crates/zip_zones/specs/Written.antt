@@ -1,17 +1,18 @@
 -- ZIP packets as they are written. (Inside AppleTalk, the chapter on ZIP)
-use Rattle.std.specs.Prelude.{ℕ, ◌+◌, ◌%◌, Bool, ◌==◌, List, [], ◌∷◌, ◌++◌, length, map, find, Option, Some, None}
+use Rattle.std.specs.Prelude.{◌≡◌, ℕ, ◌+◌, ◌%◌, Bool, ◌==◌, List, [], ◌∷◌, ◌++◌, length, map, find, Option, Some, None}
 use Rattle.std.specs.Prelude.{is_some, if◌then◌else◌}
 use Rattle.std.specs.Char.{to_ascii_uppercase}
 use Rattle.std.specs.Option.{unwrap_or}
 use Rattle.at_base.specs.declared.address.Hw.{Hw}
 use Rattle.at_base.specs.Checksum.{sum_of}
 use Rattle.at_base.specs.Range.{Span}
-use Rattle.at_base.specs.Spelling.{bytes_of}
+use Rattle.at_base.specs.Spelling.{Begins, bytes_of}
 use Rattle.at_base.specs.Text.{is_name, same_name}
 use Rattle.zip_zones.specs.declared.entry.Entry.{Entry}
 use Rattle.zip_zones.specs.declared.packet.NetInfo.{NetInfo}
 use Rattle.zip_zones.specs.declared.packet.Packet.{Packet}
 use Rattle.zip_zones.specs.declared.packet.Packet.TheVariants as p
+use Rattle.zip_zones.specs.Formats.{packet}
 use Rattle.zip_zones.specs.Networks.{network}
 use Rattle.zip_zones.specs.Packets.{entry}
 
@@ -37,6 +38,10 @@ entries_size (name ∷ names) = 3 + length name + entries_size names
 -- the reply with all these names of a network that has so many zones
 abbrev pub extended_reply : ℕ → ℕ → List (List ℕ) → Packet
 extended_reply net total names = p.ExtendedReply total (entries_of net names)
+
+-- the question of a node about its cable, with the zone that it asks for
+abbrev pub question : List ℕ → Packet
+question asked = p.GetNetInfo (0 ∷ 0 ∷ 0 ∷ 0 ∷ 0 ∷ []) asked
 
 -- ---- What a node is told of its cable
 
@@ -71,3 +76,9 @@ net_info asked range names = record {
   group = zone_group (unwrap_or (listed asked names) (first_of names));
   default = default_for (is_some (listed asked names)) (first_of names);
 }
+
+-- ---- What is read back
+
+-- the bytes begin with this packet, and with no other
+abbrev pub BeginsWith : List ℕ → Packet → Type 0
+BeginsWith bytes p = Begins packet bytes p × ((q : Packet) → Begins packet bytes q → q ≡ p)

@@ -1,12 +1,13 @@
 //! What a node is told of its cable, as it is written.
 
 ghost use Rattle.std.specs.Prelude.{◌≡◌, ◌<◌, ◌≤◌, ◌/◌, ◌==◌, ◌∷◌, ◌++◌, [], length, find};
-ghost use Rattle.std.specs.Prelude.{is_some, option_copied, IfOk, IsOkUnless, OnOk};
+ghost use Rattle.std.specs.Prelude.{is_some, option_copied, option_map, IfOk, IsOkUnless, OnOk};
 ghost use Rattle.std.specs.Int.{to_be_bytes, w16};
 ghost use Rattle.at_base.specs.Packets.{any, text};
 ghost use Rattle.at_base.specs.Spelling.{bytes_of};
 ghost use Rattle.at_base.specs.Text.{same_name};
 ghost use Rattle.zip_zones.specs.declared.packet.Packet.TheVariants.{NetInfoReply as ReplyValue};
+ghost use Rattle.zip_zones.specs.Answers.{net_info_reply};
 ghost use Rattle.zip_zones.specs.Formats.{default_zone, packet as spelled_packet};
 ghost use Rattle.zip_zones.specs.Written.{flags_for, listed as listed_in, net_info as info_for};
 ghost use Rattle.zip_zones.specs.Written.{zone_group};
@@ -88,7 +89,7 @@ fn front(flags: u8) -> [u8; 2]
 
 /// Appends a text after its length.
 #[tactic(auto, unfolding(at_base::specs::Packets::text))]
-fn put_text(bytes: &mut Vec<u8>, asked: &Text32) -> Result<(), Error>
+pub(crate) fn put_text(bytes: &mut Vec<u8>, asked: &Text32) -> Result<(), Error>
     ensures put { OnOk result
         (bytes.new.items ≡ bytes.old.items ++ bytes_of (text 0 any) asked.now) }
     ensures refused { IsOkUnless result Error.Memory }
@@ -153,9 +154,9 @@ fn write_info(alloc: Global, info: &NetInfo) -> Result<Bytes, Error>
     Ok(Bytes::from_vec(bytes))
 }
 
-/// The answer to a node that asks for a zone of a cable: the cable's range, whether its list has the
-/// zone in any case, the address of the zone's group, and the default zone, which is the first of
-/// the list, instead of a zone that isn't there. Allocates exactly its length, at once.
+/// The answer to a node that asks for a zone of a cable: the cable's range, whether its list has
+/// the zone in any case, the address of the zone's group, and the default zone, which is the first
+/// of the list, instead of a zone that isn't there. Allocates exactly its length, at once.
 ///
 /// Inside AppleTalk, the chapter on ZIP. Error: `Memory`.
 pub fn answer_net_info(
@@ -171,4 +172,26 @@ pub fn answer_net_info(
 {
     let info = net_info(asked, range, names);
     write_info(alloc, &info)
+}
+
+/// The answer to a node that asks for a zone of a cable with these zones, or none where it has no
+/// zone.
+///
+/// Inside AppleTalk, the chapter on ZIP; that a cable without zones isn't told of is this project's
+/// own. Error: `Memory`.
+pub fn reply_net_info(
+    alloc: Global,
+    asked: &Text32,
+    range: Range,
+    names: &[Name],
+) -> Result<Option<Bytes>, Error>
+    ensures ok { IfOk result (λ made. made
+        ≡ option_map (bytes_of spelled_packet) (net_info_reply asked.now range names.now)) }
+    ensures refused { IsOkUnless result Error.Memory }
+{
+    if names.is_empty() {
+        return Ok(None);
+    }
+    let bytes = answer_net_info(alloc, asked, range, names)?;
+    Ok(Some(bytes))
 }

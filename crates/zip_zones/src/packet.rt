@@ -4,6 +4,7 @@ ghost use Rattle.std.specs.Prelude.{◌≡◌, ◌/◌, ◌==◌, [], length};
 ghost use Rattle.at_base.specs.Grammar.{number, one};
 ghost use Rattle.at_base.specs.Packets.{packets, text, any};
 ghost use Rattle.at_base.specs.Reading.{Gives, Reads, field_at, read as read_by};
+ghost use Rattle.zip_zones.specs.Answers.{zone_asked};
 ghost use Rattle.zip_zones.specs.Formats.{body, default_zone, function_of};
 ghost use Rattle.zip_zones.specs.Formats.{packet as spelled_packet};
 ghost use Rattle.zip_zones.specs.Formats.{wrong_function};
@@ -236,6 +237,16 @@ impl<'a> Packet<'a> {
         match parts_of(bytes) {
             Ok((packet, _)) => Ok(packet),
             Err(error) => Err(error),
+        }
+    }
+
+    /// The zone that a node asks for, where the packet is its question about its cable.
+    pub fn asked(&self) -> Option<Text32>
+        ensures { result ≡ zone_asked self.now }
+    {
+        match self {
+            Packet::GetNetInfo(_, asked) => Some(*asked),
+            _ => None,
         }
     }
 }

@@ -1,6 +1,7 @@
 //! The pages of a list of zones.
 
 ghost use Rattle.std.specs.Prelude.{◌≡◌, ◌≤◌, ◌++◌, drop, length, IfOk, IsOkUnless, OnOk};
+ghost use Rattle.zip_zones.specs.Answers.{page_user};
 ghost use Rattle.zip_zones.specs.Pages.{fitting, from_index, name_bytes, names_bytes, page};
 
 use at_base::{Bytes, Error, Name};
@@ -20,6 +21,17 @@ pub struct Page {
     pub count: u16,
     /// The names, each after its length.
     pub bytes: Bytes,
+}
+
+impl Page {
+    /// The user bytes of the response with this page: 1 where it is the last one, 0, and the number
+    /// of its names in two bytes.
+    pub fn user(&self) -> [u8; 4]
+        ensures { result ≡ page_user self.now }
+    {
+        let count = self.count.to_be_bytes();
+        [u8::from(self.last), 0, count[0], count[1]]
+    }
 }
 
 /// Appends a name after its length.

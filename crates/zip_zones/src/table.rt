@@ -363,6 +363,7 @@ impl ZoneTable {
     /// Error: `Memory`.
     pub fn names_of(&self, net: u16) -> Result<Vec<Name>, Error>
         ensures ok { IfOk result (λ names. names.items ≡ names_at net self.now) }
+        ensures few { IfOk result (λ names. length names.items ≤ 64) }
         ensures refused { IsOkUnless result Error.Memory }
     {
         let alloc = *self.lists.allocator();

@@ -24,8 +24,11 @@ const MAX_DATA: usize = 586;
 /// The bytes before the networks of a query, and before the entries of a reply.
 const HEAD_LEN: usize = 2;
 
+/// The most bytes of a reply's entries.
+pub(crate) const MAX_ENTRIES: usize = MAX_DATA - HEAD_LEN;
+
 /// The bytes of an entry, beside those of its name.
-const ENTRY_LEN: usize = 3;
+pub(crate) const ENTRY_LEN: usize = 3;
 
 /// The number of a function.
 pub(crate) fn number(function: Function) -> u8
@@ -136,7 +139,7 @@ pub fn write_extended(alloc: Global, net: u16, total: u8, names: &[Name]) -> Res
     ensures long { (result ≡ Err Error.TooLong) ↔ (586 < 2 + entries_size names.now) }
     ensures refused { IfErr result (λ e. (e ≡ Error.TooLong) ⊎ (e ≡ Error.Memory)) }
 {
-    let len = entries_len(names, MAX_DATA - HEAD_LEN)?;
+    let len = entries_len(names, MAX_ENTRIES)?;
     let mut bytes = Vec::with_capacity(alloc, HEAD_LEN + len)?;
     bytes.extend_from_slice(&[number(Function::ExtendedReply), total])?;
     put_entries(&mut bytes, net, names)?;

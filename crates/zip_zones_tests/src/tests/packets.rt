@@ -70,8 +70,22 @@ pub(crate) fn is_extended(bytes: &[u8], total: u8, wanted: &[(u16, &[u8])]) -> b
     }
 }
 
-pub(crate) fn is_asked(bytes: &[u8]) -> bool {
-    matches!(Packet::read(bytes), Ok(Packet::GetNetInfo(_, _)))
+/// Whether the packet is the question of a node that asks for this zone.
+pub(crate) fn is_asked(bytes: &[u8], zone: &[u8]) -> bool {
+    match Packet::read(bytes) {
+        Ok(packet) => matches!(packet.asked(), Some(asked) if asked.as_slice() == zone),
+        Err(_) => false,
+    }
+}
+
+/// Whether the packet is the question of a node, with these bytes before its zone.
+pub(crate) fn has_unused(bytes: &[u8], unused: [u8; 5]) -> bool {
+    matches!(Packet::read(bytes), Ok(Packet::GetNetInfo(found, _)) if found == unused)
+}
+
+/// Whether the packet is read, and no node's question.
+pub(crate) fn asks_nothing(bytes: &[u8]) -> bool {
+    matches!(Packet::read(bytes), Ok(packet) if packet.asked().is_none())
 }
 
 pub(crate) fn is_info(bytes: &[u8]) -> bool {

@@ -1,8 +1,9 @@
 //! What is compared of pages.
 
+use super::again;
 use at_base::{Error, Name};
 use std::alloc::Global;
-use zip_zones::{Page, zone_list_page};
+use zip_zones::{Page, ZoneFunction, ZoneTable, page_for, zone_list_page};
 
 /// A name of 32 bytes.
 pub(crate) const LONG: &[u8] = b"abcdefghijklmnopqrstuvwxyz012345";
@@ -20,10 +21,10 @@ pub(crate) fn long_page(text: &[u8]) -> Result<[Name; 18], Error> {
     Ok([name; 18])
 }
 
-/// 17 names of 32 bytes, and one of 16.
-pub(crate) fn exact_page() -> Result<[Name; 18], Error> {
+/// 17 names of 32 bytes, and this one.
+pub(crate) fn page_with(last: &[u8]) -> Result<[Name; 18], Error> {
     let mut names = long_page(LONG)?;
-    names[17] = Name::new(&LONG[..16])?;
+    names[17] = Name::new(last)?;
     Ok(names)
 }
 
@@ -51,4 +52,43 @@ pub(crate) fn has_page(
 ) -> Result<bool, Error> {
     let page = page(alloc, start, names)?;
     Ok(page.last == last && page.count == count && page.bytes.as_slice().len() == len)
+}
+
+/// Whether the user bytes of a request ask for this.
+pub(crate) fn is_request(user: [u8; 4], function: ZoneFunction, start: u16) -> bool {
+    ZoneFunction::asked(&user) == Some((function, start)) && function.number() == user[0]
+}
+
+fn answer(
+    table: &ZoneTable,
+    alloc: Global,
+    function: ZoneFunction,
+    start: u16,
+    local: &[Name],
+) -> Result<Page, Error> {
+    match page_for(alloc, function, start, local, table) {
+        Err(Error::Memory) => page_for(alloc, function, start, local, table),
+        answer => answer,
+    }
+}
+
+/// Whether a router that knows Red of 10-19, and Blue and Red of 20-29, gives this answer to a node
+/// on a cable with these zones.
+pub(crate) fn is_answer(
+    alloc: Global,
+    request: (ZoneFunction, u16),
+    local: &[Name],
+    user: [u8; 4],
+    bytes: &[u8],
+) -> Result<bool, Error> {
+    let mut table = again::table(alloc)?;
+    let red = Name::new(b"Red")?;
+    again::set(&mut table, again::range(10, 19)?, &[red])?;
+    again::set(
+        &mut table,
+        again::range(20, 29)?,
+        &[Name::new(b"Blue")?, red],
+    )?;
+    let page = answer(&table, alloc, request.0, request.1, local)?;
+    Ok(page.user() == user && page.bytes.as_slice() == bytes)
 }

@@ -79,6 +79,15 @@ pub(crate) fn is_listed(alloc: Global) -> Result<bool, Error> {
     Ok(listed && !zones.lists(9, &red) && zones.range_at(3).is_none())
 }
 
+/// Whether a list that isn't complete is read as it stands.
+pub(crate) fn is_read_incomplete(alloc: Global) -> Result<bool, Error> {
+    let mut zones = table(alloc)?;
+    let grey = Name::new(b"Grey")?;
+    add(&mut zones, range(40, 49)?, 2, &grey)?;
+    let listed = zones.lists(45, &grey) && !zones.complete(45);
+    Ok(listed && are(names_of(&zones, 45)?.as_slice(), &[b"Grey"]))
+}
+
 pub(crate) fn is_removed(alloc: Global) -> Result<bool, Error> {
     let zones = three(alloc)?;
     let mut others = copy(&zones)?;
@@ -174,7 +183,8 @@ pub(crate) fn is_full_at_200(alloc: Global) -> Result<bool, Error> {
 }
 
 pub(crate) fn are_cables(alloc: Global, zone: &[u8], ends: &[(u16, u16)]) -> Result<bool, Error> {
-    let zones = three(alloc)?;
+    let mut zones = three(alloc)?;
+    add(&mut zones, range(40, 49)?, 2, &Name::new(b"Grey")?)?;
     let cables = cables_of(&zones, &Name::new(zone)?)?;
     if cables.len() != ends.len() {
         return Ok(false);

@@ -6,7 +6,7 @@ ghost use Rattle.std.specs.Prelude.{◌<◌, length};
 use super::pages::LONG;
 use at_base::{Bytes, Error, Name, Range, Text32};
 use std::alloc::Global;
-use zip_zones::{answer_net_info, write_extended, write_query};
+use zip_zones::{answer_net_info, reply_net_info, write_extended, write_get_net_info, write_query};
 
 fn query(alloc: Global, networks: &[u16]) -> Result<Bytes, Error> {
     match write_query(alloc, networks) {
@@ -74,6 +74,12 @@ pub(crate) fn is_told_on_10(alloc: Global, asked: &[u8], bytes: &[u8]) -> Result
     Ok(answer(alloc, asked, Range::new(10, 19)?, &names)?.as_slice() == bytes)
 }
 
+/// Whether the answer to a node on 20-29, whose zones are Red and Blue, is this.
+pub(crate) fn is_told_on_20(alloc: Global, asked: &[u8], bytes: &[u8]) -> Result<bool, Error> {
+    let names = [Name::new(b"Red")?, Name::new(b"Blue")?];
+    Ok(answer(alloc, asked, Range::new(20, 29)?, &names)?.as_slice() == bytes)
+}
+
 /// The flags and the group of the answer to a node on 20-29, whose zones are Red and Blue.
 pub(crate) fn told_on_20(alloc: Global, asked: &[u8]) -> Result<(u8, u8), Error> {
     let names = [Name::new(b"Red")?, Name::new(b"Blue")?];
@@ -83,4 +89,43 @@ pub(crate) fn told_on_20(alloc: Global, asked: &[u8]) -> Result<(u8, u8), Error>
         (Some(flags), Some(group)) => Ok((*flags, *group)),
         _ => Err(Error::Truncated),
     }
+}
+
+fn question(alloc: Global, asked: &[u8]) -> Result<Bytes, Error> {
+    let asked = Text32::new(asked)?;
+    match write_get_net_info(alloc, &asked) {
+        Err(Error::Memory) => write_get_net_info(alloc, &asked),
+        answer => answer,
+    }
+}
+
+/// Whether the question for a zone is this.
+pub(crate) fn is_question(alloc: Global, asked: &[u8], bytes: &[u8]) -> Result<bool, Error> {
+    Ok(question(alloc, asked)?.as_slice() == bytes)
+}
+
+/// Whether the question for a zone of 32 bytes that are no name is its head and these.
+pub(crate) fn is_long_question(alloc: Global) -> Result<bool, Error> {
+    let made = question(alloc, &[0xC5; 32])?;
+    let head = made.as_slice().get(..7) == Some([5, 0, 0, 0, 0, 0, 32].as_slice());
+    Ok(head && made.as_slice().get(7..) == Some([0xC5; 32].as_slice()))
+}
+
+fn reply(alloc: Global, names: &[Name]) -> Result<Option<Bytes>, Error> {
+    let asked = Text32::new(b"red")?;
+    let range = Range::new(10, 19)?;
+    match reply_net_info(alloc, &asked, range, names) {
+        Err(Error::Memory) => reply_net_info(alloc, &asked, range, names),
+        answer => answer,
+    }
+}
+
+/// Whether the answer to a node on 10-19 that asks for red is this where the cable's zone is Red,
+/// and none where the cable has no zone.
+pub(crate) fn is_told_where_zones_are(alloc: Global, bytes: &[u8]) -> Result<bool, Error> {
+    let told = match reply(alloc, &[Name::new(b"Red")?])? {
+        Some(answer) => answer.as_slice() == bytes,
+        None => false,
+    };
+    Ok(told && reply(alloc, &[])?.is_none())
 }

@@ -6,4 +6,5 @@ use Rattle.zip_zones.proofs.answer.answer_net_info.Goals as goal
 
 pub write_info-requires : goal.write_info-requires
 write_info-requires c =
-    rw c.net_info-info.ensures (flag_tells (is_some (listed c.args.asked.now c.args.names.now)) (length c.args.names.now) (first_of c.args.names.now))
+    let names = c.args.names.now in
+    rw c.net_info-info.ensures (flag_tells (is_some (listed c.args.asked.now names)) (length names) (first_of names))

@@ -5,4 +5,5 @@ use Rattle.zip_zones.proofs.writer.put_entries.Given as goal
 -- what is written, and what is left to be written, is all
 abbrev pub invariant-loop-name : goal.invariant-loop-name
 invariant-loop-name l =
-    l.bytes.items ++ entries_bytes (entries_of l.net (drop l.name-index l.names)) ≡ l.initial.bytes.items ++ entries_bytes (entries_of l.net l.names)
+    l.bytes.items ++ entries_bytes (entries_of l.net (drop l.name-index l.names))
+    ≡ l.initial.bytes.items ++ entries_bytes (entries_of l.net l.names)

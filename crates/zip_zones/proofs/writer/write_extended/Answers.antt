@@ -12,4 +12,5 @@ returns-clause-ok c =
       c.in_ok-extend_from_slice.ensures.items,
       c.in_ok-bytes.ensures.items,
     )
-    (ap (λ (n : ℕ). n ∷ c.args.total ∷ entries_bytes es) c.number.ensures ∙ extended_written c.args.total es (omega (arith, c.ranges.total.fits)))
+    (ap (λ (n : ℕ). n ∷ c.args.total ∷ entries_bytes es) c.number.ensures
+    ∙ extended_written c.args.total es (omega (arith, c.ranges.total.fits)))

@@ -12,4 +12,5 @@ returns-clause-ok c =
       c.in_ok-extend_from_slice.ensures.items,
       c.in_ok-bytes.ensures.items,
     )
-    (ap (λ (n : ℕ). n ∷ length nets ∷ networks_bytes nets) c.number.ensures ∙ query_written nets (omega (arith, c.if-networks-gt-MAX_NETWORKS.false)))
+    (ap (λ (n : ℕ). n ∷ length nets ∷ networks_bytes nets) c.number.ensures
+    ∙ query_written nets (omega (arith, c.if-networks-gt-MAX_NETWORKS.false)))

@@ -1,0 +1,36 @@
+//! What a node asks of its cable, as it is written.
+
+ghost use Rattle.std.specs.Prelude.{◌≡◌, ◌∷◌, [], IfOk, IsOkUnless};
+ghost use Rattle.at_base.specs.Spelling.{bytes_of};
+ghost use Rattle.zip_zones.specs.Formats.{packet as spelled_packet};
+ghost use Rattle.zip_zones.specs.Written.{question};
+
+use crate::answer::put_text;
+use crate::packet::Function;
+use crate::writer::number;
+use at_base::{Bytes, Error, Text32};
+use std::alloc::Global;
+
+/// The bytes of a question without the zone asked for.
+const QUESTION_LEN: usize = 7;
+
+/// The function of a question, and the five bytes after it.
+fn front() -> [u8; 6]
+    ensures { result ≡ 5 ∷ 0 ∷ 0 ∷ 0 ∷ 0 ∷ 0 ∷ [] }
+{
+    [number(Function::GetNetInfo), 0, 0, 0, 0, 0]
+}
+
+/// What a node asks of its cable: for a zone that it would like, which is empty where it has none.
+/// Allocates exactly its length, at once.
+///
+/// Inside AppleTalk, the chapter on ZIP. Error: `Memory`.
+pub fn write_get_net_info(alloc: Global, asked: &Text32) -> Result<Bytes, Error>
+    ensures ok { IfOk result (λ bytes. bytes ≡ bytes_of spelled_packet (question asked.now)) }
+    ensures refused { IsOkUnless result Error.Memory }
+{
+    let mut bytes = Vec::with_capacity(alloc, QUESTION_LEN + asked.as_slice().len())?;
+    bytes.extend_from_slice(&front())?;
+    put_text(&mut bytes, asked)?;
+    Ok(Bytes::from_vec(bytes))
+}

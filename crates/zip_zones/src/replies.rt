@@ -1,0 +1,127 @@
+//! What a router answers to queries.
+
+ghost use Rattle.std.specs.Prelude.{◌≡◌, ◌<◌, ◌≤◌, ◌++◌, ◌∷◌, [], length, map, take, IfOk};
+ghost use Rattle.std.specs.Prelude.{IsOkUnless, OnOk};
+ghost use Rattle.std.specs.List.{flat_map};
+ghost use Rattle.at_base.specs.Spelling.{bytes_of};
+ghost use Rattle.zip_zones.specs.Answers.{first_group, grouped, replies, replies_for};
+ghost use Rattle.zip_zones.specs.Formats.{packet as spelled_packet};
+ghost use Rattle.zip_zones.specs.Written.{entries_size, extended_reply};
+
+use crate::networks::Networks;
+use crate::table::ZoneTable;
+use crate::writer::{ENTRY_LEN, MAX_ENTRIES, write_extended};
+use at_base::{Bytes, Error, Name};
+use std::alloc::Global;
+
+/// The most networks of a query that are looked at. This project's own.
+const MAX_ANSWERED: usize = 16;
+
+/// How many of the names from the front have room in so many bytes of entries.
+fn fitting(names: &[Name], room: usize) -> usize
+    ensures count { result ≡ length (first_group room names.now) }
+    ensures few { result ≤ room }
+    ensures within { result ≤ length names.now }
+{
+    match names {
+        [] => 0,
+        [name, rest @ ..] => {
+            let len = ENTRY_LEN + name.as_slice().len();
+            if room < len {
+                return 0;
+            }
+            1 + fitting(rest, room - len)
+        }
+    }
+}
+
+/// Appends the reply with these names, which have room in it.
+fn put_group(made: &mut Vec<Bytes>, net: u16, total: u8, group: &[Name]) -> Result<(), Error>
+    requires some { 0 < length group.now }
+    requires fits { entries_size group.now ≤ 584 }
+    ensures put { OnOk result (made.new.items
+        ≡ made.old.items ++ bytes_of spelled_packet (extended_reply net total group.now) ∷ []) }
+    ensures refused { IsOkUnless result Error.Memory }
+{
+    match write_extended(*made.allocator(), net, total, group) {
+        Ok(bytes) => {
+            made.push(bytes)?;
+            Ok(())
+        }
+        Err(_) => Err(Error::Memory),
+    }
+}
+
+/// Appends replies with these names, as many in each as have room.
+fn put_groups(made: &mut Vec<Bytes>, net: u16, total: u8, names: &[Name]) -> Result<(), Error>
+    ensures put { OnOk result (made.new.items ≡ made.old.items
+        ++ map (bytes_of spelled_packet) (map (extended_reply net total) (grouped names.now))) }
+    ensures refused { IsOkUnless result Error.Memory }
+{
+    match names {
+        [] => Ok(()),
+        [name, others @ ..] => {
+            let room = MAX_ENTRIES - (ENTRY_LEN + name.as_slice().len());
+            let (group, rest) = names.split_at(1 + fitting(others, room));
+            put_group(made, net, total, group)?;
+            put_groups(made, net, total, rest)
+        }
+    }
+}
+
+/// Appends the replies for a network.
+fn put_replies(made: &mut Vec<Bytes>, table: &ZoneTable, net: u16) -> Result<(), Error>
+    ensures put { OnOk result (made.new.items ≡ made.old.items
+        ++ map (bytes_of spelled_packet) (replies_for table.now net)) }
+    ensures refused { IsOkUnless result Error.Memory }
+{
+    if !table.complete(net) {
+        return Ok(());
+    }
+    let list = table.names_of(net)?;
+    let names = list.as_slice();
+    put_groups(made, net, names.len() as u8, names)
+}
+
+/// Appends the replies for the first of the networks, so many at most.
+fn put_first(
+    made: &mut Vec<Bytes>,
+    table: &ZoneTable,
+    mut networks: Networks<'_>,
+    most: usize,
+) -> Result<(), Error>
+    ensures put { OnOk result (made.new.items ≡ made.old.items ++ map (bytes_of spelled_packet)
+        (flat_map (replies_for table.now) (take most networks.entry))) }
+    ensures refused { IsOkUnless result Error.Memory }
+{
+    if most == 0 {
+        return Ok(());
+    }
+    match networks.next() {
+        Some(net) => {
+            put_replies(made, table, net)?;
+            put_first(made, table, networks, most - 1)
+        }
+        None => Ok(()),
+    }
+}
+
+/// The replies of a router with this table to a query of these networks: of the first 16, those
+/// whose list is complete and not empty are answered, in order, by extended replies with the number
+/// that was asked for and as many names in each as have room.
+///
+/// Inside AppleTalk, the chapter on ZIP; the 16 networks, and that replies are always extended, are
+/// this project's own. Error: `Memory`.
+pub fn answer_query(
+    alloc: Global,
+    table: &ZoneTable,
+    networks: Networks<'_>,
+) -> Result<Vec<Bytes>, Error>
+    ensures ok { IfOk result (λ made. made.items
+        ≡ map (bytes_of spelled_packet) (replies table.now networks.entry)) }
+    ensures refused { IsOkUnless result Error.Memory }
+{
+    let mut made = Vec::new(alloc);
+    put_first(&mut made, table, networks, MAX_ANSWERED)?;
+    Ok(made)
+}

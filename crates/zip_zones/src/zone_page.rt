@@ -1,0 +1,60 @@
+//! The pages that answer requests for lists of zones.
+
+ghost use Rattle.std.specs.Prelude.{◌≡◌, IfOk, IsOkUnless};
+ghost use Rattle.zip_zones.specs.Answers.{my_zone, zone_page};
+
+use crate::page::{Page, put_name, zone_list_page};
+use crate::table::ZoneTable;
+use crate::zone_function::ZoneFunction;
+use at_base::{Bytes, Error, Name};
+use std::alloc::Global;
+
+/// The page with the default zone of a cable with these zones, or the empty one.
+fn my_page(alloc: Global, local: &[Name]) -> Result<Page, Error>
+    ensures ok { IfOk result (λ made. made ≡ my_zone local.now) }
+    ensures refused { IsOkUnless result Error.Memory }
+{
+    let mut bytes = Vec::new(alloc);
+    match local {
+        [] => Ok(Page {
+            last: true,
+            count: 0,
+            bytes: Bytes::from_vec(bytes),
+        }),
+        [default, ..] => {
+            put_name(&mut bytes, default)?;
+            Ok(Page {
+                last: false,
+                count: 1,
+                bytes: Bytes::from_vec(bytes),
+            })
+        }
+    }
+}
+
+/// The page from an index on that a router with this table answers a node whose cable has these
+/// zones: the default zone alone, with which it says that the page isn't the last, a page of all
+/// zones, or one of the cable's.
+///
+/// Inside AppleTalk, the chapter on ZIP; the default zone's page is this project's own. Error:
+/// `Memory`.
+pub fn page_for(
+    alloc: Global,
+    function: ZoneFunction,
+    start: u16,
+    local: &[Name],
+    table: &ZoneTable,
+) -> Result<Page, Error>
+    ensures ok { IfOk result
+        (λ made. made ≡ zone_page function start local.now table.now) }
+    ensures refused { IsOkUnless result Error.Memory }
+{
+    match function {
+        ZoneFunction::GetMyZone => my_page(alloc, local),
+        ZoneFunction::GetZoneList => {
+            let names = table.all()?;
+            zone_list_page(alloc, start, names.as_slice())
+        }
+        ZoneFunction::GetLocalZones => zone_list_page(alloc, start, local),
+    }
+}
