@@ -64,12 +64,6 @@ impl Found {
     }
 }
 
-fn is_spelled_alike(name: &Name, other: &Name) -> bool
-    ensures { IsTrue result → name.now ≡ other.now }
-{
-    name.as_slice() == other.as_slice()
-}
-
 /// Whether the names are the others, in the same order and spelling.
 pub(crate) fn are_spelled_alike(names: &[Name], others: &[Name]) -> bool
     ensures { IsTrue result → names.now ≡ others.now }
@@ -78,7 +72,7 @@ pub(crate) fn are_spelled_alike(names: &[Name], others: &[Name]) -> bool
         return false;
     }
     for (k, name) in names.iter().enumerate() {
-        if !is_spelled_alike(name, &others[k]) {
+        if !name.is_spelled_like(&others[k]) {
             return false;
         }
     }

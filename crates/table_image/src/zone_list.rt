@@ -44,6 +44,7 @@ impl Item for ZoneList {
 }
 
 impl ReadItem for ZoneList {
+    #[inline(always)]
     #[tactic(auto, unfolding(crate::specs::Spelling::zone_list_spelling))]
     fn read_one<'a>(
         alloc: Global,
