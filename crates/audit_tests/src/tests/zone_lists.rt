@@ -3,7 +3,7 @@
 
 use super::images::{YES, line_of_bytes};
 use at_base::Error;
-use example_images::three_cables::{FIRST_LISTS, NODES, SECOND_LISTS, SECOND_PORTS, image};
+use example_images::three_cables::{FIRST_LISTS, LEN, NODES, SECOND_LISTS, SECOND_PORTS, image};
 use std::alloc::Global;
 
 /// Parts of an image, one after the other.
@@ -255,18 +255,32 @@ pub(crate) const RANGES: [ListCase; 14] = [
     ),
 ];
 
-fn line_of_lists_once(alloc: Global, first: &[&[u8]], second: &[&[u8]]) -> Result<String, Error> {
+/// Appends the bytes of the example from one offset up to another.
+fn put_example(bytes: &mut Vec<u8>, from: usize, to: usize) -> Result<(), Error> {
     let example = image();
+    for (k, byte) in example.iter().enumerate() {
+        if from <= k && k < to {
+            bytes.push(*byte)?;
+        }
+    }
+    Ok(())
+}
+
+/// Appends the parts.
+fn put_parts(bytes: &mut Vec<u8>, parts: &[&[u8]]) -> Result<(), Error> {
+    for part in parts {
+        bytes.extend_from_slice(part)?;
+    }
+    Ok(())
+}
+
+fn line_of_lists_once(alloc: Global, first: &[&[u8]], second: &[&[u8]]) -> Result<String, Error> {
     let mut bytes = Vec::new(alloc);
-    bytes.extend_from_slice(&example[..FIRST_LISTS])?;
-    for part in first {
-        bytes.extend_from_slice(part)?;
-    }
-    bytes.extend_from_slice(&example[SECOND_PORTS..SECOND_LISTS])?;
-    for part in second {
-        bytes.extend_from_slice(part)?;
-    }
-    bytes.extend_from_slice(&example[NODES..])?;
+    put_example(&mut bytes, 0, FIRST_LISTS)?;
+    put_parts(&mut bytes, first)?;
+    put_example(&mut bytes, SECOND_PORTS, SECOND_LISTS)?;
+    put_parts(&mut bytes, second)?;
+    put_example(&mut bytes, NODES, LEN)?;
     line_of_bytes(alloc, bytes.as_slice())
 }
 
