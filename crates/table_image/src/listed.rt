@@ -149,25 +149,34 @@ impl<T: Drop> Listed<T> {
         };
         Listed { kept }
     }
-}
 
-impl<T: Copy + Drop> Listed<T> {
-    /// The same values once more, without an allocation: one value, or values that may have several
-    /// owners.
+    /// The same values once more, without a copy of them, where they may have several owners.
     pub(crate) fn share(&self) -> Option<Listed<T>>
         ensures { IfSome result (λ other. other ≡ self.now) }
     {
         match &self.kept {
-            Kept::One(item) => Some(Listed {
-                kept: Kept::One(*item),
-            }),
-            Kept::Many(_) => None,
             Kept::Shared(items) => match Arc::try_clone(items) {
                 Ok(items) => Some(Listed {
                     kept: Kept::Shared(items),
                 }),
                 Err(_) => None,
             },
+            _ => None,
+        }
+    }
+}
+
+impl<T: Copy + Drop> Listed<T> {
+    /// The same values once more, without an allocation: one value, or values that may have several
+    /// owners.
+    pub(crate) fn again(&self) -> Option<Listed<T>>
+        ensures { IfSome result (λ other. other ≡ self.now) }
+    {
+        match &self.kept {
+            Kept::One(item) => Some(Listed {
+                kept: Kept::One(*item),
+            }),
+            _ => self.share(),
         }
     }
 }

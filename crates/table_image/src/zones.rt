@@ -88,19 +88,29 @@ fn after_names<'a>(names: &[Name], bytes: &'a [u8]) -> Option<&'a [u8]>
     Some(rest)
 }
 
-// The same zones once more, where the bytes begin with them and that takes no memory.
+/// The bytes after a count and the zones, where they begin with those.
 #[inline(always)]
 #[tactic(auto, unfolding(crate::specs::Spelling::zones_spelling, crate::specs::Spelling::counted))]
-fn zones_again<'a>(zones: &Listed<Name>, bytes: &'a [u8]) -> Option<(Listed<Name>, &'a [u8])>
+pub(crate) fn after_zones<'a>(zones: &Listed<Name>, bytes: &'a [u8]) -> Option<&'a [u8]>
     ensures { IfSome result
-        (λ x. read flaws zones_spelling bytes.now ≡ Ok (x.0, x.1.now)) }
+        (λ rest. read flaws zones_spelling bytes.now ≡ Ok (zones.now, rest.now)) }
 {
     let (count, after) = bytes.split_first()?;
     if *count > MAX_ZONES || *count as usize != zones.len() {
         return None;
     }
     let rest = after_names(zones.as_slice(), after)?;
-    Some((zones.share()?, rest))
+    Some(rest)
+}
+
+// The same zones once more, where the bytes begin with them and that takes no memory.
+#[inline(always)]
+fn zones_again<'a>(zones: &Listed<Name>, bytes: &'a [u8]) -> Option<(Listed<Name>, &'a [u8])>
+    ensures { IfSome result
+        (λ x. read flaws zones_spelling bytes.now ≡ Ok (x.0, x.1.now)) }
+{
+    let rest = after_zones(zones, bytes)?;
+    Some((zones.again()?, rest))
 }
 
 /// A count and zones. Where they are those of the other list, they are kept once.
