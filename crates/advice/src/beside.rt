@@ -3,7 +3,7 @@
 use crate::item::{show_cable, show_node, show_port, show_row};
 use at_base::{Addr, Hw};
 use std::io;
-use table_image::{Image, Router, Row};
+use table_image::{Image, Router, Row, ZoneList};
 
 /// The stations before a station that have its address or its hardware address: ports before the
 /// router and port `until`, and as many `nodes` from the first one on.
@@ -112,4 +112,18 @@ pub(crate) fn show_step(rt: &impl Eprint, image: &Image, row: &Row) -> io::Resul
         }
     }
     Ok(())
+}
+
+/// The cable of the zone list's range.
+pub(crate) fn show_cable_of_list(
+    rt: &impl Eprint,
+    image: &Image,
+    list: &ZoneList,
+) -> io::Result<()> {
+    for (index, cable) in image.cables().iter().enumerate() {
+        if cable.start == list.start && cable.end == list.end {
+            return show_cable(rt, index + 1, cable);
+        }
+    }
+    eprintln!(rt; "  no cable has the range {}-{}", list.start, list.end)
 }

@@ -2,7 +2,7 @@
 
 use at_base::{Hw, Name};
 use std::io;
-use table_image::{Cable, Node, Port, Row};
+use table_image::{Cable, Node, Port, Row, ZoneList};
 
 /// The part of a number that counts from 1.
 pub(crate) fn at<T>(parts: &[T], number: u32) -> Option<&T> {
@@ -57,6 +57,25 @@ pub(crate) fn show_node(rt: &impl Eprint, number: usize, node: &Node) -> io::Res
     let cable = u32::from(node.cable) + 1;
     eprint!(rt; "  node {number}: {} on cable {cable}", node.address)?;
     show_hardware(rt, &node.hardware)
+}
+
+/// A zone list: its range and its zones.
+pub(crate) fn show_list(
+    rt: &impl Eprint,
+    router: usize,
+    number: usize,
+    list: &ZoneList,
+) -> io::Result<()> {
+    let state = if list.complete {
+        "complete"
+    } else {
+        "not complete"
+    };
+    eprint!(rt;
+        "  router {router} list {number}: {}-{}, {state}, zones",
+        list.start, list.end
+    )?;
+    show_zones(rt, list.zones.as_slice())
 }
 
 /// A row of a routing table.

@@ -1,7 +1,9 @@
 //! The place that breaks a rule, and beside it what it should have agreed with.
 
-use crate::beside::{show_earlier_stations, show_home, show_next, show_overlaps, show_step};
-use crate::item::{at, show_cable, show_node, show_port, show_row};
+use crate::beside::{
+    show_cable_of_list, show_earlier_stations, show_home, show_next, show_overlaps, show_step,
+};
+use crate::item::{at, show_cable, show_list, show_node, show_port, show_row};
 use at_base::Place;
 use std::io;
 use table_image::{Image, Row};
@@ -22,10 +24,11 @@ pub(crate) fn explain_place(
         Place::Node(k) => explain_node(rt, image, k),
         Place::Row(r, k) => explain_row(rt, image, rule, r, k),
         Place::Missing(r, k) => {
-            eprintln!(rt; "  router {r} has no row for")?;
+            let missing = if rule == 8 { "zone list" } else { "row" };
+            eprintln!(rt; "  router {r} has no {missing} for")?;
             show_cable_of(rt, image, k)
         }
-        Place::List(_, _) => Ok(()),
+        Place::List(r, k) => explain_list(rt, image, r, k),
     }
 }
 
@@ -85,6 +88,17 @@ fn explain_row(rt: &impl Eprint, image: &Image, rule: u8, r: u32, k: u32) -> io:
         7 => show_step(rt, image, row),
         _ => Ok(()),
     }
+}
+
+fn explain_list(rt: &impl Eprint, image: &Image, r: u32, k: u32) -> io::Result<()> {
+    let Some(router) = at(image.routers(), r) else {
+        return Ok(());
+    };
+    let Some(list) = at(router.lists.as_slice(), k) else {
+        return Ok(());
+    };
+    show_list(rt, r as usize, k as usize, list)?;
+    show_cable_of_list(rt, image, list)
 }
 
 /// The cable of the row's port.

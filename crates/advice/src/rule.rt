@@ -26,6 +26,10 @@ pub(crate) fn meaning(rule: u8) -> &'static str {
              with a port of that address on the cable of the row's port."
         }
         7 => "the next router has a row for the same range, and it is exactly one nearer.",
+        8 => {
+            "each zone list is complete and has the range of a cable and that cable's zones, \
+             each once, and each router has a zone list for each cable."
+        }
         _ => "this rule is broken.",
     }
 }
@@ -49,6 +53,11 @@ pub(crate) fn what_to_change(rule: u8) -> &'static str {
         5 => "shorten the line of routers, or join its ends.",
         6 => "wait for the row to age out, or restart the router that has it.",
         7 => "restart the routers nearest to that range, and then those further away.",
+        8 => {
+            "wait a minute or two until the router has heard of all zones, and look again; \
+             if the list stays as it is, give each seed router of that cable the same zones, \
+             and restart the router that has the list."
+        }
         _ => "see man atalk.",
     }
 }

@@ -1,11 +1,12 @@
 -- Texts compared as a test, and as a fact.
 use Rattle.std.proofs.Common.{◌≡◌, ℕ, Bool, true, false, ◌&&◌, eqb, List, [], ◌∷◌, map, refl, sym, ap, ◌∙◌, eqb-true, eq-eqb}
-use Rattle.std.specs.Prelude.{IsTrue, ◌↔◌, fold}
+use Rattle.std.specs.Prelude.{IsTrue, ◌↔◌, fold, length, replicate, take, ◌++◌, ◌-◌}
+use Rattle.std.proofs.lemmas.List.{length-map, map-append, take-map}
 use Rattle.std.specs.List.{list_all}
 use Rattle.std.proofs.lemmas.Bool.{and_parts}
 use Rattle.std.specs.Char.{to_ascii_lowercase}
 use Rattle.std.specs.Cmp.{IsEquivalence, IsPartialEquivalence, partial_equiv_from_equiv}
-use Rattle.at_base.specs.Text.{same_bytes, same_name, SameName}
+use Rattle.at_base.specs.Text.{same_bytes, same_name, SameName, padded}
 
 pub same_bytes_is : (a b : List ℕ) → same_bytes a b ≡ true → a ≡ b
 same_bytes_is [] [] e = refl
@@ -35,6 +36,32 @@ test_is false x y h =
       | true ↦ λ e. h.1 (same_name_is x y e)
       | false ↦ λ e. refl
     ] refl
+
+-- ---- Texts that are padded to one length
+
+-- texts that are the same are as long as each other
+pub same_lengths : (a b : List ℕ) → SameName a b → length a ≡ length b
+same_lengths a b e = sym (length-map a to_ascii_lowercase) ∙ (ap length e ∙ length-map b to_ascii_lowercase)
+
+padded_alike : (a b : List ℕ) → SameName a b → map to_ascii_lowercase (padded a) ≡ map to_ascii_lowercase (padded b)
+padded_alike a b e =
+    let rest : ℕ → List ℕ = λ n. replicate (32 - n) 0 in
+    map-append to_ascii_lowercase a (rest (length a))
+    ∙ (ap (λ l. l ++ map to_ascii_lowercase (rest (length a))) e
+    ∙ (ap (λ n. map to_ascii_lowercase b ++ map to_ascii_lowercase (rest n)) (same_lengths a b e)
+    ∙ sym (map-append to_ascii_lowercase b (rest (length b)))))
+
+-- two texts of one length in padded arrays are the same where the arrays are
+pub same_in_place : (n m : ℕ) (xs ys a b : List ℕ) → take n xs ≡ a → take m ys ≡ b → n ≡ m → xs ≡ padded (take n xs)
+    → ys ≡ padded (take m ys) → (map to_ascii_lowercase xs ≡ map to_ascii_lowercase ys) ↔ SameName a b
+same_in_place n m xs ys a b is_a is_b same padded_xs padded_ys = (
+  (λ e. ap (map to_ascii_lowercase) (sym is_a) ∙ (sym (take-map to_ascii_lowercase n xs) ∙ (ap (take n) e
+      ∙ (take-map to_ascii_lowercase n ys ∙ (ap (λ k. map to_ascii_lowercase (take k ys)) same ∙ ap (map to_ascii_lowercase) is_b))))),
+  (λ e.
+      let front = ap (map to_ascii_lowercase) is_a ∙ (e ∙ ap (map to_ascii_lowercase) (sym is_b)) in
+      ap (map to_ascii_lowercase) padded_xs
+      ∙ (padded_alike (take n xs) (take m ys) front ∙ ap (map to_ascii_lowercase) (sym padded_ys))),
+)
 
 and_assoc : (a b c : Bool) → ((a && b) && c) ≡ (a && (b && c))
 and_assoc true b c = refl

@@ -1,12 +1,15 @@
 -- Rule C1, and what it gives: cables in rising order.
 use Rattle.std.proofs.Common.{◌≡◌, ℕ, zero, suc, ◌+◌, ◌<◌, inl, inr, true, false, List, Some, None, slice_get, add-one, arith, ap, sym}
-use Rattle.std.proofs.Common.{◌∙◌}
-use Rattle.std.proofs.lemmas.Bool.{eqb-true, and_parts, cases_order, false_from_ne_true}
+use Rattle.std.proofs.Common.{◌∙◌, ◌&&◌, ◌||◌, ◌==◌, not, length, nat_le}
+use Rattle.std.proofs.lemmas.Bool.{eqb-true, and_parts, or_parts, cases_order, false_from_ne_true}
+use Rattle.at_base.specs.Range.{is_range}
 use Rattle.at_base.specs.declared.error.Place.TheVariants as place
 use Rattle.table_image.specs.Internet.{Internet}
-use Rattle.audit.specs.Places.{on}
+use Rattle.audit.specs.Places.{on, index_of}
+use Rattle.audit.specs.ZoneLists.{has_double, is_list_for}
 use Rattle.table_image.specs.declared.cable.Cable.{Cable}
 use Rattle.table_image.specs.declared.row.Row.{Row}
+use Rattle.table_image.specs.declared.zone_list.ZoneList.{ZoneList}
 use Rattle.audit.specs.Firsts.{FirstPlace}
 use Rattle.audit.specs.Rules.{bad_cable, end_before, c1, is_for, cable_of}
 use Rattle.audit.proofs.Finding.{first_index}
@@ -42,19 +45,34 @@ rising i kept (suc k) j a b at_j at_k lt =
       | inr (inr above) ↦ absurd (omega arith)
     ]
 
--- where rule C1 is kept, the cable that a row is for is the only one
-pub only_cable : (i : Internet) (row : Row) (k : ℕ) (c : Cable) → FirstPlace (c1 i) None → slice_get i.cables k ≡ Some c
-    → is_for row c ≡ true → Some k ≡ cable_of i row
-only_cable i row k c kept at for = sym (first_index (is_for row) i.cables k c at for before)
+-- where rule C1 is kept, the cable of a range is the only one
+pub only_range : (i : Internet) (start end k : ℕ) (c : Cable) → FirstPlace (c1 i) None → slice_get i.cables k ≡ Some c
+    → (start == c.start && end == c.end) ≡ true → Some k ≡ index_of (λ (c : Cable). start == c.start && end == c.end) i.cables
+only_range i start end k c kept at for = sym (first_index (λ (c : Cable). start == c.start && end == c.end) i.cables k c at for before)
   where
-    starts : (d : Cable) → is_for row d ≡ true → row.start ≡ d.start
-    starts d t = eqb-true row.start d.start (and_parts _ _ t).0
+    starts : (d : Cable) → (start == d.start && end == d.end) ≡ true → start ≡ d.start
+    starts d t = eqb-true start d.start (and_parts _ _ t).0
 
-    before : (j : ℕ) (d : Cable) → j < k → slice_get i.cables j ≡ Some d → is_for row d ≡ false
+    before : (j : ℕ) (d : Cable) → j < k → slice_get i.cables j ≡ Some d → (start == d.start && end == d.end) ≡ false
     before j d lt at_j =
-        false_from_ne_true (is_for row d) (λ t.
+        false_from_ne_true (start == d.start && end == d.end) (λ t.
         let apart = rising i kept k j d c at_j at lt in
         let up = (good_at i j d kept at_j).up in
         let mine = starts c for in
         let its = starts d t in
         omega (arith, apart, up, mine, its))
+
+-- where rule C1 is kept, the cable that a row is for is the only one, and so is that of a zone list
+pub only_cable : (i : Internet) (row : Row) (k : ℕ) (c : Cable) → FirstPlace (c1 i) None → slice_get i.cables k ≡ Some c
+    → is_for row c ≡ true → Some k ≡ cable_of i row
+only_cable i row k c kept at for = only_range i row.start row.end k c kept at for
+
+pub only_list_cable : (i : Internet) (l : ZoneList) (k : ℕ) (c : Cable) → FirstPlace (c1 i) None → slice_get i.cables k ≡ Some c
+    → is_list_for l c ≡ true → Some k ≡ index_of (is_list_for l) i.cables
+only_list_cable i l k c kept at for = only_range i l.start l.end k c kept at for
+
+-- where rule C1 is kept, a cable has no zone twice
+pub no_double : (i : Internet) (k : ℕ) (c : Cable) → FirstPlace (c1 i) None → slice_get i.cables k ≡ Some c → has_double c.zones ≡ false
+no_double i k c kept at =
+    let bad = ap (λ o. on o (bad_cable (end_before i.cables k))) (sym at) ∙ kept (place.Cable (suc k)) in
+    (or_parts (not (is_range c.start c.end) || nat_le c.start (end_before i.cables k) || length c.zones == 0) (has_double c.zones) bad).1

@@ -10,7 +10,8 @@ use Rattle.table_image.specs.Rows.{is_direct}
 use Rattle.table_image.specs.declared.row.Row.{Row}
 use Rattle.table_image.specs.declared.router.Router.{Router}
 use Rattle.audit.specs.Rules.{end_before, bad_cable, c1, bad_port, bad_node, c2, at_row, cable_of, bad_range, lacks_row, c3, port_on}
-use Rattle.audit.specs.Rules.{bad_direct, c4, c5, next_router, is_no_other, c6, bad_step, c7, breaks, Passes, Keeps}
+use Rattle.audit.specs.Rules.{bad_direct, c4, c5, next_router, is_no_other, c6, bad_step, c7, c8, breaks, Passes, Keeps}
+use Rattle.audit.specs.ZoneLists.{bad_list, lacks_list}
 use Rattle.audit.proofs.WalkLists.{At}
 
 -- an element passes the test for its place
@@ -70,6 +71,11 @@ breaks_six i = any_row (λ r router row. not (is_direct row) && is_no_other r (n
 
 abbrev pub breaks_seven : Internet → Bool
 breaks_seven i = any_row (λ r router row. not (is_direct row) && bad_step i row (next_router i router row)) i
+
+abbrev pub breaks_eight : Internet → Bool
+breaks_eight i =
+    any_at (λ r router. any_at (λ k. bad_list i) router.lists) i.routers
+    || any_at (λ r router. any_at (λ k. lacks_list router) i.cables) i.routers
 
 one_kept : (i : Internet) → breaks_one i ≡ false → (p : Place) → c1 i p ≡ false
 one_kept i none (place.Cable zero) = refl
@@ -151,33 +157,48 @@ seven_kept i none (place.Row (suc r) (suc k)) =
 seven_kept i none (place.Missing r k) = refl
 seven_kept i none (place.List r k) = refl
 
--- the first six rules are kept
-pub record KeepsSix (i : Internet) : Type 0 where
+eight_kept : (i : Internet) → breaks_eight i ≡ false → (p : Place) → c8 i p ≡ false
+eight_kept i none (place.Cable k) = refl
+eight_kept i none (place.Port r p) = refl
+eight_kept i none (place.Node k) = refl
+eight_kept i none (place.Row r k) = refl
+eight_kept i none (place.Missing zero k) = refl
+eight_kept i none (place.Missing (suc r) zero) = refl
+eight_kept i none (place.Missing (suc r) (suc k)) =
+    kept_in (λ router. i.cables) (λ r router k. lacks_list router) i.routers (or_parts _ _ none).1 r k
+eight_kept i none (place.List zero k) = refl
+eight_kept i none (place.List (suc r) zero) = refl
+eight_kept i none (place.List (suc r) (suc k)) =
+    kept_in (λ (router : Router). router.lists) (λ r router k. bad_list i) i.routers (or_parts _ _ none).0 r k
+
+-- all rules but the seventh are kept
+pub record KeepsOthers (i : Internet) : Type 0 where
   pub one : breaks_one i ≡ false
   pub two : breaks_two i ≡ false
   pub three : breaks_three i ≡ false
   pub four : breaks_four i ≡ false
   pub five : breaks_five i ≡ false
   pub six : breaks_six i ≡ false
+  pub eight : breaks_eight i ≡ false
 
 choose : (b x y : Bool) → (b ≡ true → x ≡ false) → (b ≡ false → y ≡ false) → (if b then x else y) ≡ false
 choose true x y f g = f refl
 choose false x y f g = g refl
 
 -- the rules at a place, where the seventh is known to be kept there
-by_rule : (i : Internet) → KeepsSix i → (rule : ℕ) (p : Place) → ((rule == 7) ≡ true → c7 i p ≡ false) → breaks i rule p ≡ false
-by_rule i six rule p seven =
-    choose (rule == 1) _ _ (λ _. one_kept i six.one p) (λ _.
-    choose (rule == 2) _ _ (λ _. two_kept i six.two p) (λ _.
-    choose (rule == 3) _ _ (λ _. three_kept i six.three p) (λ _.
-    choose (rule == 4) _ _ (λ _. four_kept i six.four p) (λ _.
-    choose (rule == 5) _ _ (λ _. five_kept i six.five p) (λ _.
-    choose (rule == 6) _ _ (λ _. six_kept i six.six p) (λ _.
-    choose (rule == 7) _ _ seven (λ _. refl)))))))
+by_rule : (i : Internet) → KeepsOthers i → (rule : ℕ) (p : Place) → ((rule == 7) ≡ true → c7 i p ≡ false) → breaks i rule p ≡ false
+by_rule i kept rule p seven =
+    choose (rule == 1) _ _ (λ _. one_kept i kept.one p) (λ _.
+    choose (rule == 2) _ _ (λ _. two_kept i kept.two p) (λ _.
+    choose (rule == 3) _ _ (λ _. three_kept i kept.three p) (λ _.
+    choose (rule == 4) _ _ (λ _. four_kept i kept.four p) (λ _.
+    choose (rule == 5) _ _ (λ _. five_kept i kept.five p) (λ _.
+    choose (rule == 6) _ _ (λ _. six_kept i kept.six p) (λ _.
+    choose (rule == 7) _ _ seven (λ _.
+    choose (rule == 8) _ _ (λ _. eight_kept i kept.eight p) (λ _. refl))))))))
 
--- all rules but the seventh are kept
-pub keeps_others : (i : Internet) → KeepsSix i → (rule : ℕ) → rule ≢ 7 → Keeps i rule
-keeps_others i six rule other p = by_rule i six rule p (λ e. absurd (other (eqb-true rule 7 e)))
+pub keeps_others : (i : Internet) → KeepsOthers i → (rule : ℕ) → rule ≢ 7 → Keeps i rule
+keeps_others i kept rule other p = by_rule i kept rule p (λ e. absurd (other (eqb-true rule 7 e)))
 
-pub passes : (i : Internet) → KeepsSix i → breaks_seven i ≡ false → Passes i
-passes i six seven rule p = by_rule i six rule p (λ _. seven_kept i seven p)
+pub passes : (i : Internet) → KeepsOthers i → breaks_seven i ≡ false → Passes i
+passes i kept seven rule p = by_rule i kept rule p (λ _. seven_kept i seven p)

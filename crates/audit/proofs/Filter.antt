@@ -14,7 +14,8 @@ use Rattle.audit.specs.Seen.{HasSeenBelow, address_slot, hardware_slot, may_have
 use Rattle.audit.specs.declared.seen.Seen.{Seen}
 use Rattle.audit.proofs.Finding.{any_at, from_take}
 
-no_mark : (n i : ℕ) → slice_index_or (replicate n false) i false ≡ false
+-- a table without a mark
+pub no_mark : (n i : ℕ) → slice_index_or (replicate n false) i false ≡ false
 no_mark n i =
     elim (cases_lt i n) [
       | inl within ↦ get_or-replicate n i false false within

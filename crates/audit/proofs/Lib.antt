@@ -15,5 +15,7 @@ pub mod Owners
 pub mod RowOrder
 pub mod RowPlaces
 pub mod RuleOrder
+pub mod SameZones
+pub mod ListPlaces
 pub mod Summaries
 pub mod StepsNext

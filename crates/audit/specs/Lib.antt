@@ -5,6 +5,8 @@ pub mod Firsts
 pub mod ZoneLists
 pub mod Hints
 pub mod Rules
+pub mod GoodLists
+pub mod Found
 pub mod Seen
 pub mod Verdicts
 pub mod Walks

@@ -1,9 +1,9 @@
 -- The rules of the audit, as tests on places: whether a place breaks a rule. Numbers in a place count from 1, and a place
 -- that the internet doesn't have breaks no rule. docs/RULES.md says what each rule is for. This project's own.
-use Rattle.std.specs.Prelude.{◌≡◌, ℕ, zero, suc, ◌+◌, ◌%◌, Bool, true, false, not, ◌&&◌, ◌||◌, if◌then◌else◌, List, [], ◌∷◌, Option, Some}
+use Rattle.std.specs.Prelude.{◌≡◌, ℕ, zero, suc, ◌+◌, ◌%◌, Bool, true, false, not, ◌&&◌, ◌||◌, if◌then◌else◌, List, Option, Some}
 use Rattle.std.specs.Prelude.{None, length, take, slice_get, slice_index, find, nat_le, nat_lt, ◌==◌, is_some, option_and_then}
 use Rattle.std.specs.List.{list_any}
-use Rattle.at_base.specs.Text.{same_name, same_bytes}
+use Rattle.at_base.specs.Text.{same_bytes}
 use Rattle.at_base.specs.declared.address.Addr.{Addr}
 use Rattle.at_base.specs.declared.address.Hw.{Hw}
 use Rattle.at_base.specs.declared.error.Place.{Place}
@@ -12,6 +12,7 @@ use Rattle.table_image.specs.Internet.{Internet}
 use Rattle.audit.specs.Places.{on, index_of}
 use Rattle.at_base.specs.Address.{same_address}
 use Rattle.audit.specs.Routing.{owner}
+use Rattle.audit.specs.ZoneLists.{has_double, bad_list, lacks_list}
 use Rattle.at_base.specs.Range.{is_between, is_range}
 use Rattle.rtmp.specs.States.{is_usable}
 use Rattle.table_image.specs.Rows.{is_direct}
@@ -22,14 +23,9 @@ use Rattle.table_image.specs.declared.router.Router.{Router}
 use Rattle.table_image.specs.declared.node.Node.{Node}
 use Rattle.audit.specs.declared.rule.Rule.{Rule}
 use Rattle.audit.specs.declared.rule.Rule.TheVariants.{CablesInOrder, StationsAddressed, RowsCoverCables, DirectRowsDirect, DistancesFit}
-use Rattle.audit.specs.declared.rule.Rule.TheVariants.{NextRoutersExist, DistancesFall}
+use Rattle.audit.specs.declared.rule.Rule.TheVariants.{NextRoutersExist, DistancesFall, ZoneListsAgree}
 
 -- ---- C1: cables stand in order
-
--- some name is in the list twice, without regard to case
-abbrev pub has_double : List (List ℕ) → Bool
-has_double [] = false
-has_double (name ∷ names) = list_any (same_name name) names || has_double names
 
 -- the last network of the cable before, and 0 before the first
 abbrev pub end_before : List Cable → ℕ → ℕ
@@ -172,6 +168,7 @@ row_breaks DirectRowsDirect i r router row = on (cable_of i row) (λ c. bad_dire
 row_breaks DistancesFit i r router row = nat_lt max_distance row.distance
 row_breaks NextRoutersExist i r router row = not (is_direct row) && is_no_other r (next_router i router row)
 row_breaks DistancesFall i r router row = not (is_direct row) && bad_step i row (next_router i router row)
+row_breaks ZoneListsAgree i r router row = false
 
 -- a cable that a router has no row for breaks the rule: C3 alone
 abbrev pub lack_breaks : Rule → Internet → ℕ → ℕ → Bool
@@ -204,6 +201,14 @@ c6 = breaks_rows NextRoutersExist
 abbrev pub c7 : Internet → Place → Bool
 c7 = breaks_rows DistancesFall
 
+-- ---- C8: zone lists agree
+
+-- broken by a list that is bad, and by a cable that a router has no list for
+abbrev pub c8 : Internet → Place → Bool
+c8 i (place.List (suc r) (suc k)) = on (slice_get i.routers r) (λ router. on (slice_get router.lists k) (bad_list i))
+c8 i (place.Missing (suc r) (suc k)) = on (slice_get i.routers r) (λ router. on (slice_get i.cables k) (lacks_list router))
+c8 i _ = false
+
 -- ---- All rules
 
 -- the number of a rule, as in C3
@@ -215,6 +220,7 @@ number_of DirectRowsDirect = 4
 number_of DistancesFit = 5
 number_of NextRoutersExist = 6
 number_of DistancesFall = 7
+number_of ZoneListsAgree = 8
 
 -- whether the place breaks the rule of this number
 abbrev pub breaks : Internet → ℕ → Place → Bool
@@ -226,6 +232,7 @@ breaks i rule p =
     else if rule == 5 then c5 i p
     else if rule == 6 then c6 i p
     else if rule == 7 then c7 i p
+    else if rule == 8 then c8 i p
     else false
 
 -- no place breaks the rule

@@ -4,7 +4,8 @@ ghost use Rattle.std.specs.Prelude.{◌≡◌, ◌<◌, suc, IfSome};
 ghost use Rattle.std.specs.List.{list_any};
 ghost use Rattle.at_base.specs.Text.{same_name};
 ghost use Rattle.audit.specs.Firsts.{FirstNumber, FirstPlace};
-ghost use Rattle.audit.specs.Rules.{bad_cable as bad, c1, has_double as doubled};
+ghost use Rattle.audit.specs.Rules.{bad_cable as bad, c1};
+ghost use Rattle.audit.specs.ZoneLists.{has_double as doubled};
 
 use crate::places::from_one;
 use at_base::{Name, Place, Range};

@@ -13,6 +13,7 @@ use crate::rule::Rule;
 use crate::stations::bad_station;
 use crate::summary::summarize;
 use crate::verdict::Verdict;
+use crate::zone_lists::bad_zone_list;
 use at_base::Place;
 use table_image::Image;
 
@@ -64,6 +65,9 @@ pub fn audit(image: &Image) -> Verdict
     }
     if let Some(place) = steps {
         return Verdict::No(Rule::DistancesFall.broken_at(place));
+    }
+    if let Some(place) = bad_zone_list(image) {
+        return Verdict::No(Rule::ZoneListsAgree.broken_at(place));
     }
     Verdict::Yes(summarize(image))
 }

@@ -17,6 +17,9 @@ mod seen;
 mod stations;
 mod summary;
 mod verdict;
+mod zone_hints;
+mod zone_lists;
+mod zone_sets;
 
 pub use bytes::audit_bytes;
 pub use judge::audit;

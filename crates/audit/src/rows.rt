@@ -26,8 +26,8 @@ fn breaks(
     ensures { result ≡ row_breaks rule image.now r router.now row.now }
 {
     match rule {
-        // No row breaks a rule about cables or about stations.
-        Rule::CablesInOrder | Rule::StationsAddressed => false,
+        // No row breaks a rule about cables, stations or zone lists.
+        Rule::CablesInOrder | Rule::StationsAddressed | Rule::ZoneListsAgree => false,
         Rule::RowsCoverCables => breaks_ranges(image, router, k, row),
         Rule::DirectRowsDirect => breaks_direct(image, router, k, row),
         Rule::DistancesFit => MAX_DISTANCE < row.distance,
@@ -86,7 +86,8 @@ fn first_missing(image: &Image, rule: Rule, r: usize, router: &Router) -> Option
         | Rule::DirectRowsDirect
         | Rule::DistancesFit
         | Rule::NextRoutersExist
-        | Rule::DistancesFall => None,
+        | Rule::DistancesFall
+        | Rule::ZoneListsAgree => None,
     }
 }
 

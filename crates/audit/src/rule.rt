@@ -28,6 +28,9 @@ pub enum Rule {
     NextRoutersExist,
     /// C7: the next router of each row that isn't direct is one router nearer.
     DistancesFall,
+    /// C8: each zone list is complete and has the zones of its cable, and each router has a list
+    /// for each cable.
+    ZoneListsAgree,
 }
 
 impl Rule {
@@ -43,6 +46,7 @@ impl Rule {
             Rule::DistancesFit => 5,
             Rule::NextRoutersExist => 6,
             Rule::DistancesFall => 7,
+            Rule::ZoneListsAgree => 8,
         }
     }
 

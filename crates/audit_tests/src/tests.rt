@@ -7,6 +7,7 @@ mod lines;
 mod readme;
 mod stations;
 mod verdicts;
+mod zone_lists;
 
 use audit::{
     Cause, Error, Fault, MAX_DISTANCE, Place, Rule, Summary, Verdict, audit, distances_fit,
@@ -23,8 +24,10 @@ use lines::line_again;
 use readme::report;
 use stations::{line_of_rows, line_of_stations};
 use std::alloc::Global;
+use std::process::Abort;
 use std::test::Fail;
 use verdicts::{no_differs, yes_differs};
+use zone_lists::{ListCase, line_of_lists, line_of_many};
 
 #[test]
 fn the_example_has_this_line(rt: HostRuntime) -> Result<(), Fail> {
@@ -157,6 +160,44 @@ fn the_next_router_is_one_nearer(rt: HostRuntime) -> Result<(), Fail> {
         );
         let line = line_of_bytes(rt.alloc(), bytes.as_slice())?;
         assert_eq!(rt; line.as_str(), want, "{distance}");
+    }
+    Ok(())
+}
+
+fn check_lists(rt: &impl Abort, alloc: Global, cases: &[ListCase]) -> Result<(), Fail> {
+    for (first, second, want) in cases {
+        let line = line_of_lists(alloc, first, second)?;
+        assert_eq!(rt; line.as_str(), *want, "{first:?} {second:?}");
+    }
+    Ok(())
+}
+
+#[test]
+fn zone_lists_have_the_zones_of_their_cables(rt: HostRuntime) -> Result<(), Fail> {
+    check_lists(&rt, rt.alloc(), &zone_lists::ZONES)
+}
+
+#[test]
+fn each_router_has_a_zone_list_for_each_cable(rt: HostRuntime) -> Result<(), Fail> {
+    check_lists(&rt, rt.alloc(), &zone_lists::RANGES)
+}
+
+#[test]
+fn a_list_may_have_64_zones_in_any_order_and_case(rt: HostRuntime) -> Result<(), Fail> {
+    for (letter, want) in [
+        (
+            b'A',
+            "yes: 1 cables, 1 routers, 0 nodes, 1 rows, greatest distance 0",
+        ),
+        (
+            b'a',
+            "yes: 1 cables, 1 routers, 0 nodes, 1 rows, greatest distance 0",
+        ),
+        (b'B', "no: C8 router 1 list 1"),
+        (b'I', "no: C8 router 1 list 1"),
+    ] {
+        let line = line_of_many(rt.alloc(), letter)?;
+        assert_eq!(rt; line.as_str(), want, "{letter}");
     }
     Ok(())
 }
@@ -299,6 +340,7 @@ fn rules_have_numbers(rt: HostRuntime) {
         Rule::DistancesFit,
         Rule::NextRoutersExist,
         Rule::DistancesFall,
+        Rule::ZoneListsAgree,
     ];
     for (k, rule) in rules.iter().enumerate() {
         assert_eq!(rt; rule.number() as usize, k + 1);

@@ -58,6 +58,16 @@ pub const ROUTER_1_ROW_3_NEXT_NODE: usize = 90;
 
 pub const ROUTER_1_ROW_3_STATE: usize = 91;
 
+pub const ROUTER_1_LIST_1_START: usize = 94;
+
+pub const ROUTER_1_LIST_1_END: usize = 96;
+
+pub const ROUTER_1_LIST_3_END_HIGH: usize = 120;
+
+pub const ROUTER_1_LIST_3_END: usize = 121;
+
+pub const ROUTER_1_LIST_3_COMPLETE: usize = 122;
+
 pub const ROUTER_2_PORT_1_NODE: usize = 133;
 
 pub const ROUTER_2_PORT_1_HARDWARE_2: usize = 135;
@@ -101,6 +111,14 @@ pub const ROUTER_2_ROW_3_NEXT_NETWORK: usize = 178;
 pub const ROUTER_2_ROW_3_NEXT_NODE: usize = 179;
 
 pub const ROUTER_2_ROW_3_STATE: usize = 180;
+
+pub const ROUTER_2_LIST_1_START: usize = 183;
+
+pub const ROUTER_2_LIST_1_END: usize = 185;
+
+pub const ROUTER_2_LIST_3_END_HIGH: usize = 209;
+
+pub const ROUTER_2_LIST_3_END: usize = 210;
 
 pub const NODE_1_CABLE: usize = 219;
 

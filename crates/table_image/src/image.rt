@@ -172,7 +172,7 @@ fn router_like(alloc: Global, cables: &Listed<Cable>) -> Option<Router> {
             start: cable.start,
             end: cable.end,
             complete: true,
-            zones: cable.zones.share()?,
+            zones: cable.zones.again()?,
         };
         lists.push(list).ok()?;
     }

@@ -64,6 +64,7 @@ pub trait FlatItem: Item {
 }
 
 impl<T: FlatItem> ReadItem for T {
+    #[inline(always)]
     fn read_one<'a>(
         _alloc: Global,
         known: usize,

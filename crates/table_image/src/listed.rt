@@ -165,3 +165,18 @@ impl<T: Drop> Listed<T> {
         }
     }
 }
+
+impl<T: Copy + Drop> Listed<T> {
+    /// The same values once more, without an allocation: one value, or values that may have several
+    /// owners.
+    pub(crate) fn again(&self) -> Option<Listed<T>>
+        ensures { IfSome result (λ other. other ≡ self.now) }
+    {
+        match &self.kept {
+            Kept::One(item) => Some(Listed {
+                kept: Kept::One(*item),
+            }),
+            _ => self.share(),
+        }
+    }
+}

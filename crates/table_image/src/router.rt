@@ -10,7 +10,7 @@ use crate::limits::{MAX_PORTS, MAX_ROWS, MAX_ZONE_LISTS};
 use crate::listed::Listed;
 use crate::port::Port;
 use crate::row::Row;
-use crate::zone_list::ZoneList;
+use crate::zone_list::{ZoneList, lists_at};
 use std::alloc::{AllocError, Global};
 
 /// A router: its ports, its routing table and its zone information table.
@@ -38,13 +38,6 @@ impl Item for Router {
     fn written_alike() {}
 }
 
-fn lists_of(router: Option<&Router>) -> &[ZoneList] {
-    match router {
-        Some(router) => router.lists.as_slice(),
-        None => &[],
-    }
-}
-
 // Routers of one internet know the same zones, so a router's zone lists are like those of the
 // router before it.
 impl ReadItem for Router {
@@ -58,7 +51,7 @@ impl ReadItem for Router {
     ) -> Result<(Router, &'a [u8]), Stop> {
         let (ports, rest) = counted_of::<Port>(alloc, MAX_PORTS, known, &[], bytes)?;
         let (rows, rest) = counted_of::<Row>(alloc, MAX_ROWS, ports.len(), &[], rest)?;
-        let (lists, rest) = counted_of(alloc, MAX_ZONE_LISTS, 0, lists_of(like), rest)?;
+        let (lists, rest) = lists_at(alloc, like.map(|router| &router.lists), rest)?;
         Ok((Router { ports, rows, lists }, rest))
     }
 

@@ -81,6 +81,7 @@ impl Item for Row {
 }
 
 impl FlatItem for Row {
+    #[inline(always)]
     #[tactic(auto, unfolding(crate::specs::Spelling::row_spelling))]
     fn flat_at(known: usize, low: u32, bytes: &[u8]) -> Result<(Row, &[u8]), Flaw> {
         let (start, rest) = rising_at(bytes, low)?;

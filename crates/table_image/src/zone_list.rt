@@ -1,16 +1,20 @@
 //! Zone lists of routers.
 
-ghost use Rattle.std.specs.Prelude.{◌≡◌, ◌+◌};
-ghost use Rattle.table_image.specs.Spelling.{zone_list_spelling};
+ghost use Rattle.std.specs.Prelude.{◌≡◌, ◌+◌, Ok, IfSome, length};
+ghost use Rattle.at_base.specs.Reading.{read, list_at};
+ghost use Rattle.table_image.specs.Flaws.{flaws, GivesOrStops};
+ghost use Rattle.table_image.specs.Limits.{max_zone_lists};
+ghost use Rattle.table_image.specs.Spelling.{counted, zone_list_spelling};
 
 use crate::checking::{CheckItem, Misfit};
 use crate::flaw::{Flaw, Stop};
 use crate::input::{byte_within, rising_at, u16_at};
-use crate::item::{Item, ReadItem, WriteItem};
+use crate::item::{Item, ReadItem, WriteItem, counted_of};
+use crate::limits::MAX_ZONE_LISTS;
 use crate::listed::Listed;
 use crate::output::{put_byte, put_u16};
 use crate::sizes::{BYTE_SIZE, RANGE_SIZE};
-use crate::zones::{check_zones, pass_zones, put_zones, zones_at};
+use crate::zones::{after_zones, check_zones, pass_zones, put_zones, zones_at};
 use at_base::{Cause, Name};
 use std::alloc::{AllocError, Global};
 
@@ -44,6 +48,7 @@ impl Item for ZoneList {
 }
 
 impl ReadItem for ZoneList {
+    #[inline(always)]
     #[tactic(auto, unfolding(crate::specs::Spelling::zone_list_spelling))]
     fn read_one<'a>(
         alloc: Global,
@@ -74,6 +79,93 @@ impl ReadItem for ZoneList {
         let (_complete, rest) = byte_within(rest, 0, 1, Cause::Value)?;
         let (_zones, rest) = pass_zones(rest)?;
         Ok((u32::from(start) + 1, rest))
+    }
+}
+
+// The bytes after the zone list, where they begin with it.
+#[inline(always)]
+#[tactic(auto, unfolding(crate::specs::Spelling::zone_list_spelling))]
+fn after_list<'a>(list: &ZoneList, low: u32, bytes: &'a [u8]) -> Option<&'a [u8]>
+    ensures { IfSome result
+        (λ rest. read flaws (zone_list_spelling low) bytes.now ≡ Ok (list.now, rest.now)) }
+{
+    let Ok((start, rest)) = rising_at(bytes, low) else {
+        return None;
+    };
+    let Ok((end, rest)) = u16_at(rest) else {
+        return None;
+    };
+    let Ok((complete, rest)) = byte_within(rest, 0, 1, Cause::Value) else {
+        return None;
+    };
+    if start != list.start || end != list.end || (complete == 1) != list.complete {
+        return None;
+    }
+    after_zones(&list.zones, rest)
+}
+
+// The bytes after the zone lists, where they begin with them one after the other.
+fn after_lists<'a>(lists: &[ZoneList], bytes: &'a [u8]) -> Option<&'a [u8]>
+    ensures { IfSome result (λ rest.
+        list_at (λ low. read flaws (zone_list_spelling low)) (λ l. l.start + 1) 0
+        (length lists.now) bytes.now
+        ≡ Ok (lists.now, rest.now)) }
+{
+    let mut rest = bytes;
+    let mut low = 0;
+    for list in lists {
+        rest = after_list(list, low, rest)?;
+        low = list.next_low();
+    }
+    Some(rest)
+}
+
+// The same zone lists once more, where the bytes begin with them and they may have several owners.
+#[tactic(auto, unfolding(crate::specs::Spelling::counted))]
+fn lists_again<'a>(
+    lists: &Listed<ZoneList>,
+    bytes: &'a [u8],
+) -> Option<(Listed<ZoneList>, &'a [u8])>
+    ensures { IfSome result (λ x.
+        read flaws (counted max_zone_lists zone_list_spelling (λ l. l.start + 1)) bytes.now
+        ≡ Ok (x.0, x.1.now)) }
+{
+    let (count, after) = bytes.split_first()?;
+    if *count > MAX_ZONE_LISTS || *count as usize != lists.len() {
+        return None;
+    }
+    let rest = after_lists(lists.as_slice(), after)?;
+    Some((lists.share()?, rest))
+}
+
+// Zone lists that no other router has.
+fn new_lists_at<'a>(
+    alloc: Global,
+    likes: &[ZoneList],
+    bytes: &'a [u8],
+) -> Result<(Listed<ZoneList>, &'a [u8]), Stop>
+    ensures { GivesOrStops (λ x. (x.0, x.1.now)) result
+        (read flaws (counted max_zone_lists zone_list_spelling (λ l. l.start + 1)) bytes.now) }
+{
+    let (lists, rest) = counted_of::<ZoneList>(alloc, MAX_ZONE_LISTS, 0, likes, bytes)?;
+    Ok((lists.into_shared(alloc), rest))
+}
+
+/// A count and zone lists. Where they are the other ones, they are kept once.
+pub(crate) fn lists_at<'a>(
+    alloc: Global,
+    like: Option<&Listed<ZoneList>>,
+    bytes: &'a [u8],
+) -> Result<(Listed<ZoneList>, &'a [u8]), Stop>
+    ensures { GivesOrStops (λ x. (x.0, x.1.now)) result
+        (read flaws (counted max_zone_lists zone_list_spelling (λ l. l.start + 1)) bytes.now) }
+{
+    let Some(lists) = like else {
+        return new_lists_at(alloc, &[], bytes);
+    };
+    match lists_again(lists, bytes) {
+        Some(found) => Ok(found),
+        None => new_lists_at(alloc, lists.as_slice(), bytes),
     }
 }
 

@@ -47,6 +47,7 @@ impl WriteItem for Name {
 }
 
 // Zones that no other list has.
+#[inline(never)]
 #[tactic(auto, unfolding(crate::specs::Spelling::zones_spelling))]
 fn new_zones_at(alloc: Global, bytes: &[u8]) -> Result<(Listed<Name>, &[u8]), Stop>
     ensures { GivesOrStops (λ x. (x.0, x.1.now)) result (read flaws zones_spelling bytes.now) }
@@ -56,6 +57,7 @@ fn new_zones_at(alloc: Global, bytes: &[u8]) -> Result<(Listed<Name>, &[u8]), St
 }
 
 // The bytes after the name, where they begin with it.
+#[inline(always)]
 #[tactic(auto, unfolding(crate::specs::Spelling::text_spelling))]
 fn after_name<'a>(name: &Name, bytes: &'a [u8]) -> Option<&'a [u8]>
     ensures { IfSome result
@@ -73,7 +75,9 @@ fn after_name<'a>(name: &Name, bytes: &'a [u8]) -> Option<&'a [u8]>
     Some(rest)
 }
 
-// The bytes after the names, where they begin with them one after the other.
+// The bytes after the names, where they begin with them one after the other. Not inlined: within
+// another loop this one takes half as many instructions again.
+#[inline(never)]
 fn after_names<'a>(names: &[Name], bytes: &'a [u8]) -> Option<&'a [u8]>
     ensures { IfSome result (λ rest.
         list_at (λ low. read flaws zone_spelling) (λ name. 0) 0 (length names.now) bytes.now
@@ -86,22 +90,33 @@ fn after_names<'a>(names: &[Name], bytes: &'a [u8]) -> Option<&'a [u8]>
     Some(rest)
 }
 
-// The same zones once more, where the bytes begin with them and they may have several owners.
+/// The bytes after a count and the zones, where they begin with those.
+#[inline(always)]
 #[tactic(auto, unfolding(crate::specs::Spelling::zones_spelling, crate::specs::Spelling::counted))]
-fn zones_again<'a>(zones: &Listed<Name>, bytes: &'a [u8]) -> Option<(Listed<Name>, &'a [u8])>
+pub(crate) fn after_zones<'a>(zones: &Listed<Name>, bytes: &'a [u8]) -> Option<&'a [u8]>
     ensures { IfSome result
-        (λ x. read flaws zones_spelling bytes.now ≡ Ok (x.0, x.1.now)) }
+        (λ rest. read flaws zones_spelling bytes.now ≡ Ok (zones.now, rest.now)) }
 {
-    let again = zones.share()?;
     let (count, after) = bytes.split_first()?;
     if *count > MAX_ZONES || *count as usize != zones.len() {
         return None;
     }
     let rest = after_names(zones.as_slice(), after)?;
-    Some((again, rest))
+    Some(rest)
+}
+
+// The same zones once more, where the bytes begin with them and that takes no memory.
+#[inline(always)]
+fn zones_again<'a>(zones: &Listed<Name>, bytes: &'a [u8]) -> Option<(Listed<Name>, &'a [u8])>
+    ensures { IfSome result
+        (λ x. read flaws zones_spelling bytes.now ≡ Ok (x.0, x.1.now)) }
+{
+    let rest = after_zones(zones, bytes)?;
+    Some((zones.again()?, rest))
 }
 
 /// A count and zones. Where they are those of the other list, they are kept once.
+#[inline(always)]
 pub(crate) fn zones_at<'a>(
     alloc: Global,
     like: Option<&Listed<Name>>,
@@ -109,7 +124,10 @@ pub(crate) fn zones_at<'a>(
 ) -> Result<(Listed<Name>, &'a [u8]), Stop>
     ensures { GivesOrStops (λ x. (x.0, x.1.now)) result (read flaws zones_spelling bytes.now) }
 {
-    match like.and_then(|zones| zones_again(zones, bytes)) {
+    let Some(zones) = like else {
+        return new_zones_at(alloc, bytes);
+    };
+    match zones_again(zones, bytes) {
         Some(found) => Ok(found),
         None => new_zones_at(alloc, bytes),
     }

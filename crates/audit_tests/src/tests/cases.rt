@@ -15,6 +15,8 @@ pub(crate) const CABLE_ORDER: [Case; 8] = [
             (at::CABLE_1_END, 10),
             (at::ROUTER_1_ROW_1_END, 10),
             (at::ROUTER_2_ROW_1_END, 10),
+            (at::ROUTER_1_LIST_1_END, 10),
+            (at::ROUTER_2_LIST_1_END, 10),
         ],
         YES,
     ),
@@ -23,6 +25,8 @@ pub(crate) const CABLE_ORDER: [Case; 8] = [
             (at::CABLE_1_START, 1),
             (at::ROUTER_1_ROW_1_START, 1),
             (at::ROUTER_2_ROW_1_START, 1),
+            (at::ROUTER_1_LIST_1_START, 1),
+            (at::ROUTER_2_LIST_1_START, 1),
         ],
         YES,
     ),
@@ -46,6 +50,10 @@ pub(crate) const CABLE_ORDER: [Case; 8] = [
             (at::ROUTER_1_ROW_3_END, 0xFF),
             (at::ROUTER_2_ROW_3_END_HIGH, 0xFE),
             (at::ROUTER_2_ROW_3_END, 0xFF),
+            (at::ROUTER_1_LIST_3_END_HIGH, 0xFE),
+            (at::ROUTER_1_LIST_3_END, 0xFF),
+            (at::ROUTER_2_LIST_3_END_HIGH, 0xFE),
+            (at::ROUTER_2_LIST_3_END, 0xFF),
         ],
         YES,
     ),
@@ -253,7 +261,7 @@ pub(crate) const NEXT_ROUTERS: [Case; 9] = [
 ];
 
 /// Images that break two rules, the later one at the earlier place.
-pub(crate) const TWO_RULES: [Case; 6] = [
+pub(crate) const TWO_RULES: [Case; 7] = [
     (
         &[(at::ROUTER_1_PORT_1_NODE, 0), (at::CABLE_3_START, 20)],
         "no: C1 cable 3",
@@ -289,5 +297,12 @@ pub(crate) const TWO_RULES: [Case; 6] = [
             (at::ROUTER_2_ROW_1_NEXT_NODE, 9),
         ],
         "no: C6 router 2 row 1",
+    ),
+    (
+        &[
+            (at::ROUTER_1_LIST_3_COMPLETE, 0),
+            (at::ROUTER_2_ROW_1_DISTANCE, 2),
+        ],
+        "no: C7 router 2 row 1",
     ),
 ];

@@ -83,16 +83,18 @@ pub(crate) const CABLES: [u8; 21] = [
     0x41, 0x54, 0x49, 0x4D, 1, 2, 0, 10, 0, 19, 1, 1, b'Z', 0, 20, 0, 29, 1, 1, b'Z', 2,
 ];
 
-/// A router on both.
-pub(crate) const BOTH: [u8; 43] = [
+/// A router on both, with a zone list for each.
+pub(crate) const BOTH: [u8; 59] = [
     2, 0, 0, 10, 1, 2, 0, 0, 0, 0, 1, 1, 0, 20, 1, 2, 0, 0, 0, 0, 2, 2, 0, 10, 0, 19, 0, 0, 0, 0,
-    0, 0, 0, 20, 0, 29, 0, 1, 0, 0, 0, 0, 0,
+    0, 0, 0, 20, 0, 29, 0, 1, 0, 0, 0, 0, 2, 0, 10, 0, 19, 1, 1, 1, b'Z', 0, 20, 0, 29, 1, 1, 1,
+    b'Z',
 ];
 
-/// A router on the second, with a row for the first by way of the one on both.
-pub(crate) const SECOND: [u8; 33] = [
+/// A router on the second, with a row for the first by way of the one on both, and a zone list for
+/// each.
+pub(crate) const SECOND: [u8; 49] = [
     1, 1, 0, 20, 2, 2, 0, 0, 0, 0, 3, 2, 0, 10, 0, 19, 1, 0, 0, 20, 1, 0, 0, 20, 0, 29, 0, 0, 0, 0,
-    0, 0, 0,
+    0, 0, 2, 0, 10, 0, 19, 1, 1, 1, b'Z', 0, 20, 0, 29, 1, 1, 1, b'Z',
 ];
 
 /// A router on the first, and its one row is for that, in this state.

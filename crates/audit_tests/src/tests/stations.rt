@@ -30,10 +30,11 @@ fn node((number, hardware): (u8, u8)) -> [u8; 14] {
     [0, 0, 10, number, 2, 0, 0, 0, 0, hardware, 1, b'Z', 0, 0]
 }
 
-/// A router on the one cable: its direct row, and no zone list.
-fn only_router((number, hardware): (u8, u8)) -> [u8; 23] {
+/// A router on the one cable: its direct row, and its zone list.
+fn only_router((number, hardware): (u8, u8)) -> [u8; 31] {
     [
-        1, 0, 0, 10, number, 2, 0, 0, 0, 0, hardware, 1, 0, 10, 0, 19, 0, 0, 0, 0, 0, 0, 0,
+        1, 0, 0, 10, number, 2, 0, 0, 0, 0, hardware, 1, 0, 10, 0, 19, 0, 0, 0, 0, 0, 0, 1, 0, 10,
+        0, 19, 1, 1, 1, b'Z',
     ]
 }
 

@@ -32,6 +32,18 @@ returns-in-Some-steps c =
     let below_7 = and_next i 6 (and_next i 5 below_5 c.in_default-bad_row-3.ensures) c.in_default-bad_next.ensures in
     record { judged = first_fault i _ 7 _ c.broken_at-in-Some-steps.ensures below_7 c.in-Some-steps.ensures; walks = tt }
 
+pub returns-in-Some-bad_zone_list : goal.returns-in-Some-bad_zone_list
+returns-in-Some-bad_zone_list c =
+    let i = c.args.image.now in
+    let below_3 = and_next i 2 (and_next i 1 (none_yet i) c.in_default.ensures) c.in_default-bad_station.ensures in
+    let below_5 = and_next i 4 (and_next i 3 below_3 c.in_default-bad_row.ensures) c.in_default-bad_row-2.ensures in
+    let below_7 = and_next i 6 (and_next i 5 below_5 c.in_default-bad_row-3.ensures) c.in_default-bad_next.ensures in
+    let below_8 = and_next i 7 below_7 c.in_default-steps.ensures in
+    record {
+      judged = first_fault i _ 8 _ c.broken_at-in-Some-bad_zone_list.ensures below_8 c.in-Some-bad_zone_list.ensures;
+      walks = tt;
+    }
+
 pub returns : goal.returns
 returns c =
     let i = c.args.image.now in
@@ -39,5 +51,5 @@ returns c =
     let below_5 = and_next i 4 (and_next i 3 below_3 c.in_default-bad_row.ensures) c.in_default-bad_row-2.ensures in
     let below_7 = and_next i 6 (and_next i 5 below_5 c.in_default-bad_row-3.ensures) c.in_default-bad_next.ensures in
     let below_8 = and_next i 7 below_7 c.in_default-steps.ensures in
-    let passes = all_kept i below_8 in
+    let passes = all_kept i (and_next i 8 below_8 c.in_default-bad_zone_list.ensures) in
     record { judged = (passes, c.summarize.ensures); walks = walks_home i passes }

@@ -1,0 +1,5 @@
+use Rattle.audit.proofs.Filter.{no_mark}
+use Rattle.audit.proofs.zone_sets.Found.none.Goals as goal
+
+pub returns : goal.returns
+returns c k = no_mark 64 k

@@ -1,0 +1,115 @@
+//! Zones of cables by their names. A hint is an index that is likely to be the one wanted; it is
+//! verified before it is used, so a wrong one costs a search, and changes no answer.
+
+ghost use Rattle.std.specs.Prelude.{◌≡◌, ◌<◌, ◌*◌, false, Some, IfSome, position};
+ghost use Rattle.at_base.specs.Text.{same_name};
+ghost use Rattle.table_image.specs.Limits.{max_zones};
+ghost use Rattle.audit.specs.Places.{index_of};
+ghost use Rattle.audit.specs.ZoneLists.{has_double};
+
+use at_base::Name;
+use table_image::{Image, MAX_ZONES};
+
+/// How many zones of a cable may have hints.
+const ZONES: usize = MAX_ZONES as usize;
+
+/// How many hashes of names there are.
+const HASHES: usize = 128;
+
+/// The index of no zone.
+const NONE: u8 = 255;
+
+/// For each cable and hash of a name, the index of a zone of the cable whose name may have it; and
+/// for each zone of a cable the index of another.
+#[derive(Drop)]
+pub(crate) struct ZoneHints {
+    first: [u8; 256 * HASHES],
+    next: [u8; 256 * ZONES],
+}
+
+/// A factor for each byte of a name.
+const FACTORS: [u16; 32] = [
+    0x9E37, 0x79B9, 0x7F4B, 0xC13D, 0x85EB, 0xCA6B, 0xC2B3, 0xAE35, 0x27D5, 0xEB2F, 0x1657, 0x67B1,
+    0x9E39, 0x3779, 0xB979, 0x7F4D, 0x4A7D, 0x1CE5, 0xB9F5, 0xBF59, 0x94D1, 0x49BB, 0x1331, 0x11EB,
+    0x5851, 0xF42D, 0x4C95, 0x7F2D, 0x1405, 0x7B7F, 0x2545, 0xF491,
+];
+
+// The same for names that are equal but for the case of letters, which differ in one bit. A sum of
+// products, so that many bytes are looked at at once.
+fn hash(name: &Name) -> usize {
+    let sum = name
+        .as_slice()
+        .iter()
+        .zip(FACTORS.iter())
+        .fold(0u16, |sum, (byte, factor)| {
+            sum.wrapping_add(u16::from(*byte | 0x20).wrapping_mul(*factor))
+        });
+    (sum >> 8) as usize
+}
+
+fn first_slot(cable: usize, name: &Name) -> usize
+    ensures { result < 256 * 128 }
+{
+    cable % 256 * HASHES + hash(name) % HASHES
+}
+
+fn next_slot(cable: usize, zone: usize) -> usize
+    ensures { result < 256 * max_zones }
+{
+    cable % 256 * ZONES + zone % ZONES
+}
+
+fn search(zones: &[Name], name: &Name) -> Option<usize>
+    ensures { result ≡ position (same_name name.now) zones.now }
+{
+    zones.iter().position(|zone| name.same(zone))
+}
+
+impl ZoneHints {
+    fn add_zones(&mut self, cable: usize, zones: &[Name]) {
+        for (k, zone) in zones.iter().enumerate() {
+            let slot = first_slot(cable, zone);
+            self.next[next_slot(cable, k)] = self.first[slot];
+            self.first[slot] = (k % 256) as u8;
+        }
+    }
+
+    /// The hints for the zones of each cable.
+    pub(crate) fn of(image: &Image) -> ZoneHints {
+        let mut hints = ZoneHints {
+            first: [NONE; 256 * HASHES],
+            next: [NONE; 256 * ZONES],
+        };
+        for (c, cable) in image.cables().iter().enumerate() {
+            hints.add_zones(c, cable.zones.as_slice());
+        }
+        hints
+    }
+
+    // Goes through the zones of the cable that have the name's hash.
+    fn hinted(&self, cable: usize, zones: &[Name], name: &Name) -> Option<usize>
+        requires { has_double zones.now ≡ false }
+        ensures { IfSome result (λ k. Some k ≡ index_of (same_name name.now) zones.now) }
+    {
+        let mut hint = self.first[first_slot(cable, name)] as usize;
+        for _ in 0..zones.len() {
+            let zone = zones.get(hint)?;
+            if name.same(zone) {
+                return Some(hint);
+            }
+            hint = self.next[next_slot(cable, hint)] as usize;
+        }
+        None
+    }
+
+    /// The 0-based index of the zone of a cable that has the name.
+    pub(crate) fn find(&self, cable: usize, zones: &[Name], name: &Name) -> Option<usize>
+        requires { has_double zones.now ≡ false }
+        ensures { result ≡ index_of (same_name name.now) zones.now }
+    {
+        match self.hinted(cable, zones, name) {
+            Some(k) => Some(k),
+            None => search(zones, name),
+        }
+    }
+}

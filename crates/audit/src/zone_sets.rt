@@ -1,0 +1,106 @@
+//! Whether a zone list has the zones of its cable, in any order and case.
+
+ghost use Rattle.std.specs.Prelude.{◌≡◌, ◌≢◌, ◌<◌, ◌≤◌, ◌&&◌, ℕ, not, true, false};
+ghost use Rattle.std.specs.Prelude.{IsTrue, fold, length};
+ghost use Rattle.std.specs.List.{list_all};
+ghost use Rattle.table_image.specs.Limits.{max_zones};
+ghost use Rattle.audit.specs.Found.{is_found, all_found};
+ghost use Rattle.audit.specs.ZoneLists.{has_double, are_among};
+
+use crate::zone_hints::ZoneHints;
+use at_base::Name;
+use table_image::MAX_ZONES;
+
+// Goes on to the end where one is false, so that it may look at many at once.
+fn fold_all(marks: &[bool]) -> bool
+    ensures { result ≡ fold (λ all b. all && b) true marks.now }
+{
+    marks.iter().fold(true, |all, mark| all & *mark)
+}
+
+fn are_all(marks: &[bool]) -> bool
+    ensures { result ≡ list_all (λ b. b) marks.now }
+{
+    fold_all(marks)
+}
+
+/// Which zones of a cable were found in a list, by their indexes.
+#[derive(Drop)]
+struct Found {
+    zones: [bool; MAX_ZONES as usize],
+}
+
+impl Found {
+    fn none() -> Found
+        ensures { (k : ℕ) → is_found result k ≡ false }
+    {
+        Found {
+            zones: [false; MAX_ZONES as usize],
+        }
+    }
+
+    fn has(&self, k: usize) -> bool
+        requires { k < max_zones }
+        ensures { result ≡ is_found self.now k }
+    {
+        self.zones[k]
+    }
+
+    fn add(&mut self, k: usize)
+        requires { k < max_zones }
+        ensures here { is_found self.new k ≡ true }
+        ensures others { (j : ℕ) → j ≢ k → is_found self.new j ≡ is_found self.old j }
+    {
+        self.zones[k] = true;
+    }
+
+    // Whether the zones below n were found.
+    fn has_all(&self, n: usize) -> bool
+        requires { n ≤ max_zones }
+        ensures value { result ≡ all_found self.now n }
+        ensures len { length self.now.zones ≡ max_zones }
+    {
+        are_all(&self.zones[..n])
+    }
+}
+
+/// Whether the names are the others, in the same order and spelling.
+pub(crate) fn are_spelled_alike(names: &[Name], others: &[Name]) -> bool
+    ensures { IsTrue result → names.now ≡ others.now }
+{
+    if names.len() != others.len() {
+        return false;
+    }
+    for (k, name) in names.iter().enumerate() {
+        if !name.is_spelled_like(&others[k]) {
+            return false;
+        }
+    }
+    true
+}
+
+/// Whether the names are those of a cable's zones, each once, in any order and case.
+pub(crate) fn are_zones_of(hints: &ZoneHints, cable: usize, zones: &[Name], names: &[Name]) -> bool
+    requires once { has_double zones.now ≡ false }
+    requires few { length zones.now ≤ max_zones }
+    ensures { result
+        ≡ (not (has_double names.now)
+        && (are_among names.now zones.now && are_among zones.now names.now)) }
+{
+    if are_spelled_alike(names, zones) {
+        return true;
+    }
+    let mut found = Found::none();
+    for name in names {
+        match hints.find(cable, zones, name) {
+            Some(k) => {
+                if found.has(k) {
+                    return false;
+                }
+                found.add(k);
+            }
+            None => return false,
+        }
+    }
+    found.has_all(zones.len())
+}
