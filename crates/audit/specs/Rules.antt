@@ -12,6 +12,7 @@ use Rattle.table_image.specs.Internet.{Internet}
 use Rattle.audit.specs.Places.{on, index_of}
 use Rattle.at_base.specs.Address.{same_address}
 use Rattle.audit.specs.Routing.{owner}
+use Rattle.audit.specs.ZoneLists.{has_double, bad_list, lacks_list}
 use Rattle.at_base.specs.Range.{is_between, is_range}
 use Rattle.rtmp.specs.States.{is_usable}
 use Rattle.table_image.specs.Rows.{is_direct}
@@ -25,11 +26,6 @@ use Rattle.audit.specs.declared.rule.Rule.TheVariants.{CablesInOrder, StationsAd
 use Rattle.audit.specs.declared.rule.Rule.TheVariants.{NextRoutersExist, DistancesFall}
 
 -- ---- C1: cables stand in order
-
--- some name is in the list twice, without regard to case
-abbrev pub has_double : List (List ℕ) → Bool
-has_double [] = false
-has_double (name ∷ names) = list_any (same_name name) names || has_double names
 
 -- the last network of the cable before, and 0 before the first
 abbrev pub end_before : List Cable → ℕ → ℕ
@@ -204,6 +200,14 @@ c6 = breaks_rows NextRoutersExist
 abbrev pub c7 : Internet → Place → Bool
 c7 = breaks_rows DistancesFall
 
+-- ---- C8: zone lists agree
+
+-- broken by a list that is bad, and by a cable that a router has no list for
+abbrev pub c8 : Internet → Place → Bool
+c8 i (place.List (suc r) (suc k)) = on (slice_get i.routers r) (λ router. on (slice_get router.lists k) (bad_list i))
+c8 i (place.Missing (suc r) (suc k)) = on (slice_get i.routers r) (λ router. on (slice_get i.cables k) (lacks_list router))
+c8 i _ = false
+
 -- ---- All rules
 
 -- the number of a rule, as in C3
@@ -226,6 +230,7 @@ breaks i rule p =
     else if rule == 5 then c5 i p
     else if rule == 6 then c6 i p
     else if rule == 7 then c7 i p
+    else if rule == 8 then c8 i p
     else false
 
 -- no place breaks the rule
