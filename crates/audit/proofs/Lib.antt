@@ -13,6 +13,8 @@ pub mod Firsts
 pub mod HintSteps
 pub mod Owners
 pub mod RowOrder
+pub mod SideBySide
+pub mod ZonesAgree
 pub mod RowPlaces
 pub mod RuleOrder
 pub mod SameZones

@@ -3,13 +3,14 @@
 //! nothing: what they ensure is the law.
 
 ghost use Rattle.std.specs.Prelude.{◌≡◌, ◌≢◌, ℕ, ◌<◌, ◌≤◌, List, [], ◌∷◌, length};
-ghost use Rattle.table_image.specs.Internet.{Internet};
+ghost use Rattle.table_image.specs.Internet.{Internet, IsBounded};
 ghost use Rattle.audit.specs.Routing.{Nowhere, home, hand, distance};
 ghost use Rattle.audit.specs.Example.{three_cables, pointing_at_each_other};
 ghost use Rattle.audit.specs.Example.{same_addresses, same_hardware_addresses};
 ghost use Rattle.audit.specs.Rules.{Keeps, Passes};
 ghost use Rattle.audit.specs.Walks.{IsWalk, WalksHome, Steps, HasPort, SeatsAreUnique};
 ghost use Rattle.audit.specs.Walks.{AreDifferent};
+ghost use Rattle.audit.specs.ZoneLists.{ZonesAgree};
 
 /// One walk home: from each router a datagram to a network that a cable has takes exactly one walk
 /// over the tables. It ends at that cable, visits no router twice, and has at most 15 routers. This
@@ -43,6 +44,13 @@ pub fn unlisted_is_nowhere()
 /// have one hardware address. This project's own.
 pub fn seats_are_unique()
     ensures { (i : Internet) → Passes i → SeatsAreUnique i }
+{}
+
+/// The zone table of each router has a zone for exactly the cables that have it, by rising range;
+/// and each of its zone lists is complete and has the range and the zones of the cable of its
+/// number. This project's own.
+pub fn zone_lists_agree()
+    ensures { (i : Internet) → Passes i → IsBounded i → ZonesAgree i }
 {}
 
 /// Two routers that join three cables, with a node on the first and a printer on the last, pass. A

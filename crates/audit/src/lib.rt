@@ -25,7 +25,7 @@ pub use bytes::audit_bytes;
 pub use judge::audit;
 pub use laws::{
     distances_fit, each_step, loops_have_no_walk, one_walk_home, seats_are_unique,
-    the_example_passes, unlisted_is_nowhere, words_exclude,
+    the_example_passes, unlisted_is_nowhere, words_exclude, zone_lists_agree,
 };
 pub use rule::{MAX_DISTANCE, Rule};
 pub use verdict::{Summary, Verdict};
