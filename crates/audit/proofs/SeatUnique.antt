@@ -20,7 +20,7 @@ use Rattle.table_image.specs.declared.router.Router.{Router}
 use Rattle.table_image.specs.declared.node.Node.{Node}
 use Rattle.audit.specs.Rules.{same_hardware, bad_address, router_has, node_has, bad_port, bad_node, Passes}
 use Rattle.audit.specs.Walks.{SeatsAreUnique}
-use Rattle.audit.proofs.WalkLists.{At, at_one, none_passes, none_before}
+use Rattle.audit.proofs.WalkLists.{At, at_one, at_within, none_passes, none_before}
 use Rattle.audit.proofs.WalkSteps.{one_cable}
 use Rattle.audit.proofs.SeatPlaces.{number_of, IsPortSeat, IsNodeSeat, Sits, AtPort, AtNode, sits}
 
@@ -102,17 +102,24 @@ module _ (i : Internet) (ok : Passes i) where
       a.p a.port a.at in
       clash s t a.port.address b.port.address a.port.hardware b.port.hardware a.address b.address a.hardware b.hardware alike apart
 
-  -- two ports of one router are on different cables, and so are their addresses
-  ports_apart : (j k : ℕ) (s t : Seat) (a : IsPortSeat 0 i.routers j s) (b : IsPortSeat 0 i.routers k t) → AreAlike s t → a.r ≡ b.r
-      → a.p < b.p → ⊥
-  ports_apart j k s t a b alike same before =
-      let mine = port_good a.r a.p a.router a.port a.known a.at in
+  -- two ports of one router are on different cables
+  other_cables : (j k : ℕ) (s t : Seat) (a : IsPortSeat 0 i.routers j s) (b : IsPortSeat 0 i.routers k t) → a.r ≡ b.r → a.p < b.p
+      → a.port.cable ≡ b.port.cable → ⊥
+  other_cables j k s t a b same before e =
       let good = port_good b.r b.p b.router b.port b.known b.at in
       let one : a.router ≡ b.router = at_one i.routers b.r a.router b.router (subst (λ r. At i.routers r a.router) same a.known) b.known in
       let theirs : At b.router.ports a.p a.port = subst (λ (router : Router). At router.ports a.p a.port) one a.at in
       let apart : (a.port.cable == b.port.cable) ≡ false =
       none_before (λ q. q.cable == b.port.cable) b.router.ports b.p good.2 a.p a.port before theirs in
-      let on_one : a.port.cable ≡ b.port.cable → ⊥ = λ e. true≢false (sym (eq-eqb _ _ e) ∙ apart) in
+      true≢false (sym (eq-eqb _ _ e) ∙ apart)
+
+  -- and so are their addresses
+  ports_apart : (j k : ℕ) (s t : Seat) (a : IsPortSeat 0 i.routers j s) (b : IsPortSeat 0 i.routers k t) → AreAlike s t → a.r ≡ b.r
+      → a.p < b.p → ⊥
+  ports_apart j k s t a b alike same before =
+      let mine = port_good a.r a.p a.router a.port a.known a.at in
+      let good = port_good b.r b.p b.router b.port b.known b.at in
+      let on_one = other_cables j k s t a b same before in
       elim alike [
         | ByAddress e f ↦
             let u = in_range i a.port.cable a.port.address a.port.hardware mine.0 in
@@ -173,6 +180,36 @@ module _ (i : Internet) (ok : Passes i) where
   one_seat j k s t (AtNode m near a) (AtNode l far b) alike =
       let same = two_nodes m l s t a b alike in omega arith
 
+  -- ---- Two seats of one station on a cable are one
+
+  one_there : (j k : ℕ) (s t : Seat) → Sits i j s → Sits i k t → s.station ≡ t.station → s.cable ≡ t.cable → j ≡ k
+  one_there j k s t (AtPort a) (AtPort b) station cable =
+      let mine = a.station in
+      let theirs = b.station in
+      let same : a.r ≡ b.r = omega arith in
+      let on_one : a.port.cable ≡ b.port.cable = sym a.cable ∙ (cable ∙ b.cable) in
+      elim (cases_order a.p b.p) [
+        | inl e ↦ a.number ∙ (ap (λ r. number_of i.routers r a.p) same ∙ (ap (number_of i.routers b.r) e ∙ sym b.number))
+        | inr h ↦ elim h [
+          | inl lt ↦ absurd (other_cables j k s t a b same lt on_one)
+          | inr gt ↦ absurd (other_cables k j t s b a (sym same) gt (sym on_one))
+        ]
+      ]
+  one_there j k s t (AtPort a) (AtNode l far b) station cable =
+      let mine = a.station in
+      let theirs = b.station in
+      let within = at_within i.routers a.r a.router a.known in
+      absurd (omega arith)
+  one_there j k s t (AtNode m far a) (AtPort b) station cable =
+      let mine = a.station in
+      let theirs = b.station in
+      let within = at_within i.routers b.r b.router b.known in
+      absurd (omega arith)
+  one_there j k s t (AtNode m near a) (AtNode l far b) station cable =
+      let mine = a.station in
+      let theirs = b.station in
+      omega arith
+
 pub unique : (i : Internet) → Passes i → SeatsAreUnique i
 unique i ok = record {
   by_address = λ j k s t e f same.
@@ -180,4 +217,5 @@ unique i ok = record {
       one_seat i ok j k s t (sits i j s e) (sits i k t f) (ByAddress w.0 w.1);
   by_hardware = λ j k s t e f cable same.
       one_seat i ok j k s t (sits i j s e) (sits i k t f) (ByHardware cable (same_bytes_is s.hardware.0 t.hardware.0 same));
+  by_station = λ j k s t e f station cable. one_there i ok j k s t (sits i j s e) (sits i k t f) station cable;
 }

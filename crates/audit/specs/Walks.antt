@@ -55,9 +55,11 @@ pub data Steps (i : Internet) (n c r : ℕ) : Type 0 where
   Goes : (s d : ℕ) (a : Addr) → hand i r n ≡ On s d a → owner i d a ≡ Some s → s < length i.routers → distance i s n + 1 ≡ distance i r n
       → HasPort i r d → HasPort i s d → d ≢ c → Steps i n c r
 
--- No two seats share an address, and no two seats on one cable share a hardware address.
+-- No two seats share an address, no two seats on one cable share a hardware address, and no station has two seats on one.
 pub record SeatsAreUnique (i : Internet) : Type 0 where
   pub by_address : (j k : ℕ) (s t : Seat) → slice_get (seats i) j ≡ Some s → slice_get (seats i) k ≡ Some t
       → same_address s.address t.address ≡ true → j ≡ k
   pub by_hardware : (j k : ℕ) (s t : Seat) → slice_get (seats i) j ≡ Some s → slice_get (seats i) k ≡ Some t → s.cable ≡ t.cable
       → same_hardware s.hardware t.hardware ≡ true → j ≡ k
+  pub by_station : (j k : ℕ) (s t : Seat) → slice_get (seats i) j ≡ Some s → slice_get (seats i) k ≡ Some t → s.station ≡ t.station
+      → s.cable ≡ t.cable → j ≡ k

@@ -39,8 +39,8 @@ pub fn unlisted_is_nowhere()
         → Passes i → r < length i.routers → home i n ≡ None → hand i r n ≡ Nowhere }
 {}
 
-/// No two stations have one address, no router has an address twice, and no two stations on a cable
-/// have one hardware address. This project's own.
+/// No two stations have one address, no router has an address twice, no two stations on a cable have
+/// one hardware address, and no station has two seats on a cable. This project's own.
 pub fn seats_are_unique()
     ensures { (i : Internet) → Passes i → SeatsAreUnique i }
 {}
