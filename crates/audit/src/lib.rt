@@ -21,7 +21,7 @@ mod verdict;
 pub use bytes::audit_bytes;
 pub use judge::audit;
 pub use laws::{
-    distances_fit, each_step, loops_have_no_walk, one_walk_home, seats_are_unique,
+    distances_fit, each_step, loops_have_no_walk, one_walk_home, seats_are_addressed, seats_are_unique,
     the_example_passes, unlisted_is_nowhere, words_exclude,
 };
 pub use rule::{MAX_DISTANCE, Rule};
