@@ -1,0 +1,4 @@
+//! Runs over the frozen tables of an internet.
+#![tactic(auto)]
+
+mod laws;
