@@ -21,7 +21,7 @@ use Rattle.cable_model.proofs.Counting.{At, count-append, count_none, each-appen
 use Rattle.cable_model.proofs.Pairs.{EndsNone, pairs-append}
 use Rattle.frozen.specs.Counts.{carries, is_sent, sent}
 use Rattle.frozen.specs.Legs.{Leg, is_copy, is_datagram, is_unicast, put, reach}
-use Rattle.frozen.specs.Stations.{cable_seat, cable_seats, has_address, is_router}
+use Rattle.frozen.specs.Stations.{cable_seat, cable_seats, has_address, is_on, is_router}
 use Rattle.frozen.proofs.Frames.{Framed, Whole, body_stays, hops_are, target_stays}
 use Rattle.frozen.proofs.Seated.{heard_alone}
 
@@ -48,13 +48,22 @@ HopsFine i p =
     (c : ℕ) → is_copy i p ≡ true → home i (target p.frame.bytes).net ≡ Some c
     → hops p.frame.bytes + distance i p.seat.station (target p.frame.bytes).net ≤ 14
 
--- The entries are those of one datagram on its way: its body ends once, or is under way once.
-pub record Does (i : Internet) (stamp : ℕ) (d : List ℕ) (es : List Entry) : Type 0 where
+-- Entries of one datagram: it reached a cable of which A holds, or a station put it on a cable where it is.
+abbrev pub IsOf : Internet → (ℕ → Type 0) → List ℕ → Entry → Type 0
+IsOf i A d (Reached cable station how b) = (b ≡ d) × A cable
+IsOf i A d (Put f) = is_on i f.sender f.cable ≡ true
+IsOf i A d (Dropped router cause b) = Unit {0}
+IsOf i A d _ = ⊥
+
+-- The entries are those of one datagram on its way: its body ends once, or is under way once, to a router of which N holds.
+pub record Does (i : Internet) (N A : ℕ → Type 0) (stamp : ℕ) (d : List ℕ) (es : List Entry) : Type 0 where
   pub adds : (b : List ℕ) → (target b).net ≢ 0 → count (is_ended b) es + copies i b es ≡ one (same_bytes b d)
   pub unsent : (b : List ℕ) → sent b es ≡ 0
   pub right : Each (IsRight i) es
   pub hops_left : Each (HopsFine i) (pairs (cable_seats i) es)
   pub framed : Each (λ p. Framed p.frame.bytes) (pairs (cable_seats i) es)
+  pub goes_to : Each (λ p. is_copy i p ≡ true → N p.seat.station) (pairs (cable_seats i) es)
+  pub of : Each (IsOf i A d) es
   pub ends_none : Each EndsNone es
   pub numbered : AreNumbered stamp es
 
@@ -63,7 +72,7 @@ same_target : (b d : List ℕ) → (target b).net ≢ 0 → (target d).net ≡ 0
 same_target b d some none =
     false_from_ne_true (same_bytes b d) (λ e. some (ap (λ x. (target x).net) (same_bytes_is b d e) ∙ none))
 
-module _ (i : Internet) (ok : Passes i) where
+module _ (i : Internet) (ok : Passes i) (N A : ℕ → Type 0) where
   -- ---- Frames that are no copy for anybody
 
   pairs_put : (f : Frame) → pairs (cable_seats i) (Put f ∷ []) ≡ pairs_of (cable_seats i) (Put f)
@@ -99,22 +108,30 @@ module _ (i : Internet) (ok : Passes i) where
       (each_more (λ p. is_copy i p ≡ false) (HopsFine i) (pairs_of (cable_seats i) (Put f))
       (λ p e c copy. absurd (true≢false (sym copy ∙ e))) none)
 
+  no_next : (f : Frame) → IsNoCopy f → Each (λ p. is_copy i p ≡ true → N p.seat.station) (pairs (cable_seats i) (Put f ∷ []))
+  no_next f none =
+      subst (Each (λ p. is_copy i p ≡ true → N p.seat.station)) (sym (pairs_put f))
+      (each_more (λ p. is_copy i p ≡ false) (λ p. is_copy i p ≡ true → N p.seat.station) (pairs_of (cable_seats i) (Put f))
+      (λ p e copy. absurd (true≢false (sym copy ∙ e))) none)
+
   -- ---- What was reached or dropped
 
-  pub does_reach : (stamp cable station : ℕ) (how : How) (d : List ℕ) → home i (target d).net ≡ Some cable
-      → Does i stamp d (Reached cable station how d ∷ [])
+  pub does_reach : (stamp cable station : ℕ) (how : How) (d : List ℕ) → home i (target d).net ≡ Some cable → A cable
+      → Does i N A stamp d (Reached cable station how d ∷ [])
   unfolding copies
-  does_reach stamp cable station how d home_is = record {
+  does_reach stamp cable station how d home_is there = record {
     adds = λ b some. omega arith;
     unsent = λ b. refl;
     right = (home_is, tt);
     hops_left = tt;
     framed = tt;
+    goes_to = tt;
+    of = ((refl, there), tt);
     ends_none = (tt, tt);
     numbered = (tt, tt);
   }
 
-  pub does_drop : (stamp router : ℕ) (d : List ℕ) → home i (target d).net ≡ None → Does i stamp d (Dropped router NoRoute d ∷ [])
+  pub does_drop : (stamp router : ℕ) (d : List ℕ) → home i (target d).net ≡ None → Does i N A stamp d (Dropped router NoRoute d ∷ [])
   unfolding copies
   does_drop stamp router d no_home = record {
     adds = λ b some. omega arith;
@@ -122,13 +139,16 @@ module _ (i : Internet) (ok : Passes i) where
     right = (no_home, tt);
     hops_left = tt;
     framed = tt;
+    goes_to = tt;
+    of = (tt, tt);
     ends_none = (tt, tt);
     numbered = (tt, tt);
   }
 
   -- ---- What is put
 
-  module _ (stamp : ℕ) (l : Leg) (whole : Whole l.body) (few : l.hops ≤ 15) where
+  module _ (stamp : ℕ) (l : Leg) (whole : Whole l.body) (few : l.hops ≤ 15)
+      (seated : is_on i l.station l.cable ≡ true) where
     -- the frame of the leg to a hardware address
     abbrev pub frame_to : Hw → Frame
     frame_to to =
@@ -152,21 +172,23 @@ module _ (i : Internet) (ok : Passes i) where
         (target_stays l.hops few l.body)
 
     -- a frame without copies, after the datagram reached the cable
-    pub does_arrive : (how : How) (to : Hw) → home i (target l.body).net ≡ Some l.cable
-        → IsNoCopy (frame_to to) → Does i stamp l.body (reach how l ∷ put stamp l to ∷ [])
+    pub does_arrive : (how : How) (to : Hw) → home i (target l.body).net ≡ Some l.cable → A l.cable
+        → IsNoCopy (frame_to to) → Does i N A stamp l.body (reach how l ∷ put stamp l to ∷ [])
     unfolding copies
-    does_arrive how to home_is none = record {
+    does_arrive how to home_is there none = record {
       adds = λ b some. let rest = no_copies (frame_to to) none b in omega (arith, rest);
       unsent = λ b. refl;
       right = (home_is, (tt, tt));
       hops_left = no_hops (frame_to to) none;
       framed = is_framed to;
+      goes_to = no_next (frame_to to) none;
+      of = ((refl, there), (seated, tt));
       ends_none = (tt, (tt, tt));
       numbered = (tt, ((omega arith), tt));
     }
 
     -- a frame of a datagram for this cable alone
-    pub does_stay : (to : Hw) → (target l.body).net ≡ 0 → Does i stamp l.body (put stamp l to ∷ [])
+    pub does_stay : (to : Hw) → (target l.body).net ≡ 0 → Does i N A stamp l.body (put stamp l to ∷ [])
     unfolding copies
     does_stay to zero_net = record {
       adds = λ b some.
@@ -177,6 +199,8 @@ module _ (i : Internet) (ok : Passes i) where
       right = (tt, tt);
       hops_left = no_hops (frame_to to) none;
       framed = is_framed to;
+      goes_to = no_next (frame_to to) none;
+      of = (seated, tt);
       ends_none = (tt, tt);
       numbered = (refl, tt);
     }
@@ -195,10 +219,10 @@ module _ (i : Internet) (ok : Passes i) where
     -- a copy for the router that has this seat
     pub does_go : (k : ℕ) (s : PlaceOf) → At (seats i) k s → s.cable ≡ l.cable
         → is_copy i (record { frame = frame_to s.hardware; seat = cable_seat i s }) ≡ true
-        → ((c : ℕ) → home i (target l.body).net ≡ Some c → l.hops + distance i s.station (target l.body).net ≤ 14)
-        → Does i stamp l.body (put stamp l s.hardware ∷ [])
+        → ((c : ℕ) → home i (target l.body).net ≡ Some c → l.hops + distance i s.station (target l.body).net ≤ 14) → N s.station
+        → Does i N A stamp l.body (put stamp l s.hardware ∷ [])
     unfolding copies
-    does_go k s at cable copy near = record {
+    does_go k s at cable copy near next = record {
       adds = λ b some.
           let here = ap (count (carries i b)) alone in
           let value : one (carries i b only) ≡ one (same_bytes b l.body) =
@@ -208,6 +232,8 @@ module _ (i : Internet) (ok : Passes i) where
       right = (tt, tt);
       hops_left = subst (Each (HopsFine i)) (sym alone) ((λ c is home_is. fine c home_is), tt);
       framed = is_framed s.hardware;
+      goes_to = subst (Each (λ p. is_copy i p ≡ true → N p.seat.station)) (sym alone) ((λ is. next), tt);
+      of = (seated, tt);
       ends_none = (tt, tt);
       numbered = (refl, tt);
     }

@@ -26,7 +26,7 @@ use Rattle.cable_model.proofs.Counting.{At}
 use Rattle.frozen.specs.Answers.{Goes, Straight, ByRouter, ToThem, OnCable, ToThese}
 use Rattle.frozen.specs.Legs.{Leg, Next, ToStation, ToAll, ToGroup, all_hw, group_hw, is_copy, is_datagram, is_unicast, leg, leg_to, put, reach}
 use Rattle.frozen.specs.Legs.{to_other, to_target}
-use Rattle.frozen.specs.Stations.{cable_holds, cable_seat, has_address, is_router}
+use Rattle.frozen.specs.Stations.{cable_holds, cable_seat, has_address, is_on, is_router}
 use Rattle.frozen.proofs.Does.{Does, copy_is, does_arrive, does_go, does_reach, does_stay, none_alone, none_at_all, frame_to}
 use Rattle.frozen.proofs.Frames.{Whole}
 use Rattle.frozen.proofs.Seated.{home_is, listed_some, not_all, not_group}
@@ -96,18 +96,19 @@ module _ (i : Internet) (ok : Passes i) where
       three true false c e = cc
       three false b c e = cc
 
-  -- ---- Legs
+-- ---- Legs
 
+module _ (i : Internet) (ok : Passes i) (N A : ℕ → Type 0) where
   -- to the station that it is for
-  to_there : (stamp : ℕ) (l : Leg) (whole : Whole l.body) (few : l.hops ≤ 15) (s : PlaceOf) → SeatThere i l.cable (target l.body) s
-      → Does i stamp l.body (to_target stamp l (Some s))
-  to_there stamp l whole few s w =
-      does_arrive i ok stamp l whole few how.Station s.hardware (seat_home l.cable (target l.body) s w)
-      (none_alone i ok (frame_to i ok stamp l whole few s.hardware) w.place s w.at w.cable_is refl
-      (copy_is i ok stamp l whole few s.hardware (cable_seat i s) ∙ last _ own))
+  to_there : (stamp : ℕ) (l : Leg) (whole : Whole l.body) (few : l.hops ≤ 15) (seated : is_on i l.station l.cable ≡ true) (s : PlaceOf) → SeatThere i l.cable (target l.body) s → A l.cable
+      → Does i N A stamp l.body (to_target stamp l (Some s))
+  to_there stamp l whole few seated s w there =
+      does_arrive i ok N A stamp l whole few seated how.Station s.hardware (seat_home i ok l.cable (target l.body) s w) there
+      (none_alone i ok N A (frame_to i ok N A stamp l whole few seated s.hardware) w.place s w.at w.cable_is refl
+      (copy_is i ok N A stamp l whole few seated s.hardware (cable_seat i s) ∙ last _ own))
     where
       own : has_address i s.station s.cable (target l.body) ≡ true
-      own = ap (has_address i s.station s.cable) (sym w.address) ∙ has_own s w.place w.at
+      own = ap (has_address i s.station s.cable) (sym w.address) ∙ has_own i ok s w.place w.at
 
       last : (a : Bool) → has_address i s.station s.cable (target l.body) ≡ true → (a && not (has_address i s.station s.cable (target l.body))) ≡ false
       last a e = ap (λ b. a && not b) e ∙ none a
@@ -117,26 +118,27 @@ module _ (i : Internet) (ok : Passes i) where
           none false = refl
 
   -- to its target, which may not be there
-  straight : (stamp : ℕ) (l : Leg) (whole : Whole l.body) (few : l.hops ≤ 15) → home i (target l.body).net ≡ Some l.cable
-      → (o : Option PlaceOf) → seat_at i l.cable (target l.body) ≡ o → Does i stamp l.body (to_target stamp l o)
-  straight stamp l whole few home_is None e = does_reach i ok stamp l.cable l.station how.Absent l.body home_is
-  straight stamp l whole few home_is (Some s) e = to_there stamp l whole few s (seat_there i l.cable (target l.body) s e)
+  straight : (stamp : ℕ) (l : Leg) (whole : Whole l.body) (few : l.hops ≤ 15) (seated : is_on i l.station l.cable ≡ true) → home i (target l.body).net ≡ Some l.cable → A l.cable
+      → (o : Option PlaceOf) → seat_at i l.cable (target l.body) ≡ o → Does i N A stamp l.body (to_target stamp l o)
+  straight stamp l whole few seated home_is there None e = does_reach i ok N A stamp l.cable l.station how.Absent l.body home_is there
+  straight stamp l whole few seated home_is there (Some s) e =
+      to_there stamp l whole few seated s (seat_there i l.cable (target l.body) s e) there
 
   -- to a router that it isn't for
-  onward : (stamp : ℕ) (l : Leg) (whole : Whole l.body) (few : l.hops ≤ 15) (a : Addr) (s : PlaceOf) → SeatThere i l.cable a s
+  onward : (stamp : ℕ) (l : Leg) (whole : Whole l.body) (few : l.hops ≤ 15) (seated : is_on i l.station l.cable ≡ true) (a : Addr) (s : PlaceOf) → SeatThere i l.cable a s
       → s.station < length i.routers → same_address (target l.body) a ≡ false
-      → ((c : ℕ) → home i (target l.body).net ≡ Some c → l.hops + distance i s.station (target l.body).net ≤ 14)
-      → Does i stamp l.body (to_other stamp l (Some s))
-  onward stamp l whole few a s w router apart near =
+      → ((c : ℕ) → home i (target l.body).net ≡ Some c → l.hops + distance i s.station (target l.body).net ≤ 14) → N s.station
+      → Does i N A stamp l.body (to_other stamp l (Some s))
+  onward stamp l whole few seated a s w router apart near next =
       elim (cases_eq (target l.body).net 0) [
-        | inl none ↦ does_stay i ok stamp l whole few s.hardware none
+        | inl none ↦ does_stay i ok N A stamp l whole few seated s.hardware none
         | inr some ↦
-            does_go i ok stamp l whole few w.place s w.at w.cable_is
-            (copy_is i ok stamp l whole few s.hardware (cable_seat i s)
+            does_go i ok N A stamp l whole few seated w.place s w.at w.cable_is
+            (copy_is i ok N A stamp l whole few seated s.hardware (cable_seat i s)
             ∙ all_true (is_all s.hardware) (is_group s.hardware) (is_router i s.station) ((target l.body).net == 0) (has_address i s.station s.cable (target l.body))
             (not_all i ok s.hardware (addressed i ok w.place s w.at).single) (not_group i ok s.hardware (addressed i ok w.place s w.at).single)
             (lt-ltb _ _ router) (ne_eqb _ _ some)
-            (has_no_other s w.place (target l.body) w.at (ap (same_address (target l.body)) w.address ∙ apart))) near
+            (has_no_other i ok s w.place (target l.body) w.at (ap (same_address (target l.body)) w.address ∙ apart))) near next
       ]
     where
       all_true : (a g r z h : Bool) → a ≡ false → g ≡ false → r ≡ true → z ≡ false → h ≡ false
@@ -148,46 +150,49 @@ module _ (i : Internet) (ok : Passes i) where
       all_true false false true true h ea eg er ez eh = cc
       all_true false false true false true ea eg er ez eh = cc
 
-  pub leg_does : (stamp : ℕ) (l : Leg) → Whole l.body → l.hops ≤ 15 → Goes i l
+  pub leg_does : (stamp : ℕ) (l : Leg) → Whole l.body → l.hops ≤ 15 → is_on i l.station l.cable ≡ true → Goes i l
       → ((a : Addr) (r c : ℕ) → l.next ≡ ToStation a → owner i l.cable a ≡ Some r → same_address (target l.body) a ≡ false
       → home i (target l.body).net ≡ Some c → l.hops + distance i r (target l.body).net ≤ 14)
-      → Does i stamp l.body (leg i stamp l)
-  leg_does stamp l whole few (Straight e on) near =
-      subst (λ n. Does i stamp l.body (leg_to i stamp l n)) (sym e)
-      (subst (λ b. Does i stamp l.body (cond b (to_target stamp l (seat_at i l.cable (target l.body))) (to_other stamp l (seat_at i l.cable (target l.body)))))
+      → (home i (target l.body).net ≡ Some l.cable → A l.cable)
+      → ((a : Addr) (r : ℕ) → l.next ≡ ToStation a → owner i l.cable a ≡ Some r → same_address (target l.body) a ≡ false → N r)
+      → Does i N A stamp l.body (leg i stamp l)
+  leg_does stamp l whole few seated (Straight e on) near there next =
+      subst (λ n. Does i N A stamp l.body (leg_to i stamp l n)) (sym e)
+      (subst (λ b. Does i N A stamp l.body (cond b (to_target stamp l (seat_at i l.cable (target l.body))) (to_other stamp l (seat_at i l.cable (target l.body)))))
       (sym (same_address_self (target l.body)))
-      (straight stamp l whole few (home_is i ok (target l.body).net l.cable on) (seat_at i l.cable (target l.body)) refl))
-  leg_does stamp l whole few (ByRouter a r e own) near =
+      (straight stamp l whole few seated (home_is i ok (target l.body).net l.cable on) (there (home_is i ok (target l.body).net l.cable on)) (seat_at i l.cable (target l.body)) refl))
+  leg_does stamp l whole few seated (ByRouter a r e own) near there next =
       let w = owner_is i l.cable a r own in
       let s = w.0.0 in
-      let there = seat_there i l.cable a s w.0.1 in
-      subst (λ n. Does i stamp l.body (leg_to i stamp l n)) (sym e)
-      (subst (λ o. Does i stamp l.body (cond (same_address (target l.body) a) (to_target stamp l o) (to_other stamp l o))) (sym w.0.1)
+      let place = seat_there i l.cable a s w.0.1 in
+      subst (λ n. Does i N A stamp l.body (leg_to i stamp l n)) (sym e)
+      (subst (λ o. Does i N A stamp l.body (cond (same_address (target l.body) a) (to_target stamp l o) (to_other stamp l o))) (sym w.0.1)
       ((elim (same_address (target l.body) a) as (λ b. same_address (target l.body) a ≡ b
-      → Does i stamp l.body (cond b (to_target stamp l (Some s)) (to_other stamp l (Some s)))) [
-        | true ↦ λ same. to_there stamp l whole few s (at_target (same_address_is (target l.body) a same) there)
+      → Does i N A stamp l.body (cond b (to_target stamp l (Some s)) (to_other stamp l (Some s)))) [
+        | true ↦ λ same. (let mine = at_target (same_address_is (target l.body) a same) place in
+            to_there stamp l whole few seated s mine (there (seat_home i ok l.cable (target l.body) s mine)))
         | false ↦ λ apart.
             let router : s.station < length i.routers = subst (λ n. n < length i.routers) (sym w.0.2) w.1 in
-            onward stamp l whole few a s there router apart (λ c h.
+            onward stamp l whole few seated a s place router apart (λ c h.
             let far = near a r c e own apart h in
             let dist = ap (λ x. distance i x (target l.body).net) w.0.2 in
-            omega (arith, far, dist))
+            omega (arith, far, dist)) (subst N (sym w.0.2) (next a r e own apart))
       ]) refl))
     where
       at_target : {s : PlaceOf} {a : Addr} → target l.body ≡ a → SeatThere i l.cable a s → SeatThere i l.cable (target l.body) s
       at_target {s} {a} e w = subst (λ x. SeatThere i l.cable x s) (sym e) w
-  leg_does stamp l whole few (ToThem e on) near =
+  leg_does stamp l whole few seated (ToThem e on) near there next =
       let home_is_there = home_is i ok (target l.body).net l.cable on in
-      subst (λ n. Does i stamp l.body (leg_to i stamp l n)) (sym e)
-      (subst (λ o. Does i stamp l.body (cond (is_some o) (reach how.All l ∷ put stamp l all_hw ∷ []) (put stamp l all_hw ∷ []))) (sym home_is_there)
-      (does_arrive i ok stamp l whole few how.All all_hw home_is_there
-      (none_at_all i ok (frame_to i ok stamp l whole few all_hw) (λ s. refl))))
-  leg_does stamp l whole few (OnCable e none) near =
-      subst (λ n. Does i stamp l.body (leg_to i stamp l n)) (sym e) (by (home i (target l.body).net) refl)
+      subst (λ n. Does i N A stamp l.body (leg_to i stamp l n)) (sym e)
+      (subst (λ o. Does i N A stamp l.body (cond (is_some o) (reach how.All l ∷ put stamp l all_hw ∷ []) (put stamp l all_hw ∷ []))) (sym home_is_there)
+      (does_arrive i ok N A stamp l whole few seated how.All all_hw home_is_there (there home_is_there)
+      (none_at_all i ok N A (frame_to i ok N A stamp l whole few seated all_hw) (λ s. refl))))
+  leg_does stamp l whole few seated (OnCable e none) near there next =
+      subst (λ n. Does i N A stamp l.body (leg_to i stamp l n)) (sym e) (by (home i (target l.body).net) refl)
     where
       by : (o : Option ℕ) → home i (target l.body).net ≡ o
-          → Does i stamp l.body (cond (is_some o) (reach how.All l ∷ put stamp l all_hw ∷ []) (put stamp l all_hw ∷ []))
-      by None h = does_stay i ok stamp l whole few all_hw none
+          → Does i N A stamp l.body (cond (is_some o) (reach how.All l ∷ put stamp l all_hw ∷ []) (put stamp l all_hw ∷ []))
+      by None h = does_stay i ok N A stamp l whole few seated all_hw none
       by (Some c) h = let low = listed_some i ok (target l.body).net c h in absurd (omega (arith, low, none))
-  leg_does stamp l whole few (ToThese g lt e none) near =
-      subst (λ n. Does i stamp l.body (leg_to i stamp l n)) (sym e) (does_stay i ok stamp l whole few (group_hw g) none)
+  leg_does stamp l whole few seated (ToThese g lt e none) near there next =
+      subst (λ n. Does i N A stamp l.body (leg_to i stamp l n)) (sym e) (does_stay i ok N A stamp l whole few seated (group_hw g) none)

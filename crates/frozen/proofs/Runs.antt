@@ -26,6 +26,10 @@ use Rattle.frozen.proofs.Seated.{one_seat}
 use Rattle.audit.proofs.WalkFacts.{owner_is}
 use Rattle.audit.proofs.WalkSteps.{near}
 
+-- no matter which
+abbrev pub any : ℕ → Type 0
+any n = Unit {0}
+
 module _ (i : Internet) (ok : Passes i) where
   copies-append : (b : List ℕ) (es fs : List Entry) → copies i b (es ++ fs) ≡ copies i b es + copies i b fs
   unfolding copies
@@ -55,7 +59,7 @@ module _ (i : Internet) (ok : Passes i) where
   keeps_none stamp = record { adds = λ b some. refl; right = tt; hops_left = tt; framed = tt; ends_none = tt; numbered = tt }
 
   -- one datagram's entries, and others after them
-  keeps_more : (stamp : ℕ) (d : List ℕ) (es fs : List Entry) → Does i stamp d es → Keeps (stamp + stamps es) nothing fs
+  keeps_more : (stamp : ℕ) (d : List ℕ) (es fs : List Entry) → Does i any any stamp d es → Keeps (stamp + stamps es) nothing fs
       → Keeps stamp (λ b. one (same_bytes b d)) (es ++ fs)
   keeps_more stamp d es fs does rest = record {
     adds = λ b some.
@@ -74,13 +78,13 @@ module _ (i : Internet) (ok : Passes i) where
   }
 
   -- a datagram that a station made
-  made_does : (stamp : ℕ) (l : Leg) → IsMade i l → Does i stamp l.body (leg i stamp l)
+  made_does : (stamp : ℕ) (l : Leg) → IsMade i l → Does i any any stamp l.body (leg i stamp l)
   made_does stamp l made =
       let fresh = made.fresh in
-      leg_does i ok stamp l (whole l.body made.whole) (omega (arith, fresh)) made.goes (λ a r c e own apart h.
+      leg_does i ok any any stamp l (whole l.body made.whole) (omega (arith, fresh)) made.seated made.goes (λ a r c e own apart h.
       let w = owner_is i l.cable a r own in
       let far = near i ok r (target l.body).net c w.1 h in
-      omega (arith, fresh, far))
+      omega (arith, fresh, far)) (λ h. tt) (λ a r e own apart. tt)
 
   -- each datagram that stations made was sent
   pub said_keeps : (stamp : ℕ) (ls : List Leg) → AreMade i ls → Keeps stamp nothing (said i stamp ls)
@@ -110,7 +114,7 @@ module _ (i : Internet) (ok : Passes i) where
       by : (b : Bool) → is_copy i p ≡ b → Keeps stamp (owed_by p) (handled i stamp p ls)
       by true e =
           let all = keeps_more stamp (body p.frame.bytes) (fate i stamp p) (said i (stamp + stamps (fate i stamp p)) ls)
-          (fate_does i ok stamp p framed e fine) (said_keeps (stamp + stamps (fate i stamp p)) ls made) in
+          (fate_does i ok any any stamp p framed e fine (λ c h at. tt) (λ s d a on. tt)) (said_keeps (stamp + stamps (fate i stamp p)) ls made) in
           record {
             adds = λ b some.
                 let h = all.adds b some in

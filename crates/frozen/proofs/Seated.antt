@@ -1,5 +1,5 @@
 -- Who hears what on the cables of an internet that passes.
-use Rattle.std.proofs.Common.{◌≡◌, ℕ, ◌<◌, ◌≤◌, ◌%◌, inl, inr, Bool, true, false, not, ◌||◌, ◌&&◌, ◌==◌, if◌then◌else◌, List, [], ◌∷◌, Option, Some, None}
+use Rattle.std.proofs.Common.{◌≡◌, ℕ, zero, suc, ◌+◌, ◌++◌, ◌<◌, ◌≤◌, ◌%◌, inl, inr, Bool, true, false, not, ◌||◌, ◌&&◌, ◌==◌, if◌then◌else◌, List, [], ◌∷◌, Option, Some, None}
 use Rattle.std.proofs.Common.{length, filter, map, take, refl, sym, ap, ◌∙◌, subst, arith, slice_get, slice_index, eqb-true, eq-eqb, true≢false, nat_lt}
 use Rattle.std.specs.List.{list_any}
 use Rattle.std.proofs.lemmas.Bool.{and_parts, cases_Bool, false_from_ne_true, not-false}
@@ -11,12 +11,14 @@ use Rattle.at_base.specs.declared.address.Hw.{Hw}
 use Rattle.at_base.proofs.Texts.{same_bytes_is, same_bytes_self}
 use Rattle.table_image.specs.Internet.{Internet}
 use Rattle.table_image.specs.declared.cable.Cable.{Cable}
+use Rattle.table_image.specs.declared.port.Port.{Port}
+use Rattle.table_image.specs.declared.router.Router.{Router}
 use Rattle.audit.specs.Places.{on}
 use Rattle.audit.specs.Routing.{home}
 use Rattle.audit.specs.Rules.{same_hardware, Passes}
-use Rattle.audit.specs.Seats.{Seat as PlaceOf, seat_at, seats}
-use Rattle.audit.specs.Walks.{IsAddressed}
-use Rattle.audit.proofs.Finding.{any_at}
+use Rattle.audit.specs.Seats.{Seat as PlaceOf, node_seats, port_seat, router_seats, seats}
+use Rattle.audit.specs.Walks.{HasPort}
+use Rattle.audit.proofs.Finding.{any_from}
 use Rattle.audit.proofs.SeatUnique.{addressed, unique}
 use Rattle.audit.proofs.WalkFacts.{between_is}
 use Rattle.audit.proofs.WalkLists.{find_at, index_at, index_found, at_one}
@@ -24,8 +26,8 @@ use Rattle.audit.proofs.WalkSteps.{cable_good, one_cable}
 use Rattle.cable_model.specs.declared.seat.Seat.{Seat}
 use Rattle.cable_model.specs.Pending.{Pair, is_all, is_for, is_group, is_heard, listens, pairs_of}
 use Rattle.cable_model.specs.Transcript.{Frame, Put, count}
-use Rattle.cable_model.proofs.Counting.{At, count-map, count_le, count_one, filter_one, map_at}
-use Rattle.frozen.specs.Stations.{cable_holds, cable_seat, cable_seats, has_address}
+use Rattle.cable_model.proofs.Counting.{At, any-append, count-map, count_le, count_one, filter_one, map_at}
+use Rattle.frozen.specs.Stations.{cable_holds, cable_seat, cable_seats, is_on}
 
 -- ---- Homes
 
@@ -46,6 +48,46 @@ pub home_holds : (i : Internet) (n c : ℕ) → home i n ≡ Some c → cable_ho
 home_holds i n c h =
     let w = index_at (λ c. is_between c.start c.end n) i.cables c h in
     ap (λ o. on o (λ c. is_between c.start c.end n)) w.1 ∙ w.2
+
+-- ---- A router with a port on a cable is there
+
+any_left : {X : Type 0} (t : X → Bool) (xs ys : List X) → list_any t xs ≡ true → list_any t (xs ++ ys) ≡ true
+any_left t xs ys e = any-append t xs ys ∙ ap (λ b. b || list_any t ys) e
+
+any_right : {X : Type 0} (t : X → Bool) (xs ys : List X) → list_any t ys ≡ true → list_any t (xs ++ ys) ≡ true
+any_right t xs ys e = any-append t xs ys ∙ last (list_any t xs) (list_any t ys) e
+  where
+    last : (a b : Bool) → b ≡ true → (a || b) ≡ true
+    last true b e = refl
+    last false b e = e
+
+ports_on : (r k cable : ℕ) (port : Port) (ports : List Port) → At ports k port → port.cable ≡ cable
+    → list_any (λ (s : PlaceOf). s.station == r && s.cable == cable) (map (port_seat r) ports) ≡ true
+ports_on r k cable port ports at on =
+    any_from (λ (s : PlaceOf). s.station == r && s.cable == cable) (map (port_seat r) ports) k (port_seat r port)
+    (map_at (port_seat r) ports k port at) (ap (λ b. b && port.cable == cable) (eq-eqb r r refl) ∙ eq-eqb _ _ on)
+
+routers_on : (m r k cable : ℕ) (router : Router) (port : Port) (routers : List Router) → At routers r router → At router.ports k port
+    → port.cable ≡ cable → list_any (λ (s : PlaceOf). s.station == (m + r) && s.cable == cable) (router_seats m routers) ≡ true
+routers_on m r k cable router port [] known at on = cc
+routers_on m zero k cable router port (q ∷ routers) known at on =
+    let s : q ≡ router = cc in
+    let here = subst (λ (x : Router). At x.ports k port) (sym s) at in
+    let n : m ≡ m + 0 = omega arith in
+    any_left (λ (s : PlaceOf). s.station == (m + 0) && s.cable == cable) (map (port_seat m) q.ports) (router_seats (suc m) routers)
+    (subst (λ z. list_any (λ (s : PlaceOf). s.station == z && s.cable == cable) (map (port_seat m) q.ports) ≡ true) n
+    (ports_on m k cable port q.ports here on))
+routers_on m (suc r) k cable router port (q ∷ routers) known at on =
+    let n : suc m + r ≡ m + suc r = omega arith in
+    any_right (λ (s : PlaceOf). s.station == (m + suc r) && s.cable == cable) (map (port_seat m) q.ports) (router_seats (suc m) routers)
+    (subst (λ z. list_any (λ (s : PlaceOf). s.station == z && s.cable == cable) (router_seats (suc m) routers) ≡ true) n
+    (routers_on (suc m) r k cable router port routers known at on))
+
+pub port_seated : (i : Internet) (r cable : ℕ) → HasPort i r cable → is_on i r cable ≡ true
+port_seated i r cable h =
+    any_left (λ (s : PlaceOf). s.station == r && s.cable == cable) (router_seats 0 i.routers) (node_seats (length i.routers) i.nodes)
+    (subst (λ z. list_any (λ (s : PlaceOf). s.station == z && s.cable == cable) (router_seats 0 i.routers) ≡ true) (omega arith)
+    (routers_on 0 r h.place cable h.router h.port i.routers h.known h.at h.on))
 
 module _ (i : Internet) (ok : Passes i) where
   -- a listed network isn't 0
