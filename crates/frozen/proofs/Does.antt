@@ -55,6 +55,10 @@ IsOf i A d (Put f) = is_on i f.sender f.cable ≡ true
 IsOf i A d (Dropped router cause b) = Unit {0}
 IsOf i A d _ = ⊥
 
+-- a copy of the datagram goes to a router of which N holds
+abbrev pub IsNext : Internet → (ℕ → Type 0) → List ℕ → Pair → Type 0
+IsNext i N d p = is_copy i p ≡ true → N p.seat.station × (target p.frame.bytes ≡ target d)
+
 -- The entries are those of one datagram on its way: its body ends once, or is under way once, to a router of which N holds.
 pub record Does (i : Internet) (N A : ℕ → Type 0) (stamp : ℕ) (d : List ℕ) (es : List Entry) : Type 0 where
   pub adds : (b : List ℕ) → (target b).net ≢ 0 → count (is_ended b) es + copies i b es ≡ one (same_bytes b d)
@@ -62,7 +66,7 @@ pub record Does (i : Internet) (N A : ℕ → Type 0) (stamp : ℕ) (d : List �
   pub right : Each (IsRight i) es
   pub hops_left : Each (HopsFine i) (pairs (cable_seats i) es)
   pub framed : Each (λ p. Framed p.frame.bytes) (pairs (cable_seats i) es)
-  pub goes_to : Each (λ p. is_copy i p ≡ true → N p.seat.station) (pairs (cable_seats i) es)
+  pub goes_to : Each (IsNext i N d) (pairs (cable_seats i) es)
   pub of : Each (IsOf i A d) es
   pub ends_none : Each EndsNone es
   pub numbered : AreNumbered stamp es
@@ -108,11 +112,10 @@ module _ (i : Internet) (ok : Passes i) (N A : ℕ → Type 0) where
       (each_more (λ p. is_copy i p ≡ false) (HopsFine i) (pairs_of (cable_seats i) (Put f))
       (λ p e c copy. absurd (true≢false (sym copy ∙ e))) none)
 
-  no_next : (f : Frame) → IsNoCopy f → Each (λ p. is_copy i p ≡ true → N p.seat.station) (pairs (cable_seats i) (Put f ∷ []))
-  no_next f none =
-      subst (Each (λ p. is_copy i p ≡ true → N p.seat.station)) (sym (pairs_put f))
-      (each_more (λ p. is_copy i p ≡ false) (λ p. is_copy i p ≡ true → N p.seat.station) (pairs_of (cable_seats i) (Put f))
-      (λ p e copy. absurd (true≢false (sym copy ∙ e))) none)
+  no_next : (f : Frame) (d : List ℕ) → IsNoCopy f → Each (IsNext i N d) (pairs (cable_seats i) (Put f ∷ []))
+  no_next f d none =
+      subst (Each (IsNext i N d)) (sym (pairs_put f))
+      (each_more (λ p. is_copy i p ≡ false) (IsNext i N d) (pairs_of (cable_seats i) (Put f)) (λ p e copy. absurd (true≢false (sym copy ∙ e))) none)
 
   -- ---- What was reached or dropped
 
@@ -181,7 +184,7 @@ module _ (i : Internet) (ok : Passes i) (N A : ℕ → Type 0) where
       right = (home_is, (tt, tt));
       hops_left = no_hops (frame_to to) none;
       framed = is_framed to;
-      goes_to = no_next (frame_to to) none;
+      goes_to = no_next (frame_to to) l.body none;
       of = ((refl, there), (seated, tt));
       ends_none = (tt, (tt, tt));
       numbered = (tt, ((omega arith), tt));
@@ -199,7 +202,7 @@ module _ (i : Internet) (ok : Passes i) (N A : ℕ → Type 0) where
       right = (tt, tt);
       hops_left = no_hops (frame_to to) none;
       framed = is_framed to;
-      goes_to = no_next (frame_to to) none;
+      goes_to = no_next (frame_to to) l.body none;
       of = (seated, tt);
       ends_none = (tt, tt);
       numbered = (refl, tt);
@@ -232,7 +235,7 @@ module _ (i : Internet) (ok : Passes i) (N A : ℕ → Type 0) where
       right = (tt, tt);
       hops_left = subst (Each (HopsFine i)) (sym alone) ((λ c is home_is. fine c home_is), tt);
       framed = is_framed s.hardware;
-      goes_to = subst (Each (λ p. is_copy i p ≡ true → N p.seat.station)) (sym alone) ((λ is. next), tt);
+      goes_to = subst (Each (IsNext i N l.body)) (sym alone) ((λ is. (next, target_stays l.hops few l.body)), tt);
       of = (seated, tt);
       ends_none = (tt, tt);
       numbered = (refl, tt);

@@ -6,3 +6,5 @@ pub mod Legs
 pub mod Fates
 pub mod Runs
 pub mod Conserved
+pub mod Paths
+pub mod Carried

@@ -78,13 +78,14 @@ module _ (i : Internet) (ok : Passes i) where
   }
 
   -- a datagram that a station made
-  made_does : (stamp : ℕ) (l : Leg) → IsMade i l → Does i any any stamp l.body (leg i stamp l)
-  made_does stamp l made =
+  pub made_does : (N A : ℕ → Type 0) (stamp : ℕ) (l : Leg) → IsMade i l → ((s : ℕ) → N s) → ((c : ℕ) → A c)
+      → Does i N A stamp l.body (leg i stamp l)
+  made_does N A stamp l made to at =
       let fresh = made.fresh in
-      leg_does i ok any any stamp l (whole l.body made.whole) (omega (arith, fresh)) made.seated made.goes (λ a r c e own apart h.
+      leg_does i ok N A stamp l (whole l.body made.whole) (omega (arith, fresh)) made.seated made.goes (λ a r c e own apart h.
       let w = owner_is i l.cable a r own in
       let far = near i ok r (target l.body).net c w.1 h in
-      omega (arith, fresh, far)) (λ h. tt) (λ a r e own apart. tt)
+      omega (arith, fresh, far)) (λ h. at l.cable) (λ a r e own apart. to r)
 
   -- each datagram that stations made was sent
   pub said_keeps : (stamp : ℕ) (ls : List Leg) → AreMade i ls → Keeps stamp nothing (said i stamp ls)
@@ -93,7 +94,7 @@ module _ (i : Internet) (ok : Passes i) where
   said_keeps stamp (l ∷ ls) made =
       let es = leg i stamp l in
       let fs = said i (stamp + stamps es) ls in
-      let rest = keeps_more stamp l.body es fs (made_does stamp l made.0) (said_keeps (stamp + stamps es) ls made.1) in
+      let rest = keeps_more stamp l.body es fs (made_does any any stamp l made.0 (λ s. tt) (λ c. tt)) (said_keeps (stamp + stamps es) ls made.1) in
       record {
         adds = λ b some. let h = rest.adds b some in omega (arith, h);
         right = (tt, rest.right);
