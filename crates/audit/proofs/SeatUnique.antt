@@ -1,6 +1,7 @@
 -- Where the cables stand in order and the stations are addressed, no two seats share an address, and no two on one cable
 -- share a hardware address.
-use Rattle.std.proofs.Common.{◌≡◌, ℕ, zero, suc, ◌≤◌, ◌<◌, inl, inr, Bool, true, false, ◌||◌, ◌&&◌, List, Option, Some, None, length, take, refl, sym}
+use Rattle.std.proofs.Common.{◌≡◌, ℕ, zero, suc, ◌≤◌, ◌<◌, inl, inr, Bool, true, false, ◌||◌, ◌&&◌, List, Option, Some, None, length}
+use Rattle.std.proofs.Common.{take, refl, sym}
 use Rattle.std.proofs.Common.{ap, ◌∙◌, subst, arith, slice_get, ◌==◌, eqb-true, eq-eqb, true≢false}
 use Rattle.std.specs.List.{list_any}
 use Rattle.std.proofs.lemmas.Bool.{or_parts, and_parts, not-false, cases_order, ltb-false}
@@ -191,7 +192,8 @@ module _ (i : Internet) (ok : Passes i) where
 
   well_addressed : (k : ℕ) (s : Seat) → Sits i k s → bad_address i s.cable s.address s.hardware ≡ false
   well_addressed k s (AtPort a) =
-      same_seat s a.port.cable a.port.address a.port.hardware a.cable a.address a.hardware (port_good a.r a.p a.router a.port a.known a.at).0
+      same_seat s a.port.cable a.port.address a.port.hardware a.cable a.address a.hardware
+          (port_good a.r a.p a.router a.port a.known a.at).0
   well_addressed k s (AtNode l far a) =
       same_seat s a.node.cable a.node.address a.node.hardware a.cable a.address a.hardware (node_good l a.node a.known).2
 

@@ -1,5 +1,6 @@
 -- Counts over lists.
-use Rattle.std.proofs.Common.{◌≡◌, ℕ, zero, suc, ◌+◌, ◌≤◌, Bool, true, false, cond, ◌||◌, ◌&&◌, not, List, [], ◌∷◌, ◌++◌, Some, refl, sym, ap}
+use Rattle.std.proofs.Common.{◌≡◌, ℕ, zero, suc, ◌+◌, ◌≤◌, Bool, true, false, cond, ◌||◌, ◌&&◌, not, List, [], ◌∷◌, ◌++◌, Some, refl}
+use Rattle.std.proofs.Common.{sym, ap}
 use Rattle.std.proofs.Common.{◌∙◌, subst, arith, slice_get, filter, map, Contains}
 use Rattle.std.specs.List.{list_any, AllByRecursion as Each}
 use Rattle.std.proofs.lemmas.Bool.{false_from_ne_true}
@@ -178,7 +179,8 @@ count_one t [] one_index = omega arith
 count_one t (x ∷ xs) one_index =
     (elim (t x) as (λ b. t x ≡ b → one b + count t xs ≤ 1) [
       | true ↦ λ e. let none = count_none t xs (no_more e) in omega (arith, none)
-      | false ↦ λ e. let rest = count_one t xs (λ j k a b ea eb pa pb. let s = one_index (suc j) (suc k) a b ea eb pa pb in omega (arith, s)) in omega (arith, rest)
+      | false ↦ λ e. let rest = count_one t xs (λ j k a b ea eb pa pb. let s = one_index (suc j) (suc k) a b ea eb pa pb in omega
+          (arith, s)) in omega (arith, rest)
     ]) refl
   where
     each_false : {X : Type 0} (t : X → Bool) (xs : List X) → ((k : ℕ) (y : X) → At xs k y → t y ≡ false) → Each (λ y. t y ≡ false) xs
@@ -186,7 +188,8 @@ count_one t (x ∷ xs) one_index =
     each_false t (y ∷ ys) h = (h zero y refl, each_false t ys (λ k z e. h (suc k) z e))
 
     no_more : t x ≡ true → Each (λ y. t y ≡ false) xs
-    no_more e = each_false t xs (λ k y ek. false_from_ne_true (t y) (λ p. let s : zero ≡ suc k = one_index zero (suc k) x y refl ek e p in absurd (omega (arith, s))))
+    no_more e = each_false t xs (λ k y ek. false_from_ne_true (t y) (λ p. let s : zero ≡ suc k = one_index zero
+        (suc k) x y refl ek e p in absurd (omega (arith, s))))
 
 -- an element of a mapped list
 pub map_at : {X Y : Type 0} (f : X → Y) (xs : List X) (k : ℕ) (x : X) → At xs k x → At (map f xs) k (f x)

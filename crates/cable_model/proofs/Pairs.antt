@@ -1,12 +1,15 @@
 -- What entries do to the pairs that are pending, on cables where a station has one seat at most.
-use Rattle.std.proofs.Common.{◌≡◌, ℕ, zero, suc, ◌+◌, ◌<◌, ◌≤◌, inl, inr, Bool, true, false, ◌||◌, ◌&&◌, not, List, [], ◌∷◌, ◌++◌, refl, sym, ap}
+use Rattle.std.proofs.Common.{◌≡◌, ℕ, ◌+◌, ◌<◌, ◌≤◌, inl, inr, Bool, true, false, ◌||◌, ◌&&◌, not, List, [], ◌∷◌, ◌++◌, refl}
+use Rattle.std.proofs.Common.{sym, ap}
 use Rattle.std.proofs.Common.{◌∙◌, subst, arith, filter, eqb-true, eq-eqb, ne_eqb, ◌==◌, append-nil, append_assoc}
-use Rattle.std.specs.List.{list_any, AllByRecursion as Each}
+use Rattle.std.specs.List.{AllByRecursion as Each}
 use Rattle.std.proofs.lemmas.Bool.{and_parts, and_left, cases_Bool}
 use Rattle.cable_model.specs.declared.seat.Seat.{Seat}
 use Rattle.cable_model.specs.Pending.{Pair, ends, is_for, is_heard, pairs, pairs_of, pending, was_ended}
-use Rattle.cable_model.specs.Transcript.{Entry, Frame, Sent, Put, Took, Reached, Dropped, Lost, AreNumbered, HasStamp, count, is_put, one, stamps}
-use Rattle.cable_model.proofs.Counting.{At, any-append, count-append, count-filter, count-map, count_agree, count_le, count_none, count_without}
+use Rattle.cable_model.specs.Transcript.{Entry, Frame, Sent, Put, Took, Reached, Dropped, Lost, AreNumbered, HasStamp, count, is_put}
+use Rattle.cable_model.specs.Transcript.{one, stamps}
+use Rattle.cable_model.proofs.Counting.{At, any-append, count-append, count-filter, count-map, count_agree, count_le, count_none}
+use Rattle.cable_model.proofs.Counting.{count_without}
 use Rattle.cable_model.proofs.Counting.{each_all, each-append, each_map, each_more, filter_at}
 
 -- ---- Stamps
@@ -118,7 +121,8 @@ module _ (seats : List Seat) where
     one_pair stamp station f =
         let inside = count-filter (λ s. names stamp station (record { frame = f; seat = s })) (is_heard f) seats in
         let few = one_seat f.cable station in
-        let le = count_le (λ s. is_heard f s && names stamp station (record { frame = f; seat = s })) (λ s. s.cable == f.cable && s.station == station) seats
+        let le = count_le (λ s. is_heard f s && names stamp station (record { frame = f; seat = s }))
+        (λ s. s.cable == f.cable && s.station == station) seats
         (λ s e.
         let a = and_parts (is_heard f s) (names stamp station (record { frame = f; seat = s })) e in
         let b = and_parts (s.cable == f.cable) (is_for f.to f.sender s) a.0 in
@@ -130,13 +134,15 @@ module _ (seats : List Seat) where
     unique : (stamp station k : ℕ) (es : List Entry) → AreNumbered k es → count (names stamp station) (pairs seats es) ≤ 1
     unique stamp station k [] h = omega arith
     unique stamp station k (e ∷ es) h =
-        here e (count-append (names stamp station) (pairs_of seats e) (pairs seats es)) (unique stamp station (one (is_put e) + k) es h.1) h.0
+        here e (count-append (names stamp station) (pairs_of seats e) (pairs seats es))
+        (unique stamp station (one (is_put e) + k) es h.1) h.0
         (stamps_from (one (is_put e) + k) es h.1)
       where
         here : (e : Entry)
             → count (names stamp station) (pairs_of seats e ++ pairs seats es)
             ≡ count (names stamp station) (pairs_of seats e) + count (names stamp station) (pairs seats es)
-            → count (names stamp station) (pairs seats es) ≤ 1 → HasStamp k e → Each (λ p. one (is_put e) + k ≤ p.frame.stamp) (pairs seats es)
+            → count (names stamp station) (pairs seats es) ≤ 1 → HasStamp k e → Each (λ p. one (is_put e) + k ≤ p.frame.stamp)
+            (pairs seats es)
             → count (names stamp station) (pairs_of seats e ++ pairs seats es) ≤ 1
         here (Sent s b) sum rest g later = rest
         here (Took q s) sum rest g later = rest
@@ -148,11 +154,14 @@ module _ (seats : List Seat) where
             elim (cases_Bool (stamp == f.stamp)) as (λ _. count (names stamp station) (pairs_of seats (Put f) ++ pairs seats es) ≤ 1) [
               | inl same ↦
                   let s : stamp ≡ f.stamp = eqb-true _ _ same in
-                  let none = count_none (names stamp station) (pairs seats es) (each_more (λ p. 1 + k ≤ p.frame.stamp) (λ p. names stamp station p ≡ false) (pairs seats es) (λ p le. and_left (stamp == p.frame.stamp) _ (ne_eqb _ _ (λ e. absurd (omega (arith, e, s, le, g))))) later) in
+                  let none = count_none (names stamp station) (pairs seats es)
+                  (each_more (λ p. 1 + k ≤ p.frame.stamp) (λ p. names stamp station p ≡ false) (pairs seats es)
+                  (λ p le. and_left (stamp == p.frame.stamp) _ (ne_eqb _ _ (λ e. absurd (omega (arith, e, s, le, g))))) later) in
                   let few = one_pair stamp station f in
                   omega (arith, sum, mapped, none, few)
               | inr other ↦
-                  let none = count_none (λ s. names stamp station (record { frame = f; seat = s })) (filter (is_heard f) seats) (each_all _ _ (λ s. and_left (stamp == f.stamp) _ other)) in
+                  let none = count_none (λ s. names stamp station (record { frame = f; seat = s })) (filter (is_heard f) seats)
+                  (each_all _ _ (λ s. and_left (stamp == f.stamp) _ other)) in
                   omega (arith, sum, mapped, none, rest)
             ]
 
@@ -171,11 +180,14 @@ module _ (seats : List Seat) where
         let ended : (p : Pair) → was_ended (t ++ es) p ≡ was_ended t p =
         λ p. any-append (ends p) t es ∙ (ap (λ b. was_ended t p || b) (none_ended es p plain) ∙ or_none (was_ended t p)) in
         let same = count_agree (test (t ++ es)) (test t) (pairs seats t) (each_all _ _ (λ p. ap (λ b. not b && f p) (ended p))) in
-        let late = count_agree (test (t ++ es)) f (pairs seats es) (each_more (λ p. stamps t ≤ p.frame.stamp) (λ p. test (t ++ es) p ≡ f p) (pairs seats es) (λ p le. ap (λ b. not b && f p) (ended p ∙ not_ended_yet (stamps t) t p old le)) (stamps_from (stamps t) es new)) in
+        let late = count_agree (test (t ++ es)) f (pairs seats es) (each_more (λ p. stamps t ≤ p.frame.stamp)
+        (λ p. test (t ++ es) p ≡ f p) (pairs seats es) (λ p le. ap (λ b. not b && f p)
+        (ended p ∙ not_ended_yet (stamps t) t p old le)) (stamps_from (stamps t) es new)) in
         pending_is f (t ++ es)
         ∙ (split
         ∙ (sum
-        ∙ (ap (λ n. n + count (test (t ++ es)) (pairs seats es)) (same ∙ sym (pending_is f t)) ∙ ap (λ n. count f (pending seats t) + n) late)))
+        ∙ (ap (λ n. n + count (test (t ++ es)) (pairs seats es)) (same ∙ sym (pending_is f t)) ∙ ap
+        (λ n. count f (pending seats t) + n) late)))
       where
         or_none : (b : Bool) → (b || false) ≡ b
         or_none true = refl
@@ -191,11 +203,14 @@ module _ (seats : List Seat) where
         let whole = pending_is f (t ++ took ∷ []) in
         let front = pending_is f t in
         let split : pairs seats (t ++ took ∷ []) ≡ pairs seats t = pairs-append t (took ∷ []) ∙ append-nil (pairs seats t) in
-        let same = count_agree (test (t ++ took ∷ [])) (λ q. not (names p.frame.stamp p.seat.station q) && test t q) (pairs seats t) (each_all _ _ (λ q.
-        ap (λ b. not b && f q) (any-append (ends q) t (took ∷ [])) ∙ shuffle (was_ended t q) (names p.frame.stamp p.seat.station q) (f q))) in
+        let same = count_agree (test (t ++ took ∷ [])) (λ q. not (names p.frame.stamp p.seat.station q) && test t q) (pairs seats t)
+        (each_all _ _ (λ q.
+        ap (λ b. not b && f q) (any-append (ends q) t (took ∷ [])) ∙ shuffle (was_ended t q) (names p.frame.stamp p.seat.station q)
+        (f q))) in
         let mine : names p.frame.stamp p.seat.station p ≡ true =
         ap (λ b. b && p.seat.station == p.seat.station) (eq-eqb p.frame.stamp _ refl) ∙ eq-eqb p.seat.station _ refl in
-        let gone = count_without (names p.frame.stamp p.seat.station) (test t) (pairs seats t) w.0 p (unique p.frame.stamp p.seat.station 0 t new) w.1 mine in
+        let gone = count_without (names p.frame.stamp p.seat.station) (test t) (pairs seats t) w.0 p
+        (unique p.frame.stamp p.seat.station 0 t new) w.1 mine in
         let value = ap one (ap (λ b. b && f p) w.2) in
         let moved = whole ∙ (ap (count (test (t ++ took ∷ []))) split ∙ same) in
         omega (arith, moved, gone, value, front)

@@ -1,5 +1,5 @@
 -- Who hears a frame, and which frames are still to be taken. This project's own.
-use Rattle.std.specs.Prelude.{ℕ, Bool, true, false, not, ◌&&◌, ◌==◌, if◌then◌else◌, List, [], ◌∷◌, ◌++◌, Option, Some, None, map, filter}
+use Rattle.std.specs.Prelude.{ℕ, Bool, false, not, ◌&&◌, ◌==◌, if◌then◌else◌, List, [], ◌∷◌, ◌++◌, Option, Some, None, map, filter}
 use Rattle.std.specs.Prelude.{nat_lt, take, slice_index}
 use Rattle.std.specs.List.{list_any}
 use Rattle.at_base.specs.Text.{same_bytes}

@@ -1,19 +1,19 @@
 -- What reached a cable was carried by the walk.
-use Rattle.std.proofs.Common.{◌≡◌, ℕ, zero, suc, ◌+◌, ◌<◌, Bool, true, false, not, cond, List, [], ◌∷◌, ◌++◌, Option, Some, None, length, refl, sym, ap}
-use Rattle.std.proofs.Common.{◌∙◌, subst, arith, slice_get, append-nil, append_assoc, length-append}
+use Rattle.std.proofs.Common.{◌≡◌, ℕ, zero, suc, ◌+◌, Bool, true, false, not, cond, List, [], ◌∷◌, ◌++◌, length, refl, sym, ap}
+use Rattle.std.proofs.Common.{◌∙◌, subst, arith, append-nil, append_assoc, length-append}
 use Rattle.std.specs.List.{AllByRecursion as Each}
 use Rattle.at_base.specs.declared.address.Addr.{Addr}
 use Rattle.ddp.specs.Bodies.{body, target}
 use Rattle.table_image.specs.Internet.{Internet}
-use Rattle.audit.specs.Routing.{Here, On, hand, home}
+use Rattle.audit.specs.Routing.{hand}
 use Rattle.audit.specs.Rules.{Passes}
 use Rattle.cable_model.specs.declared.seat.Seat.{Seat}
-use Rattle.cable_model.specs.Pending.{Pair, is_heard, pairs, pairs_of, pending, was_ended}
-use Rattle.cable_model.specs.Transcript.{Entry, Frame, Sent, Put, Took, Reached, Dropped, Lost, AreNumbered, count, is_put, one, stamps}
+use Rattle.cable_model.specs.Pending.{Pair, pairs, pairs_of, pending, was_ended}
+use Rattle.cable_model.specs.Transcript.{Entry, Sent, Put, Took, Reached, Dropped, Lost, AreNumbered, is_put, one, stamps}
 use Rattle.cable_model.proofs.Counting.{At, contained_at, count-append, each-append, each_all, each_at, each_map, each_more, filter_at}
 use Rattle.cable_model.proofs.Pairs.{numbered-append, pairs-append}
-use Rattle.frozen.specs.Answers.{AreMade, IsMade}
-use Rattle.frozen.specs.Carriage.{AreCarried, Chains, IsCarried, IsChain, after, chain_in, none_yet}
+use Rattle.frozen.specs.Answers.{AreMade}
+use Rattle.frozen.specs.Carriage.{AreCarried, Chains, IsChain, after, chain_in, none_yet}
 use Rattle.frozen.specs.Legal.{Block, IsLegal, Sends, Takes, Begins, Goes, said}
 use Rattle.frozen.specs.Legs.{Leg, fate, fate_by, is_copy, leg}
 use Rattle.frozen.specs.Stations.{cable_seats}
@@ -111,9 +111,10 @@ module _ (i : Internet) where
         let long = length-append frames (now ∷ []) in
         let next : 1 + length frames ≡ length (frames ++ now ∷ []) = omega (arith, long) in
         let there : At (after_all es w).frames f.stamp now =
-          kept es w f.stamp now (subst (λ k. At (frames ++ now ∷ []) k now) (sym n.0) (at_end frames now)) in
+        kept es w f.stamp now (subst (λ k. At (frames ++ now ∷ []) k now) (sym n.0) (at_end frames now)) in
         each-append (λ p. At (after_all es w).frames p.frame.stamp now) (pairs_of (cable_seats i) (Put f)) (pairs (cable_seats i) es)
-        (each_map (λ p. At (after_all es w).frames p.frame.stamp now) (λ (s : Seat). record { frame = f; seat = s }) _ (each_all _ _ (λ s. there)))
+        (each_map (λ p. At (after_all es w).frames p.frame.stamp now) (λ (s : Seat). record { frame = f; seat = s }) _
+        (each_all _ _ (λ s. there)))
         (of_frames (frames ++ now ∷ []) es h.1 (subst (λ k. AreNumbered k es) next n.1))
 
     -- so a leg or a fate leaves what its copies need
@@ -127,7 +128,8 @@ module _ (i : Internet) where
     }
       where
         both : (ps : List Pair) → Each (λ p. At (after_all es (record { now = now; frames = frames })).frames p.frame.stamp now) ps
-            → Each (IsNext i (λ s. Path i (target d).net now s) d) ps → Each (HasPath (after_all es (record { now = now; frames = frames }))) ps
+            → Each (IsNext i (λ s. Path i (target d).net now s) d) ps → Each
+            (HasPath (after_all es (record { now = now; frames = frames }))) ps
         both [] h g = tt
         both (p ∷ ps) h g =
             ((λ copy. let n = g.0 copy in (now, h.0, subst (λ (a : Addr). Path i a.net now p.seat.station) (sym n.1) n.0)), both ps h.1 g.1)
@@ -173,7 +175,8 @@ module _ (i : Internet) where
 
 module _ (i : Internet) (ok : Passes i) where
   -- datagrams that stations made: their chains are empty
-  said_carries : (t : List Entry) (stamp : ℕ) (ls : List Leg) → stamp ≡ stamps t → AreMade i ls → Carries i t → Carries i (t ++ said i stamp ls)
+  said_carries : (t : List Entry) (stamp : ℕ) (ls : List Leg) → stamp ≡ stamps t → AreMade i ls → Carries i t → Carries i
+      (t ++ said i stamp ls)
   said_carries t stamp [] e made c = subst (Carries i) (sym (append-nil t)) c
   said_carries t stamp (l ∷ ls) e made c =
       let first = Sent l.station l.body in
@@ -183,9 +186,10 @@ module _ (i : Internet) (ok : Passes i) where
       let c1 : Carries i before = grow i t (first ∷ []) c (tt, tt) (record { carried = (tt, tt); paths = tt }) in
       let same : stamps before ≡ stamp = one_more i t first refl ∙ sym e in
       let w = after_all before none_yet in
-      let does = made_does i ok (λ s. Path i (target l.body).net [] s) (λ c. IsChain i (target l.body).net c []) stamp l made.0 (λ s. tt) (λ c. tt) in
+      let does = made_does i ok (λ s. Path i (target l.body).net [] s) (λ c. IsChain i (target l.body).net c []) stamp l made.0 (λ s. tt)
+      (λ c. tt) in
       let leaves : Leaves i es w =
-        renamed i es w [] (now_after i t first) (does_leave i l.body [] stamp w.frames es (sym same ∙ frames_are i before) does) in
+      renamed i es w [] (now_after i t first) (does_leave i l.body [] stamp w.frames es (sym same ∙ frames_are i before) does) in
       let c2 : Carries i (before ++ es) = grow i before es c1 (subst (λ k. AreNumbered k es) (sym same) does.numbered) leaves in
       let sum = count-append is_put before es in
       let more : stamp + stamps es ≡ stamps (before ++ es) = omega (arith, sum, same) in
@@ -207,7 +211,7 @@ module _ (i : Internet) (ok : Passes i) where
       by : (b : Bool) → is_copy i p ≡ b → Leaves i (fate i stamp p) w × AreNumbered stamp (fate i stamp p)
       by false copy =
           let none : fate i stamp p ≡ [] =
-            ap (λ b. cond b (fate_by i stamp p.seat.station p (hand i p.seat.station (target p.frame.bytes).net)) []) copy in
+          ap (λ b. cond b (fate_by i stamp p.seat.station p (hand i p.seat.station (target p.frame.bytes).net)) []) copy in
           subst (λ es. Leaves i es w × AreNumbered stamp es) (sym none) (record { carried = tt; paths = tt }, tt)
       by true copy =
           let g = way copy in
@@ -215,17 +219,19 @@ module _ (i : Internet) (ok : Passes i) where
           let now : w.now ≡ g.0 ++ p.seat.station ∷ [] = now_after i t took ∙ ap (λ o. chain_in o ++ p.seat.station ∷ []) g.1 in
           let same = target_inside p.frame.bytes framed in
           let does = fate_does i ok (λ s. Path i (target (body p.frame.bytes)).net (g.0 ++ p.seat.station ∷ []) s)
-            (λ c. IsChain i (target (body p.frame.bytes)).net c (g.0 ++ p.seat.station ∷ [])) stamp p framed copy fine
-            (λ c listed here. subst (λ (a : Addr). IsChain i a.net c (g.0 ++ p.seat.station ∷ [])) (sym same)
-            (path_home i ok (target p.frame.bytes).net g.0 p.seat.station c listed g.2 router here))
-            (λ s d a on. subst (λ (x : Addr). Path i x.net (g.0 ++ p.seat.station ∷ []) s) (sym same)
-            (path_on i (target p.frame.bytes).net g.0 p.seat.station s d a g.2 router on)) in (
+          (λ c. IsChain i (target (body p.frame.bytes)).net c (g.0 ++ p.seat.station ∷ [])) stamp p framed copy fine
+          (λ c listed here. subst (λ (a : Addr). IsChain i a.net c (g.0 ++ p.seat.station ∷ [])) (sym same)
+          (path_home i ok (target p.frame.bytes).net g.0 p.seat.station c listed g.2 router here))
+          (λ s d a on. subst (λ (x : Addr). Path i x.net (g.0 ++ p.seat.station ∷ []) s) (sym same)
+          (path_on i (target p.frame.bytes).net g.0 p.seat.station s d a g.2 router on)) in (
             renamed i (fate i stamp p) w (g.0 ++ p.seat.station ∷ []) now
-            (does_leave i (body p.frame.bytes) (g.0 ++ p.seat.station ∷ []) stamp w.frames (fate i stamp p) (e ∙ frames_are i (t ++ took ∷ [])) does),
+                (does_leave i (body p.frame.bytes) (g.0 ++ p.seat.station ∷ []) stamp w.frames (fate i stamp p)
+                (e ∙ frames_are i (t ++ took ∷ [])) does),
             does.numbered,
           )
 
-  took_carries : (t : List Entry) (p : Pair) (k : ℕ) (ls : List Leg) → At (pending (cable_seats i) t) k p → AreMade i ls → Run i ok t → Carries i t
+  took_carries : (t : List Entry) (p : Pair) (k : ℕ) (ls : List Leg) → At (pending (cable_seats i) t) k p → AreMade i ls → Run i ok t
+      → Carries i t
       → Carries i (t ++ Took p.frame.stamp p.seat.station ∷ (fate i (stamps t) p ++ said i (stamps t + stamps (fate i (stamps t) p)) ls))
   took_carries t p k ls at made r c =
       let took = Took p.frame.stamp p.seat.station in

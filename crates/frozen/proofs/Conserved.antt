@@ -1,6 +1,6 @@
 -- Conservation and hops left, from the invariant of a run.
-use Rattle.std.proofs.Common.{◌≡◌, ◌≢◌, ℕ, ◌+◌, ◌≤◌, Bool, true, false, ◌&&◌, ◌==◌, List, Option, Some, None, refl, sym, ap, ◌∙◌, arith}
-use Rattle.std.proofs.Common.{eq-eqb, eqb-true, not, Contains}
+use Rattle.std.proofs.Common.{◌≡◌, ◌≢◌, ℕ, ◌+◌, Bool, true, false, ◌&&◌, ◌==◌, List, Option, Some, None, refl, sym, ap, ◌∙◌, arith}
+use Rattle.std.proofs.Common.{eq-eqb, eqb-true, not}
 use Rattle.std.specs.List.{AllByRecursion as Each}
 use Rattle.std.proofs.lemmas.Bool.{and_parts, false_from_ne_true}
 use Rattle.at_base.specs.Text.{same_bytes}
@@ -10,10 +10,10 @@ use Rattle.table_image.specs.Internet.{Internet}
 use Rattle.audit.specs.Routing.{home}
 use Rattle.audit.specs.Rules.{Passes}
 use Rattle.cable_model.specs.declared.entry.Cause.TheVariants.{NoRoute, HopLimit}
-use Rattle.cable_model.specs.Pending.{Pair, pairs, pending, was_ended}
-use Rattle.cable_model.specs.Transcript.{Entry, Sent, Put, Took, Reached, Dropped, Lost, count}
+use Rattle.cable_model.specs.Pending.{pairs, pending, was_ended}
+use Rattle.cable_model.specs.Transcript.{Entry, Sent, Put, Took, Reached, Dropped, Lost}
 use Rattle.cable_model.proofs.Counting.{contained_at, count_agree, count_none, each_at, each_more, filter_at}
-use Rattle.frozen.specs.Counts.{HasHopsLeft, IsConserved, IsDelivered, IsDiscarded, is_dropped, is_hop_limit, is_reached, under_way}
+use Rattle.frozen.specs.Counts.{HasHopsLeft, IsConserved, is_dropped, is_hop_limit, is_reached, under_way}
 use Rattle.frozen.specs.Legal.{IsLegal}
 use Rattle.frozen.specs.Stations.{cable_seats}
 use Rattle.frozen.proofs.Does.{HopsFine, IsRight, is_ended}
@@ -36,7 +36,8 @@ module _ (i : Internet) where
   some_none c e = cc
 
   -- what reached a cable, of a body whose home is o
-  reached_is : (b : List ℕ) (o : Option ℕ) (c d : ℕ) (body : List ℕ) → home i (target b).net ≡ o → o ≢ Some d → home i (target body).net ≡ Some c
+  reached_is : (b : List ℕ) (o : Option ℕ) (c d : ℕ) (body : List ℕ) → home i (target b).net ≡ o → o ≢ Some d → home i
+      (target body).net ≡ Some c
       → (c == d && same_bytes b body) ≡ false
   reached_is b o c d body h apart at =
       false_from_ne_true (c == d && same_bytes b body) (λ e.
@@ -70,7 +71,8 @@ module _ (i : Internet) where
   ended_nowhere b h (Reached d s how body) r = other_body b body (λ e. some_none d (sym r ∙ (sym e ∙ h)))
   ended_nowhere b h (Dropped s cause body) r = refl
 
-  not_reached : (b : List ℕ) (o : Option ℕ) (d : ℕ) → home i (target b).net ≡ o → o ≢ Some d → (e : Entry) → IsRight i e → is_reached b d e ≡ false
+  not_reached : (b : List ℕ) (o : Option ℕ) (d : ℕ) → home i (target b).net ≡ o → o ≢ Some d → (e : Entry) → IsRight i e
+      → is_reached b d e ≡ false
   not_reached b o d h apart (Sent s x) r = refl
   not_reached b o d h apart (Put f) r = refl
   not_reached b o d h apart (Took p s) r = refl

@@ -1,5 +1,5 @@
 -- What the entries of a leg or a fate do to the counts of bodies.
-use Rattle.std.proofs.Common.{◌≡◌, ◌≢◌, ℕ, ◌+◌, ◌<◌, ◌≤◌, Bool, true, false, not, ◌&&◌, ◌==◌, List, [], ◌∷◌, ◌++◌, Some, None, length, filter}
+use Rattle.std.proofs.Common.{◌≡◌, ◌≢◌, ℕ, ◌+◌, ◌≤◌, Bool, true, false, not, ◌&&◌, ◌==◌, List, [], ◌∷◌, Some, None, filter}
 use Rattle.std.proofs.Common.{refl, sym, ap, ◌∙◌, subst, arith, append-nil, true≢false}
 use Rattle.at_base.proofs.Texts.{same_bytes_is}
 use Rattle.std.specs.List.{AllByRecursion as Each}
@@ -16,10 +16,10 @@ use Rattle.cable_model.specs.declared.entry.How.{How}
 use Rattle.cable_model.specs.declared.entry.Kind.TheVariants.{Ddp}
 use Rattle.cable_model.specs.declared.seat.Seat.{Seat}
 use Rattle.cable_model.specs.Pending.{Pair, is_heard, pairs, pairs_of}
-use Rattle.cable_model.specs.Transcript.{Entry, Frame, Sent, Put, Took, Reached, Dropped, Lost, AreNumbered, count, one}
-use Rattle.cable_model.proofs.Counting.{At, count-append, count_none, each-append, each_all, each_map, each_more}
-use Rattle.cable_model.proofs.Pairs.{EndsNone, pairs-append}
-use Rattle.frozen.specs.Counts.{carries, is_sent, sent}
+use Rattle.cable_model.specs.Transcript.{Entry, Frame, Put, Reached, Dropped, AreNumbered, count, one}
+use Rattle.cable_model.proofs.Counting.{At, count_none, each_all, each_map, each_more}
+use Rattle.cable_model.proofs.Pairs.{EndsNone}
+use Rattle.frozen.specs.Counts.{carries, sent}
 use Rattle.frozen.specs.Legs.{Leg, is_copy, is_datagram, is_unicast, put, reach}
 use Rattle.frozen.specs.Stations.{cable_seat, cable_seats, has_address, is_on, is_router}
 use Rattle.frozen.proofs.Frames.{Framed, Whole, body_stays, hops_are, target_stays}
@@ -115,7 +115,8 @@ module _ (i : Internet) (ok : Passes i) (N A : ℕ → Type 0) where
   no_next : (f : Frame) (d : List ℕ) → IsNoCopy f → Each (IsNext i N d) (pairs (cable_seats i) (Put f ∷ []))
   no_next f d none =
       subst (Each (IsNext i N d)) (sym (pairs_put f))
-      (each_more (λ p. is_copy i p ≡ false) (IsNext i N d) (pairs_of (cable_seats i) (Put f)) (λ p e copy. absurd (true≢false (sym copy ∙ e))) none)
+      (each_more (λ p. is_copy i p ≡ false) (IsNext i N d) (pairs_of (cable_seats i) (Put f))
+      (λ p e copy. absurd (true≢false (sym copy ∙ e))) none)
 
   -- ---- What was reached or dropped
 
@@ -163,7 +164,8 @@ module _ (i : Internet) (ok : Passes i) (N A : ℕ → Type 0) where
     is_framed : (to : Hw) → Each (λ p. Framed p.frame.bytes) (pairs (cable_seats i) (put stamp l to ∷ []))
     is_framed to =
         subst (Each (λ p. Framed p.frame.bytes)) (sym (pairs_put (frame_to to)))
-        (each_map (λ p. Framed p.frame.bytes) (λ (s : Seat). record { frame = frame_to to; seat = s }) (filter (is_heard (frame_to to)) (cable_seats i))
+        (each_map (λ p. Framed p.frame.bytes) (λ (s : Seat). record { frame = frame_to to; seat = s })
+        (filter (is_heard (frame_to to)) (cable_seats i))
         (each_all _ _ (λ s. record { inside = l.body; count = l.hops; whole = whole; few = few; is = refl })))
 
     -- whether the frame is a copy, for a seat
@@ -216,7 +218,8 @@ module _ (i : Internet) (ok : Passes i) (N A : ℕ → Type 0) where
         none =
             none_at_all (frame_to to) (λ s.
             copy_is to s
-            ∙ (ap (λ n. is_datagram Ddp && is_unicast to && is_router i s.station && not (n == 0) && not (has_address i s.station s.cable (target l.body))) zero_net
+            ∙ (ap (λ n. is_datagram Ddp && is_unicast to && is_router i s.station && not (n == 0) && not
+            (has_address i s.station s.cable (target l.body))) zero_net
             ∙ last (is_datagram Ddp && is_unicast to && is_router i s.station) (not (has_address i s.station s.cable (target l.body)))))
 
     -- a copy for the router that has this seat

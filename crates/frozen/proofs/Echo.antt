@@ -1,5 +1,5 @@
 -- The echo over three cables is legal, block by block.
-use Rattle.std.proofs.Common.{◌≡◌, ℕ, ◌+◌, ◌<◌, ◌⊎◌, inl, inr, true, false, List, [], ◌∷◌, ◌++◌, Option, Some, None, refl, sym, arith, take, drop, codes}
+use Rattle.std.proofs.Common.{ℕ, inr, false, List, [], ◌∷◌, Option, Some, None, refl, sym, arith, take, drop, codes}
 use Rattle.at_base.specs.declared.address.Addr.{Addr}
 use Rattle.ddp.specs.declared.header.Header.{Header}
 use Rattle.ddp.specs.Datagram.{datagram, unsummed}
@@ -9,10 +9,10 @@ use Rattle.audit.specs.Example.{addr, hardware, three_cables}
 use Rattle.cable_model.specs.declared.entry.Kind.TheVariants.{Ddp}
 use Rattle.cable_model.specs.declared.seat.Seat.{Seat}
 use Rattle.cable_model.specs.Pending.{Pair}
-use Rattle.cable_model.specs.Transcript.{Entry, Frame, Took}
-use Rattle.frozen.specs.Answers.{Answers, Others, IsBody, IsMade, IsOwn, Straight, ByRouter}
+use Rattle.cable_model.specs.Transcript.{Frame, Took}
+use Rattle.frozen.specs.Answers.{Others, IsBody, IsMade, ByRouter}
 use Rattle.frozen.specs.Example.{echo, ping, echo_reply, echo_request}
-use Rattle.frozen.specs.Legal.{IsLegal, Begins, Goes, Block, Sends, Takes}
+use Rattle.frozen.specs.Legal.{IsLegal, Begins, Goes, Sends, Takes}
 use Rattle.frozen.specs.Legs.{Leg, ToStation}
 use Rattle.frozen.specs.Requests.{request}
 use Rattle.frozen.specs.Stations.{group_of}
@@ -118,7 +118,8 @@ replied : IsLegal three_cables (take 10 echo)
 unfolding request datagram
 replied =
     Goes (take 7 echo) (take 3 (drop 7 echo)) arrived
-    (Takes (pair_of (frame 2 2 1 6 (echo_request 8)) (seat 2 3 0 6 (Some (group_of (codes "Blue"))))) (reply_leg ∷ []) (0, omega arith, refl)
+    (Takes (pair_of (frame 2 2 1 6 (echo_request 8)) (seat 2 3 0 6 (Some (group_of (codes "Blue"))))) (reply_leg ∷ [])
+    (0, omega arith, refl)
     (reply_is_made, tt) (Others refl refl (refl, tt)))
 
 passed_back : IsLegal three_cables (take 12 echo)

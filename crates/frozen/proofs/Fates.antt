@@ -1,21 +1,21 @@
 -- What becomes of a copy.
-use Rattle.std.proofs.Common.{◌≡◌, ◌≢◌, ℕ, ◌+◌, ◌<◌, ◌≤◌, ◌⊎◌, inl, inr, Bool, true, false, not, ◌&&◌, ◌||◌, ◌==◌, cond, List, [], ◌∷◌, Option, Some, None}
+use Rattle.std.proofs.Common.{◌≡◌, ◌≢◌, ℕ, ◌+◌, ◌<◌, ◌≤◌, Bool, true, false, not, ◌&&◌, ◌||◌, ◌==◌, cond, [], ◌∷◌, Option, Some, None}
 use Rattle.std.proofs.Common.{length, refl, sym, ap, ◌∙◌, subst, arith, true≢false, ltb-true}
-use Rattle.std.proofs.lemmas.Bool.{and_parts, ne_eqb, not-true}
+use Rattle.std.proofs.lemmas.Bool.{ne_eqb}
 use Rattle.at_base.specs.Address.{same_address}
 use Rattle.at_base.specs.declared.address.Addr.{Addr}
 use Rattle.ddp.specs.Bodies.{body, hops, target}
 use Rattle.table_image.specs.Internet.{Internet}
-use Rattle.audit.specs.Routing.{Hand, Here, On, Nowhere, distance, hand, home, owner}
+use Rattle.audit.specs.Routing.{Here, On, distance, hand, home, owner}
 use Rattle.audit.specs.Rules.{Passes}
-use Rattle.audit.specs.Walks.{Steps, Stops, Goes as GoesBy}
+use Rattle.audit.specs.Walks.{Stops, Goes as GoesBy}
 use Rattle.audit.proofs.WalkSteps.{nowhere, steps}
-use Rattle.cable_model.specs.declared.entry.Cause.TheVariants.{NoRoute, HopLimit}
+use Rattle.cable_model.specs.declared.entry.Cause.TheVariants.{HopLimit}
 use Rattle.cable_model.specs.declared.entry.How.TheVariants as how
 use Rattle.cable_model.specs.Pending.{Pair}
-use Rattle.cable_model.specs.Transcript.{Entry, Reached, Dropped}
+use Rattle.cable_model.specs.Transcript.{Reached, Dropped}
 use Rattle.frozen.specs.Answers.{Goes, Straight, ByRouter, ToThem}
-use Rattle.frozen.specs.Legs.{Leg, Next, ToStation, ToAll, fate, fate_by, final, is_copy, is_datagram, is_unicast, leg, passed}
+use Rattle.frozen.specs.Legs.{Next, ToStation, ToAll, fate, fate_by, final, is_copy, is_datagram, is_unicast, leg, passed}
 use Rattle.frozen.specs.Stations.{cable_holds, has_address, is_on, is_router}
 use Rattle.frozen.proofs.Does.{Does, HopsFine, does_drop, does_reach}
 use Rattle.frozen.proofs.Frames.{Framed, target_inside, whole_inside}
@@ -55,7 +55,8 @@ module _ (i : Internet) (ok : Passes i) (N A : ℕ → Type 0) (stamp : ℕ) (p 
       → Does i N A stamp (body p.frame.bytes)
       (cond (hops p.frame.bytes == 15) (Dropped r HopLimit (body p.frame.bytes) ∷ []) (leg i stamp (passed r p c next)))
   passed_on r c next few seated goes near there to =
-      subst (λ b. Does i N A stamp (body p.frame.bytes) (cond b (Dropped r HopLimit (body p.frame.bytes) ∷ []) (leg i stamp (passed r p c next))))
+      subst (λ b. Does i N A stamp (body p.frame.bytes) (cond b (Dropped r HopLimit (body p.frame.bytes) ∷ [])
+      (leg i stamp (passed r p c next))))
       (sym (ne_eqb (hops p.frame.bytes) 15 (λ e. absurd (omega (arith, e, few)))))
       (leg_does i ok N A stamp (passed r p c next) (whole_inside p.frame.bytes f) (omega (arith, few)) seated goes near there to)
 
@@ -65,7 +66,8 @@ module _ (i : Internet) (ok : Passes i) (N A : ℕ → Type 0) (stamp : ℕ) (p 
   arrived r c few seated at home_is =
       elim ((target p.frame.bytes).node == 0 || has_address i r c (target p.frame.bytes)) as (λ b. Does i N A stamp (body p.frame.bytes)
       (cond b (Reached c r how.Own (body p.frame.bytes) ∷ [])
-      (cond (hops p.frame.bytes == 15) (Dropped r HopLimit (body p.frame.bytes) ∷ []) (leg i stamp (passed r p c (final (target p.frame.bytes))))))) [
+      (cond (hops p.frame.bytes == 15) (Dropped r HopLimit (body p.frame.bytes) ∷ [])
+      (leg i stamp (passed r p c (final (target p.frame.bytes))))))) [
         | true ↦ does_reach i ok N A stamp c r how.Own (body p.frame.bytes) (home_same (Some c) home_is) at
         | false ↦ by ((target p.frame.bytes).node == 255) refl
       ]
@@ -90,7 +92,7 @@ module _ (i : Internet) (ok : Passes i) (N A : ℕ → Type 0) (stamp : ℕ) (p 
           no_other a n apart =
               let it : target p.frame.bytes ≡ a = cc in
               let self : same_address (target (body p.frame.bytes)) a ≡ true =
-                ap (same_address (target (body p.frame.bytes))) (sym (same ∙ it)) ∙ same_address_self (target (body p.frame.bytes)) in
+              ap (same_address (target (body p.frame.bytes))) (sym (same ∙ it)) ∙ same_address_self (target (body p.frame.bytes)) in
               true≢false (sym self ∙ apart)
 
   -- a copy to a listed network
@@ -99,7 +101,8 @@ module _ (i : Internet) (ok : Passes i) (N A : ℕ → Type 0) (stamp : ℕ) (p 
       → ((s d : ℕ) (a : Addr) → hand i p.seat.station (target p.frame.bytes).net ≡ On s d a → N s)
       → Does i N A stamp (body p.frame.bytes) (fate_by i stamp p.seat.station p (hand i p.seat.station (target p.frame.bytes).net))
   listed c copy home_is fine at to =
-      elim (steps i ok p.seat.station (target p.frame.bytes).net c (copy_router i p copy).0 home_is) as (λ _. Does i N A stamp (body p.frame.bytes)
+      elim (steps i ok p.seat.station (target p.frame.bytes).net c (copy_router i p copy).0 home_is) as
+      (λ _. Does i N A stamp (body p.frame.bytes)
       (fate_by i stamp p.seat.station p (hand i p.seat.station (target p.frame.bytes).net))) [
         | Stops here none port ↦
             let far = fine c copy home_is in
@@ -108,12 +111,13 @@ module _ (i : Internet) (ok : Passes i) (N A : ℕ → Type 0) (stamp : ℕ) (p 
         | GoesBy s d a on own less nearer mine its other ↦
             let far = fine c copy home_is in
             subst (λ h. Does i N A stamp (body p.frame.bytes) (fate_by i stamp p.seat.station p h)) (sym on)
-            (passed_on p.seat.station d (ToStation a) (omega (arith, far, nearer)) (port_seated i p.seat.station d mine) (ByRouter a s refl own)
+            (passed_on p.seat.station d (ToStation a) (omega (arith, far, nearer)) (port_seated i p.seat.station d mine)
+            (ByRouter a s refl own)
             (λ b t e n own_b apart h.
             let it : a ≡ b = cc in
             let one : s ≡ t = same_owner d a b s t it own own_b in
             let dist : distance i t (target (body p.frame.bytes)).net ≡ distance i s (target p.frame.bytes).net =
-              ap (λ x. distance i x (target (body p.frame.bytes)).net) (sym one) ∙ ap (λ (x : Addr). distance i s x.net) same in
+            ap (λ x. distance i x (target (body p.frame.bytes)).net) (sym one) ∙ ap (λ (x : Addr). distance i s x.net) same in
             omega (arith, far, nearer, dist))
             (λ h. absurd (other (some_one (home i (target (body p.frame.bytes)).net) d c h (home_same (Some c) home_is))))
             (λ b t n own_b apart.

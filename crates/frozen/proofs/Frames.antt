@@ -1,8 +1,7 @@
 -- A datagram that is handed on: its hop count changes, and nothing else.
-use Rattle.std.proofs.Common.{◌≡◌, ℕ, zero, suc, ◌+◌, ◌*◌, ◌/◌, ◌%◌, ◌<◌, ◌≤◌, List, [], ◌∷◌, ◌++◌, length, take, slice_index, refl, sym, ap, ◌∙◌}
+use Rattle.std.proofs.Common.{◌≡◌, ℕ, zero, suc, ◌+◌, ◌*◌, ◌/◌, ◌%◌, ◌≤◌, List, [], ◌∷◌, take, slice_index, refl, sym, ap, ◌∙◌}
 use Rattle.std.proofs.Common.{subst, arith, append-nil}
-use Rattle.at_base.specs.declared.address.Addr.{Addr}
-use Rattle.at_base.specs.Spelling.{Begins, Spells, bytes_of}
+use Rattle.at_base.specs.Spelling.{Begins, bytes_of}
 use Rattle.at_base.proofs.Readers.{spelled_begins}
 use Rattle.ddp.specs.Bodies.{body, hops, named_length, target, with_hops}
 use Rattle.ddp.specs.Datagram.{Datagram, datagram}

@@ -1,14 +1,12 @@
 -- What a leg does, by how it goes.
-use Rattle.std.proofs.Common.{◌≡◌, ◌≢◌, ℕ, ◌+◌, ◌<◌, ◌≤◌, inl, inr, Bool, true, false, not, ◌&&◌, ◌==◌, cond, List, [], ◌∷◌, Option, Some, None}
-use Rattle.std.proofs.Common.{length, refl, sym, ap, ◌∙◌, subst, arith, true≢false, eqb-true, eq-eqb, lt-ltb, is_some, slice_get}
-use Rattle.std.specs.List.{list_any}
-use Rattle.std.proofs.lemmas.Bool.{and_parts, cases_Bool, cases_eq, false_from_ne_true, ne_eqb}
+use Rattle.std.proofs.Common.{◌≡◌, ℕ, ◌+◌, ◌<◌, ◌≤◌, inl, inr, Bool, true, false, not, ◌&&◌, ◌==◌, cond, [], ◌∷◌, Option, Some, None}
+use Rattle.std.proofs.Common.{length, refl, sym, ap, ◌∙◌, subst, arith, true≢false, eqb-true, eq-eqb, lt-ltb, is_some}
+use Rattle.std.proofs.lemmas.Bool.{and_parts, cases_eq, false_from_ne_true, ne_eqb}
 use Rattle.at_base.specs.Address.{same_address}
 use Rattle.at_base.specs.Range.{is_between}
 use Rattle.at_base.specs.declared.address.Addr.{Addr}
 use Rattle.ddp.specs.Bodies.{target}
 use Rattle.table_image.specs.Internet.{Internet}
-use Rattle.table_image.specs.declared.cable.Cable.{Cable}
 use Rattle.audit.specs.Places.{on}
 use Rattle.audit.specs.Routing.{distance, home, owner}
 use Rattle.audit.specs.Rules.{Passes}
@@ -19,12 +17,10 @@ use Rattle.audit.proofs.WalkFacts.{owner_is}
 use Rattle.audit.proofs.WalkLists.{at_one, find_at}
 use Rattle.cable_model.specs.declared.entry.How.TheVariants as how
 use Rattle.cable_model.specs.declared.entry.Kind.TheVariants.{Ddp}
-use Rattle.cable_model.specs.declared.seat.Seat.{Seat}
-use Rattle.cable_model.specs.Pending.{Pair, is_all, is_group}
-use Rattle.cable_model.specs.Transcript.{Entry}
+use Rattle.cable_model.specs.Pending.{is_all, is_group}
 use Rattle.cable_model.proofs.Counting.{At}
 use Rattle.frozen.specs.Answers.{Goes, Straight, ByRouter, ToThem, OnCable, ToThese}
-use Rattle.frozen.specs.Legs.{Leg, Next, ToStation, ToAll, ToGroup, all_hw, group_hw, is_copy, is_datagram, is_unicast, leg, leg_to, put, reach}
+use Rattle.frozen.specs.Legs.{Leg, ToStation, all_hw, group_hw, is_datagram, leg, leg_to, put, reach}
 use Rattle.frozen.specs.Legs.{to_other, to_target}
 use Rattle.frozen.specs.Stations.{cable_holds, cable_seat, has_address, is_on, is_router}
 use Rattle.frozen.proofs.Does.{Does, copy_is, does_arrive, does_go, does_reach, does_stay, none_alone, none_at_all, frame_to}
@@ -64,7 +60,8 @@ module _ (i : Internet) (ok : Passes i) where
   pub seat_home : (cable : ℕ) (a : Addr) (s : PlaceOf) → SeatThere i cable a s → home i a.net ≡ Some cable
   seat_home cable a s w =
       let g = addressed i ok w.place s w.at in
-      let holds : cable_holds i s.cable s.address.net ≡ true = ap (λ o. on o (λ c. is_between c.start c.end s.address.net)) g.known ∙ g.holds in
+      let holds : cable_holds i s.cable s.address.net ≡ true = ap (λ o. on o (λ c. is_between c.start c.end s.address.net)) g.known
+      ∙ g.holds in
       let there = home_is i ok s.address.net s.cable holds in
       ap (λ (a : Addr). home i a.net) (sym w.address) ∙ (there ∙ ap Some w.cable_is)
 
@@ -72,7 +69,8 @@ module _ (i : Internet) (ok : Passes i) where
   pub has_own : (s : PlaceOf) (k : ℕ) → At (seats i) k s → has_address i s.station s.cable s.address ≡ true
   has_own s k at =
       any_from (λ (t : PlaceOf). t.station == s.station && t.cable == s.cable && same_address s.address t.address) (seats i) k s at
-      (both (s.station == s.station) (s.cable == s.cable) (same_address s.address s.address) (eq-eqb s.station _ refl) (eq-eqb s.cable _ refl) (same_address_self s.address))
+      (both (s.station == s.station) (s.cable == s.cable) (same_address s.address s.address) (eq-eqb s.station _ refl)
+      (eq-eqb s.cable _ refl) (same_address_self s.address))
     where
       both : (a b c : Bool) → a ≡ true → b ≡ true → c ≡ true → (a && b && c) ≡ true
       both true true true e f g = refl
@@ -81,7 +79,8 @@ module _ (i : Internet) (ok : Passes i) where
       both false b c e f g = cc
 
   -- and no other
-  pub has_no_other : (s : PlaceOf) (k : ℕ) (a : Addr) → At (seats i) k s → same_address a s.address ≡ false → has_address i s.station s.cable a ≡ false
+  pub has_no_other : (s : PlaceOf) (k : ℕ) (a : Addr) → At (seats i) k s → same_address a s.address ≡ false
+      → has_address i s.station s.cable a ≡ false
   has_no_other s k a at apart =
       false_from_ne_true (has_address i s.station s.cable a) (λ e.
       let w = any_at (λ (t : PlaceOf). t.station == s.station && t.cable == s.cable && same_address a t.address) (seats i) e in
@@ -100,7 +99,8 @@ module _ (i : Internet) (ok : Passes i) where
 
 module _ (i : Internet) (ok : Passes i) (N A : ℕ → Type 0) where
   -- to the station that it is for
-  to_there : (stamp : ℕ) (l : Leg) (whole : Whole l.body) (few : l.hops ≤ 15) (seated : is_on i l.station l.cable ≡ true) (s : PlaceOf) → SeatThere i l.cable (target l.body) s → A l.cable
+  to_there : (stamp : ℕ) (l : Leg) (whole : Whole l.body) (few : l.hops ≤ 15) (seated : is_on i l.station l.cable ≡ true) (s : PlaceOf)
+      → SeatThere i l.cable (target l.body) s → A l.cable
       → Does i N A stamp l.body (to_target stamp l (Some s))
   to_there stamp l whole few seated s w there =
       does_arrive i ok N A stamp l whole few seated how.Station s.hardware (seat_home i ok l.cable (target l.body) s w) there
@@ -110,7 +110,8 @@ module _ (i : Internet) (ok : Passes i) (N A : ℕ → Type 0) where
       own : has_address i s.station s.cable (target l.body) ≡ true
       own = ap (has_address i s.station s.cable) (sym w.address) ∙ has_own i ok s w.place w.at
 
-      last : (a : Bool) → has_address i s.station s.cable (target l.body) ≡ true → (a && not (has_address i s.station s.cable (target l.body))) ≡ false
+      last : (a : Bool) → has_address i s.station s.cable (target l.body) ≡ true
+          → (a && not (has_address i s.station s.cable (target l.body))) ≡ false
       last a e = ap (λ b. a && not b) e ∙ none a
         where
           none : (a : Bool) → (a && false) ≡ false
@@ -118,14 +119,16 @@ module _ (i : Internet) (ok : Passes i) (N A : ℕ → Type 0) where
           none false = refl
 
   -- to its target, which may not be there
-  straight : (stamp : ℕ) (l : Leg) (whole : Whole l.body) (few : l.hops ≤ 15) (seated : is_on i l.station l.cable ≡ true) → home i (target l.body).net ≡ Some l.cable → A l.cable
+  straight : (stamp : ℕ) (l : Leg) (whole : Whole l.body) (few : l.hops ≤ 15) (seated : is_on i l.station l.cable ≡ true) → home i
+      (target l.body).net ≡ Some l.cable → A l.cable
       → (o : Option PlaceOf) → seat_at i l.cable (target l.body) ≡ o → Does i N A stamp l.body (to_target stamp l o)
   straight stamp l whole few seated home_is there None e = does_reach i ok N A stamp l.cable l.station how.Absent l.body home_is there
   straight stamp l whole few seated home_is there (Some s) e =
       to_there stamp l whole few seated s (seat_there i l.cable (target l.body) s e) there
 
   -- to a router that it isn't for
-  onward : (stamp : ℕ) (l : Leg) (whole : Whole l.body) (few : l.hops ≤ 15) (seated : is_on i l.station l.cable ≡ true) (a : Addr) (s : PlaceOf) → SeatThere i l.cable a s
+  onward : (stamp : ℕ) (l : Leg) (whole : Whole l.body) (few : l.hops ≤ 15) (seated : is_on i l.station l.cable ≡ true) (a : Addr)
+      (s : PlaceOf) → SeatThere i l.cable a s
       → s.station < length i.routers → same_address (target l.body) a ≡ false
       → ((c : ℕ) → home i (target l.body).net ≡ Some c → l.hops + distance i s.station (target l.body).net ≤ 14) → N s.station
       → Does i N A stamp l.body (to_other stamp l (Some s))
@@ -135,8 +138,10 @@ module _ (i : Internet) (ok : Passes i) (N A : ℕ → Type 0) where
         | inr some ↦
             does_go i ok N A stamp l whole few seated w.place s w.at w.cable_is
             (copy_is i ok N A stamp l whole few seated s.hardware (cable_seat i s)
-            ∙ all_true (is_all s.hardware) (is_group s.hardware) (is_router i s.station) ((target l.body).net == 0) (has_address i s.station s.cable (target l.body))
-            (not_all i ok s.hardware (addressed i ok w.place s w.at).single) (not_group i ok s.hardware (addressed i ok w.place s w.at).single)
+            ∙ all_true (is_all s.hardware) (is_group s.hardware) (is_router i s.station) ((target l.body).net == 0)
+            (has_address i s.station s.cable (target l.body))
+            (not_all i ok s.hardware (addressed i ok w.place s w.at).single)
+            (not_group i ok s.hardware (addressed i ok w.place s w.at).single)
             (lt-ltb _ _ router) (ne_eqb _ _ some)
             (has_no_other i ok s w.place (target l.body) w.at (ap (same_address (target l.body)) w.address ∙ apart))) near next
       ]
@@ -158,9 +163,11 @@ module _ (i : Internet) (ok : Passes i) (N A : ℕ → Type 0) where
       → Does i N A stamp l.body (leg i stamp l)
   leg_does stamp l whole few seated (Straight e on) near there next =
       subst (λ n. Does i N A stamp l.body (leg_to i stamp l n)) (sym e)
-      (subst (λ b. Does i N A stamp l.body (cond b (to_target stamp l (seat_at i l.cable (target l.body))) (to_other stamp l (seat_at i l.cable (target l.body)))))
+      (subst (λ b. Does i N A stamp l.body (cond b (to_target stamp l (seat_at i l.cable (target l.body)))
+      (to_other stamp l (seat_at i l.cable (target l.body)))))
       (sym (same_address_self (target l.body)))
-      (straight stamp l whole few seated (home_is i ok (target l.body).net l.cable on) (there (home_is i ok (target l.body).net l.cable on)) (seat_at i l.cable (target l.body)) refl))
+      (straight stamp l whole few seated (home_is i ok (target l.body).net l.cable on)
+      (there (home_is i ok (target l.body).net l.cable on)) (seat_at i l.cable (target l.body)) refl))
   leg_does stamp l whole few seated (ByRouter a r e own) near there next =
       let w = owner_is i l.cable a r own in
       let s = w.0.0 in
@@ -184,7 +191,8 @@ module _ (i : Internet) (ok : Passes i) (N A : ℕ → Type 0) where
   leg_does stamp l whole few seated (ToThem e on) near there next =
       let home_is_there = home_is i ok (target l.body).net l.cable on in
       subst (λ n. Does i N A stamp l.body (leg_to i stamp l n)) (sym e)
-      (subst (λ o. Does i N A stamp l.body (cond (is_some o) (reach how.All l ∷ put stamp l all_hw ∷ []) (put stamp l all_hw ∷ []))) (sym home_is_there)
+      (subst (λ o. Does i N A stamp l.body (cond (is_some o) (reach how.All l ∷ put stamp l all_hw ∷ []) (put stamp l all_hw ∷ [])))
+      (sym home_is_there)
       (does_arrive i ok N A stamp l whole few seated how.All all_hw home_is_there (there home_is_there)
       (none_at_all i ok N A (frame_to i ok N A stamp l whole few seated all_hw) (λ s. refl))))
   leg_does stamp l whole few seated (OnCable e none) near there next =

@@ -1,5 +1,5 @@
 -- The routers that carried a datagram so far, each handing it on to the next.
-use Rattle.std.proofs.Common.{◌≡◌, ℕ, ◌<◌, ◌≤◌, List, [], ◌∷◌, ◌++◌, Some, length, refl, sym, ap, ◌∙◌, arith}
+use Rattle.std.proofs.Common.{◌≡◌, ℕ, ◌<◌, ◌≤◌, List, [], ◌∷◌, ◌++◌, Some, length, refl, ap, ◌∙◌, arith}
 use Rattle.at_base.specs.declared.address.Addr.{Addr}
 use Rattle.table_image.specs.Internet.{Internet}
 use Rattle.audit.specs.Routing.{Here, On, hand, home}

@@ -1,15 +1,14 @@
 -- The invariant of a run: of each body, each that was sent ended once or is under way once.
-use Rattle.std.proofs.Common.{◌≡◌, ◌≢◌, ℕ, ◌+◌, ◌<◌, ◌≤◌, Bool, true, false, not, ◌&&◌, ◌==◌, cond, List, [], ◌∷◌, ◌++◌, Some, None, length}
-use Rattle.std.proofs.Common.{refl, sym, ap, ◌∙◌, subst, arith, true≢false, append_assoc, Contains}
+use Rattle.std.proofs.Common.{◌≡◌, ◌≢◌, ℕ, ◌+◌, ◌<◌, Bool, true, false, not, ◌&&◌, cond, List, [], ◌∷◌, ◌++◌}
+use Rattle.std.proofs.Common.{refl, sym, ap, ◌∙◌, subst, arith, append_assoc}
 use Rattle.std.specs.List.{AllByRecursion as Each}
-use Rattle.std.proofs.lemmas.Bool.{and_left, cases_Bool}
 use Rattle.at_base.specs.Text.{same_bytes}
 use Rattle.ddp.specs.Bodies.{body, target}
 use Rattle.table_image.specs.Internet.{Internet}
 use Rattle.audit.specs.Routing.{hand}
 use Rattle.audit.specs.Rules.{Passes}
 use Rattle.cable_model.specs.Pending.{Pair, pairs, pending, was_ended}
-use Rattle.cable_model.specs.Transcript.{Entry, Sent, Took, AreNumbered, count, is_put, one, stamps}
+use Rattle.cable_model.specs.Transcript.{Entry, Took, AreNumbered, count, is_put, one, stamps}
 use Rattle.cable_model.proofs.Counting.{At, contained_at, count-append, each-append, each_at, each_more, filter_at}
 use Rattle.cable_model.proofs.Pairs.{EndsBelow, EndsNone, below_more, none_below, numbered-append, pairs-append, pending_less, pending_more}
 use Rattle.cable_model.proofs.Pairs.{stamps_below}
@@ -34,7 +33,8 @@ module _ (i : Internet) (ok : Passes i) where
   copies-append : (b : List ℕ) (es fs : List Entry) → copies i b (es ++ fs) ≡ copies i b es + copies i b fs
   unfolding copies
   copies-append b es fs =
-      ap (count (carries i b)) (pairs-append (cable_seats i) es fs) ∙ count-append (carries i b) (pairs (cable_seats i) es) (pairs (cable_seats i) fs)
+      ap (count (carries i b)) (pairs-append (cable_seats i) es fs) ∙ count-append (carries i b) (pairs (cable_seats i) es)
+      (pairs (cable_seats i) fs)
 
   each_pair : (P : Pair → Type 0) (es fs : List Entry) → Each P (pairs (cable_seats i) es) → Each P (pairs (cable_seats i) fs)
       → Each P (pairs (cable_seats i) (es ++ fs))
@@ -94,7 +94,8 @@ module _ (i : Internet) (ok : Passes i) where
   said_keeps stamp (l ∷ ls) made =
       let es = leg i stamp l in
       let fs = said i (stamp + stamps es) ls in
-      let rest = keeps_more stamp l.body es fs (made_does any any stamp l made.0 (λ s. tt) (λ c. tt)) (said_keeps (stamp + stamps es) ls made.1) in
+      let rest = keeps_more stamp l.body es fs (made_does any any stamp l made.0 (λ s. tt) (λ c. tt))
+      (said_keeps (stamp + stamps es) ls made.1) in
       record {
         adds = λ b some. let h = rest.adds b some in omega (arith, h);
         right = (tt, rest.right);
@@ -115,7 +116,8 @@ module _ (i : Internet) (ok : Passes i) where
       by : (b : Bool) → is_copy i p ≡ b → Keeps stamp (owed_by p) (handled i stamp p ls)
       by true e =
           let all = keeps_more stamp (body p.frame.bytes) (fate i stamp p) (said i (stamp + stamps (fate i stamp p)) ls)
-          (fate_does i ok any any stamp p framed e fine (λ c h at. tt) (λ s d a on. tt)) (said_keeps (stamp + stamps (fate i stamp p)) ls made) in
+          (fate_does i ok any any stamp p framed e fine (λ c h at. tt) (λ s d a on. tt))
+          (said_keeps (stamp + stamps (fate i stamp p)) ls made) in
           record {
             adds = λ b some.
                 let h = all.adds b some in
@@ -128,7 +130,8 @@ module _ (i : Internet) (ok : Passes i) where
             numbered = all.numbered;
           }
       by false e =
-          let none : fate i stamp p ≡ [] = ap (λ b. cond b (fate_by i stamp p.seat.station p (hand i p.seat.station (target p.frame.bytes).net)) []) e in
+          let none : fate i stamp p ≡ [] = ap (λ b. cond b (fate_by i stamp p.seat.station p
+          (hand i p.seat.station (target p.frame.bytes).net)) []) e in
           let same : stamp + 0 ≡ stamp = omega arith in
           subst (λ es. Keeps stamp (owed_by p) (es ++ said i (stamp + stamps es) ls)) (sym none)
           (subst (λ n. Keeps stamp (owed_by p) (said i n ls)) (sym same)
@@ -175,7 +178,8 @@ module _ (i : Internet) (ok : Passes i) where
     below =
         let many = count-append is_put t es in
         each-append (EndsBelow (stamps (t ++ es))) t es
-        (each_more (EndsBelow (stamps t)) (EndsBelow (stamps (t ++ es))) t (λ e h. below_more (stamps t) (stamps (t ++ es)) (omega (arith, many)) e h) below)
+        (each_more (EndsBelow (stamps t)) (EndsBelow (stamps (t ++ es))) t
+        (λ e h. below_more (stamps t) (stamps (t ++ es)) (omega (arith, many)) e h) below)
         (each_more EndsNone (EndsBelow (stamps (t ++ es))) es (λ e h. none_below (stamps (t ++ es)) e h) new.ends_none);
     numbered = numbered-append 0 t es numbered (subst (λ n. AreNumbered n es) (omega arith) new.numbered);
   }
@@ -192,7 +196,8 @@ module _ (i : Internet) (ok : Passes i) where
       let w = filter_at (λ q. not (was_ended t q)) (pairs (cable_seats i) t) k p at in
       let framed = each_at (λ q. Framed q.frame.bytes) (pairs (cable_seats i) t) w.0 p w.1 r.framed in
       let fine = each_at (HopsFine i) (pairs (cable_seats i) t) w.0 p w.1 r.hops_left in
-      let stamp = each_at (λ q. q.frame.stamp < 0 + stamps t) (pairs (cable_seats i) t) w.0 p w.1 (stamps_below (cable_seats i) 0 t r.numbered) in
+      let stamp = each_at (λ q. q.frame.stamp < 0 + stamps t) (pairs (cable_seats i) t) w.0 p w.1
+      (stamps_below (cable_seats i) 0 t r.numbered) in
       let less = λ (b : List ℕ). pending_less (cable_seats i) (one_seat i ok) (carries i b) t p k r.numbered at in
       let few : stamps (t ++ took ∷ []) ≡ stamps t = let h = count-append is_put t (took ∷ []) in omega (arith, h) in
       let new = handled_keeps (stamps (t ++ took ∷ [])) p ls framed fine made in

@@ -1,12 +1,11 @@
 -- Who hears what on the cables of an internet that passes.
-use Rattle.std.proofs.Common.{◌≡◌, ℕ, zero, suc, ◌+◌, ◌++◌, ◌<◌, ◌≤◌, ◌%◌, inl, inr, Bool, true, false, not, ◌||◌, ◌&&◌, ◌==◌, if◌then◌else◌, List, [], ◌∷◌, Option, Some, None}
-use Rattle.std.proofs.Common.{length, filter, map, take, refl, sym, ap, ◌∙◌, subst, arith, slice_get, slice_index, eqb-true, eq-eqb, true≢false, nat_lt}
+use Rattle.std.proofs.Common.{◌≡◌, ℕ, zero, suc, ◌+◌, ◌++◌, ◌≤◌, ◌%◌, Bool, true, false, not, ◌||◌, ◌&&◌, ◌==◌, if◌then◌else◌, List, []}
+use Rattle.std.proofs.Common.{◌∷◌, Option, Some, None}
+use Rattle.std.proofs.Common.{length, map, take, refl, sym, ap, ◌∙◌, subst, arith, slice_get, slice_index, eqb-true, eq-eqb, true≢false}
 use Rattle.std.specs.List.{list_any}
-use Rattle.std.proofs.lemmas.Bool.{and_parts, cases_Bool, false_from_ne_true, not-false}
-use Rattle.at_base.specs.Address.{same_address}
+use Rattle.std.proofs.lemmas.Bool.{and_parts, false_from_ne_true}
 use Rattle.at_base.specs.Range.{is_between}
 use Rattle.at_base.specs.Text.{same_bytes}
-use Rattle.at_base.specs.declared.address.Addr.{Addr}
 use Rattle.at_base.specs.declared.address.Hw.{Hw}
 use Rattle.at_base.proofs.Texts.{same_bytes_is, same_bytes_self}
 use Rattle.table_image.specs.Internet.{Internet}
@@ -15,18 +14,18 @@ use Rattle.table_image.specs.declared.port.Port.{Port}
 use Rattle.table_image.specs.declared.router.Router.{Router}
 use Rattle.audit.specs.Places.{on}
 use Rattle.audit.specs.Routing.{home}
-use Rattle.audit.specs.Rules.{same_hardware, Passes}
+use Rattle.audit.specs.Rules.{Passes}
 use Rattle.audit.specs.Seats.{Seat as PlaceOf, node_seats, port_seat, router_seats, seats}
 use Rattle.audit.specs.Walks.{HasPort}
 use Rattle.audit.proofs.Finding.{any_from}
 use Rattle.audit.proofs.SeatUnique.{addressed, unique}
 use Rattle.audit.proofs.WalkFacts.{between_is}
-use Rattle.audit.proofs.WalkLists.{find_at, index_at, index_found, at_one}
+use Rattle.audit.proofs.WalkLists.{index_at, index_found}
 use Rattle.audit.proofs.WalkSteps.{cable_good, one_cable}
 use Rattle.cable_model.specs.declared.seat.Seat.{Seat}
-use Rattle.cable_model.specs.Pending.{Pair, is_all, is_for, is_group, is_heard, listens, pairs_of}
+use Rattle.cable_model.specs.Pending.{is_all, is_for, is_group, is_heard, listens, pairs_of}
 use Rattle.cable_model.specs.Transcript.{Frame, Put, count}
-use Rattle.cable_model.proofs.Counting.{At, any-append, count-map, count_le, count_one, filter_one, map_at}
+use Rattle.cable_model.proofs.Counting.{At, any-append, count-map, count_one, filter_one, map_at}
 use Rattle.frozen.specs.Stations.{cable_holds, cable_seat, cable_seats, is_on}
 
 -- ---- Homes
@@ -134,7 +133,8 @@ module _ (i : Internet) (ok : Passes i) where
   -- whom a frame to a single hardware address is for
   pub for_one : (to : Hw) (sender : ℕ) (s : Seat) → is_all to ≡ false → is_group to ≡ false → is_for to sender s ≡ same_bytes s.hw.0 to.0
   for_one to sender s all group =
-      ap (λ b. if b then not (s.station == sender) else if is_group to then not (s.station == sender) && listens (slice_index to.0 5) s.group else same_bytes s.hw.0 to.0) all
+      ap (λ b. if b then not (s.station == sender) else if is_group to then not (s.station == sender) && listens
+      (slice_index to.0 5) s.group else same_bytes s.hw.0 to.0) all
       ∙ ap (λ b. if b then not (s.station == sender) && listens (slice_index to.0 5) s.group else same_bytes s.hw.0 to.0) group
 
   -- a frame to the hardware address of a seat on its cable is heard there alone
@@ -151,7 +151,8 @@ module _ (i : Internet) (ok : Passes i) where
       is_mine t = ap (λ b. t.cable == f.cable && b) (for_one f.to f.sender t (not_all f.to single) (not_group f.to single))
 
       mine : is_heard f (cable_seat i s) ≡ true
-      mine = is_mine (cable_seat i s) ∙ (ap (λ b. b && same_bytes s.hardware.0 f.to.0) (eq-eqb _ _ cable) ∙ (ap (λ bytes. same_bytes bytes f.to.0) hw ∙ same_bytes_self f.to.0))
+      mine = is_mine (cable_seat i s) ∙ (ap (λ b. b && same_bytes s.hardware.0 f.to.0) (eq-eqb _ _ cable)
+          ∙ (ap (λ bytes. same_bytes bytes f.to.0) hw ∙ same_bytes_self f.to.0))
 
       few : count (is_heard f) (cable_seats i) ≤ 1
       few =
@@ -160,5 +161,6 @@ module _ (i : Internet) (ok : Passes i) where
           let x = and_parts (a.cable == f.cable) (same_bytes a.hardware.0 f.to.0) (sym (is_mine (cable_seat i a)) ∙ pa) in
           let y = and_parts (b.cable == f.cable) (same_bytes b.hardware.0 f.to.0) (sym (is_mine (cable_seat i b)) ∙ pb) in
           let same : a.hardware.0 ≡ b.hardware.0 = same_bytes_is _ _ x.1 ∙ sym (same_bytes_is _ _ y.1) in
-          (unique i ok).by_hardware j l a b ej el (eqb-true _ _ x.0 ∙ sym (eqb-true _ _ y.0)) (ap (λ bytes. same_bytes bytes b.hardware.0) same ∙ same_bytes_self b.hardware.0)) in
+          (unique i ok).by_hardware j l a b ej el (eqb-true _ _ x.0 ∙ sym (eqb-true _ _ y.0))
+          (ap (λ bytes. same_bytes bytes b.hardware.0) same ∙ same_bytes_self b.hardware.0)) in
           omega (arith, moved, one)

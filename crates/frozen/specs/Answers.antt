@@ -10,7 +10,7 @@ use Rattle.ddp.specs.Datagram.{Datagram, datagram}
 use Rattle.table_image.specs.Internet.{Internet}
 use Rattle.audit.specs.Routing.{Hand, Here, On, Nowhere, hand, home, owner}
 use Rattle.cable_model.specs.Pending.{Pair}
-use Rattle.frozen.specs.Legs.{Leg, Next, ToStation, ToAll, ToGroup, is_copy, is_unicast}
+use Rattle.frozen.specs.Legs.{Leg, ToStation, ToAll, ToGroup, is_copy, is_unicast}
 use Rattle.frozen.specs.Requests.{request, is_broadcast, is_forward, is_lookup, key_in, listing, zone_of}
 use Rattle.frozen.specs.Stations.{cable_holds, group_of, has_address, is_on, is_router}
 

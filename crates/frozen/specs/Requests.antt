@@ -5,7 +5,7 @@ use Rattle.at_base.specs.Packets.{packets}
 use Rattle.at_base.specs.Reading.{read}
 use Rattle.at_base.specs.Text.{is_name, same_name}
 use Rattle.ddp.specs.Datagram.{Datagram, datagram}
-use Rattle.nbp.specs.declared.packet.Function.TheVariants.{BroadcastRequest, Lookup, Reply, ForwardRequest}
+use Rattle.nbp.specs.declared.packet.Function.TheVariants.{BroadcastRequest, Lookup, ForwardRequest}
 use Rattle.nbp.specs.declared.packet.Function.{Function}
 use Rattle.nbp.specs.declared.tuple.Tuple.{Tuple}
 use Rattle.nbp.specs.Packets.{NbpPacket, packet, key, tuple}

@@ -2,3 +2,5 @@
 #![tactic(auto)]
 
 mod laws;
+
+pub use laws::{carriage, conservation, hops_left, the_echo_is_legal};
