@@ -91,7 +91,7 @@ module _ (i : Internet) where
     of_carried frames [] h = tt
     of_carried frames (Reached c s how b ∷ es) h =
         (subst (λ x. IsChain i (target x).net c now) (sym h.0.0) h.0.1, of_carried frames es h.1)
-    of_carried frames (Put f ∷ es) h = (h.0, of_carried (frames ++ now ∷ []) es h.1)
+    of_carried frames (Put f ∷ es) h = (h.0.0, of_carried (frames ++ now ∷ []) es h.1)
     of_carried frames (Dropped r cause b ∷ es) h = (tt, of_carried frames es h.1)
     of_carried frames (Sent s b ∷ es) h = absurd h.0
     of_carried frames (Took p s ∷ es) h = absurd h.0

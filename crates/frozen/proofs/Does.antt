@@ -48,10 +48,10 @@ HopsFine i p =
     (c : ℕ) → is_copy i p ≡ true → home i (target p.frame.bytes).net ≡ Some c
     → hops p.frame.bytes + distance i p.seat.station (target p.frame.bytes).net ≤ 14
 
--- Entries of one datagram: it reached a cable of which A holds, or a station put it on a cable where it is.
+-- An entry of one datagram: it reached a cable of which A holds, or a station put it on a cable where it is.
 abbrev pub IsOf : Internet → (ℕ → Type 0) → List ℕ → Entry → Type 0
 IsOf i A d (Reached cable station how b) = (b ≡ d) × A cable
-IsOf i A d (Put f) = is_on i f.sender f.cable ≡ true
+IsOf i A d (Put f) = (is_on i f.sender f.cable ≡ true) × (body f.bytes ≡ d) × (f.kind ≡ Ddp)
 IsOf i A d (Dropped router cause b) = Unit {0}
 IsOf i A d _ = ⊥
 
@@ -187,7 +187,7 @@ module _ (i : Internet) (ok : Passes i) (N A : ℕ → Type 0) where
       hops_left = no_hops (frame_to to) none;
       framed = is_framed to;
       goes_to = no_next (frame_to to) l.body none;
-      of = ((refl, there), (seated, tt));
+      of = ((refl, there), ((seated, frame_body, refl), tt));
       ends_none = (tt, (tt, tt));
       numbered = (tt, ((omega arith), tt));
     }
@@ -205,7 +205,7 @@ module _ (i : Internet) (ok : Passes i) (N A : ℕ → Type 0) where
       hops_left = no_hops (frame_to to) none;
       framed = is_framed to;
       goes_to = no_next (frame_to to) l.body none;
-      of = (seated, tt);
+      of = ((seated, frame_body, refl), tt);
       ends_none = (tt, tt);
       numbered = (refl, tt);
     }
@@ -239,7 +239,7 @@ module _ (i : Internet) (ok : Passes i) (N A : ℕ → Type 0) where
       hops_left = subst (Each (HopsFine i)) (sym alone) ((λ c is home_is. fine c home_is), tt);
       framed = is_framed s.hardware;
       goes_to = subst (Each (IsNext i N l.body)) (sym alone) ((λ is. (next, target_stays l.hops few l.body)), tt);
-      of = (seated, tt);
+      of = ((seated, frame_body, refl), tt);
       ends_none = (tt, tt);
       numbered = (refl, tt);
     }

@@ -8,3 +8,7 @@ pub mod Runs
 pub mod Conserved
 pub mod Paths
 pub mod Carried
+pub mod Listing
+pub mod Requested
+pub mod Tallies
+pub mod Passing

@@ -19,13 +19,16 @@ use Rattle.frozen.specs.Stations.{cable_seats, is_router}
 abbrev pub is_routers : Internet → Addr → Bool
 is_routers i a = list_any (λ s. is_router i s.station && same_address a s.address) (seats i)
 
--- A broadcast request with this key: to a router's address, or to any router of a listed network.
-abbrev pub asks : Internet → List ℕ → List ℕ → Bool
-asks i k b =
-    is_broadcast (request b) && same_bytes k (key_in (request b))
-    && (is_routers i (target b) || ((target b).node == 0 && is_some (home i (target b).net)))
+-- a broadcast request to a router's address, or to any router of a listed network
+abbrev pub is_request : Internet → List ℕ → Bool
+is_request i b =
+    is_broadcast (request b) && (is_routers i (target b) || ((target b).node == 0 && is_some (home i (target b).net)))
 
--- the entry says that one was sent
+-- one with this key
+abbrev pub asks : Internet → List ℕ → List ℕ → Bool
+asks i k b = is_request i b && same_bytes k (key_in (request b))
+
+-- the entry says that one with this key was sent
 abbrev pub is_asked : Internet → List ℕ → Entry → Bool
 is_asked i k (Sent station b) = asks i k b
 is_asked i k _ = false
@@ -34,14 +37,14 @@ is_asked i k _ = false
 abbrev pub waits : Internet → List ℕ → Pair → Bool
 waits i k p = is_unicast p.frame.to && asks i k (body p.frame.bytes)
 
--- the pair is one that ended where it was taken
-abbrev pub is_taken : Internet → List ℕ → List Entry → Pair → Bool
-is_taken i k t p = was_ended t p && waits i k p && ends_at i p
+-- the pair is one that ends where it is taken
+abbrev pub ends_so : Internet → List ℕ → Pair → Bool
+ends_so i k p = waits i k p && ends_at i p
 
 -- the entry is a router's lookup with this key on the cable
 abbrev pub looks : Internet → List ℕ → ℕ → Entry → Bool
 looks i k c (Put f) =
-    f.cable == c && is_router i f.sender && is_lookup (request (body f.bytes)) && same_bytes k (key_in (request (body f.bytes)))
+    f.cable == c && (is_router i f.sender && (is_lookup (request (body f.bytes)) && same_bytes k (key_in (request (body f.bytes)))))
 looks i k c _ = false
 
 -- this cable is home
@@ -49,11 +52,13 @@ abbrev pub is_home : Option ℕ → ℕ → Bool
 is_home None c = false
 is_home (Some d) c = d == c
 
--- the pair is a copy of a forward request with this key, for the cable
+-- a forward request with this key, for the cable
+abbrev pub seeks : Internet → List ℕ → ℕ → List ℕ → Bool
+seeks i k c b = is_forward (request b) && (same_bytes k (key_in (request b)) && is_home (home i (target b).net) c)
+
+-- the pair is a copy of one
 abbrev pub forwarded : Internet → List ℕ → ℕ → Pair → Bool
-forwarded i k c p =
-    is_copy i p && is_forward (request (body p.frame.bytes)) && same_bytes k (key_in (request (body p.frame.bytes)))
-    && is_home (home i (target p.frame.bytes).net) c
+forwarded i k c p = is_copy i p && seeks i k c (body p.frame.bytes)
 
 abbrev pub asked : Internet → List ℕ → List Entry → ℕ
 asked i k t = count (is_asked i k) t
@@ -62,7 +67,7 @@ abbrev pub waiting : Internet → List ℕ → List Entry → ℕ
 waiting i k t = count (waits i k) (pending (cable_seats i) t)
 
 abbrev pub taken : Internet → List ℕ → List Entry → ℕ
-taken i k t = count (is_taken i k t) (pairs (cable_seats i) t)
+taken i k t = count (λ p. was_ended t p && ends_so i k p) (pairs (cable_seats i) t)
 
 abbrev pub lookups : Internet → List ℕ → ℕ → List Entry → ℕ
 lookups i k c t = count (looks i k c) t

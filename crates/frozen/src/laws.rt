@@ -11,6 +11,7 @@ ghost use Rattle.frozen.specs.Counts.{HasHopsLeft, IsConserved};
 ghost use Rattle.frozen.specs.Counts.{reached, sent, under_way};
 ghost use Rattle.frozen.specs.Example.{echo, echo_reply, echo_request};
 ghost use Rattle.frozen.specs.Legal.{IsLegal};
+ghost use Rattle.frozen.specs.Lookups.{IsLookedUp};
 
 /// Conservation: each datagram to a listed network is under way once or has reached its
 /// destination's cable once, and no other; each to a network that is neither listed nor 0 is under
@@ -29,6 +30,14 @@ pub fn hops_left()
 /// 15, over cables that they share. This project's own.
 pub fn carriage()
     ensures { (i : Internet) (t : List Entry) → Passes i → IsLegal i t → AreCarried i none_yet t }
+{}
+
+/// Lookups exactly where the zone is listed: for each broadcast request that was taken, each cable
+/// that lists its zone has had one lookup, or a forward request to it is under way, and no other
+/// cable has had one; and each that was asked was taken or is still to be taken. This project's own.
+pub fn lookups()
+    ensures { (i : Internet) (t : List Entry) (k : List ℕ)
+        → Passes i → IsLegal i t → IsLookedUp i t k }
 {}
 
 /// The echo over three cables is legal, and each of its two datagrams has reached its destination's
