@@ -12,3 +12,6 @@ pub mod Listing
 pub mod Requested
 pub mod Tallies
 pub mod Passing
+pub mod FateCounts
+pub mod Goods
+pub mod LookedUp

@@ -1,6 +1,5 @@
 use Rattle.frozen.proofs.laws.lookups.Goals as goal
-use Rattle.frozen.proofs.Passing.{goes_on}
-use Rattle.frozen.proofs.Carried.{are_carried}
+use Rattle.frozen.proofs.LookedUp.{are_looked_up}
 
 pub returns : goal.returns
-returns c = ?
+returns c = are_looked_up
