@@ -1,27 +1,25 @@
 -- The pairs of legs and fates keep to what every pair of a run does.
-use Rattle.std.proofs.Common.{◌≡◌, ◌≢◌, ℕ, ◌+◌, ◌%◌, ◌<◌, ◌≤◌, Bool, true, false, not, ◌&&◌, ◌==◌, cond, List, [], ◌∷◌, ◌++◌, Option, Some, None}
-use Rattle.std.proofs.Common.{length, inl, inr, refl, sym, ap, ◌∙◌, subst, arith, true≢false, lt-ltb, append-nil, filter, map, nat_lt}
+use Rattle.std.proofs.Common.{◌≡◌, ℕ, ◌+◌, ◌<◌, Bool, true, false, not, ◌&&◌, cond, List, [], ◌∷◌}
+use Rattle.std.proofs.Common.{inl, inr, refl, sym, ap, ◌∙◌, subst, arith, true≢false, lt-ltb}
 use Rattle.std.specs.List.{AllByRecursion as Each}
-use Rattle.std.proofs.lemmas.Bool.{and_left, and_right, cases_Bool}
-use Rattle.at_base.specs.Text.{same_bytes}
+use Rattle.std.proofs.lemmas.Bool.{and_left}
 use Rattle.at_base.specs.declared.address.Addr.{Addr}
-use Rattle.ddp.specs.Bodies.{body, hops, target, with_hops}
+use Rattle.ddp.specs.Bodies.{body, target, with_hops}
 use Rattle.table_image.specs.Internet.{Internet}
 use Rattle.audit.specs.Routing.{hand}
 use Rattle.audit.specs.Rules.{Passes}
-use Rattle.cable_model.specs.declared.entry.Kind.{Kind}
 use Rattle.cable_model.specs.declared.entry.Kind.TheVariants.{Ddp}
 use Rattle.cable_model.specs.declared.seat.Seat.{Seat}
-use Rattle.cable_model.specs.Pending.{Pair, is_all, is_group, pairs, pairs_of}
-use Rattle.cable_model.specs.Transcript.{Entry, Frame, Sent, Put, count, one, stamps}
+use Rattle.cable_model.specs.Pending.{Pair, is_all, pairs, pairs_of}
+use Rattle.cable_model.specs.Transcript.{Entry, count, one, stamps}
 use Rattle.cable_model.proofs.Counting.{each-append, each_all, each_map, each_more}
 use Rattle.cable_model.proofs.Pairs.{pairs-append}
-use Rattle.frozen.specs.Answers.{AreMade, AreOther, Expands, IsForward, IsLookup, IsMade, IsOwn, ends_at}
+use Rattle.frozen.specs.Answers.{AreMade, AreOther, Expands, IsLookup, IsMade, IsOwn, ends_at}
 use Rattle.frozen.specs.Legal.{said}
-use Rattle.frozen.specs.Legs.{Leg, ToStation, ToGroup, fate, fate_by, group_hw, is_copy, is_datagram, is_unicast, leg, leg_to, put}
+use Rattle.frozen.specs.Legs.{Leg, fate, fate_by, group_hw, is_copy, is_datagram, is_unicast, leg, leg_to, put}
 use Rattle.frozen.specs.Lookups.{asks, is_request, waits}
-use Rattle.frozen.specs.Requests.{is_broadcast, is_forward, is_lookup, key_in, request, zone_of}
-use Rattle.frozen.specs.Stations.{cable_seat, cable_seats, group_of}
+use Rattle.frozen.specs.Requests.{is_forward, is_lookup, request, zone_of}
+use Rattle.frozen.specs.Stations.{cable_seats, group_of}
 use Rattle.frozen.proofs.Does.{Does, HopsFine, IsOf}
 use Rattle.frozen.proofs.FateCounts.{pair_good}
 use Rattle.frozen.proofs.Fates.{fate_does}
@@ -54,7 +52,8 @@ module _ (i : Internet) (ok : Passes i) where
       each_more (λ p. ((body p.frame.bytes ≡ d) × (p.frame.kind ≡ Ddp)) × Framed p.frame.bytes) (PairOk i) (pairs (cable_seats i) es)
       (λ p h. record {
         asker = λ u b. absurd (true≢false (sym b ∙ (ap (is_request i) h.0.0 ∙ req)));
-        seeker = λ q. ap (λ (a : Addr). a.node) (sym (target_inside p.frame.bytes h.1)) ∙ (ap (λ x. (target x).node) h.0.0 ∙ seek (sym (ap (λ x. is_forward (request x)) h.0.0) ∙ q));
+        seeker = λ q. ap (λ (a : Addr). a.node) (sym (target_inside p.frame.bytes h.1))
+            ∙ (ap (λ x. (target x).node) h.0.0 ∙ seek (sym (ap (λ x. is_forward (request x)) h.0.0) ∙ q));
         looker = λ q. absurd (true≢false (sym q ∙ (ap (λ x. is_lookup (request x)) h.0.0 ∙ look)));
         kind = ap is_datagram h.0.1;
       })
@@ -81,7 +80,8 @@ module _ (i : Internet) (ok : Passes i) where
   leg_does_any : (stamp : ℕ) (l : Leg) → IsMade i l → Does i any any stamp l.body (leg i stamp l)
   leg_does_any stamp l made = made_does i ok any any stamp l made (λ s. tt) (λ c. tt)
 
-  leg_good : (stamp : ℕ) (l : Leg) → IsMade i l → is_request i l.body ≡ false → (is_forward (request l.body) ≡ true → (target l.body).node ≡ 0)
+  leg_good : (stamp : ℕ) (l : Leg) → IsMade i l → is_request i l.body ≡ false
+      → (is_forward (request l.body) ≡ true → (target l.body).node ≡ 0)
       → is_lookup (request l.body) ≡ false → Each (PairOk i) (pairs (cable_seats i) (leg i stamp l))
   leg_good stamp l made req seek look =
       of_good l.body (leg i stamp l) (leg_of i ok stamp l made) (leg_does_any stamp l made).framed req seek look
@@ -125,14 +125,16 @@ module _ (i : Internet) (ok : Passes i) where
       let g = group_of (zone_of key) in
       let to = group_is g (omega arith) in
       let does = leg_does_any stamp l made in
-      each_more (λ p. ((body p.frame.bytes ≡ l.body) × (p.frame.kind ≡ Ddp)) × (p.frame.to ≡ group_hw g)) (PairOk i) (pairs (cable_seats i) (leg i stamp l))
+      each_more (λ p. ((body p.frame.bytes ≡ l.body) × (p.frame.kind ≡ Ddp)) × (p.frame.to ≡ group_hw g)) (PairOk i)
+      (pairs (cable_seats i) (leg i stamp l))
       (λ p x. record {
         asker = λ u b. absurd (true≢false (sym b ∙ (ap (is_request i) x.0.0 ∙ no_request i l.body alone.0)));
         seeker = λ q. absurd (true≢false (sym q ∙ (ap (λ z. is_forward (request z)) x.0.0 ∙ alone.1)));
         looker = λ q. ap is_unicast x.1 ∙ to;
         kind = ap is_datagram x.0.1;
       })
-      (each_both (λ p. (body p.frame.bytes ≡ l.body) × (p.frame.kind ≡ Ddp)) (λ p. p.frame.to ≡ group_hw g) (pairs (cable_seats i) (leg i stamp l))
+      (each_both (λ p. (body p.frame.bytes ≡ l.body) × (p.frame.kind ≡ Ddp)) (λ p. p.frame.to ≡ group_hw g)
+      (pairs (cable_seats i) (leg i stamp l))
       (each_both (λ p. body p.frame.bytes ≡ l.body) (λ p. p.frame.kind ≡ Ddp) (pairs (cable_seats i) (leg i stamp l))
       (of_bodies i any l.body (leg i stamp l) does.of) (of_kinds i any l.body (leg i stamp l) does.of))
       (subst (λ n. Each (λ p. p.frame.to ≡ group_hw g) (pairs (cable_seats i) (leg_to i stamp l n))) (sym h.next)
@@ -143,10 +145,12 @@ module _ (i : Internet) (ok : Passes i) where
       }) _ (each_all _ _ (λ s. refl))) tt)))
 
   said_one : (stamp : ℕ) (l : Leg) (ls : List Leg) → Each (PairOk i) (pairs (cable_seats i) (leg i stamp l))
-      → Each (PairOk i) (pairs (cable_seats i) (said i (stamp + stamps (leg i stamp l)) ls)) → Each (PairOk i) (pairs (cable_seats i) (said i stamp (l ∷ ls)))
+      → Each (PairOk i) (pairs (cable_seats i) (said i (stamp + stamps (leg i stamp l)) ls)) → Each (PairOk i)
+      (pairs (cable_seats i) (said i stamp (l ∷ ls)))
   said_one stamp l ls a b =
       subst (Each (PairOk i)) (sym (pairs-append (cable_seats i) (leg i stamp l) (said i (stamp + stamps (leg i stamp l)) ls)))
-      (each-append (PairOk i) (pairs (cable_seats i) (leg i stamp l)) (pairs (cable_seats i) (said i (stamp + stamps (leg i stamp l)) ls)) a b)
+      (each-append (PairOk i) (pairs (cable_seats i) (leg i stamp l)) (pairs (cable_seats i)
+      (said i (stamp + stamps (leg i stamp l)) ls)) a b)
 
   pub expanded_good : (stamp : ℕ) (key : List ℕ) (r : ℕ) (cs : List ℕ) (ls : List Leg) → AreMade i ls → Expands i key r cs ls
       → Each (PairOk i) (pairs (cable_seats i) (said i stamp ls))
@@ -177,7 +181,8 @@ module _ (i : Internet) (ok : Passes i) where
 
   -- ---- Fates
 
-  fate_framed : (stamp : ℕ) (p : Pair) → Framed p.frame.bytes → HopsFine i p → Each (λ q. Framed q.frame.bytes) (pairs (cable_seats i) (fate i stamp p))
+  fate_framed : (stamp : ℕ) (p : Pair) → Framed p.frame.bytes → HopsFine i p → Each (λ q. Framed q.frame.bytes)
+      (pairs (cable_seats i) (fate i stamp p))
   fate_framed stamp p f fine = by (is_copy i p) refl
     where
       by : (b : Bool) → is_copy i p ≡ b → Each (λ q. Framed q.frame.bytes) (pairs (cable_seats i) (fate i stamp p))
@@ -186,7 +191,8 @@ module _ (i : Internet) (ok : Passes i) where
           subst (λ b. Each (λ q. Framed q.frame.bytes) (pairs (cable_seats i)
           (cond b (fate_by i stamp p.seat.station p (hand i p.seat.station (target p.frame.bytes).net)) []))) (sym e) tt
 
-  pub fate_good : (stamp : ℕ) (p : Pair) → Framed p.frame.bytes → PairOk i p → HopsFine i p → Each (PairOk i) (pairs (cable_seats i) (fate i stamp p))
+  pub fate_good : (stamp : ℕ) (p : Pair) → Framed p.frame.bytes → PairOk i p → HopsFine i p → Each (PairOk i)
+      (pairs (cable_seats i) (fate i stamp p))
   fate_good stamp p f good fine = by_unicast (is_unicast p.frame.to) refl
     where
       by_end : (b : Bool) → ends_at i p ≡ b → is_unicast p.frame.to ≡ true → is_lookup (request (body p.frame.bytes)) ≡ false

@@ -14,4 +14,5 @@ pub mod Tallies
 pub mod Passing
 pub mod FateCounts
 pub mod Goods
+pub mod Answering
 pub mod LookedUp

@@ -1,5 +1,5 @@
 -- Kinds of requests, and the listing of a zone.
-use Rattle.std.proofs.Common.{◌≡◌, ℕ, zero, suc, ◌+◌, ◌<◌, Bool, true, false, not, ◌&&◌, ◌||◌, ◌==◌, cond, List, [], ◌∷◌, Option, Some, None}
+use Rattle.std.proofs.Common.{◌≡◌, ℕ, suc, ◌<◌, Bool, true, false, not, ◌&&◌, ◌||◌, ◌==◌, cond, List, [], ◌∷◌, Option, Some, None}
 use Rattle.std.proofs.Common.{refl, sym, ap, ◌∙◌, subst, arith, eq-eqb, inl, inr}
 use Rattle.std.specs.List.{list_any}
 use Rattle.std.proofs.lemmas.Bool.{and_left, cases_eq, ne_eqb}
@@ -65,7 +65,8 @@ not_among : (z : List ℕ) (c k : ℕ) (cs : List Cable) → c < k → NotAmong 
 not_among z c k [] lt = tt
 not_among z c k (d ∷ ds) lt = by (has_zone z d.zones) (not_among z c (suc k) ds (omega arith))
   where
-    by : (b : Bool) → NotAmong c (listing_from (suc k) z ds) → NotAmong c (cond b (k ∷ listing_from (suc k) z ds) (listing_from (suc k) z ds))
+    by : (b : Bool) → NotAmong c (listing_from (suc k) z ds) → NotAmong c
+        (cond b (k ∷ listing_from (suc k) z ds) (listing_from (suc k) z ds))
     by true others = ((λ same. omega arith), others)
     by false others = others
 
@@ -73,7 +74,8 @@ differ_from : (z : List ℕ) (k : ℕ) (cs : List Cable) → AreDifferent (listi
 differ_from z k [] = tt
 differ_from z k (d ∷ ds) = by (has_zone z d.zones) (differ_from z (suc k) ds)
   where
-    by : (b : Bool) → AreDifferent (listing_from (suc k) z ds) → AreDifferent (cond b (k ∷ listing_from (suc k) z ds) (listing_from (suc k) z ds))
+    by : (b : Bool) → AreDifferent (listing_from (suc k) z ds) → AreDifferent
+        (cond b (k ∷ listing_from (suc k) z ds) (listing_from (suc k) z ds))
     by true others = (not_among z k (suc k) ds (omega arith), others)
     by false others = others
 

@@ -1,42 +1,38 @@
 -- Requests that a router passes on.
-use Rattle.std.proofs.Common.{◌≡◌, ◌≢◌, ℕ, zero, suc, ◌+◌, ◌<◌, ◌≤◌, Bool, true, false, not, ◌&&◌, ◌||◌, ◌==◌, cond, List, [], ◌∷◌, ◌++◌, Option}
-use Rattle.std.proofs.Common.{Some, None, length, inl, inr, refl, sym, ap, ◌∙◌, subst, arith, eq-eqb, eqb-true, true≢false, lt-ltb, ltb-true, is_some}
-use Rattle.std.specs.List.{list_any, AllByRecursion as Each}
-use Rattle.std.proofs.lemmas.Bool.{and_left, and_parts, and_right, cases_Bool, ne_eqb, or_cases, or_parts}
+use Rattle.std.proofs.Common.{◌≡◌, ◌≢◌, ℕ, ◌<◌, ◌≤◌, Bool, true, false, not, ◌&&◌, ◌||◌, ◌==◌, cond, List, [], ◌∷◌}
+use Rattle.std.proofs.Common.{Some, length, inl, inr, refl, sym, ap, ◌∙◌, subst, arith, eq-eqb, true≢false, lt-ltb, ltb-true, is_some}
+use Rattle.std.specs.List.{AllByRecursion as Each}
+use Rattle.std.proofs.lemmas.Bool.{and_parts, ne_eqb, or_cases, or_parts}
 use Rattle.at_base.specs.Address.{same_address}
-use Rattle.at_base.specs.Text.{same_bytes}
 use Rattle.at_base.specs.declared.address.Addr.{Addr}
 use Rattle.ddp.specs.Bodies.{body, hops, target}
 use Rattle.table_image.specs.Internet.{Internet}
-use Rattle.audit.specs.Routing.{Hand, Here, On, Nowhere, hand, home, owner}
+use Rattle.audit.specs.Routing.{Here, hand, home}
 use Rattle.audit.specs.Rules.{Passes}
 use Rattle.audit.specs.Seats.{Seat as PlaceOf, seat_at, seats}
-use Rattle.audit.specs.Walks.{Steps, Stops, Goes as GoesBy}
+use Rattle.audit.specs.Walks.{Stops, Goes as GoesBy}
 use Rattle.audit.proofs.Finding.{any_at, any_from}
 use Rattle.audit.proofs.SeatUnique.{addressed, unique}
 use Rattle.audit.proofs.WalkFacts.{some_of}
 use Rattle.audit.proofs.WalkLists.{at_one, find_found}
-use Rattle.audit.proofs.WalkSteps.{nowhere, steps}
+use Rattle.audit.proofs.WalkSteps.{steps}
 use Rattle.cable_model.specs.declared.entry.Cause.TheVariants.{HopLimit}
 use Rattle.cable_model.specs.declared.entry.How.TheVariants as how
-use Rattle.cable_model.specs.declared.entry.Kind.{Kind}
-use Rattle.cable_model.specs.declared.entry.Kind.TheVariants.{Ddp}
 use Rattle.cable_model.specs.Pending.{Pair, pairs}
-use Rattle.cable_model.specs.Transcript.{Entry, Reached, Dropped, count, one}
-use Rattle.cable_model.proofs.Counting.{At, each_more}
+use Rattle.cable_model.specs.Transcript.{Reached, Dropped}
+use Rattle.cable_model.proofs.Counting.{At}
 use Rattle.frozen.specs.Answers.{ends_at, keeps_by}
-use Rattle.frozen.specs.Legs.{Leg, Next, ToStation, ToAll, fate, fate_by, final, is_copy, is_datagram, is_unicast, leg, passed}
-use Rattle.frozen.specs.Lookups.{asks, forwarded, is_asked, is_home, is_request, is_routers, looks, seeks, waits}
-use Rattle.frozen.specs.Requests.{is_broadcast, is_forward, is_lookup, key_in, request}
-use Rattle.frozen.specs.Stations.{cable_seat, cable_seats, has_address, is_router}
-use Rattle.frozen.proofs.Does.{Does, HopsFine, IsOf}
+use Rattle.frozen.specs.Legs.{ToStation, ToAll, fate, fate_by, final, is_copy, is_datagram, is_unicast, leg, passed}
+use Rattle.frozen.specs.Lookups.{is_request, is_routers}
+use Rattle.frozen.specs.Requests.{is_broadcast, is_forward, is_lookup, request}
+use Rattle.frozen.specs.Stations.{cable_seats, has_address, is_router}
+use Rattle.frozen.proofs.Does.{HopsFine, IsOf}
 use Rattle.frozen.proofs.Fates.{fate_does}
-use Rattle.frozen.proofs.Frames.{Framed, Whole, target_inside, whole_inside}
-use Rattle.frozen.proofs.Legs.{SeatThere, same_address_is, same_address_self, seat_home, seat_there}
-use Rattle.frozen.proofs.Requested.{OnePair, kept_none, of_no_lookup, of_none, of_unasked, to_seat, via_one}
+use Rattle.frozen.proofs.Frames.{Framed, target_inside, whole_inside}
+use Rattle.frozen.proofs.Legs.{same_address_is, same_address_self, seat_home, seat_there}
+use Rattle.frozen.proofs.Requested.{OnePair, kept_none, to_seat, via_one}
 use Rattle.frozen.proofs.Runs.{any}
 use Rattle.frozen.proofs.Seated.{listed_some}
-use Rattle.frozen.proofs.Tallies.{and_swap, forward_pair}
 
 -- ---- Parts of tests
 
@@ -50,7 +46,7 @@ pub record CopyParts (i : Internet) (p : Pair) : Type 0 where
 pub copy_parts : (i : Internet) (p : Pair) → is_copy i p ≡ true → CopyParts i p
 copy_parts i p e =
     let h = parts (is_datagram p.frame.kind) (is_unicast p.frame.to) (is_router i p.seat.station) ((target p.frame.bytes).net == 0)
-      (has_address i p.seat.station p.seat.cable (target p.frame.bytes)) e in
+    (has_address i p.seat.station p.seat.cable (target p.frame.bytes)) e in
     record {
       unicast = h.0;
       router = ltb-true _ _ h.1;
@@ -66,7 +62,8 @@ copy_parts i p e =
     parts true false r z h e = cc
     parts false u r z h e = cc
 
-pub copy_when : (i : Internet) (p : Pair) → is_datagram p.frame.kind ≡ true → is_unicast p.frame.to ≡ true → is_router i p.seat.station ≡ true
+pub copy_when : (i : Internet) (p : Pair) → is_datagram p.frame.kind ≡ true → is_unicast p.frame.to ≡ true
+    → is_router i p.seat.station ≡ true
     → (target p.frame.bytes).net ≢ 0 → has_address i p.seat.station p.seat.cable (target p.frame.bytes) ≡ false → is_copy i p ≡ true
 copy_when i p ek eu er some eh =
     all (is_datagram p.frame.kind) (is_unicast p.frame.to) (is_router i p.seat.station) ((target p.frame.bytes).net == 0)
@@ -149,8 +146,10 @@ module _ (i : Internet) (ok : Passes i) where
   -- the target of a request is listed
   pub request_home : (d : List ℕ) → is_request i d ≡ true → (c : ℕ) × (home i (target d).net ≡ Some c)
   request_home d e =
-      let h = and_parts (is_broadcast (request d)) (is_routers i (target d) || ((target d).node == 0 && is_some (home i (target d).net))) e in
-      elim (or_cases (is_routers i (target d)) ((target d).node == 0 && is_some (home i (target d).net)) h.1) as (λ _. (c : ℕ) × (home i (target d).net ≡ Some c)) [
+      let h = and_parts (is_broadcast (request d)) (is_routers i (target d) ||
+      ((target d).node == 0 && is_some (home i (target d).net))) e in
+      elim (or_cases (is_routers i (target d)) ((target d).node == 0 && is_some (home i (target d).net)) h.1) as
+      (λ _. (c : ℕ) × (home i (target d).net ≡ Some c)) [
         | inl a ↦ let u = router_seat (target d) a in (u.seat.cable, u.home_is)
         | inr b ↦ some_of (home i (target d).net) (and_parts ((target d).node == 0) (is_some (home i (target d).net)) b).1
       ]
@@ -164,8 +163,10 @@ module _ (i : Internet) (ok : Passes i) where
   -- one that isn't for any router is for a router's address
   only_router : (d : List ℕ) → is_request i d ≡ true → ((target d).node == 0) ≡ false → is_routers i (target d) ≡ true
   only_router d e node =
-      let h = and_parts (is_broadcast (request d)) (is_routers i (target d) || ((target d).node == 0 && is_some (home i (target d).net))) e in
-      elim (or_cases (is_routers i (target d)) ((target d).node == 0 && is_some (home i (target d).net)) h.1) as (λ _. is_routers i (target d) ≡ true) [
+      let h = and_parts (is_broadcast (request d)) (is_routers i (target d) ||
+      ((target d).node == 0 && is_some (home i (target d).net))) e in
+      elim (or_cases (is_routers i (target d)) ((target d).node == 0 && is_some (home i (target d).net)) h.1) as
+      (λ _. is_routers i (target d) ≡ true) [
         | inl a ↦ a
         | inr b ↦ absurd (true≢false (sym (and_parts ((target d).node == 0) (is_some (home i (target d).net)) b).0 ∙ node))
       ]
@@ -177,12 +178,12 @@ module _ (i : Internet) (ok : Passes i) where
       let u = router_seat a e in
       let here : u.seat.cable ≡ c = some_same u.seat.cable c (sym u.home_is ∙ h) in
       let passes : (u.seat.cable == c && same_address u.seat.address a) ≡ true =
-        ap (λ b. b && same_address u.seat.address a) (eq-eqb _ _ here) ∙ (ap (λ x. same_address x a) u.address ∙ same_address_self a) in
+      ap (λ b. b && same_address u.seat.address a) (eq-eqb _ _ here) ∙ (ap (λ x. same_address x a) u.address ∙ same_address_self a) in
       let w = find_found (λ s. s.cable == c && same_address s.address a) (seats i)
-        (any_from (λ (s : PlaceOf). s.cable == c && same_address s.address a) (seats i) u.place u.seat u.at passes) in
+      (any_from (λ (s : PlaceOf). s.cable == c && same_address s.address a) (seats i) u.place u.seat u.at passes) in
       let f = seat_there i c a w.0 w.1 in
       let alike : same_address w.0.address u.seat.address ≡ true =
-        ap (λ x. same_address x u.seat.address) (f.address ∙ sym u.address) ∙ same_address_self u.seat.address in
+      ap (λ x. same_address x u.seat.address) (f.address ∙ sym u.address) ∙ same_address_self u.seat.address in
       let same : f.place ≡ u.place = (unique i ok).by_address f.place u.place w.0 u.seat f.at u.at alike in
       let one_seat : w.0 ≡ u.seat = at_one (seats i) u.place w.0 u.seat (subst (λ n. At (seats i) n w.0) same f.at) u.at in
       (w.0, w.1, subst (λ (s : PlaceOf). s.station < length i.routers) (sym one_seat) u.router)
@@ -198,21 +199,23 @@ module _ (i : Internet) (ok : Passes i) where
 
     -- on the cable of the router that it is for, it goes to that router
     at_home : (st c : ℕ) → keeps_by i st (target p.frame.bytes) (Here c) ≡ false → is_request i (body p.frame.bytes) ≡ true
-        → home i (target p.frame.bytes).net ≡ Some c → hops p.frame.bytes ≤ 14 → OnePair i (body p.frame.bytes) (fate_by i stamp st p (Here c))
+        → home i (target p.frame.bytes).net ≡ Some c → hops p.frame.bytes ≤ 14 → OnePair i (body p.frame.bytes)
+        (fate_by i stamp st p (Here c))
     at_home st c not_kept req home_is few =
         let node : ((target p.frame.bytes).node == 0) ≡ false =
-          (or_parts ((target p.frame.bytes).node == 0) (has_address i st c (target p.frame.bytes)) not_kept).0 in
+        (or_parts ((target p.frame.bytes).node == 0) (has_address i st c (target p.frame.bytes)) not_kept).0 in
         let router : is_routers i (target p.frame.bytes) ≡ true =
-          ap (is_routers i) (sym same) ∙ only_router (body p.frame.bytes) req (ap (λ (a : Addr). a.node == 0) same ∙ node) in
+        ap (is_routers i) (sym same) ∙ only_router (body p.frame.bytes) req (ap (λ (a : Addr). a.node == 0) same ∙ node) in
         let u = router_seat (target p.frame.bytes) router in
         let w = router_found (target p.frame.bytes) c router home_is in
         let high = (addressed i ok u.place u.seat u.at).high in
         let same_node : (target p.frame.bytes).node ≡ u.seat.address.node = ap (λ (a : Addr). a.node) (sym u.address) in
         let not_all : ((target p.frame.bytes).node == 255) ≡ false = ne_eqb _ _ (λ e. absurd (omega (arith, e, high, same_node))) in
         let next : final (target p.frame.bytes) ≡ ToStation (target p.frame.bytes) =
-          ap (λ b. cond b ToAll (ToStation (target p.frame.bytes))) not_all in
+        ap (λ b. cond b ToAll (ToStation (target p.frame.bytes))) not_all in
         subst (λ b. OnePair i (body p.frame.bytes) (cond b (Reached c st how.Own (body p.frame.bytes) ∷ [])
-        (cond (hops p.frame.bytes == 15) (Dropped st HopLimit (body p.frame.bytes) ∷ []) (leg i stamp (passed st p c (final (target p.frame.bytes))))))) (sym not_kept)
+        (cond (hops p.frame.bytes == 15) (Dropped st HopLimit (body p.frame.bytes) ∷ [])
+        (leg i stamp (passed st p c (final (target p.frame.bytes))))))) (sym not_kept)
         (subst (λ b. OnePair i (body p.frame.bytes)
         (cond b (Dropped st HopLimit (body p.frame.bytes) ∷ []) (leg i stamp (passed st p c (final (target p.frame.bytes))))))
         (sym (ne_eqb (hops p.frame.bytes) 15 (λ e. absurd (omega (arith, e, few)))))
@@ -227,11 +230,12 @@ module _ (i : Internet) (ok : Passes i) where
         let listed = request_home (body p.frame.bytes) req in
         let home_is : home i (target p.frame.bytes).net ≡ Some listed.0 = ap (λ (a : Addr). home i a.net) (sym same) ∙ listed.1 in
         let inner = or_parts (has_address i p.seat.station p.seat.cable (target p.frame.bytes)) (is_copy i p && keeps i p)
-          (sym (ends_is i p u router) ∙ never) in
+        (sym (ends_is i p u router) ∙ never) in
         let copy = copy_when i p good.kind u (lt-ltb _ _ router) some inner.0 in
         let not_kept : keeps i p ≡ false = sym (copy_end i p copy) ∙ never in
         let few = fine listed.0 copy home_is in
-        subst (λ b. OnePair i (body p.frame.bytes) (cond b (fate_by i stamp p.seat.station p (hand i p.seat.station (target p.frame.bytes).net)) [])) (sym copy)
+        subst (λ b. OnePair i (body p.frame.bytes) (cond b (fate_by i stamp p.seat.station p
+        (hand i p.seat.station (target p.frame.bytes).net)) [])) (sym copy)
         (elim (steps i ok p.seat.station (target p.frame.bytes).net listed.0 router home_is) as (λ _. OnePair i (body p.frame.bytes)
         (fate_by i stamp p.seat.station p (hand i p.seat.station (target p.frame.bytes).net))) [
           | Stops here none port ↦
@@ -243,7 +247,8 @@ module _ (i : Internet) (ok : Passes i) where
               (subst (λ b. OnePair i (body p.frame.bytes)
               (cond b (Dropped p.seat.station HopLimit (body p.frame.bytes) ∷ []) (leg i stamp (passed p.seat.station p d (ToStation a)))))
               (sym (ne_eqb (hops p.frame.bytes) 15 (λ e. absurd (omega (arith, e, few)))))
-              (via_one i ok stamp (passed p.seat.station p d (ToStation a)) a s (whole_inside p.frame.bytes f) (omega (arith, few, nearer)) refl own))
+              (via_one i ok stamp (passed p.seat.station p d (ToStation a)) a s (whole_inside p.frame.bytes f)
+              (omega (arith, few, nearer)) refl own))
         ])
 
     -- ---- The fate of what was taken
@@ -263,10 +268,12 @@ module _ (i : Internet) (ok : Passes i) where
       where
         by : (b : Bool) → is_copy i p ≡ b → pairs (cable_seats i) (fate i stamp p) ≡ []
         by true y =
-            ap (λ b. pairs (cable_seats i) (cond b (fate_by i stamp p.seat.station p (hand i p.seat.station (target p.frame.bytes).net)) [])) y
+            ap (λ b. pairs (cable_seats i) (cond b (fate_by i stamp p.seat.station p
+            (hand i p.seat.station (target p.frame.bytes).net)) [])) y
             ∙ kept_none i ok stamp p.seat.station p (hand i p.seat.station (target p.frame.bytes).net) (sym (copy_end i p y) ∙ e)
         by false y =
-            ap (λ b. pairs (cable_seats i) (cond b (fate_by i stamp p.seat.station p (hand i p.seat.station (target p.frame.bytes).net)) [])) y
+            ap (λ b. pairs (cable_seats i) (cond b (fate_by i stamp p.seat.station p
+            (hand i p.seat.station (target p.frame.bytes).net)) [])) y
 
     -- and nothing of what isn't for one station
     pub not_unicast : is_unicast p.frame.to ≡ false → fate i stamp p ≡ []

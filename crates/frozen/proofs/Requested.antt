@@ -1,14 +1,13 @@
 -- Which pairs a leg makes, and what no leg of another datagram does.
-use Rattle.std.proofs.Common.{◌≡◌, ◌≢◌, ℕ, zero, suc, ◌+◌, ◌<◌, ◌≤◌, Bool, true, false, not, ◌&&◌, ◌||◌, ◌==◌, cond, List, [], ◌∷◌, ◌++◌, Option}
-use Rattle.std.proofs.Common.{Some, None, length, filter, map, refl, sym, ap, ◌∙◌, subst, arith, append-nil, slice_get, lt-ltb}
-use Rattle.std.specs.List.{list_any, AllByRecursion as Each}
+use Rattle.std.proofs.Common.{◌≡◌, ℕ, zero, suc, ◌<◌, ◌≤◌, Bool, true, false, not, ◌&&◌, ◌==◌, cond, List, [], ◌∷◌, ◌++◌}
+use Rattle.std.proofs.Common.{Some, length, filter, map, refl, sym, ap, ◌∙◌, subst, arith, append-nil}
+use Rattle.std.specs.List.{AllByRecursion as Each}
 use Rattle.std.proofs.lemmas.Bool.{and_left, and_right}
 use Rattle.at_base.specs.Address.{same_address}
-use Rattle.at_base.specs.Text.{same_bytes}
 use Rattle.at_base.specs.declared.address.Addr.{Addr}
 use Rattle.ddp.specs.Bodies.{body, hops, target, with_hops}
 use Rattle.table_image.specs.Internet.{Internet}
-use Rattle.audit.specs.Routing.{Hand, Here, On, Nowhere, hand, home, owner}
+use Rattle.audit.specs.Routing.{Hand, Here, On, Nowhere, owner}
 use Rattle.audit.specs.Rules.{Passes}
 use Rattle.audit.specs.Seats.{Seat as PlaceOf, seat_at, seats}
 use Rattle.audit.proofs.SeatUnique.{addressed}
@@ -21,10 +20,10 @@ use Rattle.cable_model.specs.Pending.{Pair, is_all, is_group, is_heard, pairs, p
 use Rattle.cable_model.specs.Transcript.{Entry, Frame, Sent, Put, Took, Reached, Dropped, Lost, count, one}
 use Rattle.cable_model.proofs.Counting.{At, count_none, each-append, each_all, each_map, each_more}
 use Rattle.frozen.specs.Answers.{keeps_by}
-use Rattle.frozen.specs.Legs.{Leg, Next, ToStation, ToAll, ToGroup, fate, fate_by, final, is_copy, is_unicast, leg, leg_to, passed, put, reach, to_other, to_target}
-use Rattle.frozen.specs.Lookups.{asks, is_asked, looks}
-use Rattle.frozen.specs.Requests.{request, is_lookup, key_in}
-use Rattle.frozen.specs.Stations.{cable_seat, cable_seats, has_address, is_router}
+use Rattle.frozen.specs.Legs.{Leg, ToStation, fate_by, final, is_unicast, leg, leg_to, passed, to_other, to_target}
+use Rattle.frozen.specs.Lookups.{is_asked, looks}
+use Rattle.frozen.specs.Requests.{request, is_lookup}
+use Rattle.frozen.specs.Stations.{cable_seat, cable_seats, is_router}
 use Rattle.frozen.proofs.Does.{IsOf}
 use Rattle.frozen.proofs.Frames.{Whole, body_stays, target_stays}
 use Rattle.frozen.proofs.Legs.{SeatThere, seat_there}
@@ -70,7 +69,8 @@ module _ (i : Internet) where
     of_bodies [] h = tt
     of_bodies (Put f ∷ es) h =
         each-append (λ p. body p.frame.bytes ≡ d) (pairs_of (cable_seats i) (Put f)) (pairs (cable_seats i) es)
-        (each_map (λ p. body p.frame.bytes ≡ d) (λ (s : Seat). record { frame = f; seat = s }) _ (each_all _ _ (λ s. h.0.1))) (of_bodies es h.1)
+        (each_map (λ p. body p.frame.bytes ≡ d) (λ (s : Seat). record { frame = f; seat = s }) _ (each_all _ _ (λ s. h.0.1)))
+        (of_bodies es h.1)
     of_bodies (Reached c s w b ∷ es) h = of_bodies es h.1
     of_bodies (Dropped r c b ∷ es) h = of_bodies es h.1
     of_bodies (Sent s b ∷ es) h = absurd h.0
@@ -93,7 +93,8 @@ module _ (i : Internet) where
     pub of_none : (f : Pair → Bool) (es : List Entry) → Each (IsOf i A d) es → ((p : Pair) → body p.frame.bytes ≡ d → f p ≡ false)
         → count f (pairs (cable_seats i) es) ≡ 0
     of_none f es h never =
-        count_none f (pairs (cable_seats i) es) (each_more (λ p. body p.frame.bytes ≡ d) (λ p. f p ≡ false) (pairs (cable_seats i) es) never (of_bodies es h))
+        count_none f (pairs (cable_seats i) es) (each_more (λ p. body p.frame.bytes ≡ d) (λ p. f p ≡ false)
+        (pairs (cable_seats i) es) never (of_bodies es h))
 
     pub of_unasked : (k : List ℕ) (es : List Entry) → Each (IsOf i A d) es → count (is_asked i k) es ≡ 0
     of_unasked k [] h = refl
@@ -105,12 +106,14 @@ module _ (i : Internet) where
     of_unasked k (Lost p ∷ es) h = absurd h.0
 
     -- what is no lookup makes none
-    pub of_no_lookup : (k : List ℕ) (c : ℕ) (es : List Entry) → is_lookup (request d) ≡ false → Each (IsOf i A d) es → count (looks i k c) es ≡ 0
+    pub of_no_lookup : (k : List ℕ) (c : ℕ) (es : List Entry) → is_lookup (request d) ≡ false → Each (IsOf i A d) es → count
+        (looks i k c) es ≡ 0
     of_no_lookup k c [] e h = refl
     of_no_lookup k c (Put f ∷ es) e h =
         let rest = of_no_lookup k c es e h.1 in
         let none : looks i k c (Put f) ≡ false =
-          and_right (f.cable == c) _ (and_right (is_router i f.sender) _ (and_left (is_lookup (request (body f.bytes))) _ (ap (λ b. is_lookup (request b)) h.0.1 ∙ e))) in
+        and_right (f.cable == c) _ (and_right (is_router i f.sender) _
+        (and_left (is_lookup (request (body f.bytes))) _ (ap (λ b. is_lookup (request b)) h.0.1 ∙ e))) in
         let value = ap one none in
         omega (arith, rest, value)
     of_no_lookup k c (Reached a s w b ∷ es) e h = let rest = of_no_lookup k c es e h.1 in omega (arith, rest)
@@ -136,7 +139,8 @@ module _ (i : Internet) where
 
   module _ (ok : Passes i) where
     -- a leg to a seat that is there
-    pub to_seat : (stamp : ℕ) (l : Leg) (a : Addr) (s : PlaceOf) → Whole l.body → l.hops ≤ 15 → l.next ≡ ToStation a → seat_at i l.cable a ≡ Some s
+    pub to_seat : (stamp : ℕ) (l : Leg) (a : Addr) (s : PlaceOf) → Whole l.body → l.hops ≤ 15 → l.next ≡ ToStation a
+        → seat_at i l.cable a ≡ Some s
         → s.station < length i.routers → OnePair l.body (leg i stamp l)
     to_seat stamp l a s whole few next e router = record {
       frame = f;
@@ -186,4 +190,5 @@ module _ (i : Internet) where
     kept_none stamp r p (On s c a) e = cc
     kept_none stamp r p (Here c) e =
         ap (λ b. pairs (cable_seats i) (cond b (Reached c r how.Own (body p.frame.bytes) ∷ [])
-        (cond (hops p.frame.bytes == 15) (Dropped r HopLimit (body p.frame.bytes) ∷ []) (leg i stamp (passed r p c (final (target p.frame.bytes))))))) e
+        (cond (hops p.frame.bytes == 15) (Dropped r HopLimit (body p.frame.bytes) ∷ [])
+        (leg i stamp (passed r p c (final (target p.frame.bytes))))))) e

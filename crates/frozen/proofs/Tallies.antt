@@ -1,6 +1,6 @@
 -- The lookups and forward requests that answers make, counted.
-use Rattle.std.proofs.Common.{◌≡◌, ◌≢◌, ℕ, zero, suc, ◌+◌, ◌<◌, ◌≤◌, Bool, true, false, not, ◌&&◌, ◌||◌, ◌==◌, List, [], ◌∷◌, ◌++◌, Option, Some, None}
-use Rattle.std.proofs.Common.{length, inl, inr, refl, sym, ap, ◌∙◌, subst, arith, eq-eqb, true≢false, lt-ltb, nat_lt}
+use Rattle.std.proofs.Common.{◌≡◌, ◌≢◌, ℕ, ◌+◌, ◌<◌, Bool, true, false, not, ◌&&◌, ◌==◌, List, [], ◌∷◌, ◌++◌, Some}
+use Rattle.std.proofs.Common.{length, inl, inr, refl, sym, ap, ◌∙◌, subst, arith, lt-ltb}
 use Rattle.std.specs.List.{AllByRecursion as Each}
 use Rattle.std.proofs.lemmas.Bool.{and_left, and_right, ne_eqb}
 use Rattle.at_base.specs.Address.{same_address}
@@ -10,25 +10,25 @@ use Rattle.ddp.specs.Bodies.{body, target, with_hops}
 use Rattle.table_image.specs.Internet.{Internet}
 use Rattle.audit.specs.Routing.{Here, On, hand, home, owner}
 use Rattle.audit.specs.Rules.{Passes}
-use Rattle.audit.specs.Walks.{Steps, Stops, Goes as GoesBy}
+use Rattle.audit.specs.Walks.{Stops, Goes as GoesBy}
 use Rattle.audit.proofs.SeatUnique.{addressed}
 use Rattle.audit.proofs.WalkSteps.{steps}
 use Rattle.cable_model.specs.declared.entry.Kind.{Kind}
 use Rattle.cable_model.specs.declared.entry.Kind.TheVariants.{Ddp}
 use Rattle.cable_model.specs.Pending.{Pair, pairs}
-use Rattle.cable_model.specs.Transcript.{Entry, Sent, Put, count, one, stamps}
+use Rattle.cable_model.specs.Transcript.{Entry, Sent, count, one, stamps}
 use Rattle.cable_model.proofs.Counting.{count-append}
 use Rattle.cable_model.proofs.Pairs.{pairs-append}
 use Rattle.frozen.specs.Answers.{AreMade, AreOther, Expands, IsForward, IsLookup, IsMade}
 use Rattle.frozen.specs.Legal.{said}
-use Rattle.frozen.specs.Legs.{Leg, ToStation, is_copy, is_datagram, is_unicast, leg, leg_to}
-use Rattle.frozen.specs.Lookups.{asks, forwarded, is_asked, is_home, is_request, looks, seeks, waits}
+use Rattle.frozen.specs.Legs.{Leg, is_copy, is_datagram, is_unicast, leg, leg_to}
+use Rattle.frozen.specs.Lookups.{forwarded, is_asked, is_home, is_request, looks, seeks, waits}
 use Rattle.frozen.specs.Requests.{is_broadcast, is_forward, is_lookup, key_in, request}
 use Rattle.frozen.specs.Stations.{cable_seat, cable_seats, has_address, is_router}
-use Rattle.frozen.proofs.Does.{Does, IsOf}
-use Rattle.frozen.proofs.Frames.{Whole, body_stays, whole}
+use Rattle.frozen.proofs.Does.{IsOf}
+use Rattle.frozen.proofs.Frames.{body_stays, whole}
 use Rattle.frozen.proofs.Legs.{has_no_other}
-use Rattle.frozen.proofs.Listing.{broadcast_alone, forward_alone, lookup_alone, other_alone}
+use Rattle.frozen.proofs.Listing.{forward_alone, lookup_alone, other_alone}
 use Rattle.frozen.proofs.Requested.{OnePair, of_no_lookup, of_none, of_unasked, via_one}
 use Rattle.frozen.proofs.Runs.{any, made_does}
 use Rattle.frozen.proofs.Seated.{listed_some}
@@ -118,15 +118,16 @@ module _ (i : Internet) where
         let none = no_request l.body alone.0 in
         let fresh = made.fresh in
         let inside = body_stays l.hops (omega (arith, fresh)) l.body ∙ (whole l.body made.whole).same in
-        let value : (l.cable == c && (is_router i l.station && (is_lookup (request (body (with_hops l.hops l.body))) && same_bytes k (key_in (request (body (with_hops l.hops l.body))))))) ≡ (d == c && same_bytes k key) =
-          ap (λ b. l.cable == c && (is_router i l.station && (is_lookup (request b) && same_bytes k (key_in (request b))))) inside
-          ∙ (ap (λ x. x == c && (is_router i l.station && (is_lookup (request l.body) && same_bytes k (key_in (request l.body))))) h.here
-          ∙ (ap (λ x. d == c && (is_router i x && (is_lookup (request l.body) && same_bytes k (key_in (request l.body))))) h.by
-          ∙ (ap (λ x. d == c && (x && (is_lookup (request l.body) && same_bytes k (key_in (request l.body))))) (lt-ltb _ _ within)
-          ∙ (ap (λ x. d == c && (x && same_bytes k (key_in (request l.body)))) h.kind
-          ∙ ap (λ x. d == c && same_bytes k x) h.key)))) in
+        let value : (l.cable == c && (is_router i l.station && (is_lookup (request (body (with_hops l.hops l.body))) && same_bytes k
+        (key_in (request (body (with_hops l.hops l.body))))))) ≡ (d == c && same_bytes k key) =
+        ap (λ b. l.cable == c && (is_router i l.station && (is_lookup (request b) && same_bytes k (key_in (request b))))) inside
+        ∙ (ap (λ x. x == c && (is_router i l.station && (is_lookup (request l.body) && same_bytes k (key_in (request l.body))))) h.here
+        ∙ (ap (λ x. d == c && (is_router i x && (is_lookup (request l.body) && same_bytes k (key_in (request l.body))))) h.by
+        ∙ (ap (λ x. d == c && (x && (is_lookup (request l.body) && same_bytes k (key_in (request l.body))))) (lt-ltb _ _ within)
+        ∙ (ap (λ x. d == c && (x && same_bytes k (key_in (request l.body)))) h.kind
+        ∙ ap (λ x. d == c && same_bytes k x) h.key)))) in
         let looked : count (looks i k c) (leg i stamp l) ≡ one (d == c && same_bytes k key) =
-          ap (λ n. count (looks i k c) (leg_to i stamp l n)) h.next ∙ (let v = ap one value in omega (arith, v)) in
+        ap (λ n. count (looks i k c) (leg_to i stamp l n)) h.next ∙ (let v = ap one value in omega (arith, v)) in
         record {
           found = let y = forwarded_none any l.body (leg i stamp l) of k c alone.1 in omega (arith, looked, y);
           unasked = of_unasked i any l.body k (leg i stamp l) of;
@@ -134,7 +135,8 @@ module _ (i : Internet) where
         }
 
     -- whether the pair of a frame to a router is a copy
-    pub copy_one : (d : List ℕ) (es : List Entry) → (o : OnePair i d es) → (target d).net ≢ 0 → same_address (target d) o.seat.address ≡ false
+    pub copy_one : (d : List ℕ) (es : List Entry) → (o : OnePair i d es) → (target d).net ≢ 0 → same_address
+        (target d) o.seat.address ≡ false
         → is_copy i (record { frame = o.frame; seat = cable_seat i o.seat }) ≡ true
     copy_one d es o some apart =
         all_true o.frame.kind (is_unicast o.frame.to) (is_router i o.seat.station) ((target o.frame.bytes).net == 0)
@@ -159,13 +161,15 @@ module _ (i : Internet) where
         let some : (target d).net ≢ 0 = λ z. absurd (omega (arith, low, z)) in
         let g = (addressed i ok o.place o.seat o.at).low in
         let apart : same_address (target d) o.seat.address ≡ false =
-          and_right ((target d).net == o.seat.address.net) _ (ap (λ n. n == o.seat.address.node) node ∙ ne_eqb _ _ (λ z. absurd (omega (arith, g, z)))) in
+        and_right ((target d).net == o.seat.address.net) _ (ap (λ n. n == o.seat.address.node) node ∙ ne_eqb _ _
+        (λ z. absurd (omega (arith, g, z)))) in
         let copy = copy_one d es o some apart in
-        let value : forwarded i k c (record { frame = o.frame; seat = cable_seat i o.seat }) ≡ (e == c && same_bytes k (key_in (request d))) =
-          ap (λ x. x && seeks i k c (body o.frame.bytes)) copy
-          ∙ (ap (seeks i k c) o.same
-          ∙ (ap (λ x. x && (same_bytes k (key_in (request d)) && is_home (home i (target d).net) c)) kind
-          ∙ (ap (λ x. same_bytes k (key_in (request d)) && is_home x c) h ∙ and_swap (same_bytes k (key_in (request d))) (e == c)))) in
+        let value : forwarded i k c (record { frame = o.frame; seat = cable_seat i o.seat }) ≡
+        (e == c && same_bytes k (key_in (request d))) =
+        ap (λ x. x && seeks i k c (body o.frame.bytes)) copy
+        ∙ (ap (seeks i k c) o.same
+        ∙ (ap (λ x. x && (same_bytes k (key_in (request d)) && is_home (home i (target d).net) c)) kind
+        ∙ (ap (λ x. same_bytes k (key_in (request d)) && is_home x c) h ∙ and_swap (same_bytes k (key_in (request d))) (e == c)))) in
         ap (count (forwarded i k c)) o.only ∙ (let v = ap one value in omega (arith, v))
 
     -- who hands a datagram to a listed network on hands it to the owner of the address
