@@ -1,9 +1,10 @@
 -- Where the cables stand in order and the stations are addressed, no two seats share an address, and no two on one cable
 -- share a hardware address.
-use Rattle.std.proofs.Common.{◌≡◌, ℕ, suc, ◌<◌, inl, inr, Bool, true, false, ◌||◌, ◌&&◌, List, Option, Some, None, length, take, refl, sym}
+use Rattle.std.proofs.Common.{◌≡◌, ℕ, zero, suc, ◌≤◌, ◌<◌, inl, inr, Bool, true, false, ◌||◌, ◌&&◌, List, Option, Some, None, length}
+use Rattle.std.proofs.Common.{take, refl, sym}
 use Rattle.std.proofs.Common.{ap, ◌∙◌, subst, arith, slice_get, ◌==◌, eqb-true, eq-eqb, true≢false}
 use Rattle.std.specs.List.{list_any}
-use Rattle.std.proofs.lemmas.Bool.{or_parts, and_parts, not-false, cases_order}
+use Rattle.std.proofs.lemmas.Bool.{or_parts, and_parts, not-false, cases_order, ltb-false}
 use Rattle.at_base.specs.Text.{same_bytes}
 use Rattle.at_base.proofs.Texts.{same_bytes_is, same_bytes_self}
 use Rattle.at_base.specs.declared.address.Addr.{Addr}
@@ -11,7 +12,7 @@ use Rattle.at_base.specs.declared.address.Hw.{Hw}
 use Rattle.at_base.specs.declared.error.Place.TheVariants as place
 use Rattle.table_image.specs.Internet.{Internet}
 use Rattle.audit.specs.Places.{on}
-use Rattle.audit.specs.Seats.{Seat}
+use Rattle.audit.specs.Seats.{Seat, seats}
 use Rattle.at_base.specs.Address.{same_address}
 use Rattle.at_base.specs.Range.{is_between}
 use Rattle.table_image.specs.declared.cable.Cable.{Cable}
@@ -19,8 +20,8 @@ use Rattle.table_image.specs.declared.port.Port.{Port}
 use Rattle.table_image.specs.declared.router.Router.{Router}
 use Rattle.table_image.specs.declared.node.Node.{Node}
 use Rattle.audit.specs.Rules.{same_hardware, bad_address, router_has, node_has, bad_port, bad_node, Passes}
-use Rattle.audit.specs.Walks.{SeatsAreUnique}
-use Rattle.audit.proofs.WalkLists.{At, at_one, none_passes, none_before}
+use Rattle.audit.specs.Walks.{IsAddressed, SeatsAreUnique}
+use Rattle.audit.proofs.WalkLists.{At, at_one, at_within, none_passes, none_before}
 use Rattle.audit.proofs.WalkSteps.{one_cable}
 use Rattle.audit.proofs.SeatPlaces.{number_of, IsPortSeat, IsNodeSeat, Sits, AtPort, AtNode, sits}
 
@@ -85,11 +86,12 @@ module _ (i : Internet) (ok : Passes i) where
 
   node_good : (k : ℕ) (node : Node) → At i.nodes k node → (list_any (router_has node.address node.hardware) i.routers ≡ false)
       × (list_any (node_has node.address node.hardware) (take k i.nodes) ≡ false)
+      × (bad_address i node.cable node.address node.hardware ≡ false)
   node_good k node e =
       let here : on (slice_get i.nodes k) (bad_node i k) ≡ bad_node i k node = ap (λ o. on o (bad_node i k)) e in
       let one = or_parts _ _ (sym here ∙ ok 2 (place.Node (suc k))) in
       let two = or_parts _ _ one.0 in
-      (two.1, one.1)
+      (two.1, one.1, two.0)
 
   -- ---- Two seats that are alike are one
 
@@ -102,17 +104,24 @@ module _ (i : Internet) (ok : Passes i) where
       a.p a.port a.at in
       clash s t a.port.address b.port.address a.port.hardware b.port.hardware a.address b.address a.hardware b.hardware alike apart
 
-  -- two ports of one router are on different cables, and so are their addresses
-  ports_apart : (j k : ℕ) (s t : Seat) (a : IsPortSeat 0 i.routers j s) (b : IsPortSeat 0 i.routers k t) → AreAlike s t → a.r ≡ b.r
-      → a.p < b.p → ⊥
-  ports_apart j k s t a b alike same before =
-      let mine = port_good a.r a.p a.router a.port a.known a.at in
+  -- two ports of one router are on different cables
+  other_cables : (j k : ℕ) (s t : Seat) (a : IsPortSeat 0 i.routers j s) (b : IsPortSeat 0 i.routers k t) → a.r ≡ b.r → a.p < b.p
+      → a.port.cable ≡ b.port.cable → ⊥
+  other_cables j k s t a b same before e =
       let good = port_good b.r b.p b.router b.port b.known b.at in
       let one : a.router ≡ b.router = at_one i.routers b.r a.router b.router (subst (λ r. At i.routers r a.router) same a.known) b.known in
       let theirs : At b.router.ports a.p a.port = subst (λ (router : Router). At router.ports a.p a.port) one a.at in
       let apart : (a.port.cable == b.port.cable) ≡ false =
       none_before (λ q. q.cable == b.port.cable) b.router.ports b.p good.2 a.p a.port before theirs in
-      let on_one : a.port.cable ≡ b.port.cable → ⊥ = λ e. true≢false (sym (eq-eqb _ _ e) ∙ apart) in
+      true≢false (sym (eq-eqb _ _ e) ∙ apart)
+
+  -- and so are their addresses
+  ports_apart : (j k : ℕ) (s t : Seat) (a : IsPortSeat 0 i.routers j s) (b : IsPortSeat 0 i.routers k t) → AreAlike s t → a.r ≡ b.r
+      → a.p < b.p → ⊥
+  ports_apart j k s t a b alike same before =
+      let mine = port_good a.r a.p a.router a.port a.known a.at in
+      let good = port_good b.r b.p b.router b.port b.known b.at in
+      let on_one = other_cables j k s t a b same before in
       elim alike [
         | ByAddress e f ↦
             let u = in_range i a.port.cable a.port.address a.port.hardware mine.0 in
@@ -173,6 +182,66 @@ module _ (i : Internet) (ok : Passes i) where
   one_seat j k s t (AtNode m near a) (AtNode l far b) alike =
       let same = two_nodes m l s t a b alike in omega arith
 
+  -- ---- Each seat is addressed
+
+  same_seat : (s : Seat) (cable : ℕ) (a : Addr) (h : Hw) → s.cable ≡ cable → s.address ≡ a → s.hardware ≡ h
+      → bad_address i cable a h ≡ false → bad_address i s.cable s.address s.hardware ≡ false
+  same_seat s cable a h is_cable is_address is_hardware good =
+      ap (λ c. bad_address i c s.address s.hardware) is_cable
+      ∙ (ap (λ a. bad_address i cable a s.hardware) is_address ∙ (ap (bad_address i cable a) is_hardware ∙ good))
+
+  well_addressed : (k : ℕ) (s : Seat) → Sits i k s → bad_address i s.cable s.address s.hardware ≡ false
+  well_addressed k s (AtPort a) =
+      same_seat s a.port.cable a.port.address a.port.hardware a.cable a.address a.hardware
+          (port_good a.r a.p a.router a.port a.known a.at).0
+  well_addressed k s (AtNode l far a) =
+      same_seat s a.node.cable a.node.address a.node.hardware a.cable a.address a.hardware (node_good l a.node a.known).2
+
+  pub addressed : (k : ℕ) (s : Seat) → At (seats i) k s → IsAddressed i s
+  addressed k s at =
+      let good = well_addressed k s (sits i k s at) in
+      let one = or_parts _ _ good in
+      let two = or_parts _ _ one.0 in
+      let three = or_parts _ _ two.0 in
+      let range = on_true (slice_get i.cables s.cable) (λ c. is_between c.start c.end s.address.net) (not-false _ three.0) in
+      let some = nonzero s.address.node three.1 in
+      let most = ltb-false 253 s.address.node two.1 in
+      record { cable = range.0; known = range.1; holds = range.2; low = some; high = omega arith; single = one.1 }
+    where
+      nonzero : (n : ℕ) → (n == 0) ≡ false → 1 ≤ n
+      nonzero zero e = cc
+      nonzero (suc n) e = omega arith
+
+  -- ---- Two seats of one station on a cable are one
+
+  one_there : (j k : ℕ) (s t : Seat) → Sits i j s → Sits i k t → s.station ≡ t.station → s.cable ≡ t.cable → j ≡ k
+  one_there j k s t (AtPort a) (AtPort b) station cable =
+      let mine = a.station in
+      let theirs = b.station in
+      let same : a.r ≡ b.r = omega arith in
+      let on_one : a.port.cable ≡ b.port.cable = sym a.cable ∙ (cable ∙ b.cable) in
+      elim (cases_order a.p b.p) [
+        | inl e ↦ a.number ∙ (ap (λ r. number_of i.routers r a.p) same ∙ (ap (number_of i.routers b.r) e ∙ sym b.number))
+        | inr h ↦ elim h [
+          | inl lt ↦ absurd (other_cables j k s t a b same lt on_one)
+          | inr gt ↦ absurd (other_cables k j t s b a (sym same) gt (sym on_one))
+        ]
+      ]
+  one_there j k s t (AtPort a) (AtNode l far b) station cable =
+      let mine = a.station in
+      let theirs = b.station in
+      let within = at_within i.routers a.r a.router a.known in
+      absurd (omega arith)
+  one_there j k s t (AtNode m far a) (AtPort b) station cable =
+      let mine = a.station in
+      let theirs = b.station in
+      let within = at_within i.routers b.r b.router b.known in
+      absurd (omega arith)
+  one_there j k s t (AtNode m near a) (AtNode l far b) station cable =
+      let mine = a.station in
+      let theirs = b.station in
+      omega arith
+
 pub unique : (i : Internet) → Passes i → SeatsAreUnique i
 unique i ok = record {
   by_address = λ j k s t e f same.
@@ -180,4 +249,5 @@ unique i ok = record {
       one_seat i ok j k s t (sits i j s e) (sits i k t f) (ByAddress w.0 w.1);
   by_hardware = λ j k s t e f cable same.
       one_seat i ok j k s t (sits i j s e) (sits i k t f) (ByHardware cable (same_bytes_is s.hardware.0 t.hardware.0 same));
+  by_station = λ j k s t e f station cable. one_there i ok j k s t (sits i j s e) (sits i k t f) station cable;
 }

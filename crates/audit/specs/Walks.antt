@@ -1,9 +1,11 @@
 -- Walks of a datagram from router to router, over the tables of an internet. This project's own.
-use Rattle.std.specs.Prelude.{◌≡◌, ◌≢◌, ℕ, ◌+◌, ◌≤◌, ◌<◌, true, List, [], ◌∷◌, length, Some, slice_get}
+use Rattle.std.specs.Prelude.{◌≡◌, ◌≢◌, ℕ, ◌+◌, ◌≤◌, ◌<◌, ◌%◌, ◌==◌, true, false, List, [], ◌∷◌, length, Some, slice_get, slice_index}
 use Rattle.at_base.specs.declared.address.Addr.{Addr}
 use Rattle.table_image.specs.Internet.{Internet}
 use Rattle.audit.specs.Seats.{Seat, seats}
 use Rattle.at_base.specs.Address.{same_address}
+use Rattle.at_base.specs.Range.{is_between}
+use Rattle.table_image.specs.declared.cable.Cable.{Cable}
 use Rattle.audit.specs.Routing.{Here, On, hand, home, owner, distance}
 use Rattle.audit.specs.Rules.{same_hardware}
 use Rattle.table_image.specs.declared.port.Port.{Port}
@@ -55,9 +57,20 @@ pub data Steps (i : Internet) (n c r : ℕ) : Type 0 where
   Goes : (s d : ℕ) (a : Addr) → hand i r n ≡ On s d a → owner i d a ≡ Some s → s < length i.routers → distance i s n + 1 ≡ distance i r n
       → HasPort i r d → HasPort i s d → d ≢ c → Steps i n c r
 
--- No two seats share an address, and no two seats on one cable share a hardware address.
+-- No two seats share an address, no two seats on one cable share a hardware address, and no station has two seats on one.
 pub record SeatsAreUnique (i : Internet) : Type 0 where
   pub by_address : (j k : ℕ) (s t : Seat) → slice_get (seats i) j ≡ Some s → slice_get (seats i) k ≡ Some t
       → same_address s.address t.address ≡ true → j ≡ k
   pub by_hardware : (j k : ℕ) (s t : Seat) → slice_get (seats i) j ≡ Some s → slice_get (seats i) k ≡ Some t → s.cable ≡ t.cable
       → same_hardware s.hardware t.hardware ≡ true → j ≡ k
+  pub by_station : (j k : ℕ) (s t : Seat) → slice_get (seats i) j ≡ Some s → slice_get (seats i) k ≡ Some t → s.station ≡ t.station
+      → s.cable ≡ t.cable → j ≡ k
+
+-- A seat is addressed: its address is on its cable, its node number is 1 to 253, and its hardware address is of one station.
+pub record IsAddressed (i : Internet) (s : Seat) : Type 0 where
+  pub cable : Cable
+  pub known : slice_get i.cables s.cable ≡ Some cable
+  pub holds : is_between cable.start cable.end s.address.net ≡ true
+  pub low : 1 ≤ s.address.node
+  pub high : s.address.node ≤ 253
+  pub single : (slice_index s.hardware.0 0 % 2 == 1) ≡ false

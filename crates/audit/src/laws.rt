@@ -1,15 +1,16 @@
 //! Laws of internets that pass the audit, for contracts and proofs of other crates. The functions
-//! do
-//! nothing: what they ensure is the law.
+//! do nothing: what they ensure is the law.
 
 ghost use Rattle.std.specs.Prelude.{◌≡◌, ◌≢◌, ℕ, ◌<◌, ◌≤◌, List, [], ◌∷◌, length};
+ghost use Rattle.std.specs.Prelude.{slice_get, Some};
 ghost use Rattle.table_image.specs.Internet.{Internet, IsBounded};
 ghost use Rattle.audit.specs.Routing.{Nowhere, home, hand, distance};
 ghost use Rattle.audit.specs.Example.{three_cables, pointing_at_each_other};
 ghost use Rattle.audit.specs.Example.{same_addresses, same_hardware_addresses};
 ghost use Rattle.audit.specs.Rules.{Keeps, Passes};
 ghost use Rattle.audit.specs.Walks.{IsWalk, WalksHome, Steps, HasPort, SeatsAreUnique};
-ghost use Rattle.audit.specs.Walks.{AreDifferent};
+ghost use Rattle.audit.specs.Seats.{Seat, seats};
+ghost use Rattle.audit.specs.Walks.{AreDifferent, IsAddressed};
 ghost use Rattle.audit.specs.ZoneLists.{ZonesAgree};
 
 /// One walk home: from each router a datagram to a network that a cable has takes exactly one walk
@@ -40,8 +41,8 @@ pub fn unlisted_is_nowhere()
         → Passes i → r < length i.routers → home i n ≡ None → hand i r n ≡ Nowhere }
 {}
 
-/// No two stations have one address, no router has an address twice, and no two stations on a cable
-/// have one hardware address. This project's own.
+/// No two stations have one address, no router has an address twice, no two stations on a cable have
+/// one hardware address, and no station has two seats on a cable. This project's own.
 pub fn seats_are_unique()
     ensures { (i : Internet) → Passes i → SeatsAreUnique i }
 {}
@@ -51,6 +52,13 @@ pub fn seats_are_unique()
 /// number. This project's own.
 pub fn zone_lists_agree()
     ensures { (i : Internet) → Passes i → IsBounded i → ZonesAgree i }
+{}
+
+/// Each seat has an address of its cable, with a node number of 1 to 253, and the hardware address of
+/// one station. This project's own.
+pub fn seats_are_addressed()
+    ensures { (i : Internet) (k : ℕ) (s : Seat)
+        → Passes i → slice_get (seats i) k ≡ Some s → IsAddressed i s }
 {}
 
 /// Two routers that join three cables, with a node on the first and a printer on the last, pass. A

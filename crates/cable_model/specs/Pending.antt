@@ -1,0 +1,62 @@
+-- Who hears a frame, and which frames are still to be taken. This project's own.
+use Rattle.std.specs.Prelude.{ℕ, Bool, false, not, ◌&&◌, ◌==◌, if◌then◌else◌, List, [], ◌∷◌, ◌++◌, Option, Some, None, map, filter}
+use Rattle.std.specs.Prelude.{nat_lt, take, slice_index}
+use Rattle.std.specs.List.{list_any}
+use Rattle.at_base.specs.Text.{same_bytes}
+use Rattle.at_base.specs.declared.address.Hw.{Hw}
+use Rattle.cable_model.specs.declared.seat.Seat.{Seat}
+use Rattle.cable_model.specs.Transcript.{Frame, Entry, Put, Took, Lost}
+
+-- the hardware address of every station of a cable
+abbrev pub is_all : Hw → Bool
+is_all to = same_bytes to.0 (9 ∷ 0 ∷ 7 ∷ 255 ∷ 255 ∷ 255 ∷ [])
+
+-- the hardware address of a group
+abbrev pub is_group : Hw → Bool
+is_group to = same_bytes (take 5 to.0) (9 ∷ 0 ∷ 7 ∷ 0 ∷ 0 ∷ []) && nat_lt (slice_index to.0 5) 253
+
+-- the station listens to the group: a node whose zone has it
+abbrev pub listens : ℕ → Option ℕ → Bool
+listens group None = false
+listens group (Some own) = own == group
+
+-- A frame to all is for every station but its sender; one to a group, for every other node whose zone has the group; and
+-- any other for the stations that have its hardware address, its sender too.
+abbrev pub is_for : Hw → ℕ → Seat → Bool
+is_for to sender s =
+    if is_all to then not (s.station == sender)
+    else if is_group to then not (s.station == sender) && listens (slice_index to.0 5) s.group
+    else same_bytes s.hw.0 to.0
+
+-- the frame is on the seat's cable, and for the station there
+abbrev pub is_heard : Frame → Seat → Bool
+is_heard f s = s.cable == f.cable && is_for f.to f.sender s
+
+-- a frame, and a seat of a station that it is for
+pub record Pair : Type 0 where
+  pub frame : Frame
+  pub seat : Seat
+
+-- the pairs that an entry makes: a frame with each seat that hears it
+abbrev pub pairs_of : List Seat → Entry → List Pair
+pairs_of seats (Put f) = map (λ s. record { frame = f; seat = s }) (filter (is_heard f) seats)
+pairs_of seats _ = []
+
+-- the pairs that entries make
+abbrev pub pairs : List Seat → List Entry → List Pair
+pairs seats [] = []
+pairs seats (e ∷ es) = pairs_of seats e ++ pairs seats es
+
+-- the entry ends the pair: its station took the frame, or the frame was lost
+abbrev pub ends : Pair → Entry → Bool
+ends p (Took stamp station) = stamp == p.frame.stamp && station == p.seat.station
+ends p (Lost stamp) = stamp == p.frame.stamp
+ends p _ = false
+
+-- one of the entries ends the pair
+abbrev pub was_ended : List Entry → Pair → Bool
+was_ended entries p = list_any (ends p) entries
+
+-- the pairs that are pending: those that no entry ends
+abbrev pub pending : List Seat → List Entry → List Pair
+pending seats entries = filter (λ p. not (was_ended entries p)) (pairs seats entries)

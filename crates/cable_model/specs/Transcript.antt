@@ -1,0 +1,56 @@
+-- What happened on the cables of an internet, in order. This project's own.
+use Rattle.std.specs.Prelude.{◌≡◌, ℕ, ◌+◌, Bool, true, false, List, [], ◌∷◌}
+use Rattle.at_base.specs.declared.address.Hw.{Hw}
+use Rattle.cable_model.specs.declared.entry.Cause.{Cause}
+use Rattle.cable_model.specs.declared.entry.How.{How}
+use Rattle.cable_model.specs.declared.entry.Kind.{Kind}
+
+-- A frame on a cable: its stamp, which counts frames from 0; the cable; the station that put it there; the hardware address
+-- that it is for; what it holds, and its bytes.
+pub record Frame : Type 0 where
+  pub stamp : ℕ
+  pub cable : ℕ
+  pub sender : ℕ
+  pub to : Hw
+  pub kind : Kind
+  pub bytes : List ℕ
+
+-- An entry: a station made a datagram; a frame was put on a cable; a station took a frame; a datagram reached a cable,
+-- where a station put or kept it; a router dropped one; a frame was lost to all who hadn't taken it. A datagram stands
+-- there by its body, which is the same on all its way.
+pub data Entry : Type 0 where
+  Sent : (station : ℕ) (body : List ℕ) → Entry
+  Put : (frame : Frame) → Entry
+  Took : (stamp station : ℕ) → Entry
+  Reached : (cable station : ℕ) (how : How) (body : List ℕ) → Entry
+  Dropped : (router : ℕ) (cause : Cause) (body : List ℕ) → Entry
+  Lost : (stamp : ℕ) → Entry
+
+-- 1 where a test passes, and 0 where it doesn't
+abbrev pub one : Bool → ℕ
+one true = 1
+one false = 0
+
+-- how many elements pass
+abbrev pub count : {X : Type 0} → (X → Bool) → List X → ℕ
+count test [] = 0
+count test (x ∷ xs) = one (test x) + count test xs
+
+-- the entry is a frame
+abbrev pub is_put : Entry → Bool
+is_put (Put frame) = true
+is_put _ = false
+
+-- how many frames there were: the stamp of the next one
+abbrev pub stamps : List Entry → ℕ
+stamps entries = count is_put entries
+
+-- a frame has this stamp
+abbrev pub HasStamp : ℕ → Entry → Type 0
+HasStamp k (Put frame) = frame.stamp ≡ k
+HasStamp k _ = Unit {0}
+
+-- the frames have the stamps from k on, in order
+abbrev pub AreNumbered : ℕ → List Entry → Type 0
+AreNumbered k [] = Unit {0}
+AreNumbered k (e ∷ es) = HasStamp k e × AreNumbered (one (is_put e) + k) es

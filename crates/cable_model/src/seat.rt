@@ -1,0 +1,19 @@
+//! Seats: which station is on which cable.
+
+use at_base::Hw;
+
+/// A station's seat on a cable: the port by which it is there, and whom it listens to. Cables,
+/// stations and ports are counted from 0. This project's own.
+#[derive(Clone, Copy, Debug, PartialEq, Eq)]
+pub struct Seat {
+    /// The cable.
+    pub cable: u8,
+    /// The station.
+    pub station: u16,
+    /// The port of the station.
+    pub port: u8,
+    /// The station's hardware address on the cable.
+    pub hw: Hw,
+    /// The group of the station's zone, 0 to 252, where it is a node.
+    pub group: Option<u8>,
+}

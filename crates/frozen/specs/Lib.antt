@@ -1,0 +1,9 @@
+pub mod Stations
+pub mod Legs
+pub mod Requests
+pub mod Answers
+pub mod Legal
+pub mod Counts
+pub mod Carriage
+pub mod Lookups
+pub mod Example

@@ -1,0 +1,59 @@
+-- The stations of an internet on its cables: the routers, then the nodes, numbered from 0. This project's own.
+use Rattle.std.specs.Prelude.{ℕ, ◌-◌, ◌%◌, Bool, ◌&&◌, ◌==◌, List, Option, Some, None, length, map, option_map, slice_get, nat_lt}
+use Rattle.std.specs.Prelude.{if◌then◌else◌}
+use Rattle.std.specs.Option.{unwrap_or}
+use Rattle.std.specs.List.{list_any}
+use Rattle.std.specs.Char.{to_ascii_uppercase}
+use Rattle.at_base.specs.Address.{same_address}
+use Rattle.at_base.specs.Checksum.{sum_of}
+use Rattle.at_base.specs.Range.{is_between}
+use Rattle.at_base.specs.declared.address.Addr.{Addr}
+use Rattle.table_image.specs.Internet.{Internet}
+use Rattle.table_image.specs.declared.node.Node.{Node}
+use Rattle.table_image.specs.declared.router.Router.{Router}
+use Rattle.audit.specs.Places.{index_of, on}
+use Rattle.audit.specs.Seats.{seats, Seat as PlaceOf}
+use Rattle.cable_model.specs.declared.seat.Seat.{Seat}
+
+-- the group of a zone: names that are the same but for case have one group
+abbrev pub group_of : List ℕ → ℕ
+group_of zone = sum_of (map to_ascii_uppercase zone) % 253
+
+-- the node of a station, where it is one
+abbrev pub node_of : Internet → ℕ → Option Node
+node_of i station = if nat_lt station (length i.routers) then None else slice_get i.nodes (station - length i.routers)
+
+-- the port by which a router is on a cable; a node has one port, 0
+abbrev pub port_on : Option Router → ℕ → ℕ
+port_on None cable = 0
+port_on (Some router) cable = unwrap_or (index_of (λ p. p.cable == cable) router.ports) 0
+
+-- the seat of a station, with the group of its zone where it is a node
+abbrev pub cable_seat : Internet → PlaceOf → Seat
+cable_seat i s = record {
+  cable = s.cable;
+  station = s.station;
+  port = port_on (slice_get i.routers s.station) s.cable;
+  hw = s.hardware;
+  group = option_map (λ node. group_of node.zone) (node_of i s.station);
+}
+
+-- the seats of all stations, in their order
+abbrev pub cable_seats : Internet → List Seat
+cable_seats i = map (cable_seat i) (seats i)
+
+-- the station is a router
+abbrev pub is_router : Internet → ℕ → Bool
+is_router i station = nat_lt station (length i.routers)
+
+-- the station has this address on the cable
+abbrev pub has_address : Internet → ℕ → ℕ → Addr → Bool
+has_address i station cable a = list_any (λ s. s.station == station && s.cable == cable && same_address a s.address) (seats i)
+
+-- the station is on the cable
+abbrev pub is_on : Internet → ℕ → ℕ → Bool
+is_on i station cable = list_any (λ s. s.station == station && s.cable == cable) (seats i)
+
+-- the cable's range holds the network
+abbrev pub cable_holds : Internet → ℕ → ℕ → Bool
+cable_holds i cable net = on (slice_get i.cables cable) (λ c. is_between c.start c.end net)

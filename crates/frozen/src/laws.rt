@@ -1,0 +1,51 @@
+//! Laws of legal transcripts over the tables of an internet that passes the audit, for the crates
+//! above. The functions do nothing: what they ensure is the law.
+
+ghost use Rattle.std.specs.Prelude.{◌≡◌, List, ℕ};
+ghost use Rattle.table_image.specs.Internet.{Internet};
+ghost use Rattle.audit.specs.Example.{three_cables};
+ghost use Rattle.audit.specs.Rules.{Passes};
+ghost use Rattle.cable_model.specs.Transcript.{Entry};
+ghost use Rattle.frozen.specs.Carriage.{AreCarried, none_yet};
+ghost use Rattle.frozen.specs.Counts.{HasHopsLeft, IsConserved};
+ghost use Rattle.frozen.specs.Counts.{reached, sent, under_way};
+ghost use Rattle.frozen.specs.Example.{echo, echo_reply, echo_request};
+ghost use Rattle.frozen.specs.Legal.{IsLegal};
+ghost use Rattle.frozen.specs.Lookups.{IsLookedUp};
+
+/// Conservation: each datagram to a listed network is under way once or has reached its
+/// destination's cable once, and no other; each to a network that is neither listed nor 0 is under
+/// way once or was dropped once. This project's own.
+pub fn conservation()
+    ensures { (i : Internet) (t : List Entry) → Passes i → IsLegal i t → IsConserved i t }
+{}
+
+/// Hops left: a datagram under way to a listed network has hops enough for the routers before it.
+/// This project's own.
+pub fn hops_left()
+    ensures { (i : Internet) (t : List Entry) → Passes i → IsLegal i t → HasHopsLeft i t }
+{}
+
+/// Carriage: what reached a cable was carried by no router or by those of its one walk, at most
+/// 15, over cables that they share. This project's own.
+pub fn carriage()
+    ensures { (i : Internet) (t : List Entry) → Passes i → IsLegal i t → AreCarried i none_yet t }
+{}
+
+/// Lookups exactly where the zone is listed: for each broadcast request that was taken, each cable
+/// that lists its zone has had one lookup, or a forward request to it is under way, and no other
+/// cable has had one; and each that was asked was taken or is still to be taken. This project's own.
+pub fn lookups()
+    ensures { (i : Internet) (t : List Entry) (k : List ℕ)
+        → Passes i → IsLegal i t → IsLookedUp i t k }
+{}
+
+/// The echo over three cables is legal, and each of its two datagrams has reached its destination's
+/// cable once. This project's own.
+pub fn the_echo_is_legal()
+    ensures legal { IsLegal three_cables echo }
+    ensures asked { (sent (echo_request 0) echo ≡ 1) × (reached (echo_request 0) 2 echo ≡ 1) }
+    ensures replied { (sent (echo_reply 0) echo ≡ 1) × (reached (echo_reply 0) 0 echo ≡ 1) }
+    ensures done { (under_way three_cables (echo_request 0) echo ≡ 0)
+        × (under_way three_cables (echo_reply 0) echo ≡ 0) }
+{}
