@@ -5,6 +5,7 @@ ghost use Rattle.audit.specs.Firsts.{FirstPlace};
 ghost use Rattle.audit.specs.Rules.{c1, c2, c6, c7};
 ghost use Rattle.audit.specs.Verdicts.{Judges, OnYes};
 ghost use Rattle.audit.specs.Walks.{WalksHome};
+ghost use Rattle.audit.specs.ZoneLists.{ZonesAgree};
 
 use crate::cables::bad_cable;
 use crate::next::Hints;
@@ -42,6 +43,8 @@ pub fn audit(image: &Image) -> Verdict
     ensures judged { Judges image.now result }
     // After a yes each datagram to a listed network has exactly one walk, to that network's cable.
     ensures walks { OnYes result (WalksHome image.now) }
+    // After a yes each router's zone table has a zone for exactly the cables that have it.
+    ensures zones { OnYes result (ZonesAgree image.now) }
 {
     if let Some(place) = bad_cable(image) {
         return Verdict::No(Rule::CablesInOrder.broken_at(place));
@@ -69,5 +72,7 @@ pub fn audit(image: &Image) -> Verdict
     if let Some(place) = bad_zone_list(image) {
         return Verdict::No(Rule::ZoneListsAgree.broken_at(place));
     }
+    // For the prover alone: the contract of `routers` says that zone lists rise.
+    let _routers = image.routers();
     Verdict::Yes(summarize(image))
 }
