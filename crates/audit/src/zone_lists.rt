@@ -43,7 +43,7 @@ fn cable_of(image: &Image, hint: usize, list: &ZoneList) -> Option<usize>
     search_cables(cables, list)
 }
 
-// The list is neither wrong nor incomplete where it is for this cable.
+// Whether a complete list is bad that is for cable c.
 fn is_bad_for(image: &Image, hints: &ZoneHints, c: usize, list: &ZoneList) -> bool
     requires cables { FirstPlace (c1 image.now) None }
     requires cable { index_of (fits list.now) image.now.cables ≡ Some c }
@@ -69,6 +69,7 @@ fn is_bad(image: &Image, hints: &ZoneHints, k: usize, list: &ZoneList) -> bool
     }
 }
 
+// Whether the lists are equal, their zones in the same order and spelling.
 fn are_equal(a: &ZoneList, b: &ZoneList) -> bool
     ensures { IsTrue result → a.now ≡ b.now }
 {
