@@ -193,7 +193,7 @@ module _ (i : Internet) (ok : Passes i) where
   well_addressed : (k : ℕ) (s : Seat) → Sits i k s → bad_address i s.cable s.address s.hardware ≡ false
   well_addressed k s (AtPort a) =
       same_seat s a.port.cable a.port.address a.port.hardware a.cable a.address a.hardware
-          (port_good a.r a.p a.router a.port a.known a.at).0
+      (port_good a.r a.p a.router a.port a.known a.at).0
   well_addressed k s (AtNode l far a) =
       same_seat s a.node.cable a.node.address a.node.hardware a.cable a.address a.hardware (node_good l a.node a.known).2
 
