@@ -54,4 +54,4 @@ returns c =
     let below_7 = and_next i 6 (and_next i 5 below_5 c.in_default-bad_row-3.ensures) c.in_default-bad_next.ensures in
     let below_8 = and_next i 7 below_7 c.in_default-steps.ensures in
     let passes = all_kept i (and_next i 8 below_8 c.in_default-bad_zone_list.ensures) in
-    record { judged = (passes, c.summarize.ensures); walks = walks_home i passes; zones = zones_agree i passes c.routers.ensures.bounded }
+    record { judged = (passes, c.summarize.ensures); walks = walks_home i passes; zones = zones_agree i passes c.routers-routers.ensures.bounded }
