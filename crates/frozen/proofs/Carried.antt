@@ -3,7 +3,7 @@ use Rattle.std.proofs.Common.{◌≡◌, ℕ, zero, suc, ◌+◌, Bool, true, fa
 use Rattle.std.proofs.Common.{◌∙◌, subst, arith, append-nil, append_assoc, length-append}
 use Rattle.std.specs.List.{AllByRecursion as Each}
 use Rattle.at_base.specs.declared.address.Addr.{Addr}
-use Rattle.ddp.specs.Bodies.{body, target}
+use Rattle.ddp.specs.Bodies.{body, hops, target}
 use Rattle.table_image.specs.Internet.{Internet}
 use Rattle.audit.specs.Routing.{hand}
 use Rattle.audit.specs.Rules.{Passes}
@@ -21,6 +21,7 @@ use Rattle.frozen.proofs.Does.{Does, HopsFine, IsNext, IsOf}
 use Rattle.frozen.proofs.Fates.{copy_router, fate_does}
 use Rattle.frozen.proofs.Frames.{Framed, target_inside}
 use Rattle.frozen.proofs.Paths.{Path, path_home, path_on}
+use Rattle.frozen.proofs.Requested.{of_hops}
 use Rattle.frozen.proofs.Runs.{Run, made_does, run_is}
 
 -- ---- The chains after entries
@@ -76,22 +77,23 @@ module _ (i : Internet) where
   abbrev pub HasPath : Chains → Pair → Type 0
   HasPath w p =
       is_copy i p ≡ true → (chain : List ℕ) × At w.frames p.frame.stamp chain × Path i (target p.frame.bytes).net chain p.seat.station
+      × (hops p.frame.bytes ≡ length chain)
 
   -- What entries leave: each was carried, and the chains of their copies lead to the takers.
   record Leaves (es : List Entry) (w : Chains) : Type 0 where
     carried : AreCarried i w es
     paths : Each (HasPath (after_all es w)) (pairs (cable_seats i) es)
 
-  module _ (d now : List ℕ) where
+  module _ (d now : List ℕ) (hop : ℕ) (long : hop ≡ length now) where
     abbrev OfNow : Entry → Type 0
-    OfNow e = IsOf i (λ c. IsChain i (target d).net c now) d e
+    OfNow e = IsOf i (λ c. IsChain i (target d).net c now) d hop e
 
     -- entries of one datagram, whose chain is this one
     of_carried : (frames : List (List ℕ)) (es : List Entry) → Each OfNow es → AreCarried i (record { now = now; frames = frames }) es
     of_carried frames [] h = tt
     of_carried frames (Reached c s how b ∷ es) h =
         (subst (λ x. IsChain i (target x).net c now) (sym h.0.0) h.0.1, of_carried frames es h.1)
-    of_carried frames (Put f ∷ es) h = (h.0.0, of_carried (frames ++ now ∷ []) es h.1)
+    of_carried frames (Put f ∷ es) h = ((h.0.0, h.0.3 ∙ long), of_carried (frames ++ now ∷ []) es h.1)
     of_carried frames (Dropped r cause b ∷ es) h = (tt, of_carried frames es h.1)
     of_carried frames (Sent s b ∷ es) h = absurd h.0
     of_carried frames (Took p s ∷ es) h = absurd h.0
@@ -119,20 +121,23 @@ module _ (i : Internet) where
 
     -- so a leg or a fate leaves what its copies need
     does_leave : (stamp : ℕ) (frames : List (List ℕ)) (es : List Entry) → stamp ≡ length frames
-        → Does i (λ s. Path i (target d).net now s) (λ c. IsChain i (target d).net c now) stamp d es
+        → Does i (λ s. Path i (target d).net now s) (λ c. IsChain i (target d).net c now) stamp d hop es
         → Leaves es (record { now = now; frames = frames })
     does_leave stamp frames es e does = record {
       carried = of_carried frames es does.of;
       paths =
-          both (pairs (cable_seats i) es) (of_frames frames es does.of (subst (λ k. AreNumbered k es) e does.numbered)) does.goes_to;
+          both (pairs (cable_seats i) es) (of_frames frames es does.of (subst (λ k. AreNumbered k es) e does.numbered)) does.goes_to
+              (of_hops i (λ c. IsChain i (target d).net c now) d hop es does.of);
     }
       where
         both : (ps : List Pair) → Each (λ p. At (after_all es (record { now = now; frames = frames })).frames p.frame.stamp now) ps
-            → Each (IsNext i (λ s. Path i (target d).net now s) d) ps → Each
-            (HasPath (after_all es (record { now = now; frames = frames }))) ps
-        both [] h g = tt
-        both (p ∷ ps) h g =
-            ((λ copy. let n = g.0 copy in (now, h.0, subst (λ (a : Addr). Path i a.net now p.seat.station) (sym n.1) n.0)), both ps h.1 g.1)
+            → Each (IsNext i (λ s. Path i (target d).net now s) d) ps → Each (λ p. hops p.frame.bytes ≡ hop) ps
+            → Each (HasPath (after_all es (record { now = now; frames = frames }))) ps
+        both [] h g n = tt
+        both (p ∷ ps) h g n =
+            ((λ copy.
+            let next = g.0 copy in
+            (now, h.0, subst (λ (a : Addr). Path i a.net now p.seat.station) (sym next.1) next.0, n.0 ∙ long)), both ps h.1 g.1 n.1)
 
   -- ---- Transcripts
 
@@ -157,7 +162,7 @@ module _ (i : Internet) where
             (subst (Each (HasPath (after_all es w))) (sym (pairs-append (cable_seats i) t es))
             (each-append (HasPath (after_all es w)) (pairs (cable_seats i) t) (pairs (cable_seats i) es)
             (each_more (HasPath w) (HasPath (after_all es w)) (pairs (cable_seats i) t)
-            (λ p f copy. let g = f copy in (g.0, kept es w p.frame.stamp g.0 g.1, g.2)) c.paths) l.paths));
+            (λ p f copy. let g = f copy in (g.0, kept es w p.frame.stamp g.0 g.1, g.2, g.3)) c.paths) l.paths));
       }
 
   now_after : (t : List Entry) (e : Entry) → (after_all (t ++ e ∷ []) none_yet).now ≡ (after e (after_all t none_yet)).now
@@ -189,7 +194,7 @@ module _ (i : Internet) (ok : Passes i) where
       let does = made_does i ok (λ s. Path i (target l.body).net [] s) (λ c. IsChain i (target l.body).net c []) stamp l made.0 (λ s. tt)
       (λ c. tt) in
       let leaves : Leaves i es w =
-      renamed i es w [] (now_after i t first) (does_leave i l.body [] stamp w.frames es (sym same ∙ frames_are i before) does) in
+      renamed i es w [] (now_after i t first) (does_leave i l.body [] l.hops made.0.fresh stamp w.frames es (sym same ∙ frames_are i before) does) in
       let c2 : Carries i (before ++ es) = grow i before es c1 (subst (λ k. AreNumbered k es) (sym same) does.numbered) leaves in
       let sum = count-append is_put before es in
       let more : stamp + stamps es ≡ stamps (before ++ es) = omega (arith, sum, same) in
@@ -218,6 +223,9 @@ module _ (i : Internet) (ok : Passes i) where
           let router = (copy_router i p copy).0 in
           let now : w.now ≡ g.0 ++ p.seat.station ∷ [] = now_after i t took ∙ ap (λ o. chain_in o ++ p.seat.station ∷ []) g.1 in
           let same = target_inside p.frame.bytes framed in
+          let last = length-append g.0 (p.seat.station ∷ []) in
+          let count_is = g.3 in
+          let long : hops p.frame.bytes + 1 ≡ length (g.0 ++ p.seat.station ∷ []) = omega (arith, last, count_is) in
           let does = fate_does i ok (λ s. Path i (target (body p.frame.bytes)).net (g.0 ++ p.seat.station ∷ []) s)
           (λ c. IsChain i (target (body p.frame.bytes)).net c (g.0 ++ p.seat.station ∷ [])) stamp p framed copy fine
           (λ c listed here. subst (λ (a : Addr). IsChain i a.net c (g.0 ++ p.seat.station ∷ [])) (sym same)
@@ -225,7 +233,7 @@ module _ (i : Internet) (ok : Passes i) where
           (λ s d a on. subst (λ (x : Addr). Path i x.net (g.0 ++ p.seat.station ∷ []) s) (sym same)
           (path_on i (target p.frame.bytes).net g.0 p.seat.station s d a g.2 router on)) in (
             renamed i (fate i stamp p) w (g.0 ++ p.seat.station ∷ []) now
-                (does_leave i (body p.frame.bytes) (g.0 ++ p.seat.station ∷ []) stamp w.frames (fate i stamp p)
+                (does_leave i (body p.frame.bytes) (g.0 ++ p.seat.station ∷ []) (hops p.frame.bytes + 1) long stamp w.frames (fate i stamp p)
                 (e ∙ frames_are i (t ++ took ∷ [])) does),
             does.numbered,
           )

@@ -48,26 +48,27 @@ HopsFine i p =
     (c : ℕ) → is_copy i p ≡ true → home i (target p.frame.bytes).net ≡ Some c
     → hops p.frame.bytes + distance i p.seat.station (target p.frame.bytes).net ≤ 14
 
--- An entry of one datagram: it reached a cable of which A holds, or a station put it on a cable where it is.
-abbrev pub IsOf : Internet → (ℕ → Type 0) → List ℕ → Entry → Type 0
-IsOf i A d (Reached cable station how b) = (b ≡ d) × A cable
-IsOf i A d (Put f) = (is_on i f.sender f.cable ≡ true) × (body f.bytes ≡ d) × (f.kind ≡ Ddp)
-IsOf i A d (Dropped router cause b) = Unit {0}
-IsOf i A d _ = ⊥
+-- An entry of one datagram: it reached a cable of which A holds, or a station put it on a cable where it is, with so many
+-- hops.
+abbrev pub IsOf : Internet → (ℕ → Type 0) → List ℕ → ℕ → Entry → Type 0
+IsOf i A d hop (Reached cable station how b) = (b ≡ d) × A cable
+IsOf i A d hop (Put f) = (is_on i f.sender f.cable ≡ true) × (body f.bytes ≡ d) × (f.kind ≡ Ddp) × (hops f.bytes ≡ hop)
+IsOf i A d hop (Dropped router cause b) = Unit {0}
+IsOf i A d hop _ = ⊥
 
 -- a copy of the datagram goes to a router of which N holds
 abbrev pub IsNext : Internet → (ℕ → Type 0) → List ℕ → Pair → Type 0
 IsNext i N d p = is_copy i p ≡ true → N p.seat.station × (target p.frame.bytes ≡ target d)
 
 -- The entries are those of one datagram on its way: its body ends once, or is under way once, to a router of which N holds.
-pub record Does (i : Internet) (N A : ℕ → Type 0) (stamp : ℕ) (d : List ℕ) (es : List Entry) : Type 0 where
+pub record Does (i : Internet) (N A : ℕ → Type 0) (stamp : ℕ) (d : List ℕ) (hop : ℕ) (es : List Entry) : Type 0 where
   pub adds : (b : List ℕ) → (target b).net ≢ 0 → count (is_ended b) es + copies i b es ≡ one (same_bytes b d)
   pub unsent : (b : List ℕ) → sent b es ≡ 0
   pub right : Each (IsRight i) es
   pub hops_left : Each (HopsFine i) (pairs (cable_seats i) es)
   pub framed : Each (λ p. Framed p.frame.bytes) (pairs (cable_seats i) es)
   pub goes_to : Each (IsNext i N d) (pairs (cable_seats i) es)
-  pub of : Each (IsOf i A d) es
+  pub of : Each (IsOf i A d hop) es
   pub ends_none : Each EndsNone es
   pub numbered : AreNumbered stamp es
 
@@ -120,10 +121,10 @@ module _ (i : Internet) (ok : Passes i) (N A : ℕ → Type 0) where
 
   -- ---- What was reached or dropped
 
-  pub does_reach : (stamp cable station : ℕ) (how : How) (d : List ℕ) → home i (target d).net ≡ Some cable → A cable
-      → Does i N A stamp d (Reached cable station how d ∷ [])
+  pub does_reach : (stamp cable station : ℕ) (how : How) (d : List ℕ) (hop : ℕ) → home i (target d).net ≡ Some cable → A cable
+      → Does i N A stamp d hop (Reached cable station how d ∷ [])
   unfolding copies
-  does_reach stamp cable station how d home_is there = record {
+  does_reach stamp cable station how d hop home_is there = record {
     adds = λ b some. omega arith;
     unsent = λ b. refl;
     right = (home_is, tt);
@@ -135,9 +136,9 @@ module _ (i : Internet) (ok : Passes i) (N A : ℕ → Type 0) where
     numbered = (tt, tt);
   }
 
-  pub does_drop : (stamp router : ℕ) (d : List ℕ) → home i (target d).net ≡ None → Does i N A stamp d (Dropped router NoRoute d ∷ [])
+  pub does_drop : (stamp router : ℕ) (d : List ℕ) (hop : ℕ) → home i (target d).net ≡ None → Does i N A stamp d hop (Dropped router NoRoute d ∷ [])
   unfolding copies
-  does_drop stamp router d no_home = record {
+  does_drop stamp router d hop no_home = record {
     adds = λ b some. omega arith;
     unsent = λ b. refl;
     right = (no_home, tt);
@@ -178,7 +179,7 @@ module _ (i : Internet) (ok : Passes i) (N A : ℕ → Type 0) where
 
     -- a frame without copies, after the datagram reached the cable
     pub does_arrive : (how : How) (to : Hw) → home i (target l.body).net ≡ Some l.cable → A l.cable
-        → IsNoCopy (frame_to to) → Does i N A stamp l.body (reach how l ∷ put stamp l to ∷ [])
+        → IsNoCopy (frame_to to) → Does i N A stamp l.body l.hops (reach how l ∷ put stamp l to ∷ [])
     unfolding copies
     does_arrive how to home_is there none = record {
       adds = λ b some. let rest = no_copies (frame_to to) none b in omega (arith, rest);
@@ -187,13 +188,13 @@ module _ (i : Internet) (ok : Passes i) (N A : ℕ → Type 0) where
       hops_left = no_hops (frame_to to) none;
       framed = is_framed to;
       goes_to = no_next (frame_to to) l.body none;
-      of = ((refl, there), ((seated, frame_body, refl), tt));
+      of = ((refl, there), ((seated, frame_body, refl, hops_are l.hops few l.body whole.long), tt));
       ends_none = (tt, (tt, tt));
       numbered = (tt, ((omega arith), tt));
     }
 
     -- a frame of a datagram for this cable alone
-    pub does_stay : (to : Hw) → (target l.body).net ≡ 0 → Does i N A stamp l.body (put stamp l to ∷ [])
+    pub does_stay : (to : Hw) → (target l.body).net ≡ 0 → Does i N A stamp l.body l.hops (put stamp l to ∷ [])
     unfolding copies
     does_stay to zero_net = record {
       adds = λ b some.
@@ -205,7 +206,7 @@ module _ (i : Internet) (ok : Passes i) (N A : ℕ → Type 0) where
       hops_left = no_hops (frame_to to) none;
       framed = is_framed to;
       goes_to = no_next (frame_to to) l.body none;
-      of = ((seated, frame_body, refl), tt);
+      of = ((seated, frame_body, refl, hops_are l.hops few l.body whole.long), tt);
       ends_none = (tt, tt);
       numbered = (refl, tt);
     }
@@ -226,7 +227,7 @@ module _ (i : Internet) (ok : Passes i) (N A : ℕ → Type 0) where
     pub does_go : (k : ℕ) (s : PlaceOf) → At (seats i) k s → s.cable ≡ l.cable
         → is_copy i (record { frame = frame_to s.hardware; seat = cable_seat i s }) ≡ true
         → ((c : ℕ) → home i (target l.body).net ≡ Some c → l.hops + distance i s.station (target l.body).net ≤ 14) → N s.station
-        → Does i N A stamp l.body (put stamp l s.hardware ∷ [])
+        → Does i N A stamp l.body l.hops (put stamp l s.hardware ∷ [])
     unfolding copies
     does_go k s at cable copy near next = record {
       adds = λ b some.
@@ -239,7 +240,7 @@ module _ (i : Internet) (ok : Passes i) (N A : ℕ → Type 0) where
       hops_left = subst (Each (HopsFine i)) (sym alone) ((λ c is home_is. fine c home_is), tt);
       framed = is_framed s.hardware;
       goes_to = subst (Each (IsNext i N l.body)) (sym alone) ((λ is. (next, target_stays l.hops few l.body)), tt);
-      of = ((seated, frame_body, refl), tt);
+      of = ((seated, frame_body, refl, hops_are l.hops few l.body whole.long), tt);
       ends_none = (tt, tt);
       numbered = (refl, tt);
     }

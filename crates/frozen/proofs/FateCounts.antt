@@ -33,14 +33,14 @@ and_true true = refl
 and_true false = refl
 
 module _ (i : Internet) (ok : Passes i) (stamp : ℕ) (p : Pair) (f : Framed p.frame.bytes) (good : PairOk i p) (fine : HopsFine i p) where
-  of : Each (IsOf i any (body p.frame.bytes)) (fate i stamp p)
+  of : Each (IsOf i any (body p.frame.bytes) (hops p.frame.bytes + 1)) (fate i stamp p)
   of = fate_of i ok stamp p f fine
 
   same : target (body p.frame.bytes) ≡ target p.frame.bytes
   same = target_inside p.frame.bytes f
 
   pub fate_unasked : (k : List ℕ) → count (is_asked i k) (fate i stamp p) ≡ 0
-  fate_unasked k = of_unasked i any (body p.frame.bytes) k (fate i stamp p) of
+  fate_unasked k = of_unasked i any (body p.frame.bytes) (hops p.frame.bytes + 1) k (fate i stamp p) of
 
   -- a lookup isn't passed on
   pub fate_looks : (k : List ℕ) (c : ℕ) → count (looks i k c) (fate i stamp p) ≡ 0
@@ -48,7 +48,7 @@ module _ (i : Internet) (ok : Passes i) (stamp : ℕ) (p : Pair) (f : Framed p.f
     where
       by : (b : Bool) → is_lookup (request (body p.frame.bytes)) ≡ b → count (looks i k c) (fate i stamp p) ≡ 0
       by true e = ap (count (looks i k c)) (not_unicast i ok stamp p f (good.looker e))
-      by false e = of_no_lookup i any (body p.frame.bytes) k c (fate i stamp p) e of
+      by false e = of_no_lookup i any (body p.frame.bytes) (hops p.frame.bytes + 1) k c (fate i stamp p) e of
 
   -- a broadcast request that doesn't end waits on
   pub fate_waits : (k : List ℕ) → count (waits i k) (pairs (cable_seats i) (fate i stamp p)) ≡ one (waits i k p && not (ends_at i p))
@@ -80,7 +80,7 @@ module _ (i : Internet) (ok : Passes i) (stamp : ℕ) (p : Pair) (f : Framed p.f
       by_request false none =
           let not_waiting : waits i k p ≡ false =
           and_right (is_unicast p.frame.to) _ (and_left (is_request i (body p.frame.bytes)) _ none) in
-          waits_none i any (body p.frame.bytes) (fate i stamp p) of k none ∙ sym (ap one (and_left (waits i k p) _ not_waiting))
+          waits_none i any (body p.frame.bytes) (hops p.frame.bytes + 1) (fate i stamp p) of k none ∙ sym (ap one (and_left (waits i k p) _ not_waiting))
 
   -- a copy of a forward request that doesn't end is passed on as one
   seeking : (k : List ℕ) (c : ℕ) → is_forward (request (body p.frame.bytes)) ≡ true → is_copy i p ≡ true → (o : Option ℕ)
@@ -144,7 +144,7 @@ module _ (i : Internet) (ok : Passes i) (stamp : ℕ) (p : Pair) (f : Framed p.f
       by true q = by_copy (is_copy i p) refl q
       by false q =
           let none : forwarded i k c p ≡ false = and_right (is_copy i p) _ (and_left (is_forward (request (body p.frame.bytes))) _ q) in
-          forwarded_none i any (body p.frame.bytes) (fate i stamp p) of k c q ∙ sym (ap one (and_left (forwarded i k c p) _ none))
+          forwarded_none i any (body p.frame.bytes) (hops p.frame.bytes + 1) (fate i stamp p) of k c q ∙ sym (ap one (and_left (forwarded i k c p) _ none))
 
   -- ---- The pairs of a fate keep to what every pair does
 

@@ -52,30 +52,30 @@ module _ (i : Internet) (ok : Passes i) (N A : ℕ → Type 0) (stamp : ℕ) (p 
       → home i (target (body p.frame.bytes)).net ≡ Some d → (hops p.frame.bytes + 1) + distance i s (target (body p.frame.bytes)).net ≤ 14)
       → (home i (target (body p.frame.bytes)).net ≡ Some c → A c)
       → ((a : Addr) (s : ℕ) → next ≡ ToStation a → owner i c a ≡ Some s → same_address (target (body p.frame.bytes)) a ≡ false → N s)
-      → Does i N A stamp (body p.frame.bytes)
+      → Does i N A stamp (body p.frame.bytes) (hops p.frame.bytes + 1)
       (cond (hops p.frame.bytes == 15) (Dropped r HopLimit (body p.frame.bytes) ∷ []) (leg i stamp (passed r p c next)))
   passed_on r c next few seated goes near there to =
-      subst (λ b. Does i N A stamp (body p.frame.bytes) (cond b (Dropped r HopLimit (body p.frame.bytes) ∷ [])
+      subst (λ b. Does i N A stamp (body p.frame.bytes) (hops p.frame.bytes + 1) (cond b (Dropped r HopLimit (body p.frame.bytes) ∷ [])
       (leg i stamp (passed r p c next))))
       (sym (ne_eqb (hops p.frame.bytes) 15 (λ e. absurd (omega (arith, e, few)))))
       (leg_does i ok N A stamp (passed r p c next) (whole_inside p.frame.bytes f) (omega (arith, few)) seated goes near there to)
 
   -- where it is for: the target's own cable
   arrived : (r c : ℕ) → hops p.frame.bytes ≤ 14 → is_on i r c ≡ true → A c → home i (target p.frame.bytes).net ≡ Some c
-      → Does i N A stamp (body p.frame.bytes) (fate_by i stamp r p (Here c))
+      → Does i N A stamp (body p.frame.bytes) (hops p.frame.bytes + 1) (fate_by i stamp r p (Here c))
   arrived r c few seated at home_is =
-      elim ((target p.frame.bytes).node == 0 || has_address i r c (target p.frame.bytes)) as (λ b. Does i N A stamp (body p.frame.bytes)
+      elim ((target p.frame.bytes).node == 0 || has_address i r c (target p.frame.bytes)) as (λ b. Does i N A stamp (body p.frame.bytes) (hops p.frame.bytes + 1)
       (cond b (Reached c r how.Own (body p.frame.bytes) ∷ [])
       (cond (hops p.frame.bytes == 15) (Dropped r HopLimit (body p.frame.bytes) ∷ [])
       (leg i stamp (passed r p c (final (target p.frame.bytes))))))) [
-        | true ↦ does_reach i ok N A stamp c r how.Own (body p.frame.bytes) (home_same (Some c) home_is) at
+        | true ↦ does_reach i ok N A stamp c r how.Own (body p.frame.bytes) (hops p.frame.bytes + 1) (home_same (Some c) home_is) at
         | false ↦ by ((target p.frame.bytes).node == 255) refl
       ]
     where
       there : cable_holds i c (target (body p.frame.bytes)).net ≡ true
       there = home_holds i (target (body p.frame.bytes)).net c (home_same (Some c) home_is)
 
-      by : (b : Bool) → ((target p.frame.bytes).node == 255) ≡ b → Does i N A stamp (body p.frame.bytes)
+      by : (b : Bool) → ((target p.frame.bytes).node == 255) ≡ b → Does i N A stamp (body p.frame.bytes) (hops p.frame.bytes + 1)
           (cond (hops p.frame.bytes == 15) (Dropped r HopLimit (body p.frame.bytes) ∷ [])
           (leg i stamp (passed r p c (cond b ToAll (ToStation (target p.frame.bytes))))))
       by true e =
@@ -99,18 +99,18 @@ module _ (i : Internet) (ok : Passes i) (N A : ℕ → Type 0) (stamp : ℕ) (p 
   listed : (c : ℕ) → is_copy i p ≡ true → home i (target p.frame.bytes).net ≡ Some c → HopsFine i p
       → (hand i p.seat.station (target p.frame.bytes).net ≡ Here c → A c)
       → ((s d : ℕ) (a : Addr) → hand i p.seat.station (target p.frame.bytes).net ≡ On s d a → N s)
-      → Does i N A stamp (body p.frame.bytes) (fate_by i stamp p.seat.station p (hand i p.seat.station (target p.frame.bytes).net))
+      → Does i N A stamp (body p.frame.bytes) (hops p.frame.bytes + 1) (fate_by i stamp p.seat.station p (hand i p.seat.station (target p.frame.bytes).net))
   listed c copy home_is fine at to =
       elim (steps i ok p.seat.station (target p.frame.bytes).net c (copy_router i p copy).0 home_is) as
-      (λ _. Does i N A stamp (body p.frame.bytes)
+      (λ _. Does i N A stamp (body p.frame.bytes) (hops p.frame.bytes + 1)
       (fate_by i stamp p.seat.station p (hand i p.seat.station (target p.frame.bytes).net))) [
         | Stops here none port ↦
             let far = fine c copy home_is in
-            subst (λ h. Does i N A stamp (body p.frame.bytes) (fate_by i stamp p.seat.station p h)) (sym here)
+            subst (λ h. Does i N A stamp (body p.frame.bytes) (hops p.frame.bytes + 1) (fate_by i stamp p.seat.station p h)) (sym here)
             (arrived p.seat.station c (omega (arith, far, none)) (port_seated i p.seat.station c port) (at here) home_is)
         | GoesBy s d a on own less nearer mine its other ↦
             let far = fine c copy home_is in
-            subst (λ h. Does i N A stamp (body p.frame.bytes) (fate_by i stamp p.seat.station p h)) (sym on)
+            subst (λ h. Does i N A stamp (body p.frame.bytes) (hops p.frame.bytes + 1) (fate_by i stamp p.seat.station p h)) (sym on)
             (passed_on p.seat.station d (ToStation a) (omega (arith, far, nearer)) (port_seated i p.seat.station d mine)
             (ByRouter a s refl own)
             (λ b t e n own_b apart h.
@@ -132,23 +132,23 @@ module _ (i : Internet) (ok : Passes i) (N A : ℕ → Type 0) (stamp : ℕ) (p 
       some_one o c d e f = cc
 
   unlisted : is_copy i p ≡ true → home i (target p.frame.bytes).net ≡ None
-      → Does i N A stamp (body p.frame.bytes) (fate_by i stamp p.seat.station p (hand i p.seat.station (target p.frame.bytes).net))
+      → Does i N A stamp (body p.frame.bytes) (hops p.frame.bytes + 1) (fate_by i stamp p.seat.station p (hand i p.seat.station (target p.frame.bytes).net))
   unlisted copy none =
-      subst (λ h. Does i N A stamp (body p.frame.bytes) (fate_by i stamp p.seat.station p h))
+      subst (λ h. Does i N A stamp (body p.frame.bytes) (hops p.frame.bytes + 1) (fate_by i stamp p.seat.station p h))
       (sym (nowhere i ok p.seat.station (target p.frame.bytes).net (copy_router i p copy).0 none))
-      (does_drop i ok N A stamp p.seat.station (body p.frame.bytes) (home_same None none))
+      (does_drop i ok N A stamp p.seat.station (body p.frame.bytes) (hops p.frame.bytes + 1) (home_same None none))
 
   -- the fate of a copy is that of its body
   pub fate_does : is_copy i p ≡ true → HopsFine i p
       → ((c : ℕ) → home i (target p.frame.bytes).net ≡ Some c → hand i p.seat.station (target p.frame.bytes).net ≡ Here c → A c)
       → ((s d : ℕ) (a : Addr) → hand i p.seat.station (target p.frame.bytes).net ≡ On s d a → N s)
-      → Does i N A stamp (body p.frame.bytes) (fate i stamp p)
+      → Does i N A stamp (body p.frame.bytes) (hops p.frame.bytes + 1) (fate i stamp p)
   fate_does copy fine at to =
-      subst (λ b. Does i N A stamp (body p.frame.bytes)
+      subst (λ b. Does i N A stamp (body p.frame.bytes) (hops p.frame.bytes + 1)
       (cond b (fate_by i stamp p.seat.station p (hand i p.seat.station (target p.frame.bytes).net)) [])) (sym copy)
       (by (home i (target p.frame.bytes).net) refl)
     where
-      by : (o : Option ℕ) → home i (target p.frame.bytes).net ≡ o → Does i N A stamp (body p.frame.bytes)
+      by : (o : Option ℕ) → home i (target p.frame.bytes).net ≡ o → Does i N A stamp (body p.frame.bytes) (hops p.frame.bytes + 1)
           (fate_by i stamp p.seat.station p (hand i p.seat.station (target p.frame.bytes).net))
       by (Some c) h = listed c copy h fine (at c h) to
       by None h = unlisted copy h

@@ -45,10 +45,10 @@ group_is g lt = ap (λ b. not (is_all (group_hw g)) && not (true && b)) (lt-ltb 
 
 module _ (i : Internet) (ok : Passes i) where
   -- entries of a datagram that asks nothing, and isn't a lookup
-  of_good : (d : List ℕ) (es : List Entry) → Each (IsOf i any d) es → Each (λ p. Framed p.frame.bytes) (pairs (cable_seats i) es)
+  of_good : (d : List ℕ) (hop : ℕ) (es : List Entry) → Each (IsOf i any d hop) es → Each (λ p. Framed p.frame.bytes) (pairs (cable_seats i) es)
       → is_request i d ≡ false → (is_forward (request d) ≡ true → (target d).node ≡ 0) → is_lookup (request d) ≡ false
       → Each (PairOk i) (pairs (cable_seats i) es)
-  of_good d es of framed req seek look =
+  of_good d hop es of framed req seek look =
       each_more (λ p. ((body p.frame.bytes ≡ d) × (p.frame.kind ≡ Ddp)) × Framed p.frame.bytes) (PairOk i) (pairs (cable_seats i) es)
       (λ p h. record {
         asker = λ u b. absurd (true≢false (sym b ∙ (ap (is_request i) h.0.0 ∙ req)));
@@ -58,8 +58,8 @@ module _ (i : Internet) (ok : Passes i) where
         kind = ap is_datagram h.0.1;
       })
       (each_both (λ p. (body p.frame.bytes ≡ d) × (p.frame.kind ≡ Ddp)) (λ p. Framed p.frame.bytes) (pairs (cable_seats i) es)
-      (each_both (λ p. body p.frame.bytes ≡ d) (λ p. p.frame.kind ≡ Ddp) (pairs (cable_seats i) es) (of_bodies i any d es of)
-      (of_kinds i any d es of)) framed)
+      (each_both (λ p. body p.frame.bytes ≡ d) (λ p. p.frame.kind ≡ Ddp) (pairs (cable_seats i) es) (of_bodies i any d hop es of)
+      (of_kinds i any d hop es of)) framed)
 
   -- one frame to a router
   one_good : (d : List ℕ) (es : List Entry) → OnePair i d es → (is_forward (request d) ≡ true → (target d).node ≡ 0)
@@ -77,14 +77,14 @@ module _ (i : Internet) (ok : Passes i) where
 
   -- ---- Legs
 
-  leg_does_any : (stamp : ℕ) (l : Leg) → IsMade i l → Does i any any stamp l.body (leg i stamp l)
+  leg_does_any : (stamp : ℕ) (l : Leg) → IsMade i l → Does i any any stamp l.body l.hops (leg i stamp l)
   leg_does_any stamp l made = made_does i ok any any stamp l made (λ s. tt) (λ c. tt)
 
   leg_good : (stamp : ℕ) (l : Leg) → IsMade i l → is_request i l.body ≡ false
       → (is_forward (request l.body) ≡ true → (target l.body).node ≡ 0)
       → is_lookup (request l.body) ≡ false → Each (PairOk i) (pairs (cable_seats i) (leg i stamp l))
   leg_good stamp l made req seek look =
-      of_good l.body (leg i stamp l) (leg_of i ok stamp l made) (leg_does_any stamp l made).framed req seek look
+      of_good l.body l.hops (leg i stamp l) (leg_of i ok stamp l made) (leg_does_any stamp l made).framed req seek look
 
   own_pair : (stamp : ℕ) (l : Leg) → IsMade i l → IsOwn i l → is_request i l.body ≡ true → OnePair i l.body (leg i stamp l)
   own_pair stamp l made own req =
@@ -115,7 +115,7 @@ module _ (i : Internet) (ok : Passes i) where
           let all = ap (count (waits i k)) o.only in
           omega (arith, value, all)
       by false e =
-          waits_none i any l.body (leg i stamp l) (leg_of i ok stamp l made) k e ∙ sym (ap one (and_left (is_request i l.body) _ e))
+          waits_none i any l.body l.hops (leg i stamp l) (leg_of i ok stamp l made) k e ∙ sym (ap one (and_left (is_request i l.body) _ e))
 
   lookup_good : (stamp : ℕ) (key : List ℕ) (r d : ℕ) (l : Leg) → IsMade i l → IsLookup i key r d l
       → Each (PairOk i) (pairs (cable_seats i) (leg i stamp l))
@@ -136,7 +136,7 @@ module _ (i : Internet) (ok : Passes i) where
       (each_both (λ p. (body p.frame.bytes ≡ l.body) × (p.frame.kind ≡ Ddp)) (λ p. p.frame.to ≡ group_hw g)
       (pairs (cable_seats i) (leg i stamp l))
       (each_both (λ p. body p.frame.bytes ≡ l.body) (λ p. p.frame.kind ≡ Ddp) (pairs (cable_seats i) (leg i stamp l))
-      (of_bodies i any l.body (leg i stamp l) does.of) (of_kinds i any l.body (leg i stamp l) does.of))
+      (of_bodies i any l.body l.hops (leg i stamp l) does.of) (of_kinds i any l.body l.hops (leg i stamp l) does.of))
       (subst (λ n. Each (λ p. p.frame.to ≡ group_hw g) (pairs (cable_seats i) (leg_to i stamp l n))) (sym h.next)
       (each-append (λ p. p.frame.to ≡ group_hw g) (pairs_of (cable_seats i) (put stamp l (group_hw g))) []
       (each_map (λ p. p.frame.to ≡ group_hw g) (λ (s : Seat). record {
@@ -204,7 +204,7 @@ module _ (i : Internet) (ok : Passes i) where
           → is_lookup (request (body p.frame.bytes)) ≡ false → Each (PairOk i) (pairs (cable_seats i) (fate i stamp p))
       by_request true req u look = by_end (ends_at i p) refl u look req
       by_request false req u look =
-          of_good (body p.frame.bytes) (fate i stamp p) (fate_of i ok stamp p f fine) (fate_framed stamp p f fine) req
+          of_good (body p.frame.bytes) (hops p.frame.bytes + 1) (fate i stamp p) (fate_of i ok stamp p f fine) (fate_framed stamp p f fine) req
           (λ q. ap (λ (a : Addr). a.node) (target_inside p.frame.bytes f) ∙ good.seeker q) look
 
       by_lookup : (b : Bool) → is_lookup (request (body p.frame.bytes)) ≡ b → is_unicast p.frame.to ≡ true

@@ -101,7 +101,7 @@ module _ (i : Internet) (ok : Passes i) (N A : ℕ → Type 0) where
   -- to the station that it is for
   to_there : (stamp : ℕ) (l : Leg) (whole : Whole l.body) (few : l.hops ≤ 15) (seated : is_on i l.station l.cable ≡ true) (s : PlaceOf)
       → SeatThere i l.cable (target l.body) s → A l.cable
-      → Does i N A stamp l.body (to_target stamp l (Some s))
+      → Does i N A stamp l.body l.hops (to_target stamp l (Some s))
   to_there stamp l whole few seated s w there =
       does_arrive i ok N A stamp l whole few seated how.Station s.hardware (seat_home i ok l.cable (target l.body) s w) there
       (none_alone i ok N A (frame_to i ok N A stamp l whole few seated s.hardware) w.place s w.at w.cable_is refl
@@ -121,8 +121,8 @@ module _ (i : Internet) (ok : Passes i) (N A : ℕ → Type 0) where
   -- to its target, which may not be there
   straight : (stamp : ℕ) (l : Leg) (whole : Whole l.body) (few : l.hops ≤ 15) (seated : is_on i l.station l.cable ≡ true) → home i
       (target l.body).net ≡ Some l.cable → A l.cable
-      → (o : Option PlaceOf) → seat_at i l.cable (target l.body) ≡ o → Does i N A stamp l.body (to_target stamp l o)
-  straight stamp l whole few seated home_is there None e = does_reach i ok N A stamp l.cable l.station how.Absent l.body home_is there
+      → (o : Option PlaceOf) → seat_at i l.cable (target l.body) ≡ o → Does i N A stamp l.body l.hops (to_target stamp l o)
+  straight stamp l whole few seated home_is there None e = does_reach i ok N A stamp l.cable l.station how.Absent l.body l.hops home_is there
   straight stamp l whole few seated home_is there (Some s) e =
       to_there stamp l whole few seated s (seat_there i l.cable (target l.body) s e) there
 
@@ -131,7 +131,7 @@ module _ (i : Internet) (ok : Passes i) (N A : ℕ → Type 0) where
       (s : PlaceOf) → SeatThere i l.cable a s
       → s.station < length i.routers → same_address (target l.body) a ≡ false
       → ((c : ℕ) → home i (target l.body).net ≡ Some c → l.hops + distance i s.station (target l.body).net ≤ 14) → N s.station
-      → Does i N A stamp l.body (to_other stamp l (Some s))
+      → Does i N A stamp l.body l.hops (to_other stamp l (Some s))
   onward stamp l whole few seated a s w router apart near next =
       elim (cases_eq (target l.body).net 0) [
         | inl none ↦ does_stay i ok N A stamp l whole few seated s.hardware none
@@ -160,10 +160,10 @@ module _ (i : Internet) (ok : Passes i) (N A : ℕ → Type 0) where
       → home i (target l.body).net ≡ Some c → l.hops + distance i r (target l.body).net ≤ 14)
       → (home i (target l.body).net ≡ Some l.cable → A l.cable)
       → ((a : Addr) (r : ℕ) → l.next ≡ ToStation a → owner i l.cable a ≡ Some r → same_address (target l.body) a ≡ false → N r)
-      → Does i N A stamp l.body (leg i stamp l)
+      → Does i N A stamp l.body l.hops (leg i stamp l)
   leg_does stamp l whole few seated (Straight e on) near there next =
-      subst (λ n. Does i N A stamp l.body (leg_to i stamp l n)) (sym e)
-      (subst (λ b. Does i N A stamp l.body (cond b (to_target stamp l (seat_at i l.cable (target l.body)))
+      subst (λ n. Does i N A stamp l.body l.hops (leg_to i stamp l n)) (sym e)
+      (subst (λ b. Does i N A stamp l.body l.hops (cond b (to_target stamp l (seat_at i l.cable (target l.body)))
       (to_other stamp l (seat_at i l.cable (target l.body)))))
       (sym (same_address_self (target l.body)))
       (straight stamp l whole few seated (home_is i ok (target l.body).net l.cable on)
@@ -172,10 +172,10 @@ module _ (i : Internet) (ok : Passes i) (N A : ℕ → Type 0) where
       let w = owner_is i l.cable a r own in
       let s = w.0.0 in
       let place = seat_there i l.cable a s w.0.1 in
-      subst (λ n. Does i N A stamp l.body (leg_to i stamp l n)) (sym e)
-      (subst (λ o. Does i N A stamp l.body (cond (same_address (target l.body) a) (to_target stamp l o) (to_other stamp l o))) (sym w.0.1)
+      subst (λ n. Does i N A stamp l.body l.hops (leg_to i stamp l n)) (sym e)
+      (subst (λ o. Does i N A stamp l.body l.hops (cond (same_address (target l.body) a) (to_target stamp l o) (to_other stamp l o))) (sym w.0.1)
       ((elim (same_address (target l.body) a) as (λ b. same_address (target l.body) a ≡ b
-      → Does i N A stamp l.body (cond b (to_target stamp l (Some s)) (to_other stamp l (Some s)))) [
+      → Does i N A stamp l.body l.hops (cond b (to_target stamp l (Some s)) (to_other stamp l (Some s)))) [
         | true ↦ λ same. (let mine = at_target (same_address_is (target l.body) a same) place in
             to_there stamp l whole few seated s mine (there (seat_home i ok l.cable (target l.body) s mine)))
         | false ↦ λ apart.
@@ -190,17 +190,17 @@ module _ (i : Internet) (ok : Passes i) (N A : ℕ → Type 0) where
       at_target {s} {a} e w = subst (λ x. SeatThere i l.cable x s) (sym e) w
   leg_does stamp l whole few seated (ToThem e on) near there next =
       let home_is_there = home_is i ok (target l.body).net l.cable on in
-      subst (λ n. Does i N A stamp l.body (leg_to i stamp l n)) (sym e)
-      (subst (λ o. Does i N A stamp l.body (cond (is_some o) (reach how.All l ∷ put stamp l all_hw ∷ []) (put stamp l all_hw ∷ [])))
+      subst (λ n. Does i N A stamp l.body l.hops (leg_to i stamp l n)) (sym e)
+      (subst (λ o. Does i N A stamp l.body l.hops (cond (is_some o) (reach how.All l ∷ put stamp l all_hw ∷ []) (put stamp l all_hw ∷ [])))
       (sym home_is_there)
       (does_arrive i ok N A stamp l whole few seated how.All all_hw home_is_there (there home_is_there)
       (none_at_all i ok N A (frame_to i ok N A stamp l whole few seated all_hw) (λ s. refl))))
   leg_does stamp l whole few seated (OnCable e none) near there next =
-      subst (λ n. Does i N A stamp l.body (leg_to i stamp l n)) (sym e) (by (home i (target l.body).net) refl)
+      subst (λ n. Does i N A stamp l.body l.hops (leg_to i stamp l n)) (sym e) (by (home i (target l.body).net) refl)
     where
       by : (o : Option ℕ) → home i (target l.body).net ≡ o
-          → Does i N A stamp l.body (cond (is_some o) (reach how.All l ∷ put stamp l all_hw ∷ []) (put stamp l all_hw ∷ []))
+          → Does i N A stamp l.body l.hops (cond (is_some o) (reach how.All l ∷ put stamp l all_hw ∷ []) (put stamp l all_hw ∷ []))
       by None h = does_stay i ok N A stamp l whole few seated all_hw none
       by (Some c) h = let low = listed_some i ok (target l.body).net c h in absurd (omega (arith, low, none))
   leg_does stamp l whole few seated (ToThese g lt e none) near there next =
-      subst (λ n. Does i N A stamp l.body (leg_to i stamp l n)) (sym e) (does_stay i ok N A stamp l whole few seated (group_hw g) none)
+      subst (λ n. Does i N A stamp l.body l.hops (leg_to i stamp l n)) (sym e) (does_stay i ok N A stamp l whole few seated (group_hw g) none)

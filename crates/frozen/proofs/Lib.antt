@@ -16,3 +16,5 @@ pub mod FateCounts
 pub mod Goods
 pub mod Answering
 pub mod LookedUp
+pub mod BlueNames
+pub mod Refused

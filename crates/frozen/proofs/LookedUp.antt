@@ -124,7 +124,7 @@ module _ (i : Internet) (ok : Passes i) where
         balance = λ k.
             let a = count-append (is_asked i k) t es in
             let a2 = ap (count (is_asked i k)) all in
-            let a3 = of_unasked i any l.body k lg of in
+            let a3 = of_unasked i any l.body l.hops k lg of in
             let b = more_took t es r.below new.ends_none new.numbered (ends_so i k) in
             let d = more_pending t es r.below new.ends_none new.numbered (waits i k) in
             let d2 = ap (λ x. count (waits i k) (pairs (cable_seats i) x)) all in
@@ -134,12 +134,12 @@ module _ (i : Internet) (ok : Passes i) where
         looked = λ k c.
             let a = count-append (looks i k c) t es in
             let a2 = ap (count (looks i k c)) all in
-            let a3 = of_no_lookup i any l.body k c lg own.no_lookup of in
+            let a3 = of_no_lookup i any l.body l.hops k c lg own.no_lookup of in
             let b = more_took t es r.below new.ends_none new.numbered (ends_so i k) in
             let b2 = ap (share (is_among c (listing i (zone_of k)))) b in
             let d = more_pending t es r.below new.ends_none new.numbered (forwarded i k c) in
             let d2 = ap (λ x. count (forwarded i k c) (pairs (cable_seats i) x)) all in
-            let d3 = forwarded_none i any l.body lg of k c own.no_forward in
+            let d3 = forwarded_none i any l.body l.hops lg of k c own.no_forward in
             let x = req.looked k c in
             omega (arith, a, a2, a3, b2, d, d2, d3, x);
       }

@@ -253,13 +253,13 @@ module _ (i : Internet) (ok : Passes i) where
 
     -- ---- The fate of what was taken
 
-    pub fate_of : HopsFine i p → Each (IsOf i any (body p.frame.bytes)) (fate i stamp p)
+    pub fate_of : HopsFine i p → Each (IsOf i any (body p.frame.bytes) (hops p.frame.bytes + 1)) (fate i stamp p)
     fate_of fine = by (is_copy i p) refl
       where
-        by : (b : Bool) → is_copy i p ≡ b → Each (IsOf i any (body p.frame.bytes)) (fate i stamp p)
+        by : (b : Bool) → is_copy i p ≡ b → Each (IsOf i any (body p.frame.bytes) (hops p.frame.bytes + 1)) (fate i stamp p)
         by true e = (fate_does i ok any any stamp p f e fine (λ c h at. tt) (λ s d a on. tt)).of
         by false e =
-            subst (λ b. Each (IsOf i any (body p.frame.bytes))
+            subst (λ b. Each (IsOf i any (body p.frame.bytes) (hops p.frame.bytes + 1))
             (cond b (fate_by i stamp p.seat.station p (hand i p.seat.station (target p.frame.bytes).net)) [])) (sym e) tt
 
     -- where it ends, nothing is put

@@ -63,9 +63,9 @@ module _ (i : Internet) where
 
   -- ---- Entries of one datagram
 
-  module _ (A : ℕ → Type 0) (d : List ℕ) where
+  module _ (A : ℕ → Type 0) (d : List ℕ) (hop : ℕ) where
     -- the pairs are of its frames
-    pub of_bodies : (es : List Entry) → Each (IsOf i A d) es → Each (λ p. body p.frame.bytes ≡ d) (pairs (cable_seats i) es)
+    pub of_bodies : (es : List Entry) → Each (IsOf i A d hop) es → Each (λ p. body p.frame.bytes ≡ d) (pairs (cable_seats i) es)
     of_bodies [] h = tt
     of_bodies (Put f ∷ es) h =
         each-append (λ p. body p.frame.bytes ≡ d) (pairs_of (cable_seats i) (Put f)) (pairs (cable_seats i) es)
@@ -78,7 +78,7 @@ module _ (i : Internet) where
     of_bodies (Lost p ∷ es) h = absurd h.0
 
     -- and hold datagrams
-    pub of_kinds : (es : List Entry) → Each (IsOf i A d) es → Each (λ p. p.frame.kind ≡ Ddp) (pairs (cable_seats i) es)
+    pub of_kinds : (es : List Entry) → Each (IsOf i A d hop) es → Each (λ p. p.frame.kind ≡ Ddp) (pairs (cable_seats i) es)
     of_kinds [] h = tt
     of_kinds (Put f ∷ es) h =
         each-append (λ p. p.frame.kind ≡ Ddp) (pairs_of (cable_seats i) (Put f)) (pairs (cable_seats i) es)
@@ -89,14 +89,26 @@ module _ (i : Internet) where
     of_kinds (Took p s ∷ es) h = absurd h.0
     of_kinds (Lost p ∷ es) h = absurd h.0
 
+    -- with so many hops
+    pub of_hops : (es : List Entry) → Each (IsOf i A d hop) es → Each (λ p. hops p.frame.bytes ≡ hop) (pairs (cable_seats i) es)
+    of_hops [] h = tt
+    of_hops (Put f ∷ es) h =
+        each-append (λ p. hops p.frame.bytes ≡ hop) (pairs_of (cable_seats i) (Put f)) (pairs (cable_seats i) es)
+        (each_map (λ p. hops p.frame.bytes ≡ hop) (λ (s : Seat). record { frame = f; seat = s }) _ (each_all _ _ (λ s. h.0.3))) (of_hops es h.1)
+    of_hops (Reached c s w b ∷ es) h = of_hops es h.1
+    of_hops (Dropped r c b ∷ es) h = of_hops es h.1
+    of_hops (Sent s b ∷ es) h = absurd h.0
+    of_hops (Took p s ∷ es) h = absurd h.0
+    of_hops (Lost p ∷ es) h = absurd h.0
+
     -- a test that passes no frame of it
-    pub of_none : (f : Pair → Bool) (es : List Entry) → Each (IsOf i A d) es → ((p : Pair) → body p.frame.bytes ≡ d → f p ≡ false)
+    pub of_none : (f : Pair → Bool) (es : List Entry) → Each (IsOf i A d hop) es → ((p : Pair) → body p.frame.bytes ≡ d → f p ≡ false)
         → count f (pairs (cable_seats i) es) ≡ 0
     of_none f es h never =
         count_none f (pairs (cable_seats i) es) (each_more (λ p. body p.frame.bytes ≡ d) (λ p. f p ≡ false)
         (pairs (cable_seats i) es) never (of_bodies es h))
 
-    pub of_unasked : (k : List ℕ) (es : List Entry) → Each (IsOf i A d) es → count (is_asked i k) es ≡ 0
+    pub of_unasked : (k : List ℕ) (es : List Entry) → Each (IsOf i A d hop) es → count (is_asked i k) es ≡ 0
     of_unasked k [] h = refl
     of_unasked k (Put f ∷ es) h = let rest = of_unasked k es h.1 in omega (arith, rest)
     of_unasked k (Reached c s w b ∷ es) h = let rest = of_unasked k es h.1 in omega (arith, rest)
@@ -106,7 +118,7 @@ module _ (i : Internet) where
     of_unasked k (Lost p ∷ es) h = absurd h.0
 
     -- what is no lookup makes none
-    pub of_no_lookup : (k : List ℕ) (c : ℕ) (es : List Entry) → is_lookup (request d) ≡ false → Each (IsOf i A d) es → count
+    pub of_no_lookup : (k : List ℕ) (c : ℕ) (es : List Entry) → is_lookup (request d) ≡ false → Each (IsOf i A d hop) es → count
         (looks i k c) es ≡ 0
     of_no_lookup k c [] e h = refl
     of_no_lookup k c (Put f ∷ es) e h =

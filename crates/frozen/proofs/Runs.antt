@@ -3,7 +3,7 @@ use Rattle.std.proofs.Common.{◌≡◌, ◌≢◌, ℕ, ◌+◌, ◌<◌, Bool,
 use Rattle.std.proofs.Common.{refl, sym, ap, ◌∙◌, subst, arith, append_assoc}
 use Rattle.std.specs.List.{AllByRecursion as Each}
 use Rattle.at_base.specs.Text.{same_bytes}
-use Rattle.ddp.specs.Bodies.{body, target}
+use Rattle.ddp.specs.Bodies.{body, hops, target}
 use Rattle.table_image.specs.Internet.{Internet}
 use Rattle.audit.specs.Routing.{hand}
 use Rattle.audit.specs.Rules.{Passes}
@@ -59,9 +59,9 @@ module _ (i : Internet) (ok : Passes i) where
   keeps_none stamp = record { adds = λ b some. refl; right = tt; hops_left = tt; framed = tt; ends_none = tt; numbered = tt }
 
   -- one datagram's entries, and others after them
-  keeps_more : (stamp : ℕ) (d : List ℕ) (es fs : List Entry) → Does i any any stamp d es → Keeps (stamp + stamps es) nothing fs
+  keeps_more : (stamp : ℕ) (d : List ℕ) (hop : ℕ) (es fs : List Entry) → Does i any any stamp d hop es → Keeps (stamp + stamps es) nothing fs
       → Keeps stamp (λ b. one (same_bytes b d)) (es ++ fs)
-  keeps_more stamp d es fs does rest = record {
+  keeps_more stamp d hop es fs does rest = record {
     adds = λ b some.
         let mine = does.adds b some in
         let theirs = rest.adds b some in
@@ -79,7 +79,7 @@ module _ (i : Internet) (ok : Passes i) where
 
   -- a datagram that a station made
   pub made_does : (N A : ℕ → Type 0) (stamp : ℕ) (l : Leg) → IsMade i l → ((s : ℕ) → N s) → ((c : ℕ) → A c)
-      → Does i N A stamp l.body (leg i stamp l)
+      → Does i N A stamp l.body l.hops (leg i stamp l)
   made_does N A stamp l made to at =
       let fresh = made.fresh in
       leg_does i ok N A stamp l (whole l.body made.whole) (omega (arith, fresh)) made.seated made.goes (λ a r c e own apart h.
@@ -94,7 +94,7 @@ module _ (i : Internet) (ok : Passes i) where
   said_keeps stamp (l ∷ ls) made =
       let es = leg i stamp l in
       let fs = said i (stamp + stamps es) ls in
-      let rest = keeps_more stamp l.body es fs (made_does any any stamp l made.0 (λ s. tt) (λ c. tt))
+      let rest = keeps_more stamp l.body l.hops es fs (made_does any any stamp l made.0 (λ s. tt) (λ c. tt))
       (said_keeps (stamp + stamps es) ls made.1) in
       record {
         adds = λ b some. let h = rest.adds b some in omega (arith, h);
@@ -115,7 +115,7 @@ module _ (i : Internet) (ok : Passes i) where
     where
       by : (b : Bool) → is_copy i p ≡ b → Keeps stamp (owed_by p) (handled i stamp p ls)
       by true e =
-          let all = keeps_more stamp (body p.frame.bytes) (fate i stamp p) (said i (stamp + stamps (fate i stamp p)) ls)
+          let all = keeps_more stamp (body p.frame.bytes) (hops p.frame.bytes + 1) (fate i stamp p) (said i (stamp + stamps (fate i stamp p)) ls)
           (fate_does i ok any any stamp p framed e fine (λ c h at. tt) (λ s d a on. tt))
           (said_keeps (stamp + stamps (fate i stamp p)) ls made) in
           record {

@@ -75,25 +75,25 @@ module _ (i : Internet) where
   pub no_request : (d : List ℕ) → is_broadcast (request d) ≡ false → is_request i d ≡ false
   no_request d e = and_left (is_broadcast (request d)) _ e
 
-  module _ (A : ℕ → Type 0) (d : List ℕ) (es : List Entry) (of : Each (IsOf i A d) es) where
+  module _ (A : ℕ → Type 0) (d : List ℕ) (hop : ℕ) (es : List Entry) (of : Each (IsOf i A d hop) es) where
     pub waits_none : (k : List ℕ) → is_request i d ≡ false → count (waits i k) (pairs (cable_seats i) es) ≡ 0
     waits_none k e =
-        of_none i A d (waits i k) es of (λ p same.
+        of_none i A d hop (waits i k) es of (λ p same.
         and_right (is_unicast p.frame.to) _ (and_left (is_request i (body p.frame.bytes)) _ (ap (is_request i) same ∙ e)))
 
     pub forwarded_none : (k : List ℕ) (c : ℕ) → is_forward (request d) ≡ false → count (forwarded i k c) (pairs (cable_seats i) es) ≡ 0
     forwarded_none k c e =
-        of_none i A d (forwarded i k c) es of (λ p same.
+        of_none i A d hop (forwarded i k c) es of (λ p same.
         and_right (is_copy i p) _ (and_left (is_forward (request (body p.frame.bytes))) _ (ap (λ b. is_forward (request b)) same ∙ e)))
 
     -- entries of a datagram that is no request
     quiet : (k : List ℕ) (c : ℕ) → is_lookup (request d) ≡ false → is_forward (request d) ≡ false → is_request i d ≡ false → Tally k c 0 es
     quiet k c a b e = record {
       found =
-          let x = of_no_lookup i A d k c es a of in
+          let x = of_no_lookup i A d hop k c es a of in
           let y = forwarded_none k c b in
           omega (arith, x, y);
-      unasked = of_unasked i A d k es of;
+      unasked = of_unasked i A d hop k es of;
       no_wait = waits_none k e;
     }
 
@@ -107,7 +107,7 @@ module _ (i : Internet) where
 
   module _ (ok : Passes i) where
     -- the entries of a leg are of its datagram
-    pub leg_of : (stamp : ℕ) (l : Leg) → IsMade i l → Each (IsOf i any l.body) (leg i stamp l)
+    pub leg_of : (stamp : ℕ) (l : Leg) → IsMade i l → Each (IsOf i any l.body l.hops) (leg i stamp l)
     leg_of stamp l made = (made_does i ok any any stamp l made (λ s. tt) (λ c. tt)).of
 
     lookup_leg : (k : List ℕ) (c stamp : ℕ) (key : List ℕ) (r d : ℕ) (l : Leg) → IsMade i l → r < length i.routers → IsLookup i key r d l
@@ -129,9 +129,9 @@ module _ (i : Internet) where
         let looked : count (looks i k c) (leg i stamp l) ≡ one (d == c && same_bytes k key) =
         ap (λ n. count (looks i k c) (leg_to i stamp l n)) h.next ∙ (let v = ap one value in omega (arith, v)) in
         record {
-          found = let y = forwarded_none any l.body (leg i stamp l) of k c alone.1 in omega (arith, looked, y);
-          unasked = of_unasked i any l.body k (leg i stamp l) of;
-          no_wait = waits_none any l.body (leg i stamp l) of k none;
+          found = let y = forwarded_none any l.body l.hops (leg i stamp l) of k c alone.1 in omega (arith, looked, y);
+          unasked = of_unasked i any l.body l.hops k (leg i stamp l) of;
+          no_wait = waits_none any l.body l.hops (leg i stamp l) of k none;
         }
 
     -- whether the pair of a frame to a router is a copy
@@ -198,11 +198,11 @@ module _ (i : Internet) where
         let o = via_one i ok stamp l h.address h.router (whole l.body made.whole) (omega (arith, fresh)) h.next own in
         record {
           found =
-              let x = of_no_lookup i any l.body k c (leg i stamp l) alone.1 of in
+              let x = of_no_lookup i any l.body l.hops k c (leg i stamp l) alone.1 of in
               let y = forward_pair k c d l.body (leg i stamp l) o h.kind h.to h.node ∙ ap (λ z. one (d == c && same_bytes k z)) h.key in
               omega (arith, x, y);
-          unasked = of_unasked i any l.body k (leg i stamp l) of;
-          no_wait = waits_none any l.body (leg i stamp l) of k (no_request l.body alone.0);
+          unasked = of_unasked i any l.body l.hops k (leg i stamp l) of;
+          no_wait = waits_none any l.body l.hops (leg i stamp l) of k (no_request l.body alone.0);
         }
 
     one_leg : (k : List ℕ) (c stamp n : ℕ) (l : Leg) → is_request i l.body ≡ false → Tally k c n (leg i stamp l) → (m : ℕ) (ls : List Leg)
@@ -247,5 +247,5 @@ module _ (i : Internet) where
     others_said k c stamp (l ∷ ls) made h =
         let e = other_alone l.body h.0 in
         let none = no_request l.body e.0 in
-        one_leg k c stamp 0 l none (quiet any l.body (leg i stamp l) (leg_of stamp l made.0) k c e.2 e.1 none) 0 ls
+        one_leg k c stamp 0 l none (quiet any l.body l.hops (leg i stamp l) (leg_of stamp l made.0) k c e.2 e.1 none) 0 ls
         (others_said k c (stamp + stamps (leg i stamp l)) ls made.1 h.1)

@@ -1,6 +1,6 @@
 -- By which routers a datagram came. This project's own.
 use Rattle.std.specs.Prelude.{◌≡◌, ℕ, ◌≤◌, true, List, [], ◌∷◌, ◌++◌, Option, Some, None, length, slice_get}
-use Rattle.ddp.specs.Bodies.{target}
+use Rattle.ddp.specs.Bodies.{hops, target}
 use Rattle.table_image.specs.Internet.{Internet}
 use Rattle.audit.specs.Walks.{IsWalk}
 use Rattle.cable_model.specs.Transcript.{Entry, Sent, Put, Took, Reached, Dropped, Lost}
@@ -34,10 +34,11 @@ abbrev pub IsChain : Internet → ℕ → ℕ → List ℕ → Type 0
 IsChain i n cable [] = Unit {0}
 IsChain i n cable (r ∷ rest) = IsWalk i n r rest cable × (length (r ∷ rest) ≤ 15)
 
--- What reached a cable was carried by no router, or by those of the walk; who puts a frame on a cable is there.
+-- What reached a cable was carried by no router, or by those of the walk; who puts a frame on a cable is there, and the hop
+-- count says how many routers carried what it holds.
 abbrev pub IsCarried : Internet → Chains → Entry → Type 0
 IsCarried i w (Reached cable station how body) = IsChain i (target body).net cable w.now
-IsCarried i w (Put frame) = is_on i frame.sender frame.cable ≡ true
+IsCarried i w (Put frame) = (is_on i frame.sender frame.cable ≡ true) × (hops frame.bytes ≡ length w.now)
 IsCarried i w (Sent station body) = Unit {0}
 IsCarried i w (Took stamp station) = Unit {0}
 IsCarried i w (Dropped router cause body) = Unit {0}

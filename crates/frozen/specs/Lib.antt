@@ -7,3 +7,5 @@ pub mod Counts
 pub mod Carriage
 pub mod Lookups
 pub mod Example
+pub mod LookupExample
+pub mod Illegal

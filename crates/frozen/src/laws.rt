@@ -10,8 +10,13 @@ ghost use Rattle.frozen.specs.Carriage.{AreCarried, none_yet};
 ghost use Rattle.frozen.specs.Counts.{HasHopsLeft, IsConserved};
 ghost use Rattle.frozen.specs.Counts.{reached, sent, under_way};
 ghost use Rattle.frozen.specs.Example.{echo, echo_reply, echo_request};
+ghost use Rattle.frozen.specs.Illegal.{looked_elsewhere, looked_nowhere, passed_from_all};
+ghost use Rattle.frozen.specs.Illegal.{reached_alone, same_hops, taken_twice};
 ghost use Rattle.frozen.specs.Legal.{IsLegal};
-ghost use Rattle.frozen.specs.Lookups.{IsLookedUp};
+ghost use Rattle.frozen.specs.LookupExample.{blue_names, blue_request};
+ghost use Rattle.frozen.specs.Lookups.{IsLookedUp, asked as asked_for};
+ghost use Rattle.frozen.specs.Lookups.{lookups as lookups_on, taken};
+ghost use Rattle.frozen.specs.Requests.{key_in, request};
 
 /// Conservation: each datagram to a listed network is under way once or has reached its
 /// destination's cable once, and no other; each to a network that is neither listed nor 0 is under
@@ -48,4 +53,29 @@ pub fn the_echo_is_legal()
     ensures replied { (sent (echo_reply 0) echo ≡ 1) × (reached (echo_reply 0) 0 echo ≡ 1) }
     ensures done { (under_way three_cables (echo_request 0) echo ≡ 0)
         × (under_way three_cables (echo_reply 0) echo ≡ 0) }
+{}
+
+/// The request for the names in the zone blue over three cables is legal. It was asked and taken
+/// once, has made one lookup on each of the two cables that list the zone, and none on the first.
+/// This project's own.
+pub fn the_lookup_is_legal()
+    ensures legal { IsLegal three_cables blue_names }
+    ensures asked { (asked_for three_cables (key_in (request blue_request)) blue_names ≡ 1)
+        × (taken three_cables (key_in (request blue_request)) blue_names ≡ 1) }
+    ensures looked { (lookups_on three_cables (key_in (request blue_request)) 0 blue_names ≡ 0)
+        × (lookups_on three_cables (key_in (request blue_request)) 1 blue_names ≡ 1)
+        × (lookups_on three_cables (key_in (request blue_request)) 2 blue_names ≡ 1) }
+{}
+
+/// What legal excludes: a datagram that reached a cable and wasn't sent, a frame that one station
+/// takes twice, one that a router passes on though it heard it as one of all, a datagram that is
+/// passed on with the hop count that it had, a lookup on a cable that doesn't list the zone, and
+/// none on one that does. This project's own.
+pub fn words_exclude()
+    ensures reached { ¬ IsLegal three_cables reached_alone }
+    ensures taken { ¬ IsLegal three_cables taken_twice }
+    ensures heard { ¬ IsLegal three_cables passed_from_all }
+    ensures hops { ¬ IsLegal three_cables same_hops }
+    ensures looked { ¬ IsLegal three_cables looked_elsewhere }
+    ensures not_looked { ¬ IsLegal three_cables looked_nowhere }
 {}

@@ -3,4 +3,6 @@
 
 mod laws;
 
-pub use laws::{carriage, conservation, hops_left, the_echo_is_legal};
+pub use laws::{
+    carriage, conservation, hops_left, lookups, the_echo_is_legal, the_lookup_is_legal, words_exclude,
+};
