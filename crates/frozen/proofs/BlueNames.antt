@@ -1,5 +1,5 @@
 -- The request for names over three cables is legal, block by block.
-use Rattle.std.proofs.Common.{◌≡◌, ℕ, ◌+◌, ◌<◌, ◌≤◌, ◌⊎◌, inl, inr, true, false, List, [], ◌∷◌, ◌++◌, Option, Some, None, refl, sym, arith, take, drop, codes}
+use Rattle.std.proofs.Common.{◌≡◌, ℕ, ◌<◌, ◌≤◌, inl, inr, false, List, [], ◌∷◌, Option, Some, None, refl, sym, arith, take, drop, codes}
 use Rattle.std.proofs.Common.{length, IsTrue, nat_lt}
 use Rattle.std.specs.List.{list_all}
 use Rattle.at_base.specs.Spelling.{bytes_of}
@@ -9,13 +9,13 @@ use Rattle.ddp.specs.declared.header.Header.{Header}
 use Rattle.ddp.specs.Datagram.{datagram, unsummed}
 use Rattle.ddp.proofs.Shape.{bytes_laid}
 use Rattle.ddp.proofs.Written.{Fitting, unsummed_value}
+use Rattle.at_base.specs.Packets.{address, text}
 use Rattle.nbp.specs.Packets.{packet, tuple}
 use Rattle.audit.specs.Example.{addr, hardware, three_cables}
 use Rattle.cable_model.specs.declared.entry.Kind.TheVariants.{Ddp}
-use Rattle.cable_model.specs.declared.seat.Seat.{Seat}
 use Rattle.cable_model.specs.Pending.{Pair}
-use Rattle.cable_model.specs.Transcript.{Entry, Frame, Took}
-use Rattle.frozen.specs.Answers.{Answers, ByRouter, Expanded, IsBody, IsMade, LookedUp, Others, ToThese}
+use Rattle.cable_model.specs.Transcript.{Frame, Took}
+use Rattle.frozen.specs.Answers.{ByRouter, Expanded, IsBody, IsMade, LookedUp, Others, ToThese}
 use Rattle.frozen.specs.Legal.{IsLegal, Begins, Goes, Sends, Takes}
 use Rattle.frozen.specs.Legs.{Leg, ToGroup, ToStation, group_hw}
 use Rattle.frozen.specs.LookupExample.{blue, blue_forward, blue_lookup, blue_names, blue_request, lab_reply}
@@ -77,7 +77,7 @@ forward_is_body =
 reply_is_body : IsBody (lab_reply 0)
 reply_is_body =
     let h : Header =
-      record { summed = false; target = addr 10 7; source = addr 30 5; target_socket = 253; source_socket = 2; kind = 2 } in
+    record { summed = false; target = addr 10 7; source = addr 30 5; target_socket = 253; source_socket = 2; kind = 2 } in
     let payload = drop 13 (lab_reply 0) in
     is_body h payload (lab_reply 0) (record {
       target_net = omega arith;
@@ -134,7 +134,7 @@ pair f station port byte group =
     record { frame = f; seat = record { cable = f.cable; station = station; port = port; hw = hardware byte; group = group } }
 
 asked : IsLegal three_cables (take 3 blue_names)
-unfolding request datagram packet tuple
+unfolding request datagram packet tuple address text
 asked =
     Goes [] (take 3 blue_names) Begins
     (Sends request_leg request_is_made (record {
@@ -144,51 +144,56 @@ asked =
     }))
 
 expanded : IsLegal three_cables (take 8 blue_names)
-unfolding request zone_of datagram packet tuple
+unfolding request zone_of datagram packet tuple address text
 expanded =
     Goes (take 3 blue_names) (take 5 (drop 3 blue_names)) asked
     (Takes (pair (frame 0 0 2 (hardware 1) blue_request) 0 0 1 None) (second_leg ∷ forward_leg ∷ []) (0, omega arith, refl)
     (second_is_made, (forward_is_made, tt))
-    (Expanded refl (inl (record { here = refl; by = refl; kind = refl; key = refl; next = refl }),
-    (inr (record {
-      kind = refl;
-      key = refl;
-      to = refl;
-      node = refl;
-      router = 1;
-      address = addr 20 2;
-      handed = refl;
-      next = refl;
-    }), tt))))
+    (Expanded refl (
+      inl (record { here = refl; by = refl; kind = refl; key = refl; next = refl }),
+      (
+        inr (record {
+          kind = refl;
+          key = refl;
+          to = refl;
+          node = refl;
+          router = 1;
+          address = addr 20 2;
+          handed = refl;
+          next = refl;
+        }),
+        tt,
+      ),
+    )))
 
 looked : IsLegal three_cables (take 12 blue_names)
-unfolding request zone_of datagram packet tuple
+unfolding request zone_of datagram packet tuple address text
 looked =
     Goes (take 8 blue_names) (take 4 (drop 8 blue_names)) expanded
     (Takes (pair (frame 2 1 0 (hardware 3) blue_forward) 1 0 3 None) (third_leg ∷ []) (0, omega arith, refl) (third_is_made, tt)
     (LookedUp 2 third_leg refl refl refl (record { here = refl; by = refl; kind = refl; key = refl; next = refl })))
 
 answered : IsLegal three_cables (take 15 blue_names)
-unfolding request zone_of datagram packet tuple
+unfolding request zone_of datagram packet tuple address text
 answered =
     Goes (take 12 blue_names) (take 3 (drop 12 blue_names)) looked
     (Takes (pair (frame 3 2 1 (group_hw 118) (blue_lookup 30)) 3 0 6 (Some 118)) (reply_leg ∷ []) (0, omega arith, refl)
     (reply_is_made, tt) (Others refl refl (refl, tt)))
 
 passed_back : IsLegal three_cables (take 17 blue_names)
-unfolding request zone_of datagram packet tuple
+unfolding request zone_of datagram packet tuple address text
 passed_back =
     Goes (take 15 blue_names) (take 2 (drop 15 blue_names)) answered
     (Takes (pair (frame 4 2 3 (hardware 4) (lab_reply 0)) 1 1 4 None) [] (0, omega arith, refl) tt (Others refl refl tt))
 
 come_back : IsLegal three_cables (take 20 blue_names)
-unfolding request zone_of datagram packet tuple
+unfolding request zone_of datagram packet tuple address text
 come_back =
     Goes (take 17 blue_names) (take 3 (drop 17 blue_names)) passed_back
     (Takes (pair (frame 5 1 1 (hardware 2) (lab_reply 4)) 0 1 2 None) [] (0, omega arith, refl) tt (Others refl refl tt))
 
 pub names_are_legal : IsLegal three_cables blue_names
-unfolding request zone_of datagram packet tuple
+unfolding request zone_of datagram packet tuple address text
 names_are_legal =
     Goes (take 20 blue_names) (Took 6 2 ∷ []) come_back
     (Takes (pair (frame 6 0 0 (hardware 5) (lab_reply 8)) 2 0 5 (Some (group_of (codes "Red")))) [] (0, omega arith, refl) tt

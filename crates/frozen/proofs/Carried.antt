@@ -127,17 +127,19 @@ module _ (i : Internet) where
       carried = of_carried frames es does.of;
       paths =
           both (pairs (cable_seats i) es) (of_frames frames es does.of (subst (λ k. AreNumbered k es) e does.numbered)) does.goes_to
-              (of_hops i (λ c. IsChain i (target d).net c now) d hop es does.of);
+          (of_hops i (λ c. IsChain i (target d).net c now) d hop es does.of);
     }
       where
         both : (ps : List Pair) → Each (λ p. At (after_all es (record { now = now; frames = frames })).frames p.frame.stamp now) ps
             → Each (IsNext i (λ s. Path i (target d).net now s) d) ps → Each (λ p. hops p.frame.bytes ≡ hop) ps
             → Each (HasPath (after_all es (record { now = now; frames = frames }))) ps
         both [] h g n = tt
-        both (p ∷ ps) h g n =
-            ((λ copy.
-            let next = g.0 copy in
-            (now, h.0, subst (λ (a : Addr). Path i a.net now p.seat.station) (sym next.1) next.0, n.0 ∙ long)), both ps h.1 g.1 n.1)
+        both (p ∷ ps) h g n = (
+          (λ copy.
+              let next = g.0 copy in
+              (now, h.0, subst (λ (a : Addr). Path i a.net now p.seat.station) (sym next.1) next.0, n.0 ∙ long)),
+          both ps h.1 g.1 n.1,
+        )
 
   -- ---- Transcripts
 
@@ -194,7 +196,8 @@ module _ (i : Internet) (ok : Passes i) where
       let does = made_does i ok (λ s. Path i (target l.body).net [] s) (λ c. IsChain i (target l.body).net c []) stamp l made.0 (λ s. tt)
       (λ c. tt) in
       let leaves : Leaves i es w =
-      renamed i es w [] (now_after i t first) (does_leave i l.body [] l.hops made.0.fresh stamp w.frames es (sym same ∙ frames_are i before) does) in
+      renamed i es w [] (now_after i t first) (does_leave i l.body [] l.hops made.0.fresh stamp w.frames es
+      (sym same ∙ frames_are i before) does) in
       let c2 : Carries i (before ++ es) = grow i before es c1 (subst (λ k. AreNumbered k es) (sym same) does.numbered) leaves in
       let sum = count-append is_put before es in
       let more : stamp + stamps es ≡ stamps (before ++ es) = omega (arith, sum, same) in
@@ -233,7 +236,8 @@ module _ (i : Internet) (ok : Passes i) where
           (λ s d a on. subst (λ (x : Addr). Path i x.net (g.0 ++ p.seat.station ∷ []) s) (sym same)
           (path_on i (target p.frame.bytes).net g.0 p.seat.station s d a g.2 router on)) in (
             renamed i (fate i stamp p) w (g.0 ++ p.seat.station ∷ []) now
-                (does_leave i (body p.frame.bytes) (g.0 ++ p.seat.station ∷ []) (hops p.frame.bytes + 1) long stamp w.frames (fate i stamp p)
+                (does_leave i (body p.frame.bytes) (g.0 ++ p.seat.station ∷ []) (hops p.frame.bytes + 1) long stamp w.frames
+                (fate i stamp p)
                 (e ∙ frames_are i (t ++ took ∷ [])) does),
             does.numbered,
           )

@@ -136,7 +136,8 @@ module _ (i : Internet) (ok : Passes i) (N A : ℕ → Type 0) where
     numbered = (tt, tt);
   }
 
-  pub does_drop : (stamp router : ℕ) (d : List ℕ) (hop : ℕ) → home i (target d).net ≡ None → Does i N A stamp d hop (Dropped router NoRoute d ∷ [])
+  pub does_drop : (stamp router : ℕ) (d : List ℕ) (hop : ℕ) → home i (target d).net ≡ None → Does i N A stamp d hop
+      (Dropped router NoRoute d ∷ [])
   unfolding copies
   does_drop stamp router d hop no_home = record {
     adds = λ b some. omega arith;

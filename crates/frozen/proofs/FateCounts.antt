@@ -1,5 +1,5 @@
 -- What the fate of a pair counts for requests.
-use Rattle.std.proofs.Common.{◌≡◌, ℕ, Bool, true, false, not, ◌&&◌, ◌||◌, ◌==◌, cond, List, [], ◌∷◌, Option, Some, None}
+use Rattle.std.proofs.Common.{◌+◌, ◌≡◌, ℕ, Bool, true, false, not, ◌&&◌, ◌||◌, ◌==◌, cond, List, [], ◌∷◌, Option, Some, None}
 use Rattle.std.proofs.Common.{refl, sym, ap, ◌∙◌, subst, arith, true≢false}
 use Rattle.std.specs.List.{AllByRecursion as Each}
 use Rattle.std.proofs.lemmas.Bool.{and_left, and_right, ne_eqb}
@@ -80,7 +80,8 @@ module _ (i : Internet) (ok : Passes i) (stamp : ℕ) (p : Pair) (f : Framed p.f
       by_request false none =
           let not_waiting : waits i k p ≡ false =
           and_right (is_unicast p.frame.to) _ (and_left (is_request i (body p.frame.bytes)) _ none) in
-          waits_none i any (body p.frame.bytes) (hops p.frame.bytes + 1) (fate i stamp p) of k none ∙ sym (ap one (and_left (waits i k p) _ not_waiting))
+          waits_none i any (body p.frame.bytes) (hops p.frame.bytes + 1) (fate i stamp p) of k none ∙ sym
+          (ap one (and_left (waits i k p) _ not_waiting))
 
   -- a copy of a forward request that doesn't end is passed on as one
   seeking : (k : List ℕ) (c : ℕ) → is_forward (request (body p.frame.bytes)) ≡ true → is_copy i p ≡ true → (o : Option ℕ)
@@ -144,7 +145,8 @@ module _ (i : Internet) (ok : Passes i) (stamp : ℕ) (p : Pair) (f : Framed p.f
       by true q = by_copy (is_copy i p) refl q
       by false q =
           let none : forwarded i k c p ≡ false = and_right (is_copy i p) _ (and_left (is_forward (request (body p.frame.bytes))) _ q) in
-          forwarded_none i any (body p.frame.bytes) (hops p.frame.bytes + 1) (fate i stamp p) of k c q ∙ sym (ap one (and_left (forwarded i k c p) _ none))
+          forwarded_none i any (body p.frame.bytes) (hops p.frame.bytes + 1) (fate i stamp p) of k c q ∙ sym
+          (ap one (and_left (forwarded i k c p) _ none))
 
   -- ---- The pairs of a fate keep to what every pair does
 

@@ -64,7 +64,8 @@ module _ (i : Internet) (ok : Passes i) (N A : ℕ → Type 0) (stamp : ℕ) (p 
   arrived : (r c : ℕ) → hops p.frame.bytes ≤ 14 → is_on i r c ≡ true → A c → home i (target p.frame.bytes).net ≡ Some c
       → Does i N A stamp (body p.frame.bytes) (hops p.frame.bytes + 1) (fate_by i stamp r p (Here c))
   arrived r c few seated at home_is =
-      elim ((target p.frame.bytes).node == 0 || has_address i r c (target p.frame.bytes)) as (λ b. Does i N A stamp (body p.frame.bytes) (hops p.frame.bytes + 1)
+      elim ((target p.frame.bytes).node == 0 || has_address i r c (target p.frame.bytes)) as
+      (λ b. Does i N A stamp (body p.frame.bytes) (hops p.frame.bytes + 1)
       (cond b (Reached c r how.Own (body p.frame.bytes) ∷ [])
       (cond (hops p.frame.bytes == 15) (Dropped r HopLimit (body p.frame.bytes) ∷ [])
       (leg i stamp (passed r p c (final (target p.frame.bytes))))))) [
@@ -99,7 +100,8 @@ module _ (i : Internet) (ok : Passes i) (N A : ℕ → Type 0) (stamp : ℕ) (p 
   listed : (c : ℕ) → is_copy i p ≡ true → home i (target p.frame.bytes).net ≡ Some c → HopsFine i p
       → (hand i p.seat.station (target p.frame.bytes).net ≡ Here c → A c)
       → ((s d : ℕ) (a : Addr) → hand i p.seat.station (target p.frame.bytes).net ≡ On s d a → N s)
-      → Does i N A stamp (body p.frame.bytes) (hops p.frame.bytes + 1) (fate_by i stamp p.seat.station p (hand i p.seat.station (target p.frame.bytes).net))
+      → Does i N A stamp (body p.frame.bytes) (hops p.frame.bytes + 1)
+      (fate_by i stamp p.seat.station p (hand i p.seat.station (target p.frame.bytes).net))
   listed c copy home_is fine at to =
       elim (steps i ok p.seat.station (target p.frame.bytes).net c (copy_router i p copy).0 home_is) as
       (λ _. Does i N A stamp (body p.frame.bytes) (hops p.frame.bytes + 1)
@@ -132,7 +134,8 @@ module _ (i : Internet) (ok : Passes i) (N A : ℕ → Type 0) (stamp : ℕ) (p 
       some_one o c d e f = cc
 
   unlisted : is_copy i p ≡ true → home i (target p.frame.bytes).net ≡ None
-      → Does i N A stamp (body p.frame.bytes) (hops p.frame.bytes + 1) (fate_by i stamp p.seat.station p (hand i p.seat.station (target p.frame.bytes).net))
+      → Does i N A stamp (body p.frame.bytes) (hops p.frame.bytes + 1)
+      (fate_by i stamp p.seat.station p (hand i p.seat.station (target p.frame.bytes).net))
   unlisted copy none =
       subst (λ h. Does i N A stamp (body p.frame.bytes) (hops p.frame.bytes + 1) (fate_by i stamp p.seat.station p h))
       (sym (nowhere i ok p.seat.station (target p.frame.bytes).net (copy_router i p copy).0 none))

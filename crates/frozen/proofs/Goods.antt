@@ -4,7 +4,7 @@ use Rattle.std.proofs.Common.{inl, inr, refl, sym, ap, ◌∙◌, subst, arith, 
 use Rattle.std.specs.List.{AllByRecursion as Each}
 use Rattle.std.proofs.lemmas.Bool.{and_left}
 use Rattle.at_base.specs.declared.address.Addr.{Addr}
-use Rattle.ddp.specs.Bodies.{body, target, with_hops}
+use Rattle.ddp.specs.Bodies.{body, hops, target, with_hops}
 use Rattle.table_image.specs.Internet.{Internet}
 use Rattle.audit.specs.Routing.{hand}
 use Rattle.audit.specs.Rules.{Passes}
@@ -45,7 +45,8 @@ group_is g lt = ap (λ b. not (is_all (group_hw g)) && not (true && b)) (lt-ltb 
 
 module _ (i : Internet) (ok : Passes i) where
   -- entries of a datagram that asks nothing, and isn't a lookup
-  of_good : (d : List ℕ) (hop : ℕ) (es : List Entry) → Each (IsOf i any d hop) es → Each (λ p. Framed p.frame.bytes) (pairs (cable_seats i) es)
+  of_good : (d : List ℕ) (hop : ℕ) (es : List Entry) → Each (IsOf i any d hop) es → Each (λ p. Framed p.frame.bytes)
+      (pairs (cable_seats i) es)
       → is_request i d ≡ false → (is_forward (request d) ≡ true → (target d).node ≡ 0) → is_lookup (request d) ≡ false
       → Each (PairOk i) (pairs (cable_seats i) es)
   of_good d hop es of framed req seek look =
@@ -204,7 +205,8 @@ module _ (i : Internet) (ok : Passes i) where
           → is_lookup (request (body p.frame.bytes)) ≡ false → Each (PairOk i) (pairs (cable_seats i) (fate i stamp p))
       by_request true req u look = by_end (ends_at i p) refl u look req
       by_request false req u look =
-          of_good (body p.frame.bytes) (hops p.frame.bytes + 1) (fate i stamp p) (fate_of i ok stamp p f fine) (fate_framed stamp p f fine) req
+          of_good (body p.frame.bytes) (hops p.frame.bytes + 1) (fate i stamp p) (fate_of i ok stamp p f fine)
+          (fate_framed stamp p f fine) req
           (λ q. ap (λ (a : Addr). a.node) (target_inside p.frame.bytes f) ∙ good.seeker q) look
 
       by_lookup : (b : Bool) → is_lookup (request (body p.frame.bytes)) ≡ b → is_unicast p.frame.to ≡ true

@@ -122,7 +122,8 @@ module _ (i : Internet) (ok : Passes i) (N A : ℕ → Type 0) where
   straight : (stamp : ℕ) (l : Leg) (whole : Whole l.body) (few : l.hops ≤ 15) (seated : is_on i l.station l.cable ≡ true) → home i
       (target l.body).net ≡ Some l.cable → A l.cable
       → (o : Option PlaceOf) → seat_at i l.cable (target l.body) ≡ o → Does i N A stamp l.body l.hops (to_target stamp l o)
-  straight stamp l whole few seated home_is there None e = does_reach i ok N A stamp l.cable l.station how.Absent l.body l.hops home_is there
+  straight stamp l whole few seated home_is there None e = does_reach i ok N A stamp l.cable l.station how.Absent l.body l.hops home_is
+      there
   straight stamp l whole few seated home_is there (Some s) e =
       to_there stamp l whole few seated s (seat_there i l.cable (target l.body) s e) there
 
@@ -173,7 +174,8 @@ module _ (i : Internet) (ok : Passes i) (N A : ℕ → Type 0) where
       let s = w.0.0 in
       let place = seat_there i l.cable a s w.0.1 in
       subst (λ n. Does i N A stamp l.body l.hops (leg_to i stamp l n)) (sym e)
-      (subst (λ o. Does i N A stamp l.body l.hops (cond (same_address (target l.body) a) (to_target stamp l o) (to_other stamp l o))) (sym w.0.1)
+      (subst (λ o. Does i N A stamp l.body l.hops (cond (same_address (target l.body) a) (to_target stamp l o) (to_other stamp l o)))
+      (sym w.0.1)
       ((elim (same_address (target l.body) a) as (λ b. same_address (target l.body) a ≡ b
       → Does i N A stamp l.body l.hops (cond b (to_target stamp l (Some s)) (to_other stamp l (Some s)))) [
         | true ↦ λ same. (let mine = at_target (same_address_is (target l.body) a same) place in
@@ -203,4 +205,5 @@ module _ (i : Internet) (ok : Passes i) (N A : ℕ → Type 0) where
       by None h = does_stay i ok N A stamp l whole few seated all_hw none
       by (Some c) h = let low = listed_some i ok (target l.body).net c h in absurd (omega (arith, low, none))
   leg_does stamp l whole few seated (ToThese g lt e none) near there next =
-      subst (λ n. Does i N A stamp l.body l.hops (leg_to i stamp l n)) (sym e) (does_stay i ok N A stamp l whole few seated (group_hw g) none)
+      subst (λ n. Does i N A stamp l.body l.hops (leg_to i stamp l n)) (sym e)
+      (does_stay i ok N A stamp l whole few seated (group_hw g) none)

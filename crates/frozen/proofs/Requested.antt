@@ -94,7 +94,8 @@ module _ (i : Internet) where
     of_hops [] h = tt
     of_hops (Put f ∷ es) h =
         each-append (λ p. hops p.frame.bytes ≡ hop) (pairs_of (cable_seats i) (Put f)) (pairs (cable_seats i) es)
-        (each_map (λ p. hops p.frame.bytes ≡ hop) (λ (s : Seat). record { frame = f; seat = s }) _ (each_all _ _ (λ s. h.0.3))) (of_hops es h.1)
+        (each_map (λ p. hops p.frame.bytes ≡ hop) (λ (s : Seat). record { frame = f; seat = s }) _ (each_all _ _ (λ s. h.0.3)))
+        (of_hops es h.1)
     of_hops (Reached c s w b ∷ es) h = of_hops es h.1
     of_hops (Dropped r c b ∷ es) h = of_hops es h.1
     of_hops (Sent s b ∷ es) h = absurd h.0

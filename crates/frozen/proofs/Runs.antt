@@ -59,7 +59,8 @@ module _ (i : Internet) (ok : Passes i) where
   keeps_none stamp = record { adds = λ b some. refl; right = tt; hops_left = tt; framed = tt; ends_none = tt; numbered = tt }
 
   -- one datagram's entries, and others after them
-  keeps_more : (stamp : ℕ) (d : List ℕ) (hop : ℕ) (es fs : List Entry) → Does i any any stamp d hop es → Keeps (stamp + stamps es) nothing fs
+  keeps_more : (stamp : ℕ) (d : List ℕ) (hop : ℕ) (es fs : List Entry) → Does i any any stamp d hop es → Keeps
+      (stamp + stamps es) nothing fs
       → Keeps stamp (λ b. one (same_bytes b d)) (es ++ fs)
   keeps_more stamp d hop es fs does rest = record {
     adds = λ b some.
@@ -115,7 +116,8 @@ module _ (i : Internet) (ok : Passes i) where
     where
       by : (b : Bool) → is_copy i p ≡ b → Keeps stamp (owed_by p) (handled i stamp p ls)
       by true e =
-          let all = keeps_more stamp (body p.frame.bytes) (hops p.frame.bytes + 1) (fate i stamp p) (said i (stamp + stamps (fate i stamp p)) ls)
+          let all = keeps_more stamp (body p.frame.bytes) (hops p.frame.bytes + 1) (fate i stamp p)
+          (said i (stamp + stamps (fate i stamp p)) ls)
           (fate_does i ok any any stamp p framed e fine (λ c h at. tt) (λ s d a on. tt))
           (said_keeps (stamp + stamps (fate i stamp p)) ls made) in
           record {
