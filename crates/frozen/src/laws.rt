@@ -32,14 +32,16 @@ pub fn hops_left()
 {}
 
 /// Carriage: what reached a cable was carried by no router or by those of its one walk, at most
-/// 15, over cables that they share. This project's own.
+/// 15, over cables that they share; and the hop count of a frame says how many routers carried what
+/// it holds. This project's own.
 pub fn carriage()
     ensures { (i : Internet) (t : List Entry) → Passes i → IsLegal i t → AreCarried i none_yet t }
 {}
 
 /// Lookups exactly where the zone is listed: for each broadcast request that was taken, each cable
 /// that lists its zone has had one lookup, or a forward request to it is under way, and no other
-/// cable has had one; and each that was asked was taken or is still to be taken. This project's own.
+/// cable has had one; and each that was asked was taken or is still to be taken. This project's
+/// own.
 pub fn lookups()
     ensures { (i : Internet) (t : List Entry) (k : List ℕ)
         → Passes i → IsLegal i t → IsLookedUp i t k }
