@@ -11,9 +11,13 @@ use Rattle.frozen.specs.Legs.{group_hw}
 abbrev pub blue : ℕ → List ℕ
 blue head = head ∷ 1 ∷ 0 ∷ 10 ∷ 7 ∷ 253 ∷ 0 ∷ 1 ∷ 61 ∷ 1 ∷ 61 ∷ 4 ∷ codes "blue"
 
--- the node's broadcast request to its router: 10.7 socket 253 to 10.1 socket 2
+-- the node's broadcast request to a socket of its router, of a type: from 10.7 socket 253 to 10.1
+abbrev pub blue_to : ℕ → ℕ → List ℕ
+blue_to socket kind = 0 ∷ 29 ∷ 0 ∷ 0 ∷ 0 ∷ 10 ∷ 0 ∷ 10 ∷ 1 ∷ 7 ∷ socket ∷ 253 ∷ kind ∷ blue 17
+
+-- the request: to socket 2, of type 2
 abbrev pub blue_request : List ℕ
-blue_request = 0 ∷ 29 ∷ 0 ∷ 0 ∷ 0 ∷ 10 ∷ 0 ∷ 10 ∷ 1 ∷ 7 ∷ 2 ∷ 253 ∷ 2 ∷ blue 17
+blue_request = blue_to 2 2
 
 -- a lookup by a router whose address on the cable is this network's node 1: to all nodes there
 abbrev pub blue_lookup : ℕ → List ℕ

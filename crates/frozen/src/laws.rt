@@ -1,7 +1,7 @@
 //! Laws of legal transcripts over the tables of an internet that passes the audit, for the crates
 //! above. The functions do nothing: what they ensure is the law.
 
-ghost use Rattle.std.specs.Prelude.{◌≡◌, List, ℕ};
+ghost use Rattle.std.specs.Prelude.{◌≡◌, List, None, true, ℕ};
 ghost use Rattle.table_image.specs.Internet.{Internet};
 ghost use Rattle.audit.specs.Example.{three_cables};
 ghost use Rattle.audit.specs.Rules.{Passes};
@@ -13,10 +13,10 @@ ghost use Rattle.frozen.specs.Example.{echo, echo_reply, echo_request};
 ghost use Rattle.frozen.specs.Illegal.{looked_elsewhere, looked_nowhere, passed_from_all};
 ghost use Rattle.frozen.specs.Illegal.{reached_alone, same_hops, taken_twice};
 ghost use Rattle.frozen.specs.Legal.{IsLegal};
-ghost use Rattle.frozen.specs.LookupExample.{blue_names, blue_request};
+ghost use Rattle.frozen.specs.LookupExample.{blue_names, blue_request, blue_to};
 ghost use Rattle.frozen.specs.Lookups.{IsLookedUp, asked as asked_for};
 ghost use Rattle.frozen.specs.Lookups.{lookups as lookups_on, taken};
-ghost use Rattle.frozen.specs.Requests.{key_in, request};
+ghost use Rattle.frozen.specs.Requests.{is_broadcast, key_in, request};
 
 /// Conservation: each datagram to a listed network is under way once or has reached its
 /// destination's cable once, and no other; each to a network that is neither listed nor 0 is under
@@ -67,6 +67,14 @@ pub fn the_lookup_is_legal()
     ensures looked { (lookups_on three_cables (key_in (request blue_request)) 0 blue_names ≡ 0)
         × (lookups_on three_cables (key_in (request blue_request)) 1 blue_names ≡ 1)
         × (lookups_on three_cables (key_in (request blue_request)) 2 blue_names ≡ 1) }
+{}
+
+/// A datagram with the same bytes to another socket, or of another type, is no request. This
+/// project's own.
+pub fn others_are_no_requests()
+    ensures request { is_broadcast (request blue_request) ≡ true }
+    ensures socket { request (blue_to 3 2) ≡ None }
+    ensures kind { request (blue_to 2 3) ≡ None }
 {}
 
 /// What legal excludes: a datagram that reached a cable and wasn't sent, a frame that one station
