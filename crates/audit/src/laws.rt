@@ -54,8 +54,8 @@ pub fn zone_lists_agree()
     ensures { (i : Internet) → Passes i → IsBounded i → ZonesAgree i }
 {}
 
-/// Each seat has an address of its cable, with a node number of 1 to 253, and the hardware address of
-/// one station. This project's own.
+/// Each seat has an address of its cable, with a node number of 1 to 253, and the hardware address
+/// of one station. This project's own.
 pub fn seats_are_addressed()
     ensures { (i : Internet) (k : ℕ) (s : Seat)
         → Passes i → slice_get (seats i) k ≡ Some s → IsAddressed i s }

@@ -37,6 +37,7 @@ pub record IsMade (i : Internet) (l : Leg) : Type 0 where
   pub fresh : l.hops ≡ 0
   pub goes : Goes i l
 
+-- stations made each of them
 abbrev pub AreMade : Internet → List Leg → Type 0
 AreMade i [] = Unit {0}
 AreMade i (l ∷ ls) = IsMade i l × AreMade i ls
@@ -95,6 +96,7 @@ Expands i k r (c ∷ cs) (l ∷ ls) = (IsLookup i k r c l ⊎ IsForward i k r c 
 abbrev pub is_other : List ℕ → Bool
 is_other b = not (is_broadcast (request b) || is_forward (request b) || is_lookup (request b))
 
+-- none of them is a request
 abbrev pub AreOther : List Leg → Type 0
 AreOther [] = Unit {0}
 AreOther (l ∷ ls) = (is_other l.body ≡ true) × AreOther ls

@@ -34,15 +34,19 @@ is_hop_limit _ = false
 abbrev pub carries : Internet → List ℕ → Pair → Bool
 carries i b p = is_copy i p && same_bytes b (body p.frame.bytes)
 
+-- how often the body was sent
 abbrev pub sent : List ℕ → List Entry → ℕ
 sent b t = count (is_sent b) t
 
+-- how often it reached the cable
 abbrev pub reached : List ℕ → ℕ → List Entry → ℕ
 reached b cable t = count (is_reached b cable) t
 
+-- how often it was dropped
 abbrev pub dropped : List ℕ → List Entry → ℕ
 dropped b t = count (is_dropped b) t
 
+-- how many copies of it are under way
 abbrev pub under_way : Internet → List ℕ → List Entry → ℕ
 under_way i b t = count (carries i b) (pending (cable_seats i) t)
 

@@ -66,6 +66,7 @@ leg_to i stamp l ToAll =
     cond (is_some (home i (target l.body).net)) (reach how.All l ∷ put stamp l all_hw ∷ []) (put stamp l all_hw ∷ [])
 leg_to i stamp l (ToGroup g) = put stamp l (group_hw g) ∷ []
 
+-- the same, by whom it goes to
 abbrev pub leg : Internet → ℕ → Leg → List Entry
 leg i stamp l = leg_to i stamp l l.next
 

@@ -60,18 +60,23 @@ seeks i k c b = is_forward (request b) && (same_bytes k (key_in (request b)) && 
 abbrev pub forwarded : Internet → List ℕ → ℕ → Pair → Bool
 forwarded i k c p = is_copy i p && seeks i k c (body p.frame.bytes)
 
+-- how many requests with this key were sent
 abbrev pub asked : Internet → List ℕ → List Entry → ℕ
 asked i k t = count (is_asked i k) t
 
+-- how many are in a frame that is pending
 abbrev pub waiting : Internet → List ℕ → List Entry → ℕ
 waiting i k t = count (waits i k) (pending (cable_seats i) t)
 
+-- how many were taken where they ended
 abbrev pub taken : Internet → List ℕ → List Entry → ℕ
 taken i k t = count (λ p. was_ended t p && ends_so i k p) (pairs (cable_seats i) t)
 
+-- how many lookups with this key were put on the cable
 abbrev pub lookups : Internet → List ℕ → ℕ → List Entry → ℕ
 lookups i k c t = count (looks i k c) t
 
+-- how many forward requests with it are under way to the cable
 abbrev pub forwards : Internet → List ℕ → ℕ → List Entry → ℕ
 forwards i k c t = count (forwarded i k c) (pending (cable_seats i) t)
 

@@ -26,7 +26,7 @@ packet_in (Some d) = cond (d.kind == 2 && d.target_socket == 2) (value_of (read 
 unfoldable pub request : List ℕ → Option NbpPacket
 request bytes = packet_in (value_of (read packets datagram bytes))
 
--- the packet is of this function
+-- the packet is a broadcast request
 abbrev pub is_broadcast : Option NbpPacket → Bool
 is_broadcast None = false
 is_broadcast (Some p) = by p.function
@@ -35,6 +35,7 @@ is_broadcast (Some p) = by p.function
     by BroadcastRequest = true
     by _ = false
 
+-- it is a lookup
 abbrev pub is_lookup : Option NbpPacket → Bool
 is_lookup None = false
 is_lookup (Some p) = by p.function
@@ -43,6 +44,7 @@ is_lookup (Some p) = by p.function
     by Lookup = true
     by _ = false
 
+-- it is a forward request
 abbrev pub is_forward : Option NbpPacket → Bool
 is_forward None = false
 is_forward (Some p) = by p.function

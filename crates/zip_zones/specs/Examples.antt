@@ -10,9 +10,11 @@ use Rattle.zip_zones.specs.declared.page.Page.{Page}
 use Rattle.zip_zones.specs.Answers.{page_user}
 use Rattle.zip_zones.specs.Zones.{Known}
 
+-- a zone
 abbrev pub red : List ℕ
 red = codes "Red"
 
+-- another zone
 abbrev pub blue : List ℕ
 blue = codes "Blue"
 
@@ -20,6 +22,7 @@ blue = codes "Blue"
 abbrev pub long : List ℕ
 long = replicate 32 65
 
+-- the networks from start to end
 abbrev pub span : ℕ → ℕ → Span
 span start end = record { start = start; end = end }
 
@@ -40,6 +43,7 @@ row start end net node state =
 abbrev pub four_rows : List Row
 four_rows = row 10 19 0 0 Good ∷ row 20 29 10 2 Good ∷ row 30 39 10 2 Good ∷ row 40 49 10 2 Bad ∷ []
 
+-- a name of a network, as a reply has it
 abbrev pub named : ℕ → List ℕ → Entry
 named net name = record { net = net; name = name }
 
