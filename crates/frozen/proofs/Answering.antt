@@ -30,6 +30,7 @@ use Rattle.frozen.proofs.Goods.{expanded_good, looked_good, others_good}
 use Rattle.frozen.proofs.Listing.{broadcast_alone, count_listing, forward_alone, listed_once}
 use Rattle.frozen.proofs.Passing.{PairOk, ends_parts, ends_there, keeps}
 use Rattle.frozen.proofs.Requested.{HasPlace}
+use Rattle.frozen.proofs.Tests.{all_three, three_are}
 use Rattle.frozen.proofs.Tallies.{Tally, and_swap, expanded, looked_up, no_request, others_said}
 
 or_last : (a b : Bool) → b ≡ true → (a || b) ≡ true
@@ -59,16 +60,10 @@ module _ (i : Internet) (ok : Passes i) where
       seated : has_address i r c a ≡ true → is_routers i a ≡ true
       seated e =
           let w = any_at (λ (s : PlaceOf). s.station == r && s.cable == c && same_address a s.address) (seats i) e in
-          let h = three (w.1.station == r) (w.1.cable == c) (same_address a w.1.address) w.3 in
+          let h = all_three (w.1.station == r) (w.1.cable == c) (same_address a w.1.address) w.3 in
           let same : w.1.station ≡ r = eqb-true _ _ h.0 in
           any_from (λ (s : PlaceOf). is_router i s.station && same_address a s.address) (seats i) w.0 w.1 w.2
-          (ap (λ b. b && same_address a w.1.address) (lt-ltb _ _ (subst (λ n. n < length i.routers) (sym same) within)) ∙ h.1)
-        where
-          three : (a b c : Bool) → (a && b && c) ≡ true → (a ≡ true) × (c ≡ true)
-          three true true true e = (refl, refl)
-          three true true false e = cc
-          three true false c e = cc
-          three false b c e = cc
+          (ap (λ b. b && same_address a w.1.address) (lt-ltb _ _ (subst (λ n. n < length i.routers) (sym same) within)) ∙ h.2)
 
   end_asks : (p : Pair) → HasPlace i p → Framed p.frame.bytes → is_broadcast (request (body p.frame.bytes)) ≡ true → ends_at i p ≡ true
       → is_request i (body p.frame.bytes) ≡ true
@@ -94,17 +89,12 @@ module _ (i : Internet) (ok : Passes i) where
       own_router e within =
           let w = any_at (λ (s : PlaceOf). s.station == p.seat.station && s.cable == p.seat.cable && same_address
           (target p.frame.bytes) s.address) (seats i) e in
-          let h = three (w.1.station == p.seat.station) (w.1.cable == p.seat.cable) (same_address (target p.frame.bytes) w.1.address) w.3 in
+          let h = all_three (w.1.station == p.seat.station) (w.1.cable == p.seat.cable)
+          (same_address (target p.frame.bytes) w.1.address) w.3 in
           let same : w.1.station ≡ p.seat.station = eqb-true _ _ h.0 in
           any_from (λ (s : PlaceOf). is_router i s.station && same_address (target p.frame.bytes) s.address) (seats i) w.0 w.1 w.2
           (ap (λ b. b && same_address (target p.frame.bytes) w.1.address)
-          (lt-ltb _ _ (subst (λ n. n < length i.routers) (sym same) within)) ∙ h.1)
-        where
-          three : (a b c : Bool) → (a && b && c) ≡ true → (a ≡ true) × (c ≡ true)
-          three true true true e = (refl, refl)
-          three true true false e = cc
-          three true false c e = cc
-          three false b c e = cc
+          (lt-ltb _ _ (subst (λ n. n < length i.routers) (sym same) within)) ∙ h.2)
 
   -- ---- What the answers to a taken pair add
 
@@ -161,13 +151,10 @@ module _ (i : Internet) (ok : Passes i) where
       key = key_in (request (body p.frame.bytes))
 
       parts : (is_forward (request (body p.frame.bytes)) ≡ true) × (ends_at i p ≡ true)
-      parts = three (is_forward (request (body p.frame.bytes))) (is_name (zone_of key)) (ends_at i p) here
+      parts = ends_of (all_three (is_forward (request (body p.frame.bytes))) (is_name (zone_of key)) (ends_at i p) here)
         where
-          three : (a b c : Bool) → (a && b && c) ≡ true → (a ≡ true) × (c ≡ true)
-          three true true true e = (refl, refl)
-          three true true false e = cc
-          three true false c e = cc
-          three false b c e = cc
+          ends_of : {A B C : Type 0} → A × B × C → A × C
+          ends_of x = (x.0, x.2)
 
       ends : (is_unicast p.frame.to ≡ true) × (p.seat.station < length i.routers) × (ends_there i p ≡ true)
       ends = ends_parts i p parts.1
@@ -180,17 +167,11 @@ module _ (i : Internet) (ok : Passes i) where
           no_node r c a z =
               false_from_ne_true (has_address i r c a) (λ e.
               let w = any_at (λ (s : PlaceOf). s.station == r && s.cable == c && same_address a s.address) (seats i) e in
-              let same = last (w.1.station == r) (w.1.cable == c) (same_address a w.1.address) w.3 in
+              let same = (all_three (w.1.station == r) (w.1.cable == c) (same_address a w.1.address) w.3).2 in
               let node : a.node ≡ w.1.address.node = eqb-true _ _ (and_parts (a.net == w.1.address.net)
               (a.node == w.1.address.node) same).1 in
               let low = (addressed i ok w.0 w.1 w.2).low in
               absurd (omega (arith, node, low, z)))
-            where
-              last : (a b c : Bool) → (a && b && c) ≡ true → c ≡ true
-              last true true true e = refl
-              last true true false e = cc
-              last true false c e = cc
-              last false b c e = cc
 
       copy : is_copy i p ≡ true
       copy =
@@ -244,12 +225,6 @@ module _ (i : Internet) (ok : Passes i) where
           let e1 = ap one (goes_on (forwarded i k c p) refl) in
           (0, others_said i ok k c stamp ls made others, omega (arith, e1, e3))
         where
-          all : (a b c : Bool) → a ≡ true → b ≡ true → c ≡ true → (a && b && c) ≡ true
-          all true true true x y z = refl
-          all false b c x y z = cc
-          all true false c x y z = cc
-          all true true false x y z = cc
-
           goes_on : (b : Bool) → forwarded i k c p ≡ b → (forwarded i k c p && not (ends_at i p)) ≡ forwarded i k c p
           goes_on false e = and_left (forwarded i k c p) _ e ∙ sym e
           goes_on true e =
@@ -261,6 +236,7 @@ module _ (i : Internet) (ok : Passes i) where
               ap (λ q. is_name (zone_of q)) (sym key) ∙ named k c e in
               let never : ends_at i p ≡ false =
               false_from_ne_true (ends_at i p) (λ t.
-              true≢false (sym (all (is_forward (request (body p.frame.bytes))) (is_name (zone_of (key_in (request (body p.frame.bytes)))))
+              true≢false (sym (three_are (is_forward (request (body p.frame.bytes)))
+              (is_name (zone_of (key_in (request (body p.frame.bytes)))))
               (ends_at i p) y.0 name t) ∙ second)) in
               ap (λ b. forwarded i k c p && not b) never ∙ and_swap (forwarded i k c p) true

@@ -1,20 +1,14 @@
 -- The request for names over three cables is legal, block by block.
-use Rattle.std.proofs.Common.{◌≡◌, ℕ, ◌<◌, ◌≤◌, inl, inr, false, List, [], ◌∷◌, Option, Some, None, refl, sym, arith, take, drop, codes}
-use Rattle.std.proofs.Common.{length, IsTrue, nat_lt}
-use Rattle.std.specs.List.{list_all}
-use Rattle.at_base.specs.Spelling.{bytes_of}
+use Rattle.std.proofs.Common.{ℕ, inl, inr, false, [], ◌∷◌, Some, None, refl, sym, arith, take, drop, codes}
 use Rattle.at_base.specs.declared.address.Addr.{Addr}
-use Rattle.at_base.specs.declared.address.Hw.{Hw}
 use Rattle.ddp.specs.declared.header.Header.{Header}
 use Rattle.ddp.specs.Datagram.{datagram, unsummed}
 use Rattle.ddp.proofs.Shape.{bytes_laid}
-use Rattle.ddp.proofs.Written.{Fitting, unsummed_value}
 use Rattle.at_base.specs.Packets.{address, text}
 use Rattle.nbp.specs.Packets.{packet, tuple}
 use Rattle.audit.specs.Example.{addr, hardware, three_cables}
-use Rattle.cable_model.specs.declared.entry.Kind.TheVariants.{Ddp}
-use Rattle.cable_model.specs.Pending.{Pair}
-use Rattle.cable_model.specs.Transcript.{Frame, Took}
+use Rattle.cable_model.specs.Transcript.{Took}
+use Rattle.frozen.proofs.ByHand.{fitting, frame, is_body, pair}
 use Rattle.frozen.specs.Answers.{ByRouter, Expanded, IsBody, IsMade, LookedUp, Others, ToThese}
 use Rattle.frozen.specs.Legal.{IsLegal, Begins, Goes, Sends, Takes}
 use Rattle.frozen.specs.Legs.{Leg, ToGroup, ToStation, group_hw}
@@ -28,50 +22,32 @@ abbrev header_of : Addr → Addr → ℕ → Header
 header_of target source from =
     record { summed = false; target = target; source = source; target_socket = 2; source_socket = from; kind = 2 }
 
-fitting : (target source : Addr) (from : ℕ) → target.net < 256 → target.node < 256 → source.net < 256 → source.node < 256 → from < 256
-    → Fitting (header_of target source from)
-fitting target source from a b c d e = record {
-  target_net = omega arith;
-  source_net = omega arith;
-  target_node = b;
-  source_node = d;
-  target_socket = omega arith;
-  source_socket = e;
-  kind = omega arith;
-}
-
--- bytes that are those of a header and data
-is_body : (h : Header) (payload bytes : List ℕ) → Fitting h → length payload ≤ 586 → bytes ≡ bytes_of datagram (unsummed h payload)
-    → IsTrue (list_all (λ b. nat_lt b 256) bytes) → IsBody bytes
-is_body h payload bytes fits few same each =
-    record { value = unsummed h payload; spelled = (unsummed_value h payload fits few, same); each = each; fresh = refl }
-
 request_is_body : IsBody blue_request
 request_is_body =
     let h = header_of (addr 10 1) (addr 10 7) 253 in
     is_body h (blue 17) blue_request
-    (fitting (addr 10 1) (addr 10 7) 253 (omega arith) (omega arith) (omega arith) (omega arith) (omega arith)) (omega arith)
+    (fitting h (omega arith) (omega arith) (omega arith) (omega arith) (omega arith) (omega arith) (omega arith)) (omega arith)
     (sym (bytes_laid (unsummed h (blue 17)))) refl
 
 second_is_body : IsBody (blue_lookup 20)
 second_is_body =
     let h = header_of (addr 0 255) (addr 20 1) 2 in
     is_body h (blue 33) (blue_lookup 20)
-    (fitting (addr 0 255) (addr 20 1) 2 (omega arith) (omega arith) (omega arith) (omega arith) (omega arith)) (omega arith)
+    (fitting h (omega arith) (omega arith) (omega arith) (omega arith) (omega arith) (omega arith) (omega arith)) (omega arith)
     (sym (bytes_laid (unsummed h (blue 33)))) refl
 
 third_is_body : IsBody (blue_lookup 30)
 third_is_body =
     let h = header_of (addr 0 255) (addr 30 1) 2 in
     is_body h (blue 33) (blue_lookup 30)
-    (fitting (addr 0 255) (addr 30 1) 2 (omega arith) (omega arith) (omega arith) (omega arith) (omega arith)) (omega arith)
+    (fitting h (omega arith) (omega arith) (omega arith) (omega arith) (omega arith) (omega arith) (omega arith)) (omega arith)
     (sym (bytes_laid (unsummed h (blue 33)))) refl
 
 forward_is_body : IsBody blue_forward
 forward_is_body =
     let h = header_of (addr 30 0) (addr 20 1) 2 in
     is_body h (blue 65) blue_forward
-    (fitting (addr 30 0) (addr 20 1) 2 (omega arith) (omega arith) (omega arith) (omega arith) (omega arith)) (omega arith)
+    (fitting h (omega arith) (omega arith) (omega arith) (omega arith) (omega arith) (omega arith) (omega arith)) (omega arith)
     (sym (bytes_laid (unsummed h (blue 65)))) refl
 
 reply_is_body : IsBody (lab_reply 0)
@@ -79,15 +55,8 @@ reply_is_body =
     let h : Header =
     record { summed = false; target = addr 10 7; source = addr 30 5; target_socket = 253; source_socket = 2; kind = 2 } in
     let payload = drop 13 (lab_reply 0) in
-    is_body h payload (lab_reply 0) (record {
-      target_net = omega arith;
-      source_net = omega arith;
-      target_node = omega arith;
-      source_node = omega arith;
-      target_socket = omega arith;
-      source_socket = omega arith;
-      kind = omega arith;
-    }) (omega arith) (sym (bytes_laid (unsummed h payload))) refl
+    is_body h payload (lab_reply 0) (fitting h (omega arith) (omega arith) (omega arith) (omega arith) (omega arith) (omega arith)
+    (omega arith)) (omega arith) (sym (bytes_laid (unsummed h payload))) refl
 
 -- ---- The legs
 
@@ -124,14 +93,6 @@ reply_is_made : IsMade three_cables reply_leg
 reply_is_made = record { seated = refl; whole = reply_is_body; fresh = refl; goes = ByRouter (addr 30 1) 1 refl refl }
 
 -- ---- The blocks
-
-abbrev frame : ℕ → ℕ → ℕ → Hw → List ℕ → Frame
-frame stamp cable sender to bytes =
-    record { stamp = stamp; cable = cable; sender = sender; to = to; kind = Ddp; bytes = bytes }
-
-abbrev pair : Frame → ℕ → ℕ → ℕ → Option ℕ → Pair
-pair f station port byte group =
-    record { frame = f; seat = record { cable = f.cable; station = station; port = port; hw = hardware byte; group = group } }
 
 asked : IsLegal three_cables (take 3 blue_names)
 unfolding request datagram packet tuple address text

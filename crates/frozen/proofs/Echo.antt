@@ -1,15 +1,12 @@
 -- The echo over three cables is legal, block by block.
-use Rattle.std.proofs.Common.{ℕ, inr, false, List, [], ◌∷◌, Option, Some, None, refl, sym, arith, take, drop, codes}
+use Rattle.std.proofs.Common.{ℕ, inr, false, [], ◌∷◌, Some, None, refl, sym, arith, take, drop, codes}
 use Rattle.at_base.specs.declared.address.Addr.{Addr}
 use Rattle.ddp.specs.declared.header.Header.{Header}
 use Rattle.ddp.specs.Datagram.{datagram, unsummed}
 use Rattle.ddp.proofs.Shape.{bytes_laid}
-use Rattle.ddp.proofs.Written.{unsummed_value}
 use Rattle.audit.specs.Example.{addr, hardware, three_cables}
-use Rattle.cable_model.specs.declared.entry.Kind.TheVariants.{Ddp}
-use Rattle.cable_model.specs.declared.seat.Seat.{Seat}
-use Rattle.cable_model.specs.Pending.{Pair}
-use Rattle.cable_model.specs.Transcript.{Frame, Took}
+use Rattle.cable_model.specs.Transcript.{Took}
+use Rattle.frozen.proofs.ByHand.{fitting, frame, is_body, pair}
 use Rattle.frozen.specs.Answers.{Others, IsBody, IsMade, ByRouter}
 use Rattle.frozen.specs.Example.{echo, ping, echo_reply, echo_request}
 use Rattle.frozen.specs.Legal.{IsLegal, Begins, Goes, Sends, Takes}
@@ -26,44 +23,16 @@ header_of target source to from =
 request_is_body : IsBody (echo_request 0)
 request_is_body =
     let h = header_of (addr 30 5) (addr 10 7) 4 128 in
-    record {
-      value = unsummed h (1 ∷ ping);
-      spelled = (
-        unsummed_value h (1 ∷ ping) (record {
-          target_net = omega arith;
-          source_net = omega arith;
-          target_node = omega arith;
-          source_node = omega arith;
-          target_socket = omega arith;
-          source_socket = omega arith;
-          kind = omega arith;
-        }) (omega arith),
-        sym (bytes_laid (unsummed h (1 ∷ ping))),
-      );
-      each = refl;
-      fresh = refl;
-    }
+    is_body h (1 ∷ ping) (echo_request 0)
+    (fitting h (omega arith) (omega arith) (omega arith) (omega arith) (omega arith) (omega arith) (omega arith)) (omega arith)
+    (sym (bytes_laid (unsummed h (1 ∷ ping)))) refl
 
 reply_is_body : IsBody (echo_reply 0)
 reply_is_body =
     let h = header_of (addr 10 7) (addr 30 5) 128 4 in
-    record {
-      value = unsummed h (2 ∷ ping);
-      spelled = (
-        unsummed_value h (2 ∷ ping) (record {
-          target_net = omega arith;
-          source_net = omega arith;
-          target_node = omega arith;
-          source_node = omega arith;
-          target_socket = omega arith;
-          source_socket = omega arith;
-          kind = omega arith;
-        }) (omega arith),
-        sym (bytes_laid (unsummed h (2 ∷ ping))),
-      );
-      each = refl;
-      fresh = refl;
-    }
+    is_body h (2 ∷ ping) (echo_reply 0)
+    (fitting h (omega arith) (omega arith) (omega arith) (omega arith) (omega arith) (omega arith) (omega arith)) (omega arith)
+    (sym (bytes_laid (unsummed h (2 ∷ ping)))) refl
 
 -- ---- The blocks
 
@@ -81,17 +50,6 @@ request_is_made = record { seated = refl; whole = request_is_body; fresh = refl;
 reply_is_made : IsMade three_cables reply_leg
 reply_is_made = record { seated = refl; whole = reply_is_body; fresh = refl; goes = ByRouter (addr 30 1) 1 refl refl }
 
--- the pair of the frame that is put last, and the seat that hears it
-abbrev pair_of : Frame → Seat → Pair
-pair_of f s = record { frame = f; seat = s }
-
-abbrev frame : ℕ → ℕ → ℕ → ℕ → List ℕ → Frame
-frame stamp cable sender byte bytes =
-    record { stamp = stamp; cable = cable; sender = sender; to = hardware byte; kind = Ddp; bytes = bytes }
-
-abbrev seat : ℕ → ℕ → ℕ → ℕ → Option ℕ → Seat
-seat cable station port byte group = record { cable = cable; station = station; port = port; hw = hardware byte; group = group }
-
 asked : IsLegal three_cables (take 2 echo)
 unfolding request datagram
 asked =
@@ -106,19 +64,19 @@ passed_on : IsLegal three_cables (take 4 echo)
 unfolding request datagram
 passed_on =
     Goes (take 2 echo) (take 2 (drop 2 echo)) asked
-    (Takes (pair_of (frame 0 0 2 1 (echo_request 0)) (seat 0 0 0 1 None)) [] (0, omega arith, refl) tt (Others refl refl tt))
+    (Takes (pair (frame 0 0 2 (hardware 1) (echo_request 0)) 0 0 1 None) [] (0, omega arith, refl) tt (Others refl refl tt))
 
 arrived : IsLegal three_cables (take 7 echo)
 unfolding request datagram
 arrived =
     Goes (take 4 echo) (take 3 (drop 4 echo)) passed_on
-    (Takes (pair_of (frame 1 1 0 3 (echo_request 4)) (seat 1 1 0 3 None)) [] (0, omega arith, refl) tt (Others refl refl tt))
+    (Takes (pair (frame 1 1 0 (hardware 3) (echo_request 4)) 1 0 3 None) [] (0, omega arith, refl) tt (Others refl refl tt))
 
 replied : IsLegal three_cables (take 10 echo)
 unfolding request datagram
 replied =
     Goes (take 7 echo) (take 3 (drop 7 echo)) arrived
-    (Takes (pair_of (frame 2 2 1 6 (echo_request 8)) (seat 2 3 0 6 (Some (group_of (codes "Blue"))))) (reply_leg ∷ [])
+    (Takes (pair (frame 2 2 1 (hardware 6) (echo_request 8)) 3 0 6 (Some (group_of (codes "Blue")))) (reply_leg ∷ [])
     (0, omega arith, refl)
     (reply_is_made, tt) (Others refl refl (refl, tt)))
 
@@ -126,17 +84,17 @@ passed_back : IsLegal three_cables (take 12 echo)
 unfolding request datagram
 passed_back =
     Goes (take 10 echo) (take 2 (drop 10 echo)) replied
-    (Takes (pair_of (frame 3 2 3 4 (echo_reply 0)) (seat 2 1 1 4 None)) [] (0, omega arith, refl) tt (Others refl refl tt))
+    (Takes (pair (frame 3 2 3 (hardware 4) (echo_reply 0)) 1 1 4 None) [] (0, omega arith, refl) tt (Others refl refl tt))
 
 come_back : IsLegal three_cables (take 15 echo)
 unfolding request datagram
 come_back =
     Goes (take 12 echo) (take 3 (drop 12 echo)) passed_back
-    (Takes (pair_of (frame 4 1 1 2 (echo_reply 4)) (seat 1 0 1 2 None)) [] (0, omega arith, refl) tt (Others refl refl tt))
+    (Takes (pair (frame 4 1 1 (hardware 2) (echo_reply 4)) 0 1 2 None) [] (0, omega arith, refl) tt (Others refl refl tt))
 
 pub echo_is_legal : IsLegal three_cables echo
 unfolding request datagram
 echo_is_legal =
     Goes (take 15 echo) (Took 5 2 ∷ []) come_back
-    (Takes (pair_of (frame 5 0 0 5 (echo_reply 8)) (seat 0 2 0 5 (Some (group_of (codes "Red"))))) [] (0, omega arith, refl) tt
+    (Takes (pair (frame 5 0 0 (hardware 5) (echo_reply 8)) 2 0 5 (Some (group_of (codes "Red")))) [] (0, omega arith, refl) tt
     (Others refl refl tt))

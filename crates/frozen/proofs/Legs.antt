@@ -25,6 +25,7 @@ use Rattle.frozen.specs.Legs.{to_other, to_target}
 use Rattle.frozen.specs.Stations.{cable_holds, cable_seat, has_address, is_on, is_router}
 use Rattle.frozen.proofs.Does.{Does, copy_is, does_arrive, does_go, does_reach, does_stay, none_alone, none_at_all, frame_to}
 use Rattle.frozen.proofs.Frames.{Whole}
+use Rattle.frozen.proofs.Tests.{all_three, three_are}
 use Rattle.frozen.proofs.Seated.{home_is, listed_some, not_all, not_group}
 
 -- ---- Addresses that are one
@@ -69,14 +70,8 @@ module _ (i : Internet) (ok : Passes i) where
   pub has_own : (s : PlaceOf) (k : ℕ) → At (seats i) k s → has_address i s.station s.cable s.address ≡ true
   has_own s k at =
       any_from (λ (t : PlaceOf). t.station == s.station && t.cable == s.cable && same_address s.address t.address) (seats i) k s at
-      (both (s.station == s.station) (s.cable == s.cable) (same_address s.address s.address) (eq-eqb s.station _ refl)
+      (three_are (s.station == s.station) (s.cable == s.cable) (same_address s.address s.address) (eq-eqb s.station _ refl)
       (eq-eqb s.cable _ refl) (same_address_self s.address))
-    where
-      both : (a b c : Bool) → a ≡ true → b ≡ true → c ≡ true → (a && b && c) ≡ true
-      both true true true e f g = refl
-      both true true false e f g = cc
-      both true false c e f g = cc
-      both false b c e f g = cc
 
   -- and no other
   pub has_no_other : (s : PlaceOf) (k : ℕ) (a : Addr) → At (seats i) k s → same_address a s.address ≡ false
@@ -84,16 +79,10 @@ module _ (i : Internet) (ok : Passes i) where
   has_no_other s k a at apart =
       false_from_ne_true (has_address i s.station s.cable a) (λ e.
       let w = any_at (λ (t : PlaceOf). t.station == s.station && t.cable == s.cable && same_address a t.address) (seats i) e in
-      let h = three (w.1.station == s.station) (w.1.cable == s.cable) (same_address a w.1.address) w.3 in
+      let h = all_three (w.1.station == s.station) (w.1.cable == s.cable) (same_address a w.1.address) w.3 in
       let same : w.0 ≡ k = (unique i ok).by_station w.0 k w.1 s w.2 at (eqb-true _ _ h.0) (eqb-true _ _ h.1) in
       let one : w.1 ≡ s = at_one (seats i) k w.1 s (subst (λ n. At (seats i) n w.1) same w.2) at in
       true≢false (sym (ap (λ (t : PlaceOf). same_address a t.address) (sym one) ∙ h.2) ∙ apart))
-    where
-      three : (a b c : Bool) → (a && b && c) ≡ true → (a ≡ true) × (b ≡ true) × (c ≡ true)
-      three true true true e = (refl, refl, refl)
-      three true true false e = cc
-      three true false c e = cc
-      three false b c e = cc
 
 -- ---- Legs
 

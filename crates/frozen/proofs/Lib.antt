@@ -1,3 +1,5 @@
+pub mod Tests
+pub mod ByHand
 pub mod Echo
 pub mod Frames
 pub mod Seated
