@@ -67,7 +67,8 @@ or_true false = refl
 -- a list without a cable is bad
 pub bad_nowhere : (i : Internet) (l : ZoneList) → index_of (is_list_for l) i.cables ≡ None → true ≡ bad_list i l
 bad_nowhere i l none =
-    sym (ap (λ (o : Option Cable). not l.complete || has_double l.zones || not (on o (same_zones l))) (find_none (is_list_for l) i.cables none)
+    sym (ap (λ (o : Option Cable). not l.complete || has_double l.zones || not (on o (same_zones l)))
+    (find_none (is_list_for l) i.cables none)
     ∙ or_true (not l.complete || has_double l.zones))
 
 -- a list where no rule is broken

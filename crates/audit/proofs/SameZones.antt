@@ -133,7 +133,8 @@ mark_of zones names mark x k m at =
   where
     alike : (names : List (List ℕ)) (z : List ℕ) → same_name x z ≡ true → list_any (same_name x) names ≡ list_any (same_name z) names
     alike [] z e = refl
-    alike (n ∷ names) z e = ap (λ b. b || list_any (same_name x) names) (same_name_congr x z n e) ∙ ap (λ b. same_name z n || b) (alike names z e)
+    alike (n ∷ names) z e = ap (λ b. b || list_any (same_name x) names) (same_name_congr x z n e) ∙ ap (λ b. same_name z n || b)
+        (alike names z e)
 
 last : (a b : Bool) → b ≡ false → (a || (b || false)) ≡ a
 last true b e = refl
@@ -206,7 +207,8 @@ not_among zones names m x at none =
     fails [] m e = cc
     fails (n ∷ names) zero e =
         let is : n ≡ x = cc in
-        ap (λ n. list_any (same_name n) zones && are_among names zones) is ∙ ap (λ b. b && are_among names zones) (index_none (same_name x) zones none)
+        ap (λ n. list_any (same_name n) zones && are_among names zones) is ∙ ap (λ b. b && are_among names zones)
+        (index_none (same_name x) zones none)
     fails (n ∷ names) (suc m) e = second (list_any (same_name n) zones) (are_among names zones) (fails names m e)
 
 -- a name whose zone is marked

@@ -1,8 +1,9 @@
 -- Where the rule on zone lists is kept, each router's zone table agrees with the cables.
-use Rattle.std.proofs.Common.{◌≡◌, ℕ, zero, suc, ◌+◌, ◌==◌, ◌<◌, inl, inr, Bool, true, false, not, ◌||◌, List, [], ◌∷◌, ◌++◌, length, map, filter, fold}
-use Rattle.std.proofs.Common.{Option, Some, None, refl, sym, ap, ◌∙◌, slice_get, subst, eqb-true, cond, arith, if◌then◌else◌, ◌⊎◌}
+use Rattle.std.proofs.Common.{◌≡◌, ℕ, zero, suc, ◌+◌, ◌==◌, ◌<◌, inl, inr, Bool, true, false, not, ◌||◌, List, [], ◌∷◌, ◌++◌, length}
+use Rattle.std.proofs.Common.{map, filter, fold}
+use Rattle.std.proofs.Common.{Option, Some, None, refl, sym, ap, ◌∙◌, slice_get, subst, eqb-true, arith, if◌then◌else◌}
 use Rattle.std.specs.List.{list_any, list_all}
-use Rattle.std.proofs.lemmas.Bool.{and_parts, or_parts, or_from, not-false, cases_order}
+use Rattle.std.proofs.lemmas.Bool.{and_parts, or_parts, not-false, cases_order}
 use Rattle.at_base.specs.Range.{Span}
 use Rattle.at_base.specs.Text.{same_name, SameName}
 use Rattle.at_base.proofs.Texts.{same_name_is, is_same_name}
@@ -16,7 +17,8 @@ use Rattle.zip_zones.specs.Zones.{Known, each_once, has_zone, ranges_of, set_lis
 use Rattle.audit.specs.Firsts.{FirstPlace}
 use Rattle.audit.specs.Places.{on}
 use Rattle.audit.specs.Rules.{c1, c8, Passes}
-use Rattle.audit.specs.ZoneLists.{are_among, bad_list, cable_of_list, has_double, is_list_for, lacks_list, same_zones, ranges_with, IsListOf, KnowsZones, ZonesAgree}
+use Rattle.audit.specs.ZoneLists.{are_among, bad_list, cable_of_list, has_double, is_list_for, lacks_list, same_zones, ranges_with}
+use Rattle.audit.specs.ZoneLists.{IsListOf, KnowsZones, ZonesAgree}
 use Rattle.audit.proofs.CableOrder.{good_at, rising}
 use Rattle.audit.proofs.Finding.{any_at, any_from}
 use Rattle.audit.proofs.SideBySide.{AreSideBySide, and_so, beside, same_numbers}
@@ -48,7 +50,8 @@ any_last t [] x = last (t x)
     last false = refl
 any_last t (y ∷ ys) x = more (t y) (any_last t ys x)
   where
-    more : (b : Bool) → list_any t (ys ++ x ∷ []) ≡ (list_any t ys || t x) → (b || list_any t (ys ++ x ∷ [])) ≡ ((b || list_any t ys) || t x)
+    more : (b : Bool) → list_any t (ys ++ x ∷ []) ≡ (list_any t ys || t x) → (b || list_any t (ys ++ x ∷ [])) ≡
+        ((b || list_any t ys) || t x)
     more true e = refl
     more false e = e
 
@@ -185,11 +188,14 @@ same_ranges z (l ∷ ls) (c ∷ cs) zs =
         → ranges_of z (zone_map (l ∷ ls)) ≡ ranges_with z (c ∷ cs)
     one told range has rest =
         ap (λ b. ranges_of z (map known_of_list (if b then l ∷ filter is_told ls else filter is_told ls))) told
-        ∙ (ap (λ b. map (λ k. k.range) (if b then known_of_list l ∷ filter (has_zone z) (zone_map ls) else filter (has_zone z) (zone_map ls))) has
+        ∙ (ap (λ b. map (λ k. k.range) (if b then known_of_list l ∷ filter (has_zone z) (zone_map ls) else filter (has_zone z)
+        (zone_map ls))) has
         ∙ by (list_any (same_name z) c.zones))
       where
-        by : (b : Bool) → map (λ k. k.range) (if b then known_of_list l ∷ filter (has_zone z) (zone_map ls) else filter (has_zone z) (zone_map ls))
-            ≡ map (λ (c : Cable). record { start = c.start; end = c.end }) (if b then c ∷ filter (λ c. list_any (same_name z) c.zones) cs else filter (λ c. list_any (same_name z) c.zones) cs)
+        by : (b : Bool) → map (λ k. k.range) (if b then known_of_list l ∷ filter (has_zone z) (zone_map ls) else filter (has_zone z)
+            (zone_map ls))
+            ≡ map (λ (c : Cable). record { start = c.start; end = c.end })
+            (if b then c ∷ filter (λ c. list_any (same_name z) c.zones) cs else filter (λ c. list_any (same_name z) c.zones) cs)
         by true = ap (λ (s : Span). s ∷ ranges_of z (zone_map ls)) range ∙ ap (λ ss. record { start = c.start; end = c.end } ∷ ss) rest
         by false = rest
 

@@ -8,14 +8,24 @@ returns-in-Some-bad_row-2 c =
     let i = c.args.image.now in
     let below_3 = and_next i 2 (and_next i 1 (none_yet i) c.in_default.ensures) c.in_default-bad_station.ensures in
     let below_4 = and_next i 3 below_3 c.in_default-bad_row.ensures in
-    record { judged = first_fault i _ 4 _ c.broken_at-in-Some-bad_row-2.ensures below_4 c.in-Some-bad_row-2.ensures; walks = tt; zones = tt }
+    record {
+      judged = first_fault i _ 4 _ c.broken_at-in-Some-bad_row-2.ensures below_4 c.in-Some-bad_row-2.ensures;
+      walks = tt;
+      zones =
+          tt;
+    }
 
 pub returns-in-Some-bad_row-3 : goal.returns-in-Some-bad_row-3
 returns-in-Some-bad_row-3 c =
     let i = c.args.image.now in
     let below_3 = and_next i 2 (and_next i 1 (none_yet i) c.in_default.ensures) c.in_default-bad_station.ensures in
     let below_5 = and_next i 4 (and_next i 3 below_3 c.in_default-bad_row.ensures) c.in_default-bad_row-2.ensures in
-    record { judged = first_fault i _ 5 _ c.broken_at-in-Some-bad_row-3.ensures below_5 c.in-Some-bad_row-3.ensures; walks = tt; zones = tt }
+    record {
+      judged = first_fault i _ 5 _ c.broken_at-in-Some-bad_row-3.ensures below_5 c.in-Some-bad_row-3.ensures;
+      walks = tt;
+      zones =
+          tt;
+    }
 
 pub returns-in-Some-bad_next : goal.returns-in-Some-bad_next
 returns-in-Some-bad_next c =
@@ -54,4 +64,9 @@ returns c =
     let below_7 = and_next i 6 (and_next i 5 below_5 c.in_default-bad_row-3.ensures) c.in_default-bad_next.ensures in
     let below_8 = and_next i 7 below_7 c.in_default-steps.ensures in
     let passes = all_kept i (and_next i 8 below_8 c.in_default-bad_zone_list.ensures) in
-    record { judged = (passes, c.summarize.ensures); walks = walks_home i passes; zones = zones_agree i passes c.routers-routers.ensures.bounded }
+    record {
+      judged = (passes, c.summarize.ensures);
+      walks = walks_home i passes;
+      zones = zones_agree i passes
+          c.routers-routers.ensures.bounded;
+    }
