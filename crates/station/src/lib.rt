@@ -1,0 +1,13 @@
+//! Stations: what routers and nodes have in common. They hear frames on their ports, and put out
+//! datagrams and AARP frames.
+#![tactic(auto)]
+
+mod heard;
+mod output;
+mod outputs;
+mod station;
+
+pub use heard::{Heard, Kind, Link};
+pub use output::{Cause, Next, Output};
+pub use outputs::Outputs;
+pub use station::{MAX_MADE, Station};

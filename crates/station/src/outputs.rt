@@ -1,0 +1,95 @@
+//! The outputs of a station, in the order in which it puts them out.
+
+ghost use Rattle.std.specs.Prelude.{◌≡◌, ◌<◌, ◌≤◌, ◌+◌, ◌-◌, [], ◌∷◌, ◌++◌, ◌==◌, length};
+ghost use Rattle.std.specs.Prelude.{IfNone, IfOk, IfSome, IsOkUnless, OnErr, OnOk};
+ghost use Rattle.std.specs.Prelude.{slice_get};
+ghost use Rattle.std.specs.Option.{option_copied};
+
+use crate::output::Output;
+use at_base::Error;
+use std::alloc::Global;
+use std::collections::VecDeque;
+use std::marker::Model;
+
+/// A queue of outputs, with room for more that contracts see.
+///
+/// This project's own.
+#[derive(Drop)]
+pub struct Outputs {
+    items: VecDeque<Output>,
+}
+
+impl Model for Outputs {
+    ghost use Rattle.std.specs.Prelude.{◌-◌};
+    ghost use Rattle.std.specs.VecDeque.{deque_capacity, deque_len};
+    ghost use Rattle.station.specs.Lawful.{Queue};
+
+    ghost Value = { Queue };
+
+    ghost view = { λ o. record {
+      items = o.items.items;
+      spare = deque_capacity o.items - deque_len o.items;
+    } };
+}
+
+impl Outputs {
+    /// No outputs. Error: `Memory`, which an empty queue never needs.
+    pub fn new(alloc: Global) -> Result<Outputs, Error>
+        ensures ok { IfOk result (λ outputs. outputs.items ≡ []) }
+        ensures refused { IsOkUnless result Error.Memory }
+    {
+        Ok(Outputs {
+            items: VecDeque::new(alloc),
+        })
+    }
+
+    /// Makes room for so many more outputs. Error: `Memory`. The outputs stay.
+    pub fn room(&mut self, n: usize) -> Result<(), Error>
+        ensures ok { OnOk result (n ≤ self.new.spare) }
+        ensures refused { IsOkUnless result Error.Memory }
+        ensures kept { self.new.items ≡ self.old.items }
+    {
+        self.items.reserve(n)?;
+        Ok(())
+    }
+
+    /// Adds an output after the others. That there is room for it is the caller's condition.
+    /// Allocates nothing.
+    pub fn add(&mut self, output: Output)
+        requires { 0 < self.old.spare }
+        ensures added { self.new.items ≡ self.old.items ++ output ∷ [] }
+        ensures spare { self.new.spare + 1 ≡ self.old.spare }
+    {
+        self.items.push_back_reserved(output);
+    }
+
+    /// The number of outputs. Allocates nothing.
+    pub fn len(&self) -> usize
+        ensures { result ≡ length self.now.items }
+    {
+        self.items.len()
+    }
+
+    /// Whether there are no outputs. Allocates nothing.
+    pub fn is_empty(&self) -> bool
+        ensures { result ≡ (length self.now.items == 0) }
+    {
+        self.items.is_empty()
+    }
+
+    /// The output at an index, from the oldest on. Allocates nothing.
+    pub fn get(&self, index: usize) -> Option<&Output>
+        ensures { option_copied result ≡ slice_get self.now.items index }
+    {
+        self.items.get(index)
+    }
+
+    /// Takes out the oldest output. Allocates nothing.
+    pub fn pop(&mut self) -> Option<Output>
+        ensures some { IfSome result (λ output. self.old.items ≡ output ∷ self.new.items) }
+        ensures none { IfNone result (self.old.items ≡ []) }
+        ensures end { IfNone result (self.new.items ≡ []) }
+    {
+        self.items.pop_front()
+    }
+}

@@ -1,0 +1,55 @@
+//! The trait of stations.
+
+ghost use Rattle.std.specs.Prelude.{◌≡◌, ◌<◌, OnErr, OnOk, IsOkUnless};
+ghost use Rattle.station.specs.Lawful.{PutsOut};
+
+use crate::heard::Heard;
+use crate::outputs::Outputs;
+use at_base::Error;
+
+/// The most datagrams and AARP packets that a station makes in one call. This project's own.
+pub const MAX_MADE: usize = 256;
+
+/// A station: a router or a node, with ports on cables.
+///
+/// This project's own.
+pub trait Station: Drop {
+    ghost use Rattle.std.specs.Prelude.{List, ℕ};
+    ghost use Rattle.station.specs.Hearing.{Hearing, hearing};
+    ghost use Rattle.station.specs.declared.output.Output.{Output as OutputValue};
+
+    // The number of its ports.
+    ghost ports_of: { Self → ℕ };
+
+    // What it puts out for what it hears, and what it is then.
+    ghost hears: { Self → Hearing → List OutputValue → Self → Type 0 };
+
+    // What it puts out in a tick, and what it is then.
+    ghost ticks: { Self → List OutputValue → Self → Type 0 };
+
+    /// The number of its ports, at most 16. Allocates nothing.
+    fn ports(&self) -> u8
+        ensures { result ≡ ports_of self.now };
+
+    /// Hears a frame on a port that it has, and puts out what follows. What it can't read, and what
+    /// a table of its own can't take, it ignores. Error: `Memory`, which changes neither the station
+    /// nor the outputs.
+    fn receive(&mut self, heard: &Heard<'_>, outputs: &mut Outputs) -> Result<(), Error>
+        requires port { heard.now.port < ports_of self.old }
+        ensures ok { OnOk result (PutsOut (ports_of self.old) outputs.old.items outputs.new.items
+            (λ added. hears self.old (hearing heard.now) added self.new)) }
+        ensures ports_stay { ports_of self.new ≡ ports_of self.old }
+        ensures refused { IsOkUnless result Error.Memory }
+        ensures station_stays { OnErr result (self.new ≡ self.old) }
+        ensures outputs_stay { OnErr result (outputs.new.items ≡ outputs.old.items) };
+
+    /// Lets a tick pass, a fifth of a second. Error: `Memory`, which changes neither the station nor
+    /// the outputs.
+    fn tick(&mut self, outputs: &mut Outputs) -> Result<(), Error>
+        ensures ok { OnOk result (PutsOut (ports_of self.old) outputs.old.items outputs.new.items
+            (λ added. ticks self.old added self.new)) }
+        ensures ports_stay { ports_of self.new ≡ ports_of self.old }
+        ensures refused { IsOkUnless result Error.Memory }
+        ensures station_stays { OnErr result (self.new ≡ self.old) }
+        ensures outputs_stay { OnErr result (outputs.new.items ≡ outputs.old.items) };
+}
