@@ -44,6 +44,10 @@ begun range [] hw = record {
 }
 begun range (a ∷ left) hw = record { range = range; hw = hw; tentative = a; left = left; probes = 0; is_settled = false }
 
+-- a choice that is made: that of this address, as after ten probes
+abbrev pub decided : Span → Addr → Hw → Choice
+decided range a hw = record { range = range; hw = hw; tentative = a; left = []; probes = 10; is_settled = true }
+
 -- the choice with its next address: the next one to try, and after the last one the address after it
 abbrev pub moved : Choice → Choice
 moved c = to c.left

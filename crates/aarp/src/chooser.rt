@@ -4,7 +4,7 @@ ghost use Rattle.std.specs.Prelude.{◌≡◌, IsTrue, IfOk, IfSome, IsOkUnless}
 ghost use Rattle.std.specs.List.{list_all};
 ghost use Rattle.aarp.specs.Choosing.{begun, ticked, heard as heard_by, settled as settled_at};
 ghost use Rattle.aarp.specs.Choosing.{answer as answer_of, is_conflict as conflict};
-ghost use Rattle.aarp.specs.Choosing.{upwards as next_upwards, probe_for, is_on};
+ghost use Rattle.aarp.specs.Choosing.{upwards as next_upwards, probe_for, is_on, decided as decided_on};
 ghost use Rattle.aarp.specs.Choosing.{wants as is_wanted};
 
 use crate::packet::{Function, Packet};
@@ -134,6 +134,38 @@ impl Chooser {
             probes: 0,
             is_settled: false,
         })
+    }
+
+    /// A choice that is made: the port has this address, as after eleven ticks in which nobody
+    /// objected to it. That a station of the range may have it is the caller's condition, which
+    /// `are_on` tests. Allocates nothing.
+    pub fn decided(alloc: Global, range: Range, addr: Addr, hw: Hw) -> Chooser
+        requires { IsTrue (is_on range addr) }
+        ensures { result ≡ decided_on range addr hw }
+    {
+        Chooser {
+            range,
+            hw,
+            tentative: addr,
+            tries: Vec::new(alloc),
+            tried: 0,
+            probes: MAX_PROBES,
+            is_settled: true,
+        }
+    }
+
+    /// The range of the port's cable.
+    pub fn range(&self) -> Range
+        ensures { result ≡ self.now.range }
+    {
+        self.range
+    }
+
+    /// The port's hardware address.
+    pub fn hw(&self) -> Hw
+        ensures { result ≡ self.now.hw }
+    {
+        self.hw
     }
 
     /// The same choice again. Error: `Memory`.

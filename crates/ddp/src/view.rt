@@ -4,6 +4,7 @@ ghost use Rattle.std.specs.Prelude.{◌≡◌, ◌⊎◌, ◌↔◌, ◌≤◌, 
 ghost use Rattle.at_base.specs.Reading.{Gives, Reads};
 ghost use Rattle.ddp.specs.Datagram.{datagram, length_of, checksum_of};
 ghost use Rattle.at_base.specs.Packets.{packets};
+ghost use Rattle.at_base.specs.Spelling.{Spells};
 ghost use Rattle.ddp.specs.InPlace.{extent};
 
 use crate::header::{HEADER_LEN, MAX_LEN};
@@ -134,6 +135,13 @@ impl<'a> View<'a> {
         ensures short { length self.now.payload ≤ 586 }
     {
         &self.bytes[HEADER_LEN..]
+    }
+
+    /// The bytes of the datagram, in place and without padding.
+    pub fn as_bytes(&self) -> &'a [u8]
+        ensures { Spells datagram result.now self.now }
+    {
+        self.bytes
     }
 
     /// Whether the checksum is that of the bytes after it.

@@ -1,10 +1,9 @@
 -- What a station may put out: the laws of stations. This project's own.
-use Rattle.std.specs.Prelude.{◌≡◌, ℕ, ◌+◌, ◌<◌, ◌≤◌, Bool, true, false, not, List, [], ◌∷◌, ◌++◌}
-use Rattle.std.specs.List.{All}
+use Rattle.std.specs.Prelude.{◌≡◌, ℕ, ◌+◌, ◌<◌, ◌≤◌, Bool, true, false, not, IsTrue, List, [], ◌∷◌, ◌++◌, nat_lt}
+use Rattle.std.specs.List.{All, list_all}
 use Rattle.at_base.specs.Spelling.{Spells}
-use Rattle.aarp.specs.declared.packet.Packet.{Packet}
-use Rattle.aarp.specs.Packets.{packet, written}
-use Rattle.ddp.specs.InPlace.{IsDatagram}
+use Rattle.aarp.specs.Packets.{Whole as AarpPacket, packet}
+use Rattle.ddp.specs.Datagram.{Datagram, datagram}
 use Rattle.station.specs.declared.output.Next.{Next}
 use Rattle.station.specs.declared.output.Next.TheVariants as next
 use Rattle.station.specs.declared.output.Output.{Output}
@@ -32,22 +31,33 @@ count test (o ∷ os) = one (test o) + count test os
     one true = 1
     one false = 0
 
--- a group there may be
+-- a group is one that there is
 abbrev pub IsNext : Next → Type 0
+IsNext (next.Station a) = Unit {0}
+IsNext next.All = Unit {0}
 IsNext (next.Group g) = g < 253
-IsNext _ = Unit {0}
 
--- the bytes are an AARP packet, and nothing more
+-- each of them is a byte
+abbrev pub are_bytes : List ℕ → Bool
+are_bytes bytes = list_all (λ b. nat_lt b 256) bytes
+
+-- The bytes are one datagram, and nothing more.
+pub record IsWhole (bytes : List ℕ) : Type 0 where
+  pub value : Datagram
+  pub spelled : Spells datagram bytes value
+  pub each : IsTrue (are_bytes bytes)
+
+-- The bytes are one AARP packet, and nothing more.
 pub record IsPacket (bytes : List ℕ) : Type 0 where
-  pub value : Packet
-  pub spelled : Spells packet bytes (written value)
+  pub value : AarpPacket
+  pub spelled : Spells packet bytes value
 
 -- Each output of a station with so many ports names one of them, and holds a datagram or an AARP packet.
 abbrev pub IsGood : ℕ → Output → Type 0
-IsGood ports (Made port next bytes) = (port < ports) × IsNext next × IsDatagram bytes
-IsGood ports (Passed port next bytes) = (port < ports) × IsNext next × IsDatagram bytes
-IsGood ports (Kept port bytes) = (port < ports) × IsDatagram bytes
-IsGood ports (Dropped cause bytes) = IsDatagram bytes
+IsGood ports (Made port next bytes) = (port < ports) × IsNext next × IsWhole bytes
+IsGood ports (Passed port next bytes) = (port < ports) × IsNext next × IsWhole bytes
+IsGood ports (Kept port bytes) = (port < ports) × IsWhole bytes
+IsGood ports (Dropped cause bytes) = IsWhole bytes
 IsGood ports (Wire port to bytes) = (port < ports) × IsPacket bytes
 
 -- What a call puts out: at most 256 that the station made, at most one other, and each as it may be.

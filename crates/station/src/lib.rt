@@ -5,9 +5,13 @@
 mod heard;
 mod output;
 mod outputs;
+mod port_plan;
 mod station;
+mod way;
 
 pub use heard::{Heard, Kind, Link};
 pub use output::{Cause, Next, Output};
 pub use outputs::Outputs;
+pub use port_plan::PortPlan;
 pub use station::{MAX_MADE, Station};
+pub use way::Way;

@@ -1,0 +1,54 @@
+//! The way of a datagram that a station makes.
+
+ghost use Rattle.std.specs.Prelude.{◌≡◌, ◌<◌, ◌≤◌, ℕ, length, IfOk, IsOkUnless, IsTrue};
+ghost use Rattle.station.specs.Lawful.{IsGood, IsNext, are_bytes};
+ghost use Rattle.station.specs.Making.{made};
+
+use crate::output::{Next, Output};
+use at_base::{Bytes, Error};
+use ddp::Header;
+use std::alloc::Global;
+
+/// By which port a datagram leaves, to whom it goes next there, and its header.
+///
+/// Inside AppleTalk, the chapter on DDP.
+#[derive(Clone, Copy, Debug)]
+pub struct Way {
+    /// The index of the port, from 0.
+    pub port: u8,
+    /// Whom it goes to next.
+    pub next: Next,
+    /// Its header.
+    pub header: Header,
+}
+
+/// Does nothing: it tells the prover that the bytes are bytes, which only a slice knows.
+pub(crate) fn recall_bytes(bytes: &[u8])
+    ensures { IsTrue (are_bytes bytes.now) }
+{
+    let _len = bytes.len();
+}
+
+impl Way {
+    /// The datagram with this data that goes this way. At most 586 bytes of data are the caller's
+    /// condition. Error: `Memory`.
+    pub fn make(&self, alloc: Global, payload: &[u8]) -> Result<Output, Error>
+        requires { length payload.now ≤ 586 }
+        ensures ok { IfOk result (λ output. output ≡ made self.now payload.now) }
+        ensures good { IfOk result (λ output. IsNext self.now.next
+            → (ports : ℕ) → self.now.port < ports → IsGood ports output) }
+        ensures refused { IsOkUnless result Error.Memory }
+    {
+        match ddp::write(alloc, &self.header, payload) {
+            Ok(bytes) => {
+                recall_bytes(bytes.as_slice());
+                Ok(Output::Made {
+                    port: self.port,
+                    next: self.next,
+                    bytes,
+                })
+            }
+            Err(_) => Err(Error::Memory),
+        }
+    }
+}
