@@ -128,3 +128,10 @@ read_with_hops n bytes d few (rest, parts, v, f) =
     ap (with_hops n) whole ∙ with_hops_front n d rest ∙ ap (λ (b : List ℕ). b ++ rest) (laid_hopped n d few h) in
     let spelled : Spells datagram (laid e) e = (laid_value e (hopped_laid n d few h), sym (bytes_laid e)) in
     subst (λ (b : List ℕ). Begins datagram b e) (sym set) (spelled_begins datagram (laid e) rest e spelled)
+
+pub spells_with_hops : (n : ℕ) (bytes : List ℕ) (d : Datagram) → n ≤ 15 → Spells datagram bytes d
+    → Spells datagram (with_hops n bytes) (record d { hops = n })
+spells_with_hops n bytes d few (v, parts) =
+    let h = value_laid d v in
+    let e = hopped n d in
+    (laid_value e (hopped_laid n d few h), ap (with_hops n) (parts ∙ bytes_laid d) ∙ laid_hopped n d few h ∙ sym (bytes_laid e))

@@ -30,6 +30,12 @@ pub fn set_hops_are_read()
         → Begins datagram (with_hops n bytes) (record d { hops = n }) }
 {}
 
+/// One datagram whose hop count was set, and nothing more, is one with that count.
+pub fn set_hops_are_spelled()
+    ensures { (n : ℕ) (bytes : List ℕ) (d : Datagram) → n ≤ 15 → Spells datagram bytes d
+        → Spells datagram (with_hops n bytes) (record d { hops = n }) }
+{}
+
 /// Padding is no part of the body.
 pub fn padding_leaves_the_body()
     ensures { (bytes rest : List ℕ) → named_length bytes ≤ length bytes → 2 ≤ length bytes

@@ -10,8 +10,8 @@ mod writer;
 pub use header::{HEADER_LEN, Header, MAX_DATA, MAX_LEN, kind, socket};
 pub use hops::set_hops;
 pub use laws::{
-    hops_leave_the_body, padding_leaves_the_body, set_hops_are_read, value_agrees_with_bytes,
-    written_has_no_hops, written_is_read,
+    hops_leave_the_body, padding_leaves_the_body, set_hops_are_read, set_hops_are_spelled,
+    value_agrees_with_bytes, written_has_no_hops, written_is_read,
 };
 pub use view::View;
 pub use writer::write;

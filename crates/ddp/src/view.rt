@@ -139,7 +139,8 @@ impl<'a> View<'a> {
 
     /// The bytes of the datagram, in place and without padding.
     pub fn as_bytes(&self) -> &'a [u8]
-        ensures { Spells datagram result.now self.now }
+        ensures value { Spells datagram result.now self.now }
+        ensures least { 13 ≤ length result.now }
     {
         self.bytes
     }

@@ -3,6 +3,7 @@
 #![tactic(auto)]
 
 mod heard;
+mod laws;
 mod output;
 mod outputs;
 mod port_plan;
@@ -10,6 +11,7 @@ mod station;
 mod way;
 
 pub use heard::{Heard, Kind, Link};
+pub use laws::slices_have_bytes;
 pub use output::{Cause, Next, Output};
 pub use outputs::Outputs;
 pub use port_plan::PortPlan;

@@ -1,9 +1,10 @@
 //! The way of a datagram that a station makes.
 
-ghost use Rattle.std.specs.Prelude.{◌≡◌, ◌<◌, ◌≤◌, ℕ, length, IfOk, IsOkUnless, IsTrue};
-ghost use Rattle.station.specs.Lawful.{IsGood, IsNext, are_bytes};
+ghost use Rattle.std.specs.Prelude.{◌≡◌, ◌<◌, ◌≤◌, ℕ, length, IfOk, IsOkUnless};
+ghost use Rattle.station.specs.Lawful.{IsGood, IsNext};
 ghost use Rattle.station.specs.Making.{made};
 
+use crate::laws::slices_have_bytes;
 use crate::output::{Next, Output};
 use at_base::{Bytes, Error};
 use ddp::Header;
@@ -22,13 +23,6 @@ pub struct Way {
     pub header: Header,
 }
 
-/// Does nothing: it tells the prover that the bytes are bytes, which only a slice knows.
-pub(crate) fn recall_bytes(bytes: &[u8])
-    ensures { IsTrue (are_bytes bytes.now) }
-{
-    let _len = bytes.len();
-}
-
 impl Way {
     /// The datagram with this data that goes this way. At most 586 bytes of data are the caller's
     /// condition. Error: `Memory`.
@@ -41,7 +35,7 @@ impl Way {
     {
         match ddp::write(alloc, &self.header, payload) {
             Ok(bytes) => {
-                recall_bytes(bytes.as_slice());
+                slices_have_bytes(bytes.as_slice());
                 Ok(Output::Made {
                     port: self.port,
                     next: self.next,

@@ -1,7 +1,6 @@
-use Rattle.std.proofs.Common.{rules, ◌≡◌, ℕ, arith}
+use Rattle.std.proofs.Common.{arith}
 use Rattle.station.proofs.Values.{all_bytes}
-use Rattle.station.proofs.way.recall_bytes.Goals as goal
+use Rattle.station.proofs.laws.slices_have_bytes.Goals as goal
 
--- src/way.rt:27:1
 pub returns : goal.returns
 returns c = all_bytes c.args.bytes.now (λ i. omega (arith, c.type_inv.bytes i))
