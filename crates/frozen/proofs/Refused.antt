@@ -35,7 +35,7 @@ not_same_hops legal = zero_one (are_carried three_cables same_hops example_passe
 pub not_elsewhere : IsLegal three_cables looked_elsewhere → ⊥
 unfolding request zone_of datagram packet tuple address text
 not_elsewhere legal =
-    one_zero ((are_looked_up three_cables looked_elsewhere (key_in (request blue_request)) example_passes legal).others 0 refl)
+    one_zero ((are_looked_up three_cables looked_elsewhere (key_in (request blue_request)) example_passes legal refl).others 0 refl)
   where
     one_zero : ◌≡◌ {A = ℕ} 1 0 → ⊥
     one_zero e = cc
@@ -43,4 +43,4 @@ not_elsewhere legal =
 pub not_nowhere : IsLegal three_cables looked_nowhere → ⊥
 unfolding request zone_of datagram packet tuple address text
 not_nowhere legal =
-    zero_one ((are_looked_up three_cables looked_nowhere (key_in (request blue_request)) example_passes legal).listed 1 refl)
+    zero_one ((are_looked_up three_cables looked_nowhere (key_in (request blue_request)) example_passes legal refl).listed 1 refl)

@@ -14,7 +14,7 @@ ghost use Rattle.frozen.specs.Illegal.{looked_elsewhere, looked_nowhere, passed_
 ghost use Rattle.frozen.specs.Illegal.{reached_alone, same_hops, taken_twice};
 ghost use Rattle.frozen.specs.Legal.{IsLegal};
 ghost use Rattle.frozen.specs.LookupExample.{blue_names, blue_request, blue_to};
-ghost use Rattle.frozen.specs.Lookups.{IsLookedUp, asked as asked_for};
+ghost use Rattle.frozen.specs.Lookups.{IsLookedUp, NodesOnlyAsk, asked as asked_for};
 ghost use Rattle.frozen.specs.Lookups.{lookups as lookups_on, taken};
 ghost use Rattle.frozen.specs.Requests.{is_broadcast, key_in, request};
 
@@ -38,13 +38,13 @@ pub fn carriage()
     ensures { (i : Internet) (t : List Entry) → Passes i → IsLegal i t → AreCarried i none_yet t }
 {}
 
-/// Lookups exactly where the zone is listed: for each broadcast request that was taken, each cable
-/// that lists its zone has had one lookup, or a forward request to it is under way, and no other
-/// cable has had one; and each that was asked was taken or is still to be taken. This project's
-/// own.
+/// Lookups exactly where the zone is listed, if no node sends a forward request or a lookup: for
+/// each broadcast request that was taken, each cable that lists its zone has had one lookup, or a
+/// forward request to it is under way, and no other cable has had one; and each that was asked was
+/// taken or is still to be taken. This project's own.
 pub fn lookups()
     ensures { (i : Internet) (t : List Entry) (k : List ℕ)
-        → Passes i → IsLegal i t → IsLookedUp i t k }
+        → Passes i → IsLegal i t → NodesOnlyAsk i t → IsLookedUp i t k }
 {}
 
 /// The echo over three cables is legal, and each of its two datagrams has reached its destination's
