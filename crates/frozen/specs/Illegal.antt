@@ -4,7 +4,7 @@ use Rattle.cable_model.specs.declared.entry.Cause.TheVariants.{HopLimit, NoRoute
 use Rattle.cable_model.specs.declared.entry.How.TheVariants as how
 use Rattle.cable_model.specs.declared.entry.Kind.TheVariants.{Ddp}
 use Rattle.cable_model.specs.Transcript.{Dropped, Entry, Sent, Put, Took, Reached}
-use Rattle.frozen.specs.Example.{echo_request, framed}
+use Rattle.frozen.specs.Example.{echo_request, framed, plain}
 use Rattle.frozen.specs.Legs.{all_hw}
 use Rattle.frozen.specs.LookupExample.{blue_lookup, blue_request, to_blue}
 
@@ -35,7 +35,7 @@ many_hops = Sent 2 (echo_request 0) ∷ framed 0 0 2 1 (echo_request 56) ∷ []
 
 -- a datagram from 10.7 to 50.9, a network that no cable has
 abbrev pub to_unlisted : List ℕ
-to_unlisted = 0 ∷ 13 ∷ 0 ∷ 0 ∷ 0 ∷ 50 ∷ 0 ∷ 10 ∷ 9 ∷ 7 ∷ 128 ∷ 128 ∷ 128 ∷ []
+to_unlisted = plain 0 50 9
 
 -- it is neither under way nor dropped
 abbrev pub gone : List Entry
@@ -57,7 +57,7 @@ taken_twice =
 
 -- a datagram from 10.7 to all nodes of network 10, with this first byte
 abbrev pub to_all : ℕ → List ℕ
-to_all first = first ∷ 13 ∷ 0 ∷ 0 ∷ 0 ∷ 10 ∷ 0 ∷ 10 ∷ 255 ∷ 7 ∷ 128 ∷ 128 ∷ 128 ∷ []
+to_all first = plain first 10 255
 
 -- the first router passes on what it heard as one of all
 abbrev pub passed_from_all : List Entry

@@ -10,6 +10,7 @@ ghost use Rattle.frozen.specs.Carriage.{AreCarried, none_yet};
 ghost use Rattle.frozen.specs.Counts.{HasHopsLeft, IsConserved};
 ghost use Rattle.frozen.specs.Counts.{reached, sent, under_way};
 ghost use Rattle.frozen.specs.Example.{echo, echo_reply, echo_request};
+ghost use Rattle.frozen.specs.Example.{to_everybody, to_nobody, to_nowhere};
 ghost use Rattle.frozen.specs.Illegal.{asked_alone, dropped_too, gone, looked_elsewhere};
 ghost use Rattle.frozen.specs.Illegal.{looked_nowhere, many_hops, out_of_hops, passed_from_all};
 ghost use Rattle.frozen.specs.Illegal.{put_from_afar, reached_alone, reached_elsewhere};
@@ -58,6 +59,14 @@ pub fn the_echo_is_legal()
     ensures replied { (sent (echo_reply 0) echo ≡ 1) × (reached (echo_reply 0) 0 echo ≡ 1) }
     ensures done { (under_way three_cables (echo_request 0) echo ≡ 0)
         × (under_way three_cables (echo_reply 0) echo ≡ 0) }
+{}
+
+/// So are the other ends that a datagram may come to: an address that no station has, all nodes of
+/// a cable, and a network that no cable has. This project's own.
+pub fn each_end_is_legal()
+    ensures nobody { IsLegal three_cables to_nobody }
+    ensures everybody { IsLegal three_cables to_everybody }
+    ensures nowhere { IsLegal three_cables to_nowhere }
 {}
 
 /// The request for the names in the zone blue over three cables is legal. It was asked and taken
