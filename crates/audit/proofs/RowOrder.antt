@@ -1,7 +1,7 @@
 -- Rows rise, so one at most has a range.
 use Rattle.std.proofs.Common.{◌≡◌, ℕ, ◌<◌, ◌&&◌, ◌==◌, true, false, List, Some, slice_get, arith, sym, find}
 use Rattle.std.proofs.lemmas.Bool.{eqb-true, and_parts, false_from_ne_true}
-use Rattle.table_image.specs.Internet.{AreRising}
+use Rattle.table_image.specs.Bounds.{AreRising}
 use Rattle.table_image.specs.declared.row.Row.{Row}
 use Rattle.audit.proofs.Finding.{first_found}
 

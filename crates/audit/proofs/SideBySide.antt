@@ -1,6 +1,6 @@
 -- Two rising lists with the same numbers, side by side.
 use Rattle.std.proofs.Common.{◌≡◌, ℕ, zero, suc, ◌<◌, ◌≤◌, List, [], ◌∷◌, refl, ap, arith, subst}
-use Rattle.table_image.specs.Internet.{Rises}
+use Rattle.table_image.specs.Bounds.{Rises}
 use Rattle.audit.proofs.WalkLists.{At}
 
 -- the lists are as long, and R holds of the elements at each place

@@ -4,7 +4,8 @@ use Rattle.std.proofs.Common.{◌∙◌, subst, arith, eqb-true, eq-eqb}
 use Rattle.std.proofs.lemmas.Bool.{ne_eqb}
 use Rattle.at_base.specs.declared.error.Place.{Place}
 use Rattle.at_base.specs.declared.error.Place.TheVariants as place
-use Rattle.table_image.specs.Internet.{Internet, IsBounded, AreRising}
+use Rattle.table_image.specs.Internet.{Internet}
+use Rattle.table_image.specs.Bounds.{IsBounded, AreRising}
 use Rattle.audit.specs.Places.{on}
 use Rattle.table_image.specs.Rows.{is_direct}
 use Rattle.table_image.specs.declared.row.Row.{Row}

@@ -3,7 +3,8 @@
 
 ghost use Rattle.std.specs.Prelude.{◌≡◌, ◌≢◌, ℕ, ◌<◌, ◌≤◌, List, [], ◌∷◌, length};
 ghost use Rattle.std.specs.Prelude.{slice_get, Some};
-ghost use Rattle.table_image.specs.Internet.{Internet, IsBounded};
+ghost use Rattle.table_image.specs.Internet.{Internet};
+ghost use Rattle.table_image.specs.Bounds.{IsBounded};
 ghost use Rattle.audit.specs.Routing.{Nowhere, home, hand, distance};
 ghost use Rattle.audit.specs.Example.{three_cables, pointing_at_each_other};
 ghost use Rattle.audit.specs.Example.{same_addresses, same_hardware_addresses};

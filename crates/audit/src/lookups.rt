@@ -5,7 +5,7 @@
 ghost use Rattle.std.specs.Prelude.{◌≡◌, ◌==◌, ◌&&◌, None, Some, position, find};
 ghost use Rattle.std.specs.List.{list_any};
 ghost use Rattle.std.specs.Option.{option_copied};
-ghost use Rattle.table_image.specs.Internet.{AreRising};
+ghost use Rattle.table_image.specs.Bounds.{AreRising};
 ghost use Rattle.audit.specs.Routing.{owner as owner_at};
 ghost use Rattle.at_base.specs.Address.{same_address as same};
 ghost use Rattle.audit.specs.Firsts.{FirstPlace};

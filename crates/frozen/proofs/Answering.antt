@@ -18,7 +18,7 @@ use Rattle.audit.proofs.SeatUnique.{addressed}
 use Rattle.audit.proofs.WalkSteps.{nowhere}
 use Rattle.cable_model.specs.Pending.{Pair, pairs}
 use Rattle.cable_model.specs.Transcript.{Entry, count, one}
-use Rattle.frozen.specs.Answers.{Answers, AreMade, Expanded, LookedUp, Others, ends_at, keeps_by}
+use Rattle.frozen.specs.Answers.{Answers, Expanded, IsMade, LookedUp, Others, ends_at, keeps_by}
 use Rattle.frozen.specs.Legal.{said}
 use Rattle.frozen.specs.Legs.{Leg, is_copy, is_unicast}
 use Rattle.frozen.specs.Lookups.{asks, ends_so, forwarded, is_home, is_request, is_routers}
@@ -105,7 +105,7 @@ module _ (i : Internet) (ok : Passes i) where
     pub good : Each (PairOk i) (pairs (cable_seats i) gs)
 
   pub answers_do : (stamp : ℕ) (p : Pair) (ls : List Leg) → HasPlace i p → Framed p.frame.bytes → PairOk i p
-      → ((k : List ℕ) (c : ℕ) → forwarded i k c p ≡ true → is_name (zone_of k) ≡ true) → AreMade i ls → Answers i p ls
+      → ((k : List ℕ) (c : ℕ) → forwarded i k c p ≡ true → is_name (zone_of k) ≡ true) → Each (IsMade i) ls → Answers i p ls
       → AnswersDo p (said i stamp ls)
   answers_do stamp p ls place f good named made (Expanded here exp) =
       let h = and_parts (is_broadcast (request (body p.frame.bytes))) (ends_at i p) here in
@@ -177,8 +177,8 @@ module _ (i : Internet) (ok : Passes i) where
       copy =
           (and_parts (is_copy i p) (keeps i p) (sym (ap (λ x. x || (is_copy i p && keeps i p)) other) ∙ ends.2)).0
 
-      made_one : AreMade i (l ∷ [])
-      made_one = subst (AreMade i) only made
+      made_one : Each (IsMade i) (l ∷ [])
+      made_one = subst (Each (IsMade i)) only made
 
       tally_is : (k : List ℕ) (c : ℕ) → (n : ℕ) × Tally i k c n (said i stamp ls)
           × (one (forwarded i k c p && not (ends_at i p)) + n ≡ one (forwarded i k c p) + one

@@ -8,7 +8,7 @@ use Rattle.at_base.specs.Packets.{address, text}
 use Rattle.nbp.specs.Packets.{packet, tuple}
 use Rattle.audit.specs.Example.{addr, hardware, three_cables}
 use Rattle.cable_model.specs.Transcript.{Took}
-use Rattle.frozen.proofs.ByHand.{fitting, frame, is_body, pair}
+use Rattle.frozen.proofs.ByHand.{fitting, frame, is_body, not_zero, pair}
 use Rattle.frozen.specs.Answers.{ByRouter, Expanded, IsBody, IsMade, LookedUp, Others, ToThese}
 use Rattle.frozen.specs.Legal.{IsLegal, Begins, Goes, Sends, Takes}
 use Rattle.frozen.specs.Legs.{Leg, ToGroup, ToStation, group_hw}
@@ -76,21 +76,21 @@ abbrev reply_leg : Leg
 reply_leg = record { station = 3; cable = 2; next = ToStation (addr 30 1); body = lab_reply 0; hops = 0 }
 
 request_is_made : IsMade three_cables request_leg
-request_is_made = record { seated = refl; whole = request_is_body; fresh = refl; goes = ByRouter (addr 10 1) 0 refl refl }
+request_is_made = record { seated = refl; whole = request_is_body; fresh = refl; goes = ByRouter (addr 10 1) 0 refl refl (not_zero 10 (omega arith)) }
 
 second_is_made : IsMade three_cables second_leg
 second_is_made =
-    record { seated = refl; whole = second_is_body; fresh = refl; goes = ToThese (group_of (codes "blue")) (omega arith) refl refl }
+    record { seated = refl; whole = second_is_body; fresh = refl; goes = ToThese (group_of (codes "blue")) (omega arith) refl refl refl }
 
 forward_is_made : IsMade three_cables forward_leg
-forward_is_made = record { seated = refl; whole = forward_is_body; fresh = refl; goes = ByRouter (addr 20 2) 1 refl refl }
+forward_is_made = record { seated = refl; whole = forward_is_body; fresh = refl; goes = ByRouter (addr 20 2) 1 refl refl (not_zero 30 (omega arith)) }
 
 third_is_made : IsMade three_cables third_leg
 third_is_made =
-    record { seated = refl; whole = third_is_body; fresh = refl; goes = ToThese (group_of (codes "blue")) (omega arith) refl refl }
+    record { seated = refl; whole = third_is_body; fresh = refl; goes = ToThese (group_of (codes "blue")) (omega arith) refl refl refl }
 
 reply_is_made : IsMade three_cables reply_leg
-reply_is_made = record { seated = refl; whole = reply_is_body; fresh = refl; goes = ByRouter (addr 30 1) 1 refl refl }
+reply_is_made = record { seated = refl; whole = reply_is_body; fresh = refl; goes = ByRouter (addr 30 1) 1 refl refl (not_zero 10 (omega arith)) }
 
 -- ---- The blocks
 
@@ -99,8 +99,7 @@ unfolding request datagram packet tuple address text
 asked =
     Goes [] (take 3 blue_names) Begins
     (Sends request_leg request_is_made (record {
-      no_forward = refl;
-      no_lookup = refl;
+      by_node = refl;
       handed = inr (addr 10 1, 0, refl, refl);
     }))
 
@@ -109,7 +108,7 @@ unfolding request zone_of datagram packet tuple address text
 expanded =
     Goes (take 3 blue_names) (take 5 (drop 3 blue_names)) asked
     (Takes (pair (frame 0 0 2 (hardware 1) blue_request) 0 0 1 None) (second_leg ∷ forward_leg ∷ []) (0, omega arith, refl)
-    (second_is_made, (forward_is_made, tt))
+    (second_is_made, (forward_is_made, tt)) (refl, (refl, tt))
     (Expanded refl (
       inl (record { here = refl; by = refl; kind = refl; key = refl; next = refl }),
       (
@@ -132,6 +131,7 @@ unfolding request zone_of datagram packet tuple address text
 looked =
     Goes (take 8 blue_names) (take 4 (drop 8 blue_names)) expanded
     (Takes (pair (frame 2 1 0 (hardware 3) blue_forward) 1 0 3 None) (third_leg ∷ []) (0, omega arith, refl) (third_is_made, tt)
+    (refl, tt)
     (LookedUp 2 third_leg refl refl refl (record { here = refl; by = refl; kind = refl; key = refl; next = refl })))
 
 answered : IsLegal three_cables (take 15 blue_names)
@@ -139,23 +139,23 @@ unfolding request zone_of datagram packet tuple address text
 answered =
     Goes (take 12 blue_names) (take 3 (drop 12 blue_names)) looked
     (Takes (pair (frame 3 2 1 (group_hw 118) (blue_lookup 30)) 3 0 6 (Some 118)) (reply_leg ∷ []) (0, omega arith, refl)
-    (reply_is_made, tt) (Others refl refl (refl, tt)))
+    (reply_is_made, tt) (refl, tt) (Others refl refl (refl, tt)))
 
 passed_back : IsLegal three_cables (take 17 blue_names)
 unfolding request zone_of datagram packet tuple address text
 passed_back =
     Goes (take 15 blue_names) (take 2 (drop 15 blue_names)) answered
-    (Takes (pair (frame 4 2 3 (hardware 4) (lab_reply 0)) 1 1 4 None) [] (0, omega arith, refl) tt (Others refl refl tt))
+    (Takes (pair (frame 4 2 3 (hardware 4) (lab_reply 0)) 1 1 4 None) [] (0, omega arith, refl) tt tt (Others refl refl tt))
 
 come_back : IsLegal three_cables (take 20 blue_names)
 unfolding request zone_of datagram packet tuple address text
 come_back =
     Goes (take 17 blue_names) (take 3 (drop 17 blue_names)) passed_back
-    (Takes (pair (frame 5 1 1 (hardware 2) (lab_reply 4)) 0 1 2 None) [] (0, omega arith, refl) tt (Others refl refl tt))
+    (Takes (pair (frame 5 1 1 (hardware 2) (lab_reply 4)) 0 1 2 None) [] (0, omega arith, refl) tt tt (Others refl refl tt))
 
 pub names_are_legal : IsLegal three_cables blue_names
 unfolding request zone_of datagram packet tuple address text
 names_are_legal =
     Goes (take 20 blue_names) (Took 6 2 ∷ []) come_back
-    (Takes (pair (frame 6 0 0 (hardware 5) (lab_reply 8)) 2 0 5 (Some (group_of (codes "Red")))) [] (0, omega arith, refl) tt
+    (Takes (pair (frame 6 0 0 (hardware 5) (lab_reply 8)) 2 0 5 (Some (group_of (codes "Red")))) [] (0, omega arith, refl) tt tt
     (Others refl refl tt))

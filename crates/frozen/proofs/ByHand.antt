@@ -1,5 +1,5 @@
 -- Datagrams and pairs of examples that were worked by hand.
-use Rattle.std.proofs.Common.{◌≡◌, ◌<◌, ◌≤◌, ℕ, IsTrue, List, Option, length, nat_lt, refl, arith}
+use Rattle.std.proofs.Common.{◌≡◌, ◌≢◌, ◌<◌, ◌≤◌, ℕ, IsTrue, List, Option, inl, length, nat_lt, refl, arith}
 use Rattle.std.specs.List.{list_all}
 use Rattle.at_base.specs.Spelling.{bytes_of}
 use Rattle.at_base.specs.declared.address.Hw.{Hw}
@@ -11,6 +11,10 @@ use Rattle.cable_model.specs.declared.entry.Kind.TheVariants.{Ddp}
 use Rattle.cable_model.specs.Pending.{Pair}
 use Rattle.cable_model.specs.Transcript.{Frame}
 use Rattle.frozen.specs.Answers.{IsBody}
+
+-- a number that is above 0
+pub not_zero : (n : ℕ) → 1 ≤ n → n ≢ 0
+not_zero n low = λ z. absurd (omega (arith, low, z))
 
 -- a header whose networks are below 256
 pub fitting : (h : Header) → h.target.net < 256 → h.target.node < 256 → h.source.net < 256 → h.source.node < 256
@@ -29,7 +33,7 @@ fitting h a b c d e f g = record {
 pub is_body : (h : Header) (payload bytes : List ℕ) → Fitting h → length payload ≤ 586 → bytes ≡ bytes_of datagram (unsummed h payload)
     → IsTrue (list_all (λ b. nat_lt b 256) bytes) → IsBody bytes
 is_body h payload bytes fits few same each =
-    record { value = unsummed h payload; spelled = (unsummed_value h payload fits few, same); each = each; fresh = refl }
+    record { value = unsummed h payload; spelled = (unsummed_value h payload fits few, same); each = each; fresh = refl; sum = inl refl }
 
 -- a frame with a datagram
 abbrev pub frame : ℕ → ℕ → ℕ → Hw → List ℕ → Frame

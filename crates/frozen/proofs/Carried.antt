@@ -12,7 +12,7 @@ use Rattle.cable_model.specs.Pending.{Pair, pairs, pairs_of, pending, was_ended}
 use Rattle.cable_model.specs.Transcript.{Entry, Sent, Put, Took, Reached, Dropped, Lost, AreNumbered, is_put, one, stamps}
 use Rattle.cable_model.proofs.Counting.{At, contained_at, count-append, each-append, each_all, each_at, each_map, each_more, filter_at}
 use Rattle.cable_model.proofs.Pairs.{numbered-append, pairs-append}
-use Rattle.frozen.specs.Answers.{AreMade}
+use Rattle.frozen.specs.Answers.{IsMade}
 use Rattle.frozen.specs.Carriage.{AreCarried, Chains, IsChain, after, chain_in, none_yet}
 use Rattle.frozen.specs.Legal.{Block, IsLegal, Sends, Takes, Begins, Goes, said}
 use Rattle.frozen.specs.Legs.{Leg, fate, fate_by, is_copy, leg}
@@ -182,7 +182,7 @@ module _ (i : Internet) where
 
 module _ (i : Internet) (ok : Passes i) where
   -- datagrams that stations made: their chains are empty
-  said_carries : (t : List Entry) (stamp : ℕ) (ls : List Leg) → stamp ≡ stamps t → AreMade i ls → Carries i t → Carries i
+  said_carries : (t : List Entry) (stamp : ℕ) (ls : List Leg) → stamp ≡ stamps t → Each (IsMade i) ls → Carries i t → Carries i
       (t ++ said i stamp ls)
   said_carries t stamp [] e made c = subst (Carries i) (sym (append-nil t)) c
   said_carries t stamp (l ∷ ls) e made c =
@@ -242,7 +242,7 @@ module _ (i : Internet) (ok : Passes i) where
             does.numbered,
           )
 
-  took_carries : (t : List Entry) (p : Pair) (k : ℕ) (ls : List Leg) → At (pending (cable_seats i) t) k p → AreMade i ls → Run i ok t
+  took_carries : (t : List Entry) (p : Pair) (k : ℕ) (ls : List Leg) → At (pending (cable_seats i) t) k p → Each (IsMade i) ls → Run i ok t
       → Carries i t
       → Carries i (t ++ Took p.frame.stamp p.seat.station ∷ (fate i (stamps t) p ++ said i (stamps t + stamps (fate i (stamps t) p)) ls))
   took_carries t p k ls at made r c =
@@ -265,7 +265,7 @@ module _ (i : Internet) (ok : Passes i) where
 
   event : (t block : List Entry) → Block i t block → Run i ok t → Carries i t → Carries i (t ++ block)
   event t block (Sends l made own) r c = said_carries t (stamps t) (l ∷ []) refl (made, tt) c
-  event t block (Takes p ls there made answers) r c =
+  event t block (Takes p ls there made its answers) r c =
       let at = contained_at (pending (cable_seats i) t) p there in
       took_carries t p at.0 ls at.1 made r c
 

@@ -6,7 +6,7 @@ use Rattle.ddp.specs.Datagram.{datagram, unsummed}
 use Rattle.ddp.proofs.Shape.{bytes_laid}
 use Rattle.audit.specs.Example.{addr, hardware, three_cables}
 use Rattle.cable_model.specs.Transcript.{Took}
-use Rattle.frozen.proofs.ByHand.{fitting, frame, is_body, pair}
+use Rattle.frozen.proofs.ByHand.{fitting, frame, is_body, not_zero, pair}
 use Rattle.frozen.specs.Answers.{Others, IsBody, IsMade, ByRouter}
 use Rattle.frozen.specs.Example.{echo, ping, echo_reply, echo_request}
 use Rattle.frozen.specs.Legal.{IsLegal, Begins, Goes, Sends, Takes}
@@ -45,18 +45,17 @@ abbrev reply_leg : Leg
 reply_leg = record { station = 3; cable = 2; next = ToStation (addr 30 1); body = echo_reply 0; hops = 0 }
 
 request_is_made : IsMade three_cables request_leg
-request_is_made = record { seated = refl; whole = request_is_body; fresh = refl; goes = ByRouter (addr 10 1) 0 refl refl }
+request_is_made = record { seated = refl; whole = request_is_body; fresh = refl; goes = ByRouter (addr 10 1) 0 refl refl (not_zero 30 (omega arith)) }
 
 reply_is_made : IsMade three_cables reply_leg
-reply_is_made = record { seated = refl; whole = reply_is_body; fresh = refl; goes = ByRouter (addr 30 1) 1 refl refl }
+reply_is_made = record { seated = refl; whole = reply_is_body; fresh = refl; goes = ByRouter (addr 30 1) 1 refl refl (not_zero 10 (omega arith)) }
 
 asked : IsLegal three_cables (take 2 echo)
 unfolding request datagram
 asked =
     Goes [] (take 2 echo) Begins
     (Sends request_leg request_is_made (record {
-      no_forward = refl;
-      no_lookup = refl;
+      by_node = refl;
       handed = inr (addr 10 1, 0, refl, refl);
     }))
 
@@ -64,13 +63,13 @@ passed_on : IsLegal three_cables (take 4 echo)
 unfolding request datagram
 passed_on =
     Goes (take 2 echo) (take 2 (drop 2 echo)) asked
-    (Takes (pair (frame 0 0 2 (hardware 1) (echo_request 0)) 0 0 1 None) [] (0, omega arith, refl) tt (Others refl refl tt))
+    (Takes (pair (frame 0 0 2 (hardware 1) (echo_request 0)) 0 0 1 None) [] (0, omega arith, refl) tt tt (Others refl refl tt))
 
 arrived : IsLegal three_cables (take 7 echo)
 unfolding request datagram
 arrived =
     Goes (take 4 echo) (take 3 (drop 4 echo)) passed_on
-    (Takes (pair (frame 1 1 0 (hardware 3) (echo_request 4)) 1 0 3 None) [] (0, omega arith, refl) tt (Others refl refl tt))
+    (Takes (pair (frame 1 1 0 (hardware 3) (echo_request 4)) 1 0 3 None) [] (0, omega arith, refl) tt tt (Others refl refl tt))
 
 replied : IsLegal three_cables (take 10 echo)
 unfolding request datagram
@@ -78,23 +77,23 @@ replied =
     Goes (take 7 echo) (take 3 (drop 7 echo)) arrived
     (Takes (pair (frame 2 2 1 (hardware 6) (echo_request 8)) 3 0 6 (Some (group_of (codes "Blue")))) (reply_leg ∷ [])
     (0, omega arith, refl)
-    (reply_is_made, tt) (Others refl refl (refl, tt)))
+    (reply_is_made, tt) (refl, tt) (Others refl refl (refl, tt)))
 
 passed_back : IsLegal three_cables (take 12 echo)
 unfolding request datagram
 passed_back =
     Goes (take 10 echo) (take 2 (drop 10 echo)) replied
-    (Takes (pair (frame 3 2 3 (hardware 4) (echo_reply 0)) 1 1 4 None) [] (0, omega arith, refl) tt (Others refl refl tt))
+    (Takes (pair (frame 3 2 3 (hardware 4) (echo_reply 0)) 1 1 4 None) [] (0, omega arith, refl) tt tt (Others refl refl tt))
 
 come_back : IsLegal three_cables (take 15 echo)
 unfolding request datagram
 come_back =
     Goes (take 12 echo) (take 3 (drop 12 echo)) passed_back
-    (Takes (pair (frame 4 1 1 (hardware 2) (echo_reply 4)) 0 1 2 None) [] (0, omega arith, refl) tt (Others refl refl tt))
+    (Takes (pair (frame 4 1 1 (hardware 2) (echo_reply 4)) 0 1 2 None) [] (0, omega arith, refl) tt tt (Others refl refl tt))
 
 pub echo_is_legal : IsLegal three_cables echo
 unfolding request datagram
 echo_is_legal =
     Goes (take 15 echo) (Took 5 2 ∷ []) come_back
-    (Takes (pair (frame 5 0 0 (hardware 5) (echo_reply 8)) 2 0 5 (Some (group_of (codes "Red")))) [] (0, omega arith, refl) tt
+    (Takes (pair (frame 5 0 0 (hardware 5) (echo_reply 8)) 2 0 5 (Some (group_of (codes "Red")))) [] (0, omega arith, refl) tt tt
     (Others refl refl tt))

@@ -1,7 +1,7 @@
 -- What becomes of a copy.
 use Rattle.std.proofs.Common.{◌≡◌, ◌≢◌, ℕ, ◌+◌, ◌<◌, ◌≤◌, Bool, true, false, not, ◌&&◌, ◌||◌, ◌==◌, cond, [], ◌∷◌, Option, Some, None}
-use Rattle.std.proofs.Common.{length, refl, sym, ap, ◌∙◌, subst, arith, true≢false, ltb-true}
-use Rattle.std.proofs.lemmas.Bool.{ne_eqb}
+use Rattle.std.proofs.Common.{length, refl, sym, ap, ◌∙◌, subst, arith, true≢false, eqb-true, ltb-true}
+use Rattle.std.proofs.lemmas.Bool.{eqb-false, ne_eqb, or_parts}
 use Rattle.at_base.specs.Address.{same_address}
 use Rattle.at_base.specs.declared.address.Addr.{Addr}
 use Rattle.ddp.specs.Bodies.{body, hops, target}
@@ -64,29 +64,36 @@ module _ (i : Internet) (ok : Passes i) (N A : ℕ → Type 0) (stamp : ℕ) (p 
   arrived : (r c : ℕ) → hops p.frame.bytes ≤ 14 → is_on i r c ≡ true → A c → home i (target p.frame.bytes).net ≡ Some c
       → Does i N A stamp (body p.frame.bytes) (hops p.frame.bytes + 1) (fate_by i stamp r p (Here c))
   arrived r c few seated at home_is =
-      elim ((target p.frame.bytes).node == 0 || has_address i r c (target p.frame.bytes)) as
-      (λ b. Does i N A stamp (body p.frame.bytes) (hops p.frame.bytes + 1)
+      (elim ((target p.frame.bytes).node == 0 || has_address i r c (target p.frame.bytes)) as
+      (λ b. ((target p.frame.bytes).node == 0 || has_address i r c (target p.frame.bytes)) ≡ b
+      → Does i N A stamp (body p.frame.bytes) (hops p.frame.bytes + 1)
       (cond b (Reached c r how.Own (body p.frame.bytes) ∷ [])
       (cond (hops p.frame.bytes == 15) (Dropped r HopLimit (body p.frame.bytes) ∷ [])
       (leg i stamp (passed r p c (final (target p.frame.bytes))))))) [
-        | true ↦ does_reach i ok N A stamp c r how.Own (body p.frame.bytes) (hops p.frame.bytes + 1) (home_same (Some c) home_is) at
-        | false ↦ by ((target p.frame.bytes).node == 255) refl
-      ]
+        | true ↦ λ e. does_reach i ok N A stamp c r how.Own (body p.frame.bytes) (hops p.frame.bytes + 1) (home_same (Some c) home_is) at
+        | false ↦ λ e. by (or_parts ((target p.frame.bytes).node == 0) _ e).0 ((target p.frame.bytes).node == 255) refl
+      ]) refl
     where
+      node_same : (target (body p.frame.bytes)).node ≡ (target p.frame.bytes).node
+      node_same = ap (λ (a : Addr). a.node) same
+
       there : cable_holds i c (target (body p.frame.bytes)).net ≡ true
       there = home_holds i (target (body p.frame.bytes)).net c (home_same (Some c) home_is)
 
-      by : (b : Bool) → ((target p.frame.bytes).node == 255) ≡ b → Does i N A stamp (body p.frame.bytes) (hops p.frame.bytes + 1)
+      by : ((target p.frame.bytes).node == 0) ≡ false → (b : Bool) → ((target p.frame.bytes).node == 255) ≡ b
+          → Does i N A stamp (body p.frame.bytes) (hops p.frame.bytes + 1)
           (cond (hops p.frame.bytes == 15) (Dropped r HopLimit (body p.frame.bytes) ∷ [])
           (leg i stamp (passed r p c (cond b ToAll (ToStation (target p.frame.bytes))))))
-      by true e =
-          passed_on r c ToAll few seated (ToThem refl there) (λ a s d n own apart h. absurd (all_is_none a n)) (λ h. at)
+      by single true e =
+          passed_on r c ToAll few seated (ToThem refl there (node_same ∙ eqb-true _ _ e)) (λ a s d n own apart h. absurd (all_is_none a n)) (λ h. at)
           (λ a s n own apart. absurd (all_is_none a n))
         where
           all_is_none : (a : Addr) → ToAll ≡ ToStation a → ⊥
           all_is_none a n = cc
-      by false e =
-          passed_on r c (ToStation (target p.frame.bytes)) few seated (Straight (ap ToStation (sym same)) there)
+      by single false e =
+          passed_on r c (ToStation (target p.frame.bytes)) few seated
+          (Straight (ap ToStation (sym same)) there (λ z. eqb-false _ _ single (sym node_same ∙ z))
+          (λ z. eqb-false _ _ e (sym node_same ∙ z)))
           (λ a s d n own apart h. absurd (no_other a n apart)) (λ h. at) (λ a s n own apart. absurd (no_other a n apart))
         where
           no_other : (a : Addr) → ToStation (target p.frame.bytes) ≡ ToStation a → same_address (target (body p.frame.bytes)) a ≡ false → ⊥
@@ -114,7 +121,7 @@ module _ (i : Internet) (ok : Passes i) (N A : ℕ → Type 0) (stamp : ℕ) (p 
             let far = fine c copy home_is in
             subst (λ h. Does i N A stamp (body p.frame.bytes) (hops p.frame.bytes + 1) (fate_by i stamp p.seat.station p h)) (sym on)
             (passed_on p.seat.station d (ToStation a) (omega (arith, far, nearer)) (port_seated i p.seat.station d mine)
-            (ByRouter a s refl own)
+            (ByRouter a s refl own (λ z. (copy_router i p copy).1 (ap (λ (x : Addr). x.net) (sym same) ∙ z)))
             (λ b t e n own_b apart h.
             let it : a ≡ b = cc in
             let one : s ≡ t = same_owner d a b s t it own own_b in

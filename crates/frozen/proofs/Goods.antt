@@ -14,7 +14,7 @@ use Rattle.cable_model.specs.Pending.{Pair, is_all, pairs, pairs_of}
 use Rattle.cable_model.specs.Transcript.{Entry, count, one, stamps}
 use Rattle.cable_model.proofs.Counting.{each-append, each_all, each_map, each_more}
 use Rattle.cable_model.proofs.Pairs.{pairs-append}
-use Rattle.frozen.specs.Answers.{AreMade, AreOther, Expands, IsLookup, IsMade, IsOwn, ends_at}
+use Rattle.frozen.specs.Answers.{Expands, IsLookup, IsMade, IsOwn, ends_at, is_other}
 use Rattle.frozen.specs.Legal.{said}
 use Rattle.frozen.specs.Legs.{Leg, fate, fate_by, group_hw, is_copy, is_datagram, is_unicast, leg, leg_to, put}
 use Rattle.frozen.specs.Lookups.{asks, is_request, waits}
@@ -95,15 +95,16 @@ module _ (i : Internet) (ok : Passes i) where
         | inr w ↦ via_one i ok stamp l w.0 w.1 (whole l.body made.whole) (omega (arith, fresh)) w.2 w.3
       ]
 
-  pub own_good : (stamp : ℕ) (l : Leg) → IsMade i l → IsOwn i l → Each (PairOk i) (pairs (cable_seats i) (leg i stamp l))
-  own_good stamp l made own = by (is_request i l.body) refl
+  pub own_good : (stamp : ℕ) (l : Leg) → IsMade i l → IsOwn i l → is_forward (request l.body) ≡ false → is_lookup (request l.body) ≡ false
+      → Each (PairOk i) (pairs (cable_seats i) (leg i stamp l))
+  own_good stamp l made own no_forward no_lookup = by (is_request i l.body) refl
     where
       seek : is_forward (request l.body) ≡ true → (target l.body).node ≡ 0
-      seek q = absurd (true≢false (sym q ∙ own.no_forward))
+      seek q = absurd (true≢false (sym q ∙ no_forward))
 
       by : (b : Bool) → is_request i l.body ≡ b → Each (PairOk i) (pairs (cable_seats i) (leg i stamp l))
-      by true e = one_good l.body (leg i stamp l) (own_pair stamp l made own e) seek own.no_lookup
-      by false e = leg_good stamp l made e seek own.no_lookup
+      by true e = one_good l.body (leg i stamp l) (own_pair stamp l made own e) seek no_lookup
+      by false e = leg_good stamp l made e seek no_lookup
 
   pub own_waits : (k : List ℕ) (stamp : ℕ) (l : Leg) → IsMade i l → IsOwn i l
       → count (waits i k) (pairs (cable_seats i) (leg i stamp l)) ≡ one (asks i k l.body)
@@ -153,7 +154,7 @@ module _ (i : Internet) (ok : Passes i) where
       (each-append (PairOk i) (pairs (cable_seats i) (leg i stamp l)) (pairs (cable_seats i)
       (said i (stamp + stamps (leg i stamp l)) ls)) a b)
 
-  pub expanded_good : (stamp : ℕ) (key : List ℕ) (r : ℕ) (cs : List ℕ) (ls : List Leg) → AreMade i ls → Expands i key r cs ls
+  pub expanded_good : (stamp : ℕ) (key : List ℕ) (r : ℕ) (cs : List ℕ) (ls : List Leg) → Each (IsMade i) ls → Expands i key r cs ls
       → Each (PairOk i) (pairs (cable_seats i) (said i stamp ls))
   expanded_good stamp key r [] [] made h = tt
   expanded_good stamp key r [] (l ∷ ls) made h = absurd h
@@ -172,7 +173,7 @@ module _ (i : Internet) (ok : Passes i) where
       → Each (PairOk i) (pairs (cable_seats i) (said i stamp (l ∷ [])))
   looked_good stamp key r d l made h = said_one stamp l [] (lookup_good stamp key r d l made h) tt
 
-  pub others_good : (stamp : ℕ) (ls : List Leg) → AreMade i ls → AreOther ls → Each (PairOk i) (pairs (cable_seats i) (said i stamp ls))
+  pub others_good : (stamp : ℕ) (ls : List Leg) → Each (IsMade i) ls → Each (λ l. is_other l.body ≡ true) ls → Each (PairOk i) (pairs (cable_seats i) (said i stamp ls))
   others_good stamp [] made h = tt
   others_good stamp (l ∷ ls) made h =
       let e = other_alone l.body h.0 in

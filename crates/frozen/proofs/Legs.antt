@@ -151,14 +151,14 @@ module _ (i : Internet) (ok : Passes i) (N A : ℕ → Type 0) where
       → (home i (target l.body).net ≡ Some l.cable → A l.cable)
       → ((a : Addr) (r : ℕ) → l.next ≡ ToStation a → owner i l.cable a ≡ Some r → same_address (target l.body) a ≡ false → N r)
       → Does i N A stamp l.body l.hops (leg i stamp l)
-  leg_does stamp l whole few seated (Straight e on) near there next =
+  leg_does stamp l whole few seated (Straight e on single one) near there next =
       subst (λ n. Does i N A stamp l.body l.hops (leg_to i stamp l n)) (sym e)
       (subst (λ b. Does i N A stamp l.body l.hops (cond b (to_target stamp l (seat_at i l.cable (target l.body)))
       (to_other stamp l (seat_at i l.cable (target l.body)))))
       (sym (same_address_self (target l.body)))
       (straight stamp l whole few seated (home_is i ok (target l.body).net l.cable on)
       (there (home_is i ok (target l.body).net l.cable on)) (seat_at i l.cable (target l.body)) refl))
-  leg_does stamp l whole few seated (ByRouter a r e own) near there next =
+  leg_does stamp l whole few seated (ByRouter a r e own some) near there next =
       let w = owner_is i l.cable a r own in
       let s = w.0.0 in
       let place = seat_there i l.cable a s w.0.1 in
@@ -179,20 +179,20 @@ module _ (i : Internet) (ok : Passes i) (N A : ℕ → Type 0) where
     where
       at_target : {s : PlaceOf} {a : Addr} → target l.body ≡ a → SeatThere i l.cable a s → SeatThere i l.cable (target l.body) s
       at_target {s} {a} e w = subst (λ x. SeatThere i l.cable x s) (sym e) w
-  leg_does stamp l whole few seated (ToThem e on) near there next =
+  leg_does stamp l whole few seated (ToThem e on all) near there next =
       let home_is_there = home_is i ok (target l.body).net l.cable on in
       subst (λ n. Does i N A stamp l.body l.hops (leg_to i stamp l n)) (sym e)
       (subst (λ o. Does i N A stamp l.body l.hops (cond (is_some o) (reach how.All l ∷ put stamp l all_hw ∷ []) (put stamp l all_hw ∷ [])))
       (sym home_is_there)
       (does_arrive i ok N A stamp l whole few seated how.All all_hw home_is_there (there home_is_there)
       (none_at_all i ok N A (frame_to i ok N A stamp l whole few seated all_hw) (λ s. refl))))
-  leg_does stamp l whole few seated (OnCable e none) near there next =
+  leg_does stamp l whole few seated (OnCable e none all) near there next =
       subst (λ n. Does i N A stamp l.body l.hops (leg_to i stamp l n)) (sym e) (by (home i (target l.body).net) refl)
     where
       by : (o : Option ℕ) → home i (target l.body).net ≡ o
           → Does i N A stamp l.body l.hops (cond (is_some o) (reach how.All l ∷ put stamp l all_hw ∷ []) (put stamp l all_hw ∷ []))
       by None h = does_stay i ok N A stamp l whole few seated all_hw none
       by (Some c) h = let low = listed_some i ok (target l.body).net c h in absurd (omega (arith, low, none))
-  leg_does stamp l whole few seated (ToThese g lt e none) near there next =
+  leg_does stamp l whole few seated (ToThese g lt e none all) near there next =
       subst (λ n. Does i N A stamp l.body l.hops (leg_to i stamp l n)) (sym e)
       (does_stay i ok N A stamp l whole few seated (group_hw g) none)

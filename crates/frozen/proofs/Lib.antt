@@ -1,6 +1,7 @@
 pub mod Tests
 pub mod ByHand
 pub mod Echo
+pub mod Ends
 pub mod Frames
 pub mod Seated
 pub mod Does

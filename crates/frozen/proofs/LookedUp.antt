@@ -1,10 +1,10 @@
 -- Each broadcast request that was taken has made one lookup for each cable of its zone, or a forward request to it is
 -- under way.
-use Rattle.std.proofs.Common.{◌≡◌, ℕ, ◌+◌, ◌<◌, Bool, true, false, not, ◌&&◌, List, [], ◌∷◌, ◌++◌}
+use Rattle.std.proofs.Common.{◌≡◌, ℕ, ◌+◌, ◌<◌, Bool, true, false, not, ◌&&◌, ◌||◌, List, [], ◌∷◌, ◌++◌}
 use Rattle.std.proofs.Common.{refl, sym, ap, ◌∙◌, subst, arith, append-nil}
 use Rattle.std.proofs.Common.{append_assoc}
 use Rattle.std.specs.List.{AllByRecursion as Each}
-use Rattle.std.proofs.lemmas.Bool.{true_from_ne_false}
+use Rattle.std.proofs.lemmas.Bool.{or_parts, true_from_ne_false}
 use Rattle.at_base.specs.Text.{is_name}
 use Rattle.table_image.specs.Internet.{Internet}
 use Rattle.audit.specs.Rules.{Passes}
@@ -12,12 +12,12 @@ use Rattle.cable_model.specs.Pending.{Pair, pairs, pending, was_ended}
 use Rattle.cable_model.specs.Transcript.{Entry, Sent, Took, AreNumbered, count, is_put, one, stamps}
 use Rattle.cable_model.proofs.Counting.{At, contained_at, count-append, count_at, each-append, each_at, each_more, filter_at}
 use Rattle.cable_model.proofs.Pairs.{EndsBelow, EndsNone, below_more, pairs-append, pending_is, pending_less, pending_more, stamps_below}
-use Rattle.frozen.specs.Answers.{Answers, AreMade, IsOwn, ends_at}
+use Rattle.frozen.specs.Answers.{Answers, IsMade, IsOwn, ends_at}
 use Rattle.frozen.specs.Legal.{Block, IsLegal, Sends, Takes, Begins, Goes, handled, said}
 use Rattle.frozen.specs.Legs.{Leg, fate, leg}
-use Rattle.frozen.specs.Lookups.{IsLookedUp, asked, ends_so, forwarded, forwards, is_asked, looks}
+use Rattle.frozen.specs.Lookups.{IsLookedUp, NodesOnlyAsk, asked, ends_so, forwarded, forwards, is_asked, is_unasked, looks}
 use Rattle.frozen.specs.Lookups.{lookups, taken, waiting, waits}
-use Rattle.frozen.specs.Requests.{is_among, listing, zone_of}
+use Rattle.frozen.specs.Requests.{is_among, is_forward, is_lookup, listing, request, zone_of}
 use Rattle.frozen.specs.Stations.{cable_seats}
 use Rattle.frozen.proofs.Answering.{answers_do}
 use Rattle.frozen.proofs.Does.{HopsFine}
@@ -108,9 +108,12 @@ module _ (i : Internet) (ok : Passes i) where
       let some = count_at (forwarded i k c) (pending (cable_seats i) t) n p at e in
       absurd (omega (arith, total, some)))
 
-  sends_more : (t : List Entry) (l : Leg) → AreMade i (l ∷ []) → IsOwn i l → Run i ok t → Requests t → Requests
-      (t ++ said i (stamps t) (l ∷ []))
-  sends_more t l made own r req =
+  sends_more : (t : List Entry) (l : Leg) → Each (IsMade i) (l ∷ []) → IsOwn i l → is_unasked i (Sent l.station l.body) ≡ false → Run i ok t
+      → Requests t → Requests (t ++ said i (stamps t) (l ∷ []))
+  sends_more t l made own asks r req =
+      let neither : (is_forward (request l.body) || is_lookup (request l.body)) ≡ false =
+      ap (λ b. not b && (is_forward (request l.body) || is_lookup (request l.body))) (sym own.by_node) ∙ asks in
+      let none = or_parts (is_forward (request l.body)) (is_lookup (request l.body)) neither in
       let es = said i (stamps t) (l ∷ []) in
       let lg = leg i (stamps t) l in
       let new = said_keeps i ok (stamps t) (l ∷ []) made in
@@ -120,7 +123,7 @@ module _ (i : Internet) (ok : Passes i) where
         good =
             subst (Each (PairOk i)) (sym (pairs-append (cable_seats i) t es))
             (each-append (PairOk i) (pairs (cable_seats i) t) (pairs (cable_seats i) es) req.good
-            (subst (λ x. Each (PairOk i) (pairs (cable_seats i) x)) (sym all) (own_good i ok (stamps t) l made.0 own)));
+            (subst (λ x. Each (PairOk i) (pairs (cable_seats i) x)) (sym all) (own_good i ok (stamps t) l made.0 own none.0 none.1)));
         balance = λ k.
             let a = count-append (is_asked i k) t es in
             let a2 = ap (count (is_asked i k)) all in
@@ -134,17 +137,17 @@ module _ (i : Internet) (ok : Passes i) where
         looked = λ k c.
             let a = count-append (looks i k c) t es in
             let a2 = ap (count (looks i k c)) all in
-            let a3 = of_no_lookup i any l.body l.hops k c lg own.no_lookup of in
+            let a3 = of_no_lookup i any l.body l.hops k c lg none.1 of in
             let b = more_took t es r.below new.ends_none new.numbered (ends_so i k) in
             let b2 = ap (share (is_among c (listing i (zone_of k)))) b in
             let d = more_pending t es r.below new.ends_none new.numbered (forwarded i k c) in
             let d2 = ap (λ x. count (forwarded i k c) (pairs (cable_seats i) x)) all in
-            let d3 = forwarded_none i any l.body l.hops lg of k c own.no_forward in
+            let d3 = forwarded_none i any l.body l.hops lg of k c none.0 in
             let x = req.looked k c in
             omega (arith, a, a2, a3, b2, d, d2, d3, x);
       }
 
-  takes_more : (t : List Entry) (p : Pair) (n : ℕ) (ls : List Leg) → At (pending (cable_seats i) t) n p → AreMade i ls → Answers i p ls
+  takes_more : (t : List Entry) (p : Pair) (n : ℕ) (ls : List Leg) → At (pending (cable_seats i) t) n p → Each (IsMade i) ls → Answers i p ls
       → Run i ok t → Requests t → Requests (t ++ Took p.frame.stamp p.seat.station ∷ handled i (stamps t) p ls)
   takes_more t p n ls at made law r req =
       let took = Took p.frame.stamp p.seat.station in
@@ -216,23 +219,32 @@ module _ (i : Internet) (ok : Passes i) where
       } in
       subst Requests (append_assoc t (took ∷ []) es) after
 
-  more : (t block : List Entry) → Block i t block → Run i ok t → Requests t → Requests (t ++ block)
-  more t block (Sends l made own) r req = sends_more t l (made, tt) own r req
-  more t block (Takes p ls there made answers) r req =
+  more : (t block : List Entry) → Block i t block → count (is_unasked i) block ≡ 0 → Run i ok t → Requests t → Requests (t ++ block)
+  more t block (Sends l made own) none r req = sends_more t l (made, tt) own (first (is_unasked i (Sent l.station l.body)) _ none) r req
+    where
+      first : (b : Bool) (n : ℕ) → one b + n ≡ 0 → b ≡ false
+      first true n e = absurd (omega (arith, e))
+      first false n e = refl
+  more t block (Takes p ls there made its answers) none r req =
       let at = contained_at (pending (cable_seats i) t) p there in
       takes_more t p at.0 ls at.1 made answers r req
 
-  requests : (t : List Entry) → IsLegal i t → Requests t
-  requests t Begins = record { good = tt; balance = λ k. refl; looked = λ k c. none (is_among c (listing i (zone_of k))) }
+  requests : (t : List Entry) → IsLegal i t → NodesOnlyAsk i t → Requests t
+  requests t Begins asks = record { good = tt; balance = λ k. refl; looked = λ k c. none (is_among c (listing i (zone_of k))) }
     where
       none : (b : Bool) → 0 ≡ share b 0
       none true = refl
       none false = refl
-  requests t (Goes front block legal b) = more front block b (run_is i ok front legal) (requests front legal)
+  requests t (Goes front block legal b) asks =
+      let parts = count-append (is_unasked i) front block in
+      let none : count (is_unasked i) (front ++ block) ≡ 0 = asks in
+      let before : count (is_unasked i) front ≡ 0 = omega (arith, parts, none) in
+      let now : count (is_unasked i) block ≡ 0 = omega (arith, parts, none) in
+      more front block b now (run_is i ok front legal) (requests front legal before)
 
-pub are_looked_up : (i : Internet) (t : List Entry) (k : List ℕ) → Passes i → IsLegal i t → IsLookedUp i t k
-are_looked_up i t k ok legal =
-    let r = requests i ok t legal in
+pub are_looked_up : (i : Internet) (t : List Entry) (k : List ℕ) → Passes i → IsLegal i t → NodesOnlyAsk i t → IsLookedUp i t k
+are_looked_up i t k ok legal asks =
+    let r = requests i ok t legal asks in
     record {
       asked_is = r.balance k;
       listed = λ c e. r.looked k c ∙ ap (λ b. share b (taken i k t)) e;

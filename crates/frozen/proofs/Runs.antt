@@ -12,7 +12,7 @@ use Rattle.cable_model.specs.Transcript.{Entry, Took, AreNumbered, count, is_put
 use Rattle.cable_model.proofs.Counting.{At, contained_at, count-append, each-append, each_at, each_more, filter_at}
 use Rattle.cable_model.proofs.Pairs.{EndsBelow, EndsNone, below_more, none_below, numbered-append, pairs-append, pending_less, pending_more}
 use Rattle.cable_model.proofs.Pairs.{stamps_below}
-use Rattle.frozen.specs.Answers.{AreMade, IsMade}
+use Rattle.frozen.specs.Answers.{IsMade}
 use Rattle.frozen.specs.Counts.{carries, is_sent, sent, under_way}
 use Rattle.frozen.specs.Legal.{Block, IsLegal, Sends, Takes, Begins, Goes, handled, said}
 use Rattle.frozen.specs.Legs.{Leg, fate, fate_by, is_copy, leg}
@@ -89,7 +89,7 @@ module _ (i : Internet) (ok : Passes i) where
       omega (arith, fresh, far)) (λ h. at l.cable) (λ a r e own apart. to r)
 
   -- each datagram that stations made was sent
-  pub said_keeps : (stamp : ℕ) (ls : List Leg) → AreMade i ls → Keeps stamp nothing (said i stamp ls)
+  pub said_keeps : (stamp : ℕ) (ls : List Leg) → Each (IsMade i) ls → Keeps stamp nothing (said i stamp ls)
   unfolding copies
   said_keeps stamp [] made = keeps_none stamp
   said_keeps stamp (l ∷ ls) made =
@@ -110,7 +110,7 @@ module _ (i : Internet) (ok : Passes i) where
   abbrev pub owed_by : Pair → List ℕ → ℕ
   owed_by p b = one (carries i b p)
 
-  pub handled_keeps : (stamp : ℕ) (p : Pair) (ls : List Leg) → Framed p.frame.bytes → HopsFine i p → AreMade i ls
+  pub handled_keeps : (stamp : ℕ) (p : Pair) (ls : List Leg) → Framed p.frame.bytes → HopsFine i p → Each (IsMade i) ls
       → Keeps stamp (owed_by p) (handled i stamp p ls)
   handled_keeps stamp p ls framed fine made = by (is_copy i p) refl
     where
@@ -191,7 +191,7 @@ module _ (i : Internet) (ok : Passes i) where
   none_yet = record { balance = λ b some. refl; right = tt; hops_left = tt; framed = tt; below = tt; numbered = tt }
 
   -- a station took a frame
-  run_took : (t : List Entry) (p : Pair) (k : ℕ) (ls : List Leg) → Run t → At (pending (cable_seats i) t) k p → AreMade i ls
+  run_took : (t : List Entry) (p : Pair) (k : ℕ) (ls : List Leg) → Run t → At (pending (cable_seats i) t) k p → Each (IsMade i) ls
       → Run (t ++ Took p.frame.stamp p.seat.station ∷ handled i (stamps t) p ls)
   run_took t p k ls r at made =
       let took = Took p.frame.stamp p.seat.station in
@@ -225,7 +225,7 @@ module _ (i : Internet) (ok : Passes i) where
   event t block (Sends l made own) r =
       run_more t (said i (stamps t) (l ∷ [])) nothing (said_keeps (stamps t) (l ∷ []) (made, tt))
       (λ b some. let h = r.balance b some in omega (arith, h)) r.right r.hops_left r.framed r.below r.numbered
-  event t block (Takes p ls there made answers) r =
+  event t block (Takes p ls there made its answers) r =
       let at = contained_at (pending (cable_seats i) t) p there in
       run_took t p at.0 ls r at.1 made
 

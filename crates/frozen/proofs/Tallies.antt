@@ -19,7 +19,7 @@ use Rattle.cable_model.specs.Pending.{Pair, pairs}
 use Rattle.cable_model.specs.Transcript.{Entry, Sent, count, one, stamps}
 use Rattle.cable_model.proofs.Counting.{count-append}
 use Rattle.cable_model.proofs.Pairs.{pairs-append}
-use Rattle.frozen.specs.Answers.{AreMade, AreOther, Expands, IsForward, IsLookup, IsMade}
+use Rattle.frozen.specs.Answers.{Expands, IsForward, IsLookup, IsMade, is_other}
 use Rattle.frozen.specs.Legal.{said}
 use Rattle.frozen.specs.Legs.{Leg, is_copy, is_datagram, is_unicast, leg, leg_to}
 use Rattle.frozen.specs.Lookups.{forwarded, is_asked, is_home, is_request, looks, seeks, waits}
@@ -218,7 +218,7 @@ module _ (i : Internet) where
     none_said k c = record { found = refl; unasked = refl; no_wait = refl }
 
     -- the answers to a broadcast request
-    pub expanded : (k : List ℕ) (c stamp : ℕ) (key : List ℕ) (r : ℕ) (cs : List ℕ) (ls : List Leg) → AreMade i ls → r < length i.routers
+    pub expanded : (k : List ℕ) (c stamp : ℕ) (key : List ℕ) (r : ℕ) (cs : List ℕ) (ls : List Leg) → Each (IsMade i) ls → r < length i.routers
         → Expands i key r cs ls → Tally k c (count (λ d. d == c && same_bytes k key) cs) (said i stamp ls)
     expanded k c stamp key r [] [] made within h = none_said k c
     expanded k c stamp key r [] (l ∷ ls) made within h = absurd h
@@ -242,7 +242,7 @@ module _ (i : Internet) where
         (lookup_leg k c stamp key r d l made within h) 0 [] (none_said k c)
 
     -- answers that are no requests
-    pub others_said : (k : List ℕ) (c stamp : ℕ) (ls : List Leg) → AreMade i ls → AreOther ls → Tally k c 0 (said i stamp ls)
+    pub others_said : (k : List ℕ) (c stamp : ℕ) (ls : List Leg) → Each (IsMade i) ls → Each (λ l. is_other l.body ≡ true) ls → Tally k c 0 (said i stamp ls)
     others_said k c stamp [] made h = none_said k c
     others_said k c stamp (l ∷ ls) made h =
         let e = other_alone l.body h.0 in

@@ -1,12 +1,12 @@
 -- What stations may send: how a datagram leaves, and which requests a router makes of those that end there.
 -- (Inside AppleTalk, the chapters on DDP and NBP)
-use Rattle.std.specs.Prelude.{◌≡◌, ◌<◌, ℕ, true, false, not, ◌&&◌, ◌||◌, ◌==◌, ◌⊎◌, Bool, List, [], ◌∷◌, Some, IsTrue, nat_lt}
-use Rattle.std.specs.List.{list_all}
+use Rattle.std.specs.Prelude.{◌≡◌, ◌≢◌, ◌<◌, ℕ, true, false, not, ◌&&◌, ◌||◌, ◌==◌, ◌⊎◌, Bool, List, [], ◌∷◌, Some, IsTrue, nat_lt}
+use Rattle.std.specs.List.{list_all, AllByRecursion as Each}
 use Rattle.at_base.specs.Spelling.{Spells}
 use Rattle.at_base.specs.Text.{is_name}
 use Rattle.at_base.specs.declared.address.Addr.{Addr}
 use Rattle.ddp.specs.Bodies.{body, target}
-use Rattle.ddp.specs.Datagram.{Datagram, datagram}
+use Rattle.ddp.specs.Datagram.{Datagram, checksum_of, datagram}
 use Rattle.table_image.specs.Internet.{Internet}
 use Rattle.audit.specs.Routing.{Hand, Here, On, Nowhere, hand, home, owner}
 use Rattle.cable_model.specs.Pending.{Pair}
@@ -14,21 +14,23 @@ use Rattle.frozen.specs.Legs.{Leg, ToStation, ToAll, ToGroup, is_copy, is_unicas
 use Rattle.frozen.specs.Requests.{request, is_broadcast, is_forward, is_lookup, key_in, listing, zone_of}
 use Rattle.frozen.specs.Stations.{cable_holds, group_of, has_address, is_on, is_router}
 
--- The bytes are a body: one whole datagram with hop count 0, and no more.
+-- The bytes are a body: one whole datagram with hop count 0, without a checksum or with the right one, and no more.
 pub record IsBody (bytes : List ℕ) : Type 0 where
   pub value : Datagram
   pub spelled : Spells datagram bytes value
   pub each : IsTrue (list_all (λ b. nat_lt b 256) bytes)
   pub fresh : value.hops ≡ 0
+  pub sum : (value.checksum ≡ 0) ⊎ (value.checksum ≡ checksum_of value)
 
--- How a datagram may leave: straight to its target, which the cable's range holds; to a router; to all stations, where the
--- cable's range holds its target or the target is this cable; or to a group on this cable.
+-- How a datagram may leave: for a single node of the cable's range, straight to it; for any network but 0, to a router; for
+-- all nodes of the cable's range or of network 0, to all; or for all nodes of network 0, to a group.
 pub data Goes (i : Internet) (l : Leg) : Type 0 where
-  Straight : l.next ≡ ToStation (target l.body) → cable_holds i l.cable (target l.body).net ≡ true → Goes i l
-  ByRouter : (a : Addr) (r : ℕ) → l.next ≡ ToStation a → owner i l.cable a ≡ Some r → Goes i l
-  ToThem : l.next ≡ ToAll → cable_holds i l.cable (target l.body).net ≡ true → Goes i l
-  OnCable : l.next ≡ ToAll → (target l.body).net ≡ 0 → Goes i l
-  ToThese : (g : ℕ) → g < 253 → l.next ≡ ToGroup g → (target l.body).net ≡ 0 → Goes i l
+  Straight : l.next ≡ ToStation (target l.body) → cable_holds i l.cable (target l.body).net ≡ true → (target l.body).node ≢ 0
+      → (target l.body).node ≢ 255 → Goes i l
+  ByRouter : (a : Addr) (r : ℕ) → l.next ≡ ToStation a → owner i l.cable a ≡ Some r → (target l.body).net ≢ 0 → Goes i l
+  ToThem : l.next ≡ ToAll → cable_holds i l.cable (target l.body).net ≡ true → (target l.body).node ≡ 255 → Goes i l
+  OnCable : l.next ≡ ToAll → (target l.body).net ≡ 0 → (target l.body).node ≡ 255 → Goes i l
+  ToThese : (g : ℕ) → g < 253 → l.next ≡ ToGroup g → (target l.body).net ≡ 0 → (target l.body).node ≡ 255 → Goes i l
 
 -- A station made the datagram of the leg: it is on the cable, and the datagram is whole, wasn't handed on, and leaves so.
 pub record IsMade (i : Internet) (l : Leg) : Type 0 where
@@ -36,11 +38,6 @@ pub record IsMade (i : Internet) (l : Leg) : Type 0 where
   pub whole : IsBody l.body
   pub fresh : l.hops ≡ 0
   pub goes : Goes i l
-
--- stations made each of them
-abbrev pub AreMade : Internet → List Leg → Type 0
-AreMade i [] = Unit {0}
-AreMade i (l ∷ ls) = IsMade i l × AreMade i ls
 
 -- ---- Requests that end at a router
 
@@ -96,11 +93,6 @@ Expands i k r (c ∷ cs) (l ∷ ls) = (IsLookup i k r c l ⊎ IsForward i k r c 
 abbrev pub is_other : List ℕ → Bool
 is_other b = not (is_broadcast (request b) || is_forward (request b) || is_lookup (request b))
 
--- none of them is a request
-abbrev pub AreOther : List Leg → Type 0
-AreOther [] = Unit {0}
-AreOther (l ∷ ls) = (is_other l.body ≡ true) × AreOther ls
-
 -- What the taker of a pair answers: a router at which a broadcast request ends makes one lookup or forward request for each
 -- cable that lists the zone; one at which a forward request for a zone ends, the lookup; and nothing else is answered by a
 -- request.
@@ -110,10 +102,9 @@ pub data Answers (i : Internet) (p : Pair) (ls : List Leg) : Type 0 where
       → Answers i p ls
   LookedUp : (c : ℕ) (l : Leg) → seeks_here i p ≡ true → home i (target p.frame.bytes).net ≡ Some c → ls ≡ l ∷ []
       → IsLookup i (key_in (request (body p.frame.bytes))) p.seat.station c l → Answers i p ls
-  Others : asks_here i p ≡ false → seeks_here i p ≡ false → AreOther ls → Answers i p ls
+  Others : asks_here i p ≡ false → seeks_here i p ≡ false → Each (λ (l : Leg). is_other l.body ≡ true) ls → Answers i p ls
 
--- What a station sends unasked: to a router, or on its cable alone; and neither a lookup nor a forward request.
+-- What a node sends unasked: to a router, or on its cable alone.
 pub record IsOwn (i : Internet) (l : Leg) : Type 0 where
-  pub no_forward : is_forward (request l.body) ≡ false
-  pub no_lookup : is_lookup (request l.body) ≡ false
+  pub by_node : is_router i l.station ≡ false
   pub handed : ((target l.body).net ≡ 0) ⊎ ((a : Addr) × (r : ℕ) × (l.next ≡ ToStation a) × (owner i l.cable a ≡ Some r))

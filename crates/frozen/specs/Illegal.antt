@@ -1,15 +1,53 @@
 -- Transcripts that the tables of the three cables don't allow. This project's own.
 use Rattle.std.specs.Prelude.{ℕ, List, [], ◌∷◌}
+use Rattle.cable_model.specs.declared.entry.Cause.TheVariants.{HopLimit, NoRoute}
 use Rattle.cable_model.specs.declared.entry.How.TheVariants as how
 use Rattle.cable_model.specs.declared.entry.Kind.TheVariants.{Ddp}
-use Rattle.cable_model.specs.Transcript.{Entry, Sent, Put, Took, Reached}
-use Rattle.frozen.specs.Example.{echo_request, framed}
+use Rattle.cable_model.specs.Transcript.{Dropped, Entry, Sent, Put, Took, Reached}
+use Rattle.frozen.specs.Example.{echo_request, framed, plain}
 use Rattle.frozen.specs.Legs.{all_hw}
 use Rattle.frozen.specs.LookupExample.{blue_lookup, blue_request, to_blue}
 
 -- a datagram reached a cable that nobody sent
 abbrev pub reached_alone : List Entry
 reached_alone = Reached 2 1 how.Station (echo_request 0) ∷ []
+
+-- one that is under way reached a cable that isn't its destination's
+abbrev pub reached_elsewhere : List Entry
+reached_elsewhere = Sent 2 (echo_request 0) ∷ framed 0 0 2 1 (echo_request 0) ∷ Reached 1 2 how.Station (echo_request 0) ∷ []
+
+-- one that is under way was dropped too
+abbrev pub dropped_too : List Entry
+dropped_too = Sent 2 (echo_request 0) ∷ framed 0 0 2 1 (echo_request 0) ∷ Dropped 0 NoRoute (echo_request 0) ∷ []
+
+-- the first router says that it put one on the last cable, which it isn't on
+abbrev pub reached_from_afar : List Entry
+reached_from_afar =
+    Sent 2 (echo_request 0) ∷ framed 0 0 2 1 (echo_request 0) ∷ Took 0 0 ∷ Reached 2 0 how.Station (echo_request 0) ∷ []
+
+-- the node puts one on a cable that it isn't on
+abbrev pub put_from_afar : List Entry
+put_from_afar = Sent 2 (echo_request 0) ∷ framed 0 1 2 3 (echo_request 0) ∷ []
+
+-- one is under way to the first router, with hop count 14
+abbrev pub many_hops : List Entry
+many_hops = Sent 2 (echo_request 0) ∷ framed 0 0 2 1 (echo_request 56) ∷ []
+
+-- a datagram from 10.7 to 50.9, a network that no cable has
+abbrev pub to_unlisted : List ℕ
+to_unlisted = plain 0 50 9
+
+-- it is neither under way nor dropped
+abbrev pub gone : List Entry
+gone = Sent 2 to_unlisted ∷ framed 0 0 2 1 to_unlisted ∷ Took 0 0 ∷ []
+
+-- it is under way, and reached a cable
+abbrev pub reached_unlisted : List Entry
+reached_unlisted = Sent 2 to_unlisted ∷ framed 0 0 2 1 to_unlisted ∷ Reached 0 2 how.Station to_unlisted ∷ []
+
+-- it is dropped for its hop count
+abbrev pub out_of_hops : List Entry
+out_of_hops = Sent 2 to_unlisted ∷ framed 0 0 2 1 to_unlisted ∷ Took 0 0 ∷ Dropped 0 HopLimit to_unlisted ∷ []
 
 -- the first router takes one frame twice
 abbrev pub taken_twice : List Entry
@@ -19,7 +57,7 @@ taken_twice =
 
 -- a datagram from 10.7 to all nodes of network 10, with this first byte
 abbrev pub to_all : ℕ → List ℕ
-to_all first = first ∷ 13 ∷ 0 ∷ 0 ∷ 0 ∷ 10 ∷ 0 ∷ 10 ∷ 255 ∷ 7 ∷ 128 ∷ 128 ∷ 128 ∷ []
+to_all first = plain first 10 255
 
 -- the first router passes on what it heard as one of all
 abbrev pub passed_from_all : List Entry
@@ -37,6 +75,10 @@ abbrev pub looked_elsewhere : List Entry
 looked_elsewhere =
     Sent 2 blue_request ∷ Reached 0 2 how.Station blue_request ∷ framed 0 0 2 1 blue_request
     ∷ Took 0 0 ∷ Sent 0 (blue_lookup 10) ∷ to_blue 1 0 0 (blue_lookup 10) ∷ []
+
+-- a request for names is neither taken nor still to be taken
+abbrev pub asked_alone : List Entry
+asked_alone = Sent 2 blue_request ∷ Reached 0 2 how.Station blue_request ∷ []
 
 -- it looks nowhere
 abbrev pub looked_nowhere : List Entry

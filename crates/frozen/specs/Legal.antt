@@ -1,9 +1,10 @@
 -- Which transcripts the frozen tables allow. This project's own.
-use Rattle.std.specs.Prelude.{ℕ, ◌+◌, List, [], ◌∷◌, ◌++◌, Contains}
+use Rattle.std.specs.Prelude.{◌≡◌, ℕ, ◌+◌, List, [], ◌∷◌, ◌++◌, Contains}
+use Rattle.std.specs.List.{AllByRecursion as Each}
 use Rattle.table_image.specs.Internet.{Internet}
 use Rattle.cable_model.specs.Pending.{Pair, pending}
 use Rattle.cable_model.specs.Transcript.{Entry, Sent, Took, stamps}
-use Rattle.frozen.specs.Answers.{Answers, AreMade, IsMade, IsOwn}
+use Rattle.frozen.specs.Answers.{Answers, IsMade, IsOwn}
 use Rattle.frozen.specs.Legs.{Leg, fate, leg}
 use Rattle.frozen.specs.Stations.{cable_seats}
 
@@ -16,11 +17,12 @@ said i stamp (l ∷ ls) = Sent l.station l.body ∷ (leg i stamp l ++ said i (st
 abbrev pub handled : Internet → ℕ → Pair → List Leg → List Entry
 handled i stamp p answers = fate i stamp p ++ said i (stamp + stamps (fate i stamp p)) answers
 
--- One event after a transcript: a station sends a datagram; or one takes a frame that is pending, with its fate and the
--- answers.
+-- One event after a transcript: a node sends a datagram; or a station takes a frame that is pending, with its fate and the
+-- station's answers.
 pub data Block (i : Internet) (t : List Entry) : List Entry → Type 0 where
   Sends : (l : Leg) → IsMade i l → IsOwn i l → Block i t (said i (stamps t) (l ∷ []))
-  Takes : (p : Pair) (answers : List Leg) → Contains (pending (cable_seats i) t) p → AreMade i answers → Answers i p answers
+  Takes : (p : Pair) (answers : List Leg) → Contains (pending (cable_seats i) t) p → Each (IsMade i) answers
+      → Each (λ (l : Leg). l.station ≡ p.seat.station) answers → Answers i p answers
       → Block i t (Took p.frame.stamp p.seat.station ∷ handled i (stamps t) p answers)
 
 -- A transcript is legal if it is a list of such blocks.

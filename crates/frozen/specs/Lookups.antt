@@ -1,5 +1,5 @@
 -- Broadcast requests, and the lookups that were made of them, counted by their key. This project's own.
-use Rattle.std.specs.Prelude.{◌≡◌, ℕ, ◌+◌, Bool, true, false, ◌&&◌, ◌||◌, ◌==◌, List, Option, Some, None, is_some}
+use Rattle.std.specs.Prelude.{◌≡◌, ℕ, ◌+◌, Bool, true, false, not, ◌&&◌, ◌||◌, ◌==◌, List, Option, Some, None, is_some}
 use Rattle.std.specs.List.{list_any}
 use Rattle.at_base.specs.Address.{same_address}
 use Rattle.at_base.specs.Text.{same_bytes}
@@ -59,6 +59,15 @@ seeks i k c b = is_forward (request b) && (same_bytes k (key_in (request b)) && 
 -- the pair is a copy of one
 abbrev pub forwarded : Internet → List ℕ → ℕ → Pair → Bool
 forwarded i k c p = is_copy i p && seeks i k c (body p.frame.bytes)
+
+-- the entry says that a node sent a forward request or a lookup
+abbrev pub is_unasked : Internet → Entry → Bool
+is_unasked i (Sent station b) = not (is_router i station) && (is_forward (request b) || is_lookup (request b))
+is_unasked i _ = false
+
+-- No node sends a forward request or a lookup: they are the answers of routers.
+abbrev pub NodesOnlyAsk : Internet → List Entry → Type 0
+NodesOnlyAsk i t = count (is_unasked i) t ≡ 0
 
 -- how many requests with this key were sent
 abbrev pub asked : Internet → List ℕ → List Entry → ℕ

@@ -10,11 +10,15 @@ ghost use Rattle.frozen.specs.Carriage.{AreCarried, none_yet};
 ghost use Rattle.frozen.specs.Counts.{HasHopsLeft, IsConserved};
 ghost use Rattle.frozen.specs.Counts.{reached, sent, under_way};
 ghost use Rattle.frozen.specs.Example.{echo, echo_reply, echo_request};
-ghost use Rattle.frozen.specs.Illegal.{looked_elsewhere, looked_nowhere, passed_from_all};
-ghost use Rattle.frozen.specs.Illegal.{reached_alone, same_hops, taken_twice};
+ghost use Rattle.frozen.specs.Example.{to_everybody, to_nobody, to_nowhere};
+ghost use Rattle.frozen.specs.Illegal.{asked_alone, dropped_too, gone, looked_elsewhere};
+ghost use Rattle.frozen.specs.Illegal.{looked_nowhere, many_hops, out_of_hops, passed_from_all};
+ghost use Rattle.frozen.specs.Illegal.{put_from_afar, reached_alone, reached_elsewhere};
+ghost use Rattle.frozen.specs.Illegal.{reached_from_afar, reached_unlisted, same_hops};
+ghost use Rattle.frozen.specs.Illegal.{taken_twice};
 ghost use Rattle.frozen.specs.Legal.{IsLegal};
 ghost use Rattle.frozen.specs.LookupExample.{blue_names, blue_request, blue_to};
-ghost use Rattle.frozen.specs.Lookups.{IsLookedUp, asked as asked_for};
+ghost use Rattle.frozen.specs.Lookups.{IsLookedUp, NodesOnlyAsk, asked as asked_for};
 ghost use Rattle.frozen.specs.Lookups.{lookups as lookups_on, taken};
 ghost use Rattle.frozen.specs.Requests.{is_broadcast, key_in, request};
 
@@ -38,13 +42,13 @@ pub fn carriage()
     ensures { (i : Internet) (t : List Entry) → Passes i → IsLegal i t → AreCarried i none_yet t }
 {}
 
-/// Lookups exactly where the zone is listed: for each broadcast request that was taken, each cable
-/// that lists its zone has had one lookup, or a forward request to it is under way, and no other
-/// cable has had one; and each that was asked was taken or is still to be taken. This project's
-/// own.
+/// Lookups exactly where the zone is listed, if no node sends a forward request or a lookup: for
+/// each broadcast request that was taken, each cable that lists its zone has had one lookup, or a
+/// forward request to it is under way, and no other cable has had one; and each that was asked was
+/// taken or is still to be taken. This project's own.
 pub fn lookups()
     ensures { (i : Internet) (t : List Entry) (k : List ℕ)
-        → Passes i → IsLegal i t → IsLookedUp i t k }
+        → Passes i → IsLegal i t → NodesOnlyAsk i t → IsLookedUp i t k }
 {}
 
 /// The echo over three cables is legal, and each of its two datagrams has reached its destination's
@@ -55,6 +59,14 @@ pub fn the_echo_is_legal()
     ensures replied { (sent (echo_reply 0) echo ≡ 1) × (reached (echo_reply 0) 0 echo ≡ 1) }
     ensures done { (under_way three_cables (echo_request 0) echo ≡ 0)
         × (under_way three_cables (echo_reply 0) echo ≡ 0) }
+{}
+
+/// So are the other ends that a datagram may come to: an address that no station has, all nodes of
+/// a cable, and a network that no cable has. This project's own.
+pub fn each_end_is_legal()
+    ensures nobody { IsLegal three_cables to_nobody }
+    ensures everybody { IsLegal three_cables to_everybody }
+    ensures nowhere { IsLegal three_cables to_nowhere }
 {}
 
 /// The request for the names in the zone blue over three cables is legal. It was asked and taken
@@ -77,15 +89,26 @@ pub fn others_are_no_requests()
     ensures kind { request (blue_to 2 3) ≡ None }
 {}
 
-/// What legal excludes: a datagram that reached a cable and wasn't sent, a frame that one station
-/// takes twice, one that a router passes on though it heard it as one of all, a datagram that is
-/// passed on with the hop count that it had, a lookup on a cable that doesn't list the zone, and
-/// none on one that does. This project's own.
+/// What legal excludes: a datagram that reached a cable and wasn't sent; one that is under way and
+/// reached another cable, or was dropped; a cable that is reached, or a frame put there, by a
+/// station that isn't on it; a frame that one station takes twice; one that a router passes on
+/// though it heard it as one of all; a datagram that is passed on with the hop count that it had, or
+/// that has too many hops for the routers before it; one to an unlisted network that is neither
+/// under way nor dropped, reached a cable, or is dropped for its hop count; a lookup on a cable that
+/// doesn't list the zone, and none on one that does; and a request that is neither taken nor to be
+/// taken. This project's own.
 pub fn words_exclude()
     ensures reached { ¬ IsLegal three_cables reached_alone }
+    ensures elsewhere { ¬ IsLegal three_cables reached_elsewhere }
+    ensures dropped { ¬ IsLegal three_cables dropped_too }
+    ensures afar { (¬ IsLegal three_cables reached_from_afar)
+        × (¬ IsLegal three_cables put_from_afar) }
     ensures taken { ¬ IsLegal three_cables taken_twice }
     ensures heard { ¬ IsLegal three_cables passed_from_all }
-    ensures hops { ¬ IsLegal three_cables same_hops }
+    ensures hops { (¬ IsLegal three_cables same_hops) × (¬ IsLegal three_cables many_hops) }
+    ensures unlisted { (¬ IsLegal three_cables gone) × (¬ IsLegal three_cables reached_unlisted)
+        × (¬ IsLegal three_cables out_of_hops) }
     ensures looked { ¬ IsLegal three_cables looked_elsewhere }
     ensures not_looked { ¬ IsLegal three_cables looked_nowhere }
+    ensures asked { ¬ IsLegal three_cables asked_alone }
 {}

@@ -4,6 +4,6 @@
 mod laws;
 
 pub use laws::{
-    carriage, conservation, hops_left, lookups, others_are_no_requests, the_echo_is_legal,
-    the_lookup_is_legal, words_exclude,
+    carriage, conservation, each_end_is_legal, hops_left, lookups, others_are_no_requests,
+    the_echo_is_legal, the_lookup_is_legal, words_exclude,
 };

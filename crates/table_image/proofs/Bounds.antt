@@ -7,8 +7,9 @@ use Rattle.at_base.specs.Grammar.{Grammar}
 use Rattle.at_base.specs.Spelling.{ListPasses, IsValue}
 use Rattle.at_base.specs.Text.{is_name, IsName, IsEntity, is_entity}
 use Rattle.at_base.proofs.Fields.{is_right, not_wrong}
-use Rattle.table_image.specs.Internet.{Internet, Every, Rises, AreZones, IsRow, IsNodeName, IsWithinLimits, IsNodeWithinLimits}
-use Rattle.table_image.specs.Internet.{IsBounded}
+use Rattle.table_image.specs.Internet.{Internet}
+use Rattle.table_image.specs.Bounds.{Every, Rises, AreZones, IsRow, IsNodeName, IsWithinLimits, IsNodeWithinLimits}
+use Rattle.table_image.specs.Bounds.{IsBounded}
 use Rattle.table_image.specs.Limits.{max_cables, max_routers, max_nodes, max_ports, max_rows, max_zone_lists, max_zones, max_names}
 use Rattle.table_image.specs.Limits.{max_text, max_distance}
 use Rattle.table_image.specs.Flaws.{Wrong, Here, Before}

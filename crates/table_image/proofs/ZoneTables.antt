@@ -13,7 +13,7 @@ use Rattle.zip_zones.proofs.Names.{distinct_fold, not_more}
 use Rattle.zip_zones.proofs.Appended.{front_map, last_parts}
 use Rattle.zip_zones.proofs.Tables.{known_of_parts, known_parts}
 use Rattle.table_image.specs.declared.zone_list.ZoneList.{ZoneList}
-use Rattle.table_image.specs.Internet.{Every}
+use Rattle.table_image.specs.Bounds.{Every}
 use Rattle.table_image.specs.ZoneMaps.{have_few_zones, have_zone_ranges, is_told, known_of_list, range_of, zone_map}
 
 -- the lists of a router have at most 64 names each

@@ -1,4 +1,5 @@
 pub mod Internet
+pub mod Bounds
 pub mod Limits
 pub mod Sizes
 pub mod Listed

@@ -8,7 +8,7 @@ ghost use Rattle.std.specs.List.{list_all};
 ghost use Rattle.std.specs.Option.{option_copied};
 ghost use Rattle.at_base.specs.Range.{is_range};
 ghost use Rattle.zip_zones.specs.Zones.{IsZoneMap, are_above};
-ghost use Rattle.table_image.specs.Internet.{Every};
+ghost use Rattle.table_image.specs.Bounds.{Every};
 ghost use Rattle.table_image.specs.ZoneMaps.{have_few_zones, have_zone_ranges, is_told as told};
 ghost use Rattle.table_image.specs.ZoneMaps.{lists_at, zone_map};
 ghost use Rattle.table_image.specs.declared.zone_list.ZoneList.{ZoneList as ListValue};
