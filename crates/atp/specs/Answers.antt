@@ -1,6 +1,6 @@
 -- The parts of an answer, and their packets. (Inside AppleTalk, the chapter on ATP)
-use Rattle.std.specs.Prelude.{ℕ, suc, Bool, ◌&&◌, ◌==◌, List, [], ◌∷◌, length, map, nat_le, if◌then◌else◌}
-use Rattle.std.specs.List.{list_all}
+use Rattle.std.specs.Prelude.{ℕ, ◌≤◌, suc, Bool, ◌&&◌, ◌==◌, List, [], ◌∷◌, length, map, nat_le, if◌then◌else◌}
+use Rattle.std.specs.List.{All, list_all}
 use Rattle.at_base.specs.Spelling.{bytes_of}
 use Rattle.atp.specs.declared.ask.AnswerPart.{AnswerPart}
 use Rattle.atp.specs.Bitmaps.{asks_for}
@@ -34,3 +34,7 @@ answer_packets id asked parts = responses id asked (length parts) 0 parts
 -- the bytes of each of the packets
 abbrev pub bytes_of_all : List AtpPacket → List (List ℕ)
 bytes_of_all ps = map (bytes_of packet) ps
+
+-- each of them fits into the 586 bytes of a datagram's data
+abbrev pub AreShort : List (List ℕ) → Type 0
+AreShort payloads = All (λ payload. length payload ≤ 586) payloads

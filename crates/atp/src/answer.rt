@@ -4,7 +4,7 @@ ghost use Rattle.std.specs.Prelude.{◌≡◌, ◌<◌, ◌≤◌, IsTrue, lengt
 ghost use Rattle.std.specs.Prelude.{vec_len};
 ghost use Rattle.std.specs.List.{list_all};
 ghost use Rattle.at_base.specs.Spelling.{bytes_of};
-ghost use Rattle.atp.specs.Answers.{is_answer, answer_packets, bytes_of_all, response_of};
+ghost use Rattle.atp.specs.Answers.{AreShort, is_answer, answer_packets, bytes_of_all, response_of};
 ghost use Rattle.atp.specs.Packets.{packet};
 ghost use Rattle.atp.specs.Bitmaps.{asks_for as asks};
 
@@ -106,6 +106,7 @@ fn packet_of(
     requires short { length part.now.payload ≤ 578 }
     ensures ok { IfOk result (λ bytes. bytes
         ≡ bytes_of packet (response_of id count index part.now)) }
+    ensures short { IfOk result (λ bytes. length bytes ≤ 586) }
     ensures err { IsOkUnless result Error.Memory }
 {
     let control = if index + 1 == count {
@@ -133,6 +134,8 @@ pub(crate) fn packets_of(
     requires { IsTrue (is_answer parts.now) }
     ensures ok { IfOk result (λ packets. packets.items
         ≡ bytes_of_all (answer_packets id bitmap parts.now)) }
+    ensures few { IfOk result (λ packets. length packets.items ≤ 8) }
+    ensures short { IfOk result (λ packets. AreShort packets.items) }
     ensures err { IsOkUnless result Error.Memory }
 {
     let mut packets = Vec::with_capacity(alloc, parts.len())?;

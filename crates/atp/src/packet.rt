@@ -1,6 +1,6 @@
 //! Packets of transactions: a reader that borrows, and a writer.
 
-ghost use Rattle.std.specs.Prelude.{◌≡◌, ◌⊎◌, ◌<◌, ◌↔◌, [], length, IfOk, IfErr};
+ghost use Rattle.std.specs.Prelude.{◌≡◌, ◌⊎◌, ◌<◌, ◌≤◌, ◌↔◌, [], length, IfOk, IfErr};
 ghost use Rattle.at_base.specs.Grammar.{number, run, one};
 ghost use Rattle.at_base.specs.Packets.{packets, any};
 ghost use Rattle.at_base.specs.Reading.{Gives, Reads, field_at, many_at, read as read_by};
@@ -199,6 +199,7 @@ pub fn write(
       user = user;
       payload = payload.now;
     })) }
+    ensures short { IfOk result (λ bytes. length bytes ≤ 586) }
     ensures long { (result ≡ Err Error.TooLong) ↔ (578 < length payload.now) }
     ensures refused { IfErr result (λ e. (e ≡ Error.TooLong) ⊎ (e ≡ Error.Memory)) }
 {

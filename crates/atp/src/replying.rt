@@ -1,8 +1,8 @@
 //! What a responder sends for a packet, where its user's answer is at hand.
 
-ghost use Rattle.std.specs.Prelude.{◌≡◌, ◌⊎◌, ◌<◌, ◌↔◌, false, true, length, IfOk, IfErr};
+ghost use Rattle.std.specs.Prelude.{◌≡◌, ◌⊎◌, ◌<◌, ◌≤◌, ◌↔◌, false, true, length, IfOk, IfErr};
 ghost use Rattle.std.specs.Prelude.{IsOkUnless, OnErr, OnOk};
-ghost use Rattle.atp.specs.Answers.{answer_packets, bytes_of_all, is_answer};
+ghost use Rattle.atp.specs.Answers.{AreShort, answer_packets, bytes_of_all, is_answer};
 ghost use Rattle.atp.specs.InPlace.{packet_value};
 ghost use Rattle.atp.specs.Replies.{kept_packets as packets_kept, reply as reply_to};
 ghost use Rattle.atp.specs.Responding.{answered, asked_by, request_of, waits, without};
@@ -18,6 +18,8 @@ use at_base::{Bytes, Error};
 fn kept_packets(responder: &Responder, from: Peer, packet: &Packet<'_>) -> Result<Vec<Bytes>, Error>
     ensures ok { IfOk result (λ packets. packets.items
         ≡ bytes_of_all (packets_kept from (packet_value packet.now) responder.now)) }
+    ensures few { IfOk result (λ packets. length packets.items ≤ 8) }
+    ensures short { IfOk result (λ packets. AreShort packets.items) }
     ensures err { IsOkUnless result Error.Memory }
 {
     if !packet.is_request() {
@@ -42,6 +44,8 @@ fn respond_or_forget(
     requires waits { waits (request_of from id responder.old) ≡ true }
     ensures ok { IfOk result (λ packets. packets.items ≡ bytes_of_all
         (answer_packets id (asked_by (request_of from id responder.old)) user.now)) }
+    ensures few { IfOk result (λ packets. length packets.items ≤ 8) }
+    ensures short { IfOk result (λ packets. AreShort packets.items) }
     ensures after { OnOk result (responder.new ≡ answered from id user.now responder.old) }
     ensures err { IsOkUnless result Error.Memory }
     ensures forgotten { OnErr result (responder.new ≡ without from id responder.old) }
@@ -71,6 +75,10 @@ pub fn reply(
     requires { 0 < length user.now }
     ensures ok { IfOk result (λ packets. packets.items ≡ bytes_of_all
         (reply_to from (packet_value packet.now) user.now responder.old).0) }
+    // As many as a response has parts.
+    ensures few { IfOk result (λ packets. length packets.items ≤ 8) }
+    // Each is the data of a datagram.
+    ensures short { IfOk result (λ packets. AreShort packets.items) }
     ensures after { OnOk result (responder.new
         ≡ (reply_to from (packet_value packet.now) user.now responder.old).1) }
     ensures long { (result ≡ Err Error.TooLong) ↔ (is_answer user.now ≡ false) }

@@ -5,7 +5,7 @@ ghost use Rattle.std.specs.Prelude.{length, filter, map, position, is_some, IfOk
 ghost use Rattle.std.specs.Prelude.{IfSome, IsOkUnless, OnErr, OnOk};
 ghost use Rattle.std.specs.Option.{option_copied};
 ghost use Rattle.atp.specs.InPlace.{packet_value};
-ghost use Rattle.atp.specs.Answers.{is_answer, answer_packets, bytes_of_all};
+ghost use Rattle.atp.specs.Answers.{AreShort, is_answer, answer_packets, bytes_of_all};
 ghost use Rattle.atp.specs.Places.{IsPlace, with_first};
 ghost use Rattle.atp.specs.Responding.{asked_again, asked_by, has_room as room_for, heard as hears};
 ghost use Rattle.atp.specs.Responding.{is_of, is_over, kept as kept_of, new_request, of_kind};
@@ -254,6 +254,8 @@ impl Responder {
         requires { 0 < length parts.now }
         ensures ok { IfOk result (λ packets. packets.items ≡ bytes_of_all
             (answer_packets id (asked_by (request_of from id self.old)) parts.now)) }
+        ensures few { IfOk result (λ packets. length packets.items ≤ 8) }
+        ensures short { IfOk result (λ packets. AreShort packets.items) }
         ensures after { OnOk result (self.new ≡ with_answers from id parts.now self.old) }
         ensures unasked { (result ≡ Err (Error.NoSuch Transaction))
             ↔ (waits (request_of from id self.old) ≡ false) }
@@ -290,6 +292,8 @@ impl Responder {
         ensures ok { IfOk result (λ packets. packets.items ≡ bytes_of_all
             (answer_packets id bitmap
             (parts_or_none (kept_of (request_of from id self.now))))) }
+        ensures few { IfOk result (λ packets. length packets.items ≤ 8) }
+        ensures short { IfOk result (λ packets. AreShort packets.items) }
         ensures unasked { (result ≡ Err (Error.NoSuch Transaction))
             ↔ (kept_of (request_of from id self.now) ≡ None) }
         ensures refused { IfErr result (λ e. (e ≡ Error.NoSuch Transaction)

@@ -1,7 +1,7 @@
 //! The echo service: what a station sends back.
 #![tactic(auto)]
 
-ghost use Rattle.std.specs.Prelude.{◌≡◌, ◌∷◌, IfOk, IsOkUnless};
+ghost use Rattle.std.specs.Prelude.{◌≡◌, ◌≤◌, ◌∷◌, length, IfOk, IfSome, IsOkUnless};
 ghost use Rattle.echo.specs.Echo.{echo_reply};
 
 use at_base::{Bytes, Error};
@@ -31,6 +31,8 @@ fn reply_data(alloc: Global, rest: &[u8]) -> Result<Bytes, Error>
 /// Inside AppleTalk, the chapter on AEP.
 pub fn reply(alloc: Global, view: &View<'_>) -> Result<Option<Bytes>, Error>
     ensures made { IfOk result (λ answer. answer ≡ echo_reply view.now) }
+    // It is the data of a datagram.
+    ensures short { IfOk result (λ answer. IfSome answer (λ bytes. length bytes ≤ 586)) }
     ensures refused { IsOkUnless result Error.Memory }
 {
     if view.kind() != kind::AEP || view.target_socket() != socket::ECHO {

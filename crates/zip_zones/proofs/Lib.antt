@@ -7,4 +7,5 @@ pub mod NetworksInPlace
 pub mod Written
 pub mod Appended
 pub mod ReadBack
+pub mod Answering
 pub mod Grouping

@@ -3,7 +3,7 @@ use Rattle.std.proofs.Common.{◌≡◌, ℕ, ◌+◌, ◌/◌, ◌==◌, ◌≤
 use Rattle.std.proofs.Common.{append_assoc, if◌then◌else◌, arith}
 use Rattle.std.specs.Prelude.{is_some}
 use Rattle.std.specs.Int.{byte_at, to_be_bytes, w16}
-use Rattle.std.proofs.lemmas.List.{append-nil}
+use Rattle.std.proofs.lemmas.List.{append-nil, length-append}
 use Rattle.at_base.specs.Packets.{any, text}
 use Rattle.at_base.specs.Spelling.{bytes_of, list_bytes}
 use Rattle.zip_zones.specs.declared.entry.Entry.{Entry}
@@ -13,7 +13,7 @@ use Rattle.zip_zones.specs.declared.packet.Packet.TheVariants as p
 use Rattle.zip_zones.specs.Formats.{body, default_zone, packet}
 use Rattle.zip_zones.specs.Networks.{network}
 use Rattle.zip_zones.specs.Packets.{entry, next_net}
-use Rattle.zip_zones.specs.Written.{default_for, entries_bytes, flags_for, networks_bytes, question}
+use Rattle.zip_zones.specs.Written.{default_for, entries_bytes, entries_of, entries_size, flags_for, networks_bytes, question}
 
 -- ---- Queries
 
@@ -43,6 +43,23 @@ unfolding packet body
 extended_written total es small =
     let number : byte_at 0 total ≡ total = omega arith in
     rw (number, entries_listed 0 es) refl
+
+-- an entry has three bytes beside its name
+entry_sized : (net : ℕ) (name : List ℕ) → length (bytes_of (entry 0) (record { net = net; name = name })) ≡ 3 + length name
+unfolding entry text
+entry_sized net name =
+    omega (arith, ap (λ (l : List ℕ). length l) (append-nil name), ap (λ (l : List ℕ). length l) (append-nil (name ++ [])))
+
+pub entries_sized : (net : ℕ) (names : List (List ℕ)) → length (entries_bytes (entries_of net names)) ≡ entries_size names
+entries_sized net [] = refl
+entries_sized net (name ∷ names) =
+    let e : Entry = record { net = net; name = name } in
+    omega (
+      arith,
+      length-append (bytes_of (entry 0) e) (entries_bytes (entries_of net names)),
+      entry_sized net name,
+      entries_sized net names,
+    )
 
 -- ---- What a node asks of its cable
 

@@ -1,7 +1,8 @@
 -- ZIP packets as they are written. (Inside AppleTalk, the chapter on ZIP)
-use Rattle.std.specs.Prelude.{◌≡◌, ℕ, ◌+◌, ◌%◌, Bool, ◌==◌, List, [], ◌∷◌, ◌++◌, length, map, find, Option, Some, None}
+use Rattle.std.specs.Prelude.{◌≡◌, ℕ, ◌+◌, ◌≤◌, ◌%◌, Bool, ◌==◌, List, [], ◌∷◌, ◌++◌, length, map, find, Option, Some, None}
 use Rattle.std.specs.Prelude.{is_some, if◌then◌else◌}
 use Rattle.std.specs.Char.{to_ascii_uppercase}
+use Rattle.std.specs.List.{All}
 use Rattle.std.specs.Option.{unwrap_or}
 use Rattle.at_base.specs.declared.address.Hw.{Hw}
 use Rattle.at_base.specs.Checksum.{sum_of}
@@ -34,6 +35,10 @@ entries_bytes (e ∷ es) = bytes_of (entry 0) e ++ entries_bytes es
 abbrev pub entries_size : List (List ℕ) → ℕ
 entries_size [] = 0
 entries_size (name ∷ names) = 3 + length name + entries_size names
+
+-- each of them fits into the 586 bytes of a datagram's data
+abbrev pub AreShort : List (List ℕ) → Type 0
+AreShort payloads = All (λ payload. length payload ≤ 586) payloads
 
 -- the reply with all these names of a network that has so many zones
 abbrev pub extended_reply : ℕ → ℕ → List (List ℕ) → Packet

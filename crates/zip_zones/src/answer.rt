@@ -1,7 +1,8 @@
 //! What a node is told of its cable, as it is written.
 
-ghost use Rattle.std.specs.Prelude.{◌≡◌, ◌<◌, ◌≤◌, ◌/◌, ◌==◌, ◌∷◌, ◌++◌, [], length, find};
-ghost use Rattle.std.specs.Prelude.{is_some, option_copied, option_map, IfOk, IsOkUnless, OnOk};
+ghost use Rattle.std.specs.Prelude.{◌≡◌, ◌<◌, ◌≤◌, ◌+◌, ◌/◌, ◌==◌, ◌∷◌, ◌++◌, [], length, find};
+ghost use Rattle.std.specs.Prelude.{is_some, option_copied, option_map, IfOk, IfSome, IsOkUnless};
+ghost use Rattle.std.specs.Prelude.{OnOk};
 ghost use Rattle.std.specs.Int.{to_be_bytes, w16};
 ghost use Rattle.at_base.specs.Packets.{any, text};
 ghost use Rattle.at_base.specs.Spelling.{bytes_of};
@@ -92,6 +93,7 @@ fn front(flags: u8) -> [u8; 2]
 pub(crate) fn put_text(bytes: &mut Vec<u8>, asked: &Text32) -> Result<(), Error>
     ensures put { OnOk result
         (bytes.new.items ≡ bytes.old.items ++ bytes_of (text 0 any) asked.now) }
+    ensures few { OnOk result (length bytes.new.items ≤ length bytes.old.items + 33) }
     ensures refused { IsOkUnless result Error.Memory }
 {
     let asked = asked.as_slice();
@@ -104,6 +106,7 @@ pub(crate) fn put_text(bytes: &mut Vec<u8>, asked: &Text32) -> Result<(), Error>
 fn put_range(bytes: &mut Vec<u8>, start: u16, end: u16) -> Result<(), Error>
     ensures put { OnOk result (bytes.new.items
         ≡ bytes.old.items ++ to_be_bytes w16 start ++ to_be_bytes w16 end) }
+    ensures few { OnOk result (length bytes.new.items ≤ length bytes.old.items + 4) }
     ensures refused { IsOkUnless result Error.Memory }
 {
     bytes.extend_from_slice(&start.to_be_bytes())?;
@@ -114,6 +117,7 @@ fn put_range(bytes: &mut Vec<u8>, start: u16, end: u16) -> Result<(), Error>
 /// Appends a hardware address after its length.
 fn put_group(bytes: &mut Vec<u8>, group: &Hw) -> Result<(), Error>
     ensures put { OnOk result (bytes.new.items ≡ bytes.old.items ++ 6 ∷ group.now.0) }
+    ensures few { OnOk result (length bytes.new.items ≤ length bytes.old.items + 7) }
     ensures refused { IsOkUnless result Error.Memory }
 {
     bytes.push(6)?;
@@ -126,6 +130,7 @@ fn put_group(bytes: &mut Vec<u8>, group: &Hw) -> Result<(), Error>
 fn put_default(bytes: &mut Vec<u8>, default: &Option<Name>) -> Result<(), Error>
     ensures put { OnOk result (bytes.new.items
         ≡ bytes.old.items ++ bytes_of (default_zone (is_some default.now)) default.now) }
+    ensures few { OnOk result (length bytes.new.items ≤ length bytes.old.items + 33) }
     ensures refused { IsOkUnless result Error.Memory }
 {
     match default {
@@ -138,6 +143,7 @@ fn put_default(bytes: &mut Vec<u8>, default: &Option<Name>) -> Result<(), Error>
 fn write_info(alloc: Global, info: &NetInfo) -> Result<Bytes, Error>
     requires { (info.now.flags / 128 == 1) ≡ is_some info.now.default }
     ensures ok { IfOk result (λ bytes. bytes ≡ bytes_of spelled_packet (ReplyValue info.now)) }
+    ensures short { IfOk result (λ bytes. length bytes ≤ 586) }
     ensures refused { IsOkUnless result Error.Memory }
 {
     let default_len = match &info.default {
@@ -168,6 +174,7 @@ pub fn answer_net_info(
     requires { 0 < length names.now }
     ensures ok { IfOk result (λ bytes. bytes
         ≡ bytes_of spelled_packet (ReplyValue (info_for asked.now range names.now))) }
+    ensures short { IfOk result (λ bytes. length bytes ≤ 586) }
     ensures refused { IsOkUnless result Error.Memory }
 {
     let info = net_info(asked, range, names);
@@ -187,6 +194,7 @@ pub fn reply_net_info(
 ) -> Result<Option<Bytes>, Error>
     ensures ok { IfOk result (λ made. made
         ≡ option_map (bytes_of spelled_packet) (net_info_reply asked.now range names.now)) }
+    ensures short { IfOk result (λ made. IfSome made (λ bytes. length bytes ≤ 586)) }
     ensures refused { IsOkUnless result Error.Memory }
 {
     if names.is_empty() {

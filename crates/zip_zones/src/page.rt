@@ -1,6 +1,6 @@
 //! The pages of a list of zones.
 
-ghost use Rattle.std.specs.Prelude.{◌≡◌, ◌≤◌, ◌++◌, drop, length, IfOk, IsOkUnless, OnOk};
+ghost use Rattle.std.specs.Prelude.{◌≡◌, ◌≤◌, ◌+◌, ◌++◌, drop, length, IfOk, IsOkUnless, OnOk};
 ghost use Rattle.zip_zones.specs.Answers.{page_user};
 ghost use Rattle.zip_zones.specs.Pages.{fitting, from_index, name_bytes, names_bytes, page};
 
@@ -37,6 +37,7 @@ impl Page {
 /// Appends a name after its length.
 pub(crate) fn put_name(bytes: &mut Vec<u8>, name: &Name) -> Result<(), Error>
     ensures put { OnOk result (bytes.new.items ≡ bytes.old.items ++ name_bytes name.now) }
+    ensures few { OnOk result (length bytes.new.items ≤ length bytes.old.items + 33) }
     ensures err { IsOkUnless result Error.Memory }
 {
     let text = name.as_slice();
@@ -49,6 +50,7 @@ pub(crate) fn put_name(bytes: &mut Vec<u8>, name: &Name) -> Result<(), Error>
 fn put_names(bytes: &mut Vec<u8>, room: usize, names: &[Name]) -> Result<usize, Error>
     ensures count { IfOk result (λ count. count ≡ length (fitting room names.now)) }
     ensures few { IfOk result (λ count. count ≤ room) }
+    ensures short { OnOk result (length bytes.new.items ≤ length bytes.old.items + room) }
     ensures put { OnOk result
         (bytes.new.items ≡ bytes.old.items ++ names_bytes (fitting room names.now)) }
     ensures err { IsOkUnless result Error.Memory }
@@ -84,6 +86,7 @@ fn names_after(start: u16, names: &[Name]) -> &[Name]
 /// Inside AppleTalk, the chapter on ZIP. Error: `Memory`.
 pub fn zone_list_page(alloc: Global, start: u16, names: &[Name]) -> Result<Page, Error>
     ensures ok { IfOk result (λ made. made ≡ page start names.now) }
+    ensures short { IfOk result (λ made. length made.bytes ≤ 578) }
     ensures refused { IsOkUnless result Error.Memory }
 {
     let rest = names_after(start, names);

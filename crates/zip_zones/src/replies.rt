@@ -1,12 +1,12 @@
 //! What a router answers to queries.
 
-ghost use Rattle.std.specs.Prelude.{◌≡◌, ◌<◌, ◌≤◌, ◌++◌, ◌∷◌, [], length, map, take, IfOk};
-ghost use Rattle.std.specs.Prelude.{IsOkUnless, OnOk};
+ghost use Rattle.std.specs.Prelude.{◌≡◌, ◌<◌, ◌≤◌, ◌+◌, ◌*◌, ◌++◌, ◌∷◌, [], length, map, take};
+ghost use Rattle.std.specs.Prelude.{IfOk, IsOkUnless, OnOk};
 ghost use Rattle.std.specs.List.{flat_map};
 ghost use Rattle.at_base.specs.Spelling.{bytes_of};
 ghost use Rattle.zip_zones.specs.Answers.{first_group, grouped, replies, replies_for};
 ghost use Rattle.zip_zones.specs.Formats.{packet as spelled_packet};
-ghost use Rattle.zip_zones.specs.Written.{entries_size, extended_reply};
+ghost use Rattle.zip_zones.specs.Written.{AreShort, entries_size, extended_reply};
 
 use crate::networks::Networks;
 use crate::table::ZoneTable;
@@ -22,6 +22,8 @@ fn fitting(names: &[Name], room: usize) -> usize
     ensures count { result ≡ length (first_group room names.now) }
     ensures few { result ≤ room }
     ensures within { result ≤ length names.now }
+    // A name has at most 32 bytes, so that many have room.
+    ensures many { result < length names.now → room < 35 * (result + 1) }
 {
     match names {
         [] => 0,
@@ -41,6 +43,7 @@ fn put_group(made: &mut Vec<Bytes>, net: u16, total: u8, group: &[Name]) -> Resu
     requires fits { entries_size group.now ≤ 584 }
     ensures put { OnOk result (made.new.items
         ≡ made.old.items ++ bytes_of spelled_packet (extended_reply net total group.now) ∷ []) }
+    ensures short { OnOk result (AreShort made.old.items → AreShort made.new.items) }
     ensures refused { IsOkUnless result Error.Memory }
 {
     match write_extended(*made.allocator(), net, total, group) {
@@ -56,6 +59,9 @@ fn put_group(made: &mut Vec<Bytes>, net: u16, total: u8, group: &[Name]) -> Resu
 fn put_groups(made: &mut Vec<Bytes>, net: u16, total: u8, names: &[Name]) -> Result<(), Error>
     ensures put { OnOk result (made.new.items ≡ made.old.items
         ++ map (bytes_of spelled_packet) (map (extended_reply net total) (grouped names.now))) }
+    ensures few { OnOk result
+        (16 * length made.new.items ≤ 16 * length made.old.items + length names.now + 15) }
+    ensures short { OnOk result (AreShort made.old.items → AreShort made.new.items) }
     ensures refused { IsOkUnless result Error.Memory }
 {
     match names {
@@ -73,6 +79,9 @@ fn put_groups(made: &mut Vec<Bytes>, net: u16, total: u8, names: &[Name]) -> Res
 fn put_replies(made: &mut Vec<Bytes>, table: &ZoneTable, net: u16) -> Result<(), Error>
     ensures put { OnOk result (made.new.items ≡ made.old.items
         ++ map (bytes_of spelled_packet) (replies_for table.now net)) }
+    // A list has at most 64 names, and each reply but the last one has 16 of them or more.
+    ensures few { OnOk result (length made.new.items ≤ length made.old.items + 4) }
+    ensures short { OnOk result (AreShort made.old.items → AreShort made.new.items) }
     ensures refused { IsOkUnless result Error.Memory }
 {
     if !table.complete(net) {
@@ -92,6 +101,8 @@ fn put_first(
 ) -> Result<(), Error>
     ensures put { OnOk result (made.new.items ≡ made.old.items ++ map (bytes_of spelled_packet)
         (flat_map (replies_for table.now) (take most networks.entry))) }
+    ensures few { OnOk result (length made.new.items ≤ length made.old.items + 4 * most) }
+    ensures short { OnOk result (AreShort made.old.items → AreShort made.new.items) }
     ensures refused { IsOkUnless result Error.Memory }
 {
     if most == 0 {
@@ -119,6 +130,10 @@ pub fn answer_query(
 ) -> Result<Vec<Bytes>, Error>
     ensures ok { IfOk result (λ made. made.items
         ≡ map (bytes_of spelled_packet) (replies table.now networks.entry)) }
+    // As many as a list of 64 names takes, for each of the networks.
+    ensures few { IfOk result (λ made. length made.items ≤ 64) }
+    // Each is the data of a datagram.
+    ensures short { IfOk result (λ made. AreShort made.items) }
     ensures refused { IsOkUnless result Error.Memory }
 {
     let mut made = Vec::new(alloc);

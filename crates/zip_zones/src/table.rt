@@ -348,6 +348,7 @@ impl ZoneTable {
     /// The ranges whose lists have the zone, rising. Error: `Memory`.
     pub fn cables_of(&self, zone: &Name) -> Result<Vec<Range>, Error>
         ensures ok { IfOk result (λ ranges. ranges.items ≡ ranges_of zone.now self.now) }
+        ensures few { IfOk result (λ ranges. length ranges.items ≤ 200) }
         ensures refused { IsOkUnless result Error.Memory }
     {
         let mut ranges = Vec::new(*self.lists.allocator());

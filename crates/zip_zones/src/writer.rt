@@ -136,6 +136,7 @@ pub fn write_extended(alloc: Global, net: u16, total: u8, names: &[Name]) -> Res
     requires { 0 < length names.now }
     ensures ok { IfOk result (λ bytes. bytes
         ≡ bytes_of spelled_packet (extended_reply net total names.now)) }
+    ensures short { IfOk result (λ bytes. length bytes ≤ 586) }
     ensures long { (result ≡ Err Error.TooLong) ↔ (586 < 2 + entries_size names.now) }
     ensures refused { IfErr result (λ e. (e ≡ Error.TooLong) ⊎ (e ≡ Error.Memory)) }
 {

@@ -1,6 +1,6 @@
 //! The pages that answer requests for lists of zones.
 
-ghost use Rattle.std.specs.Prelude.{◌≡◌, IfOk, IsOkUnless};
+ghost use Rattle.std.specs.Prelude.{◌≡◌, ◌≤◌, length, IfOk, IsOkUnless};
 ghost use Rattle.zip_zones.specs.Answers.{my_zone, zone_page};
 
 use crate::page::{Page, put_name, zone_list_page};
@@ -12,6 +12,7 @@ use std::alloc::Global;
 /// The page with the default zone of a cable with these zones, or the empty one.
 fn my_page(alloc: Global, local: &[Name]) -> Result<Page, Error>
     ensures ok { IfOk result (λ made. made ≡ my_zone local.now) }
+    ensures short { IfOk result (λ made. length made.bytes ≤ 578) }
     ensures refused { IsOkUnless result Error.Memory }
 {
     let mut bytes = Vec::new(alloc);
@@ -47,6 +48,7 @@ pub fn page_for(
 ) -> Result<Page, Error>
     ensures ok { IfOk result
         (λ made. made ≡ zone_page function start local.now table.now) }
+    ensures short { IfOk result (λ made. length made.bytes ≤ 578) }
     ensures refused { IsOkUnless result Error.Memory }
 {
     match function {
