@@ -1,5 +1,5 @@
 -- What a router asks where it is asked for names in a zone. (Inside AppleTalk, the chapter on NBP)
-use Rattle.std.specs.Prelude.{ℕ, List, [], map, Option, Some, None, position, if◌then◌else◌}
+use Rattle.std.specs.Prelude.{ℕ, ◌<◌, List, [], map, Option, Some, None, position, if◌then◌else◌}
 use Rattle.at_base.specs.Range.{Span, same_range}
 use Rattle.at_base.specs.Text.{is_name}
 use Rattle.zip_zones.specs.Zones.{Known, ranges_of}
@@ -22,3 +22,8 @@ ask ports range = ask_by range (position (same_range range) ports)
 -- what a router whose ports have these ranges asks for a zone
 abbrev pub asks : List Span → List ℕ → List Known → List Ask
 asks ports zone table = map (ask ports) (listing zone table)
+
+-- a lookup is by one of so many ports
+abbrev pub IsAskIn : ℕ → Ask → Type 0
+IsAskIn ports (Lookup port) = port < ports
+IsAskIn ports (Forward net) = Unit {0}

@@ -1,8 +1,9 @@
 //! What a router asks where it is asked for names in a zone.
 
-ghost use Rattle.std.specs.Prelude.{◌≡◌, map, position, IfOk, IsOkUnless};
+ghost use Rattle.std.specs.Prelude.{◌≡◌, ◌≤◌, length, map, position, IfOk, IsOkUnless};
+ghost use Rattle.std.specs.List.{All};
 ghost use Rattle.at_base.specs.Range.{same_range};
-ghost use Rattle.nbp.specs.Expansion.{ask as ask_for, asks, listing as listed};
+ghost use Rattle.nbp.specs.Expansion.{IsAskIn, ask as ask_for, asks, listing as listed};
 
 use at_base::{Error, Name, Range, is_zone_name};
 use std::alloc::Global;
@@ -20,6 +21,7 @@ pub enum Ask {
 /// The ranges of the cables that have the zone. Error: `Memory`.
 fn listing(alloc: Global, zone: &[u8], table: &ZoneTable) -> Result<Vec<Range>, Error>
     ensures ok { IfOk result (λ ranges. ranges.items ≡ listed zone.now table.now) }
+    ensures few { IfOk result (λ ranges. length ranges.items ≤ 200) }
     ensures err { IsOkUnless result Error.Memory }
 {
     if !is_zone_name(zone) {
@@ -37,7 +39,8 @@ fn port_of(range: Range, ports: &[Range]) -> Option<usize>
 
 /// What is asked for a range.
 fn ask_of(range: Range, ports: &[Range]) -> Ask
-    ensures { result ≡ ask_for ports.now range }
+    ensures value { result ≡ ask_for ports.now range }
+    ensures inside { IsAskIn (length ports.now) result }
 {
     match port_of(range, ports) {
         Some(port) => Ask::Lookup(port),
@@ -48,6 +51,7 @@ fn ask_of(range: Range, ports: &[Range]) -> Ask
 /// What is asked for each of the ranges. Error: `Memory`.
 fn asks_of(alloc: Global, ranges: &[Range], ports: &[Range]) -> Result<Vec<Ask>, Error>
     ensures ok { IfOk result (λ made. made.items ≡ map (ask_for ports.now) ranges.now) }
+    ensures inside { IfOk result (λ made. All (IsAskIn (length ports.now)) made.items) }
     ensures err { IsOkUnless result Error.Memory }
 {
     let mut asked = Vec::with_capacity(alloc, ranges.len())?;
@@ -70,6 +74,9 @@ pub fn expand(
     ports: &[Range],
 ) -> Result<Vec<Ask>, Error>
     ensures ok { IfOk result (λ made. made.items ≡ asks ports.now zone.now table.now) }
+    // At most one for each list of the table.
+    ensures few { IfOk result (λ made. length made.items ≤ 200) }
+    ensures inside { IfOk result (λ made. All (IsAskIn (length ports.now)) made.items) }
     ensures refused { IsOkUnless result Error.Memory }
 {
     let ranges = listing(alloc, zone, table)?;

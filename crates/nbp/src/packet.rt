@@ -1,11 +1,12 @@
 //! Packets that ask for names or answer: a reader that borrows, and a writer.
 
-ghost use Rattle.std.specs.Prelude.{◌≡◌, ◌<◌, ◌≤◌, ◌∷◌, ◌++◌, ◌*◌, ◌+◌, ◌-◌, ◌%◌, List, length};
-ghost use Rattle.std.specs.Prelude.{[], IfOk, IfNone, IfSome, IsOkUnless};
+ghost use Rattle.std.specs.Prelude.{◌≡◌, ◌≢◌, ◌<◌, ◌≤◌, ◌∷◌, ◌++◌, ◌*◌, ◌+◌, ◌-◌, ◌/◌, ◌%◌, List};
+ghost use Rattle.std.specs.Prelude.{[], length, IfOk, IfNone, IfSome, IsOkUnless};
 ghost use Rattle.at_base.specs.Grammar.{number, one};
 ghost use Rattle.at_base.specs.Packets.{packets};
 ghost use Rattle.at_base.specs.Reading.{Gives, Reads, field_at, read as read_by};
 ghost use Rattle.at_base.specs.Spelling.{bytes_of};
+ghost use Rattle.nbp.specs.declared.packet.Function.TheVariants.{Reply};
 ghost use Rattle.nbp.specs.declared.tuple.Tuple.{Tuple as TupleValue};
 ghost use Rattle.nbp.specs.Packets.{packet as spelled_packet, wrong_head, number_of, function_of};
 ghost use Rattle.nbp.specs.Packets.{tuples_read, tuples_in, BeginWith, packet_of, front_bytes};
@@ -48,6 +49,7 @@ fn head_at(bytes: &[u8]) -> Result<(u8, &[u8]), Error>
     ensures read { Gives (λ x. (x.0, x.1.now)) result
         (field_at packets (number one wrong_head) bytes.now) }
     ensures some { IfOk result (λ x. 1 ≤ x.0 % 16) }
+    ensures one { IfOk result (λ x. function_of (x.0 / 16) ≢ Reply → x.0 % 16 ≡ 1) }
 {
     let (head, rest) = byte_at(bytes)?;
     let (number, count) = (head / 16, head % 16);
@@ -109,14 +111,17 @@ pub struct Packet<'a> {
 }
 
 impl<'a> Model for Packet<'a> {
-    ghost use Rattle.std.specs.Prelude.{◌≤◌};
+    ghost use Rattle.std.specs.Prelude.{◌≡◌, ◌≢◌, ◌≤◌};
+    ghost use Rattle.nbp.specs.declared.packet.Function.TheVariants.{Reply};
     ghost use Rattle.nbp.specs.Packets.{NbpPacket, BeginWith, packet_in};
 
     ghost Value = { NbpPacket };
 
     ghost view = { λ p. packet_in p.function p.id p.count p.tuples.now };
 
-    ghost invariant = { λ p. (1 ≤ p.count) × BeginWith p.count p.tuples.now };
+    ghost invariant = { λ p. (1 ≤ p.count)
+        × (p.function ≢ Reply → p.count ≡ 1)
+        × BeginWith p.count p.tuples.now };
 }
 
 impl<'a> Packet<'a> {
@@ -152,7 +157,8 @@ impl<'a> Packet<'a> {
 
     /// The first tuple; each packet has one.
     pub fn first(&self) -> TupleView<'a>
-        ensures { (rest : List TupleValue) × (self.now.tuples ≡ result ∷ rest) }
+        ensures first { (rest : List TupleValue) × (self.now.tuples ≡ result ∷ rest) }
+        ensures alone { self.now.function ≢ Reply → self.now.tuples ≡ result ∷ [] }
     {
         match next_in(self.count, self.tuples) {
             Some((tuple, _)) => tuple,
@@ -273,6 +279,8 @@ fn put_text(bytes: &mut Vec<u8>, text: &Text32) -> Result<(), Error>
 pub fn write(alloc: Global, function: Function, id: u8, tuple: &Tuple) -> Result<Bytes, Error>
     ensures ok { IfOk result (λ bytes. bytes
         ≡ bytes_of spelled_packet (packet_of function id tuple.now)) }
+    // The first 7 bytes, and three texts of at most 33 each.
+    ensures short { IfOk result (λ bytes. length bytes ≤ 106) }
     ensures refused { IsOkUnless result Error.Memory }
 {
     let Tuple {
