@@ -1,9 +1,9 @@
 //! What a place of an image should have agreed with.
 
-use crate::item::{show_cable, show_node, show_port, show_row};
+use crate::item::{show_cable, show_no_zone, show_node, show_port, show_row};
 use at_base::{Addr, Hw};
 use std::io;
-use table_image::{Image, Router, Row, ZoneList};
+use table_image::{Image, Node, Router, Row, ZoneList};
 
 /// The stations before a station that have its address or its hardware address: ports before the
 /// router and port `until`, and as many `nodes` from the first one on.
@@ -126,4 +126,51 @@ pub(crate) fn show_cable_of_list(
         }
     }
     eprintln!(rt; "  no cable has the range {}-{}", list.start, list.end)
+}
+
+/// The stations that have the address of a node's router, where no router has a port with it on the
+/// node's cable.
+pub(crate) fn show_own_router(
+    rt: &impl Eprint,
+    image: &Image,
+    cable: u8,
+    address: Addr,
+) -> io::Result<()> {
+    for router in image.routers() {
+        let mut ports = router.ports.as_slice().iter();
+        if ports.any(|port| port.cable == cable && port.address == address) {
+            return Ok(());
+        }
+    }
+    let mut found = false;
+    for (index, router) in image.routers().iter().enumerate() {
+        for (place, port) in router.ports.as_slice().iter().enumerate() {
+            if port.address == address {
+                found = true;
+                show_port(rt, index + 1, place + 1, port)?;
+            }
+        }
+    }
+    for (index, node) in image.nodes().iter().enumerate() {
+        if node.address == address {
+            found = true;
+            show_node(rt, index + 1, node)?;
+        }
+    }
+    if found {
+        return Ok(());
+    }
+    eprintln!(rt; "  no router has a port with the address {address}")
+}
+
+/// That the node's cable doesn't have its zone, where that is so.
+pub(crate) fn show_own_zone(rt: &impl Eprint, image: &Image, node: &Node) -> io::Result<()> {
+    let Some(cable) = image.cables().get(node.cable as usize) else {
+        return Ok(());
+    };
+    let mut zones = cable.zones.as_slice().iter();
+    if zones.any(|zone| node.zone.same(zone)) {
+        return Ok(());
+    }
+    show_no_zone(rt, node.cable as usize + 1, &node.zone)
 }

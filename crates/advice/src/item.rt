@@ -12,12 +12,16 @@ pub(crate) fn at<T>(parts: &[T], number: u32) -> Option<&T> {
     }
 }
 
+fn show_zone(rt: &impl Eprint, zone: &Name) -> io::Result<()> {
+    match std::str::from_utf8(zone.as_slice()) {
+        Ok(text) => eprint!(rt; " {text:?}"),
+        Err(_) => eprint!(rt; " ?"),
+    }
+}
+
 fn show_zones(rt: &impl Eprint, zones: &[Name]) -> io::Result<()> {
     for zone in zones {
-        match std::str::from_utf8(zone.as_slice()) {
-            Ok(text) => eprint!(rt; " {text:?}")?,
-            Err(_) => eprint!(rt; " ?")?,
-        }
+        show_zone(rt, zone)?;
     }
     eprintln!(rt; "")
 }
@@ -57,6 +61,24 @@ pub(crate) fn show_node(rt: &impl Eprint, number: usize, node: &Node) -> io::Res
     let cable = u32::from(node.cable) + 1;
     eprint!(rt; "  node {number}: {} on cable {cable}", node.address)?;
     show_hardware(rt, &node.hardware)
+}
+
+/// A node as it is served: its address, its cable, its zone and its router.
+pub(crate) fn show_service(rt: &impl Eprint, number: usize, node: &Node) -> io::Result<()> {
+    let cable = u32::from(node.cable) + 1;
+    eprint!(rt; "  node {number}: {} on cable {cable}, zone", node.address)?;
+    show_zone(rt, &node.zone)?;
+    match node.router {
+        Some(router) => eprintln!(rt; ", router {router}"),
+        None => eprintln!(rt; ", no router"),
+    }
+}
+
+/// That a cable doesn't have the zone.
+pub(crate) fn show_no_zone(rt: &impl Eprint, number: usize, zone: &Name) -> io::Result<()> {
+    eprint!(rt; "  cable {number} has no zone")?;
+    show_zone(rt, zone)?;
+    eprintln!(rt; "")
 }
 
 /// A zone list: its range and its zones.

@@ -1,12 +1,13 @@
 //! The place that breaks a rule, and beside it what it should have agreed with.
 
 use crate::beside::{
-    show_cable_of_list, show_earlier_stations, show_home, show_next, show_overlaps, show_step,
+    show_cable_of_list, show_earlier_stations, show_home, show_next, show_overlaps,
+    show_own_router, show_own_zone, show_step,
 };
-use crate::item::{at, show_cable, show_list, show_node, show_port, show_row};
+use crate::item::{at, show_cable, show_list, show_node, show_port, show_row, show_service};
 use at_base::Place;
 use std::io;
-use table_image::{Image, Row};
+use table_image::{Image, Node, Row};
 
 /// Shows the place, and what it is compared with.
 pub(crate) fn explain_place(
@@ -21,7 +22,7 @@ pub(crate) fn explain_place(
             show_cable_of(rt, image, k)
         }
         Place::Port(r, p) => explain_port(rt, image, r, p),
-        Place::Node(k) => explain_node(rt, image, k),
+        Place::Node(k) => explain_node(rt, image, rule, k),
         Place::Row(r, k) => explain_row(rt, image, rule, r, k),
         Place::Missing(r, k) => {
             let missing = if rule == 8 { "zone list" } else { "row" };
@@ -59,15 +60,28 @@ fn explain_port(rt: &impl Eprint, image: &Image, r: u32, p: u32) -> io::Result<(
     show_earlier_stations(rt, image, port.address, &port.hardware, until, 0)
 }
 
-fn explain_node(rt: &impl Eprint, image: &Image, k: u32) -> io::Result<()> {
+fn explain_node(rt: &impl Eprint, image: &Image, rule: u8, k: u32) -> io::Result<()> {
     let Some(node) = at(image.nodes(), k) else {
         return Ok(());
     };
+    if rule == 9 {
+        return explain_service(rt, image, k, node);
+    }
     show_node(rt, k as usize, node)?;
     show_cable_of(rt, image, u32::from(node.cable) + 1)?;
     let until = (image.routers().len() + 1, 1);
     let nodes = (k as usize).saturating_sub(1);
     show_earlier_stations(rt, image, node.address, &node.hardware, until, nodes)
+}
+
+/// A node that isn't served: its cable, the stations that have its router's address, and its zone.
+fn explain_service(rt: &impl Eprint, image: &Image, k: u32, node: &Node) -> io::Result<()> {
+    show_service(rt, k as usize, node)?;
+    show_cable_of(rt, image, u32::from(node.cable) + 1)?;
+    if let Some(address) = node.router {
+        show_own_router(rt, image, node.cable, address)?;
+    }
+    show_own_zone(rt, image, node)
 }
 
 fn explain_row(rt: &impl Eprint, image: &Image, rule: u8, r: u32, k: u32) -> io::Result<()> {

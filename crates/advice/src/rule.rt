@@ -30,6 +30,10 @@ pub(crate) fn meaning(rule: u8) -> &'static str {
             "each zone list is complete and has the range of a cable and that cable's zones, \
              each once, and each router has a zone list for each cable."
         }
+        9 => {
+            "the router of a node that has one has a port of that address on the node's cable, \
+             and the node's zone is one of that cable's zones."
+        }
         _ => "this rule is broken.",
     }
 }
@@ -57,6 +61,11 @@ pub(crate) fn what_to_change(rule: u8) -> &'static str {
             "wait a minute or two until the router has heard of all zones, and look again; \
              if the list stays as it is, give each seed router of that cable the same zones, \
              and restart the router that has the list."
+        }
+        9 => {
+            "restart the node: it hears of its router anew, and asks for its zone; \
+             if its router stays wrong, look for a station on that cable that sends routing \
+             tables and is no router; if its zone does, choose one of that cable's zones."
         }
         _ => "see man atalk.",
     }

@@ -10,7 +10,7 @@ use Rattle.table_image.specs.Rows.{is_direct}
 use Rattle.table_image.specs.declared.row.Row.{Row}
 use Rattle.table_image.specs.declared.router.Router.{Router}
 use Rattle.audit.specs.Rules.{end_before, bad_cable, c1, bad_port, bad_node, c2, at_row, cable_of, bad_range, lacks_row, c3, port_on}
-use Rattle.audit.specs.Rules.{bad_direct, c4, c5, next_router, is_no_other, c6, bad_step, c7, c8, breaks, Passes, Keeps}
+use Rattle.audit.specs.Rules.{bad_direct, c4, c5, next_router, is_no_other, c6, bad_step, c7, c8, c9, bad_service, breaks, Passes, Keeps}
 use Rattle.audit.specs.ZoneLists.{bad_list, lacks_list}
 use Rattle.audit.proofs.WalkLists.{At}
 
@@ -76,6 +76,9 @@ abbrev pub breaks_eight : Internet → Bool
 breaks_eight i =
     any_at (λ r router. any_at (λ k. bad_list i) router.lists) i.routers
     || any_at (λ r router. any_at (λ k. lacks_list router) i.cables) i.routers
+
+abbrev pub breaks_nine : Internet → Bool
+breaks_nine i = any_at (λ k. bad_service i) i.nodes
 
 one_kept : (i : Internet) → breaks_one i ≡ false → (p : Place) → c1 i p ≡ false
 one_kept i none (place.Cable zero) = refl
@@ -171,6 +174,15 @@ eight_kept i none (place.List (suc r) zero) = refl
 eight_kept i none (place.List (suc r) (suc k)) =
     kept_in (λ (router : Router). router.lists) (λ r router k. bad_list i) i.routers (or_parts _ _ none).0 r k
 
+nine_kept : (i : Internet) → breaks_nine i ≡ false → (p : Place) → c9 i p ≡ false
+nine_kept i none (place.Cable k) = refl
+nine_kept i none (place.Port r p) = refl
+nine_kept i none (place.Node zero) = refl
+nine_kept i none (place.Node (suc k)) = kept_at (λ k. bad_service i) i.nodes none k
+nine_kept i none (place.Row r k) = refl
+nine_kept i none (place.Missing r k) = refl
+nine_kept i none (place.List r k) = refl
+
 -- all rules but the seventh are kept
 pub record KeepsOthers (i : Internet) : Type 0 where
   pub one : breaks_one i ≡ false
@@ -180,6 +192,7 @@ pub record KeepsOthers (i : Internet) : Type 0 where
   pub five : breaks_five i ≡ false
   pub six : breaks_six i ≡ false
   pub eight : breaks_eight i ≡ false
+  pub nine : breaks_nine i ≡ false
 
 choose : (b x y : Bool) → (b ≡ true → x ≡ false) → (b ≡ false → y ≡ false) → (if b then x else y) ≡ false
 choose true x y f g = f refl
@@ -195,7 +208,8 @@ by_rule i kept rule p seven =
     choose (rule == 5) _ _ (λ _. five_kept i kept.five p) (λ _.
     choose (rule == 6) _ _ (λ _. six_kept i kept.six p) (λ _.
     choose (rule == 7) _ _ seven (λ _.
-    choose (rule == 8) _ _ (λ _. eight_kept i kept.eight p) (λ _. refl))))))))
+    choose (rule == 8) _ _ (λ _. eight_kept i kept.eight p) (λ _.
+    choose (rule == 9) _ _ (λ _. nine_kept i kept.nine p) (λ _. refl)))))))))
 
 pub keeps_others : (i : Internet) → KeepsOthers i → (rule : ℕ) → rule ≢ 7 → Keeps i rule
 keeps_others i kept rule other p = by_rule i kept rule p (λ e. absurd (other (eqb-true rule 7 e)))

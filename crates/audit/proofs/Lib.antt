@@ -15,6 +15,7 @@ pub mod Owners
 pub mod RowOrder
 pub mod SideBySide
 pub mod ZonesAgree
+pub mod NodesServed
 pub mod RowPlaces
 pub mod RuleOrder
 pub mod SameZones

@@ -10,4 +10,5 @@ pub mod Found
 pub mod Seen
 pub mod Verdicts
 pub mod Walks
+pub mod Served
 pub mod Example

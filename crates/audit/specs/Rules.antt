@@ -3,7 +3,7 @@
 use Rattle.std.specs.Prelude.{◌≡◌, ℕ, zero, suc, ◌+◌, ◌%◌, Bool, true, false, not, ◌&&◌, ◌||◌, if◌then◌else◌, List, Option, Some}
 use Rattle.std.specs.Prelude.{None, length, take, slice_get, slice_index, find, nat_le, nat_lt, ◌==◌, is_some, option_and_then}
 use Rattle.std.specs.List.{list_any}
-use Rattle.at_base.specs.Text.{same_bytes}
+use Rattle.at_base.specs.Text.{same_bytes, same_name}
 use Rattle.at_base.specs.declared.address.Addr.{Addr}
 use Rattle.at_base.specs.declared.address.Hw.{Hw}
 use Rattle.at_base.specs.declared.error.Place.{Place}
@@ -23,7 +23,7 @@ use Rattle.table_image.specs.declared.router.Router.{Router}
 use Rattle.table_image.specs.declared.node.Node.{Node}
 use Rattle.audit.specs.declared.rule.Rule.{Rule}
 use Rattle.audit.specs.declared.rule.Rule.TheVariants.{CablesInOrder, StationsAddressed, RowsCoverCables, DirectRowsDirect, DistancesFit}
-use Rattle.audit.specs.declared.rule.Rule.TheVariants.{NextRoutersExist, DistancesFall, ZoneListsAgree}
+use Rattle.audit.specs.declared.rule.Rule.TheVariants.{NextRoutersExist, DistancesFall, ZoneListsAgree, NodesServed}
 
 -- ---- C1: cables stand in order
 
@@ -169,6 +169,7 @@ row_breaks DistancesFit i r router row = nat_lt max_distance row.distance
 row_breaks NextRoutersExist i r router row = not (is_direct row) && is_no_other r (next_router i router row)
 row_breaks DistancesFall i r router row = not (is_direct row) && bad_step i row (next_router i router row)
 row_breaks ZoneListsAgree i r router row = false
+row_breaks NodesServed i r router row = false
 
 -- a cable that a router has no row for breaks the rule: C3 alone
 abbrev pub lack_breaks : Rule → Internet → ℕ → ℕ → Bool
@@ -209,6 +210,25 @@ c8 i (place.List (suc r) (suc k)) = on (slice_get i.routers r) (λ router. on (s
 c8 i (place.Missing (suc r) (suc k)) = on (slice_get i.routers r) (λ router. on (slice_get i.cables k) (lacks_list router))
 c8 i _ = false
 
+-- ---- C9: nodes are served
+
+-- the node's router is no router's port on its cable
+abbrev pub has_bad_router : Internet → Node → Bool
+has_bad_router i node = on node.router (λ a. not (is_some (owner i node.cable a)))
+
+-- the node's cable has its zone, in any case
+abbrev pub has_its_zone : Internet → Node → Bool
+has_its_zone i node = on (slice_get i.cables node.cable) (λ c. list_any (same_name node.zone) c.zones)
+
+-- A node that has a router which is no router's port on its cable, or whose zone its cable doesn't list.
+abbrev pub bad_service : Internet → Node → Bool
+bad_service i node = has_bad_router i node || not (has_its_zone i node)
+
+-- broken by a node that isn't served
+abbrev pub c9 : Internet → Place → Bool
+c9 i (place.Node (suc k)) = on (slice_get i.nodes k) (bad_service i)
+c9 i _ = false
+
 -- ---- All rules
 
 -- the number of a rule, as in C3
@@ -221,6 +241,7 @@ number_of DistancesFit = 5
 number_of NextRoutersExist = 6
 number_of DistancesFall = 7
 number_of ZoneListsAgree = 8
+number_of NodesServed = 9
 
 -- whether the place breaks the rule of this number
 abbrev pub breaks : Internet → ℕ → Place → Bool
@@ -233,6 +254,7 @@ breaks i rule p =
     else if rule == 6 then c6 i p
     else if rule == 7 then c7 i p
     else if rule == 8 then c8 i p
+    else if rule == 9 then c9 i p
     else false
 
 -- no place breaks the rule

@@ -3,12 +3,14 @@
 ghost use Rattle.std.specs.Prelude.{None};
 ghost use Rattle.audit.specs.Firsts.{FirstPlace};
 ghost use Rattle.audit.specs.Rules.{c1, c2, c6, c7};
+ghost use Rattle.audit.specs.Served.{NodesAreServed};
 ghost use Rattle.audit.specs.Verdicts.{Judges, OnYes};
 ghost use Rattle.audit.specs.Walks.{WalksHome};
 ghost use Rattle.audit.specs.ZoneLists.{ZonesAgree};
 
 use crate::cables::bad_cable;
 use crate::next::Hints;
+use crate::nodes::unserved_node;
 use crate::rows::bad_row;
 use crate::rule::Rule;
 use crate::stations::bad_station;
@@ -45,6 +47,8 @@ pub fn audit(image: &Image) -> Verdict
     ensures walks { OnYes result (WalksHome image.now) }
     // After a yes each router's zone table has a zone for exactly the cables that have it.
     ensures zones { OnYes result (ZonesAgree image.now) }
+    // After a yes each node's router, if it has one, and its zone are on its cable.
+    ensures nodes { OnYes result (NodesAreServed image.now) }
 {
     if let Some(place) = bad_cable(image) {
         return Verdict::No(Rule::CablesInOrder.broken_at(place));
@@ -71,6 +75,9 @@ pub fn audit(image: &Image) -> Verdict
     }
     if let Some(place) = bad_zone_list(image) {
         return Verdict::No(Rule::ZoneListsAgree.broken_at(place));
+    }
+    if let Some(place) = unserved_node(image, &hints) {
+        return Verdict::No(Rule::NodesServed.broken_at(place));
     }
     // For the prover alone: the contract of `routers` says that zone lists rise.
     let _routers = image.routers();

@@ -9,6 +9,8 @@ ghost use Rattle.audit.specs.Routing.{Nowhere, home, hand, distance};
 ghost use Rattle.audit.specs.Example.{three_cables, pointing_at_each_other};
 ghost use Rattle.audit.specs.Example.{same_addresses, same_hardware_addresses};
 ghost use Rattle.audit.specs.Rules.{Keeps, Passes};
+ghost use Rattle.audit.specs.Served.{IsServed};
+ghost use Rattle.table_image.specs.declared.node.Node.{Node};
 ghost use Rattle.audit.specs.Walks.{IsWalk, WalksHome, Steps, HasPort, SeatsAreUnique};
 ghost use Rattle.audit.specs.Seats.{Seat, seats};
 ghost use Rattle.audit.specs.Walks.{AreDifferent, IsAddressed};
@@ -53,6 +55,13 @@ pub fn seats_are_unique()
 /// number. This project's own.
 pub fn zone_lists_agree()
     ensures { (i : Internet) → Passes i → IsBounded i → ZonesAgree i }
+{}
+
+/// The router of a node that has one is a router's port on the node's cable, and that cable has the
+/// node's zone, in any case. This project's own.
+pub fn nodes_are_served()
+    ensures { (i : Internet) (k : ℕ) (node : Node)
+        → Passes i → slice_get i.nodes k ≡ Some node → IsServed i node }
 {}
 
 /// Each seat has an address of its cable, with a node number of 1 to 253, and the hardware address

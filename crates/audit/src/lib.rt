@@ -1,5 +1,5 @@
 //! The audit of an internet's tables: the rules, the verdict, and what a verdict of yes says about
-//! the routes of datagrams and about zones.
+//! the routes of datagrams, about zones and about nodes.
 #![tactic(auto)]
 
 mod bytes;
@@ -8,6 +8,7 @@ mod judge;
 mod laws;
 mod lookups;
 mod next;
+mod nodes;
 mod places;
 mod ranges;
 mod rows;
@@ -23,8 +24,9 @@ mod zone_sets;
 pub use bytes::audit_bytes;
 pub use judge::audit;
 pub use laws::{
-    distances_fit, each_step, loops_have_no_walk, one_walk_home, seats_are_addressed,
-    seats_are_unique, the_example_passes, unlisted_is_nowhere, words_exclude, zone_lists_agree,
+    distances_fit, each_step, loops_have_no_walk, nodes_are_served, one_walk_home,
+    seats_are_addressed, seats_are_unique, the_example_passes, unlisted_is_nowhere, words_exclude,
+    zone_lists_agree,
 };
 pub use rule::{MAX_DISTANCE, Rule};
 pub use verdict::{Summary, Verdict};

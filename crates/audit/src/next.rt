@@ -5,10 +5,12 @@ ghost use Rattle.table_image.specs.Rows.{is_direct as direct};
 ghost use Rattle.audit.specs.Firsts.{FirstPlace};
 ghost use Rattle.audit.specs.Hints.{hint_slot, port_slot, hint_at, Names, FirstOr};
 ghost use Rattle.audit.specs.Hints.{HasHintsBelow};
+ghost use Rattle.audit.specs.Routing.{owner as owner_at};
 ghost use Rattle.audit.specs.Rules.{bad_step, is_no_other as no_other, next_router as next};
 ghost use Rattle.audit.specs.Rules.{same_row as same, not_one_less, c2};
 
 use crate::lookups::{owner, same_row};
+use at_base::Addr;
 use table_image::{Image, Port, Router, Row};
 
 /// For each cable and node number, a router that may have a port with that number there: a hint,
@@ -57,6 +59,15 @@ impl Hints {
         }
         hints
     }
+
+    /// The 0-based index of the router that has a port with the address on the cable.
+    pub(crate) fn owner(&self, image: &Image, cable: u8, address: Addr) -> Option<usize>
+        requires { FirstPlace (c2 image.now) None }
+        ensures { result ≡ owner_at image.now cable address }
+    {
+        let hint = self.routers[slot(cable, address.node)];
+        owner(image, hint as usize, cable, address)
+    }
 }
 
 fn next_router(image: &Image, hints: &Hints, router: &Router, row: &Row) -> Option<usize>
@@ -64,10 +75,7 @@ fn next_router(image: &Image, hints: &Hints, router: &Router, row: &Row) -> Opti
     ensures { result ≡ next image.now router.now row.now }
 {
     match router.ports.as_slice().get(row.port as usize) {
-        Some(port) => {
-            let hint = hints.routers[slot(port.cable, row.next.node)];
-            owner(image, hint as usize, port.cable, row.next)
-        }
+        Some(port) => hints.owner(image, port.cable, row.next),
         None => None,
     }
 }

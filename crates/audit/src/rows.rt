@@ -26,8 +26,9 @@ fn breaks(
     ensures { result ≡ row_breaks rule image.now r router.now row.now }
 {
     match rule {
-        // No row breaks a rule about cables, stations or zone lists.
-        Rule::CablesInOrder | Rule::StationsAddressed | Rule::ZoneListsAgree => false,
+        // No row breaks a rule about cables, stations, zone lists or nodes.
+        Rule::CablesInOrder | Rule::StationsAddressed | Rule::ZoneListsAgree | Rule::NodesServed =>
+            false,
         Rule::RowsCoverCables => breaks_ranges(image, router, k, row),
         Rule::DirectRowsDirect => breaks_direct(image, router, k, row),
         Rule::DistancesFit => MAX_DISTANCE < row.distance,
@@ -87,7 +88,8 @@ fn first_missing(image: &Image, rule: Rule, r: usize, router: &Router) -> Option
         | Rule::DistancesFit
         | Rule::NextRoutersExist
         | Rule::DistancesFall
-        | Rule::ZoneListsAgree => None,
+        | Rule::ZoneListsAgree
+        | Rule::NodesServed => None,
     }
 }
 

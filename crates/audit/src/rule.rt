@@ -31,6 +31,8 @@ pub enum Rule {
     /// C8: each zone list is complete and has the zones of its cable, and each router has a list
     /// for each cable.
     ZoneListsAgree,
+    /// C9: the router of each node is a router on its cable, and its zone is one of its cable's.
+    NodesServed,
 }
 
 impl Rule {
@@ -47,6 +49,7 @@ impl Rule {
             Rule::NextRoutersExist => 6,
             Rule::DistancesFall => 7,
             Rule::ZoneListsAgree => 8,
+            Rule::NodesServed => 9,
         }
     }
 

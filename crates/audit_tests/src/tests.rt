@@ -4,6 +4,7 @@
 mod cases;
 mod images;
 mod lines;
+mod nodes;
 mod readme;
 mod stations;
 mod verdicts;
@@ -11,8 +12,8 @@ mod zone_lists;
 
 use audit::{
     Cause, Error, Fault, MAX_DISTANCE, Place, Rule, Summary, Verdict, audit, distances_fit,
-    each_step, loops_have_no_walk, one_walk_home, seats_are_unique, the_example_passes,
-    unlisted_is_nowhere, words_exclude,
+    each_step, loops_have_no_walk, nodes_are_served, one_walk_home, seats_are_unique,
+    the_example_passes, unlisted_is_nowhere, words_exclude,
 };
 use example_images::three_cables::image;
 use example_images::three_cables_bytes as at;
@@ -21,13 +22,13 @@ use images::{
     line_of_parts, with_row,
 };
 use lines::line_again;
+use nodes::line_of_nodes;
 use readme::report;
 use stations::{line_of_rows, line_of_stations};
 use std::alloc::Global;
-use std::process::Abort;
 use std::test::Fail;
 use verdicts::{no_differs, yes_differs};
-use zone_lists::{ListCase, line_of_lists, line_of_many};
+use zone_lists::{check_lists, line_of_many};
 
 #[test]
 fn the_example_has_this_line(rt: HostRuntime) -> Result<(), Fail> {
@@ -164,14 +165,6 @@ fn the_next_router_is_one_nearer(rt: HostRuntime) -> Result<(), Fail> {
     Ok(())
 }
 
-fn check_lists(rt: &impl Abort, alloc: Global, cases: &[ListCase]) -> Result<(), Fail> {
-    for (first, second, want) in cases {
-        let line = line_of_lists(alloc, first, second)?;
-        assert_eq!(rt; line.as_str(), *want, "{first:?} {second:?}");
-    }
-    Ok(())
-}
-
 #[test]
 fn zone_lists_have_the_zones_of_their_cables(rt: HostRuntime) -> Result<(), Fail> {
     check_lists(&rt, rt.alloc(), &zone_lists::ZONES)
@@ -198,6 +191,20 @@ fn a_list_may_have_64_zones_in_any_order_and_case(rt: HostRuntime) -> Result<(),
     ] {
         let line = line_of_many(rt.alloc(), letter)?;
         assert_eq!(rt; line.as_str(), want, "{letter}");
+    }
+    Ok(())
+}
+
+#[test]
+fn nodes_have_routers_and_zones_of_their_cables(rt: HostRuntime) -> Result<(), Fail> {
+    check_each(&rt, rt.alloc(), &nodes::SERVICE)
+}
+
+#[test]
+fn a_node_may_have_no_router(rt: HostRuntime) -> Result<(), Fail> {
+    for (first, second, want) in &nodes::WITHOUT_ROUTERS {
+        let line = line_of_nodes(rt.alloc(), first, second)?;
+        assert_eq!(rt; line.as_str(), *want, "{first:?} {second:?}");
     }
     Ok(())
 }
@@ -341,6 +348,7 @@ fn rules_have_numbers(rt: HostRuntime) {
         Rule::NextRoutersExist,
         Rule::DistancesFall,
         Rule::ZoneListsAgree,
+        Rule::NodesServed,
     ];
     for (k, rule) in rules.iter().enumerate() {
         assert_eq!(rt; rule.number() as usize, k + 1);
@@ -377,6 +385,7 @@ fn the_laws_do_nothing() {
     distances_fit();
     unlisted_is_nowhere();
     seats_are_unique();
+    nodes_are_served();
     the_example_passes();
     loops_have_no_walk();
     words_exclude();

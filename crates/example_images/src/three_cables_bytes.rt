@@ -132,6 +132,17 @@ pub const NODE_1_HARDWARE_2: usize = 224;
 
 pub const NODE_1_HARDWARE_6: usize = 228;
 
+/// The letters of its zone.
+pub const NODE_1_ZONE_1: usize = 230;
+
+pub const NODE_1_ZONE_2: usize = 231;
+
+pub const NODE_1_ZONE_3: usize = 232;
+
+pub const NODE_1_ROUTER_NETWORK: usize = 235;
+
+pub const NODE_1_ROUTER_NODE: usize = 236;
+
 pub const NODE_2_CABLE: usize = 238;
 
 pub const NODE_2_NETWORK: usize = 240;
@@ -139,3 +150,9 @@ pub const NODE_2_NETWORK: usize = 240;
 pub const NODE_2_NODE: usize = 241;
 
 pub const NODE_2_HARDWARE_6: usize = 247;
+
+pub const NODE_2_ZONE_3: usize = 251;
+
+pub const NODE_2_ROUTER_NETWORK: usize = 255;
+
+pub const NODE_2_ROUTER_NODE: usize = 256;

@@ -71,7 +71,13 @@ pub(crate) const CABLE_ORDER: [Case; 8] = [
 /// Addresses that fit a cable, and hardware addresses of one station.
 pub(crate) const STATIONS: [Case; 18] = [
     // The last network of the cable, the one above it, the one below the first.
-    (&[(at::ROUTER_1_PORT_1_NETWORK, 19)], YES),
+    (
+        &[
+            (at::ROUTER_1_PORT_1_NETWORK, 19),
+            (at::NODE_1_ROUTER_NETWORK, 19),
+        ],
+        YES,
+    ),
     (
         &[(at::ROUTER_1_PORT_1_NETWORK, 20)],
         "no: C2 router 1 port 1",
@@ -83,7 +89,13 @@ pub(crate) const STATIONS: [Case; 18] = [
     (&[(at::NODE_1_NETWORK, 20)], "no: C2 node 1"),
     // The nodes 0, 253 and 254; an odd first byte, an odd second one; of a port, of a node.
     (&[(at::ROUTER_1_PORT_1_NODE, 0)], "no: C2 router 1 port 1"),
-    (&[(at::ROUTER_1_PORT_1_NODE, 253)], YES),
+    (
+        &[
+            (at::ROUTER_1_PORT_1_NODE, 253),
+            (at::NODE_1_ROUTER_NODE, 253),
+        ],
+        YES,
+    ),
     (&[(at::ROUTER_1_PORT_1_NODE, 254)], "no: C2 router 1 port 1"),
     (
         &[(at::ROUTER_1_PORT_1_HARDWARE_1, 3)],
@@ -261,7 +273,7 @@ pub(crate) const NEXT_ROUTERS: [Case; 9] = [
 ];
 
 /// Images that break two rules, the later one at the earlier place.
-pub(crate) const TWO_RULES: [Case; 7] = [
+pub(crate) const TWO_RULES: [Case; 9] = [
     (
         &[(at::ROUTER_1_PORT_1_NODE, 0), (at::CABLE_3_START, 20)],
         "no: C1 cable 3",
@@ -304,5 +316,16 @@ pub(crate) const TWO_RULES: [Case; 7] = [
             (at::ROUTER_2_ROW_1_DISTANCE, 2),
         ],
         "no: C7 router 2 row 1",
+    ),
+    (
+        &[
+            (at::ROUTER_1_LIST_3_COMPLETE, 0),
+            (at::NODE_1_ROUTER_NODE, 9),
+        ],
+        "no: C8 router 1 list 3",
+    ),
+    (
+        &[(at::NODE_1_ROUTER_NODE, 9), (at::NODE_2_NODE, 0)],
+        "no: C2 node 2",
     ),
 ];

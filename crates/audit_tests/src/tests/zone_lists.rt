@@ -5,6 +5,8 @@ use super::images::{YES, line_of_bytes};
 use at_base::Error;
 use example_images::three_cables::{FIRST_LISTS, LEN, NODES, SECOND_LISTS, SECOND_PORTS, image};
 use std::alloc::Global;
+use std::process::Abort;
+use std::test::Fail;
 
 /// Parts of an image, one after the other.
 type Parts = &'static [&'static [u8]];
@@ -285,15 +287,20 @@ fn line_of_lists_once(alloc: Global, first: &[&[u8]], second: &[&[u8]]) -> Resul
 }
 
 /// The verdict line of the example with these zone lists of its routers.
-pub(crate) fn line_of_lists(
-    alloc: Global,
-    first: &[&[u8]],
-    second: &[&[u8]],
-) -> Result<String, Error> {
+fn line_of_lists(alloc: Global, first: &[&[u8]], second: &[&[u8]]) -> Result<String, Error> {
     match line_of_lists_once(alloc, first, second) {
         Err(Error::Memory) => line_of_lists_once(alloc, first, second),
         other => other,
     }
+}
+
+/// Asserts the verdict line of the example with each of these zone lists.
+pub(crate) fn check_lists(rt: &impl Abort, alloc: Global, cases: &[ListCase]) -> Result<(), Fail> {
+    for (first, second, want) in cases {
+        let line = line_of_lists(alloc, first, second)?;
+        assert_eq!(rt; line.as_str(), *want, "{first:?} {second:?}");
+    }
+    Ok(())
 }
 
 /// The cable 10-19, up to its zones.
