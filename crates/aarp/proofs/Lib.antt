@@ -1,5 +1,5 @@
 mod Numbers
-mod Shape
+pub mod Shape
 mod Written
 mod Known
 mod Turns

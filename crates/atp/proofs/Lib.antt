@@ -1,5 +1,5 @@
 pub mod Payload
-mod Shape
+pub mod Shape
 mod Lists
 mod Known
 mod Free

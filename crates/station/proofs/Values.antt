@@ -1,5 +1,5 @@
 -- What is read of what a station hears, and that it is made of bytes.
-use Rattle.std.proofs.Common.{◌≡◌, ℕ, suc, Bool, true, List, [], ◌∷◌, refl, ap, Option, Some, None, Result, Ok, Err}
+use Rattle.std.proofs.Common.{◌≡◌, ℕ, suc, Bool, true, List, [], ◌∷◌, refl, ap, Option, Some, None, option_map, Result, Ok, Err}
 use Rattle.std.proofs.lemmas.Bool.{lt-ltb}
 use Rattle.at_base.proofs.Fields.{IsBytes}
 use Rattle.at_base.proofs.Laws.{read_refused}
@@ -25,3 +25,10 @@ pub reads_value : {W E : Type 0} {s : Bool} {A X : Type 0} (r : Refusals W E) (g
 reads_value r g lawful view bytes (Ok x) (y, b, same, one) =
     rw (begins_read r g lawful bytes y b) (ap Some same)
 reads_value r g lawful view bytes (Err e) (f, one, none) = rw (read_refused r g lawful bytes e f) refl
+
+-- a reader that keeps a part of what it reads returns that part
+pub reads_kept : {W E : Type 0} {s : Bool} {A V X : Type 0} (r : Refusals W E) (g : Grammar W s A) → IsLawful g
+    → (keep : A → V) (view : X → V) (bytes : List ℕ) (result : Result X E) → Reads r g keep view bytes result
+    → option_map keep (value_of (read r g bytes)) ≡ found view result
+reads_kept r g lawful keep view bytes (Ok x) (y, b, same, one) = rw (begins_read r g lawful bytes y b) (ap Some same)
+reads_kept r g lawful keep view bytes (Err e) (f, one, none) = rw (read_refused r g lawful bytes e f) refl

@@ -22,14 +22,15 @@ is_made (Kept port bytes) = false
 is_made (Dropped cause bytes) = false
 is_made (Wire port to bytes) = true
 
--- how many outputs pass a test
-abbrev pub count : (Output → Bool) → List Output → ℕ
+-- 1 where a test passes, and 0 where it doesn't
+abbrev pub one : Bool → ℕ
+one true = 1
+one false = 0
+
+-- how many elements pass
+abbrev pub count : {X : Type 0} → (X → Bool) → List X → ℕ
 count test [] = 0
-count test (o ∷ os) = one (test o) + count test os
-  where
-    one : Bool → ℕ
-    one true = 1
-    one false = 0
+count test (x ∷ xs) = one (test x) + count test xs
 
 -- a group is one that there is
 abbrev pub IsNext : Next → Type 0

@@ -4,6 +4,7 @@ ghost use Rattle.std.specs.Prelude.{◌≡◌, ◌<◌, ◌≤◌, ◌+◌, ◌-
 ghost use Rattle.std.specs.Prelude.{IfNone, IfOk, IfSome, IsOkUnless, OnErr, OnOk};
 ghost use Rattle.std.specs.Prelude.{slice_get};
 ghost use Rattle.std.specs.Option.{option_copied};
+ghost use Rattle.std.specs.VecDeque.{deque_capacity, deque_len};
 
 use crate::output::Output;
 use at_base::Error;
@@ -30,6 +31,19 @@ impl Model for Outputs {
       items = o.items.items;
       spare = deque_capacity o.items - deque_len o.items;
     } };
+}
+
+/// Moves outputs after others, which have room for them.
+fn move_all(outputs: &mut VecDeque<Output>, others: &mut VecDeque<Output>)
+    requires { deque_len outputs.old + length others.old.items ≤ deque_capacity outputs.old }
+    ensures items { outputs.new.items ≡ outputs.old.items ++ others.old.items }
+    ensures len { deque_len outputs.new ≡ deque_len outputs.old + length others.old.items }
+    ensures capacity { deque_capacity outputs.new ≡ deque_capacity outputs.old }
+{
+    if let Some(output) = others.pop_front() {
+        outputs.push_back_reserved(output);
+        move_all(outputs, others);
+    }
 }
 
 impl Outputs {
@@ -61,6 +75,15 @@ impl Outputs {
         ensures spare { self.new.spare + 1 ≡ self.old.spare }
     {
         self.items.push_back_reserved(output);
+    }
+
+    /// Adds these outputs after the others. That there is room for them is the caller's condition.
+    /// Allocates nothing.
+    pub fn append(&mut self, made: Vec<Output>)
+        requires { length made.items ≤ self.old.spare }
+        ensures { self.new.items ≡ self.old.items ++ made.items }
+    {
+        move_all(&mut self.items, &mut VecDeque::from_vec(made));
     }
 
     /// The number of outputs. Allocates nothing.

@@ -1,0 +1,100 @@
+//! AARP packets that a router hears.
+
+ghost use Rattle.std.specs.Prelude.{◌≡◌, ◌<◌, [], ◌∷◌, ℕ, length, slice_get, Some};
+ghost use Rattle.std.specs.Prelude.{IfOk, IsOkUnless, OnErr, OnOk};
+ghost use Rattle.station.specs.Hearing.{hearing};
+ghost use Rattle.station.specs.Lawful.{AreLawful, PutsOut};
+ghost use Rattle.router.specs.Answers.{heard_packet};
+ghost use Rattle.router.specs.Resolution.{answer_by, packet_at, ports_after, resolved, wired};
+
+use crate::router::Router;
+use aarp::Packet;
+use at_base::{Bytes, Error};
+use rtmp::RouteTable;
+use station::{Heard, Output, Outputs};
+use std::alloc::Global;
+
+/// The packet with which the bytes begin.
+pub(crate) fn read_packet(bytes: &[u8]) -> Option<Packet>
+    ensures { result ≡ packet_at bytes.now }
+{
+    match Packet::read(bytes) {
+        Ok(packet) => Some(packet),
+        Err(_) => None,
+    }
+}
+
+/// The frame with a packet, for the station that it names.
+fn wire(alloc: Global, port: u8, sent: &Packet) -> Result<Output, Error>
+    ensures ok { IfOk result (λ output. output ∷ [] ≡ wired port (Some sent.now)) }
+    ensures good { IfOk result (λ output. (n : ℕ) → port < n → AreLawful n (output ∷ [])) }
+    ensures refused { IsOkUnless result Error.Memory }
+{
+    Ok(Output::Wire {
+        port,
+        to: sent.target_hw,
+        bytes: Bytes::copy(alloc, &sent.write())?,
+    })
+}
+
+impl<T: RouteTable> Router<T> {
+    /// The answer of a port to a packet, if it has one.
+    fn answer_to(&self, port: u8, packet: &Packet) -> Option<Packet>
+        ensures { result ≡ answer_by packet.now (slice_get self.now.ports port) }
+    {
+        match self.ports.as_slice().get(port as usize) {
+            Some(chooser) => chooser.answer(packet),
+            None => None,
+        }
+    }
+
+    /// Lets a port hear a packet: one that is choosing its address may go to the next.
+    fn choose(&mut self, port: u8, packet: &Packet)
+        requires { port < length self.old.ports }
+        ensures { self.new ≡ record self.old {
+          ports
+              = ports_after self.old.ports port (Some packet.now);
+        } }
+    {
+        self.ports[port as usize].heard(packet);
+    }
+
+    /// Puts the answer of a port to a packet out, if it has one.
+    fn put_answer(&self, port: u8, packet: &Packet, outputs: &mut Outputs) -> Result<(), Error>
+        requires { port < length self.now.ports }
+        ensures ok { OnOk result
+            (PutsOut (length self.now.ports) outputs.old.items outputs.new.items (λ added.
+            added ≡ resolved self.now.ports port (Some packet.now))) }
+        ensures refused { IsOkUnless result Error.Memory }
+        ensures outputs_stay { OnErr result (outputs.new.items ≡ outputs.old.items) }
+    {
+        if let Some(sent) = self.answer_to(port, packet) {
+            let output = wire(*self.ports.allocator(), port, &sent)?;
+            outputs.room(1)?;
+            outputs.add(output);
+        }
+        Ok(())
+    }
+
+    /// Hears an AARP frame on one of the ports.
+    pub(crate) fn hear_packet(
+        &mut self,
+        heard: &Heard<'_>,
+        outputs: &mut Outputs,
+    ) -> Result<(), Error>
+        requires { heard.now.port < length self.old.ports }
+        ensures ok { OnOk result
+            (PutsOut (length self.old.ports) outputs.old.items outputs.new.items (λ added.
+            (added, self.new) ≡ heard_packet self.old (hearing heard.now))) }
+        ensures ports_stay { length self.new.ports ≡ length self.old.ports }
+        ensures refused { IsOkUnless result Error.Memory }
+        ensures station_stays { OnErr result (self.new ≡ self.old) }
+        ensures outputs_stay { OnErr result (outputs.new.items ≡ outputs.old.items) }
+    {
+        if let Some(packet) = read_packet(heard.bytes) {
+            self.put_answer(heard.port, &packet, outputs)?;
+            self.choose(heard.port, &packet);
+        }
+        Ok(())
+    }
+}

@@ -1,0 +1,177 @@
+//! What becomes of a datagram that a router hears: whether it is passed on, and whether it ends
+//! here.
+
+ghost use Rattle.std.specs.Prelude.{◌≡◌, ◌<◌, ◌≤◌, ℕ, length, IfSome};
+ghost use Rattle.router.specs.Forwarding.{arrived as arrives, course as course_of};
+ghost use Rattle.router.specs.Forwarding.{course_by as course_for, ends_at_once as ended_at_once};
+ghost use Rattle.router.specs.Forwarding.{handed_on as goes_on, heard_as as hears_as};
+ghost use Rattle.router.specs.Forwarding.{IsCourse, is_own as is_unicast};
+ghost use Rattle.router.specs.Holding.{IsHandIn};
+ghost use Rattle.station.specs.Ports.{has as has_address};
+
+use crate::hand::Hand;
+use crate::router::{Router, own_at};
+use aarp::Chooser;
+use at_base::Addr;
+use rtmp::RouteTable;
+use station::{Cause, Link, Next};
+
+/// The hop count at which a datagram isn't handed on any more.
+///
+/// Inside AppleTalk, the chapter on DDP.
+const MAX_HOPS: u8 = 15;
+
+/// The node number that stands for every node of a cable.
+pub(crate) const EVERY_NODE: u8 = 255;
+
+/// What a router does with a datagram that it has to pass on. Ports are counted from 0.
+#[derive(Clone, Copy, Debug, PartialEq, Eq)]
+pub enum Step {
+    /// It goes by the port, with one hop more.
+    Pass { port: u8, next: Next },
+    /// The router keeps it, since it ends on the port's cable.
+    Keep { port: u8 },
+    /// It is dropped.
+    Drop(Cause),
+}
+
+/// How a datagram ended at a router.
+#[derive(Clone, Copy, Debug, PartialEq, Eq)]
+pub struct Ending {
+    /// The port on whose cable it ended.
+    pub port: u8,
+    /// Whether it was for the router itself, and not for every node of the cable.
+    pub is_own: bool,
+}
+
+/// What becomes of a datagram: what is done with it, if anything is, and how it ended at the
+/// router, if it did.
+#[derive(Clone, Copy, Debug, PartialEq, Eq)]
+pub struct Course {
+    pub step: Option<Step>,
+    pub ending: Option<Ending>,
+}
+
+fn is_own(link: Link) -> bool
+    ensures { result ≡ is_unicast link }
+{
+    match link {
+        Link::Own => true,
+        Link::All | Link::Group(_) => false,
+    }
+}
+
+/// Whether the port has this address.
+pub(crate) fn has(target: Addr, own: Option<Addr>) -> bool
+    ensures { result ≡ has_address target own }
+{
+    match own {
+        Some(own) => target == own,
+        None => false,
+    }
+}
+
+fn ends_at_once(ports: &[Chooser], port: u8, link: Link, target: Addr) -> bool
+    ensures { result ≡ ended_at_once ports.now port link target }
+{
+    !is_own(link) || target.net == 0 || has(target, own_at(ports, port))
+}
+
+fn heard_as(port: u8, link: Link, target: Addr) -> Option<Ending>
+    ensures value { result ≡ hears_as port link target }
+    ensures inside { IfSome result (λ e. e.port ≡ port) }
+{
+    match link {
+        Link::Own => Some(Ending { port, is_own: true }),
+        Link::All if target.node == EVERY_NODE => Some(Ending {
+            port,
+            is_own: false,
+        }),
+        Link::All | Link::Group(_) => None,
+    }
+}
+
+fn goes(step: Step) -> Course
+    ensures { result ≡ record { step = Some step; ending = None } }
+{
+    Course {
+        step: Some(step),
+        ending: None,
+    }
+}
+
+/// The course of a datagram whose target is on the port's cable.
+fn arrived(ports: &[Chooser], port: u8, hops: u8, target: Addr) -> Course
+    requires { port < length ports.now }
+    ensures value { result ≡ arrives ports.now port hops target }
+    ensures inside { hops ≤ 15 → IsCourse (length ports.now) hops result }
+{
+    if target.node == 0 || has(target, own_at(ports, port)) {
+        return Course {
+            step: Some(Step::Keep { port }),
+            ending: Some(Ending { port, is_own: true }),
+        };
+    }
+    if hops == MAX_HOPS {
+        return goes(Step::Drop(Cause::HopLimit));
+    }
+    if target.node == EVERY_NODE {
+        return Course {
+            step: Some(Step::Pass {
+                port,
+                next: Next::All,
+            }),
+            ending: Some(Ending {
+                port,
+                is_own: false,
+            }),
+        };
+    }
+    let next = Next::Station(target);
+    goes(Step::Pass { port, next })
+}
+
+/// The course of a datagram that goes to the next router.
+fn handed_on(port: u8, router: Addr, hops: u8) -> Course
+    ensures value { result ≡ goes_on port router hops }
+    ensures inside { hops ≤ 15 → (n : ℕ) → port < n → IsCourse n hops result }
+{
+    if hops == MAX_HOPS {
+        return goes(Step::Drop(Cause::HopLimit));
+    }
+    let next = Next::Station(router);
+    goes(Step::Pass { port, next })
+}
+
+/// The course of a datagram that doesn't end at once, by where the router hands such datagrams on.
+fn course_by(ports: &[Chooser], hand: Hand, hops: u8, target: Addr) -> Course
+    requires { IsHandIn (length ports.now) hand }
+    ensures value { result ≡ course_for ports.now hand hops target }
+    ensures inside { hops ≤ 15 → IsCourse (length ports.now) hops result }
+{
+    match hand {
+        Hand::Nowhere => goes(Step::Drop(Cause::NoRoute)),
+        Hand::Here(port) => arrived(ports, port, hops, target),
+        Hand::On(port, router) => handed_on(port, router, hops),
+    }
+}
+
+impl<T: RouteTable> Router<T> {
+    /// What becomes of a datagram that came on one of the ports.
+    pub(crate) fn course(&self, port: u8, link: Link, hops: u8, target: Addr) -> Course
+        requires port { port < length self.now.ports }
+        requires hops { hops ≤ 15 }
+        ensures value { result
+            ≡ course_of self.now.ports self.now.routes port link hops target }
+        ensures inside { IsCourse (length self.now.ports) hops result }
+    {
+        let ports = self.ports.as_slice();
+        if ends_at_once(ports, port, link, target) {
+            return Course {
+                step: None,
+                ending: heard_as(port, link, target),
+            };
+        }
+        course_by(ports, self.hand(target.net), hops, target)
+    }
+}

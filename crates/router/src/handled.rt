@@ -1,0 +1,178 @@
+//! What a router makes of the datagrams that end at it.
+
+ghost use Rattle.std.specs.Prelude.{◌≡◌, ◌<◌, ◌≤◌, ◌+◌, ◌++◌, length};
+ghost use Rattle.std.specs.Prelude.{IfOk, IfSome, IsOkUnless, None, OnOk, option_to_list};
+ghost use Rattle.std.specs.Option.{unwrap_or};
+ghost use Rattle.echo.specs.Echo.{echo_reply};
+ghost use Rattle.router.specs.Answers.{checks as has_good_sum, handled as is_handled, is_to as goes_to};
+ghost use Rattle.router.specs.Answers.{made_for, requests_after, served};
+ghost use Rattle.router.specs.Zones.{transacted, transaction_in};
+ghost use Rattle.atp.specs.Answers.{bytes_of_all};
+ghost use Rattle.router.specs.Made.{AreMade, AreShort};
+ghost use Rattle.router.specs.Ways.{replying, way_back as back};
+
+use crate::course::Ending;
+use crate::lists::Transacted;
+use crate::making::{put_all, put_one};
+use crate::router::Router;
+use at_base::{Bytes, Error};
+use atp::Responder;
+use ddp::{View, kind, socket};
+use rtmp::RouteTable;
+use station::Output;
+
+/// What a router makes of a datagram, and the requests that it holds then, where they are others
+/// than before.
+#[derive(Drop)]
+pub(crate) struct Handled {
+    pub(crate) made: Vec<Output>,
+    pub(crate) responder: Option<Responder>,
+}
+
+/// Whether the datagram is of this type and for this socket.
+fn is_to(view: &View<'_>, kind: u8, socket: u8) -> bool
+    ensures { result ≡ goes_to kind socket view.now }
+{
+    view.kind() == kind && view.target_socket() == socket
+}
+
+/// Whether the datagram has no checksum, or that of its bytes.
+fn checks(view: &View<'_>) -> bool
+    ensures { result ≡ has_good_sum view.now }
+{
+    view.check().is_ok()
+}
+
+impl<T: RouteTable> Router<T> {
+    /// Echoes.
+    fn hear_echo(&self, made: &mut Vec<Output>, port: u8, view: &View<'_>) -> Result<(), Error>
+        ensures put { OnOk result (made.new.items ≡ made.old.items
+            ++ replying (back self.now port view.now) (option_to_list (echo_reply view.now))) }
+        ensures few { OnOk result (length made.new.items ≤ length made.old.items + 1) }
+        ensures good { OnOk result (AreMade (length self.now.ports) made.old.items
+            → AreMade (length self.now.ports) made.new.items) }
+        ensures refused { IsOkUnless result Error.Memory }
+    {
+        let way = self.way_back(port, view);
+        let payload = echo::reply(*made.allocator(), view)?;
+        put_one(made, &way, &payload)
+    }
+
+    /// Sends the packets that answer one of a transaction.
+    fn answer_list(
+        &self,
+        made: &mut Vec<Output>,
+        port: u8,
+        view: &View<'_>,
+        packets: &[Bytes],
+    ) -> Result<(), Error>
+        requires few { length packets.now ≤ 8 }
+        requires short { AreShort packets.now }
+        ensures put { OnOk result (made.new.items ≡ made.old.items
+            ++ replying (back self.now port view.now) packets.now) }
+        ensures few { OnOk result (length made.new.items ≤ length made.old.items + 8) }
+        ensures good { OnOk result (AreMade (length self.now.ports) made.old.items
+            → AreMade (length self.now.ports) made.new.items) }
+        ensures refused { IsOkUnless result Error.Memory }
+    {
+        let way = self.way_back(port, view);
+        put_all(made, &way, packets)
+    }
+
+    /// Makes what a datagram asks for that is of no transaction.
+    fn serve(&self, made: &mut Vec<Output>, ending: Ending, view: &View<'_>) -> Result<(), Error>
+        requires { ending.port < length self.now.ports }
+        ensures put { OnOk result
+            (made.new.items ≡ made.old.items ++ served self.now ending view.now) }
+        ensures few { OnOk result (length made.new.items ≤ length made.old.items + 200) }
+        ensures good { OnOk result (AreMade (length self.now.ports) made.old.items
+            → AreMade (length self.now.ports) made.new.items) }
+        ensures refused { IsOkUnless result Error.Memory }
+    {
+        if is_to(view, kind::AEP, socket::ECHO) {
+            return self.hear_echo(made, ending.port, view);
+        }
+        if is_to(view, kind::NBP, socket::NAMES) {
+            if ending.is_own {
+                return self.hear_names(made, view);
+            }
+            return Ok(());
+        }
+        if is_to(view, kind::ZIP, socket::ZIP) {
+            return self.hear_zones(made, ending.port, view);
+        }
+        Ok(())
+    }
+
+    /// What is made of a datagram that ended here and is of no transaction.
+    fn handle_other(&self, ending: Ending, view: &View<'_>) -> Result<Handled, Error>
+        requires { ending.port < length self.now.ports }
+        ensures made { IfOk result (λ x. x.made.items ≡ served self.now ending view.now) }
+        ensures responder { IfOk result (λ x. x.responder ≡ None) }
+        ensures few { IfOk result (λ x. length x.made.items ≤ 256) }
+        ensures good { IfOk result (λ x. AreMade (length self.now.ports) x.made.items) }
+        ensures refused { IsOkUnless result Error.Memory }
+    {
+        let mut made = Vec::new(*self.ports.allocator());
+        self.serve(&mut made, ending, view)?;
+        Ok(Handled {
+            made,
+            responder: None,
+        })
+    }
+
+    /// What is made of a datagram that ended here and is of a transaction.
+    fn handle_transaction(&self, ending: Ending, view: &View<'_>) -> Result<Handled, Error>
+        ensures made { IfOk result (λ x. x.made.items ≡ replying
+            (back self.now ending.port view.now)
+            (bytes_of_all (transacted self.now view.now (transaction_in view.now.payload)).0)) }
+        ensures requests { IfOk result (λ x. unwrap_or x.responder self.now.requests
+            ≡ (transacted self.now view.now (transaction_in view.now.payload)).1) }
+        ensures few { IfOk result (λ x. length x.made.items ≤ 256) }
+        ensures good { IfOk result (λ x. AreMade (length self.now.ports) x.made.items) }
+        ensures refused { IsOkUnless result Error.Memory }
+    {
+        let Transacted { packets, responder } = self.transact(view)?;
+        let mut made = Vec::new(*self.ports.allocator());
+        self.answer_list(&mut made, ending.port, view, packets.as_slice())?;
+        Ok(Handled { made, responder })
+    }
+
+    /// What is made of a datagram that ended here.
+    fn handle_ended(&self, ending: Ending, view: &View<'_>) -> Result<Handled, Error>
+        requires { ending.port < length self.now.ports }
+        ensures made { IfOk result (λ x. x.made.items ≡ made_for self.now ending view.now) }
+        ensures requests { IfOk result
+            (λ x. unwrap_or x.responder self.now.requests ≡ requests_after self.now view.now) }
+        ensures few { IfOk result (λ x. length x.made.items ≤ 256) }
+        ensures good { IfOk result (λ x. AreMade (length self.now.ports) x.made.items) }
+        ensures refused { IsOkUnless result Error.Memory }
+    {
+        if is_to(view, kind::ATP, socket::ZIP) {
+            return self.handle_transaction(ending, view);
+        }
+        self.handle_other(ending, view)
+    }
+
+    /// What is made of a datagram, if it ended here and its checksum is right.
+    pub(crate) fn handle(&self, ending: Option<Ending>, view: &View<'_>) -> Result<Handled, Error>
+        requires { IfSome ending (λ e. e.port < length self.now.ports) }
+        ensures made { IfOk result
+            (λ x. x.made.items ≡ (is_handled self.now ending view.now).0) }
+        ensures requests { IfOk result (λ x. unwrap_or x.responder self.now.requests
+            ≡ (is_handled self.now ending view.now).1) }
+        ensures few { IfOk result (λ x. length x.made.items ≤ 256) }
+        ensures good { IfOk result (λ x. AreMade (length self.now.ports) x.made.items) }
+        ensures refused { IsOkUnless result Error.Memory }
+    {
+        if let Some(ending) = ending {
+            if checks(view) {
+                return self.handle_ended(ending, view);
+            }
+        }
+        Ok(Handled {
+            made: Vec::new(*self.ports.allocator()),
+            responder: None,
+        })
+    }
+}

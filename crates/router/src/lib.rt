@@ -1,0 +1,21 @@
+//! Routers: where datagrams are handed on, and what is answered.
+#![tactic(auto)]
+
+mod arp;
+mod course;
+mod hand;
+mod handled;
+mod hearing;
+mod lists;
+mod making;
+mod names;
+mod receive;
+mod request;
+mod router;
+mod step;
+mod ways;
+mod zones;
+
+pub use course::{Course, Ending, Step};
+pub use hand::Hand;
+pub use router::{MAX_PORTS, Router};

@@ -1,0 +1,71 @@
+//! The datagrams that a router makes.
+
+ghost use Rattle.std.specs.Prelude.{◌≡◌, ◌≤◌, ◌+◌, ◌∷◌, [], ◌++◌, ℕ, length, option_to_list};
+ghost use Rattle.std.specs.Prelude.{IfSome, IsOkUnless, OnOk};
+ghost use Rattle.router.specs.Made.{AreMade, AreShort, IsWayIn};
+ghost use Rattle.router.specs.Ways.{replying};
+
+use at_base::{Bytes, Error};
+use station::{Output, Way};
+
+/// Makes the datagram with this data, where there is a way.
+pub(crate) fn put(made: &mut Vec<Output>, way: &Option<Way>, payload: &[u8]) -> Result<(), Error>
+    requires { length payload.now ≤ 586 }
+    ensures put { OnOk result
+        (made.new.items ≡ made.old.items ++ replying way.now (payload.now ∷ [])) }
+    ensures few { OnOk result (length made.new.items ≤ length made.old.items + 1) }
+    ensures good { OnOk result ((n : ℕ) → IsWayIn n way.now → AreMade n made.old.items
+        → AreMade n made.new.items) }
+    ensures refused { IsOkUnless result Error.Memory }
+{
+    match way {
+        None => Ok(()),
+        Some(way) => {
+            let output = way.make(*made.allocator(), payload)?;
+            made.push(output)?;
+            Ok(())
+        }
+    }
+}
+
+/// Makes a datagram with each of these data, where there is a way.
+pub(crate) fn put_all(
+    made: &mut Vec<Output>,
+    way: &Option<Way>,
+    payloads: &[Bytes],
+) -> Result<(), Error>
+    requires { AreShort payloads.now }
+    ensures put { OnOk result (made.new.items ≡ made.old.items ++ replying way.now payloads.now) }
+    ensures few { OnOk result (length made.new.items ≤ length made.old.items + length payloads.now) }
+    ensures good { OnOk result ((n : ℕ) → IsWayIn n way.now → AreMade n made.old.items
+        → AreMade n made.new.items) }
+    ensures refused { IsOkUnless result Error.Memory }
+{
+    match payloads {
+        [] => Ok(()),
+        [payload, rest @ ..] => {
+            put(made, way, payload.as_slice())?;
+            put_all(made, way, rest)
+        }
+    }
+}
+
+/// Makes the datagram with this data, where there is any and a way.
+pub(crate) fn put_one(
+    made: &mut Vec<Output>,
+    way: &Option<Way>,
+    payload: &Option<Bytes>,
+) -> Result<(), Error>
+    requires { IfSome payload.now (λ bytes. length bytes ≤ 586) }
+    ensures put { OnOk result
+        (made.new.items ≡ made.old.items ++ replying way.now (option_to_list payload.now)) }
+    ensures few { OnOk result (length made.new.items ≤ length made.old.items + 1) }
+    ensures good { OnOk result ((n : ℕ) → IsWayIn n way.now → AreMade n made.old.items
+        → AreMade n made.new.items) }
+    ensures refused { IsOkUnless result Error.Memory }
+{
+    match payload {
+        Some(payload) => put(made, way, payload.as_slice()),
+        None => Ok(()),
+    }
+}

@@ -1,0 +1,305 @@
+//! What a router makes of requests for names that end at it.
+
+ghost use Rattle.std.specs.Prelude.{◌≡◌, ◌<◌, ◌≤◌, ◌+◌, [], ◌++◌, ℕ, length, position};
+ghost use Rattle.std.specs.Prelude.{IfOk, IfSome, IsOkUnless, OnOk};
+ghost use Rattle.std.specs.List.{flat_map, All};
+ghost use Rattle.at_base.specs.Range.{is_between};
+ghost use Rattle.at_base.specs.Text.{IsName};
+ghost use Rattle.nbp.specs.Expansion.{IsAskIn};
+ghost use Rattle.router.specs.Made.{AreMade, IsWayIn};
+ghost use Rattle.router.specs.Requests.{asked, forward_way as way_forward, looked_by, looked_on};
+ghost use Rattle.router.specs.Requests.{lookup_way as way_of_lookup, looked_up, made_of, names_in};
+ghost use Rattle.router.specs.Requests.{ranges as ranges_of, request_header as header_of};
+ghost use Rattle.router.specs.Requests.{requests_made};
+
+use crate::course::EVERY_NODE;
+use crate::making::put;
+use crate::request::Request;
+use crate::router::Router;
+use crate::ways::{is_summed, request_way, way_from};
+use aarp::Chooser;
+use at_base::{Addr, Error, Name, Range, is_zone_name};
+use ddp::{Header, View, kind, socket};
+use nbp::{Ask, Function, Packet, expand, write};
+use rtmp::RouteTable;
+use station::{Next, Output, Way};
+use std::alloc::Global;
+
+/// Any router of a network, as the node of an address.
+const ANY_ROUTER: u8 = 0;
+
+/// The packet in the data of a datagram.
+fn read_packet(payload: &[u8]) -> Option<Packet<'_>>
+    ensures { result ≡ names_in payload.now }
+{
+    match Packet::read(payload) {
+        Ok(packet) => Some(packet),
+        Err(_) => None,
+    }
+}
+
+/// The header of a request that a router makes, without a source.
+fn request_header(request: &Request, target: Addr) -> Header
+    ensures { result ≡ header_of request.now target }
+{
+    Header {
+        summed: request.summed,
+        target,
+        source: Addr::NONE,
+        target_socket: socket::NAMES,
+        source_socket: socket::NAMES,
+        kind: kind::NBP,
+    }
+}
+
+/// Appends the ranges of ports.
+fn put_ranges(made: &mut Vec<Range>, ports: &[Chooser]) -> Result<(), Error>
+    ensures put { OnOk result (made.new.items ≡ made.old.items ++ ranges_of ports.now) }
+    ensures refused { IsOkUnless result Error.Memory }
+{
+    match ports {
+        [] => Ok(()),
+        [port, rest @ ..] => {
+            made.push(port.range())?;
+            put_ranges(made, rest)
+        }
+    }
+}
+
+/// The ranges of ports. Error: `Memory`.
+fn ranges(alloc: Global, ports: &[Chooser]) -> Result<Vec<Range>, Error>
+    ensures ok { IfOk result (λ made. made.items ≡ ranges_of ports.now) }
+    ensures refused { IsOkUnless result Error.Memory }
+{
+    let mut made = Vec::with_capacity(alloc, ports.len())?;
+    put_ranges(&mut made, ports)?;
+    Ok(made)
+}
+
+/// The index of the port whose range holds a network.
+fn port_to(ports: &[Chooser], net: u16) -> Option<usize>
+    ensures value { result ≡ position (λ c. is_between c.range.start c.range.end net) ports.now }
+    ensures inside { IfSome result (λ q. q < length ports.now) }
+{
+    ports.iter().position(|port| port.range().holds(net))
+}
+
+impl<T: RouteTable> Router<T> {
+    /// The way of a lookup by a port.
+    fn lookup_way(&self, request: &Request, port: u8) -> Option<Way>
+        requires name { IsName request.now.tuple.zone }
+        ensures value { result ≡ way_of_lookup self.now request.now port }
+        ensures inside { port < length self.now.ports → IsWayIn (length self.now.ports) result }
+    {
+        let group = Name::of(request.tuple.zone.as_slice()).group();
+        let every_node = Addr {
+            net: 0,
+            node: EVERY_NODE,
+        };
+        let header = request_header(request, every_node);
+        way_from(self.own(port), port, Next::Group(group), header)
+    }
+
+    /// The way of a forward request to a network.
+    fn forward_way(&self, request: &Request, net: u16) -> Option<Way>
+        ensures value { result ≡ way_forward self.now request.now net }
+        ensures inside { IsWayIn (length self.now.ports) result }
+    {
+        let any_router = Addr {
+            net,
+            node: ANY_ROUTER,
+        };
+        let header = request_header(request, any_router);
+        request_way(self.ports.as_slice(), self.hand(net), header)
+    }
+
+    /// The index of the port whose range holds a network.
+    fn port_to(&self, net: u16) -> Option<usize>
+        ensures value { result
+            ≡ position (λ c. is_between c.range.start c.range.end net) self.now.ports }
+        ensures inside { IfSome result (λ q. q < length self.now.ports) }
+    {
+        port_to(self.ports.as_slice(), net)
+    }
+
+    /// The number of the port at an index, of which there are at most 16.
+    fn number_of(&self, port: usize) -> u8
+        requires { port < length self.now.ports }
+        ensures { result ≡ port }
+    {
+        // For the prover alone: it knows the number of ports where one of the fields is used.
+        let _ = &self.ports;
+        port as u8
+    }
+
+    /// Makes the lookup of a request by a port.
+    fn look(&self, made: &mut Vec<Output>, request: &Request, port: u8) -> Result<(), Error>
+        requires name { IsName request.now.tuple.zone }
+        requires port { port < length self.now.ports }
+        ensures put { OnOk result
+            (made.new.items ≡ made.old.items ++ looked_by self.now request.now port) }
+        ensures few { OnOk result (length made.new.items ≤ length made.old.items + 1) }
+        ensures good { OnOk result (AreMade (length self.now.ports) made.old.items
+            → AreMade (length self.now.ports) made.new.items) }
+        ensures refused { IsOkUnless result Error.Memory }
+    {
+        let way = self.lookup_way(request, port);
+        let payload = write(
+            *made.allocator(),
+            Function::Lookup,
+            request.id,
+            &request.tuple,
+        )?;
+        put(made, &way, payload.as_slice())
+    }
+
+    /// Makes the forward request of a request to a network.
+    fn forward(&self, made: &mut Vec<Output>, request: &Request, net: u16) -> Result<(), Error>
+        ensures put { OnOk result
+            (made.new.items ≡ made.old.items ++ asked self.now request.now (Ask.Forward net)) }
+        ensures few { OnOk result (length made.new.items ≤ length made.old.items + 1) }
+        ensures good { OnOk result (AreMade (length self.now.ports) made.old.items
+            → AreMade (length self.now.ports) made.new.items) }
+        ensures refused { IsOkUnless result Error.Memory }
+    {
+        let way = self.forward_way(request, net);
+        let function = Function::ForwardRequest;
+        let payload = write(*made.allocator(), function, request.id, &request.tuple)?;
+        put(made, &way, payload.as_slice())
+    }
+
+    /// Makes what is asked.
+    fn ask(&self, made: &mut Vec<Output>, request: &Request, ask: Ask) -> Result<(), Error>
+        requires name { IsName request.now.tuple.zone }
+        requires port { IsAskIn (length self.now.ports) ask }
+        ensures put { OnOk result
+            (made.new.items ≡ made.old.items ++ asked self.now request.now ask) }
+        ensures few { OnOk result (length made.new.items ≤ length made.old.items + 1) }
+        ensures good { OnOk result (AreMade (length self.now.ports) made.old.items
+            → AreMade (length self.now.ports) made.new.items) }
+        ensures refused { IsOkUnless result Error.Memory }
+    {
+        match ask {
+            Ask::Lookup(port) => self.look(made, request, self.number_of(port)),
+            Ask::Forward(net) => self.forward(made, request, net),
+        }
+    }
+
+    /// Makes what is asked, one after the other.
+    fn ask_all(&self, made: &mut Vec<Output>, request: &Request, asks: &[Ask]) -> Result<(), Error>
+        requires name { IsName request.now.tuple.zone }
+        requires ports { All (IsAskIn (length self.now.ports)) asks.now }
+        ensures put { OnOk result
+            (made.new.items ≡ made.old.items ++ flat_map (asked self.now request.now) asks.now) }
+        ensures few { OnOk result
+            (length made.new.items ≤ length made.old.items + length asks.now) }
+        ensures good { OnOk result (AreMade (length self.now.ports) made.old.items
+            → AreMade (length self.now.ports) made.new.items) }
+        ensures refused { IsOkUnless result Error.Memory }
+    {
+        match asks {
+            [] => Ok(()),
+            [ask, rest @ ..] => {
+                self.ask(made, request, *ask)?;
+                self.ask_all(made, request, rest)
+            }
+        }
+    }
+
+    /// Makes what a broadcast request asks for.
+    fn ask_for(&self, made: &mut Vec<Output>, request: &Request) -> Result<(), Error>
+        ensures put { OnOk result (made.new.items ≡ made.old.items
+            ++ made_of self.now Function.BroadcastRequest request.now 0) }
+        ensures few { OnOk result (length made.new.items ≤ length made.old.items + 200) }
+        ensures good { OnOk result (AreMade (length self.now.ports) made.old.items
+            → AreMade (length self.now.ports) made.new.items) }
+        ensures refused { IsOkUnless result Error.Memory }
+    {
+        let zone = request.tuple.zone.as_slice();
+        if !is_zone_name(zone) {
+            return Ok(());
+        }
+        let alloc = *made.allocator();
+        let ports = ranges(alloc, self.ports.as_slice())?;
+        let asks = expand(alloc, zone, &self.zones, ports.as_slice())?;
+        self.ask_all(made, request, asks.as_slice())
+    }
+
+    /// Makes the lookup of a forward request to a network.
+    fn look_up(&self, made: &mut Vec<Output>, request: &Request, net: u16) -> Result<(), Error>
+        ensures put { OnOk result (made.new.items ≡ made.old.items
+            ++ made_of self.now Function.ForwardRequest request.now net) }
+        ensures few { OnOk result (length made.new.items ≤ length made.old.items + 200) }
+        ensures good { OnOk result (AreMade (length self.now.ports) made.old.items
+            → AreMade (length self.now.ports) made.new.items) }
+        ensures refused { IsOkUnless result Error.Memory }
+    {
+        if !is_zone_name(request.tuple.zone.as_slice()) {
+            return Ok(());
+        }
+        self.look_on(made, request, self.port_to(net))
+    }
+
+    /// Makes the lookup of a request by a port, if there is one.
+    fn look_on(
+        &self,
+        made: &mut Vec<Output>,
+        request: &Request,
+        port: Option<usize>,
+    ) -> Result<(), Error>
+        requires name { IsName request.now.tuple.zone }
+        requires port { IfSome port (λ q. q < length self.now.ports) }
+        ensures put { OnOk result
+            (made.new.items ≡ made.old.items ++ looked_on self.now request.now port) }
+        ensures few { OnOk result (length made.new.items ≤ length made.old.items + 1) }
+        ensures good { OnOk result (AreMade (length self.now.ports) made.old.items
+            → AreMade (length self.now.ports) made.new.items) }
+        ensures refused { IsOkUnless result Error.Memory }
+    {
+        match port {
+            Some(port) => self.look(made, request, self.number_of(port)),
+            None => Ok(()),
+        }
+    }
+
+    /// Makes what a datagram asks for whose data is a packet of names.
+    pub(crate) fn hear_names(&self, made: &mut Vec<Output>, view: &View<'_>) -> Result<(), Error>
+        ensures put { OnOk result (made.new.items
+            ≡ made.old.items ++ requests_made self.now view.now (names_in view.now.payload)) }
+        ensures few { OnOk result (length made.new.items ≤ length made.old.items + 200) }
+        ensures good { OnOk result (AreMade (length self.now.ports) made.old.items
+            → AreMade (length self.now.ports) made.new.items) }
+        ensures refused { IsOkUnless result Error.Memory }
+    {
+        match read_packet(view.payload()) {
+            Some(packet) => self.hear_request(made, view, &packet),
+            None => Ok(()),
+        }
+    }
+
+    /// The same, of a packet that was read.
+    fn hear_request(
+        &self,
+        made: &mut Vec<Output>,
+        view: &View<'_>,
+        packet: &Packet<'_>,
+    ) -> Result<(), Error>
+        ensures put { OnOk result (made.new.items
+            ≡ made.old.items ++ requests_made self.now view.now (Some packet.now)) }
+        ensures few { OnOk result (length made.new.items ≤ length made.old.items + 200) }
+        ensures good { OnOk result (AreMade (length self.now.ports) made.old.items
+            → AreMade (length self.now.ports) made.new.items) }
+        ensures refused { IsOkUnless result Error.Memory }
+    {
+        let request = Request {
+            summed: is_summed(view),
+            id: packet.id(),
+            tuple: packet.first().copy(),
+        };
+        match packet.function() {
+            Function::BroadcastRequest => self.ask_for(made, &request),
+            Function::ForwardRequest => self.look_up(made, &request, view.target().net),
+            Function::Lookup | Function::Reply => Ok(()),
+        }
+    }
+}

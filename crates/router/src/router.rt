@@ -1,0 +1,156 @@
+//! Routers, and what they hold.
+
+ghost use Rattle.std.specs.Prelude.{◌≡◌, ◌<◌, ◌↔◌, ◌⊎◌, ◌++◌, length, map, nat_lt};
+ghost use Rattle.std.specs.Prelude.{[], IfErr, IfOk, IsOkUnless, IsTrue, OnOk};
+ghost use Rattle.std.specs.List.{list_all};
+ghost use Rattle.station.specs.Ports.{is_planned, planned};
+ghost use Rattle.router.specs.Holding.{IsHandIn, hand as hand_in, hand_by, own_at as address_at};
+
+use crate::hand::Hand;
+use aarp::Chooser;
+use at_base::{Addr, Error};
+use atp::Responder;
+use rtmp::{RouteTable, Row};
+use station::PortPlan;
+use std::alloc::Global;
+use std::marker::Model;
+use zip_zones::ZoneTable;
+
+/// The most ports of a router. This project's own.
+pub const MAX_PORTS: usize = 16;
+
+/// A router: its ports on cables, its routing table and its zone table. Its tables stay as they
+/// are.
+///
+/// Inside AppleTalk, the chapters on DDP, RTMP and ZIP.
+#[derive(Drop)]
+pub struct Router<T: RouteTable> {
+    pub(crate) ports: Vec<Chooser>,
+    pub(crate) routes: T,
+    pub(crate) zones: ZoneTable,
+    // the requests for zone lists that are answered once
+    pub(crate) responder: Responder,
+}
+
+impl<T: RouteTable> Model for Router<T> {
+    ghost use Rattle.router.specs.Holding.{Holding, IsHolding};
+
+    ghost Value = { Holding };
+
+    ghost view = { λ r. record {
+      ports = r.ports.items;
+      routes = T.rows r.routes;
+      zones = r.zones;
+      requests = r.responder;
+    } };
+
+    ghost invariant = { λ r. IsHolding (record {
+      ports = r.ports.items;
+      routes = T.rows r.routes;
+      zones = r.zones;
+      requests = r.responder;
+    }) };
+}
+
+/// The address of the port at an index, once it is settled.
+pub(crate) fn own_at(ports: &[Chooser], port: u8) -> Option<Addr>
+    ensures { result ≡ address_at ports.now port }
+{
+    match ports.get(port as usize) {
+        Some(chooser) => chooser.settled(),
+        None => None,
+    }
+}
+
+/// Where a row says to hand datagrams on.
+fn hand_of(row: Option<Row>) -> Hand
+    ensures { result ≡ hand_by row }
+{
+    match row {
+        None => Hand::Nowhere,
+        Some(row) if row.is_direct() => Hand::Here(row.port),
+        Some(row) => Hand::On(row.port, row.next),
+    }
+}
+
+/// Appends the choices with which planned ports begin.
+fn put_choosers(ports: &mut Vec<Chooser>, plans: &[PortPlan<'_>]) -> Result<(), Error>
+    requires { IsTrue (list_all is_planned plans.now) }
+    ensures put { OnOk result (ports.new.items ≡ ports.old.items ++ map planned plans.now) }
+    ensures refused { IsOkUnless result Error.Memory }
+{
+    match plans {
+        [] => Ok(()),
+        [plan, rest @ ..] => {
+            let chooser = plan.chooser(*ports.allocator())?;
+            ports.push(chooser)?;
+            put_choosers(ports, rest)
+        }
+    }
+}
+
+impl<T: RouteTable> Router<T> {
+    /// A router with these ports and tables. That a station of each port's range may have the
+    /// port's addresses, and that each row is by one of the ports, is the caller's condition.
+    ///
+    /// Errors: `Full` above 16 ports, `Memory`.
+    pub fn new(
+        alloc: Global,
+        plans: &[PortPlan<'_>],
+        routes: T,
+        zones: ZoneTable,
+    ) -> Result<Router<T>, Error>
+        requires planned { IsTrue (list_all is_planned plans.now) }
+        requires seated { IsTrue (list_all (λ r. nat_lt r.port (length plans.now)) (T.rows routes)) }
+        ensures ok { IfOk result (λ router. router ≡ record {
+          ports = map planned plans.now;
+          routes = T.rows routes;
+          zones = zones;
+          requests = [];
+        }) }
+        ensures full { (result ≡ Err Error.Full) ↔ (16 < length plans.now) }
+        ensures refused { IfErr result (λ e. (e ≡ Error.Full) ⊎ (e ≡ Error.Memory)) }
+    {
+        if plans.len() > MAX_PORTS {
+            return Err(Error::Full);
+        }
+        let mut ports = Vec::with_capacity(alloc, plans.len())?;
+        put_choosers(&mut ports, plans)?;
+        let responder = Responder::new(alloc)?;
+        Ok(Router {
+            ports,
+            routes,
+            zones,
+            responder,
+        })
+    }
+
+    /// What the router does with datagrams for a network. Allocates nothing.
+    pub fn hand(&self, net: u16) -> Hand
+        ensures value { result ≡ hand_in self.now.routes net }
+        ensures inside { IsHandIn (length self.now.ports) result }
+    {
+        hand_of(self.routes.row_for(net))
+    }
+
+    /// The address of the port at an index, once it is settled. Allocates nothing.
+    pub fn own(&self, port: u8) -> Option<Addr>
+        ensures { result ≡ address_at self.now.ports port }
+    {
+        own_at(self.ports.as_slice(), port)
+    }
+
+    /// Its routing table.
+    pub fn routes(&self) -> &T
+        ensures { T.rows result.now ≡ self.now.routes }
+    {
+        &self.routes
+    }
+
+    /// Its zone table.
+    pub fn zones(&self) -> &ZoneTable
+        ensures { result.now ≡ self.now.zones }
+    {
+        &self.zones
+    }
+}

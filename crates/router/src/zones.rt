@@ -1,0 +1,166 @@
+//! What a router answers about zones, in packets of ZIP.
+
+ghost use Rattle.std.specs.Prelude.{◌≡◌, ◌<◌, ◌≤◌, ◌+◌, ◌++◌, length, map, Some};
+ghost use Rattle.std.specs.Prelude.{IsOkUnless, OnOk};
+ghost use Rattle.at_base.specs.Spelling.{bytes_of};
+ghost use Rattle.zip_zones.specs.Answers.{replies};
+ghost use Rattle.zip_zones.specs.Formats.{packet as zip_packet};
+ghost use Rattle.router.specs.Made.{AreMade, IsWayIn};
+ghost use Rattle.router.specs.Ways.{replying, way_back as back};
+ghost use Rattle.router.specs.Zones.{info, info_way as way_of_info, told as is_told};
+ghost use Rattle.router.specs.Zones.{zones_in, zones_told};
+
+use crate::course::EVERY_NODE;
+use crate::making::{put_all, put_one};
+use crate::router::Router;
+use crate::ways::{is_answered, reply_header, straight, way_from};
+use at_base::{Addr, Error, Range, Text32};
+use ddp::View;
+use rtmp::RouteTable;
+use station::{Next, Output, Way};
+use zip_zones::{Networks, Packet, answer_query, reply_net_info};
+
+/// The packet in the data of a datagram.
+fn read_packet(payload: &[u8]) -> Option<Packet<'_>>
+    ensures { result ≡ zones_in payload.now }
+{
+    match Packet::read(payload) {
+        Ok(packet) => Some(packet),
+        Err(_) => None,
+    }
+}
+
+impl<T: RouteTable> Router<T> {
+    /// The way of what a node is told of the cable of this range, on which it asked.
+    fn info_way(&self, port: u8, range: Range, view: &View<'_>) -> Option<Way>
+        ensures value { result ≡ way_of_info self.now port range view.now }
+        ensures inside { port < length self.now.ports → IsWayIn (length self.now.ports) result }
+    {
+        let asker = view.source();
+        if !range.holds(asker.net) {
+            let every_node = Addr {
+                net: 0,
+                node: EVERY_NODE,
+            };
+            let header = reply_header(view, every_node);
+            return way_from(self.own(port), port, Next::All, header);
+        }
+        if !is_answered(self.ports.as_slice(), asker) {
+            return None;
+        }
+        let header = reply_header(view, asker);
+        way_from(self.own(port), port, straight(asker), header)
+    }
+
+    /// Tells a node that asks for a zone of its cable, which has this range.
+    fn tell_of(
+        &self,
+        made: &mut Vec<Output>,
+        port: u8,
+        range: Range,
+        view: &View<'_>,
+        zone: &Text32,
+    ) -> Result<(), Error>
+        requires { port < length self.now.ports }
+        ensures put { OnOk result (made.new.items ≡ made.old.items
+            ++ replying (way_of_info self.now port range view.now) (info self.now range zone.now)) }
+        ensures few { OnOk result (length made.new.items ≤ length made.old.items + 1) }
+        ensures good { OnOk result (AreMade (length self.now.ports) made.old.items
+            → AreMade (length self.now.ports) made.new.items) }
+        ensures refused { IsOkUnless result Error.Memory }
+    {
+        let names = self.zones.names_of(range.start())?;
+        let payload = reply_net_info(*made.allocator(), zone, range, names.as_slice())?;
+        let way = self.info_way(port, range, view);
+        put_one(made, &way, &payload)
+    }
+
+    /// Tells a node that asks for a zone of its cable.
+    fn tell(
+        &self,
+        made: &mut Vec<Output>,
+        port: u8,
+        view: &View<'_>,
+        zone: &Text32,
+    ) -> Result<(), Error>
+        requires { port < length self.now.ports }
+        ensures put { OnOk result
+            (made.new.items ≡ made.old.items ++ is_told self.now port view.now zone.now) }
+        ensures few { OnOk result (length made.new.items ≤ length made.old.items + 1) }
+        ensures good { OnOk result (AreMade (length self.now.ports) made.old.items
+            → AreMade (length self.now.ports) made.new.items) }
+        ensures refused { IsOkUnless result Error.Memory }
+    {
+        match self.ports.as_slice().get(port as usize) {
+            Some(chooser) => self.tell_of(made, port, chooser.range(), view, zone),
+            None => Ok(()),
+        }
+    }
+
+    /// Answers a query for the zones of networks.
+    fn answer(
+        &self,
+        made: &mut Vec<Output>,
+        port: u8,
+        view: &View<'_>,
+        networks: Networks<'_>,
+    ) -> Result<(), Error>
+        ensures put { OnOk result (made.new.items ≡ made.old.items ++ replying
+            (back self.now port view.now)
+            (map (bytes_of zip_packet) (replies self.now.zones networks.entry))) }
+        ensures few { OnOk result (length made.new.items ≤ length made.old.items + 64) }
+        ensures good { OnOk result (AreMade (length self.now.ports) made.old.items
+            → AreMade (length self.now.ports) made.new.items) }
+        ensures refused { IsOkUnless result Error.Memory }
+    {
+        let way = self.way_back(port, view);
+        let payloads = answer_query(*made.allocator(), &self.zones, networks)?;
+        put_all(made, &way, payloads.as_slice())
+    }
+
+    /// Answers a packet about zones that ended on a port.
+    pub(crate) fn hear_zones(
+        &self,
+        made: &mut Vec<Output>,
+        port: u8,
+        view: &View<'_>,
+    ) -> Result<(), Error>
+        requires { port < length self.now.ports }
+        ensures put { OnOk result (made.new.items
+            ≡ made.old.items ++ zones_told self.now port view.now (zones_in view.now.payload)) }
+        ensures few { OnOk result (length made.new.items ≤ length made.old.items + 64) }
+        ensures good { OnOk result (AreMade (length self.now.ports) made.old.items
+            → AreMade (length self.now.ports) made.new.items) }
+        ensures refused { IsOkUnless result Error.Memory }
+    {
+        match read_packet(view.payload()) {
+            Some(packet) => self.answer_packet(made, port, view, packet),
+            None => Ok(()),
+        }
+    }
+
+    /// The same, of a packet that was read.
+    fn answer_packet(
+        &self,
+        made: &mut Vec<Output>,
+        port: u8,
+        view: &View<'_>,
+        packet: Packet<'_>,
+    ) -> Result<(), Error>
+        requires { port < length self.now.ports }
+        ensures put { OnOk result (made.new.items
+            ≡ made.old.items ++ zones_told self.now port view.now (Some packet.entry)) }
+        ensures few { OnOk result (length made.new.items ≤ length made.old.items + 64) }
+        ensures good { OnOk result (AreMade (length self.now.ports) made.old.items
+            → AreMade (length self.now.ports) made.new.items) }
+        ensures refused { IsOkUnless result Error.Memory }
+    {
+        if let Some(zone) = packet.asked() {
+            return self.tell(made, port, view, &zone);
+        }
+        match packet {
+            Packet::Query(networks) => self.answer(made, port, view, networks),
+            _ => Ok(()),
+        }
+    }
+}
