@@ -1,2 +1,4 @@
 pub mod Transcript
 pub mod Pending
+pub mod Logs
+pub mod Outcomes

@@ -3,7 +3,7 @@
 use Rattle.std.specs.Prelude.{ℕ, List, [], ◌∷◌}
 use Rattle.audit.specs.Example.{hardware}
 use Rattle.cable_model.specs.declared.entry.How.TheVariants as how
-use Rattle.cable_model.specs.declared.entry.Kind.TheVariants.{Ddp}
+use Rattle.station.specs.declared.heard.Kind.TheVariants.{Ddp}
 use Rattle.cable_model.specs.Transcript.{Entry, Sent, Put, Took, Reached}
 
 -- the data of the request after its first byte: "ping"
