@@ -1,11 +1,11 @@
 -- Transcripts as they are kept: entries name bytes by number. This project's own.
-use Rattle.std.specs.Prelude.{◌≡◌, ℕ, List, [], ◌∷◌, ◌++◌, map, slice_get}
+use Rattle.std.specs.Prelude.{◌≡◌, ℕ, List, [], ◌++◌, map, slice_get}
 use Rattle.std.specs.Prelude.{Option, Some, None}
 use Rattle.ddp.specs.Bodies.{body}
 use Rattle.cable_model.specs.declared.entry.Entry.{Entry as Line}
 use Rattle.cable_model.specs.declared.entry.Entry.TheVariants as line
 use Rattle.cable_model.specs.declared.seat.Seat.{Seat}
-use Rattle.cable_model.specs.Transcript.{Entry, Frame, Sent, Put, Took, Reached, Dropped, Lost}
+use Rattle.cable_model.specs.Transcript.{Entry, Sent, Put, Took, Reached, Dropped, Lost}
 
 -- What cables are: the seats on them, how many entries there may be at most, the entries, and the bytes that these name.
 pub record Cabling : Type 0 where

@@ -3,8 +3,13 @@
 
 mod entry;
 mod laws;
+mod resolve;
 mod seat;
+mod waiting;
 
-pub use entry::{Cause, How, Kind};
+pub use entry::{Entry, How};
 pub use laws::taking_ends_one_pair;
+pub use resolve::{Found, Resolve};
 pub use seat::Seat;
+pub use station::{Cause, Kind};
+pub use waiting::Waiting;
