@@ -1,4 +1,5 @@
-pub mod Transcript
-pub mod Pending
+pub mod Books
 pub mod Logs
 pub mod Outcomes
+pub mod Pending
+pub mod Transcript

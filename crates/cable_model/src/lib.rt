@@ -1,8 +1,12 @@
 //! Cables and what happens on them: who hears a frame, and which frames are still to be taken.
 #![tactic(auto)]
 
+mod due;
+
 mod entry;
+mod hearing;
 mod laws;
+mod log;
 mod resolve;
 mod seat;
 mod waiting;

@@ -1,0 +1,29 @@
+//! Who hears a frame.
+
+ghost use Rattle.std.specs.Prelude.{◌≡◌};
+ghost use Rattle.at_base.specs.Text.{same_bytes};
+ghost use Rattle.cable_model.specs.Outcomes.{link_of as link_in};
+
+use at_base::Hw;
+use station::Link;
+
+/// Whether two hardware addresses are the same.
+pub fn same_hw(a: &Hw, b: &Hw) -> bool
+    ensures { result ≡ same_bytes a.now.0 b.now.0 }
+{
+    a == b
+}
+
+/// To whom a frame is addressed, for who hears it.
+pub fn link_of(to: &Hw) -> Link
+    ensures { result ≡ link_in to.now }
+{
+    let [a, b, c, d, e, last] = to.0;
+    if same_hw(to, &Hw::ALL) {
+        Link::All
+    } else if a == 9 && b == 0 && c == 7 && d == 0 && e == 0 && last < 253 {
+        Link::Group(last)
+    } else {
+        Link::Own
+    }
+}
