@@ -1,3 +1,5 @@
 pub mod Books
 pub mod Counting
+pub mod Ended
 pub mod Pairs
+pub mod PutOn

@@ -1,5 +1,5 @@
 -- How cables keep what happened, and what is still to be taken. This project's own.
-use Rattle.std.specs.Prelude.{◌≡◌, ℕ, ◌+◌, ◌≤◌, ◌<◌, ◌^◌, Bool, ◌&&◌, ◌==◌, List, [], ◌∷◌, ◌++◌, map, length, slice_get}
+use Rattle.std.specs.Prelude.{◌≡◌, ℕ, ◌+◌, ◌≤◌, ◌<◌, ◌^◌, Bool, ◌&&◌, ◌==◌, List, [], ◌∷◌, ◌++◌, map, length, slice_get, cond}
 use Rattle.std.specs.Prelude.{Option, Some, None, vec_len, vec_capacity}
 use Rattle.std.specs.List.{AllByRecursion as Each}
 use Rattle.cable_model.specs.declared.due.Due.{Due}
@@ -10,7 +10,7 @@ use Rattle.cable_model.specs.declared.seat.Seat.{Seat}
 use Rattle.cable_model.specs.Logs.{entry_at}
 use Rattle.cable_model.specs.Outcomes.{Held, held_at}
 use Rattle.cable_model.specs.Pending.{Pair, pending}
-use Rattle.cable_model.specs.Transcript.{AreNumbered, Entry, Frame, Sent, Put, Took, Reached, Dropped, Lost, stamps}
+use Rattle.cable_model.specs.Transcript.{AreNumbered, Entry, Frame, Sent, Put, Took, Reached, Dropped, Lost, count, stamps}
 use Rattle.station.specs.declared.heard.Kind.TheVariants.{Ddp}
 
 -- the transcript
@@ -45,9 +45,19 @@ pub record IsDue (seats : List Seat) (entries : List Entry) (d : Due) : Type 0 w
   pub put : slice_get entries d.put ≡ Some (Put frame)
   pub stamp : frame.stamp ≡ d.stamp
 
--- it is that of this stamp and station
+-- a station has one seat at most on a cable
+abbrev pub HasOneSeat : List Seat → Type 0
+HasOneSeat seats = (cable station : ℕ) → count (λ s. s.cable == cable && s.station == station) seats ≤ 1
+
+-- the pair is that of this stamp and station
 abbrev pub is_of : List Seat → ℕ → ℕ → Due → Bool
-is_of seats stamp station d = d.stamp == stamp && (seat_at seats d.seat).station == station
+is_of seats stamp station d = stamp == d.stamp && station == (seat_at seats d.seat).station
+
+-- the seats from an index on that pass, each with the frame of this stamp and entry
+abbrev pub dues : (Seat → Bool) → ℕ → ℕ → ℕ → List Seat → List Due
+dues test stamp put k [] = []
+dues test stamp put k (s ∷ ss) =
+    cond (test s) (record { stamp = stamp; put = put; seat = k } ∷ dues test stamp put (k + 1) ss) (dues test stamp put (k + 1) ss)
 
 -- the bytes that an entry names are kept
 abbrev pub Names : ℕ → Line → Type 0
@@ -111,3 +121,19 @@ pub record Uses (old new : Log) (l k d spare : ℕ) : Type 0 where
   pub waiting_room : vec_capacity new.waiting ≡ vec_capacity old.waiting
   pub due_room : vec_capacity new.due ≡ vec_capacity old.due
   pub named : vec_len new.kept + vec_len old.lines ≤ vec_len old.kept + vec_len new.lines + spare
+
+-- What cables keep, where a station has one seat at most on a cable.
+pub record IsKept (seats : List Seat) (limit : ℕ) (log : Log) : Type 0 where
+  pub book : IsBook seats log
+  pub few : vec_len log.lines ≤ limit
+  pub named : vec_len log.kept ≤ vec_len log.lines
+  pub frames : log.puts ≤ vec_len log.lines
+  pub one_seat : HasOneSeat seats
+
+-- The same is said, though there may be more room.
+pub record IsSame (old new : Log) : Type 0 where
+  pub lines : new.lines.items ≡ old.lines.items
+  pub kept : new.kept.items ≡ old.kept.items
+  pub waiting : new.waiting.items ≡ old.waiting.items
+  pub due : new.due.items ≡ old.due.items
+  pub puts : new.puts ≡ old.puts

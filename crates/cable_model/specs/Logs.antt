@@ -5,14 +5,17 @@ use Rattle.ddp.specs.Bodies.{body}
 use Rattle.cable_model.specs.declared.entry.Entry.{Entry as Line}
 use Rattle.cable_model.specs.declared.entry.Entry.TheVariants as line
 use Rattle.cable_model.specs.declared.seat.Seat.{Seat}
+use Rattle.cable_model.specs.declared.waiting.Waiting.{Waiting}
 use Rattle.cable_model.specs.Transcript.{Entry, Sent, Put, Took, Reached, Dropped, Lost}
 
--- What cables are: the seats on them, how many entries there may be at most, the entries, and the bytes that these name.
+-- What cables are: the seats on them, how many entries there may be at most, the entries, the bytes that these name, and
+-- the datagrams of the last taking or sending that wait for an address.
 pub record Cabling : Type 0 where
   pub seats : List Seat
   pub limit : ℕ
   pub lines : List Line
   pub kept : List (List ℕ)
+  pub waiting : List Waiting
 
 -- the bytes of a number, and none for a number that no entry has
 abbrev pub bytes_at : List (List ℕ) → ℕ → List ℕ

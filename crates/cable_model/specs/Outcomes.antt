@@ -1,8 +1,9 @@
 -- What becomes of a station's outputs on the cables. This project's own.
 use Rattle.std.specs.Prelude.{◌≡◌, ◌⊎◌, ℕ, ◌+◌, ◌<◌, ◌≤◌, Bool, ◌&&◌, ◌==◌, cond, List, [], ◌∷◌, ◌++◌, find, map, slice_index}
-use Rattle.std.specs.Prelude.{Option, Some, None, Contains, if◌then◌else◌}
+use Rattle.std.specs.Prelude.{Option, Some, None, Contains, if◌then◌else◌, not}
 use Rattle.std.specs.List.{list_any}
 use Rattle.at_base.specs.Address.{same_address}
+use Rattle.at_base.specs.Text.{same_bytes}
 use Rattle.at_base.specs.declared.address.Addr.{Addr}
 use Rattle.at_base.specs.declared.address.Hw.{Hw}
 use Rattle.ddp.specs.Bodies.{body, target}
@@ -21,7 +22,7 @@ use Rattle.cable_model.specs.declared.resolve.Found.TheVariants.{At, Nobody, Lat
 use Rattle.cable_model.specs.declared.seat.Seat.{Seat}
 use Rattle.cable_model.specs.declared.waiting.Waiting.{Waiting}
 use Rattle.cable_model.specs.Logs.{Adds, Cabling, bytes_at, transcript}
-use Rattle.cable_model.specs.Pending.{Pair, is_all, is_group, pending}
+use Rattle.cable_model.specs.Pending.{Pair, is_all, is_group, listens, pending}
 use Rattle.cable_model.specs.Transcript.{Entry, Sent, Put, Took, Reached, Dropped, stamps}
 
 -- Where stations are: what is known of the station that has an address on a cable, and whether a network is some cable's.
@@ -132,6 +133,12 @@ held_at kept w = record { port = w.port; next = w.next; bytes = bytes_at kept w.
 abbrev pub link_of : Hw → Link
 link_of to = if is_all to then link.All else if is_group to then link.Group (slice_index to.0 5) else link.Own
 
+-- a frame with such a link is for the station of a seat
+abbrev pub is_for_as : Link → Hw → ℕ → Seat → Bool
+is_for_as link.All to sender s = not (s.station == sender)
+is_for_as (link.Group g) to sender s = not (s.station == sender) && listens g s.group
+is_for_as link.Own to sender s = same_bytes s.hw.0 to.0
+
 -- what the station of a pair hears
 abbrev pub heard_by : Pair → Hearing
 heard_by p = record { port = p.seat.port; link = link_of p.frame.to; kind = p.frame.kind; bytes = p.frame.bytes }
@@ -143,8 +150,7 @@ pub record AreSeatsOf (seats : List Seat) (station ports : ℕ) : Type 0 where
 
 -- A station took a frame that was pending for it, put out what follows, and is another then. Of its outputs those wait that
 -- are for a station of which nothing is known yet.
-pub record IsTaken (places : Places) (old new : Cabling) (stamp station : ℕ) (Hears : Hearing → List Output → Type 0)
-      (waiting : List Waiting) : Type 0 where
+pub record IsTaken (places : Places) (old new : Cabling) (stamp station : ℕ) (Hears : Hearing → List Output → Type 0) : Type 0 where
   pub pair : Pair
   pub was_pending : Contains (pending old.seats (transcript old)) pair
   pub of_stamp : pair.frame.stamp ≡ stamp
@@ -153,7 +159,7 @@ pub record IsTaken (places : Places) (old new : Cabling) (stamp station : ℕ) (
   pub heard : Hears (heard_by pair) added
   pub entries :
       Adds old new (Took stamp station ∷ all_entries places old.seats station (stamps (transcript old)) added)
-  pub waits : map (held_at new.kept) waiting ≡ all_held places old.seats station added
+  pub waits : map (held_at new.kept) new.waiting ≡ all_held places old.seats station added
 
 -- The port of a station that is on a cable: that of its seat there.
 abbrev pub port_on : List Seat → ℕ → ℕ → ℕ
@@ -179,7 +185,7 @@ has_cable seats cable = list_any (λ s. s.cable == cable) seats
 
 -- the pair is that of this stamp and station
 abbrev pub is_named : ℕ → ℕ → Pair → Bool
-is_named stamp station p = p.frame.stamp == stamp && p.seat.station == station
+is_named stamp station p = stamp == p.frame.stamp && station == p.seat.station
 
 -- The pair of a stamp and a station is pending, and none is before it by stamp, then by station.
 pub record IsLeast (pairs : List Pair) (stamp station : ℕ) : Type 0 where

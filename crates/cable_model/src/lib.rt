@@ -3,11 +3,14 @@
 
 mod due;
 
+mod ending;
 mod entry;
 mod hearing;
 mod laws;
 mod log;
+mod putting;
 mod resolve;
+mod room;
 mod seat;
 mod waiting;
 
