@@ -1,6 +1,6 @@
 -- What is kept still agrees with itself after each step.
-use Rattle.std.proofs.Common.{◌≡◌, ℕ, zero, suc, ◌+◌, ◌<◌, ◌≤◌, Bool, true, false, not, cond, ◌||◌, ◌&&◌, ◌==◌, List, [], ◌∷◌, ◌++◌, Option, Some}
-use Rattle.std.proofs.Common.{None, length, refl, sym, ap, ◌∙◌, subst, arith, map, filter, append-nil, length-append}
+use Rattle.std.proofs.Common.{◌≡◌, ℕ, zero, suc, ◌+◌, ◌<◌, ◌≤◌, Bool, true, false, not, cond, ◌||◌, ◌&&◌, List, [], ◌∷◌, ◌++◌, Some}
+use Rattle.std.proofs.Common.{length, refl, sym, ap, ◌∙◌, subst, arith, map, filter, append-nil, length-append}
 use Rattle.std.proofs.Common.{slice_get}
 use Rattle.std.specs.List.{AllByRecursion as Each}
 use Rattle.std.proofs.lemmas.List.{map-append}
@@ -11,7 +11,7 @@ use Rattle.cable_model.specs.Books.{EndsBelow, Grows, IsBook, IsDue, IsQuiet, Na
 use Rattle.cable_model.specs.Logs.{bytes_at, entry_at}
 use Rattle.cable_model.specs.Outcomes.{Held, held_at}
 use Rattle.cable_model.specs.Pending.{Pair, ends, pairs, pairs_of, pending, was_ended}
-use Rattle.cable_model.specs.Transcript.{AreNumbered, Entry, Frame, Sent, Put, Took, Reached, Dropped, Lost, is_put, one, stamps}
+use Rattle.cable_model.specs.Transcript.{AreNumbered, Entry, Sent, Put, Reached, Dropped, is_put, one, stamps}
 use Rattle.cable_model.specs.declared.due.Due.{Due}
 use Rattle.cable_model.specs.declared.entry.Entry.{Entry as Line}
 use Rattle.cable_model.specs.declared.entry.Entry.TheVariants as line

@@ -1,15 +1,14 @@
 -- What is kept after a frame was taken or lost.
-use Rattle.std.proofs.Common.{◌≡◌, ℕ, ◌+◌, ◌<◌, ◌≤◌, Bool, true, false, not, cond, ◌&&◌, ◌==◌, List, [], ◌∷◌, ◌++◌, Some, length, refl, sym, ap}
+use Rattle.std.proofs.Common.{◌≡◌, ◌≤◌, Bool, true, false, not, cond, List, [], ◌∷◌, ◌++◌, length, refl, sym, ap}
 use Rattle.std.proofs.Common.{◌∙◌, subst, arith, map, filter, append-nil, slice_get}
 use Rattle.std.specs.List.{AllByRecursion as Each}
 use Rattle.cable_model.proofs.Books.{book_after, due_more, extends, pairs_same, pending_step}
-use Rattle.cable_model.specs.Books.{EndsBelow, IsBook, IsDue, Names, frame_of, is_of, pair_at, said, seat_at}
+use Rattle.cable_model.specs.Books.{EndsBelow, IsBook, IsDue, Names, frame_of, pair_at, said}
 use Rattle.cable_model.specs.Logs.{entry_at}
-use Rattle.cable_model.specs.Pending.{Pair, ends, pairs_of, pending}
-use Rattle.cable_model.specs.Transcript.{AreNumbered, Entry, Put, Took, Lost, is_put, one}
+use Rattle.cable_model.specs.Pending.{ends, pairs_of, pending}
+use Rattle.cable_model.specs.Transcript.{AreNumbered, Entry, is_put, one}
 use Rattle.cable_model.specs.declared.due.Due.{Due}
 use Rattle.cable_model.specs.declared.entry.Entry.{Entry as Line}
-use Rattle.cable_model.specs.declared.entry.Entry.TheVariants as line
 use Rattle.cable_model.specs.declared.log.Log.{Log}
 use Rattle.cable_model.specs.declared.seat.Seat.{Seat}
 
@@ -22,7 +21,7 @@ each_filter P t (x ∷ xs) h = one_more P x (t x) (filter t xs) h.0 (each_filter
     one_more P x false l h g = g
 
 module _ (seats : List Seat) (t : List Entry) (test : Due → Bool) (e : Entry)
-      (agree : (d : Due) → IsDue seats t d → test d ≡ ends (pair_at seats t d) e) where
+    (agree : (d : Due) → IsDue seats t d → test d ≡ ends (pair_at seats t d) e) where
   left : (ds : List Due) → Each (IsDue seats t) ds
       → map (pair_at seats t) (filter (λ d. not (test d)) ds) ≡ filter (λ q. not (ends q e)) (map (pair_at seats t) ds)
   left [] h = refl

@@ -1,20 +1,19 @@
 -- The pairs that a frame makes, as they are kept.
-use Rattle.std.proofs.Common.{◌≡◌, ℕ, zero, suc, ◌+◌, ◌<◌, ◌≤◌, Bool, true, false, not, cond, ◌&&◌, ◌==◌, List, [], ◌∷◌, ◌++◌, Some}
-use Rattle.std.proofs.Common.{length, refl, sym, ap, ◌∙◌, subst, arith, map, filter, append-nil, append_assoc, slice_get, drop, slice_index_or, drop-cons}
+use Rattle.std.proofs.Common.{◌≡◌, ℕ, suc, ◌+◌, ◌<◌, ◌≤◌, Bool, true, false, not, cond, ◌&&◌, ◌==◌, List, [], ◌∷◌, ◌++◌, Some}
+use Rattle.std.proofs.Common.{length, refl, sym, ap, ◌∙◌, subst, arith, map, filter, append-nil, slice_get, drop, slice_index_or, drop-cons}
 use Rattle.std.proofs.Common.{if◌then◌else◌, slice_index}
 use Rattle.std.specs.List.{AllByRecursion as Each}
 use Rattle.std.proofs.lemmas.List.{map-append, length-map}
 use Rattle.std.proofs.lemmas.Option.{slice_get_within}
 use Rattle.at_base.specs.declared.address.Hw.{Hw}
 use Rattle.at_base.specs.Text.{same_bytes}
-use Rattle.cable_model.proofs.Books.{Extends, book_after, due_more, extends, filter_all, get_last, pairs_same, pending_step}
+use Rattle.cable_model.proofs.Books.{book_after, due_more, extends, filter_all, get_last, pairs_same, pending_step}
 use Rattle.cable_model.proofs.Counting.{each-append, each_all, each_map}
-use Rattle.cable_model.specs.Books.{IsBook, IsDue, Names, dues, frame_of, pair_at, said, seat_at}
+use Rattle.cable_model.specs.Books.{IsBook, IsDue, dues, pair_at, said}
 use Rattle.cable_model.specs.Logs.{bytes_at, entry_at}
 use Rattle.cable_model.specs.Outcomes.{is_for_as, link_of}
-use Rattle.cable_model.specs.Pending.{Pair, ends, is_all, is_for, is_group, is_heard, listens, pairs_of, pending}
+use Rattle.cable_model.specs.Pending.{ends, is_all, is_for, is_group, is_heard, listens, pairs_of, pending}
 use Rattle.cable_model.specs.Transcript.{Entry, Frame, Put}
-use Rattle.cable_model.specs.declared.due.Due.{Due}
 use Rattle.cable_model.specs.declared.entry.Entry.TheVariants as line
 use Rattle.cable_model.specs.declared.log.Log.{Log}
 use Rattle.cable_model.specs.declared.seat.Seat.{Seat}

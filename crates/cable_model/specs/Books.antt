@@ -10,7 +10,7 @@ use Rattle.cable_model.specs.declared.seat.Seat.{Seat}
 use Rattle.cable_model.specs.Logs.{entry_at}
 use Rattle.cable_model.specs.Outcomes.{Held, held_at}
 use Rattle.cable_model.specs.Pending.{Pair, pending}
-use Rattle.cable_model.specs.Transcript.{AreNumbered, Entry, Frame, Sent, Put, Took, Reached, Dropped, Lost, count, stamps}
+use Rattle.cable_model.specs.Transcript.{AreNumbered, Entry, Frame, Put, Took, Lost, count, stamps}
 use Rattle.station.specs.declared.heard.Kind.TheVariants.{Ddp}
 
 -- the transcript
@@ -109,8 +109,8 @@ pub record HasRoom (log : Log) (l k d : ℕ) : Type 0 where
   pub byte_numbers : vec_len log.kept + k < 2 ^ 32
   pub stamps : log.puts + l < 2 ^ 32
 
--- At most so much of the room was used. Of the bytes that were added, at most so many are in no entry of their own.
-pub record Uses (old new : Log) (l k d spare : ℕ) : Type 0 where
+-- at most so much of the room was used
+pub record Uses (old new : Log) (l k d : ℕ) : Type 0 where
   pub lines : vec_len new.lines ≤ vec_len old.lines + l
   pub kept : vec_len new.kept ≤ vec_len old.kept + k
   pub waiting : vec_len new.waiting ≤ vec_len old.waiting + k
@@ -120,7 +120,7 @@ pub record Uses (old new : Log) (l k d spare : ℕ) : Type 0 where
   pub kept_room : vec_capacity new.kept ≡ vec_capacity old.kept
   pub waiting_room : vec_capacity new.waiting ≡ vec_capacity old.waiting
   pub due_room : vec_capacity new.due ≡ vec_capacity old.due
-  pub named : vec_len new.kept + vec_len old.lines ≤ vec_len old.kept + vec_len new.lines + spare
+  pub grown : vec_len old.lines ≤ vec_len new.lines
 
 -- What cables keep, where a station has one seat at most on a cable.
 pub record IsKept (seats : List Seat) (limit : ℕ) (log : Log) : Type 0 where

@@ -187,6 +187,10 @@ has_cable seats cable = list_any (λ s. s.cable == cable) seats
 abbrev pub is_named : ℕ → ℕ → Pair → Bool
 is_named stamp station p = stamp == p.frame.stamp && station == p.seat.station
 
+-- the pair is of the frame of this stamp
+abbrev pub has_stamp : ℕ → Pair → Bool
+has_stamp stamp p = stamp == p.frame.stamp
+
 -- The pair of a stamp and a station is pending, and none is before it by stamp, then by station.
 pub record IsLeast (pairs : List Pair) (stamp station : ℕ) : Type 0 where
   pub there : (p : Pair) × Contains pairs p × (p.frame.stamp ≡ stamp) × (p.seat.station ≡ station)

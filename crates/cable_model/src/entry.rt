@@ -23,7 +23,10 @@ pub enum How {
 #[derive(Clone, Copy, Debug, PartialEq, Eq)]
 pub enum Entry {
     /// A station made a datagram.
-    Sent { station: u16, bytes: u32 },
+    Sent {
+        station: u16,
+        bytes: u32,
+    },
     /// A frame was put on a cable. Stamps count frames from 0.
     Put {
         stamp: u32,
@@ -34,7 +37,10 @@ pub enum Entry {
         bytes: u32,
     },
     /// A station took a frame.
-    Took { stamp: u32, station: u16 },
+    Took {
+        stamp: u32,
+        station: u16,
+    },
     /// A datagram reached a cable, where this station put or kept it.
     Reached {
         cable: u8,
@@ -49,5 +55,7 @@ pub enum Entry {
         bytes: u32,
     },
     /// A frame was lost to all who hadn't taken it.
-    Lost { stamp: u32 },
+    Lost {
+        stamp: u32,
+    },
 }

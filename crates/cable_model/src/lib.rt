@@ -1,8 +1,8 @@
 //! Cables and what happens on them: who hears a frame, and which frames are still to be taken.
 #![tactic(auto)]
 
+mod cables;
 mod due;
-
 mod ending;
 mod entry;
 mod hearing;
@@ -12,8 +12,10 @@ mod putting;
 mod resolve;
 mod room;
 mod seat;
+mod seating;
 mod waiting;
 
+pub use cables::{Cables, MAX_FRAME};
 pub use entry::{Entry, How};
 pub use laws::taking_ends_one_pair;
 pub use resolve::{Found, Resolve};

@@ -1,8 +1,8 @@
 //! What happened on cables, as it is kept in memory.
 
-ghost use Rattle.std.specs.Prelude.{◌≡◌, ◌<◌, [], ◌∷◌, List, length};
+ghost use Rattle.std.specs.Prelude.{◌≡◌, ◌<◌, [], ◌∷◌, List, ℕ, ◌+◌, length, vec_len};
 ghost use Rattle.cable_model.specs.declared.seat.Seat.{Seat as SeatValue};
-ghost use Rattle.cable_model.specs.Books.{Grows, HasRoom, IsBook, IsQuiet, Names, Uses};
+ghost use Rattle.cable_model.specs.Books.{Grows, HasOneSeat, HasRoom, IsBook, IsKept, IsQuiet, Names, Uses};
 ghost use Rattle.cable_model.specs.Logs.{bytes_at, entry_at};
 ghost use Rattle.cable_model.specs.Outcomes.{held_at};
 
@@ -10,6 +10,7 @@ use crate::due::Due;
 use crate::entry::Entry;
 use crate::waiting::Waiting;
 use at_base::Bytes;
+use std::alloc::Global;
 
 /// What happened, which bytes it names, who is still to take what, and which datagrams wait.
 #[derive(Drop)]
@@ -26,6 +27,21 @@ pub struct Log {
     pub waiting: Vec<Waiting>,
 }
 
+/// A log in which nothing has happened.
+pub fn empty(alloc: Global) -> Log
+    ensures empty { (result.lines.items ≡ []) × (result.kept.items ≡ []) × (result.waiting.items ≡ []) }
+    ensures kept { (seats : List SeatValue) (limit : ℕ) → HasOneSeat seats
+        → IsKept seats limit result }
+{
+    Log {
+        lines: Vec::new(alloc),
+        kept: Vec::new(alloc),
+        due: Vec::new(alloc),
+        puts: 0,
+        waiting: Vec::new(alloc),
+    }
+}
+
 /// Keeps bytes, and gives their number.
 pub fn keep(log: &mut Log, bytes: Bytes) -> u32
     requires room { HasRoom log.old 0 1 0 }
@@ -33,7 +49,11 @@ pub fn keep(log: &mut Log, bytes: Bytes) -> u32
     ensures book { (seats : List SeatValue) → IsBook seats log.old → IsBook seats log.new }
     ensures within { result < length log.new.kept.items }
     ensures bytes { bytes_at log.new.kept.items result ≡ bytes }
-    ensures uses { Uses log.old log.new 0 1 0 1 }
+    ensures puts { log.new.puts ≡ log.old.puts }
+    ensures waiting { log.new.waiting ≡ log.old.waiting }
+    ensures lines { log.new.lines ≡ log.old.lines }
+    ensures one { vec_len log.new.kept ≡ vec_len log.old.kept + 1 }
+    ensures uses { Uses log.old log.new 0 1 0 }
 {
     let number = log.kept.len() as u32;
     log.kept.push_reserved(bytes);
@@ -49,7 +69,9 @@ pub fn note(log: &mut Log, line: Entry)
     ensures book { (seats : List SeatValue) → IsBook seats log.old → IsBook seats log.new }
     ensures kept { log.new.kept ≡ log.old.kept }
     ensures puts { log.new.puts ≡ log.old.puts }
-    ensures uses { Uses log.old log.new 1 0 0 0 }
+    ensures waiting { log.new.waiting ≡ log.old.waiting }
+    ensures one { vec_len log.new.lines ≡ vec_len log.old.lines + 1 }
+    ensures uses { Uses log.old log.new 1 0 0 }
 {
     log.lines.push_reserved(line);
 }
@@ -63,7 +85,7 @@ pub fn hold(log: &mut Log, waiting: Waiting)
     ensures kept { log.new.kept ≡ log.old.kept }
     ensures puts { log.new.puts ≡ log.old.puts }
     ensures lines { log.new.lines ≡ log.old.lines }
-    ensures uses { Uses log.old log.new 0 1 0 0 }
+    ensures uses { Uses log.old log.new 0 1 0 }
 {
     log.waiting.push_reserved(waiting);
 }

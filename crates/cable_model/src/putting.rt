@@ -26,7 +26,8 @@ pub fn put(log: &mut Log, seats: &[Seat], cable: u8, sender: u16, to: Hw, kind: 
     ensures kept { log.new.kept ≡ log.old.kept }
     ensures waiting { log.new.waiting ≡ log.old.waiting }
     ensures puts { log.new.puts ≡ log.old.puts + 1 }
-    ensures uses { Uses log.old log.new 1 0 (length seats.now) 0 }
+    ensures one { vec_len log.new.lines ≡ vec_len log.old.lines + 1 }
+    ensures uses { Uses log.old log.new 1 0 (length seats.now) }
 {
     let stamp = log.puts;
     let put = log.lines.len() as u32;

@@ -1,6 +1,5 @@
 use Rattle.std.proofs.Common.{◌≡◌, ◌++◌, length, rules, [], ◌∷◌, refl, sym, ap, ◌∙◌, append-nil}
-use Rattle.cable_model.proofs.Books.{Extends, book_same, bytes_last, extends}
-use Rattle.cable_model.specs.Books.{IsBook}
+use Rattle.cable_model.proofs.Books.{book_same, bytes_last, extends}
 use Rattle.cable_model.specs.Logs.{bytes_at}
 use Rattle.cable_model.proofs.log.keep.Goals as goal
 
