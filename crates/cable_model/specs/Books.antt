@@ -99,21 +99,21 @@ pub record Grows (old new : Log) (entries : List Entry) (more : List Held) : Typ
   pub lines : (further : List Line) × (new.lines.items ≡ old.lines.items ++ further)
   pub kept : (further : List (List ℕ)) × (new.kept.items ≡ old.kept.items ++ further)
 
--- room for so many entries, so many bytes and waiting datagrams, and so many pairs
-pub record HasRoom (log : Log) (l k d : ℕ) : Type 0 where
+-- room for so many entries, so many bytes, so many datagrams that wait, and so many pairs
+pub record HasRoom (log : Log) (l k w d : ℕ) : Type 0 where
   pub lines : vec_len log.lines + l ≤ vec_capacity log.lines
   pub kept : vec_len log.kept + k ≤ vec_capacity log.kept
-  pub waiting : vec_len log.waiting + k ≤ vec_capacity log.waiting
+  pub waiting : vec_len log.waiting + w ≤ vec_capacity log.waiting
   pub due : vec_len log.due + d ≤ vec_capacity log.due
   pub line_numbers : vec_len log.lines + l < 2 ^ 32
   pub byte_numbers : vec_len log.kept + k < 2 ^ 32
   pub stamps : log.puts + l < 2 ^ 32
 
 -- at most so much of the room was used
-pub record Uses (old new : Log) (l k d : ℕ) : Type 0 where
+pub record Uses (old new : Log) (l k w d : ℕ) : Type 0 where
   pub lines : vec_len new.lines ≤ vec_len old.lines + l
   pub kept : vec_len new.kept ≤ vec_len old.kept + k
-  pub waiting : vec_len new.waiting ≤ vec_len old.waiting + k
+  pub waiting : vec_len new.waiting ≤ vec_len old.waiting + w
   pub due : vec_len new.due ≤ vec_len old.due + d
   pub puts : new.puts ≤ old.puts + l
   pub lines_room : vec_capacity new.lines ≡ vec_capacity old.lines

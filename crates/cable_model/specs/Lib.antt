@@ -3,3 +3,4 @@ pub mod Logs
 pub mod Outcomes
 pub mod Pending
 pub mod Transcript
+pub mod Ways

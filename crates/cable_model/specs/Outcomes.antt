@@ -112,13 +112,19 @@ held_by Later port a bytes = record { port = port; next = a; bytes = bytes } ∷
 held_by (At hw) port a bytes = []
 held_by Nobody port a bytes = []
 
+-- the datagram waits, if its next address is such a one
+abbrev pub held_next : Places → ℕ → ℕ → Next → List ℕ → List Held
+held_next places cable port (next.Station a) bytes = held_by (places.finds cable a) port a bytes
+held_next places cable port next.All bytes = []
+held_next places cable port (next.Group g) bytes = []
+
 -- the datagrams of an output that wait
 abbrev pub held_of : Places → List Seat → ℕ → Output → List Held
-held_of places seats station (output.Made port (next.Station a) bytes) =
-    held_by (places.finds (cable_of seats station port) a) port a bytes
-held_of places seats station (output.Passed port (next.Station a) bytes) =
-    held_by (places.finds (cable_of seats station port) a) port a bytes
-held_of places seats station _ = []
+held_of places seats station (output.Made port to bytes) = held_next places (cable_of seats station port) port to bytes
+held_of places seats station (output.Passed port to bytes) = held_next places (cable_of seats station port) port to bytes
+held_of places seats station (output.Kept port bytes) = []
+held_of places seats station (output.Dropped cause bytes) = []
+held_of places seats station (output.Wire port to bytes) = []
 
 -- those of outputs, in their order
 abbrev pub all_held : Places → List Seat → ℕ → List Output → List Held

@@ -76,7 +76,7 @@ pub fn is_stamped(log: &Log, stamp: u32) -> bool
 
 /// A station takes a frame, so that its pair isn't pending any more.
 pub fn took(log: &mut Log, seats: &[Seat], stamp: u32, station: u16)
-    requires room { HasRoom log.old 1 0 0 }
+    requires room { HasRoom log.old 1 0 0 0 }
     requires book { IsBook seats.now log.old }
     requires earlier { stamp < log.old.puts }
     ensures grows { Grows log.old log.new (Took stamp station ∷ []) [] }
@@ -85,7 +85,7 @@ pub fn took(log: &mut Log, seats: &[Seat], stamp: u32, station: u16)
     ensures waiting { log.new.waiting ≡ log.old.waiting }
     ensures puts { log.new.puts ≡ log.old.puts }
     ensures one { vec_len log.new.lines ≡ vec_len log.old.lines + 1 }
-    ensures uses { Uses log.old log.new 1 0 0 }
+    ensures uses { Uses log.old log.new 1 0 0 0 }
 {
     log.lines.push_reserved(Entry::Took { stamp, station });
     log.due.retain(|due| !is_due(due, seats, stamp, station));
@@ -93,7 +93,7 @@ pub fn took(log: &mut Log, seats: &[Seat], stamp: u32, station: u16)
 
 /// A frame is lost, so that none of its pairs is pending any more.
 pub fn lost(log: &mut Log, seats: &[Seat], stamp: u32)
-    requires room { HasRoom log.old 1 0 0 }
+    requires room { HasRoom log.old 1 0 0 0 }
     requires book { IsBook seats.now log.old }
     requires earlier { stamp < log.old.puts }
     ensures grows { Grows log.old log.new (Lost stamp ∷ []) [] }

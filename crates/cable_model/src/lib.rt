@@ -5,8 +5,10 @@ mod cables;
 mod due;
 mod ending;
 mod entry;
+mod exit;
 mod hearing;
 mod laws;
+mod leaving;
 mod log;
 mod putting;
 mod resolve;
@@ -14,6 +16,7 @@ mod room;
 mod seat;
 mod seating;
 mod waiting;
+mod way;
 
 pub use cables::{Cables, MAX_FRAME};
 pub use entry::{Entry, How};

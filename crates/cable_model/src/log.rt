@@ -44,7 +44,7 @@ pub fn empty(alloc: Global) -> Log
 
 /// Keeps bytes, and gives their number.
 pub fn keep(log: &mut Log, bytes: Bytes) -> u32
-    requires room { HasRoom log.old 0 1 0 }
+    requires room { HasRoom log.old 0 1 0 0 }
     ensures grows { (seats : List SeatValue) → IsBook seats log.old → Grows log.old log.new [] [] }
     ensures book { (seats : List SeatValue) → IsBook seats log.old → IsBook seats log.new }
     ensures within { result < length log.new.kept.items }
@@ -53,7 +53,7 @@ pub fn keep(log: &mut Log, bytes: Bytes) -> u32
     ensures waiting { log.new.waiting ≡ log.old.waiting }
     ensures lines { log.new.lines ≡ log.old.lines }
     ensures one { vec_len log.new.kept ≡ vec_len log.old.kept + 1 }
-    ensures uses { Uses log.old log.new 0 1 0 }
+    ensures uses { Uses log.old log.new 0 1 0 0 }
 {
     let number = log.kept.len() as u32;
     log.kept.push_reserved(bytes);
@@ -62,7 +62,7 @@ pub fn keep(log: &mut Log, bytes: Bytes) -> u32
 
 /// Adds an entry that neither puts a frame nor ends one.
 pub fn note(log: &mut Log, line: Entry)
-    requires room { HasRoom log.old 1 0 0 }
+    requires room { HasRoom log.old 1 0 0 0 }
     requires names { Names (length log.old.kept.items) line }
     requires quiet { IsQuiet line }
     ensures grows { Grows log.old log.new (entry_at log.old.kept.items line ∷ []) [] }
@@ -71,21 +71,21 @@ pub fn note(log: &mut Log, line: Entry)
     ensures puts { log.new.puts ≡ log.old.puts }
     ensures waiting { log.new.waiting ≡ log.old.waiting }
     ensures one { vec_len log.new.lines ≡ vec_len log.old.lines + 1 }
-    ensures uses { Uses log.old log.new 1 0 0 }
+    ensures uses { Uses log.old log.new 1 0 0 0 }
 {
     log.lines.push_reserved(line);
 }
 
 /// Adds a datagram that waits.
 pub fn hold(log: &mut Log, waiting: Waiting)
-    requires room { HasRoom log.old 0 1 0 }
+    requires room { HasRoom log.old 0 0 1 0 }
     requires names { waiting.bytes < length log.old.kept.items }
     ensures grows { Grows log.old log.new [] (held_at log.old.kept.items waiting ∷ []) }
     ensures book { (seats : List SeatValue) → IsBook seats log.old → IsBook seats log.new }
     ensures kept { log.new.kept ≡ log.old.kept }
     ensures puts { log.new.puts ≡ log.old.puts }
     ensures lines { log.new.lines ≡ log.old.lines }
-    ensures uses { Uses log.old log.new 0 1 0 }
+    ensures uses { Uses log.old log.new 0 0 1 0 }
 {
     log.waiting.push_reserved(waiting);
 }

@@ -16,7 +16,7 @@ use station::Kind;
 
 /// Puts a frame on its cable, for all who hear it there.
 pub fn put(log: &mut Log, seats: &[Seat], cable: u8, sender: u16, to: Hw, kind: Kind, bytes: u32)
-    requires room { HasRoom log.old 1 0 (length seats.now) }
+    requires room { HasRoom log.old 1 0 0 (length seats.now) }
     requires book { IsBook seats.now log.old }
     requires names { bytes < length log.old.kept.items }
     ensures grows { Grows log.old log.new
@@ -27,7 +27,7 @@ pub fn put(log: &mut Log, seats: &[Seat], cable: u8, sender: u16, to: Hw, kind: 
     ensures waiting { log.new.waiting ≡ log.old.waiting }
     ensures puts { log.new.puts ≡ log.old.puts + 1 }
     ensures one { vec_len log.new.lines ≡ vec_len log.old.lines + 1 }
-    ensures uses { Uses log.old log.new 1 0 (length seats.now) }
+    ensures uses { Uses log.old log.new 1 0 0 (length seats.now) }
 {
     let stamp = log.puts;
     let put = log.lines.len() as u32;

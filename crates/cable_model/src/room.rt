@@ -19,7 +19,7 @@ pub fn make_room(
     requires kept { (seats : List SeatValue) × IsKept seats limit log.old }
     requires fewer { kept ≤ lines }
     requires few { lines ≤ 771 }
-    ensures room { OnOk result (HasRoom log.new lines kept due) }
+    ensures room { OnOk result (HasRoom log.new lines kept kept due) }
     ensures full { (result ≡ Err Error.Full) ↔ (limit < length log.old.lines.items + lines) }
     ensures refused { IfErr result (λ e. (e ≡ Error.Full) ⊎ (e ≡ Error.Memory)) }
     ensures within { OnOk result (vec_len log.new.lines + lines ≤ limit) }
