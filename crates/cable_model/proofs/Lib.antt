@@ -2,6 +2,8 @@ pub mod Books
 pub mod Counting
 pub mod Ended
 pub mod Finds
+pub mod Legs
+pub mod Outs
 pub mod Pairs
 pub mod PutOn
 pub mod Steps

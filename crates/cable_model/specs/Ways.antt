@@ -1,10 +1,11 @@
 -- How a datagram goes onto a cable, once it is known where stations are. This project's own.
-use Rattle.std.specs.Prelude.{ℕ, ◌+◌, cond, List, [], ◌∷◌}
+use Rattle.std.specs.Prelude.{Bool, true, false, ℕ, ◌+◌, cond, List, [], ◌∷◌}
 use Rattle.at_base.specs.Address.{same_address}
 use Rattle.cable_model.specs.Outcomes.{Held, Places, Sender, all_hw, framed, group_hw, held_by, to_other, to_target}
 use Rattle.cable_model.specs.Transcript.{Entry, Reached}
 use Rattle.cable_model.specs.declared.entry.How.TheVariants as how
 use Rattle.cable_model.specs.declared.exit.Exit.{Exit}
+use Rattle.cable_model.specs.declared.resolve.Found.TheVariants.{At, Nobody, Later}
 use Rattle.cable_model.specs.declared.way.Way.{Way}
 use Rattle.cable_model.specs.declared.way.Way.TheVariants as way
 use Rattle.ddp.specs.Bodies.{body, target}
@@ -63,3 +64,12 @@ spare_for (output.Wire port to bytes) = 0
 abbrev pub all_spare : List Output → ℕ
 all_spare [] = 0
 all_spare (o ∷ os) = spare_for o + all_spare os
+
+-- a datagram of this way is in no entry, and doesn't wait
+abbrev pub is_nowhere_way : Way → Bool
+is_nowhere_way (way.Other a Nobody) = true
+is_nowhere_way (way.Other a Later) = false
+is_nowhere_way (way.Other a (At hw)) = false
+is_nowhere_way (way.Target a found) = false
+is_nowhere_way (way.All listed) = false
+is_nowhere_way (way.Group g) = false

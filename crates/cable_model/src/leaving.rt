@@ -121,9 +121,25 @@ fn to_all(log: &mut Log, seats: &[Seat], exit: Exit, listed: bool, bytes: u32)
 {
     if listed {
         reached(log, exit, How::All, bytes);
-        put(log, seats, exit.cable, exit.station, Hw::ALL, Kind::Ddp, bytes);
+        put(
+            log,
+            seats,
+            exit.cable,
+            exit.station,
+            Hw::ALL,
+            Kind::Ddp,
+            bytes,
+        );
     } else {
-        put(log, seats, exit.cable, exit.station, Hw::ALL, Kind::Ddp, bytes);
+        put(
+            log,
+            seats,
+            exit.cable,
+            exit.station,
+            Hw::ALL,
+            Kind::Ddp,
+            bytes,
+        );
     }
 }
 

@@ -10,11 +10,13 @@ mod hearing;
 mod laws;
 mod leaving;
 mod log;
+mod outcome;
 mod putting;
 mod resolve;
 mod room;
 mod seat;
 mod seating;
+mod taking;
 mod waiting;
 mod way;
 

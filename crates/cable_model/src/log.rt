@@ -1,6 +1,6 @@
 //! What happened on cables, as it is kept in memory.
 
-ghost use Rattle.std.specs.Prelude.{◌≡◌, ◌<◌, [], ◌∷◌, List, ℕ, ◌+◌, length, vec_len};
+ghost use Rattle.std.specs.Prelude.{◌≡◌, ◌<◌, [], ◌∷◌, List, ℕ, ◌+◌, length, vec_capacity, vec_len};
 ghost use Rattle.cable_model.specs.declared.seat.Seat.{Seat as SeatValue};
 ghost use Rattle.cable_model.specs.Books.{Grows, HasOneSeat, HasRoom, IsBook, IsKept, IsQuiet, Names, Uses};
 ghost use Rattle.cable_model.specs.Logs.{bytes_at, entry_at};
@@ -88,4 +88,18 @@ pub fn hold(log: &mut Log, waiting: Waiting)
     ensures uses { Uses log.old log.new 0 0 1 0 }
 {
     log.waiting.push_reserved(waiting);
+}
+
+/// Forgets which datagrams wait.
+pub fn forget_waiting(log: &mut Log)
+    ensures book { (seats : List SeatValue) → IsBook seats log.old → IsBook seats log.new }
+    ensures none { log.new.waiting.items ≡ [] }
+    ensures empty { vec_len log.new.waiting ≡ 0 }
+    ensures room { vec_capacity log.new.waiting ≡ vec_capacity log.old.waiting }
+    ensures lines { log.new.lines ≡ log.old.lines }
+    ensures kept { log.new.kept ≡ log.old.kept }
+    ensures due { log.new.due ≡ log.old.due }
+    ensures puts { log.new.puts ≡ log.old.puts }
+{
+    log.waiting.clear();
 }
