@@ -1,8 +1,7 @@
 -- Legs, by the way that a datagram goes; and what outputs need.
-use Rattle.std.proofs.Common.{◌≡◌, ℕ, ◌+◌, ◌*◌, ◌≤◌, Bool, true, false, not, cond, List, [], ◌∷◌, length, refl, arith, sym, ap, ◌∙◌, subst}
+use Rattle.std.proofs.Common.{◌≡◌, ℕ, ◌+◌, ◌*◌, Bool, true, false, not, cond, List, [], ◌∷◌, length, refl, arith, sym, ap, ◌∙◌, subst}
 use Rattle.at_base.specs.Address.{same_address}
-use Rattle.at_base.specs.declared.address.Addr.{Addr}
-use Rattle.cable_model.specs.Outcomes.{Held, Places, Sender, held_by, held_next, leg, to_other, to_target}
+use Rattle.cable_model.specs.Outcomes.{Places, Sender, held_by, held_next, leg, to_other, to_target}
 use Rattle.cable_model.specs.Ways.{all_lines, all_spare, is_nowhere_way, sender_at, way_entries, way_held, way_of}
 use Rattle.cable_model.proofs.Steps.{same_grows}
 use Rattle.cable_model.specs.Books.{Grows}

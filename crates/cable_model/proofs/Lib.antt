@@ -7,3 +7,4 @@ pub mod Outs
 pub mod Pairs
 pub mod PutOn
 pub mod Steps
+pub mod Takes

@@ -1,12 +1,11 @@
 -- What becomes of outputs, one after another.
-use Rattle.std.proofs.Common.{◌≡◌, ℕ, ◌+◌, ◌*◌, ◌≤◌, suc, List, [], ◌∷◌, ◌++◌, length, refl, arith, sym, ap, ◌∙◌, subst, append-nil, append_assoc}
-use Rattle.std.proofs.Common.{vec_len, vec_capacity, map}
+use Rattle.std.proofs.Common.{◌≡◌, ℕ, ◌+◌, ◌*◌, ◌≤◌, suc, List, [], ◌∷◌, ◌++◌, refl, arith, sym, ap, ◌∙◌, subst, append-nil, append_assoc}
 use Rattle.std.proofs.Math.Nat.{add-mul}
 use Rattle.cable_model.proofs.Counting.{count-append}
 use Rattle.cable_model.proofs.Steps.{grows_then, same_grows}
 use Rattle.cable_model.specs.Books.{Grows, HasRoom, IsBook, Uses, said}
 use Rattle.cable_model.specs.Outcomes.{Held, Places, all_entries, all_held, entries_of, held_of}
-use Rattle.cable_model.specs.Transcript.{Entry, count, is_put, one, stamps}
+use Rattle.cable_model.specs.Transcript.{Entry, is_put, stamps}
 use Rattle.cable_model.specs.declared.log.Log.{Log}
 use Rattle.cable_model.specs.declared.seat.Seat.{Seat}
 use Rattle.station.specs.declared.output.Output.{Output}

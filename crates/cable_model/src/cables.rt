@@ -1,26 +1,38 @@
 //! Cables: what is put on them, who takes it, and what happened.
 
 ghost use Rattle.std.specs.Prelude.{◌≡◌, ◌⊎◌, ◌↔◌, ◌<◌, ◌≤◌, ◌+◌, [], ◌∷◌};
-ghost use Rattle.std.specs.Prelude.{true, false, length};
+ghost use Rattle.std.specs.Prelude.{true, false, length, map};
 ghost use Rattle.std.specs.Prelude.{IfErr, IfNone, IfOk, IfSome, IsOkUnless, OnErr, OnOk};
 ghost use Rattle.std.specs.List.{list_any};
 ghost use Rattle.at_base.specs.declared.error.What.TheVariants.{Cable, Station};
 ghost use Rattle.cable_model.specs.Books.{HasOneSeat};
 ghost use Rattle.cable_model.specs.Logs.{Adds, bytes_at, transcript as said};
-ghost use Rattle.cable_model.specs.Outcomes.{framed, has_cable, has_stamp, is_named, is_seated};
+ghost use Rattle.cable_model.specs.Outcomes.{AreSeatsOf, IsTaken, Places, framed, has_cable, has_stamp};
+ghost use Rattle.cable_model.specs.Outcomes.{held_at, held_next, is_named, is_seated, port_on};
+ghost use Rattle.cable_model.specs.Outcomes.{sent_entries};
 ghost use Rattle.cable_model.specs.Pending.{pending as pending_on};
 ghost use Rattle.cable_model.specs.Transcript.{AreNumbered, Lost, stamps};
+ghost use Rattle.ddp.specs.InPlace.{IsDatagram};
+ghost use Rattle.station.specs.Lawful.{IsNext};
 
 use crate::entry::Entry;
 use crate::log::{self, Log};
-use crate::room::make_room;
+use crate::resolve::Resolve;
+use crate::room::{make_room, pairs_of};
 use crate::seat::Seat;
 use crate::waiting::Waiting;
-use crate::{ending, putting, seating};
+use crate::{ending, outcome, putting, seating, taking};
 use at_base::{Bytes, Error, Hw};
-use station::Kind;
+use station::{Kind, Next, Outputs, Station as Taker};
 use std::alloc::Global;
 use std::marker::Model;
+
+/// The most entries that one taking of a frame adds: that it was taken; three for each of 256
+/// outputs that the station makes; and two for the datagram that it passes on. This project's own.
+pub const TAKE_ROOM: usize = 771;
+
+/// The most entries that one sending adds. This project's own.
+pub const SEND_ROOM: usize = 3;
 
 /// The most bytes of a frame. Inside AppleTalk, the chapter on DDP.
 pub const MAX_FRAME: usize = 599;
@@ -31,6 +43,7 @@ pub struct Cables {
     seats: Vec<Seat>,
     limit: u32,
     log: Log,
+    alloc: Global,
 }
 
 impl Model for Cables {
@@ -65,6 +78,7 @@ impl Cables {
             seats,
             limit,
             log: log::empty(alloc),
+            alloc,
         })
     }
 
@@ -81,10 +95,7 @@ impl Cables {
     pub fn bytes(&self, number: u32) -> &[u8]
         ensures { result.now ≡ bytes_at self.now.kept number }
     {
-        match self.log.kept.get(number as usize) {
-            None => &[],
-            Some(bytes) => bytes.as_slice(),
-        }
+        taking::bytes_of(&self.log.kept, number)
     }
 
     /// Whether the frame of the stamp is pending for the station. Allocates nothing.
@@ -157,6 +168,102 @@ impl Cables {
         Ok(stamp)
     }
 
+    /// A station on a cable sends a datagram there. It waits where nothing is known yet of its next
+    /// station. That the bytes are a datagram, and a group below 253, is the caller's condition.
+    ///
+    /// Errors, in this order: `NoSuch(Cable)`, `NoSuch(Station)`, `Full` below 3 entries of room,
+    /// `Memory`. A refusal changes nothing.
+    pub fn send<R: Resolve>(
+        &mut self,
+        station: u16,
+        cable: u8,
+        next: Next,
+        bytes: Bytes,
+        resolver: &R,
+    ) -> Result<(), Error>
+        requires datagram { IsDatagram bytes }
+        requires next { IsNext next }
+        ensures ok { let places : Places = record { finds = R.finds resolver.now; lists = R.lists resolver.now } in
+            OnOk result (Adds self.old self.new (sent_entries places self.old cable station next bytes)) }
+        ensures waits { let places : Places = record { finds = R.finds resolver.now; lists = R.lists resolver.now } in
+            OnOk result (map (held_at self.new.kept) self.new.waiting
+            ≡ held_next places cable (port_on self.old.seats cable station) next bytes) }
+        ensures no_cable { (result ≡ Err (Error.NoSuch Cable))
+            ↔ (has_cable self.old.seats cable ≡ false) }
+        ensures no_station { (result ≡ Err (Error.NoSuch Station))
+            ↔ ((has_cable self.old.seats cable ≡ true)
+            × (is_seated self.old.seats cable station ≡ false)) }
+        ensures full { (result ≡ Err Error.Full)
+            ↔ ((is_seated self.old.seats cable station ≡ true)
+            × (self.old.limit < length self.old.lines + 3)) }
+        ensures refused { IfErr result (λ e. (e ≡ Error.NoSuch Cable) ⊎ (e ≡ Error.NoSuch Station)
+            ⊎ (e ≡ Error.Full) ⊎ (e ≡ Error.Memory)) }
+        ensures kept { OnErr result (self.new ≡ self.old) }
+    {
+        match seating::check(&self.seats, cable, station) {
+            Ok(()) => {}
+            Err(stop) => return Err(stop),
+        }
+        match make_room(&mut self.log, self.limit, SEND_ROOM, 1, self.seats.len()) {
+            Ok(()) => {}
+            Err(stop) => return Err(stop),
+        }
+        log::forget_waiting(&mut self.log);
+        let exit = seating::exit_on(&self.seats, cable, station);
+        outcome::sent(&mut self.log, &self.seats, resolver, exit, next, bytes);
+        Ok(())
+    }
+
+    /// A station takes a frame that is pending for it, and what it puts out goes onto its cables.
+    /// That the station's ports are those of its seats is the caller's condition.
+    ///
+    /// Errors, in this order: `NotPending`; `Full` below 771 entries of room; `Memory`. A refusal
+    /// changes neither the cables nor the station: the frame is still pending.
+    pub fn take<S: Taker, R: Resolve>(
+        &mut self,
+        stamp: u32,
+        station: u16,
+        taker: &mut S,
+        resolver: &R,
+    ) -> Result<(), Error>
+        requires { AreSeatsOf self.old.seats station (S.ports_of taker.old) }
+        ensures ok { let places : Places = record { finds = R.finds resolver.now; lists = R.lists resolver.now } in
+            OnOk result (IsTaken places self.old self.new stamp station
+            (λ h added. S.hears taker.old h added taker.new)) }
+        ensures ports_stay { S.ports_of taker.new ≡ S.ports_of taker.old }
+        ensures not_pending { (result ≡ Err Error.NotPending)
+            ↔ (list_any (is_named stamp station) (pending_on self.old.seats (said self.old)) ≡ false) }
+        ensures full { (result ≡ Err Error.Full)
+            ↔ ((list_any (is_named stamp station) (pending_on self.old.seats (said self.old)) ≡ true)
+            × (self.old.limit < length self.old.lines + 771)) }
+        ensures refused { IfErr result (λ e. (e ≡ Error.NotPending) ⊎ (e ≡ Error.Full)
+            ⊎ (e ≡ Error.Memory)) }
+        ensures kept { OnErr result (self.new ≡ self.old) }
+        ensures taker_stays { OnErr result (taker.new ≡ taker.old) }
+    {
+        let Some(due) = ending::find_pair(&self.log, &self.seats, stamp, station) else {
+            return Err(Error::NotPending);
+        };
+        let pairs = pairs_of(self.seats.len());
+        match make_room(&mut self.log, self.limit, TAKE_ROOM, 257, pairs) {
+            Ok(()) => {}
+            Err(stop) => return Err(stop),
+        }
+        let mut outputs = match outputs_for(self.alloc) {
+            Ok(outputs) => outputs,
+            Err(stop) => return Err(stop),
+        };
+        let heard = taking::heard_of(&self.log, &self.seats, due);
+        match taker.receive(&heard, &mut outputs) {
+            Ok(()) => {}
+            Err(stop) => return Err(stop),
+        }
+        log::forget_waiting(&mut self.log);
+        ending::took(&mut self.log, &self.seats, stamp, station);
+        outcome::add_all(&mut self.log, &self.seats, resolver, station, &mut outputs);
+        Ok(())
+    }
+
     /// A frame is lost to all who haven't taken it.
     ///
     /// Errors, in this order: `NotPending` where nobody is to take it; `Full`; `Memory`. A refusal
@@ -183,4 +290,14 @@ impl Cables {
         ending::lost(&mut self.log, &self.seats, stamp);
         Ok(())
     }
+}
+
+/// No outputs, with room for all that a station puts out.
+fn outputs_for(alloc: Global) -> Result<Outputs, Error>
+    ensures ok { IfOk result (λ outputs. outputs.items ≡ []) }
+    ensures refused { IsOkUnless result Error.Memory }
+{
+    let mut outputs = Outputs::new(alloc)?;
+    outputs.room(257)?;
+    Ok(outputs)
 }

@@ -20,7 +20,7 @@ mod taking;
 mod waiting;
 mod way;
 
-pub use cables::{Cables, MAX_FRAME};
+pub use cables::{Cables, MAX_FRAME, SEND_ROOM, TAKE_ROOM};
 pub use entry::{Entry, How};
 pub use laws::taking_ends_one_pair;
 pub use resolve::{Found, Resolve};

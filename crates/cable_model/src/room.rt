@@ -1,6 +1,6 @@
 //! Room that is made before anything changes.
 
-ghost use Rattle.std.specs.Prelude.{◌≡◌, ◌≤◌, ◌<◌, ◌+◌, ◌↔◌, ◌⊎◌, List, length, vec_len, IfErr, OnOk};
+ghost use Rattle.std.specs.Prelude.{◌≡◌, ◌≤◌, ◌<◌, ◌+◌, ◌*◌, ◌^◌, ◌↔◌, ◌⊎◌, List, length, vec_len, IfErr, OnOk};
 ghost use Rattle.cable_model.specs.declared.seat.Seat.{Seat as SeatValue};
 ghost use Rattle.cable_model.specs.Books.{HasRoom, IsKept, IsSame};
 
@@ -35,4 +35,14 @@ pub fn make_room(
     log.waiting.reserve(kept)?;
     log.due.reserve(due)?;
     Ok(())
+}
+
+/// The most pairs that one taking of a frame makes, or a size for which there is never room.
+pub fn pairs_of(seats: usize) -> usize
+    ensures { result < 2 ^ 63 → result ≡ seats * 257 }
+{
+    match seats.checked_mul(257) {
+        None => usize::MAX,
+        Some(pairs) => pairs,
+    }
 }

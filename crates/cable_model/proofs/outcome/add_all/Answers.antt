@@ -1,4 +1,4 @@
-use Rattle.std.proofs.Common.{◌≡◌, ◌+◌, ◌*◌, ◌∙◌, refl, ap, arith, length}
+use Rattle.std.proofs.Common.{◌+◌, ◌*◌, ◌∙◌, ap, arith, length}
 use Rattle.cable_model.proofs.Outs.{first_so_far, next_so_far, product, room_for, room_left}
 use Rattle.cable_model.specs.Outcomes.{Places}
 use Rattle.cable_model.specs.Ways.{all_lines, all_spare, lines_for}
