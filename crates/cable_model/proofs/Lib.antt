@@ -2,6 +2,7 @@ pub mod Books
 pub mod Counting
 pub mod Ended
 pub mod Finds
+pub mod Firsts
 pub mod Legs
 pub mod Outs
 pub mod Pairs

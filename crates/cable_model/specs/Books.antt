@@ -1,5 +1,5 @@
 -- How cables keep what happened, and what is still to be taken. This project's own.
-use Rattle.std.specs.Prelude.{◌≡◌, ℕ, ◌+◌, ◌≤◌, ◌<◌, ◌^◌, Bool, ◌&&◌, ◌==◌, List, [], ◌∷◌, ◌++◌, map, length, slice_get, cond}
+use Rattle.std.specs.Prelude.{◌≡◌, ℕ, ◌+◌, ◌≤◌, ◌<◌, ◌^◌, Bool, ◌&&◌, ◌==◌, List, [], ◌∷◌, ◌++◌, map, length, slice_get, cond, nat_lt, ◌||◌}
 use Rattle.std.specs.Prelude.{Option, Some, None, vec_len, vec_capacity}
 use Rattle.std.specs.List.{AllByRecursion as Each}
 use Rattle.cable_model.specs.declared.due.Due.{Due}
@@ -137,3 +137,14 @@ pub record IsSame (old new : Log) : Type 0 where
   pub waiting : new.waiting.items ≡ old.waiting.items
   pub due : new.due.items ≡ old.due.items
   pub puts : new.puts ≡ old.puts
+
+-- a stamp and a station come before others
+abbrev pub is_before : ℕ → ℕ → ℕ → ℕ → Bool
+is_before stamp station other_stamp other = nat_lt stamp other_stamp || (stamp == other_stamp && nat_lt station other)
+
+-- the first of a stamp with a station and of those of pairs
+abbrev pub least : List Seat → ℕ → ℕ → List Due → ℕ × ℕ
+least seats stamp station [] = (stamp, station)
+least seats stamp station (d ∷ ds) =
+    cond (is_before d.stamp (seat_at seats d.seat).station stamp station) (least seats d.stamp (seat_at seats d.seat).station ds)
+    (least seats stamp station ds)

@@ -7,7 +7,7 @@ ghost use Rattle.std.specs.List.{list_any};
 ghost use Rattle.at_base.specs.declared.error.What.TheVariants.{Cable, Station};
 ghost use Rattle.cable_model.specs.Books.{HasOneSeat};
 ghost use Rattle.cable_model.specs.Logs.{Adds, bytes_at, transcript as said};
-ghost use Rattle.cable_model.specs.Outcomes.{AreSeatsOf, IsTaken, Places, framed, has_cable, has_stamp};
+ghost use Rattle.cable_model.specs.Outcomes.{AreSeatsOf, IsLeast, IsTaken, Places, framed, has_cable, has_stamp};
 ghost use Rattle.cable_model.specs.Outcomes.{held_at, held_next, is_named, is_seated, port_on};
 ghost use Rattle.cable_model.specs.Outcomes.{sent_entries};
 ghost use Rattle.cable_model.specs.Pending.{pending as pending_on};
@@ -21,7 +21,7 @@ use crate::resolve::Resolve;
 use crate::room::{make_room, pairs_of};
 use crate::seat::Seat;
 use crate::waiting::Waiting;
-use crate::{ending, outcome, putting, seating, taking};
+use crate::{earliest, ending, outcome, putting, seating, taking};
 use at_base::{Bytes, Error, Hw};
 use station::{Kind, Next, Outputs, Station as Taker};
 use std::alloc::Global;
@@ -104,6 +104,16 @@ impl Cables {
             (pending_on self.now.seats (said self.now)) }
     {
         ending::find_pair(&self.log, &self.seats, stamp, station).is_some()
+    }
+
+    /// The least stamp of which a frame is pending, and the least station that it is pending for.
+    /// Allocates nothing.
+    pub fn first(&self) -> Option<(u32, u16)>
+        ensures some { IfSome result (λ pair.
+            IsLeast (pending_on self.now.seats (said self.now)) pair.0 pair.1) }
+        ensures none { IfNone result (pending_on self.now.seats (said self.now) ≡ []) }
+    {
+        earliest::first_pair(&self.log, &self.seats)
     }
 
     /// The number of pairs of a frame and a station that are pending. Allocates nothing.

@@ -22,7 +22,7 @@ fn is_due(due: &Due, seats: &[Seat], stamp: u32, station: u16) -> bool
 }
 
 /// The station at an index.
-fn station_at(seats: &[Seat], index: usize) -> u16
+pub fn station_at(seats: &[Seat], index: usize) -> u16
     ensures { result ≡ (seat_at seats.now index).station }
 {
     match seats.get(index) {

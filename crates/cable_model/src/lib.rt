@@ -3,6 +3,7 @@
 
 mod cables;
 mod due;
+mod earliest;
 mod ending;
 mod entry;
 mod exit;
