@@ -1,2 +1,11 @@
+pub mod Books
 pub mod Counting
+pub mod Ended
+pub mod Finds
+pub mod Firsts
+pub mod Legs
+pub mod Outs
 pub mod Pairs
+pub mod PutOn
+pub mod Steps
+pub mod Takes

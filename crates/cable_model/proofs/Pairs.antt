@@ -5,6 +5,7 @@ use Rattle.std.proofs.Common.{◌∙◌, subst, arith, filter, eqb-true, eq-eqb,
 use Rattle.std.specs.List.{AllByRecursion as Each}
 use Rattle.std.proofs.lemmas.Bool.{and_parts, and_left, cases_Bool}
 use Rattle.cable_model.specs.declared.seat.Seat.{Seat}
+pub use Rattle.cable_model.specs.Books.{EndsBelow}
 use Rattle.cable_model.specs.Pending.{Pair, ends, is_for, is_heard, pairs, pairs_of, pending, was_ended}
 use Rattle.cable_model.specs.Transcript.{Entry, Frame, Sent, Put, Took, Reached, Dropped, Lost, AreNumbered, HasStamp, count, is_put}
 use Rattle.cable_model.specs.Transcript.{one, stamps}
@@ -25,12 +26,6 @@ abbrev pub EndsNone : Entry → Type 0
 EndsNone (Took stamp station) = ⊥
 EndsNone (Lost stamp) = ⊥
 EndsNone _ = Unit {0}
-
--- the entry ends pairs of earlier frames alone
-abbrev pub EndsBelow : ℕ → Entry → Type 0
-EndsBelow n (Took stamp station) = stamp < n
-EndsBelow n (Lost stamp) = stamp < n
-EndsBelow n _ = Unit {0}
 
 pub none_below : (n : ℕ) (e : Entry) → EndsNone e → EndsBelow n e
 none_below n (Put f) h = tt
@@ -60,7 +55,7 @@ none_ended : (es : List Entry) (p : Pair) → Each EndsNone es → was_ended es 
 none_ended [] p h = refl
 none_ended (e ∷ es) p h = ap (λ b. b || was_ended es p) (ends_none p e h.0) ∙ none_ended es p h.1
 
-not_ended_yet : (n : ℕ) (es : List Entry) (p : Pair) → Each (EndsBelow n) es → n ≤ p.frame.stamp → was_ended es p ≡ false
+pub not_ended_yet : (n : ℕ) (es : List Entry) (p : Pair) → Each (EndsBelow n) es → n ≤ p.frame.stamp → was_ended es p ≡ false
 not_ended_yet n [] p h le = refl
 not_ended_yet n (e ∷ es) p h le = ap (λ b. b || was_ended es p) (this_one e h.0) ∙ not_ended_yet n es p h.1 le
   where

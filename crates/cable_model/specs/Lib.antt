@@ -1,2 +1,6 @@
-pub mod Transcript
+pub mod Books
+pub mod Logs
+pub mod Outcomes
 pub mod Pending
+pub mod Transcript
+pub mod Ways

@@ -1,9 +1,9 @@
 -- What happened on the cables of an internet, in order. This project's own.
 use Rattle.std.specs.Prelude.{◌≡◌, ℕ, ◌+◌, Bool, true, false, List, [], ◌∷◌}
 use Rattle.at_base.specs.declared.address.Hw.{Hw}
-use Rattle.cable_model.specs.declared.entry.Cause.{Cause}
+use Rattle.station.specs.declared.output.Cause.{Cause}
 use Rattle.cable_model.specs.declared.entry.How.{How}
-use Rattle.cable_model.specs.declared.entry.Kind.{Kind}
+use Rattle.station.specs.declared.heard.Kind.{Kind}
 
 -- A frame on a cable: its stamp, which counts frames from 0; the cable; the station that put it there; the hardware address
 -- that it is for; what it holds, and its bytes.

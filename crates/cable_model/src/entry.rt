@@ -1,15 +1,7 @@
-//! What an entry of a transcript says.
+//! Entries of a transcript, which name bytes by their number.
 
-/// What a frame holds.
-///
-/// Inside AppleTalk, the chapters on DDP and AARP.
-#[derive(Clone, Copy, Debug, PartialEq, Eq)]
-pub enum Kind {
-    /// A datagram.
-    Ddp,
-    /// An AARP packet.
-    Aarp,
-}
+use at_base::Hw;
+use station::{Cause, Kind};
 
 /// How a datagram reached the cable of its target. This project's own.
 #[derive(Clone, Copy, Debug, PartialEq, Eq)]
@@ -22,15 +14,48 @@ pub enum How {
     Own,
     /// In no frame, since no station there has its address.
     Absent,
+    /// In no frame yet, since the hardware address of its station isn't known yet.
+    Held,
 }
 
-/// Why a router drops a datagram.
-///
-/// Inside AppleTalk, the chapters on DDP and RTMP.
+/// An entry of a transcript. Cables and stations are counted from 0; `bytes` is the number by which
+/// `Cables::bytes` gives the datagram or packet. This project's own.
 #[derive(Clone, Copy, Debug, PartialEq, Eq)]
-pub enum Cause {
-    /// It has no usable row for the target's network.
-    NoRoute,
-    /// The datagram was handed on 15 times.
-    HopLimit,
+pub enum Entry {
+    /// A station made a datagram.
+    Sent {
+        station: u16,
+        bytes: u32,
+    },
+    /// A frame was put on a cable. Stamps count frames from 0.
+    Put {
+        stamp: u32,
+        cable: u8,
+        sender: u16,
+        to: Hw,
+        kind: Kind,
+        bytes: u32,
+    },
+    /// A station took a frame.
+    Took {
+        stamp: u32,
+        station: u16,
+    },
+    /// A datagram reached a cable, where this station put or kept it.
+    Reached {
+        cable: u8,
+        station: u16,
+        how: How,
+        bytes: u32,
+    },
+    /// A router dropped a datagram.
+    Dropped {
+        router: u16,
+        cause: Cause,
+        bytes: u32,
+    },
+    /// A frame was lost to all who hadn't taken it.
+    Lost {
+        stamp: u32,
+    },
 }

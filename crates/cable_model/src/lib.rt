@@ -1,10 +1,30 @@
 //! Cables and what happens on them: who hears a frame, and which frames are still to be taken.
 #![tactic(auto)]
 
+mod cables;
+mod due;
+mod earliest;
+mod ending;
 mod entry;
+mod exit;
+mod hearing;
 mod laws;
+mod leaving;
+mod log;
+mod outcome;
+mod putting;
+mod resolve;
+mod room;
 mod seat;
+mod seating;
+mod taking;
+mod waiting;
+mod way;
 
-pub use entry::{Cause, How, Kind};
+pub use cables::{Cables, MAX_FRAME, SEND_ROOM, TAKE_ROOM};
+pub use entry::{Entry, How};
 pub use laws::taking_ends_one_pair;
+pub use resolve::{Found, Resolve};
 pub use seat::Seat;
+pub use station::{Cause, Kind};
+pub use waiting::Waiting;

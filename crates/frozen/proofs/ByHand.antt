@@ -7,7 +7,7 @@ use Rattle.ddp.specs.declared.header.Header.{Header}
 use Rattle.ddp.specs.Datagram.{datagram, unsummed}
 use Rattle.ddp.proofs.Written.{Fitting, unsummed_value}
 use Rattle.audit.specs.Example.{hardware}
-use Rattle.cable_model.specs.declared.entry.Kind.TheVariants.{Ddp}
+use Rattle.station.specs.declared.heard.Kind.TheVariants.{Ddp}
 use Rattle.cable_model.specs.Pending.{Pair}
 use Rattle.cable_model.specs.Transcript.{Frame}
 use Rattle.frozen.specs.Answers.{IsBody}

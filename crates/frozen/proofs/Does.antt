@@ -11,9 +11,9 @@ use Rattle.table_image.specs.Internet.{Internet}
 use Rattle.audit.specs.Routing.{distance, home}
 use Rattle.audit.specs.Rules.{Passes}
 use Rattle.audit.specs.Seats.{Seat as PlaceOf, seats}
-use Rattle.cable_model.specs.declared.entry.Cause.TheVariants.{HopLimit, NoRoute}
+use Rattle.station.specs.declared.output.Cause.TheVariants.{HopLimit, NoRoute}
 use Rattle.cable_model.specs.declared.entry.How.{How}
-use Rattle.cable_model.specs.declared.entry.Kind.TheVariants.{Ddp}
+use Rattle.station.specs.declared.heard.Kind.TheVariants.{Ddp}
 use Rattle.cable_model.specs.declared.seat.Seat.{Seat}
 use Rattle.cable_model.specs.Pending.{Pair, is_heard, pairs, pairs_of}
 use Rattle.cable_model.specs.Transcript.{Entry, Frame, Put, Reached, Dropped, AreNumbered, count, one}

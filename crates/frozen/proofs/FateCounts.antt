@@ -11,9 +11,9 @@ use Rattle.audit.specs.Routing.{hand, home}
 use Rattle.audit.specs.Rules.{Passes}
 use Rattle.audit.specs.Walks.{Stops, Goes as GoesBy}
 use Rattle.audit.proofs.WalkSteps.{nowhere, steps}
-use Rattle.cable_model.specs.declared.entry.Cause.TheVariants.{HopLimit}
-use Rattle.cable_model.specs.declared.entry.Kind.{Kind}
-use Rattle.cable_model.specs.declared.entry.Kind.TheVariants.{Ddp}
+use Rattle.station.specs.declared.output.Cause.TheVariants.{HopLimit}
+use Rattle.station.specs.declared.heard.Kind.{Kind}
+use Rattle.station.specs.declared.heard.Kind.TheVariants.{Ddp}
 use Rattle.cable_model.specs.Pending.{Pair, pairs}
 use Rattle.cable_model.specs.Transcript.{Dropped, count, one}
 use Rattle.frozen.specs.Answers.{ends_at, keeps_by}

@@ -8,7 +8,7 @@ use Rattle.ddp.specs.Bodies.{body, hops, target, with_hops}
 use Rattle.table_image.specs.Internet.{Internet}
 use Rattle.audit.specs.Routing.{hand}
 use Rattle.audit.specs.Rules.{Passes}
-use Rattle.cable_model.specs.declared.entry.Kind.TheVariants.{Ddp}
+use Rattle.station.specs.declared.heard.Kind.TheVariants.{Ddp}
 use Rattle.cable_model.specs.declared.seat.Seat.{Seat}
 use Rattle.cable_model.specs.Pending.{Pair, is_all, pairs, pairs_of}
 use Rattle.cable_model.specs.Transcript.{Entry, count, one, stamps}

@@ -16,7 +16,7 @@ use Rattle.audit.proofs.SeatUnique.{addressed, unique}
 use Rattle.audit.proofs.WalkFacts.{owner_is}
 use Rattle.audit.proofs.WalkLists.{at_one, find_at}
 use Rattle.cable_model.specs.declared.entry.How.TheVariants as how
-use Rattle.cable_model.specs.declared.entry.Kind.TheVariants.{Ddp}
+use Rattle.station.specs.declared.heard.Kind.TheVariants.{Ddp}
 use Rattle.cable_model.specs.Pending.{is_all, is_group}
 use Rattle.cable_model.proofs.Counting.{At}
 use Rattle.frozen.specs.Answers.{Goes, Straight, ByRouter, ToThem, OnCable, ToThese}

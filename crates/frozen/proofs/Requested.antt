@@ -12,9 +12,9 @@ use Rattle.audit.specs.Rules.{Passes}
 use Rattle.audit.specs.Seats.{Seat as PlaceOf, seat_at, seats}
 use Rattle.audit.proofs.SeatUnique.{addressed}
 use Rattle.audit.proofs.WalkFacts.{owner_is}
-use Rattle.cable_model.specs.declared.entry.Cause.TheVariants.{HopLimit}
+use Rattle.station.specs.declared.output.Cause.TheVariants.{HopLimit}
 use Rattle.cable_model.specs.declared.entry.How.TheVariants as how
-use Rattle.cable_model.specs.declared.entry.Kind.TheVariants.{Ddp}
+use Rattle.station.specs.declared.heard.Kind.TheVariants.{Ddp}
 use Rattle.cable_model.specs.declared.seat.Seat.{Seat}
 use Rattle.cable_model.specs.Pending.{Pair, is_all, is_group, is_heard, pairs, pairs_of}
 use Rattle.cable_model.specs.Transcript.{Entry, Frame, Sent, Put, Took, Reached, Dropped, Lost, count, one}

@@ -13,8 +13,8 @@ use Rattle.audit.specs.Rules.{Passes}
 use Rattle.audit.specs.Walks.{Stops, Goes as GoesBy}
 use Rattle.audit.proofs.SeatUnique.{addressed}
 use Rattle.audit.proofs.WalkSteps.{steps}
-use Rattle.cable_model.specs.declared.entry.Kind.{Kind}
-use Rattle.cable_model.specs.declared.entry.Kind.TheVariants.{Ddp}
+use Rattle.station.specs.declared.heard.Kind.{Kind}
+use Rattle.station.specs.declared.heard.Kind.TheVariants.{Ddp}
 use Rattle.cable_model.specs.Pending.{Pair, pairs}
 use Rattle.cable_model.specs.Transcript.{Entry, Sent, count, one, stamps}
 use Rattle.cable_model.proofs.Counting.{count-append}

@@ -2,9 +2,9 @@
 -- and the other ends that a datagram may come to. (Inside AppleTalk, the chapters on DDP and AEP)
 use Rattle.std.specs.Prelude.{ℕ, List, [], ◌∷◌}
 use Rattle.audit.specs.Example.{hardware}
-use Rattle.cable_model.specs.declared.entry.Cause.TheVariants.{NoRoute}
+use Rattle.station.specs.declared.output.Cause.TheVariants.{NoRoute}
 use Rattle.cable_model.specs.declared.entry.How.TheVariants as how
-use Rattle.cable_model.specs.declared.entry.Kind.TheVariants.{Ddp}
+use Rattle.station.specs.declared.heard.Kind.TheVariants.{Ddp}
 use Rattle.cable_model.specs.Transcript.{Dropped, Entry, Sent, Put, Took, Reached}
 use Rattle.frozen.specs.Legs.{all_hw}
 

@@ -1,8 +1,8 @@
 -- Transcripts that the tables of the three cables don't allow. This project's own.
 use Rattle.std.specs.Prelude.{ℕ, List, [], ◌∷◌}
-use Rattle.cable_model.specs.declared.entry.Cause.TheVariants.{HopLimit, NoRoute}
+use Rattle.station.specs.declared.output.Cause.TheVariants.{HopLimit, NoRoute}
 use Rattle.cable_model.specs.declared.entry.How.TheVariants as how
-use Rattle.cable_model.specs.declared.entry.Kind.TheVariants.{Ddp}
+use Rattle.station.specs.declared.heard.Kind.TheVariants.{Ddp}
 use Rattle.cable_model.specs.Transcript.{Dropped, Entry, Sent, Put, Took, Reached}
 use Rattle.frozen.specs.Example.{echo_request, framed, plain}
 use Rattle.frozen.specs.Legs.{all_hw}

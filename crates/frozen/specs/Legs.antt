@@ -8,11 +8,11 @@ use Rattle.ddp.specs.Bodies.{body, hops, target, with_hops}
 use Rattle.table_image.specs.Internet.{Internet}
 use Rattle.audit.specs.Routing.{Hand, Here, On, Nowhere, hand, home}
 use Rattle.audit.specs.Seats.{Seat, seat_at}
-use Rattle.cable_model.specs.declared.entry.Cause.TheVariants.{NoRoute, HopLimit}
+use Rattle.station.specs.declared.output.Cause.TheVariants.{NoRoute, HopLimit}
 use Rattle.cable_model.specs.declared.entry.How.{How}
 use Rattle.cable_model.specs.declared.entry.How.TheVariants as how
-use Rattle.cable_model.specs.declared.entry.Kind.{Kind}
-use Rattle.cable_model.specs.declared.entry.Kind.TheVariants.{Ddp}
+use Rattle.station.specs.declared.heard.Kind.{Kind}
+use Rattle.station.specs.declared.heard.Kind.TheVariants.{Ddp}
 use Rattle.cable_model.specs.Pending.{Pair, is_all, is_group}
 use Rattle.cable_model.specs.Transcript.{Entry, Put, Reached, Dropped}
 use Rattle.frozen.specs.Stations.{has_address, is_router}

@@ -2,7 +2,7 @@
 -- printer on the last replies. (Inside AppleTalk, the chapter on NBP)
 use Rattle.std.specs.Prelude.{ℕ, List, [], ◌∷◌, ◌++◌, codes}
 use Rattle.cable_model.specs.declared.entry.How.TheVariants as how
-use Rattle.cable_model.specs.declared.entry.Kind.TheVariants.{Ddp}
+use Rattle.station.specs.declared.heard.Kind.TheVariants.{Ddp}
 use Rattle.cable_model.specs.Transcript.{Entry, Sent, Put, Took, Reached}
 use Rattle.frozen.specs.Example.{framed}
 use Rattle.frozen.specs.Legs.{group_hw}

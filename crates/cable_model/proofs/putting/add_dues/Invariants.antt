@@ -1,0 +1,13 @@
+use Rattle.std.proofs.Common.{◌≡◌, ◌≤◌, ◌+◌, ◌++◌, ◌==◌, ◌&&◌, drop, vec_len, vec_capacity}
+use Rattle.cable_model.specs.Books.{dues}
+use Rattle.cable_model.specs.Outcomes.{is_for_as, link_of}
+use Rattle.cable_model.proofs.putting.add_dues.Given as goal
+
+abbrev pub invariant-loop-seat : goal.invariant-loop-seat
+invariant-loop-seat l = record {
+  added : l.due.items ++ dues (λ s. s.cable == l.cable && is_for_as (link_of l.to) l.to l.sender s) l.stamp l.put l.seat
+      (drop l.seat l.seats)
+      ≡ l.fn.due.items ++ dues (λ s. s.cable == l.cable && is_for_as (link_of l.to) l.to l.sender s) l.stamp l.put 0 l.seats;
+  few : vec_len l.due ≤ vec_len l.fn.due + l.seat;
+  capacity : vec_capacity l.due ≡ vec_capacity l.fn.due;
+}

@@ -1,0 +1,48 @@
+-- Transcripts as they are kept: entries name bytes by number. This project's own.
+use Rattle.std.specs.Prelude.{◌≡◌, ℕ, List, [], ◌++◌, map, slice_get}
+use Rattle.std.specs.Prelude.{Option, Some, None}
+use Rattle.ddp.specs.Bodies.{body}
+use Rattle.cable_model.specs.declared.entry.Entry.{Entry as Line}
+use Rattle.cable_model.specs.declared.entry.Entry.TheVariants as line
+use Rattle.cable_model.specs.declared.seat.Seat.{Seat}
+use Rattle.cable_model.specs.declared.waiting.Waiting.{Waiting}
+use Rattle.cable_model.specs.Transcript.{Entry, Sent, Put, Took, Reached, Dropped, Lost}
+
+-- What cables are: the seats on them, how many entries there may be at most, the entries, the bytes that these name, and
+-- the datagrams of the last taking or sending that wait for an address.
+pub record Cabling : Type 0 where
+  pub seats : List Seat
+  pub limit : ℕ
+  pub lines : List Line
+  pub kept : List (List ℕ)
+  pub waiting : List Waiting
+
+-- the bytes of a number, and none for a number that no entry has
+abbrev pub bytes_at : List (List ℕ) → ℕ → List ℕ
+bytes_at kept n = or_none (slice_get kept n)
+  where
+    or_none : Option (List ℕ) → List ℕ
+    or_none None = []
+    or_none (Some bytes) = bytes
+
+-- what an entry says: a datagram stands in it by its body, and in a frame with all its bytes
+abbrev pub entry_at : List (List ℕ) → Line → Entry
+entry_at kept (line.Sent station n) = Sent station (body (bytes_at kept n))
+entry_at kept (line.Put stamp cable sender to kind n) =
+    Put (record { stamp = stamp; cable = cable; sender = sender; to = to; kind = kind; bytes = bytes_at kept n })
+entry_at kept (line.Took stamp station) = Took stamp station
+entry_at kept (line.Reached cable station how n) = Reached cable station how (body (bytes_at kept n))
+entry_at kept (line.Dropped router cause n) = Dropped router cause (body (bytes_at kept n))
+entry_at kept (line.Lost stamp) = Lost stamp
+
+-- the transcript that cables have kept
+abbrev pub transcript : Cabling → List Entry
+transcript c = map (entry_at c.kept) c.lines
+
+-- Entries were added, and nothing else changed: the numbers of bytes that there were name the same bytes.
+pub record Adds (old new : Cabling) (entries : List Entry) : Type 0 where
+  pub seats : new.seats ≡ old.seats
+  pub limit : new.limit ≡ old.limit
+  pub added : transcript new ≡ transcript old ++ entries
+  pub further : (more : List Line) × (new.lines ≡ old.lines ++ more)
+  pub kept : (more : List (List ℕ)) × (new.kept ≡ old.kept ++ more)

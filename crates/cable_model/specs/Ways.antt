@@ -1,0 +1,75 @@
+-- How a datagram goes onto a cable, once it is known where stations are. This project's own.
+use Rattle.std.specs.Prelude.{Bool, true, false, ℕ, ◌+◌, cond, List, [], ◌∷◌}
+use Rattle.at_base.specs.Address.{same_address}
+use Rattle.cable_model.specs.Outcomes.{Held, Places, Sender, all_hw, framed, group_hw, held_by, to_other, to_target}
+use Rattle.cable_model.specs.Transcript.{Entry, Reached}
+use Rattle.cable_model.specs.declared.entry.How.TheVariants as how
+use Rattle.cable_model.specs.declared.exit.Exit.{Exit}
+use Rattle.cable_model.specs.declared.resolve.Found.TheVariants.{At, Nobody, Later}
+use Rattle.cable_model.specs.declared.way.Way.{Way}
+use Rattle.cable_model.specs.declared.way.Way.TheVariants as way
+use Rattle.ddp.specs.Bodies.{body, target}
+use Rattle.station.specs.declared.heard.Kind.TheVariants.{Ddp}
+use Rattle.station.specs.declared.output.Next.{Next}
+use Rattle.station.specs.declared.output.Next.TheVariants as next
+use Rattle.station.specs.declared.output.Output.{Output}
+use Rattle.station.specs.declared.output.Output.TheVariants as output
+
+-- the way of a datagram
+abbrev pub way_of : Places → ℕ → Next → List ℕ → Way
+way_of places cable (next.Station a) bytes =
+    cond (same_address (target bytes) a) (way.Target a (places.finds cable a)) (way.Other a (places.finds cable a))
+way_of places cable next.All bytes = way.All (places.lists (target bytes).net)
+way_of places cable (next.Group g) bytes = way.Group g
+
+-- the entries of a datagram that goes this way
+abbrev pub way_entries : Sender → List ℕ → Way → List Entry
+way_entries s bytes (way.Target a found) = to_target s bytes found
+way_entries s bytes (way.Other a found) = to_other s bytes found
+way_entries s bytes (way.All listed) =
+    cond listed (Reached s.cable s.station how.All (body bytes) ∷ framed s all_hw Ddp bytes ∷ []) (framed s all_hw Ddp bytes ∷ [])
+way_entries s bytes (way.Group g) = framed s (group_hw g) Ddp bytes ∷ []
+
+-- the datagram waits, if it goes to a station of which nothing is known yet
+abbrev pub way_held : ℕ → List ℕ → Way → List Held
+way_held port bytes (way.Target a found) = held_by found port a bytes
+way_held port bytes (way.Other a found) = held_by found port a bytes
+way_held port bytes (way.All listed) = []
+way_held port bytes (way.Group g) = []
+
+-- the station that puts the next frame there
+abbrev pub sender_at : Exit → ℕ → Sender
+sender_at exit stamp = record { stamp = stamp; cable = exit.cable; station = exit.station }
+
+-- the most entries of an output
+abbrev pub lines_for : Output → ℕ
+lines_for (output.Made port to bytes) = 3
+lines_for (output.Passed port to bytes) = 2
+lines_for (output.Kept port bytes) = 2
+lines_for (output.Dropped cause bytes) = 2
+lines_for (output.Wire port to bytes) = 3
+
+abbrev pub all_lines : List Output → ℕ
+all_lines [] = 0
+all_lines (o ∷ os) = lines_for o + all_lines os
+
+-- 1 for an output whose bytes may be kept with no entry of their own
+abbrev pub spare_for : Output → ℕ
+spare_for (output.Made port to bytes) = 0
+spare_for (output.Passed port to bytes) = 1
+spare_for (output.Kept port bytes) = 1
+spare_for (output.Dropped cause bytes) = 1
+spare_for (output.Wire port to bytes) = 0
+
+abbrev pub all_spare : List Output → ℕ
+all_spare [] = 0
+all_spare (o ∷ os) = spare_for o + all_spare os
+
+-- a datagram of this way is in no entry, and doesn't wait
+abbrev pub is_nowhere_way : Way → Bool
+is_nowhere_way (way.Other a Nobody) = true
+is_nowhere_way (way.Other a Later) = false
+is_nowhere_way (way.Other a (At hw)) = false
+is_nowhere_way (way.Target a found) = false
+is_nowhere_way (way.All listed) = false
+is_nowhere_way (way.Group g) = false

@@ -1,0 +1,108 @@
+//! Frames that are taken or lost.
+
+ghost use Rattle.std.specs.Prelude.{◌≡◌, ◌<◌, ◌+◌, [], ◌∷◌, ◌==◌, List, find, true, vec_len};
+ghost use Rattle.std.specs.Prelude.{Contains, IfSome, OnSome, is_some};
+ghost use Rattle.std.specs.List.{list_any};
+ghost use Rattle.cable_model.specs.Books.{Grows, HasRoom, IsBook, IsDue, Uses, is_of, pair_at, said, seat_at};
+ghost use Rattle.cable_model.specs.Outcomes.{has_stamp, is_named};
+ghost use Rattle.cable_model.specs.Pending.{pending};
+ghost use Rattle.cable_model.specs.declared.seat.Seat.{Seat as SeatValue};
+ghost use Rattle.cable_model.specs.Transcript.{Lost, Took};
+
+use crate::due::Due;
+use crate::entry::Entry;
+use crate::log::Log;
+use crate::seat::Seat;
+
+/// Whether the pair is that of a stamp and a station.
+fn is_due(due: &Due, seats: &[Seat], stamp: u32, station: u16) -> bool
+    ensures { result ≡ is_of seats.now stamp station due.now }
+{
+    stamp == due.stamp && station == station_at(seats, due.seat)
+}
+
+/// The station at an index.
+pub fn station_at(seats: &[Seat], index: usize) -> u16
+    ensures { result ≡ (seat_at seats.now index).station }
+{
+    match seats.get(index) {
+        None => 0,
+        Some(seat) => seat.station,
+    }
+}
+
+/// The pair of a stamp and a station, if it is pending.
+fn find_due(due: &[Due], seats: &[Seat], stamp: u32, station: u16) -> Option<Due>
+    ensures { result ≡ find (is_of seats.now stamp station) due.now }
+{
+    for d in due {
+        if is_due(d, seats, stamp, station) {
+            return Some(*d);
+        }
+    }
+    None
+}
+
+/// The pair of a stamp and a station in a log, if it is pending.
+pub fn find_pair(log: &Log, seats: &[Seat], stamp: u32, station: u16) -> Option<Due>
+    requires book { IsBook seats.now log.now }
+    ensures value { is_some result
+        ≡ list_any (is_named stamp station) (pending seats.now (said log.now)) }
+    ensures due { IfSome result (λ d. IsDue seats.now (said log.now) d) }
+    ensures pending { IfSome result
+        (λ d. Contains (pending seats.now (said log.now)) (pair_at seats.now (said log.now) d)) }
+    ensures of_it { IfSome result (λ d. is_of seats.now stamp station d ≡ true) }
+    ensures earlier { OnSome result (stamp < log.now.puts) }
+{
+    find_due(&log.due, seats, stamp, station)
+}
+
+/// Whether one of the pairs is of the frame of a stamp.
+fn has_due(due: &[Due], stamp: u32) -> bool
+    ensures { result ≡ list_any (λ d. stamp == d.stamp) due.now }
+{
+    due.iter().any(|d| stamp == d.stamp)
+}
+
+/// Whether the frame of a stamp is pending for anyone.
+pub fn is_stamped(log: &Log, stamp: u32) -> bool
+    ensures value { (seats : List SeatValue) → IsBook seats log.now
+        → result ≡ list_any (has_stamp stamp) (pending seats (said log.now)) }
+    ensures earlier { (seats : List SeatValue) → IsBook seats log.now → result ≡ true
+        → stamp < log.now.puts }
+{
+    has_due(&log.due, stamp)
+}
+
+/// A station takes a frame, so that its pair isn't pending any more.
+pub fn took(log: &mut Log, seats: &[Seat], stamp: u32, station: u16)
+    requires room { HasRoom log.old 1 0 0 0 }
+    requires book { IsBook seats.now log.old }
+    requires earlier { stamp < log.old.puts }
+    ensures grows { Grows log.old log.new (Took stamp station ∷ []) [] }
+    ensures book { IsBook seats.now log.new }
+    ensures kept { log.new.kept ≡ log.old.kept }
+    ensures waiting { log.new.waiting ≡ log.old.waiting }
+    ensures puts { log.new.puts ≡ log.old.puts }
+    ensures one { vec_len log.new.lines ≡ vec_len log.old.lines + 1 }
+    ensures uses { Uses log.old log.new 1 0 0 0 }
+{
+    log.lines.push_reserved(Entry::Took { stamp, station });
+    log.due.retain(|due| !is_due(due, seats, stamp, station));
+}
+
+/// A frame is lost, so that none of its pairs is pending any more.
+pub fn lost(log: &mut Log, seats: &[Seat], stamp: u32)
+    requires room { HasRoom log.old 1 0 0 0 }
+    requires book { IsBook seats.now log.old }
+    requires earlier { stamp < log.old.puts }
+    ensures grows { Grows log.old log.new (Lost stamp ∷ []) [] }
+    ensures book { IsBook seats.now log.new }
+    ensures kept { log.new.kept ≡ log.old.kept }
+    ensures waiting { log.new.waiting ≡ log.old.waiting }
+    ensures puts { log.new.puts ≡ log.old.puts }
+    ensures one { vec_len log.new.lines ≡ vec_len log.old.lines + 1 }
+{
+    log.lines.push_reserved(Entry::Lost { stamp });
+    log.due.retain(|due| stamp != due.stamp);
+}

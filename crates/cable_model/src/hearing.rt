@@ -1,0 +1,42 @@
+//! Who hears a frame.
+
+ghost use Rattle.std.specs.Prelude.{◌≡◌, ◌&&◌, ◌==◌};
+ghost use Rattle.at_base.specs.Text.{same_bytes};
+ghost use Rattle.cable_model.specs.Outcomes.{is_for_as, link_of as link_in};
+
+use crate::seat::Seat;
+use at_base::Hw;
+use station::Link;
+
+/// Whether two hardware addresses are the same.
+pub fn same_hw(a: &Hw, b: &Hw) -> bool
+    ensures { result ≡ same_bytes a.now.0 b.now.0 }
+{
+    a == b
+}
+
+/// To whom a frame is addressed, for who hears it.
+pub fn link_of(to: &Hw) -> Link
+    ensures { result ≡ link_in to.now }
+{
+    let [a, b, c, d, e, last] = to.0;
+    if same_hw(to, &Hw::ALL) {
+        Link::All
+    } else if a == 9 && b == 0 && c == 7 && d == 0 && e == 0 && last < 253 {
+        Link::Group(last)
+    } else {
+        Link::Own
+    }
+}
+
+/// Whether a frame with this link is on the seat's cable, and for the station there.
+pub fn hears(seat: &Seat, cable: u8, sender: u16, to: &Hw, link: Link) -> bool
+    ensures { result ≡ (seat.now.cable == cable && is_for_as link to.now sender seat.now) }
+{
+    seat.cable == cable
+        && match link {
+            Link::All => seat.station != sender,
+            Link::Group(group) => seat.station != sender && seat.group == Some(group),
+            Link::Own => same_hw(&seat.hw, to),
+        }
+}

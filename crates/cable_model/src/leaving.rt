@@ -1,0 +1,167 @@
+//! Datagrams that go onto a cable.
+
+ghost use Rattle.std.specs.Prelude.{◌≡◌, ◌<◌, [], ◌∷◌, List, length};
+ghost use Rattle.cable_model.specs.Books.{Grows, HasRoom, IsBook, Uses};
+ghost use Rattle.cable_model.specs.Logs.{bytes_at};
+ghost use Rattle.cable_model.specs.Outcomes.{held_by};
+ghost use Rattle.cable_model.specs.Outcomes.{to_other as other_entries, to_target as target_entries};
+ghost use Rattle.cable_model.specs.Transcript.{Reached};
+ghost use Rattle.cable_model.specs.Ways.{sender_at, way_entries, way_held};
+ghost use Rattle.cable_model.specs.declared.resolve.Found.TheVariants.{Later};
+ghost use Rattle.cable_model.specs.declared.seat.Seat.{Seat as SeatValue};
+ghost use Rattle.cable_model.specs.declared.way.Way.TheVariants.{All};
+ghost use Rattle.ddp.specs.Bodies.{body};
+
+use crate::entry::{Entry, How};
+use crate::exit::Exit;
+use crate::log::{Log, hold, note};
+use crate::putting::put;
+use crate::resolve::Found;
+use crate::seat::Seat;
+use crate::waiting::Waiting;
+use crate::way::Way;
+use at_base::{Addr, Hw};
+use station::Kind;
+
+/// Adds that a datagram reached the cable.
+fn reached(log: &mut Log, exit: Exit, how: How, bytes: u32)
+    requires room { HasRoom log.old 1 0 0 0 }
+    requires names { bytes < length log.old.kept.items }
+    ensures grows { Grows log.old log.new
+        (Reached exit.cable exit.station how (body (bytes_at log.old.kept.items bytes)) ∷ []) [] }
+    ensures book { (seats : List SeatValue) → IsBook seats log.old → IsBook seats log.new }
+    ensures kept { log.new.kept ≡ log.old.kept }
+    ensures waiting { log.new.waiting ≡ log.old.waiting }
+    ensures puts { log.new.puts ≡ log.old.puts }
+    ensures uses { Uses log.old log.new 1 0 0 0 }
+{
+    note(
+        log,
+        Entry::Reached {
+            cable: exit.cable,
+            station: exit.station,
+            how,
+            bytes,
+        },
+    );
+}
+
+/// A datagram goes to the station that it is for.
+fn to_target(log: &mut Log, seats: &[Seat], exit: Exit, addr: Addr, found: Found, bytes: u32)
+    requires room { HasRoom log.old 2 0 1 (length seats.now) }
+    requires book { IsBook seats.now log.old }
+    requires names { bytes < length log.old.kept.items }
+    ensures grows { Grows log.old log.new
+        (target_entries (sender_at exit log.old.puts) (bytes_at log.old.kept.items bytes) found)
+        (held_by found exit.port addr (bytes_at log.old.kept.items bytes)) }
+    ensures book { IsBook seats.now log.new }
+    ensures kept { log.new.kept ≡ log.old.kept }
+    ensures uses { Uses log.old log.new 2 0 1 (length seats.now) }
+{
+    match found {
+        Found::At(hw) => {
+            reached(log, exit, How::Station, bytes);
+            put(log, seats, exit.cable, exit.station, hw, Kind::Ddp, bytes);
+        }
+        Found::Nobody => reached(log, exit, How::Absent, bytes),
+        Found::Later => {
+            reached(log, exit, How::Held, bytes);
+            wait(log, exit, addr, bytes);
+        }
+    }
+}
+
+/// A datagram goes to another station.
+fn to_other(log: &mut Log, seats: &[Seat], exit: Exit, addr: Addr, found: Found, bytes: u32)
+    requires room { HasRoom log.old 1 0 1 (length seats.now) }
+    requires book { IsBook seats.now log.old }
+    requires names { bytes < length log.old.kept.items }
+    ensures grows { Grows log.old log.new
+        (other_entries (sender_at exit log.old.puts) (bytes_at log.old.kept.items bytes) found)
+        (held_by found exit.port addr (bytes_at log.old.kept.items bytes)) }
+    ensures book { IsBook seats.now log.new }
+    ensures kept { log.new.kept ≡ log.old.kept }
+    ensures uses { Uses log.old log.new 1 0 1 (length seats.now) }
+{
+    match found {
+        Found::At(hw) => put(log, seats, exit.cable, exit.station, hw, Kind::Ddp, bytes),
+        Found::Nobody => {}
+        Found::Later => wait(log, exit, addr, bytes),
+    }
+}
+
+/// A datagram waits for the hardware address of its next station.
+fn wait(log: &mut Log, exit: Exit, next: Addr, bytes: u32)
+    requires room { HasRoom log.old 0 0 1 0 }
+    requires names { bytes < length log.old.kept.items }
+    ensures grows { Grows log.old log.new []
+        (held_by Later exit.port next (bytes_at log.old.kept.items bytes)) }
+    ensures book { (seats : List SeatValue) → IsBook seats log.old → IsBook seats log.new }
+    ensures kept { log.new.kept ≡ log.old.kept }
+    ensures uses { Uses log.old log.new 0 0 1 0 }
+{
+    let waiting = Waiting {
+        port: exit.port,
+        next,
+        bytes,
+    };
+    hold(log, waiting);
+}
+
+/// A datagram goes to all stations.
+fn to_all(log: &mut Log, seats: &[Seat], exit: Exit, listed: bool, bytes: u32)
+    requires room { HasRoom log.old 2 0 0 (length seats.now) }
+    requires book { IsBook seats.now log.old }
+    requires names { bytes < length log.old.kept.items }
+    ensures grows { Grows log.old log.new
+        (way_entries (sender_at exit log.old.puts) (bytes_at log.old.kept.items bytes) (All listed)) [] }
+    ensures book { IsBook seats.now log.new }
+    ensures kept { log.new.kept ≡ log.old.kept }
+    ensures uses { Uses log.old log.new 2 0 0 (length seats.now) }
+{
+    if listed {
+        reached(log, exit, How::All, bytes);
+        put(
+            log,
+            seats,
+            exit.cable,
+            exit.station,
+            Hw::ALL,
+            Kind::Ddp,
+            bytes,
+        );
+    } else {
+        put(
+            log,
+            seats,
+            exit.cable,
+            exit.station,
+            Hw::ALL,
+            Kind::Ddp,
+            bytes,
+        );
+    }
+}
+
+/// A datagram goes onto a cable.
+pub fn leave(log: &mut Log, seats: &[Seat], exit: Exit, way: Way, bytes: u32)
+    requires room { HasRoom log.old 2 0 1 (length seats.now) }
+    requires book { IsBook seats.now log.old }
+    requires names { bytes < length log.old.kept.items }
+    ensures grows { Grows log.old log.new
+        (way_entries (sender_at exit log.old.puts) (bytes_at log.old.kept.items bytes) way)
+        (way_held exit.port (bytes_at log.old.kept.items bytes) way) }
+    ensures book { IsBook seats.now log.new }
+    ensures kept { log.new.kept ≡ log.old.kept }
+    ensures uses { Uses log.old log.new 2 0 1 (length seats.now) }
+{
+    match way {
+        Way::Target(addr, found) => to_target(log, seats, exit, addr, found, bytes),
+        Way::Other(addr, found) => to_other(log, seats, exit, addr, found, bytes),
+        Way::All(listed) => to_all(log, seats, exit, listed, bytes),
+        Way::Group(group) => {
+            let to = Hw([9, 0, 7, 0, 0, group]);
+            put(log, seats, exit.cable, exit.station, to, Kind::Ddp, bytes);
+        }
+    }
+}

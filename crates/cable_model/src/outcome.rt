@@ -1,0 +1,222 @@
+//! What becomes of what a station puts out.
+
+ghost use Rattle.std.specs.Prelude.{◌≡◌, ◌≤◌, ◌+◌, ◌*◌, [], ◌∷◌, List, length, vec_len};
+ghost use Rattle.cable_model.specs.Books.{Grows, HasRoom, IsBook, Uses};
+ghost use Rattle.cable_model.specs.Outcomes.{Places, all_entries, all_held, entries_of, framed};
+ghost use Rattle.cable_model.specs.Outcomes.{held_next, held_of, leg};
+ghost use Rattle.cable_model.specs.Transcript.{Dropped, Reached, Sent};
+ghost use Rattle.cable_model.specs.Ways.{all_lines, all_spare, is_nowhere_way, lines_for, sender_at, spare_for};
+ghost use Rattle.cable_model.specs.declared.entry.How.TheVariants.{Own};
+ghost use Rattle.cable_model.specs.declared.seat.Seat.{Seat as SeatValue};
+ghost use Rattle.ddp.specs.Bodies.{body};
+ghost use Rattle.station.specs.declared.heard.Kind.TheVariants.{Aarp};
+
+use crate::entry::{Entry, How};
+use crate::exit::Exit;
+use crate::leaving::leave;
+use crate::log::{Log, keep, note};
+use crate::putting::put;
+use crate::resolve::{Found, Resolve};
+use crate::seat::Seat;
+use crate::seating::exit_by;
+use crate::way::{Way, way_of};
+use at_base::{Bytes, Hw};
+use station::{Cause, Kind, Next, Output, Outputs};
+
+/// A station made a datagram, which goes onto a cable.
+pub fn sent<R: Resolve>(
+    log: &mut Log,
+    seats: &[Seat],
+    resolver: &R,
+    exit: Exit,
+    next: Next,
+    bytes: Bytes,
+)
+    requires room { HasRoom log.old 3 1 1 (length seats.now) }
+    requires book { IsBook seats.now log.old }
+    ensures grows { let places : Places = record { finds = R.finds resolver.now; lists = R.lists resolver.now } in
+        Grows log.old log.new
+        (Sent exit.station (body bytes) ∷ leg places (sender_at exit log.old.puts) next bytes)
+        (held_next places exit.cable exit.port next bytes) }
+    ensures book { IsBook seats.now log.new }
+    ensures uses { Uses log.old log.new 3 1 1 (length seats.now) }
+    ensures named { vec_len log.new.kept + vec_len log.old.lines
+        ≤ vec_len log.old.kept + vec_len log.new.lines }
+{
+    let way = way_of(resolver, exit.cable, next, bytes.as_slice());
+    let number = keep(log, bytes);
+    note(
+        log,
+        Entry::Sent {
+            station: exit.station,
+            bytes: number,
+        },
+    );
+    leave(log, seats, exit, way, number);
+}
+
+/// A router passes a datagram on. Where nobody has its next address no entry names it, and its bytes
+/// aren't kept.
+fn passed<R: Resolve>(
+    log: &mut Log,
+    seats: &[Seat],
+    resolver: &R,
+    exit: Exit,
+    next: Next,
+    bytes: Bytes,
+)
+    requires room { HasRoom log.old 2 1 1 (length seats.now) }
+    requires book { IsBook seats.now log.old }
+    ensures grows { let places : Places = record { finds = R.finds resolver.now; lists = R.lists resolver.now } in
+        Grows log.old log.new (leg places (sender_at exit log.old.puts) next bytes)
+        (held_next places exit.cable exit.port next bytes) }
+    ensures book { IsBook seats.now log.new }
+    ensures uses { Uses log.old log.new 2 1 1 (length seats.now) }
+    ensures named { vec_len log.new.kept + vec_len log.old.lines
+        ≤ vec_len log.old.kept + vec_len log.new.lines + 1 }
+{
+    let way = way_of(resolver, exit.cable, next, bytes.as_slice());
+    if is_nowhere(way) {
+        return;
+    }
+    let number = keep(log, bytes);
+    leave(log, seats, exit, way, number);
+}
+
+/// Whether a datagram of this way is in no entry, and doesn't wait.
+fn is_nowhere(way: Way) -> bool
+    ensures { result ≡ is_nowhere_way way }
+{
+    match way {
+        Way::Other(_, found) => match found {
+            Found::Nobody => true,
+            _ => false,
+        },
+        _ => false,
+    }
+}
+
+/// A router keeps a datagram.
+fn own(log: &mut Log, exit: Exit, bytes: Bytes)
+    requires room { HasRoom log.old 2 1 0 0 }
+    ensures grows { (seats : List SeatValue) → IsBook seats log.old
+        → Grows log.old log.new (Reached exit.cable exit.station Own (body bytes) ∷ []) [] }
+    ensures book { (seats : List SeatValue) → IsBook seats log.old → IsBook seats log.new }
+    ensures uses { Uses log.old log.new 2 1 0 0 }
+    ensures named { vec_len log.new.kept + vec_len log.old.lines
+        ≤ vec_len log.old.kept + vec_len log.new.lines + 1 }
+{
+    let number = keep(log, bytes);
+    note(
+        log,
+        Entry::Reached {
+            cable: exit.cable,
+            station: exit.station,
+            how: How::Own,
+            bytes: number,
+        },
+    );
+}
+
+/// A router drops a datagram.
+fn dropped(log: &mut Log, router: u16, cause: Cause, bytes: Bytes)
+    requires room { HasRoom log.old 2 1 0 0 }
+    ensures grows { (seats : List SeatValue) → IsBook seats log.old
+        → Grows log.old log.new (Dropped router cause (body bytes) ∷ []) [] }
+    ensures book { (seats : List SeatValue) → IsBook seats log.old → IsBook seats log.new }
+    ensures uses { Uses log.old log.new 2 1 0 0 }
+    ensures named { vec_len log.new.kept + vec_len log.old.lines
+        ≤ vec_len log.old.kept + vec_len log.new.lines + 1 }
+{
+    let number = keep(log, bytes);
+    note(
+        log,
+        Entry::Dropped {
+            router,
+            cause,
+            bytes: number,
+        },
+    );
+}
+
+/// A station puts an AARP packet on a cable.
+fn wire(log: &mut Log, seats: &[Seat], exit: Exit, to: Hw, bytes: Bytes)
+    requires room { HasRoom log.old 3 1 0 (length seats.now) }
+    requires book { IsBook seats.now log.old }
+    ensures grows { Grows log.old log.new
+        (framed (sender_at exit log.old.puts) to Aarp bytes ∷ []) [] }
+    ensures book { IsBook seats.now log.new }
+    ensures uses { Uses log.old log.new 3 1 0 (length seats.now) }
+    ensures named { vec_len log.new.kept + vec_len log.old.lines
+        ≤ vec_len log.old.kept + vec_len log.new.lines }
+{
+    let number = keep(log, bytes);
+    put(log, seats, exit.cable, exit.station, to, Kind::Aarp, number);
+}
+
+/// Adds what becomes of an output.
+fn add<R: Resolve>(log: &mut Log, seats: &[Seat], resolver: &R, station: u16, output: Output)
+    requires room { HasRoom log.old (lines_for output) 1 1 (length seats.now) }
+    requires book { IsBook seats.now log.old }
+    ensures grows { let places : Places = record { finds = R.finds resolver.now; lists = R.lists resolver.now } in
+        Grows log.old log.new (entries_of places seats.now station log.old.puts output)
+        (held_of places seats.now station output) }
+    ensures book { IsBook seats.now log.new }
+    ensures uses { Uses log.old log.new (lines_for output) 1 1 (length seats.now) }
+    ensures named { vec_len log.new.kept + vec_len log.old.lines
+        ≤ vec_len log.old.kept + vec_len log.new.lines + spare_for output }
+{
+    match output {
+        Output::Made { port, next, bytes } => {
+            sent(
+                log,
+                seats,
+                resolver,
+                exit_by(seats, station, port),
+                next,
+                bytes,
+            )
+        }
+        Output::Passed { port, next, bytes } => {
+            passed(
+                log,
+                seats,
+                resolver,
+                exit_by(seats, station, port),
+                next,
+                bytes,
+            )
+        }
+        Output::Kept { port, bytes } => own(log, exit_by(seats, station, port), bytes),
+        Output::Dropped { cause, bytes } => dropped(log, station, cause, bytes),
+        Output::Wire { port, to, bytes } => {
+            wire(log, seats, exit_by(seats, station, port), to, bytes)
+        }
+    }
+}
+
+/// Adds what becomes of outputs, one after another, and leaves none.
+pub fn add_all<R: Resolve>(
+    log: &mut Log,
+    seats: &[Seat],
+    resolver: &R,
+    station: u16,
+    outputs: &mut Outputs,
+)
+    requires room { HasRoom log.old (all_lines outputs.old.items) (length outputs.old.items)
+        (length outputs.old.items) (length outputs.old.items * length seats.now) }
+    requires book { IsBook seats.now log.old }
+    ensures grows { let places : Places = record { finds = R.finds resolver.now; lists = R.lists resolver.now } in
+        Grows log.old log.new
+        (all_entries places seats.now station log.old.puts outputs.old.items)
+        (all_held places seats.now station outputs.old.items) }
+    ensures book { IsBook seats.now log.new }
+    ensures few { vec_len log.new.lines ≤ vec_len log.old.lines + all_lines outputs.old.items }
+    ensures named { vec_len log.new.kept + vec_len log.old.lines
+        ≤ vec_len log.old.kept + vec_len log.new.lines + all_spare outputs.old.items }
+    ensures none { outputs.new.items ≡ [] }
+{
+    while let Some(output) = outputs.pop() {
+        add(log, seats, resolver, station, output);
+    }
+}

@@ -1,0 +1,63 @@
+//! What a station hears of a frame that it takes.
+
+ghost use Rattle.std.specs.Prelude.{◌≡◌, ◌<◌, List};
+ghost use Rattle.cable_model.specs.Books.{IsDue, is_of, pair_at, said, seat_at};
+ghost use Rattle.cable_model.specs.Logs.{bytes_at};
+ghost use Rattle.cable_model.specs.Outcomes.{heard_by};
+ghost use Rattle.station.specs.Hearing.{hearing};
+
+use crate::due::Due;
+use crate::entry::Entry;
+use crate::hearing::link_of;
+use crate::log::Log;
+use crate::seat::Seat;
+use at_base::Bytes;
+use station::{Heard, Kind, Link};
+
+/// The port of a seat, and 0 where there is no such seat.
+fn port_at(seats: &[Seat], index: usize) -> u8
+    ensures { result ≡ (seat_at seats.now index).port }
+{
+    match seats.get(index) {
+        None => 0,
+        Some(seat) => seat.port,
+    }
+}
+
+/// The bytes of a number, and none for a number that isn't in use.
+pub fn bytes_of(kept: &[Bytes], number: u32) -> &[u8]
+    ensures { result.now ≡ bytes_at kept.now number }
+{
+    match kept.get(number as usize) {
+        None => &[],
+        Some(bytes) => bytes.as_slice(),
+    }
+}
+
+/// What the seat's station hears of the frame. It borrows the bytes.
+pub fn heard_of<'a>(log: &'a Log, seats: &[Seat], due: Due) -> Heard<'a>
+    ensures { hearing result ≡ heard_by (pair_at seats.now (said log.now) due) }
+{
+    let port = port_at(seats, due.seat);
+    match log.lines.get(due.put as usize) {
+        Some(
+            Entry::Put {
+                to,
+                kind,
+                bytes,
+                ..
+            },
+        ) => Heard {
+            port,
+            link: link_of(to),
+            kind: *kind,
+            bytes: bytes_of(&log.kept, *bytes),
+        },
+        _ => Heard {
+            port,
+            link: Link::Own,
+            kind: Kind::Ddp,
+            bytes: &[],
+        },
+    }
+}

@@ -1,0 +1,69 @@
+//! How a datagram goes onto a cable.
+
+ghost use Rattle.std.specs.Prelude.{◌≡◌, ◌<◌, slice_index};
+ghost use Rattle.at_base.specs.Address.{same_address};
+ghost use Rattle.cable_model.specs.Ways.{way_of as way_in};
+ghost use Rattle.ddp.specs.Bodies.{target as target_in};
+
+use crate::resolve::{Found, Resolve};
+use at_base::Addr;
+use station::Next;
+
+/// To whom a datagram goes on a cable, and what is known of where that is.
+#[derive(Clone, Copy, Debug)]
+pub enum Way {
+    /// To the station that it is for, at this address.
+    Target(Addr, Found),
+    /// To another station, at this address.
+    Other(Addr, Found),
+    /// To all stations; whether a cable has its target's network.
+    All(bool),
+    /// To the stations of a group.
+    Group(u8),
+}
+
+/// The byte at an index, and 0 past the end.
+fn byte_at(bytes: &[u8], index: usize) -> u8
+    ensures { result ≡ slice_index bytes.now index }
+{
+    if index < bytes.len() { bytes[index] } else { 0 }
+}
+
+/// The target of a datagram.
+fn target_of(bytes: &[u8]) -> Addr
+    ensures { result ≡ target_in bytes.now }
+{
+    let high = byte_at(bytes, 4);
+    let low = byte_at(bytes, 5);
+    Addr {
+        net: (high as u16) * 256 + (low as u16),
+        node: byte_at(bytes, 8),
+    }
+}
+
+/// Whether two addresses are the same.
+fn is_same(a: Addr, b: Addr) -> bool
+    ensures { result ≡ same_address a b }
+{
+    a.net == b.net && a.node == b.node
+}
+
+/// The way of a datagram on a cable.
+pub fn way_of<R: Resolve>(resolver: &R, cable: u8, next: Next, bytes: &[u8]) -> Way
+    ensures { result ≡ way_in (record { finds = R.finds resolver.now; lists = R.lists resolver.now })
+        cable next bytes.now }
+{
+    let target = target_of(bytes);
+    match next {
+        Next::Station(addr) => {
+            let found = resolver.find(cable, addr);
+            if is_same(target, addr) {
+                Way::Target(addr, found)
+            } else {
+                Way::Other(addr, found)
+            }
+        }
+        Next::All => Way::All(resolver.listed(target.net)),
+        Next::Group(group) => Way::Group(group),
+    }
+}
