@@ -1,0 +1,5 @@
+//! Tests of cable_model through its public calls.
+#![tactic(auto)]
+
+#[cfg(test)]
+mod tests;
