@@ -1,2 +1,4 @@
 pub mod Ports
 pub mod Lawful
+pub mod Stays
+pub mod Onward

@@ -94,9 +94,13 @@ pub record IsCourse (n hops : ℕ) (c : Course) : Type 0 where
 abbrev pub bytes_in : Datagram → List ℕ
 bytes_in d = bytes_of datagram d
 
--- what is put out in a step: a datagram that is passed on has one hop more, and nothing else is changed
+-- the bytes of a datagram that is passed on: one hop more, and nothing else is changed
+abbrev pub onward : Datagram → List ℕ
+onward d = with_hops (d.hops + 1) (bytes_in d)
+
+-- what is put out in a step
 abbrev pub output_of : Step → Datagram → Output
-output_of (step.Pass q to) d = Passed q to (with_hops (d.hops + 1) (bytes_in d))
+output_of (step.Pass q to) d = Passed q to (onward d)
 output_of (step.Keep q) d = Kept q (bytes_in d)
 output_of (step.Drop cause) d = Dropped cause (bytes_in d)
 

@@ -6,6 +6,7 @@ mod course;
 mod hand;
 mod handled;
 mod hearing;
+mod laws;
 mod lists;
 mod making;
 mod names;
@@ -18,4 +19,5 @@ mod zones;
 
 pub use course::{Course, Ending, Step};
 pub use hand::Hand;
+pub use laws::{forwarding_keeps_the_body, tables_stay};
 pub use router::{MAX_PORTS, Router};

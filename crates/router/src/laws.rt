@@ -1,0 +1,28 @@
+//! Laws of routers, for the crates above: each is the contract of a function that does nothing.
+
+ghost use Rattle.std.specs.Prelude.{◌≡◌, ◌+◌, ◌<◌, ℕ, List};
+ghost use Rattle.at_base.specs.Spelling.{Begins, Spells};
+ghost use Rattle.ddp.specs.Bodies.{body, hops};
+ghost use Rattle.ddp.specs.Datagram.{Datagram, datagram};
+ghost use Rattle.station.specs.Hearing.{Hearing};
+ghost use Rattle.station.specs.declared.output.Output.{Output};
+ghost use Rattle.router.specs.Answers.{Hears};
+ghost use Rattle.router.specs.Forwarding.{onward};
+ghost use Rattle.router.specs.Holding.{Holding};
+ghost use Rattle.router.specs.Stays.{TablesStay};
+
+/// Frozen tables stay: whatever a router hears, its routing table, its zone table and its addresses
+/// are the same after it. This project's own.
+pub fn tables_stay()
+    ensures { (old new : Holding) (x : Hearing) (added : List Output)
+        → Hears old x added new → TablesStay old new }
+{}
+
+/// Forwarding keeps the body: what a router passes on of the bytes that it heard is one datagram
+/// without padding, with the body that came and one hop more. This project's own.
+pub fn forwarding_keeps_the_body()
+    ensures { (bytes : List ℕ) (d : Datagram) → Begins datagram bytes d → d.hops < 15
+        → Spells datagram (onward d) (record d { hops = d.hops + 1 })
+        × (body (onward d) ≡ body bytes)
+        × (hops (onward d) ≡ hops bytes + 1) }
+{}
