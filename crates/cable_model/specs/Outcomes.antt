@@ -8,6 +8,7 @@ use Rattle.at_base.specs.declared.address.Addr.{Addr}
 use Rattle.at_base.specs.declared.address.Hw.{Hw}
 use Rattle.ddp.specs.Bodies.{body, target}
 use Rattle.station.specs.Hearing.{Hearing}
+use Rattle.station.specs.Lawful.{AreLawful}
 use Rattle.station.specs.declared.heard.Kind.{Kind}
 use Rattle.station.specs.declared.heard.Kind.TheVariants.{Ddp, Aarp}
 use Rattle.station.specs.declared.heard.Link.{Link}
@@ -154,15 +155,17 @@ pub record AreSeatsOf (seats : List Seat) (station ports : ℕ) : Type 0 where
   pub inside : (s : Seat) → Contains seats s → s.station ≡ station → s.port < ports
   pub seated : (port : ℕ) → port < ports → (s : Seat) × Contains seats s × (s.station ≡ station) × (s.port ≡ port)
 
--- A station took a frame that was pending for it, put out what follows, and is another then. Of its outputs those wait that
+-- A station with so many ports took a frame that was pending for it, put out what follows, and is another then. Of its outputs those wait that
 -- are for a station of which nothing is known yet.
-pub record IsTaken (places : Places) (old new : Cabling) (stamp station : ℕ) (Hears : Hearing → List Output → Type 0) : Type 0 where
+pub record IsTaken (places : Places) (ports : ℕ) (old new : Cabling) (stamp station : ℕ)
+      (Hears : Hearing → List Output → Type 0) : Type 0 where
   pub pair : Pair
   pub was_pending : Contains (pending old.seats (transcript old)) pair
   pub of_stamp : pair.frame.stamp ≡ stamp
   pub of_station : pair.seat.station ≡ station
   pub added : List Output
   pub heard : Hears (heard_by pair) added
+  pub lawful : AreLawful ports added
   pub entries :
       Adds old new (Took stamp station ∷ all_entries places old.seats station (stamps (transcript old)) added)
   pub waits : map (held_at new.kept) new.waiting ≡ all_held places old.seats station added

@@ -4,6 +4,7 @@ use Rattle.at_base.specs.declared.address.Hw.{Hw}
 use Rattle.station.specs.declared.output.Cause.{Cause}
 use Rattle.cable_model.specs.declared.entry.How.{How}
 use Rattle.station.specs.declared.heard.Kind.{Kind}
+pub use Rattle.station.specs.Lawful.{count, one}
 
 -- A frame on a cable: its stamp, which counts frames from 0; the cable; the station that put it there; the hardware address
 -- that it is for; what it holds, and its bytes.
@@ -25,16 +26,6 @@ pub data Entry : Type 0 where
   Reached : (cable station : ℕ) (how : How) (body : List ℕ) → Entry
   Dropped : (router : ℕ) (cause : Cause) (body : List ℕ) → Entry
   Lost : (stamp : ℕ) → Entry
-
--- 1 where a test passes, and 0 where it doesn't
-abbrev pub one : Bool → ℕ
-one true = 1
-one false = 0
-
--- how many elements pass
-abbrev pub count : {X : Type 0} → (X → Bool) → List X → ℕ
-count test [] = 0
-count test (x ∷ xs) = one (test x) + count test xs
 
 -- the entry is a frame
 abbrev pub is_put : Entry → Bool

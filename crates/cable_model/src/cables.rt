@@ -12,7 +12,6 @@ ghost use Rattle.cable_model.specs.Outcomes.{held_at, held_next, is_named, is_se
 ghost use Rattle.cable_model.specs.Outcomes.{sent_entries};
 ghost use Rattle.cable_model.specs.Pending.{pending as pending_on};
 ghost use Rattle.cable_model.specs.Transcript.{AreNumbered, Lost, stamps};
-ghost use Rattle.ddp.specs.InPlace.{IsDatagram};
 ghost use Rattle.station.specs.Lawful.{IsNext};
 
 use crate::entry::Entry;
@@ -179,7 +178,8 @@ impl Cables {
     }
 
     /// A station on a cable sends a datagram there. It waits where nothing is known yet of its next
-    /// station. That the bytes are a datagram, and a group below 253, is the caller's condition.
+    /// station. That the bytes are a datagram is the caller's part; a group below 253 is the caller's
+    /// condition.
     ///
     /// Errors, in this order: `NoSuch(Cable)`, `NoSuch(Station)`, `Full` below 3 entries of room,
     /// `Memory`. A refusal changes nothing.
@@ -191,8 +191,7 @@ impl Cables {
         bytes: Bytes,
         resolver: &R,
     ) -> Result<(), Error>
-        requires datagram { IsDatagram bytes }
-        requires next { IsNext next }
+        requires { IsNext next }
         ensures ok { let places : Places = record { finds = R.finds resolver.now; lists = R.lists resolver.now } in
             OnOk result (Adds self.old self.new (sent_entries places self.old cable station next bytes)) }
         ensures waits { let places : Places = record { finds = R.finds resolver.now; lists = R.lists resolver.now } in
@@ -238,7 +237,7 @@ impl Cables {
     ) -> Result<(), Error>
         requires { AreSeatsOf self.old.seats station (S.ports_of taker.old) }
         ensures ok { let places : Places = record { finds = R.finds resolver.now; lists = R.lists resolver.now } in
-            OnOk result (IsTaken places self.old self.new stamp station
+            OnOk result (IsTaken places (S.ports_of taker.old) self.old self.new stamp station
             (λ h added. S.hears taker.old h added taker.new)) }
         ensures ports_stay { S.ports_of taker.new ≡ S.ports_of taker.old }
         ensures not_pending { (result ≡ Err Error.NotPending)

@@ -178,6 +178,7 @@ returns-clause-ok g c =
       added = put.added;
       heard =
           subst (λ h. g.S.Station.hears c.args.taker.now h put.added c.receive.new.self) heard put.holds;
+      lawful = put.lawful;
       entries =
           adds_from ss c.self.inside.limit old mid new _ _ (ap (λ v. v.items) c.forget_waiting.ensures.lines ∙ room.lines)
           (ap (λ v. v.items) c.forget_waiting.ensures.kept ∙ room.kept) whole;
