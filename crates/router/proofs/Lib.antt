@@ -1,4 +1,3 @@
 pub mod Ports
-pub mod Lawful
 pub mod Stays
 pub mod Onward

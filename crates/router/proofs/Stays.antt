@@ -1,5 +1,5 @@
 -- What a router holds stays as it is, but for the requests that it answers once and for addresses that it hasn't chosen yet.
-use Rattle.std.proofs.Common.{◌≡◌, ℕ, zero, suc, Bool, true, false, not, ◌&&◌, cond, List, [], ◌∷◌, Option, Some, None, refl, ap, subst, sym, ◌∙◌}
+use Rattle.std.proofs.Common.{◌≡◌, ℕ, zero, suc, Bool, true, false, List, [], ◌∷◌, Option, Some, None, refl, ap, subst, sym, ◌∙◌}
 use Rattle.std.specs.Prelude.{option_and_then, slice_get, slice_set}
 use Rattle.aarp.specs.Choosing.{Choice, heard as hears_choice, is_conflict, moved, settled}
 use Rattle.aarp.specs.declared.packet.Packet.{Packet}
@@ -10,9 +10,10 @@ use Rattle.station.specs.Values.{datagram_at}
 use Rattle.station.specs.declared.heard.Kind.{Kind}
 use Rattle.station.specs.declared.heard.Kind.TheVariants.{Ddp, Aarp}
 use Rattle.station.specs.declared.output.Output.{Output}
-use Rattle.router.specs.Answers.{Hears, heard, heard_datagram, heard_kind, heard_packet}
+use Rattle.router.specs.Answers.{Hears, heard_datagram, heard_kind}
 use Rattle.router.specs.Holding.{Holding, own_at}
-use Rattle.router.specs.Resolution.{packet_at, ports_after, with_choice}
+use Rattle.router.specs.Resolution.{ports_after, with_choice}
+use Rattle.station.specs.Resolution.{packet_at}
 use Rattle.router.specs.Stays.{TablesStay}
 
 -- a choice has the same address after it heard a packet: one that is made stays, and any other has none

@@ -5,5 +5,4 @@ pub mod Requests
 pub mod Zones
 pub mod Resolution
 pub mod Answers
-pub mod Made
 pub mod Stays

@@ -8,7 +8,6 @@ mod handled;
 mod hearing;
 mod laws;
 mod lists;
-mod making;
 mod names;
 mod receive;
 mod request;

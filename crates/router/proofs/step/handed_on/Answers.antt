@@ -1,7 +1,7 @@
 use Rattle.std.proofs.Common.{rules, ◌≡◌, ◌+◌, refl, ◌∙◌, arith, IsTrue}
 use Rattle.ddp.proofs.Agreement.{spells_with_hops}
 use Rattle.ddp.specs.Bodies.{with_hops}
-use Rattle.station.specs.Lawful.{IsWhole, are_bytes}
+use Rattle.station.specs.Lawful.{are_bytes}
 use Rattle.router.specs.Forwarding.{bytes_in}
 use Rattle.router.proofs.step.handed_on.Goals as goal
 
