@@ -1,0 +1,144 @@
+//! What the router passes on, keeps and drops.
+
+use crate::tests::lab::{ASKER, SECOND, Want, answers, hears, lab, sent};
+use at_base::{Addr, Error};
+use station::{Cause, Heard, Kind, Link, Next};
+use std::alloc::Global;
+
+/// An echo request from 10.7 to 30.5.
+const PING: [u8; 18] = [
+    0x00, 0x12, 0x00, 0x00, 0x00, 0x1E, 0x00, 0x0A, 0x05, 0x07, 0x04, 0x80, 0x04, // its header
+    0x01, 0x70, 0x69, 0x6E, 0x67,
+];
+
+/// The same bytes with others at these places.
+fn with(places: &[(usize, u8)]) -> [u8; 18] {
+    let mut bytes = PING;
+    for (at, byte) in places {
+        if *at < bytes.len() {
+            bytes[*at] = *byte;
+        }
+    }
+    bytes
+}
+
+/// One hop more is counted, and nothing else is changed: no padding is passed on, and a checksum
+/// isn't looked at.
+pub(crate) fn datagrams_go_to_the_next_router(alloc: Global) -> Result<bool, Error> {
+    let mut padded = [0; 20];
+    padded[..18].copy_from_slice(&PING);
+    let once = with(&[(0, 0x04)]);
+    let wrong = with(&[(2, 0x83), (3, 0xF3)]);
+    let still_wrong = with(&[(0, 0x04), (2, 0x83), (3, 0xF3)]);
+    let fourteen = with(&[(0, 0x38)]);
+    let fifteen = with(&[(0, 0x3C)]);
+    let steps: [(&[u8], Want<'_>); 5] = [
+        (&PING, Want::Passed(1, SECOND, &once)),
+        (&padded, Want::Passed(1, SECOND, &once)),
+        (&wrong, Want::Passed(1, SECOND, &still_wrong)),
+        (&fourteen, Want::Passed(1, SECOND, &fifteen)),
+        (&fifteen, Want::Dropped(Cause::HopLimit, &fifteen)),
+    ];
+    for (bytes, want) in steps {
+        if !answers(alloc, bytes, &[want])? {
+            return Ok(false);
+        }
+    }
+    Ok(true)
+}
+
+/// Frames to several stations aren't passed on, to whatever network.
+pub(crate) fn frames_to_several_are_not_passed_on(alloc: Global) -> Result<bool, Error> {
+    let mut router = lab(alloc)?;
+    let every_node = with(&[(8, 0xFF)]);
+    let own = with(&[(5, 0x0A), (8, 0x01)]);
+    for link in [Link::All, Link::Group(56), Link::Group(118)] {
+        for bytes in [&PING, &own] {
+            let heard = Heard {
+                link,
+                ..sent(bytes)
+            };
+            if !hears(alloc, &mut router, &heard, &[])? {
+                return Ok(false);
+            }
+        }
+    }
+    let heard = Heard {
+        link: Link::Group(56),
+        ..sent(&every_node)
+    };
+    hears(alloc, &mut router, &heard, &[])
+}
+
+/// Networks without a row, and nodes of a cable that the router is on. A datagram on the way to
+/// several routers more ends at the last.
+pub(crate) fn datagrams_end_on_the_cables(alloc: Global) -> Result<bool, Error> {
+    let nowhere = with(&[(5, 0x32)]);
+    let far = with(&[(0, 0x3C), (5, 0x32)]);
+    let node = with(&[(5, 0x14), (8, 0x09)]);
+    let passed = with(&[(0, 0x04), (5, 0x14), (8, 0x09)]);
+    let back = with(&[(5, 0x0A), (8, 0x09)]);
+    let over = with(&[(0, 0x04), (5, 0x0A), (8, 0x09)]);
+    let late = with(&[(0, 0x3C), (5, 0x14), (8, 0x09)]);
+    let (nine, ten) = (Addr { net: 20, node: 9 }, Addr { net: 10, node: 9 });
+    let steps: [(&[u8], Want<'_>); 5] = [
+        (&nowhere, Want::Dropped(Cause::NoRoute, &nowhere)),
+        (&far, Want::Dropped(Cause::NoRoute, &far)),
+        (&node, Want::Passed(1, Next::Station(nine), &passed)),
+        (&back, Want::Passed(0, Next::Station(ten), &over)),
+        (&late, Want::Dropped(Cause::HopLimit, &late)),
+    ];
+    for (bytes, want) in steps {
+        if !answers(alloc, bytes, &[want])? {
+            return Ok(false);
+        }
+    }
+    Ok(true)
+}
+
+/// One for every node of the far cable is passed to all there, and is heard as they hear it. One
+/// for any router of it is kept, after however many hops, and is the router's own.
+pub(crate) fn far_cables_are_heard_for(alloc: Global) -> Result<bool, Error> {
+    let mut back = with(&[(5, 0x0A), (7, 0x14), (8, 0x07), (9, 0x01)]);
+    (back[10], back[11], back[13]) = (0x80, 0x04, 0x02);
+    let all = with(&[(5, 0x14), (8, 0xFF)]);
+    let passed = with(&[(0, 0x04), (5, 0x14), (8, 0xFF)]);
+    let late = with(&[(0, 0x3C), (5, 0x14), (8, 0xFF)]);
+    let any = with(&[(0, 0x3C), (5, 0x14), (8, 0x00)]);
+    let made = Want::Made(0, ASKER, &back);
+    let every_node = [Want::Passed(1, Next::All, &passed), made];
+    let limit = [Want::Dropped(Cause::HopLimit, &late)];
+    let kept = [Want::Kept(1, &any), made];
+    Ok(
+        answers(alloc, &all, &every_node)?
+            && answers(alloc, &late, &limit)?
+            && answers(alloc, &any, &kept)?,
+    )
+}
+
+/// What can't be read, and what is of no type and socket that the router serves.
+pub(crate) fn other_bytes_are_ignored(alloc: Global) -> Result<bool, Error> {
+    let mut router = lab(alloc)?;
+    let own = with(&[(5, 0x0A), (8, 0x01)]);
+    let mut steps = [own; 5];
+    steps[0][1] = 12;
+    steps[1][1] = 19;
+    steps[2][12] = 5;
+    steps[3][10] = 5;
+    steps[4][13] = 2;
+    for bytes in &steps {
+        if !hears(alloc, &mut router, &sent(bytes), &[])? {
+            return Ok(false);
+        }
+    }
+    let aarp = Heard {
+        kind: Kind::Aarp,
+        ..sent(&PING)
+    };
+    Ok(
+        hears(alloc, &mut router, &aarp, &[])?
+            && hears(alloc, &mut router, &sent(&[]), &[])?
+            && hears(alloc, &mut router, &sent(&PING[..12]), &[])?
+            && hears(alloc, &mut router, &sent(&PING[..17]), &[])?,
+    )
+}

@@ -1,0 +1,189 @@
+//! What the router answers about zones, and to echoes.
+
+use crate::tests::lab::{ASKER, Lab, Want, answers, hears, lab, sent};
+use at_base::{Addr, Error};
+use station::{Heard, Link, Next};
+use std::alloc::Global;
+
+/// A query for the networks 30 and 20, from 10.7 to 10.1.
+const QUERY: [u8; 19] = [
+    0x00, 0x13, 0x00, 0x00, 0x00, 0x0A, 0x00, 0x0A, 0x01, 0x07, 0x06, 0x06, 0x06, // its header
+    0x01, 0x02, 0x00, 0x1E, 0x00, 0x14,
+];
+
+/// Each network's list as it is asked for: that of 30, in a reply for 1 network,
+const LIST_OF_30: [u8; 22] = [
+    0x00, 0x16, 0x00, 0x00, 0x00, 0x0A, 0x00, 0x0A, 0x07, 0x01, 0x06, 0x06, 0x06, // its header
+    0x08, 0x01, 0x00, 0x1E, 0x04, 0x42, 0x6C, 0x75, 0x65, // Blue
+];
+
+/// and that of 20, in a reply for 2 zones.
+const LIST_OF_20: [u8; 28] = [
+    0x00, 0x1C, 0x00, 0x00, 0x00, 0x0A, 0x00, 0x0A, 0x07, 0x01, 0x06, 0x06, 0x06, // its header
+    0x08, 0x02, 0x00, 0x14, 0x03, 0x52, 0x65, 0x64, // Red
+    0x00, 0x14, 0x04, 0x42, 0x6C, 0x75, 0x65, // Blue
+];
+
+/// A query for the zones of two networks is answered for each.
+pub(crate) fn queries_are_answered(alloc: Global) -> Result<bool, Error> {
+    let both = [
+        Want::Made(0, ASKER, &LIST_OF_30),
+        Want::Made(0, ASKER, &LIST_OF_20),
+    ];
+    answers(alloc, &QUERY, &both)
+}
+
+/// Node 10.7 asks all of its cable for the zone `red`.
+const INFO: [u8; 23] = [
+    0x00, 0x17, 0x00, 0x00, 0x00, 0x00, 0x00, 0x0A, 0xFF, 0x07, 0x06, 0x06, 0x06, // its header
+    0x05, 0x00, 0x00, 0x00, 0x00, 0x00, 0x03, 0x72, 0x65, 0x64,
+];
+
+/// It has the one zone of its cable, Red, whose multicast address ends with 38.
+const TOLD: [u8; 30] = [
+    0x00, 0x1E, 0x00, 0x00, 0x00, 0x0A, 0x00, 0x0A, 0x07, 0x01, 0x06, 0x06, 0x06, // its header
+    0x06, 0x20, 0x00, 0x0A, 0x00, 0x13, 0x03, 0x72, 0x65, 0x64, 0x06, 0x09, 0x00, 0x07, 0x00, 0x00,
+    0x38,
+];
+
+/// A node that has no network of the cable yet is told by all.
+pub(crate) fn nodes_are_told_of_the_cable(alloc: Global) -> Result<bool, Error> {
+    let mut router = lab(alloc)?;
+    let told = [Want::Made(0, ASKER, &TOLD)];
+    let all = Heard {
+        link: Link::All,
+        ..sent(&INFO)
+    };
+    if !hears(alloc, &mut router, &all, &told)? {
+        return Ok(false);
+    }
+    // from FF00.7, and so to 0.255
+    let (mut bytes, mut want) = (INFO, TOLD);
+    bytes[6] = 0xFF;
+    bytes[7] = 0x00;
+    want[5] = 0x00;
+    want[8] = 0xFF;
+    let far = Heard {
+        link: Link::All,
+        ..sent(&bytes)
+    };
+    hears(alloc, &mut router, &far, &[Want::Made(0, Next::All, &want)])
+}
+
+/// A transaction that asks for the list of all zones, from the first on.
+const LIST: [u8; 21] = [
+    0x00, 0x15, 0x00, 0x00, 0x00, 0x0A, 0x00, 0x0A, 0x01, 0x07, 0x06, 0x80, 0x03, // its header
+    0x40, 0x01, 0x00, 0x01, 0x08, 0x00, 0x00, 0x01,
+];
+
+/// Its two zones, which are the last.
+const LISTED: [u8; 30] = [
+    0x00, 0x1E, 0x00, 0x00, 0x00, 0x0A, 0x00, 0x0A, 0x07, 0x01, 0x80, 0x06, 0x03, // its header
+    0x90, 0x00, 0x00, 0x01, 0x01, 0x00, 0x00, 0x02, // the last page, of 2 zones
+    0x03, 0x52, 0x65, 0x64, 0x04, 0x42, 0x6C, 0x75, 0x65,
+];
+
+/// A list is given again where it is asked for again, also in a transaction that is carried out
+/// once, and after its release.
+pub(crate) fn lists_are_given(alloc: Global) -> Result<bool, Error> {
+    let mut router = lab(alloc)?;
+    let list = [Want::Made(0, ASKER, &LISTED)];
+    let mut once = LIST;
+    once[13] = 0x60;
+    let mut release = LIST;
+    release[13] = 0xC0;
+    let mut other = LIST;
+    other[17] = 0x0A;
+    let steps: [(&[u8], &[Want<'_>]); 6] = [
+        (&LIST, &list),
+        (&once, &list),
+        (&once, &list),
+        (&release, &[]),
+        (&once, &list),
+        (&other, &[]),
+    ];
+    for (bytes, wants) in steps {
+        if !hears(alloc, &mut router, &sent(bytes), wants)? {
+            return Ok(false);
+        }
+    }
+    Ok(true)
+}
+
+// ---- Echoes
+
+/// An echo request from 10.7 to 10.1.
+pub(crate) const PING: [u8; 18] = [
+    0x00, 0x12, 0x00, 0x00, 0x00, 0x0A, 0x00, 0x0A, 0x01, 0x07, 0x04, 0x80, 0x04, // its header
+    0x01, 0x70, 0x69, 0x6E, 0x67,
+];
+
+/// Its reply.
+pub(crate) const PONG: [u8; 18] = [
+    0x00, 0x12, 0x00, 0x00, 0x00, 0x0A, 0x00, 0x0A, 0x07, 0x01, 0x80, 0x04, 0x04, // its header
+    0x02, 0x70, 0x69, 0x6E, 0x67,
+];
+
+/// The reply comes from the address that was asked, also where that is the far port's. With a
+/// checksum it has one too; one with a wrong checksum gets none.
+pub(crate) fn echoes_come_from_the_address_asked(alloc: Global) -> Result<bool, Error> {
+    let (mut far, mut back) = (PING, PONG);
+    far[5] = 0x14;
+    back[7] = 0x14;
+    let (mut summed, mut answer) = (PING, PONG);
+    (summed[2], summed[3]) = (0xF3, 0xEF);
+    (answer[2], answer[3]) = (0x3E, 0x10);
+    let mut wrong = summed;
+    wrong[3] = 0xEE;
+    let near = answers(alloc, &PING, &[Want::Made(0, ASKER, &PONG)])?;
+    let over = answers(
+        alloc,
+        &far,
+        &[Want::Kept(1, &far), Want::Made(0, ASKER, &back)],
+    )?;
+    let sum = answers(alloc, &summed, &[Want::Made(0, ASKER, &answer)])?;
+    Ok(near && over && sum && answers(alloc, &wrong, &[])?)
+}
+
+/// Who asked, and where the reply goes then.
+type Asker = (u16, u8, Option<Next>);
+
+fn replies_to(alloc: Global, router: &mut Lab, asker: Asker) -> Result<bool, Error> {
+    let (net, node, next) = asker;
+    let (mut bytes, mut back) = (PING, PONG);
+    let [high, low] = net.to_be_bytes();
+    (bytes[6], bytes[7], bytes[9]) = (high, low, node);
+    (back[4], back[5], back[8]) = (high, low, node);
+    let heard = sent(&bytes);
+    match next {
+        Some(next) => {
+            let port = if net < 20 { 0 } else { 1 };
+            hears(alloc, router, &heard, &[Want::Made(port, next, &back)])
+        }
+        None => hears(alloc, router, &heard, &[]),
+    }
+}
+
+/// Network 0, node 0, the router's own addresses and networks without a row get no reply.
+pub(crate) fn replies_go_to_nodes_with_a_route(alloc: Global) -> Result<bool, Error> {
+    let mut router = lab(alloc)?;
+    let second = Next::Station(Addr { net: 20, node: 2 });
+    let near = Next::Station(Addr { net: 20, node: 9 });
+    let askers: [Asker; 9] = [
+        (20, 9, Some(near)),
+        (30, 5, Some(second)),
+        (10, 255, Some(Next::All)),
+        (0, 7, None),
+        (10, 0, None),
+        (10, 1, None),
+        (20, 1, None),
+        (50, 7, None),
+        (40, 1, None),
+    ];
+    for asker in askers {
+        if !replies_to(alloc, &mut router, asker)? {
+            return Ok(false);
+        }
+    }
+    Ok(true)
+}
