@@ -1,2 +1,1 @@
 pub mod Ports
-pub mod Lawful

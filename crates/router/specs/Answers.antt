@@ -3,18 +3,20 @@
 use Rattle.std.specs.Prelude.{◌≡◌, ℕ, Bool, ◌&&◌, ◌||◌, ◌==◌, cond, List, [], ◌++◌, Option, Some, None, option_to_list, if◌then◌else◌}
 use Rattle.atp.specs.Answers.{bytes_of_all}
 use Rattle.atp.specs.declared.request.Request.{Request}
-use Rattle.ddp.specs.Datagram.{Datagram, checksum_of}
+use Rattle.ddp.specs.Datagram.{Datagram}
 use Rattle.echo.specs.Echo.{echo_reply}
 use Rattle.station.specs.Hearing.{Hearing}
+use Rattle.station.specs.Resolution.{packet_at}
 use Rattle.station.specs.Values.{datagram_at}
+use Rattle.station.specs.Ways.{checks, replying}
 use Rattle.station.specs.declared.heard.Kind.{Kind}
 use Rattle.station.specs.declared.heard.Kind.TheVariants.{Ddp, Aarp}
 use Rattle.station.specs.declared.output.Output.{Output}
 use Rattle.router.specs.Forwarding.{course, fate}
 use Rattle.router.specs.Holding.{Holding}
 use Rattle.router.specs.Requests.{names_in, requests_made}
-use Rattle.router.specs.Resolution.{packet_at, ports_after, resolved}
-use Rattle.router.specs.Ways.{replying, way_back}
+use Rattle.router.specs.Resolution.{ports_after, resolved}
+use Rattle.router.specs.Ways.{way_back}
 use Rattle.router.specs.Zones.{transacted, transaction_in, zones_in, zones_told}
 use Rattle.router.specs.declared.course.Course.{Course}
 use Rattle.router.specs.declared.course.Ending.{Ending}
@@ -41,10 +43,6 @@ made_for h e d =
 -- the requests for zone lists that are held then
 abbrev pub requests_after : Holding → Datagram → List Request
 requests_after h d = if is_to 3 6 d then (transacted h d (transaction_in d.payload)).1 else h.requests
-
--- the datagram has no checksum, or that of its bytes
-abbrev pub checks : Datagram → Bool
-checks d = d.checksum == 0 || d.checksum == checksum_of d
 
 -- what a router makes of a datagram, and the requests that it holds then: nothing of one that didn't end, or whose checksum
 -- is wrong

@@ -5,4 +5,3 @@ pub mod Requests
 pub mod Zones
 pub mod Resolution
 pub mod Answers
-pub mod Made

@@ -20,11 +20,12 @@ use Rattle.nbp.specs.declared.packet.Function.{Function}
 use Rattle.nbp.specs.declared.packet.Function.TheVariants.{BroadcastRequest, Lookup, Reply, ForwardRequest}
 use Rattle.nbp.specs.declared.tuple.Tuple.{Tuple}
 use Rattle.station.specs.Values.{value_of}
+use Rattle.station.specs.Ways.{is_summed, nobody, replying, way_from}
 use Rattle.station.specs.declared.output.Next.TheVariants as next
 use Rattle.station.specs.declared.output.Output.{Output}
 use Rattle.station.specs.declared.way.Way.{Way}
 use Rattle.router.specs.Holding.{Holding, hand, own_at}
-use Rattle.router.specs.Ways.{is_summed, nobody, replying, way_by, way_from}
+use Rattle.router.specs.Ways.{way_by}
 use Rattle.router.specs.declared.request.Request.{Request}
 
 -- the packet in a datagram's data

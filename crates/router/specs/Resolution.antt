@@ -1,28 +1,9 @@
--- What a station does with AARP packets. (Inside AppleTalk, the chapter on AARP)
-use Rattle.std.specs.Prelude.{ℕ, List, [], ◌∷◌, Option, Some, None, option_map, slice_get, slice_set}
-use Rattle.aarp.specs.Choosing.{Choice, answer, heard}
-use Rattle.aarp.specs.Packets.{packet, written}
+-- What a router does with AARP packets. (Inside AppleTalk, the chapter on AARP)
+use Rattle.std.specs.Prelude.{ℕ, List, [], Option, Some, None, slice_get, slice_set}
+use Rattle.aarp.specs.Choosing.{Choice, heard}
 use Rattle.aarp.specs.declared.packet.Packet.{Packet}
-use Rattle.at_base.specs.Packets.{packets}
-use Rattle.at_base.specs.Reading.{read}
-use Rattle.at_base.specs.Spelling.{bytes_of}
-use Rattle.station.specs.Values.{value_of}
+use Rattle.station.specs.Resolution.{answer_by, wired}
 use Rattle.station.specs.declared.output.Output.{Output}
-use Rattle.station.specs.declared.output.Output.TheVariants.{Wire}
-
--- the AARP packet with which the bytes begin
-unfoldable pub packet_at : List ℕ → Option Packet
-packet_at bytes = option_map (λ w. w.packet) (value_of (read packets packet bytes))
-
--- an AARP packet that a port sends to the station that it names
-abbrev pub wired : ℕ → Option Packet → List Output
-wired p None = []
-wired p (Some sent) = Wire p sent.target_hw (bytes_of packet (written sent)) ∷ []
-
--- the answer of a port, if there is one, to a packet
-abbrev pub answer_by : Packet → Option Choice → Option Packet
-answer_by sent None = None
-answer_by sent (Some c) = answer c sent
 
 -- what is put out for an AARP packet on a port: its answer
 abbrev pub resolved : List Choice → ℕ → Option Packet → List Output

@@ -25,7 +25,8 @@ use Rattle.zip_zones.specs.declared.page.Page.{Page}
 use Rattle.zip_zones.specs.declared.zone_function.ZoneFunction.{ZoneFunction}
 use Rattle.router.specs.Holding.{Holding, own_at}
 use Rattle.router.specs.Requests.{every_node}
-use Rattle.router.specs.Ways.{is_answered, reply_header, replying, straight, way_back, way_from}
+use Rattle.router.specs.Ways.{is_answered, way_back}
+use Rattle.station.specs.Ways.{reply_header, replying, straight, way_from}
 
 -- ---- Packets of ZIP
 

@@ -1,41 +1,19 @@
 //! AARP packets that a router hears.
 
-ghost use Rattle.std.specs.Prelude.{◌≡◌, ◌<◌, [], ◌∷◌, ℕ, length, slice_get, Some};
-ghost use Rattle.std.specs.Prelude.{IfOk, IsOkUnless, OnErr, OnOk};
+ghost use Rattle.std.specs.Prelude.{◌≡◌, ◌<◌, length, slice_get, Some};
+ghost use Rattle.std.specs.Prelude.{IsOkUnless, OnErr, OnOk};
 ghost use Rattle.station.specs.Hearing.{hearing};
-ghost use Rattle.station.specs.Lawful.{AreLawful, PutsOut};
+ghost use Rattle.station.specs.Lawful.{PutsOut};
+ghost use Rattle.station.specs.Resolution.{answer_by};
 ghost use Rattle.router.specs.Answers.{heard_packet};
-ghost use Rattle.router.specs.Resolution.{answer_by, packet_at, ports_after, resolved, wired};
+ghost use Rattle.router.specs.Resolution.{ports_after, resolved};
 
 use crate::router::Router;
 use aarp::Packet;
-use at_base::{Bytes, Error};
+use at_base::Error;
 use rtmp::RouteTable;
-use station::{Heard, Output, Outputs};
-use std::alloc::Global;
-
-/// The packet with which the bytes begin.
-pub(crate) fn read_packet(bytes: &[u8]) -> Option<Packet>
-    ensures { result ≡ packet_at bytes.now }
-{
-    match Packet::read(bytes) {
-        Ok(packet) => Some(packet),
-        Err(_) => None,
-    }
-}
-
-/// The frame with a packet, for the station that it names.
-fn wire(alloc: Global, port: u8, sent: &Packet) -> Result<Output, Error>
-    ensures ok { IfOk result (λ output. output ∷ [] ≡ wired port (Some sent.now)) }
-    ensures good { IfOk result (λ output. (n : ℕ) → port < n → AreLawful n (output ∷ [])) }
-    ensures refused { IsOkUnless result Error.Memory }
-{
-    Ok(Output::Wire {
-        port,
-        to: sent.target_hw,
-        bytes: Bytes::copy(alloc, &sent.write())?,
-    })
-}
+use station::frames::{read_packet, wire};
+use station::{Heard, Outputs};
 
 impl<T: RouteTable> Router<T> {
     /// The answer of a port to a packet, if it has one.

@@ -14,15 +14,13 @@ use crate::router::{Router, own_at};
 use aarp::Chooser;
 use at_base::Addr;
 use rtmp::RouteTable;
+use station::ways::EVERY_NODE;
 use station::{Cause, Link, Next};
 
 /// The hop count at which a datagram isn't handed on any more.
 ///
 /// Inside AppleTalk, the chapter on DDP.
 const MAX_HOPS: u8 = 15;
-
-/// The node number that stands for every node of a cable.
-pub(crate) const EVERY_NODE: u8 = 255;
 
 /// What a router does with a datagram that it has to pass on. Ports are counted from 0.
 #[derive(Clone, Copy, Debug, PartialEq, Eq)]

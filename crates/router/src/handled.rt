@@ -4,22 +4,24 @@ ghost use Rattle.std.specs.Prelude.{◌≡◌, ◌<◌, ◌≤◌, ◌+◌, ◌+
 ghost use Rattle.std.specs.Prelude.{IfOk, IfSome, IsOkUnless, None, OnOk, option_to_list};
 ghost use Rattle.std.specs.Option.{unwrap_or};
 ghost use Rattle.echo.specs.Echo.{echo_reply};
-ghost use Rattle.router.specs.Answers.{checks as has_good_sum, handled as is_handled, is_to as goes_to};
+ghost use Rattle.router.specs.Answers.{handled as is_handled, is_to as goes_to};
 ghost use Rattle.router.specs.Answers.{made_for, requests_after, served};
 ghost use Rattle.router.specs.Zones.{transacted, transaction_in};
 ghost use Rattle.atp.specs.Answers.{bytes_of_all};
-ghost use Rattle.router.specs.Made.{AreMade, AreShort};
-ghost use Rattle.router.specs.Ways.{replying, way_back as back};
+ghost use Rattle.station.specs.Made.{AreMade, AreShort};
+ghost use Rattle.router.specs.Ways.{way_back as back};
+ghost use Rattle.station.specs.Ways.{replying};
 
 use crate::course::Ending;
 use crate::lists::Transacted;
-use crate::making::{put_all, put_one};
 use crate::router::Router;
 use at_base::{Bytes, Error};
 use atp::Responder;
 use ddp::{View, kind, socket};
 use rtmp::RouteTable;
 use station::Output;
+use station::making::{put_all, put_one};
+use station::ways::checks;
 
 /// What a router makes of a datagram, and the requests that it holds then, where they are others
 /// than before.
@@ -34,13 +36,6 @@ fn is_to(view: &View<'_>, kind: u8, socket: u8) -> bool
     ensures { result ≡ goes_to kind socket view.now }
 {
     view.kind() == kind && view.target_socket() == socket
-}
-
-/// Whether the datagram has no checksum, or that of its bytes.
-fn checks(view: &View<'_>) -> bool
-    ensures { result ≡ has_good_sum view.now }
-{
-    view.check().is_ok()
 }
 
 impl<T: RouteTable> Router<T> {

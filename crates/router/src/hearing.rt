@@ -1,23 +1,10 @@
 //! Routers as stations.
 
-ghost use Rattle.std.specs.Prelude.{◌≡◌};
-ghost use Rattle.station.specs.Values.{datagram_at};
-
 use crate::router::Router;
 use at_base::Error;
-use ddp::View;
 use rtmp::RouteTable;
+use station::frames::read_datagram;
 use station::{Heard, Kind, Outputs, Station};
-
-/// The datagram with which the bytes begin.
-fn read_datagram(bytes: &[u8]) -> Option<View<'_>>
-    ensures { result ≡ datagram_at bytes.now }
-{
-    match View::read(bytes) {
-        Ok(view) => Some(view),
-        Err(_) => None,
-    }
-}
 
 impl<T: RouteTable> Station for Router<T> {
     ghost use Rattle.std.specs.Prelude.{length};

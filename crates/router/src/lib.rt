@@ -7,7 +7,6 @@ mod hand;
 mod handled;
 mod hearing;
 mod lists;
-mod making;
 mod names;
 mod receive;
 mod request;

@@ -9,7 +9,7 @@ ghost use Rattle.atp.specs.Packets.{is_request as asks};
 ghost use Rattle.atp.specs.Replies.{reply as reply_to};
 ghost use Rattle.atp.specs.Responding.{heard as hears};
 ghost use Rattle.zip_zones.specs.Answers.{asked_page};
-ghost use Rattle.router.specs.Made.{AreShort};
+ghost use Rattle.station.specs.Made.{AreShort};
 ghost use Rattle.router.specs.Zones.{listed, page_for as page_of, page_part as part_of};
 ghost use Rattle.router.specs.Zones.{peer as peer_of, transacted, transaction_in};
 

@@ -6,22 +6,22 @@ ghost use Rattle.std.specs.List.{flat_map, All};
 ghost use Rattle.at_base.specs.Range.{is_between};
 ghost use Rattle.at_base.specs.Text.{IsName};
 ghost use Rattle.nbp.specs.Expansion.{IsAskIn};
-ghost use Rattle.router.specs.Made.{AreMade, IsWayIn};
+ghost use Rattle.station.specs.Made.{AreMade, IsWayIn};
 ghost use Rattle.router.specs.Requests.{asked, forward_way as way_forward, looked_by, looked_on};
 ghost use Rattle.router.specs.Requests.{lookup_way as way_of_lookup, looked_up, made_of, names_in};
 ghost use Rattle.router.specs.Requests.{ranges as ranges_of, request_header as header_of};
 ghost use Rattle.router.specs.Requests.{requests_made};
 
-use crate::course::EVERY_NODE;
-use crate::making::put;
 use crate::request::Request;
 use crate::router::Router;
-use crate::ways::{is_summed, request_way, way_from};
+use crate::ways::request_way;
 use aarp::Chooser;
 use at_base::{Addr, Error, Name, Range, is_zone_name};
 use ddp::{Header, View, kind, socket};
 use nbp::{Ask, Function, Packet, expand, write};
 use rtmp::RouteTable;
+use station::making::put;
+use station::ways::{EVERY_NODE, is_summed, way_from};
 use station::{Next, Output, Way};
 use std::alloc::Global;
 

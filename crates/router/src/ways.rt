@@ -1,54 +1,20 @@
 //! By which way a router's own datagrams leave.
 
-ghost use Rattle.std.specs.Prelude.{◌≡◌, ◌<◌, ℕ, length, IfSome};
+ghost use Rattle.std.specs.Prelude.{◌≡◌, ℕ, length};
 ghost use Rattle.router.specs.Holding.{IsHandIn, own_at as address_at};
-ghost use Rattle.router.specs.Made.{IsWayIn};
-ghost use Rattle.router.specs.Ways.{is_answered as answers, is_summed as carries_sum};
-ghost use Rattle.router.specs.Ways.{reply_header as header_back, straight as goes_straight};
-ghost use Rattle.router.specs.Ways.{way_back as back, way_by, way_from as from_port};
-ghost use Rattle.station.specs.Lawful.{IsNext};
+ghost use Rattle.router.specs.Ways.{is_answered as answers, way_back as back, way_by};
+ghost use Rattle.station.specs.Made.{IsWayIn};
 ghost use Rattle.station.specs.Ports.{have as have_address};
 
-use crate::course::{EVERY_NODE, has};
+use crate::course::has;
 use crate::hand::Hand;
 use crate::router::{Router, own_at};
 use aarp::Chooser;
 use at_base::Addr;
 use ddp::{Header, View};
 use rtmp::RouteTable;
+use station::ways::{reply_header, straight, way_from};
 use station::{Next, Way};
-
-/// Whom a datagram goes to on the cable of its target.
-pub(crate) fn straight(target: Addr) -> Next
-    ensures value { result ≡ goes_straight target }
-    ensures next { IsNext result }
-{
-    if target.node == EVERY_NODE {
-        Next::All
-    } else {
-        Next::Station(target)
-    }
-}
-
-/// A way by a port, with the port's address as source; none where it has no address.
-pub(crate) fn way_from(own: Option<Addr>, port: u8, next: Next, header: Header) -> Option<Way>
-    ensures value { result ≡ from_port own port next header }
-    ensures inside { IfSome result (λ way. (way.port ≡ port) × (way.next ≡ next)) }
-{
-    let source = own?;
-    Some(Way {
-        port,
-        next,
-        header: Header { source, ..header },
-    })
-}
-
-/// Whether the datagram carries a checksum.
-pub(crate) fn is_summed(view: &View<'_>) -> bool
-    ensures { result ≡ carries_sum view.now }
-{
-    view.checksum() != 0
-}
 
 /// One of the ports has the address.
 fn have(target: Addr, ports: &[Chooser]) -> bool
@@ -62,20 +28,6 @@ pub(crate) fn is_answered(ports: &[Chooser], target: Addr) -> bool
     ensures { result ≡ answers ports.now target }
 {
     target.net != 0 && target.node != 0 && !have(target, ports)
-}
-
-/// The header of a reply to a datagram, without a source.
-pub(crate) fn reply_header(view: &View<'_>, target: Addr) -> Header
-    ensures { result ≡ header_back view.now target }
-{
-    Header {
-        summed: is_summed(view),
-        target,
-        source: Addr::NONE,
-        target_socket: view.source_socket(),
-        source_socket: view.target_socket(),
-        kind: view.kind(),
-    }
 }
 
 /// The way of a reply with this header: its source is the address of the port on which the datagram

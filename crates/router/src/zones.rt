@@ -5,18 +5,19 @@ ghost use Rattle.std.specs.Prelude.{IsOkUnless, OnOk};
 ghost use Rattle.at_base.specs.Spelling.{bytes_of};
 ghost use Rattle.zip_zones.specs.Answers.{replies};
 ghost use Rattle.zip_zones.specs.Formats.{packet as zip_packet};
-ghost use Rattle.router.specs.Made.{AreMade, IsWayIn};
-ghost use Rattle.router.specs.Ways.{replying, way_back as back};
+ghost use Rattle.station.specs.Made.{AreMade, IsWayIn};
+ghost use Rattle.router.specs.Ways.{way_back as back};
+ghost use Rattle.station.specs.Ways.{replying};
 ghost use Rattle.router.specs.Zones.{info, info_way as way_of_info, told as is_told};
 ghost use Rattle.router.specs.Zones.{zones_in, zones_told};
 
-use crate::course::EVERY_NODE;
-use crate::making::{put_all, put_one};
 use crate::router::Router;
-use crate::ways::{is_answered, reply_header, straight, way_from};
+use crate::ways::is_answered;
 use at_base::{Addr, Error, Range, Text32};
 use ddp::View;
 use rtmp::RouteTable;
+use station::making::{put_all, put_one};
+use station::ways::{EVERY_NODE, reply_header, straight, way_from};
 use station::{Next, Output, Way};
 use zip_zones::{Networks, Packet, answer_query, reply_net_info};
 

@@ -2,13 +2,16 @@
 //! datagrams and AARP frames.
 #![tactic(auto)]
 
+pub mod frames;
 mod heard;
 mod laws;
+pub mod making;
 mod output;
 mod outputs;
 mod port_plan;
 mod station;
 mod way;
+pub mod ways;
 
 pub use heard::{Heard, Kind, Link};
 pub use laws::slices_have_bytes;

@@ -1,5 +1,5 @@
 use Rattle.std.proofs.Common.{length}
-use Rattle.router.proofs.Lawful.{lawful_with}
+use Rattle.station.proofs.MadeLawful.{lawful_with}
 use Rattle.router.proofs.router.Router.react.Goals as goal
 
 pub returns-clause-lawful : goal.returns-clause-lawful

@@ -3,8 +3,8 @@ use Rattle.at_base.specs.Packets.{packets}
 use Rattle.aarp.specs.Packets.{packet}
 use Rattle.aarp.proofs.Shape.{packet_lawful}
 use Rattle.station.proofs.Values.{reads_kept}
-use Rattle.router.specs.Resolution.{packet_at}
-use Rattle.router.proofs.arp.read_packet.Goals as goal
+use Rattle.station.specs.Resolution.{packet_at}
+use Rattle.station.proofs.frames.read_packet.Goals as goal
 
 pub returns-in-Ok : goal.returns-in-Ok
 unfolding packet_at

@@ -1,5 +1,5 @@
 use Rattle.std.proofs.lemmas.Result.{on_ok_weaker}
-use Rattle.router.proofs.making.+put_all.Goals as goal
+use Rattle.station.proofs.making.+put_all.Goals as goal
 
 pub returns-in_ok-put-in-len1-up-clause-good : goal.returns-in_ok-put-in-len1-up-clause-good
 returns-in_ok-put-in-len1-up-clause-good t c =

@@ -1,11 +1,11 @@
--- What a router puts out is what a station may put out.
+-- Outputs that a station made are what it may put out.
 use Rattle.std.proofs.Common.{◌≡◌, ℕ, ◌≤◌, false, not, List, [], ◌∷◌, ◌++◌, length, refl, arith, Option, Some, None, IfSome}
 use Rattle.std.specs.Prelude.{option_to_list}
 use Rattle.std.specs.List.{All}
 use Rattle.std.proofs.lemmas.List.Elements.{All-cons, All-tail}
 use Rattle.station.specs.Lawful.{AreLawful, IsGood, count, is_made, one}
 use Rattle.station.specs.declared.output.Output.{Output}
-use Rattle.router.specs.Made.{AreMade, IsMadeIn}
+use Rattle.station.specs.Made.{AreMade, IsMadeIn}
 
 -- the first of outputs that were made was made
 first_made : (n : ℕ) (o : Output) (os : List Output) → AreMade n (o ∷ os) → IsMadeIn n o

@@ -4,7 +4,7 @@ use Rattle.ddp.specs.Datagram.{datagram}
 use Rattle.ddp.proofs.Shape.{datagram_lawful}
 use Rattle.station.proofs.Values.{reads_value}
 use Rattle.station.specs.Values.{datagram_at}
-use Rattle.router.proofs.hearing.read_datagram.Goals as goal
+use Rattle.station.proofs.frames.read_datagram.Goals as goal
 
 pub returns-in-Ok : goal.returns-in-Ok
 unfolding datagram_at

@@ -1,15 +1,16 @@
-//! The datagrams that a router makes.
+//! The datagrams that a station makes.
 
 ghost use Rattle.std.specs.Prelude.{◌≡◌, ◌≤◌, ◌+◌, ◌∷◌, [], ◌++◌, ℕ, length, option_to_list};
 ghost use Rattle.std.specs.Prelude.{IfSome, IsOkUnless, OnOk};
-ghost use Rattle.router.specs.Made.{AreMade, AreShort, IsWayIn};
-ghost use Rattle.router.specs.Ways.{replying};
+ghost use Rattle.station.specs.Made.{AreMade, AreShort, IsWayIn};
+ghost use Rattle.station.specs.Ways.{replying};
 
+use crate::output::Output;
+use crate::way::Way;
 use at_base::{Bytes, Error};
-use station::{Output, Way};
 
-/// Makes the datagram with this data, where there is a way.
-pub(crate) fn put(made: &mut Vec<Output>, way: &Option<Way>, payload: &[u8]) -> Result<(), Error>
+/// Makes the datagram with this data, where there is a way. Error: `Memory`.
+pub fn put(made: &mut Vec<Output>, way: &Option<Way>, payload: &[u8]) -> Result<(), Error>
     requires { length payload.now ≤ 586 }
     ensures put { OnOk result
         (made.new.items ≡ made.old.items ++ replying way.now (payload.now ∷ [])) }
@@ -28,12 +29,8 @@ pub(crate) fn put(made: &mut Vec<Output>, way: &Option<Way>, payload: &[u8]) -> 
     }
 }
 
-/// Makes a datagram with each of these data, where there is a way.
-pub(crate) fn put_all(
-    made: &mut Vec<Output>,
-    way: &Option<Way>,
-    payloads: &[Bytes],
-) -> Result<(), Error>
+/// Makes a datagram with each of these data, where there is a way. Error: `Memory`.
+pub fn put_all(made: &mut Vec<Output>, way: &Option<Way>, payloads: &[Bytes]) -> Result<(), Error>
     requires { AreShort payloads.now }
     ensures put { OnOk result (made.new.items ≡ made.old.items ++ replying way.now payloads.now) }
     ensures few { OnOk result (length made.new.items ≤ length made.old.items + length payloads.now) }
@@ -50,8 +47,8 @@ pub(crate) fn put_all(
     }
 }
 
-/// Makes the datagram with this data, where there is any and a way.
-pub(crate) fn put_one(
+/// Makes the datagram with this data, where there is any and a way. Error: `Memory`.
+pub fn put_one(
     made: &mut Vec<Output>,
     way: &Option<Way>,
     payload: &Option<Bytes>,

@@ -1,0 +1,51 @@
+//! Frames that stations hear and send.
+
+ghost use Rattle.std.specs.Prelude.{◌≡◌, ◌<◌, [], ◌∷◌, ℕ, Some, IfOk, IsOkUnless};
+ghost use Rattle.station.specs.Lawful.{AreLawful};
+ghost use Rattle.station.specs.Resolution.{packet_at, wired};
+ghost use Rattle.station.specs.Values.{datagram_at};
+
+use crate::output::Output;
+use aarp::Packet;
+use at_base::{Bytes, Error};
+use ddp::View;
+use std::alloc::Global;
+
+/// The datagram with which the bytes begin. Allocates nothing.
+///
+/// Inside AppleTalk, the chapter on DDP.
+pub fn read_datagram(bytes: &[u8]) -> Option<View<'_>>
+    ensures { result ≡ datagram_at bytes.now }
+{
+    match View::read(bytes) {
+        Ok(view) => Some(view),
+        Err(_) => None,
+    }
+}
+
+/// The AARP packet with which the bytes begin. Allocates nothing.
+///
+/// Inside AppleTalk, the chapter on AARP.
+pub fn read_packet(bytes: &[u8]) -> Option<Packet>
+    ensures { result ≡ packet_at bytes.now }
+{
+    match Packet::read(bytes) {
+        Ok(packet) => Some(packet),
+        Err(_) => None,
+    }
+}
+
+/// The frame with an AARP packet, for the station that it names. Error: `Memory`.
+///
+/// Inside AppleTalk, the chapter on AARP.
+pub fn wire(alloc: Global, port: u8, sent: &Packet) -> Result<Output, Error>
+    ensures ok { IfOk result (λ output. output ∷ [] ≡ wired port (Some sent.now)) }
+    ensures good { IfOk result (λ output. (n : ℕ) → port < n → AreLawful n (output ∷ [])) }
+    ensures refused { IsOkUnless result Error.Memory }
+{
+    Ok(Output::Wire {
+        port,
+        to: sent.target_hw,
+        bytes: Bytes::copy(alloc, &sent.write())?,
+    })
+}

@@ -1,0 +1,70 @@
+//! The ways of the datagrams that a station makes.
+
+ghost use Rattle.std.specs.Prelude.{◌≡◌, IfSome};
+ghost use Rattle.station.specs.Lawful.{IsNext};
+ghost use Rattle.station.specs.Ways.{checks as has_good_sum, is_summed as carries_sum};
+ghost use Rattle.station.specs.Ways.{reply_header as header_back, straight as goes_straight};
+ghost use Rattle.station.specs.Ways.{way_from as from_port};
+
+use crate::output::Next;
+use crate::way::Way;
+use at_base::Addr;
+use ddp::{Header, View};
+
+/// The node number that stands for every node of a cable.
+///
+/// Inside AppleTalk, the chapter on DDP.
+pub const EVERY_NODE: u8 = 255;
+
+/// Whom a datagram goes to on the cable of its target.
+pub fn straight(target: Addr) -> Next
+    ensures value { result ≡ goes_straight target }
+    ensures next { IsNext result }
+{
+    if target.node == EVERY_NODE {
+        Next::All
+    } else {
+        Next::Station(target)
+    }
+}
+
+/// A way by a port, with the port's address as source; none where it has no address.
+pub fn way_from(own: Option<Addr>, port: u8, next: Next, header: Header) -> Option<Way>
+    ensures value { result ≡ from_port own port next header }
+    ensures inside { IfSome result (λ way. (way.port ≡ port) × (way.next ≡ next)) }
+{
+    let source = own?;
+    Some(Way {
+        port,
+        next,
+        header: Header { source, ..header },
+    })
+}
+
+/// Whether the datagram carries a checksum.
+pub fn is_summed(view: &View<'_>) -> bool
+    ensures { result ≡ carries_sum view.now }
+{
+    view.checksum() != 0
+}
+
+/// The header of a reply to a datagram, without a source.
+pub fn reply_header(view: &View<'_>, target: Addr) -> Header
+    ensures { result ≡ header_back view.now target }
+{
+    Header {
+        summed: is_summed(view),
+        target,
+        source: Addr::NONE,
+        target_socket: view.source_socket(),
+        source_socket: view.target_socket(),
+        kind: view.kind(),
+    }
+}
+
+/// Whether the datagram has no checksum, or that of its bytes.
+pub fn checks(view: &View<'_>) -> bool
+    ensures { result ≡ has_good_sum view.now }
+{
+    view.check().is_ok()
+}
