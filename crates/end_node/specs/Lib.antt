@@ -1,3 +1,5 @@
 pub mod Holding
 pub mod Ways
 pub mod Sending
+pub mod Lookups
+pub mod Answers

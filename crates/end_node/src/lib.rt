@@ -1,7 +1,10 @@
 //! End nodes: what a node sends, answers and receives.
 #![tactic(auto)]
 
+mod hearing;
+mod lookups;
 mod node;
+mod receive;
 mod sending;
 mod ways;
 
