@@ -3,3 +3,4 @@ pub mod Ways
 pub mod Sending
 pub mod Lookups
 pub mod Answers
+pub mod Asking

@@ -1,6 +1,7 @@
 //! End nodes: what a node sends, answers and receives.
 #![tactic(auto)]
 
+mod asking;
 mod hearing;
 mod lookups;
 mod node;
