@@ -1,0 +1,6 @@
+pub mod Holding
+pub mod Ways
+pub mod Sending
+pub mod Lookups
+pub mod Answers
+pub mod Asking

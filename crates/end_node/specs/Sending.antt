@@ -1,0 +1,53 @@
+-- What a node sends of its own. (Inside AppleTalk, the chapters on DDP and NBP)
+use Rattle.std.specs.Prelude.{ℕ, Bool, not, ◌&&◌, ◌||◌, ◌==◌, cond, List, Option, Some, None, Result, Ok, Err, length, nat_lt}
+use Rattle.aarp.specs.Choosing.{settled}
+use Rattle.at_base.specs.Text.{is_only}
+use Rattle.at_base.specs.declared.address.Addr.{Addr}
+use Rattle.at_base.specs.declared.error.Error.{Error}
+use Rattle.at_base.specs.declared.error.Error.TheVariants.{NoSuch, TooLong, NoRouter}
+use Rattle.at_base.specs.declared.error.What.TheVariants.{Station}
+use Rattle.ddp.specs.declared.header.Header.{Header}
+use Rattle.nbp.specs.declared.tuple.Tuple.{Tuple}
+use Rattle.station.specs.Ways.{nobody}
+use Rattle.station.specs.declared.output.Next.{Next}
+use Rattle.station.specs.declared.output.Next.TheVariants as next
+use Rattle.station.specs.declared.way.Way.{Way}
+use Rattle.end_node.specs.Holding.{NodeHolding}
+use Rattle.end_node.specs.Ways.{next_to, to_router}
+
+-- nobody has the target: network 0 is this cable, and only all its nodes are reached by it
+abbrev pub is_nobodys : Addr → Bool
+is_nobodys a = a.net == 0 && not (a.node == 255)
+
+-- to whom a datagram goes next: for network 0 to all
+abbrev pub next_of : NodeHolding → Addr → Option Next
+next_of h a = cond (a.net == 0) (Some next.All) (next_to h a)
+
+-- the way of a datagram that goes there next from this address, if it can
+abbrev pub way_or_none : Addr → Header → Option Next → Result Way Error
+way_or_none own header None = Err NoRouter
+way_or_none own header (Some to) = Ok (record { port = 0; next = to; header = record header { source = own } })
+
+-- from this address, if the node has it
+abbrev pub sending_from : NodeHolding → Option Addr → Header → ℕ → Result Way Error
+sending_from h None header len = Err (NoSuch Station)
+sending_from h (Some own) header len =
+    cond (is_nobodys header.target) (Err (NoSuch Station))
+    (cond (nat_lt 586 len) (Err TooLong)
+    (way_or_none own header (next_of h header.target)))
+
+-- The way of a datagram with this header and so many bytes of data; or why it can't be sent, in this order: the node has no
+-- address, or nobody has the target; it is too long; the node has no router, to which it would go.
+abbrev pub sending : NodeHolding → Header → ℕ → Result Way Error
+sending h header len = sending_from h (settled h.port) header len
+
+-- the header of a datagram of the node's own, which hasn't left yet
+abbrev pub header_to : Addr → ℕ → ℕ → ℕ → Bool → Header
+header_to target target_socket source_socket kind summed = record {
+  summed = summed;
+  target = target;
+  source = nobody;
+  target_socket = target_socket;
+  source_socket = source_socket;
+  kind = kind;
+}

@@ -1,0 +1,148 @@
+//! What a node asks its router for, and what it registers and received.
+
+ghost use Rattle.std.specs.Prelude.{◌≡◌, ◌↔◌, ◌≤◌, ◌&&◌, ◌⊎◌, ◌∷◌, [], length, true, false};
+ghost use Rattle.std.specs.Prelude.{IfErr, IfOk, IsOkUnless, OnErr, OnOk};
+ghost use Rattle.at_base.specs.declared.error.Field.TheVariants.{Taken};
+ghost use Rattle.end_node.specs.Asking.{asked_by, asking as asks, request_bytes};
+ghost use Rattle.end_node.specs.Asking.{zone_asked as asked_zone};
+ghost use Rattle.nbp.specs.Registered.{IsLeastFree, is_registrable, is_taken, with_name};
+ghost use Rattle.station.specs.Lawful.{IsNext, PutsOut};
+ghost use Rattle.station.specs.Making.{made};
+
+use crate::lookups::{is_any, text_of};
+use crate::node::{Datagram, EndNode};
+use crate::sending::put_out;
+use at_base::{Error, Text32, What};
+use ddp::{Header, kind as types, socket as sockets};
+use nbp::{Function, Tuple, write};
+use station::{Next, Outputs, Way};
+use std::mem;
+
+/// The socket to which the replies to a node's lookups come.
+const REPLIES: u8 = 253;
+
+impl EndNode {
+    /// The way of a request to the router, or why there is none.
+    fn asking(&self) -> Result<Way, Error>
+        ensures value { result ≡ asks self.now }
+        ensures inside { IfOk result (λ way. (way.port ≡ 0) × IsNext way.next) }
+    {
+        let Some(own) = self.own() else {
+            return Err(Error::NoSuch(What::Station));
+        };
+        let Some(router) = self.router else {
+            return Err(Error::NoRouter);
+        };
+        Ok(Way {
+            port: 0,
+            next: Next::Station(router),
+            header: Header {
+                summed: false,
+                target: router,
+                source: own,
+                target_socket: sockets::NAMES,
+                source_socket: REPLIES,
+                kind: types::NBP,
+            },
+        })
+    }
+
+    /// The zone that is asked for.
+    fn zone_asked(&self, zone: &Text32) -> Text32
+        ensures { result ≡ asked_zone self.now zone.now }
+    {
+        if is_any(zone.as_slice()) {
+            text_of(&self.zone)
+        } else {
+            *zone
+        }
+    }
+
+    /// Asks the node's router for the names of a zone: one datagram is added, a broadcast request.
+    /// For an empty zone and `*` it names the node's own.
+    ///
+    /// Inside AppleTalk, the chapter on NBP.
+    ///
+    /// Errors, in this order: `NoSuch(Station)` where the node has no address, `NoRouter` where it
+    /// has no router, `Memory`.
+    pub fn lookup(
+        &self,
+        id: u8,
+        object: &Text32,
+        kind: &Text32,
+        zone: &Text32,
+        outputs: &mut Outputs,
+    ) -> Result<(), Error>
+        ensures sent { OnOk result (IfOk (asks self.now) (λ way.
+            PutsOut 1 outputs.old.items outputs.new.items (λ added. added ≡ made way
+            (request_bytes id (asked_by way.header.source object.now kind.now
+            (asked_zone self.now zone.now))) ∷ []))) }
+        ensures unsendable { IfErr (asks self.now) (λ e. result ≡ Err e) }
+        ensures refused { IfOk (asks self.now) (λ _. IsOkUnless result Error.Memory) }
+        ensures outputs_stay { OnErr result (outputs.new.items ≡ outputs.old.items) }
+    {
+        match self.asking() {
+            Ok(way) => {
+                let tuple = Tuple {
+                    at: way.header.source,
+                    socket: REPLIES,
+                    enumerator: 0,
+                    object: *object,
+                    kind: *kind,
+                    zone: self.zone_asked(zone),
+                };
+                let alloc = *self.received.allocator();
+                let payload = write(alloc, Function::BroadcastRequest, id, &tuple)?;
+                put_out(alloc, &way, payload.as_slice(), outputs)
+            }
+            Err(error) => Err(error),
+        }
+    }
+
+    /// Takes the datagrams that were received last, at most 64, oldest first. Error: `Memory`, which
+    /// taking them never needs.
+    pub fn received(&mut self) -> Result<Vec<Datagram>, Error>
+        ensures taken { IfOk result (λ datagrams. datagrams.items ≡ self.old.received) }
+        ensures left { OnOk result (self.new ≡ record self.old { received = [] }) }
+        ensures refused { IsOkUnless result Error.Memory }
+        ensures stay { OnErr result (self.new ≡ self.old) }
+    {
+        let none = Vec::new(*self.received.allocator());
+        Ok(mem::replace(&mut self.received, none))
+    }
+
+    /// Registers a name for a socket, as `Names::register` does: it gets the least free enumerator
+    /// from 1.
+    ///
+    /// Inside AppleTalk, the chapter on NBP.
+    ///
+    /// Errors: `BadName`, `BadField(Taken)`, `Full` where there are 32 names, `Memory`. A refusal
+    /// changes nothing.
+    pub fn register(&mut self, object: Text32, kind: Text32, socket: u8) -> Result<u8, Error>
+        requires low { 1 ≤ socket }
+        requires high { socket ≤ 254 }
+        ensures free { IfOk result (λ e. IsLeastFree self.old.names e) }
+        ensures added { IfOk result (λ e. self.new ≡ record self.old {
+          names = with_name (record {
+            socket = socket;
+            enumerator = e;
+            object = object;
+            kind = kind;
+          }) self.old.names;
+        }) }
+        ensures bad { (result ≡ Err Error.BadName)
+            ↔ ((is_registrable object && is_registrable kind) ≡ false) }
+        ensures taken { (result ≡ Err (Error.BadField Taken))
+            ↔ (((is_registrable object && is_registrable kind) ≡ true)
+            × (is_taken object kind self.old.names ≡ true)) }
+        ensures full { (result ≡ Err Error.Full)
+            ↔ (((is_registrable object && is_registrable kind) ≡ true)
+            × (is_taken object kind self.old.names ≡ false)
+            × (32 ≤ length self.old.names)) }
+        ensures refused { IfErr result (λ e. (e ≡ Error.BadName) ⊎ (e ≡ Error.BadField Taken)
+            ⊎ (e ≡ Error.Full) ⊎ (e ≡ Error.Memory)) }
+        ensures kept { OnErr result (self.new ≡ self.old) }
+    {
+        self.names.register(object, kind, socket)
+    }
+}

@@ -1,0 +1,74 @@
+//! Nodes as stations.
+
+ghost use Rattle.std.specs.Prelude.{◌≡◌, ◌∷◌, [], Some};
+ghost use Rattle.std.specs.Prelude.{IsOkUnless, OnErr, OnOk};
+ghost use Rattle.aarp.specs.Choosing.{answer};
+ghost use Rattle.end_node.specs.Answers.{heard_packet};
+ghost use Rattle.station.specs.Lawful.{PutsOut};
+ghost use Rattle.station.specs.Resolution.{packet_at, wired};
+
+use crate::node::EndNode;
+use aarp::Packet;
+use at_base::Error;
+use station::frames::{read_datagram, read_packet, wire};
+use station::{Heard, Kind, Outputs, Station};
+
+impl EndNode {
+    /// Puts the answer to an AARP packet out, if there is one.
+    fn put_answer(&self, packet: &Packet, outputs: &mut Outputs) -> Result<(), Error>
+        ensures ok { OnOk result (PutsOut 1 outputs.old.items outputs.new.items (λ added.
+            added ≡ wired 0 (answer self.now.port packet.now))) }
+        ensures refused { IsOkUnless result Error.Memory }
+        ensures outputs_stay { OnErr result (outputs.new.items ≡ outputs.old.items) }
+    {
+        if let Some(sent) = self.port.answer(packet) {
+            let output = wire(*self.received.allocator(), 0, &sent)?;
+            outputs.room(1)?;
+            outputs.add(output);
+        }
+        Ok(())
+    }
+
+    /// Hears an AARP frame.
+    fn hear_packet(&mut self, bytes: &[u8], outputs: &mut Outputs) -> Result<(), Error>
+        ensures ok { OnOk result (PutsOut 1 outputs.old.items outputs.new.items (λ added.
+            (added, self.new) ≡ heard_packet self.old (packet_at bytes.now))) }
+        ensures refused { IsOkUnless result Error.Memory }
+        ensures station_stays { OnErr result (self.new ≡ self.old) }
+        ensures outputs_stay { OnErr result (outputs.new.items ≡ outputs.old.items) }
+    {
+        if let Some(packet) = read_packet(bytes) {
+            self.put_answer(&packet, outputs)?;
+            self.port.heard(&packet);
+        }
+        Ok(())
+    }
+}
+
+impl Station for EndNode {
+    ghost use Rattle.end_node.specs.Answers.{Hears, Ticks};
+
+    ghost ports_of = { λ h. 1 };
+
+    ghost hears = { Hears };
+
+    ghost ticks = { Ticks };
+
+    fn ports(&self) -> u8 {
+        1
+    }
+
+    fn receive(&mut self, heard: &Heard<'_>, outputs: &mut Outputs) -> Result<(), Error> {
+        match heard.kind {
+            Kind::Ddp => match read_datagram(heard.bytes) {
+                Some(view) => self.hear_datagram(heard.link, &view, outputs),
+                None => Ok(()),
+            },
+            Kind::Aarp => self.hear_packet(heard.bytes, outputs),
+        }
+    }
+
+    fn tick(&mut self, _outputs: &mut Outputs) -> Result<(), Error> {
+        Ok(())
+    }
+}

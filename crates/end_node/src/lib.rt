@@ -1,0 +1,12 @@
+//! End nodes: what a node sends, answers and receives.
+#![tactic(auto)]
+
+mod asking;
+mod hearing;
+mod lookups;
+mod node;
+mod receive;
+mod sending;
+mod ways;
+
+pub use node::{Datagram, EndNode, MAX_RECEIVED};

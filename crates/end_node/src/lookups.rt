@@ -1,0 +1,228 @@
+//! What a node answers to lookups.
+
+ghost use Rattle.std.specs.Prelude.{◌≡◌, ◌≤◌, ◌+◌, [], ◌∷◌, ◌++◌, length, map, ℕ, Some};
+ghost use Rattle.std.specs.Prelude.{IfOk, IsOkUnless, OnOk};
+ghost use Rattle.at_base.specs.Text.{is_only, same_name};
+ghost use Rattle.nbp.specs.Registered.{answers};
+ghost use Rattle.end_node.specs.Lookups.{answer_header as header_of, is_any as any_zone, is_in as within};
+ghost use Rattle.end_node.specs.Lookups.{looked_up, named_at as tuple_at, names_in, replies};
+ghost use Rattle.end_node.specs.Lookups.{reply_of, told};
+ghost use Rattle.station.specs.Made.{AreMade, IsWayIn};
+ghost use Rattle.station.specs.Ways.{replying};
+
+use crate::node::EndNode;
+use at_base::{Addr, Error, Name, Text32};
+use ddp::{Header, View, kind, socket};
+use nbp::{Function, Names, Packet, Tuple, write};
+use station::making::put;
+use station::ways::is_summed;
+use station::{Output, Way};
+
+/// The packet in the data of a datagram.
+fn read_packet(payload: &[u8]) -> Option<Packet<'_>>
+    ensures { result ≡ names_in payload.now }
+{
+    match Packet::read(payload) {
+        Ok(packet) => Some(packet),
+        Err(_) => None,
+    }
+}
+
+fn is_star(zone: &[u8]) -> bool
+    ensures { result ≡ is_only 42 zone.now }
+{
+    match zone {
+        [byte] => *byte == b'*',
+        _ => false,
+    }
+}
+
+/// Whether the zone stands for that of whoever hears it.
+pub(crate) fn is_any(zone: &[u8]) -> bool
+    ensures { result ≡ any_zone zone.now }
+{
+    zone.is_empty() || is_star(zone)
+}
+
+fn same(a: &[u8], b: &[u8]) -> bool
+    ensures { result ≡ same_name a.now b.now }
+{
+    a.eq_ignore_ascii_case(b)
+}
+
+/// Whether a node of this zone is in the zone of a lookup.
+fn is_in(own: &Name, zone: &[u8]) -> bool
+    ensures { result ≡ within own.now zone.now }
+{
+    is_any(zone) || same(zone, own.as_slice())
+}
+
+/// A zone's name as a text.
+pub(crate) fn text_of(zone: &Name) -> Text32
+    ensures { result ≡ zone.now }
+{
+    Text32::new(zone.as_slice()).unwrap()
+}
+
+/// A name's tuple with this address and zone.
+fn named_at(own: Addr, zone: &Name, tuple: &Tuple) -> Tuple
+    ensures { result ≡ tuple_at own zone.now tuple.now }
+{
+    Tuple {
+        at: own,
+        zone: text_of(zone),
+        ..*tuple
+    }
+}
+
+/// The header of the replies to a lookup, without a source.
+fn answer_header(summed: bool, tuple: &Tuple) -> Header
+    ensures { result ≡ header_of summed tuple.now }
+{
+    Header {
+        summed,
+        target: tuple.at,
+        source: Addr::NONE,
+        target_socket: tuple.socket,
+        source_socket: socket::NAMES,
+        kind: kind::NBP,
+    }
+}
+
+/// Makes the reply with a tuple.
+fn put_reply(
+    made: &mut Vec<Output>,
+    way: &Option<Way>,
+    own: Addr,
+    zone: &Name,
+    id: u8,
+    tuple: &Tuple,
+) -> Result<(), Error>
+    ensures put { OnOk result (made.new.items
+        ≡ made.old.items ++ replying way.now (reply_of own zone.now id tuple.now ∷ [])) }
+    ensures few { OnOk result (length made.new.items ≤ length made.old.items + 1) }
+    ensures good { OnOk result ((n : ℕ) → IsWayIn n way.now → AreMade n made.old.items
+        → AreMade n made.new.items) }
+    ensures refused { IsOkUnless result Error.Memory }
+{
+    let tuple = named_at(own, zone, tuple);
+    let payload = write(*made.allocator(), Function::Reply, id, &tuple)?;
+    put(made, way, payload.as_slice())
+}
+
+/// Makes the replies with these tuples, one after the other.
+fn put_replies(
+    made: &mut Vec<Output>,
+    way: &Option<Way>,
+    own: Addr,
+    zone: &Name,
+    id: u8,
+    tuples: &[Tuple],
+) -> Result<(), Error>
+    ensures put { OnOk result (made.new.items
+        ≡ made.old.items ++ replying way.now (map (reply_of own zone.now id) tuples.now)) }
+    ensures few { OnOk result (length made.new.items ≤ length made.old.items + length tuples.now) }
+    ensures good { OnOk result ((n : ℕ) → IsWayIn n way.now → AreMade n made.old.items
+        → AreMade n made.new.items) }
+    ensures refused { IsOkUnless result Error.Memory }
+{
+    match tuples {
+        [] => Ok(()),
+        [tuple, rest @ ..] => {
+            put_reply(made, way, own, zone, id, tuple)?;
+            put_replies(made, way, own, zone, id, rest)
+        }
+    }
+}
+
+/// The tuples of the names that a lookup asks for, at most 32.
+fn asked(names: &Names, tuple: &Tuple) -> Result<Vec<Tuple>, Error>
+    ensures ok { IfOk result (λ tuples. tuples.items
+        ≡ answers tuple.now.object tuple.now.kind names.now) }
+    ensures few { IfOk result (λ tuples. length tuples.items ≤ 32) }
+    ensures refused { IsOkUnless result Error.Memory }
+{
+    // For the prover alone: there are at most 32 names.
+    let _names = names.entries();
+    let tuples = names.answer(tuple.object.as_slice(), tuple.kind.as_slice())?;
+    Ok(tuples)
+}
+
+impl EndNode {
+    /// Makes the replies to a lookup from the node's address.
+    fn reply(
+        &self,
+        made: &mut Vec<Output>,
+        summed: bool,
+        id: u8,
+        tuple: &Tuple,
+        own: Addr,
+    ) -> Result<(), Error>
+        ensures put { OnOk result (made.new.items
+            ≡ made.old.items ++ replies self.now summed id tuple.now (Some own)) }
+        ensures few { OnOk result (length made.new.items ≤ length made.old.items + 32) }
+        ensures good { OnOk result (AreMade 1 made.old.items → AreMade 1 made.new.items) }
+        ensures refused { IsOkUnless result Error.Memory }
+    {
+        let way = self.reply_way(answer_header(summed, tuple));
+        let tuples = asked(&self.names, tuple)?;
+        put_replies(made, &way, own, &self.zone, id, tuples.as_slice())
+    }
+
+    /// Makes the replies to a lookup.
+    fn look_up(
+        &self,
+        made: &mut Vec<Output>,
+        summed: bool,
+        id: u8,
+        tuple: &Tuple,
+    ) -> Result<(), Error>
+        ensures put { OnOk result (made.new.items
+            ≡ made.old.items ++ looked_up self.now summed id tuple.now) }
+        ensures few { OnOk result (length made.new.items ≤ length made.old.items + 32) }
+        ensures good { OnOk result (AreMade 1 made.old.items → AreMade 1 made.new.items) }
+        ensures refused { IsOkUnless result Error.Memory }
+    {
+        if !is_in(&self.zone, tuple.zone.as_slice()) {
+            return Ok(());
+        }
+        match self.own() {
+            Some(own) => self.reply(made, summed, id, tuple, own),
+            None => Ok(()),
+        }
+    }
+
+    /// Answers the packet in a datagram, if it is a lookup.
+    fn tell_by(
+        &self,
+        made: &mut Vec<Output>,
+        view: &View<'_>,
+        packet: &Packet<'_>,
+    ) -> Result<(), Error>
+        ensures put { OnOk result (made.new.items
+            ≡ made.old.items ++ told self.now view.now (Some packet.now)) }
+        ensures few { OnOk result (length made.new.items ≤ length made.old.items + 32) }
+        ensures good { OnOk result (AreMade 1 made.old.items → AreMade 1 made.new.items) }
+        ensures refused { IsOkUnless result Error.Memory }
+    {
+        let tuple = packet.first().copy();
+        match packet.function() {
+            Function::Lookup => self.look_up(made, is_summed(view), packet.id(), &tuple),
+            Function::BroadcastRequest | Function::Reply | Function::ForwardRequest => Ok(()),
+        }
+    }
+
+    /// Answers a datagram about names.
+    pub(crate) fn tell(&self, made: &mut Vec<Output>, view: &View<'_>) -> Result<(), Error>
+        ensures put { OnOk result (made.new.items
+            ≡ made.old.items ++ told self.now view.now (names_in view.now.payload)) }
+        ensures few { OnOk result (length made.new.items ≤ length made.old.items + 32) }
+        ensures good { OnOk result (AreMade 1 made.old.items → AreMade 1 made.new.items) }
+        ensures refused { IsOkUnless result Error.Memory }
+    {
+        match read_packet(view.payload()) {
+            Some(packet) => self.tell_by(made, view, &packet),
+            None => Ok(()),
+        }
+    }
+}

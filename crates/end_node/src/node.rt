@@ -1,0 +1,113 @@
+//! End nodes, and what they hold.
+
+ghost use Rattle.std.specs.Prelude.{◌≡◌, [], IfOk, IsOkUnless, IsTrue};
+ghost use Rattle.aarp.specs.Choosing.{settled as settled_at};
+ghost use Rattle.station.specs.Ports.{is_planned, planned};
+
+use aarp::Chooser;
+use at_base::{Addr, Bytes, Error, Name};
+use nbp::Names;
+use station::PortPlan;
+use std::alloc::Global;
+use std::marker::Model;
+
+/// The most datagrams that a node keeps. This project's own.
+pub const MAX_RECEIVED: usize = 64;
+
+/// A datagram that a node received. Inside AppleTalk, the chapter on DDP.
+#[derive(Debug, Drop)]
+pub struct Datagram {
+    /// The node that sent it.
+    pub source: Addr,
+    pub source_socket: u8,
+    pub target_socket: u8,
+    /// The protocol whose packet the data is.
+    pub kind: u8,
+    /// Its data.
+    pub payload: Bytes,
+}
+
+/// A node on one cable, with a zone, a router and names. Its tables stay as they are.
+///
+/// Inside AppleTalk, the chapters on DDP and NBP.
+#[derive(Drop)]
+pub struct EndNode {
+    pub(crate) port: Chooser,
+    pub(crate) zone: Name,
+    pub(crate) router: Option<Addr>,
+    pub(crate) names: Names,
+    pub(crate) received: Vec<Datagram>,
+}
+
+impl Model for EndNode {
+    ghost use Rattle.end_node.specs.Holding.{NodeHolding};
+
+    ghost Value = { NodeHolding };
+
+    ghost view = { λ n. record {
+      port = n.port;
+      zone = n.zone;
+      router = n.router;
+      names = n.names;
+      received = n.received.items;
+    } };
+}
+
+impl EndNode {
+    /// A node with this port, zone, router and names. That a station of the port's range may have
+    /// the port's addresses is the caller's condition. Error: `Memory`.
+    pub fn new(
+        alloc: Global,
+        plan: &PortPlan<'_>,
+        zone: Name,
+        router: Option<Addr>,
+        names: Names,
+    ) -> Result<EndNode, Error>
+        requires { IsTrue (is_planned plan.now) }
+        ensures ok { IfOk result (λ node. node ≡ record {
+          port = planned plan.now;
+          zone = zone;
+          router = router;
+          names = names;
+          received = [];
+        }) }
+        ensures refused { IsOkUnless result Error.Memory }
+    {
+        let port = plan.chooser(alloc)?;
+        Ok(EndNode {
+            port,
+            zone,
+            router,
+            names,
+            received: Vec::new(alloc),
+        })
+    }
+
+    /// The address of the node, once it is settled. Allocates nothing.
+    pub fn own(&self) -> Option<Addr>
+        ensures { result ≡ settled_at self.now.port }
+    {
+        self.port.settled()
+    }
+
+    /// Its zone.
+    pub fn zone(&self) -> &Name
+        ensures { result.now ≡ self.now.zone }
+    {
+        &self.zone
+    }
+
+    /// The address of its router, if it has one.
+    pub fn router(&self) -> Option<Addr>
+        ensures { result ≡ self.now.router }
+    {
+        self.router
+    }
+
+    /// The names that it has registered.
+    pub fn names(&self) -> &Names
+        ensures { result.now ≡ self.now.names }
+    {
+        &self.names
+    }
+}

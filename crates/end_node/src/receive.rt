@@ -1,0 +1,213 @@
+//! What a node does with the datagrams that it hears.
+
+ghost use Rattle.std.specs.Prelude.{◌≡◌, ◌<◌, ◌≤◌, ◌+◌, ◌++◌, length, option_to_list, Some, vec_capacity, vec_len};
+ghost use Rattle.std.specs.Prelude.{IfOk, IsOkUnless, OnErr, OnOk};
+ghost use Rattle.echo.specs.Echo.{echo_reply};
+ghost use Rattle.end_node.specs.Answers.{heard_datagram, heard_own, is_all as all, is_served as is_for_node};
+ghost use Rattle.end_node.specs.Answers.{is_to as goes_to, keeping, keeping_any, kept};
+ghost use Rattle.end_node.specs.Answers.{received_of, served, takes as is_taken};
+ghost use Rattle.end_node.specs.Ways.{way_back as back};
+ghost use Rattle.station.specs.Lawful.{AreLawful, PutsOut};
+ghost use Rattle.station.specs.Made.{AreMade};
+ghost use Rattle.station.specs.Ports.{has as has_address};
+ghost use Rattle.station.specs.Ways.{replying};
+
+use crate::node::{Datagram, EndNode, MAX_RECEIVED};
+use at_base::{Addr, Bytes, Error};
+use ddp::{View, kind, socket};
+use station::making::put_one;
+use station::ways::{EVERY_NODE, checks};
+use station::{Link, Output, Outputs};
+use std::alloc::Global;
+
+/// The socket from which a node asks in transactions.
+const TRANSACTIONS: u8 = 252;
+
+/// Whether the datagram is of this type and for this socket.
+fn is_to(view: &View<'_>, kind: u8, socket: u8) -> bool
+    ensures { result ≡ goes_to kind socket view.now }
+{
+    view.kind() == kind && view.target_socket() == socket
+}
+
+/// Whether the datagram is for one of the sockets at which the node itself listens.
+fn is_served(view: &View<'_>) -> bool
+    ensures { result ≡ is_for_node view.now }
+{
+    is_to(view, kind::AEP, socket::ECHO)
+        || is_to(view, kind::NBP, socket::NAMES)
+        || is_to(view, kind::RTMP_DATA, socket::RTMP)
+        || is_to(view, kind::ZIP, socket::ZIP)
+        || is_to(view, kind::ATP, TRANSACTIONS)
+}
+
+/// Whether the port has this address.
+fn has(target: Addr, own: Option<Addr>) -> bool
+    ensures { result ≡ has_address target own }
+{
+    match own {
+        Some(own) => target == own,
+        None => false,
+    }
+}
+
+/// What is kept of a datagram.
+fn copied(alloc: Global, view: &View<'_>) -> Result<Datagram, Error>
+    ensures ok { IfOk result (λ d. d ≡ kept view.now) }
+    ensures refused { IsOkUnless result Error.Memory }
+{
+    let payload = Bytes::copy(alloc, view.payload())?;
+    Ok(Datagram {
+        source: view.source(),
+        source_socket: view.source_socket(),
+        target_socket: view.target_socket(),
+        kind: view.kind(),
+        payload,
+    })
+}
+
+/// What the node receives of a datagram, if no service of its own takes it.
+fn received_from(alloc: Global, view: &View<'_>) -> Result<Option<Datagram>, Error>
+    ensures ok { IfOk result (λ d. d ≡ received_of view.now) }
+    ensures refused { IsOkUnless result Error.Memory }
+{
+    if is_served(view) {
+        return Ok(None);
+    }
+    let datagram = copied(alloc, view)?;
+    Ok(Some(datagram))
+}
+
+/// Adds a datagram, in the place of the oldest one where there are 64.
+fn put(received: &mut Vec<Datagram>, datagram: Datagram)
+    requires { vec_len received.old < vec_capacity received.old }
+    ensures { received.new.items ≡ keeping datagram received.old.items }
+{
+    if received.len() >= MAX_RECEIVED {
+        received.remove(0);
+    }
+    received.push(datagram).unwrap();
+}
+
+/// Adds a datagram, if there is one.
+fn keep(received: &mut Vec<Datagram>, datagram: Option<Datagram>) -> Result<(), Error>
+    ensures ok { OnOk result (received.new.items ≡ keeping_any datagram received.old.items) }
+    ensures refused { IsOkUnless result Error.Memory }
+    ensures stay { OnErr result (received.new.items ≡ received.old.items) }
+{
+    match datagram {
+        None => Ok(()),
+        Some(datagram) => {
+            received.reserve(1)?;
+            put(received, datagram);
+            Ok(())
+        }
+    }
+}
+
+impl EndNode {
+    /// Whether the target is every node of the node's cable.
+    fn is_all(&self, target: Addr) -> bool
+        ensures { result ≡ all self.now target }
+    {
+        target.node == EVERY_NODE && (target.net == 0 || self.port.range().holds(target.net))
+    }
+
+    /// Whether the node takes a datagram as its own.
+    fn takes(&self, link: Link, view: &View<'_>) -> bool
+        ensures { result ≡ is_taken self.now link view.now }
+    {
+        match link {
+            Link::Own => has(view.target(), self.own()),
+            Link::All => self.is_all(view.target()),
+            Link::Group(_) => is_to(view, kind::NBP, socket::NAMES),
+        }
+    }
+
+    /// Echoes.
+    fn hear_echo(&self, made: &mut Vec<Output>, view: &View<'_>) -> Result<(), Error>
+        ensures put { OnOk result (made.new.items ≡ made.old.items
+            ++ replying (back self.now view.now) (option_to_list (echo_reply view.now))) }
+        ensures few { OnOk result (length made.new.items ≤ length made.old.items + 1) }
+        ensures good { OnOk result (AreMade 1 made.old.items → AreMade 1 made.new.items) }
+        ensures refused { IsOkUnless result Error.Memory }
+    {
+        let way = self.way_back(view);
+        let payload = echo::reply(*made.allocator(), view)?;
+        put_one(made, &way, &payload)
+    }
+
+    /// Makes what a datagram of the node's own asks for.
+    fn serve(&self, made: &mut Vec<Output>, view: &View<'_>) -> Result<(), Error>
+        ensures put { OnOk result
+            (made.new.items ≡ made.old.items ++ served self.now view.now) }
+        ensures few { OnOk result (length made.new.items ≤ length made.old.items + 32) }
+        ensures good { OnOk result (AreMade 1 made.old.items → AreMade 1 made.new.items) }
+        ensures refused { IsOkUnless result Error.Memory }
+    {
+        if is_to(view, kind::AEP, socket::ECHO) {
+            return self.hear_echo(made, view);
+        }
+        if is_to(view, kind::NBP, socket::NAMES) {
+            return self.tell(made, view);
+        }
+        Ok(())
+    }
+
+    /// What is made of a datagram of the node's own.
+    fn made_of(&self, view: &View<'_>) -> Result<Vec<Output>, Error>
+        ensures made { IfOk result (λ made. made.items ≡ served self.now view.now) }
+        ensures few { IfOk result (λ made. length made.items ≤ 256) }
+        ensures good { IfOk result (λ made. AreMade 1 made.items) }
+        ensures refused { IsOkUnless result Error.Memory }
+    {
+        let mut made = Vec::new(*self.received.allocator());
+        self.serve(&mut made, view)?;
+        Ok(made)
+    }
+
+    /// The same, which is lawful.
+    fn answer(&self, view: &View<'_>) -> Result<Vec<Output>, Error>
+        ensures made { IfOk result (λ made. made.items ≡ served self.now view.now) }
+        ensures lawful { IfOk result (λ made. AreLawful 1 made.items) }
+        ensures refused { IsOkUnless result Error.Memory }
+    {
+        let made = self.made_of(view)?;
+        Ok(made)
+    }
+
+    /// Hears a datagram of its own.
+    fn hear_own(&mut self, view: &View<'_>, outputs: &mut Outputs) -> Result<(), Error>
+        ensures ok { OnOk result (PutsOut 1 outputs.old.items outputs.new.items (λ added.
+            (added, self.new) ≡ heard_own self.old view.now)) }
+        ensures refused { IsOkUnless result Error.Memory }
+        ensures station_stays { OnErr result (self.new ≡ self.old) }
+        ensures outputs_stay { OnErr result (outputs.new.items ≡ outputs.old.items) }
+    {
+        let made = self.answer(view)?;
+        let received = received_from(*self.received.allocator(), view)?;
+        outputs.room(made.len())?;
+        keep(&mut self.received, received)?;
+        outputs.append(made);
+        Ok(())
+    }
+
+    /// Hears a datagram.
+    pub(crate) fn hear_datagram(
+        &mut self,
+        link: Link,
+        view: &View<'_>,
+        outputs: &mut Outputs,
+    ) -> Result<(), Error>
+        ensures ok { OnOk result (PutsOut 1 outputs.old.items outputs.new.items (λ added.
+            (added, self.new) ≡ heard_datagram self.old link (Some view.now))) }
+        ensures refused { IsOkUnless result Error.Memory }
+        ensures station_stays { OnErr result (self.new ≡ self.old) }
+        ensures outputs_stay { OnErr result (outputs.new.items ≡ outputs.old.items) }
+    {
+        if self.takes(link, view) && checks(view) {
+            return self.hear_own(view, outputs);
+        }
+        Ok(())
+    }
+}

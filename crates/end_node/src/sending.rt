@@ -1,0 +1,148 @@
+//! What a node sends of its own.
+
+ghost use Rattle.std.specs.Prelude.{◌≡◌, ◌≤◌, ◌∷◌, [], length, IfErr, IfOk, IfSome, IsOkUnless, OnErr, OnOk};
+ghost use Rattle.end_node.specs.Sending.{is_nobodys as nobodys, next_of as goes_to};
+ghost use Rattle.end_node.specs.Sending.{header_to, sending as sends, way_or_none as way_of};
+ghost use Rattle.station.specs.Lawful.{IsNext, PutsOut};
+ghost use Rattle.station.specs.Making.{made};
+
+use crate::node::EndNode;
+use at_base::{Addr, Error, What};
+use ddp::{Header, MAX_DATA};
+use station::ways::EVERY_NODE;
+use station::{Next, Outputs, Way};
+use std::alloc::Global;
+
+/// Whether nobody has the target.
+fn is_nobodys(target: Addr) -> bool
+    ensures { result ≡ nobodys target }
+{
+    target.net == 0 && target.node != EVERY_NODE
+}
+
+/// The way of a datagram that goes to the next station from this address.
+fn way_or_none(own: Addr, header: Header, next: Option<Next>) -> Result<Way, Error>
+    requires { IfSome next IsNext }
+    ensures value { result ≡ way_of own header next }
+    ensures inside { IfOk result (λ way. (way.port ≡ 0) × IsNext way.next) }
+{
+    match next {
+        Some(next) => Ok(Way {
+            port: 0,
+            next,
+            header: Header {
+                source: own,
+                ..header
+            },
+        }),
+        None => Err(Error::NoRouter),
+    }
+}
+
+/// Puts the datagram with this data out that goes a way.
+pub(crate) fn put_out(
+    alloc: Global,
+    way: &Way,
+    payload: &[u8],
+    outputs: &mut Outputs,
+) -> Result<(), Error>
+    requires short { length payload.now ≤ 586 }
+    requires port { way.now.port ≡ 0 }
+    requires next { IsNext way.now.next }
+    ensures sent { OnOk result (PutsOut 1 outputs.old.items outputs.new.items
+        (λ added. added ≡ made way.now payload.now ∷ [])) }
+    ensures refused { IsOkUnless result Error.Memory }
+    ensures outputs_stay { OnErr result (outputs.new.items ≡ outputs.old.items) }
+{
+    let output = way.make(alloc, payload)?;
+    outputs.room(1)?;
+    outputs.add(output);
+    Ok(())
+}
+
+impl EndNode {
+    /// To whom a datagram of the node's own goes next.
+    fn next_of(&self, target: Addr) -> Option<Next>
+        ensures value { result ≡ goes_to self.now target }
+        ensures next { IfSome result IsNext }
+    {
+        if target.net == 0 {
+            Some(Next::All)
+        } else {
+            self.next_to(target)
+        }
+    }
+
+    /// The way of a datagram with this header and so many bytes of data, or why it can't be sent.
+    fn sending(&self, header: Header, len: usize) -> Result<Way, Error>
+        ensures value { result ≡ sends self.now header len }
+        ensures short { IfOk result (λ _. len ≤ 586) }
+        ensures inside { IfOk result (λ way. (way.port ≡ 0) × IsNext way.next) }
+    {
+        let Some(own) = self.own() else {
+            return Err(Error::NoSuch(What::Station));
+        };
+        if is_nobodys(header.target) {
+            return Err(Error::NoSuch(What::Station));
+        }
+        if len > MAX_DATA {
+            return Err(Error::TooLong);
+        }
+        way_or_none(own, header, self.next_of(header.target))
+    }
+
+    /// Puts a datagram with this header out.
+    fn send_by(&self, header: Header, payload: &[u8], outputs: &mut Outputs) -> Result<(), Error>
+        ensures sent { OnOk result (IfOk (sends self.now header (length payload.now)) (λ way.
+            PutsOut 1 outputs.old.items outputs.new.items
+            (λ added. added ≡ made way payload.now ∷ []))) }
+        ensures unsendable { IfErr (sends self.now header (length payload.now))
+            (λ e. result ≡ Err e) }
+        ensures refused { IfOk (sends self.now header (length payload.now))
+            (λ _. IsOkUnless result Error.Memory) }
+        ensures outputs_stay { OnErr result (outputs.new.items ≡ outputs.old.items) }
+    {
+        match self.sending(header, payload.len()) {
+            Ok(way) => put_out(*self.received.allocator(), &way, payload, outputs),
+            Err(error) => Err(error),
+        }
+    }
+
+    /// Sends a datagram, which is added to the outputs.
+    ///
+    /// Inside AppleTalk, the chapter on DDP.
+    ///
+    /// Errors, in this order: `NoSuch(Station)` where the node has no address, and for network 0
+    /// with another node than 255; `TooLong` above 586 bytes; `NoRouter` where the datagram has to go
+    /// to a router and the node has none; `Memory`.
+    pub fn send(
+        &self,
+        target: Addr,
+        target_socket: u8,
+        source_socket: u8,
+        kind: u8,
+        summed: bool,
+        payload: &[u8],
+        outputs: &mut Outputs,
+    ) -> Result<(), Error>
+        ensures sent { OnOk result (IfOk (sends self.now
+            (header_to target target_socket source_socket kind summed)
+            (length payload.now)) (λ way. PutsOut 1 outputs.old.items outputs.new.items
+            (λ added. added ≡ made way payload.now ∷ []))) }
+        ensures unsendable { IfErr (sends self.now
+            (header_to target target_socket source_socket kind summed) (length payload.now)) (λ e. result ≡ Err e) }
+        ensures refused { IfOk (sends self.now
+            (header_to target target_socket source_socket kind summed) (length payload.now)) (λ _. IsOkUnless result Error.Memory) }
+        ensures outputs_stay { OnErr result (outputs.new.items ≡ outputs.old.items) }
+    {
+        let header = Header {
+            summed,
+            target,
+            source: Addr::NONE,
+            target_socket,
+            source_socket,
+            kind,
+        };
+        self.send_by(header, payload, outputs)
+    }
+}
