@@ -3,7 +3,6 @@ use Rattle.std.proofs.Common.{ℕ, ◌≤◌, Bool, true, false, cond, List, [],
 use Rattle.std.specs.Prelude.{filter, map}
 use Rattle.nbp.specs.Registered.{answers, is_asked_for, tuple_of}
 use Rattle.nbp.specs.declared.names.Named.{Named}
-use Rattle.nbp.specs.declared.tuple.Tuple.{Tuple}
 
 pub few_answers : (object kind : List ℕ) (names : List Named) → length (answers object kind names) ≤ length names
 few_answers object kind [] = omega arith

@@ -16,7 +16,6 @@ use Rattle.nbp.specs.declared.tuple.Tuple.{Tuple}
 use Rattle.station.specs.Values.{value_of}
 use Rattle.station.specs.Ways.{is_summed, nobody, replying}
 use Rattle.station.specs.declared.output.Output.{Output}
-use Rattle.station.specs.declared.way.Way.{Way}
 use Rattle.end_node.specs.Holding.{NodeHolding}
 use Rattle.end_node.specs.Ways.{reply_way}
 

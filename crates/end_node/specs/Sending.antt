@@ -1,19 +1,17 @@
 -- What a node sends of its own. (Inside AppleTalk, the chapters on DDP and NBP)
-use Rattle.std.specs.Prelude.{ℕ, Bool, not, ◌&&◌, ◌||◌, ◌==◌, cond, List, Option, Some, None, Result, Ok, Err, length, nat_lt}
+use Rattle.std.specs.Prelude.{ℕ, Bool, not, ◌&&◌, ◌==◌, cond, Option, Some, None, Result, Ok, Err, nat_lt}
 use Rattle.aarp.specs.Choosing.{settled}
-use Rattle.at_base.specs.Text.{is_only}
 use Rattle.at_base.specs.declared.address.Addr.{Addr}
 use Rattle.at_base.specs.declared.error.Error.{Error}
 use Rattle.at_base.specs.declared.error.Error.TheVariants.{NoSuch, TooLong, NoRouter}
 use Rattle.at_base.specs.declared.error.What.TheVariants.{Station}
 use Rattle.ddp.specs.declared.header.Header.{Header}
-use Rattle.nbp.specs.declared.tuple.Tuple.{Tuple}
 use Rattle.station.specs.Ways.{nobody}
 use Rattle.station.specs.declared.output.Next.{Next}
 use Rattle.station.specs.declared.output.Next.TheVariants as next
 use Rattle.station.specs.declared.way.Way.{Way}
 use Rattle.end_node.specs.Holding.{NodeHolding}
-use Rattle.end_node.specs.Ways.{next_to, to_router}
+use Rattle.end_node.specs.Ways.{next_to}
 
 -- nobody has the target: network 0 is this cable, and only all its nodes are reached by it
 abbrev pub is_nobodys : Addr → Bool

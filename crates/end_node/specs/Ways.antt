@@ -1,5 +1,5 @@
 -- By which way a node's datagrams leave. (Inside AppleTalk, the chapter on DDP)
-use Rattle.std.specs.Prelude.{ℕ, Bool, not, ◌&&◌, ◌==◌, cond, Option, Some, None, option_map}
+use Rattle.std.specs.Prelude.{Bool, not, ◌&&◌, ◌==◌, cond, Option, Some, None}
 use Rattle.at_base.specs.Range.{is_between}
 use Rattle.at_base.specs.declared.address.Addr.{Addr}
 use Rattle.aarp.specs.Choosing.{settled}
