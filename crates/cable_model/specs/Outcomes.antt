@@ -158,7 +158,7 @@ pub record AreSeatsOf (seats : List Seat) (station ports : ℕ) : Type 0 where
 -- A station with so many ports took a frame that was pending for it, put out what follows, and is another then. Of its outputs those wait that
 -- are for a station of which nothing is known yet.
 pub record IsTaken (places : Places) (ports : ℕ) (old new : Cabling) (stamp station : ℕ)
-      (Hears : Hearing → List Output → Type 0) : Type 0 where
+    (Hears : Hearing → List Output → Type 0) : Type 0 where
   pub pair : Pair
   pub was_pending : Contains (pending old.seats (transcript old)) pair
   pub of_stamp : pair.frame.stamp ≡ stamp

@@ -27,6 +27,7 @@ same_address w c false e = by (is_conflict c.tentative c.hw w) refl
   where
     none : (d : Choice) → d.is_settled ≡ false → settled d ≡ None
     none d f = rw f refl
+
     by : (b : Bool) → is_conflict c.tentative c.hw w ≡ b → settled (hears_choice w c) ≡ settled c
     by true f =
         let is : hears_choice w c ≡ moved c = rw (e, f) refl in
