@@ -1,5 +1,0 @@
-use Rattle.frozen.proofs.laws.hops_left.Goals as goal
-use Rattle.frozen.proofs.Conserved.{hops_are_left}
-
-pub returns : goal.returns
-returns c = hops_are_left

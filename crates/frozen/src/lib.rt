@@ -1,9 +1,0 @@
-//! Runs over the frozen tables of an internet.
-#![tactic(auto)]
-
-mod laws;
-
-pub use laws::{
-    carriage, conservation, each_end_is_legal, hops_left, lookups, others_are_no_requests,
-    the_echo_is_legal, the_lookup_is_legal, words_exclude,
-};

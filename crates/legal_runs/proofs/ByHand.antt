@@ -1,0 +1,46 @@
+-- Datagrams and pairs of examples that were worked by hand.
+use Rattle.std.proofs.Common.{◌≡◌, ◌≢◌, ◌<◌, ◌≤◌, ℕ, IsTrue, List, Option, inl, length, nat_lt, refl, arith}
+use Rattle.std.specs.List.{list_all}
+use Rattle.at_base.specs.Spelling.{bytes_of}
+use Rattle.at_base.specs.declared.address.Hw.{Hw}
+use Rattle.ddp.specs.declared.header.Header.{Header}
+use Rattle.ddp.specs.Datagram.{datagram, unsummed}
+use Rattle.ddp.proofs.Written.{Fitting, unsummed_value}
+use Rattle.audit.specs.Example.{hardware}
+use Rattle.station.specs.declared.heard.Kind.TheVariants.{Ddp}
+use Rattle.cable_model.specs.Pending.{Pair}
+use Rattle.cable_model.specs.Transcript.{Frame}
+use Rattle.legal_runs.specs.Answers.{IsBody}
+
+-- a number that is above 0
+pub not_zero : (n : ℕ) → 1 ≤ n → n ≢ 0
+not_zero n low = λ z. absurd (omega (arith, low, z))
+
+-- a header whose networks are below 256
+pub fitting : (h : Header) → h.target.net < 256 → h.target.node < 256 → h.source.net < 256 → h.source.node < 256
+    → h.target_socket < 256 → h.source_socket < 256 → h.kind < 256 → Fitting h
+fitting h a b c d e f g = record {
+  target_net = omega (arith, a);
+  source_net = omega (arith, c);
+  target_node = b;
+  source_node = d;
+  target_socket = e;
+  source_socket = f;
+  kind = g;
+}
+
+-- bytes that are those of a header and data
+pub is_body : (h : Header) (payload bytes : List ℕ) → Fitting h → length payload ≤ 586 → bytes ≡ bytes_of datagram (unsummed h payload)
+    → IsTrue (list_all (λ b. nat_lt b 256) bytes) → IsBody bytes
+is_body h payload bytes fits few same each =
+    record { value = unsummed h payload; spelled = (unsummed_value h payload fits few, same); each = each; fresh = refl; sum = inl refl }
+
+-- a frame with a datagram
+abbrev pub frame : ℕ → ℕ → ℕ → Hw → List ℕ → Frame
+frame stamp cable sender to bytes =
+    record { stamp = stamp; cable = cable; sender = sender; to = to; kind = Ddp; bytes = bytes }
+
+-- a frame and the station that hears it, by a port and the hardware address that ends in this byte
+abbrev pub pair : Frame → ℕ → ℕ → ℕ → Option ℕ → Pair
+pair f station port byte group =
+    record { frame = f; seat = record { cable = f.cable; station = station; port = port; hw = hardware byte; group = group } }

@@ -1,0 +1,19 @@
+use Rattle.legal_runs.proofs.laws.words_exclude.Goals as goal
+use Rattle.legal_runs.proofs.Refused.{not_asked_alone, not_dropped_too, not_elsewhere, not_from_all, not_gone, not_many_hops, not_nowhere}
+use Rattle.legal_runs.proofs.Refused.{not_out_of_hops, not_put_from_afar, not_reached_alone, not_reached_elsewhere, not_reached_from_afar}
+use Rattle.legal_runs.proofs.Refused.{not_reached_unlisted, not_same_hops, not_taken_twice}
+
+pub returns : goal.returns
+returns c = record {
+  reached = not_reached_alone;
+  elsewhere = not_reached_elsewhere;
+  dropped = not_dropped_too;
+  afar = (not_reached_from_afar, not_put_from_afar);
+  taken = not_taken_twice;
+  heard = not_from_all;
+  hops = (not_same_hops, not_many_hops);
+  unlisted = (not_gone, not_reached_unlisted, not_out_of_hops);
+  looked = not_elsewhere;
+  not_looked = not_nowhere;
+  asked = not_asked_alone;
+}
