@@ -1,0 +1,4 @@
+pub mod Members
+pub mod Holders
+pub mod Seating
+pub mod Finding

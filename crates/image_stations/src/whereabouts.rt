@@ -1,0 +1,187 @@
+//! Where the stations of an internet are.
+
+ghost use Rattle.std.specs.Prelude.{◌≡◌, ◌+◌, ◌≤◌, is_some, length, map, position};
+ghost use Rattle.at_base.specs.Address.{same_address as same};
+ghost use Rattle.at_base.specs.Range.{is_between};
+ghost use Rattle.audit.specs.Routing.{owner};
+ghost use Rattle.audit.specs.Seats.{node_seats, port_seat, router_seats, seats};
+ghost use Rattle.image_stations.specs.Finding.{is_named as is_named_in, spot_in};
+ghost use Rattle.image_stations.specs.Finding.{station_at as station_in};
+
+use at_base::{Addr, Hw};
+use cable_model::{Found, Resolve};
+use std::marker::Model;
+use table_image::{Cable, Image, Node, Port, Router};
+
+/// A station on a cable. Stations and cables are counted from 0. This project's own.
+#[derive(Clone, Copy, Debug, PartialEq, Eq)]
+pub struct Spot {
+    /// The station.
+    pub station: u16,
+    /// The cable.
+    pub cable: u8,
+    /// The hardware address of the station there.
+    pub hardware: Hw,
+}
+
+/// Whether two addresses are the same.
+fn same_address(a: Addr, b: Addr) -> bool
+    ensures { result ≡ same a b }
+{
+    a.net == b.net && a.node == b.node
+}
+
+/// Whether no cable is named, or this one.
+fn is_named(named: Option<u8>, cable: u8) -> bool
+    ensures { result ≡ is_named_in named cable }
+{
+    match named {
+        None => true,
+        Some(named) => cable == named,
+    }
+}
+
+/// The first of a router's ports that has the address.
+fn among_ports(router: u16, ports: &[Port], cable: Option<u8>, addr: Addr) -> Option<Spot>
+    ensures { result ≡ spot_in (map (port_seat router) ports.now) cable addr }
+{
+    match ports {
+        [] => None,
+        [port, rest @ ..] => {
+            if is_named(cable, port.cable) && same_address(port.address, addr) {
+                Some(Spot {
+                    station: router,
+                    cable: port.cable,
+                    hardware: port.hardware,
+                })
+            } else {
+                among_ports(router, rest, cable, addr)
+            }
+        }
+    }
+}
+
+#[tactic(auto, using(crate::proofs::Finding::found_first))]
+/// The first port that has the address, of routers that are numbered from one on.
+fn among_routers(from: u16, routers: &[Router], cable: Option<u8>, addr: Addr) -> Option<Spot>
+    requires few { from + length routers.now ≤ 200 }
+    ensures { result ≡ spot_in (router_seats from routers.now) cable addr }
+{
+    match routers {
+        [] => None,
+        [router, rest @ ..] => {
+            match among_ports(from, router.ports.as_slice(), cable, addr) {
+                Some(spot) => Some(spot),
+                None => among_routers(from + 1, rest, cable, addr),
+            }
+        }
+    }
+}
+
+/// The first node that has the address, of those whose stations are numbered from one on.
+fn among_nodes(from: u16, nodes: &[Node], cable: Option<u8>, addr: Addr) -> Option<Spot>
+    requires few { from + length nodes.now ≤ 400 }
+    ensures { result ≡ spot_in (node_seats from nodes.now) cable addr }
+{
+    match nodes {
+        [] => None,
+        [node, rest @ ..] => {
+            if is_named(cable, node.cable) && same_address(node.address, addr) {
+                Some(Spot {
+                    station: from,
+                    cable: node.cable,
+                    hardware: node.hardware,
+                })
+            } else {
+                among_nodes(from + 1, rest, cable, addr)
+            }
+        }
+    }
+}
+
+#[tactic(auto, using(crate::proofs::Finding::found_first, crate::proofs::Finding::found_later))]
+/// The first station that has the address, on this cable if one is named.
+fn spot_of(image: &Image, cable: Option<u8>, addr: Addr) -> Option<Spot>
+    ensures { result ≡ spot_in (seats image.now) cable addr }
+{
+    let routers = image.routers();
+    match among_routers(0, routers, cable, addr) {
+        Some(spot) => Some(spot),
+        None => among_nodes(routers.len() as u16, image.nodes(), cable, addr),
+    }
+}
+
+/// The cable whose range holds the network.
+fn home_of(cables: &[Cable], net: u16) -> Option<usize>
+    ensures { result ≡ position (λ c. is_between c.start c.end net) cables.now }
+{
+    cables.iter().position(|c| c.start <= net && net <= c.end)
+}
+
+/// Where the stations of an internet are, by its image. This project's own.
+#[derive(Debug, Drop)]
+pub struct Whereabouts<'a> {
+    image: &'a Image,
+}
+
+impl<'a> Model for Whereabouts<'a> {
+    ghost use Rattle.table_image.specs.Internet.{Internet};
+
+    ghost Value = { Internet };
+
+    ghost view = { λ w. w.image.now };
+}
+
+impl<'a> Whereabouts<'a> {
+    /// Where the stations of the image's internet are.
+    pub fn of(image: &'a Image) -> Whereabouts<'a>
+        ensures { result ≡ image.now }
+    {
+        Whereabouts { image }
+    }
+
+    /// The image.
+    fn image(&self) -> &Image
+        ensures { result.now ≡ self.now }
+    {
+        self.image
+    }
+
+    /// Whether a router has a port with the address on the cable. Allocates nothing.
+    #[tactic(auto, using(crate::proofs::Finding::router_spot))]
+    pub fn has_router(&self, cable: u8, addr: Addr) -> bool
+        ensures { result ≡ is_some (owner self.now cable addr) }
+    {
+        let routers = self.image().routers();
+        match spot_of(self.image(), Some(cable), addr) {
+            Some(spot) => (spot.station as usize) < routers.len(),
+            None => false,
+        }
+    }
+
+    /// The first station that has the address. Allocates nothing.
+    pub fn station(&self, addr: Addr) -> Option<u16>
+        ensures { result ≡ station_in self.now addr }
+    {
+        spot_of(self.image(), None, addr).map(|spot| spot.station)
+    }
+}
+
+impl<'a> Resolve for Whereabouts<'a> {
+    ghost use Rattle.image_stations.specs.Holders.{places_of};
+
+    ghost finds = { λ w. (places_of w).finds };
+
+    ghost lists = { λ w. (places_of w).lists };
+
+    fn find(&self, cable: u8, addr: Addr) -> Found {
+        match spot_of(self.image(), Some(cable), addr) {
+            Some(spot) => Found::At(spot.hardware),
+            None => Found::Nobody,
+        }
+    }
+
+    fn listed(&self, net: u16) -> bool {
+        home_of(self.image().cables(), net).is_some()
+    }
+}
