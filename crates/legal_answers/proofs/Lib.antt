@@ -1,0 +1,17 @@
+pub mod Bridge
+pub mod Ports
+pub mod Hands
+pub mod Arrivals
+pub mod Datagrams
+pub mod Fates
+pub mod Courses
+pub mod Making
+pub mod Leaving
+pub mod RouterWays
+pub mod Asked
+pub mod Served
+pub mod RouterTakes
+pub mod NodeSeats
+pub mod NodeWays
+pub mod NodeNames
+pub mod NodeTakes

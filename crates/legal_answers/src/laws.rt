@@ -1,0 +1,55 @@
+//! Laws of stations that hold the tables of an internet that passes the audit, for the crates above.
+//! The functions do nothing: what they ensure is the law.
+
+ghost use Rattle.std.specs.Prelude.{◌≡◌, ◌+◌, ◌∷◌, ℕ, List, Contains, length};
+ghost use Rattle.audit.specs.Rules.{Passes};
+ghost use Rattle.cable_model.specs.Outcomes.{all_entries, heard_by, leg as leg_on};
+ghost use Rattle.cable_model.specs.Pending.{Pair, pending};
+ghost use Rattle.cable_model.specs.Transcript.{Entry, Sent, Took, stamps};
+ghost use Rattle.end_node.specs.Answers.{Hears as NodeHears};
+ghost use Rattle.end_node.specs.Holding.{NodeHolding};
+ghost use Rattle.image_stations.specs.Holders.{HoldsNode};
+ghost use Rattle.image_stations.specs.Holders.{HoldsRouter, places_of};
+ghost use Rattle.legal_runs.specs.Answers.{IsMade, IsOwn};
+ghost use Rattle.legal_runs.specs.Legal.{Block, IsLegal};
+ghost use Rattle.legal_runs.specs.Legs.{Leg};
+ghost use Rattle.legal_runs.specs.Stations.{cable_seats};
+ghost use Rattle.router.specs.Answers.{Hears};
+ghost use Rattle.router.specs.Holding.{Holding};
+ghost use Rattle.station.specs.Lawful.{AreLawful};
+ghost use Rattle.station.specs.declared.output.Output.{Output};
+ghost use Rattle.table_image.specs.Bounds.{IsBounded};
+ghost use Rattle.table_image.specs.Internet.{Internet};
+
+/// A router that holds what the image says takes a frame that is pending: what is entered then is a
+/// block of a legal transcript, and the router holds what the image says still. This project's own.
+pub fn routers_takes_are_legal()
+    ensures { (i : Internet) (t : List Entry) (p : Pair) (n : ℕ) (old new : Holding)
+        (added : List Output)
+        → Passes i → IsBounded i → IsLegal i t → Contains (pending (cable_seats i) t) p
+        → HoldsRouter i p.seat.station old → Hears old (heard_by p) added new → AreLawful n added
+        → Block i t (Took p.frame.stamp p.seat.station
+        ∷ all_entries (places_of i) (cable_seats i) p.seat.station (stamps t) added)
+        × HoldsRouter i p.seat.station new }
+{}
+
+/// A node that holds what the image says takes a frame that is pending: what is entered then is a
+/// block of a legal transcript, and the node holds what the image says still. This project's own.
+pub fn nodes_takes_are_legal()
+    ensures { (i : Internet) (t : List Entry) (p : Pair) (k n : ℕ) (old new : NodeHolding)
+        (added : List Output)
+        → Passes i → IsBounded i → IsLegal i t → Contains (pending (cable_seats i) t) p
+        → p.seat.station ≡ length i.routers + k
+        → HoldsNode i k old → NodeHears old (heard_by p) added new → AreLawful n added
+        → Block i t (Took p.frame.stamp p.seat.station
+        ∷ all_entries (places_of i) (cable_seats i) p.seat.station (stamps t) added)
+        × HoldsNode i k new }
+{}
+
+/// A node sends a datagram of its own: what is entered then is a block of a legal transcript. This
+/// project's own.
+pub fn sendings_are_legal()
+    ensures { (i : Internet) (t : List Entry) (l : Leg) → IsMade i l → IsOwn i l
+        → Block i t (Sent l.station l.body ∷ leg_on (places_of i)
+        (record { stamp = stamps t; cable = l.cable; station = l.station }) l.next l.body) }
+{}
