@@ -1,16 +1,22 @@
--- What a node puts out for what it hears, and what it holds then. (Inside AppleTalk, the chapters on DDP, AEP, NBP and AARP)
-use Rattle.std.specs.Prelude.{◌≡◌, ℕ, Bool, ◌&&◌, ◌||◌, ◌==◌, cond, List, [], ◌∷◌, ◌++◌, drop, length, nat_lt, Option, Some, None}
-use Rattle.std.specs.Prelude.{option_to_list, if◌then◌else◌}
+-- What a node puts out for what it hears, and what it holds then. (Inside AppleTalk, the chapters on DDP, AEP, NBP,
+-- ATP and AARP)
+use Rattle.std.specs.Prelude.{◌≡◌, ◌≢◌, ℕ, Bool, true, false, ◌&&◌, ◌||◌, ◌==◌, cond, List, [], ◌∷◌, ◌++◌, drop, length, nat_lt, Option, Some, None}
+use Rattle.std.specs.Prelude.{option_map, option_to_list, if◌then◌else◌}
 use Rattle.aarp.specs.Choosing.{answer, heard as port_heard, settled}
 use Rattle.aarp.specs.declared.packet.Packet.{Packet}
 use Rattle.at_base.specs.Range.{is_between}
 use Rattle.at_base.specs.declared.address.Addr.{Addr}
+use Rattle.at_base.specs.Packets.{packets}
+use Rattle.at_base.specs.Reading.{read}
+use Rattle.atp.specs.Packets.{AtpPacket, packet as atp_packet}
+use Rattle.atp.specs.Requesting.{Transactions, after_hearing, known}
+use Rattle.atp.specs.declared.ask.Peer.{Peer}
 use Rattle.ddp.specs.Datagram.{Datagram}
 use Rattle.echo.specs.Echo.{echo_reply}
 use Rattle.station.specs.Hearing.{Hearing}
 use Rattle.station.specs.Ports.{has}
 use Rattle.station.specs.Resolution.{packet_at, wired}
-use Rattle.station.specs.Values.{datagram_at}
+use Rattle.station.specs.Values.{datagram_at, value_of}
 use Rattle.station.specs.Ways.{checks, replying}
 use Rattle.station.specs.declared.heard.Kind.{Kind}
 use Rattle.station.specs.declared.heard.Kind.TheVariants.{Ddp, Aarp}
@@ -99,9 +105,58 @@ heard_kind Aarp h x = heard_packet h (packet_at x.bytes)
 abbrev pub heard : NodeHolding → Hearing → List Output × NodeHolding
 heard h x = heard_kind x.kind h x
 
--- a node that holds this hears a frame, puts these out, and holds that then
+-- ---- Transactions
+
+-- the ATP packet in a datagram's data
+unfoldable pub transaction_in : List ℕ → Option AtpPacket
+transaction_in payload = value_of (read packets atp_packet payload)
+
+-- the socket that a datagram comes from
+abbrev pub peer : Datagram → Peer
+peer d = record { addr = d.source; socket = d.source_socket }
+
+-- what a datagram of the node's own brings to its transactions: the packet in it, if it is for the socket of these
+abbrev pub brought_by : Datagram → Option AtpPacket
+brought_by d = cond (is_to 3 252 d) (transaction_in d.payload) None
+
+-- The transactions hear a packet from this peer: that of its ID may be answered by it, and all others stay.
+pub record HearsPacket (from : Peer) (p : AtpPacket) (old new : Transactions) : Type 0 where
+  pub here : known p.id new.slots ≡ option_map (after_hearing from p) (known p.id old.slots)
+  pub others : (id : ℕ) → id ≢ p.id → known id new.slots ≡ known id old.slots
+  pub next : new.next ≡ old.next
+
+-- the transactions hear the packet, if there is one, and stay as they are if there is none
+abbrev pub HearsAny : Peer → Option AtpPacket → Transactions → Transactions → Type 0
+HearsAny from None old new = new ≡ old
+HearsAny from (Some p) old new = HearsPacket from p old new
+
+-- the transactions of a node hear a datagram of the node's own
+abbrev pub AsksHearOwn : Datagram → Transactions → Transactions → Type 0
+AsksHearOwn d old new = HearsAny (peer d) (brought_by d) old new
+
+-- they hear a datagram that is the node's own, or not
+abbrev pub AsksHearIf : Bool → Datagram → Transactions → Transactions → Type 0
+AsksHearIf false d old new = new ≡ old
+AsksHearIf true d old new = AsksHearOwn d old new
+
+-- the transactions of a node that holds this hear a datagram, if the node takes it and its checksum is right
+abbrev pub AsksHearDatagram : NodeHolding → Link → Option Datagram → Transactions → Type 0
+AsksHearDatagram h l None new = new ≡ h.asks
+AsksHearDatagram h l (Some d) new = AsksHearIf (takes h l d && checks d) d h.asks new
+
+-- by what the frame holds
+abbrev pub AsksHearKind : Kind → NodeHolding → Hearing → Transactions → Type 0
+AsksHearKind Ddp h x new = AsksHearDatagram h x.link (datagram_at x.bytes) new
+AsksHearKind Aarp h x new = new ≡ h.asks
+
+-- the transactions of a node that holds this are these after a frame
+abbrev pub HearsAsks : NodeHolding → Hearing → Transactions → Type 0
+HearsAsks h x new = AsksHearKind x.kind h x new
+
+-- A node that holds this hears a frame, puts these out, and holds that then. Its transactions are said by what is known of
+-- each ID, and everything else is a function of what it held.
 abbrev pub Hears : NodeHolding → Hearing → List Output → NodeHolding → Type 0
-Hears old x added new = (added, new) ≡ heard old x
+Hears old x added new = ((added, record new { asks = old.asks }) ≡ heard old x) × HearsAsks old x new.asks
 
 -- time changes nothing, and nothing is put out
 abbrev pub Ticks : NodeHolding → List Output → NodeHolding → Type 0

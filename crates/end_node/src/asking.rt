@@ -3,7 +3,9 @@
 ghost use Rattle.std.specs.Prelude.{◌≡◌, ◌↔◌, ◌≤◌, ◌&&◌, ◌⊎◌, ◌∷◌, [], length, true, false};
 ghost use Rattle.std.specs.Prelude.{IfErr, IfOk, IsOkUnless, OnErr, OnOk};
 ghost use Rattle.at_base.specs.declared.error.Field.TheVariants.{Taken};
-ghost use Rattle.end_node.specs.Asking.{asked_by, asking as asks, request_bytes};
+ghost use Rattle.aarp.specs.Choosing.{settled};
+ghost use Rattle.end_node.specs.Asking.{asked_by, asking as asks, asking_from, request_bytes};
+ghost use Rattle.end_node.specs.Asking.{way_to_router as to_router};
 ghost use Rattle.end_node.specs.Asking.{zone_asked as asked_zone};
 ghost use Rattle.nbp.specs.Registered.{IsLeastFree, is_registrable, is_taken, with_name};
 ghost use Rattle.station.specs.Lawful.{IsNext, PutsOut};
@@ -23,8 +25,14 @@ const REPLIES: u8 = 253;
 
 impl EndNode {
     /// The way of a request to the router, or why there is none.
-    fn asking(&self) -> Result<Way, Error>
-        ensures value { result ≡ asks self.now }
+    pub(crate) fn way_to_router(
+        &self,
+        kind: u8,
+        target_socket: u8,
+        source_socket: u8,
+    ) -> Result<Way, Error>
+        ensures value { result ≡ asking_from (to_router kind target_socket source_socket)
+            (settled self.now.port) self.now.router }
         ensures inside { IfOk result (λ way. (way.port ≡ 0) × IsNext way.next) }
     {
         let Some(own) = self.own() else {
@@ -40,11 +48,19 @@ impl EndNode {
                 summed: false,
                 target: router,
                 source: own,
-                target_socket: sockets::NAMES,
-                source_socket: REPLIES,
-                kind: types::NBP,
+                target_socket,
+                source_socket,
+                kind,
             },
         })
+    }
+
+    /// The way of a request for names to the router, or why there is none.
+    fn asking(&self) -> Result<Way, Error>
+        ensures value { result ≡ asks self.now }
+        ensures inside { IfOk result (λ way. (way.port ≡ 0) × IsNext way.next) }
+    {
+        self.way_to_router(types::NBP, sockets::NAMES, REPLIES)
     }
 
     /// The zone that is asked for.
@@ -99,10 +115,11 @@ impl EndNode {
         }
     }
 
-    /// Takes the datagrams that were received last, at most 64, oldest first. Error: `Memory`, which
-    /// taking them never needs.
+    /// Takes the datagrams that were received last, at most 64, oldest first. Error: `Memory`,
+    /// which taking them never needs.
     pub fn received(&mut self) -> Result<Vec<Datagram>, Error>
         ensures taken { IfOk result (λ datagrams. datagrams.items ≡ self.old.received) }
+        ensures few { IfOk result (λ datagrams. length datagrams.items ≤ 64) }
         ensures left { OnOk result (self.new ≡ record self.old { received = [] }) }
         ensures refused { IsOkUnless result Error.Memory }
         ensures stay { OnErr result (self.new ≡ self.old) }

@@ -33,6 +33,7 @@ impl EndNode {
     fn hear_packet(&mut self, bytes: &[u8], outputs: &mut Outputs) -> Result<(), Error>
         ensures ok { OnOk result (PutsOut 1 outputs.old.items outputs.new.items (λ added.
             (added, self.new) ≡ heard_packet self.old (packet_at bytes.now))) }
+        ensures asks { OnOk result (self.new.asks ≡ self.old.asks) }
         ensures refused { IsOkUnless result Error.Memory }
         ensures station_stays { OnErr result (self.new ≡ self.old) }
         ensures outputs_stay { OnErr result (outputs.new.items ≡ outputs.old.items) }

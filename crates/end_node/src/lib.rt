@@ -3,6 +3,7 @@
 
 mod asking;
 mod hearing;
+mod lists;
 mod lookups;
 mod node;
 mod receive;

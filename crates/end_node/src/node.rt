@@ -1,11 +1,13 @@
 //! End nodes, and what they hold.
 
-ghost use Rattle.std.specs.Prelude.{◌≡◌, [], IfOk, IsOkUnless, IsTrue};
+ghost use Rattle.std.specs.Prelude.{◌≡◌, [], ℕ, None, IfOk, IsOkUnless, IsTrue};
 ghost use Rattle.aarp.specs.Choosing.{settled as settled_at};
+ghost use Rattle.atp.specs.Requesting.{known};
 ghost use Rattle.station.specs.Ports.{is_planned, planned};
 
 use aarp::Chooser;
 use at_base::{Addr, Bytes, Error, Name};
+use atp::Requester;
 use nbp::Names;
 use station::PortPlan;
 use std::alloc::Global;
@@ -29,7 +31,7 @@ pub struct Datagram {
 
 /// A node on one cable, with a zone, a router and names. Its tables stay as they are.
 ///
-/// Inside AppleTalk, the chapters on DDP and NBP.
+/// Inside AppleTalk, the chapters on DDP, NBP and ATP.
 #[derive(Drop)]
 pub struct EndNode {
     pub(crate) port: Chooser,
@@ -37,9 +39,11 @@ pub struct EndNode {
     pub(crate) router: Option<Addr>,
     pub(crate) names: Names,
     pub(crate) received: Vec<Datagram>,
+    pub(crate) requester: Requester,
 }
 
 impl Model for EndNode {
+    ghost use Rattle.std.specs.Prelude.{◌≤◌, length};
     ghost use Rattle.end_node.specs.Holding.{NodeHolding};
 
     ghost Value = { NodeHolding };
@@ -50,7 +54,10 @@ impl Model for EndNode {
       router = n.router;
       names = n.names;
       received = n.received.items;
+      asks = n.requester;
     } };
+
+    ghost invariant = { λ n. length n.received.items ≤ 64 };
 }
 
 impl EndNode {
@@ -70,16 +77,21 @@ impl EndNode {
           router = router;
           names = names;
           received = [];
+          asks = node.asks;
         }) }
+        ensures first { IfOk result (λ node. node.asks.next ≡ 1) }
+        ensures none { IfOk result (λ node. (id : ℕ) → known id node.asks.slots ≡ None) }
         ensures refused { IsOkUnless result Error.Memory }
     {
         let port = plan.chooser(alloc)?;
+        let requester = Requester::new(alloc, 1)?;
         Ok(EndNode {
             port,
             zone,
             router,
             names,
             received: Vec::new(alloc),
+            requester,
         })
     }
 

@@ -3,7 +3,8 @@
 ghost use Rattle.std.specs.Prelude.{◌≡◌, ◌<◌, ◌≤◌, ◌+◌, ◌++◌, length, option_to_list, Some, vec_capacity, vec_len};
 ghost use Rattle.std.specs.Prelude.{IfOk, IsOkUnless, OnErr, OnOk};
 ghost use Rattle.echo.specs.Echo.{echo_reply};
-ghost use Rattle.end_node.specs.Answers.{heard_datagram, heard_own, is_all as all, is_served as is_for_node};
+ghost use Rattle.end_node.specs.Answers.{AsksHearDatagram, AsksHearOwn, heard_datagram, heard_own};
+ghost use Rattle.end_node.specs.Answers.{is_all as all, is_served as is_for_node};
 ghost use Rattle.end_node.specs.Answers.{is_to as goes_to, keeping, keeping_any, kept};
 ghost use Rattle.end_node.specs.Answers.{received_of, served, takes as is_taken};
 ghost use Rattle.end_node.specs.Ways.{way_back as back};
@@ -12,6 +13,7 @@ ghost use Rattle.station.specs.Made.{AreMade};
 ghost use Rattle.station.specs.Ports.{has as has_address};
 ghost use Rattle.station.specs.Ways.{replying};
 
+use crate::lists::hear_answer;
 use crate::node::{Datagram, EndNode, MAX_RECEIVED};
 use at_base::{Addr, Bytes, Error};
 use ddp::{View, kind, socket};
@@ -21,10 +23,10 @@ use station::{Link, Output, Outputs};
 use std::alloc::Global;
 
 /// The socket from which a node asks in transactions.
-const TRANSACTIONS: u8 = 252;
+pub(crate) const TRANSACTIONS: u8 = 252;
 
 /// Whether the datagram is of this type and for this socket.
-fn is_to(view: &View<'_>, kind: u8, socket: u8) -> bool
+pub(crate) fn is_to(view: &View<'_>, kind: u8, socket: u8) -> bool
     ensures { result ≡ goes_to kind socket view.now }
 {
     view.kind() == kind && view.target_socket() == socket
@@ -80,8 +82,10 @@ fn received_from(alloc: Global, view: &View<'_>) -> Result<Option<Datagram>, Err
 
 /// Adds a datagram, in the place of the oldest one where there are 64.
 fn put(received: &mut Vec<Datagram>, datagram: Datagram)
-    requires { vec_len received.old < vec_capacity received.old }
-    ensures { received.new.items ≡ keeping datagram received.old.items }
+    requires room { vec_len received.old < vec_capacity received.old }
+    requires old { length received.old.items ≤ 64 }
+    ensures kept { received.new.items ≡ keeping datagram received.old.items }
+    ensures few { length received.new.items ≤ 64 }
 {
     if received.len() >= MAX_RECEIVED {
         received.remove(0);
@@ -90,18 +94,14 @@ fn put(received: &mut Vec<Datagram>, datagram: Datagram)
 }
 
 /// Adds a datagram, if there is one.
-fn keep(received: &mut Vec<Datagram>, datagram: Option<Datagram>) -> Result<(), Error>
-    ensures ok { OnOk result (received.new.items ≡ keeping_any datagram received.old.items) }
-    ensures refused { IsOkUnless result Error.Memory }
-    ensures stay { OnErr result (received.new.items ≡ received.old.items) }
+fn keep(received: &mut Vec<Datagram>, datagram: Option<Datagram>)
+    requires room { vec_len received.old < vec_capacity received.old }
+    requires old { length received.old.items ≤ 64 }
+    ensures kept { received.new.items ≡ keeping_any datagram received.old.items }
+    ensures few { length received.new.items ≤ 64 }
 {
-    match datagram {
-        None => Ok(()),
-        Some(datagram) => {
-            received.reserve(1)?;
-            put(received, datagram);
-            Ok(())
-        }
+    if let Some(datagram) = datagram {
+        put(received, datagram);
     }
 }
 
@@ -179,7 +179,8 @@ impl EndNode {
     /// Hears a datagram of its own.
     fn hear_own(&mut self, view: &View<'_>, outputs: &mut Outputs) -> Result<(), Error>
         ensures ok { OnOk result (PutsOut 1 outputs.old.items outputs.new.items (λ added.
-            (added, self.new) ≡ heard_own self.old view.now)) }
+            (added, record self.new { asks = self.old.asks }) ≡ heard_own self.old view.now)) }
+        ensures asks { OnOk result (AsksHearOwn view.now self.old.asks self.new.asks) }
         ensures refused { IsOkUnless result Error.Memory }
         ensures station_stays { OnErr result (self.new ≡ self.old) }
         ensures outputs_stay { OnErr result (outputs.new.items ≡ outputs.old.items) }
@@ -187,7 +188,9 @@ impl EndNode {
         let made = self.answer(view)?;
         let received = received_from(*self.received.allocator(), view)?;
         outputs.room(made.len())?;
-        keep(&mut self.received, received)?;
+        self.received.reserve(1)?;
+        hear_answer(&mut self.requester, view)?;
+        keep(&mut self.received, received);
         outputs.append(made);
         Ok(())
     }
@@ -200,7 +203,10 @@ impl EndNode {
         outputs: &mut Outputs,
     ) -> Result<(), Error>
         ensures ok { OnOk result (PutsOut 1 outputs.old.items outputs.new.items (λ added.
-            (added, self.new) ≡ heard_datagram self.old link (Some view.now))) }
+            (added, record self.new { asks = self.old.asks })
+            ≡ heard_datagram self.old link (Some view.now))) }
+        ensures asks { OnOk result
+            (AsksHearDatagram self.old link (Some view.now) self.new.asks) }
         ensures refused { IsOkUnless result Error.Memory }
         ensures station_stays { OnErr result (self.new ≡ self.old) }
         ensures outputs_stay { OnErr result (outputs.new.items ≡ outputs.old.items) }

@@ -1,2 +1,9 @@
 pub mod Seating
 pub mod Finding
+pub mod Each
+pub mod Refusals
+pub mod Addressed
+pub mod Routes
+pub mod ZoneRanges
+pub mod NodeNames
+pub mod Pushed

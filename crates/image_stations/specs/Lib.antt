@@ -1,4 +1,6 @@
 pub mod Members
 pub mod Holders
+pub mod Building
+pub mod Plans
 pub mod Seating
 pub mod Finding

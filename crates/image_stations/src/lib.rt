@@ -2,10 +2,17 @@
 //! hold.
 #![tactic(auto)]
 
+mod building;
 mod member;
+mod nodes;
+mod plans;
+mod routers;
 mod seats;
 mod whereabouts;
 
+pub use building::stations_of;
 pub use member::Member;
+pub use nodes::node_of;
+pub use routers::router_of;
 pub use seats::seats_of;
 pub use whereabouts::Whereabouts;

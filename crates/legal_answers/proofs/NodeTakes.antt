@@ -59,11 +59,11 @@ record HeardSo (old : NodeHolding) (p : Pair) (added : List Output) (new : NodeH
 
 heard_so : (old new : NodeHolding) (p : Pair) (added : List Output) → Hears old (heard_by p) added new → HeardSo old p added new
 heard_so old new p added h = record {
-  outputs = ap (λ (y : List Output × NodeHolding). y.0) h;
-  port = ap (λ (y : List Output × NodeHolding). y.1.port) h;
-  zone = ap (λ (y : List Output × NodeHolding). y.1.zone) h;
-  router = ap (λ (y : List Output × NodeHolding). y.1.router) h;
-  names = ap (λ (y : List Output × NodeHolding). y.1.names) h;
+  outputs = ap (λ (y : List Output × NodeHolding). y.0) h.0;
+  port = ap (λ (y : List Output × NodeHolding). y.1.port) h.0;
+  zone = ap (λ (y : List Output × NodeHolding). y.1.zone) h.0;
+  router = ap (λ (y : List Output × NodeHolding). y.1.router) h.0;
+  names = ap (λ (y : List Output × NodeHolding). y.1.names) h.0;
 }
 
 -- the packet in a datagram's data is the same to nodes and routers

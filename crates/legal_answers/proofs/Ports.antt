@@ -1,8 +1,8 @@
 -- The ports of a router that holds what the image says, and its seats.
-use Rattle.std.proofs.Common.{◌≡◌, ℕ, zero, suc, ◌+◌, Bool, true, false, ◌&&◌, ◌==◌, List, [], ◌∷◌, ◌++◌, Some, length, map}
-use Rattle.std.proofs.Common.{refl, sym, ap, ◌∙◌, subst, arith, slice_get, option_and_then, eqb-true, eq-eqb}
+use Rattle.std.proofs.Common.{◌≡◌, ℕ, zero, suc, ◌+◌, Bool, true, false, ◌==◌, List, [], ◌∷◌, ◌++◌, Some, length, map}
+use Rattle.std.proofs.Common.{refl, sym, ap, ◌∙◌, subst, arith, slice_get, option_and_then, eq-eqb}
 use Rattle.std.specs.Option.{unwrap_or}
-use Rattle.std.proofs.lemmas.Bool.{and_from, and_parts, or_parts}
+use Rattle.std.proofs.lemmas.Bool.{or_parts}
 use Rattle.aarp.specs.Choosing.{settled}
 use Rattle.at_base.specs.Address.{same_address}
 use Rattle.at_base.specs.declared.address.Addr.{Addr}
@@ -11,13 +11,13 @@ use Rattle.audit.specs.Places.{index_of, on}
 use Rattle.audit.specs.Rules.{Passes, bad_port}
 use Rattle.audit.specs.Seats.{Seat as PlaceOf, node_seats, port_seat, router_seats, seats}
 use Rattle.audit.specs.Walks.{HasPort, IsAddressed}
-use Rattle.audit.proofs.Finding.{any_from, first_index}
+use Rattle.audit.proofs.Finding.{first_index}
 use Rattle.audit.proofs.SeatPlaces.{AtNode, AtPort, sits}
 use Rattle.audit.proofs.SeatUnique.{addressed}
-use Rattle.audit.proofs.WalkLists.{At, at_map, at_one, at_within, find_at, find_found, none_before}
+use Rattle.audit.proofs.WalkLists.{At, at_one, at_within, none_before}
 use Rattle.cable_model.specs.Outcomes.{cable_of}
-use Rattle.cable_model.specs.declared.seat.Seat.{Seat}
 use Rattle.cable_model.proofs.Counting.{map_at}
+use Rattle.legal_requests.proofs.Ports.{cable_is as cable_there, has_port as port_there}
 use Rattle.image_stations.specs.Holders.{HoldsRouter, choice_on}
 use Rattle.legal_runs.specs.Stations.{cable_seat, cable_seats, has_address, is_on, port_on}
 use Rattle.legal_runs.proofs.Legs.{has_no_other, has_own, same_address_is}
@@ -117,32 +117,9 @@ module _ (i : Internet) (ok : Passes i) (r : ℕ) (router : Router) (known : At 
             absurd (omega (arith, station, mine, within))
       ]
 
-  -- a seat with the number of a port is on its cable
-  seat_on : (q : ℕ) (port : Port) → At router.ports q port → (x : Seat) (s : PlaceOf) (k : ℕ) → At (seats i) k s → x ≡ cable_seat i s
-      → x.station ≡ r → x.port ≡ q → x.cable ≡ port.cable
-  seat_on q port at x s k there is station number =
-      let mine : s.station ≡ r = ap (λ (y : Seat). y.station) (sym is) ∙ station in
-      let of = port_of k s there mine in
-      let its : (cable_seat i s).port ≡ q = ap (λ (y : Seat). y.port) (sym is) ∙ number in
-      let one : of.place ≡ q = sym of.number ∙ its in
-      let same : of.port ≡ port = at_one router.ports q of.port port (subst (λ n. At router.ports n of.port) one of.at) at in
-      ap (λ (y : Seat). y.cable) is ∙ (of.cable ∙ ap (λ (y : Port). y.cable) same)
-
   -- the cable of a port
   pub cable_is : (q : ℕ) (port : Port) → At router.ports q port → cable_of (cable_seats i) r q ≡ port.cable
-  cable_is q port at =
-      let test : Seat → Bool = λ s. s.station == r && s.port == q in
-      let k = seat_of_port i r q router port known at in
-      let passes : test (cable_seat i (port_seat r port)) ≡ true =
-      and_from (r == r) (port_on (slice_get i.routers r) port.cable == q) (eq-eqb r r refl)
-      (eq-eqb (port_on (slice_get i.routers r) port.cable) q (port_number q port at)) in
-      let there = map_at (cable_seat i) (seats i) k.0 (port_seat r port) k.1 in
-      let f = find_found test (cable_seats i) (any_from test (cable_seats i) k.0 (cable_seat i (port_seat r port)) there passes) in
-      let g = find_at test (cable_seats i) f.0 f.1 in
-      let s = at_map (cable_seat i) (seats i) g.0 f.0 g.1 in
-      let parts = and_parts (f.0.station == r) (f.0.port == q) g.2 in
-      let cable = seat_on q port at f.0 s.0 g.0 s.1 s.2 (eqb-true f.0.station r parts.0) (eqb-true f.0.port q parts.1) in
-      rw f.1 cable
+  cable_is q port at = cable_there i ok r router q port (record { known = known; at = at })
 
   -- which address the router has there
   pub has_is : (q : ℕ) (port : Port) → At router.ports q port → (a : Addr) → has_address i r port.cable a ≡ same_address a port.address
@@ -157,7 +134,7 @@ module _ (i : Internet) (ok : Passes i) (r : ℕ) (router : Router) (known : At 
           has_no_other i ok (port_seat r port) k.0 a k.1 e
 
   pub has_port : (q : ℕ) (port : Port) → At router.ports q port → HasPort i r port.cable
-  has_port q port at = record { router = router; place = q; port = port; known = known; at = at; on = refl }
+  has_port q port at = port_there i r router q port (record { known = known; at = at })
 
   pub seated : (q : ℕ) (port : Port) → At router.ports q port → is_on i r port.cable ≡ true
   seated q port at = port_seated i r port.cable (has_port q port at)

@@ -10,15 +10,14 @@ use Rattle.at_base.specs.declared.address.Addr.{Addr}
 use Rattle.audit.specs.Places.{on}
 use Rattle.audit.specs.Routing.{owner}
 use Rattle.audit.specs.Rules.{Passes}
-use Rattle.audit.proofs.WalkFacts.{between_is}
 use Rattle.audit.proofs.WalkLists.{At}
-use Rattle.audit.proofs.WalkSteps.{cable_good}
 use Rattle.cable_model.specs.Outcomes.{cable_of}
 use Rattle.cable_model.proofs.Counting.{map_at}
 use Rattle.ddp.specs.Datagram.{Datagram, datagram, datagram_of}
 use Rattle.ddp.specs.declared.header.Header.{Header}
 use Rattle.ddp.proofs.Shape.{value_laid}
 use Rattle.ddp.proofs.Written.{Fitting}
+use Rattle.legal_requests.proofs.Ports.{port_fits}
 use Rattle.image_stations.specs.Holders.{HoldsRouter, choice_on, range_of}
 use Rattle.legal_runs.specs.Answers.{ByRouter, OnCable}
 use Rattle.legal_runs.specs.Stations.{cable_holds, cable_seats, is_on}
@@ -83,26 +82,17 @@ answered net node mine e = by (net == 0) (node == 0) mine e
     by false true c e = cc
 
 module _ (i : Internet) (ok : Passes i) (r : ℕ) (h : Holding) (holds : HoldsRouter i r h) (d : Datagram) (v : IsValue datagram d) where
-  -- the address of a port fits its fields
-  own_fits : (q : ℕ) (port : Port) → At holds.router.ports q port → (port.address.net < 65536) × (port.address.node < 256)
-  own_fits q port at =
-      let a = port_addressed i ok r holds.router holds.known q port at in
-      let w = between_is a.cable.start a.cable.end port.address.net a.holds in
-      let most = (cable_good i ok port.cable a.cable a.known).high in
-      let node = a.high in
-      (omega (arith, w.1, most), omega (arith, node))
-
   -- the header of a reply fits
   reply_fits : (to : Addr) → to.net < 65536 → to.node < 256 → (q : ℕ) (port : Port) → At holds.router.ports q port
       → Fitting (record (reply_header d to) { source = port.address })
   reply_fits to net node q port at =
       let l = value_laid d v in
-      let own = own_fits q port at in
+      let own = port_fits i ok r holds.router q port (record { known = holds.known; at = at }) in
       record {
         target_net = net;
-        source_net = own.0;
+        source_net = own.net;
         target_node = node;
-        source_node = own.1;
+        source_node = own.node;
         target_socket = l.source_socket;
         source_socket = l.target_socket;
         kind = l.kind;

@@ -1,0 +1,221 @@
+//! Lists of zones, for which a node asks its router in transactions.
+
+ghost use Rattle.std.specs.Prelude.{◌≡◌, ◌≢◌, ◌↔◌, ◌⊎◌, ◌<◌, ◌≤◌, ◌+◌, ◌%◌, ◌∷◌, [], ℕ, None, Some};
+ghost use Rattle.std.specs.Prelude.{IfErr, IfOk, IfSome, IsOkUnless, OnErr, OnOk, length};
+ghost use Rattle.std.specs.Prelude.{option_map};
+ghost use Rattle.at_base.specs.declared.error.What.TheVariants.{Transaction as Missing};
+ghost use Rattle.atp.specs.InPlace.{packet_value};
+ghost use Rattle.atp.specs.Outcomes.{left_open, outcome_of};
+ghost use Rattle.atp.specs.Requesting.{IsNextId, begun, known, open_count, sent};
+ghost use Rattle.end_node.specs.Answers.{AsksHearOwn, HearsAny, brought_by as brings};
+ghost use Rattle.end_node.specs.Answers.{peer as peer_of, transaction_in};
+ghost use Rattle.end_node.specs.Asking.{ask_bytes, zone_ask as asked_of, zones_asking as asks};
+ghost use Rattle.station.specs.Lawful.{IsNext, PutsOut};
+ghost use Rattle.station.specs.Making.{made};
+
+use crate::node::EndNode;
+use crate::receive::{TRANSACTIONS, is_to};
+use crate::sending::put_out;
+use at_base::{Addr, Bytes, Error};
+use atp::{Ask, Outcome, Packet, Peer, Requester};
+use ddp::{View, kind as types, socket as sockets};
+use station::{Outputs, Way};
+use std::alloc::Global;
+
+/// The function GetZoneList, in the first user byte of a request.
+const GET_ZONE_LIST: u8 = 8;
+
+/// What the router is asked for the zones from an index on.
+fn zone_ask(alloc: Global, start: u16, router: Addr) -> Ask
+    ensures { result ≡ asked_of start router }
+{
+    let [high, low] = start.to_be_bytes();
+    Ask {
+        to: router,
+        socket: sockets::ZIP,
+        parts: 1,
+        exactly_once: false,
+        release: 0,
+        user: [GET_ZONE_LIST, 0, high, low],
+        payload: Bytes::from_vec(Vec::new(alloc)),
+        every: 10,
+        tries: 8,
+    }
+}
+
+/// Asks a router for the zones from an index on. The ID of the transaction, and the bytes of its
+/// request, which counts as sent.
+fn begin(
+    requester: &mut Requester,
+    alloc: Global,
+    start: u16,
+    router: Addr,
+) -> Result<(u16, Bytes), Error>
+    ensures id { IfOk result (λ x. IsNextId requester.old.next requester.old.slots x.0) }
+    ensures begun { IfOk result (λ x.
+        known x.0 requester.new.slots ≡ Some (sent (begun x.0 (asked_of start router)))) }
+    ensures others { IfOk result (λ x. (other : ℕ) → other ≢ x.0
+        → known other requester.new.slots ≡ known other requester.old.slots) }
+    ensures next { IfOk result (λ x. requester.new.next ≡ (x.0 + 1) % 65536) }
+    ensures bytes { IfOk result (λ x. x.1 ≡ ask_bytes x.0 (asked_of start router)) }
+    ensures short { IfOk result (λ x. length x.1 ≤ 586) }
+    ensures full { (result ≡ Err Error.Full) ↔ (32 ≤ open_count requester.old.slots) }
+    ensures refused { IfErr result (λ e. (e ≡ Error.Full) ⊎ (e ≡ Error.Memory)) }
+{
+    let id = requester.begin(zone_ask(alloc, start, router))?;
+    let bytes = requester.request(id)?;
+    Ok((id, bytes))
+}
+
+/// The packet in the data of a datagram.
+fn read_packet(payload: &[u8]) -> Option<Packet<'_>>
+    ensures { option_map packet_value result ≡ transaction_in payload.now }
+{
+    match Packet::read(payload) {
+        Ok(packet) => Some(packet),
+        Err(_) => None,
+    }
+}
+
+/// The socket that a datagram comes from.
+fn peer(view: &View<'_>) -> Peer
+    ensures { result ≡ peer_of view.now }
+{
+    Peer {
+        addr: view.source(),
+        socket: view.source_socket(),
+    }
+}
+
+/// What a datagram of the node's own brings to its transactions.
+fn brought_by<'a>(view: &View<'a>) -> Option<Packet<'a>>
+    ensures { option_map packet_value result ≡ brings view.now }
+{
+    if is_to(view, types::ATP, TRANSACTIONS) {
+        read_packet(view.payload())
+    } else {
+        None
+    }
+}
+
+/// Lets the transactions hear a packet, if there is one.
+///
+/// A node asks for nothing that is to be carried out once, so no release is wanted, and none is
+/// sent.
+fn hear_any(requester: &mut Requester, from: Peer, packet: Option<Packet<'_>>) -> Result<(), Error>
+    ensures ok { OnOk result
+        (HearsAny from (option_map packet_value packet.entry) requester.old requester.new) }
+    ensures refused { IsOkUnless result Error.Memory }
+    ensures stay { OnErr result (requester.new ≡ requester.old) }
+{
+    if let Some(packet) = packet {
+        requester.heard(from, &packet)?;
+    }
+    Ok(())
+}
+
+/// Lets the transactions hear a datagram of the node's own.
+pub(crate) fn hear_answer(requester: &mut Requester, view: &View<'_>) -> Result<(), Error>
+    ensures ok { OnOk result (AsksHearOwn view.now requester.old requester.new) }
+    ensures refused { IsOkUnless result Error.Memory }
+    ensures stay { OnErr result (requester.new ≡ requester.old) }
+{
+    hear_any(requester, peer(view), brought_by(view))
+}
+
+impl EndNode {
+    /// The way of a request for zones to the router, or why there is none.
+    fn asking_zones(&self) -> Result<Way, Error>
+        ensures value { result ≡ asks self.now }
+        ensures inside { IfOk result (λ way. (way.port ≡ 0) × IsNext way.next) }
+    {
+        self.way_to_router(types::ATP, sockets::ZIP, TRANSACTIONS)
+    }
+
+    /// Asks the router to which a way goes for the zones from an index on.
+    fn ask_by(&mut self, way: &Way, start: u16, outputs: &mut Outputs) -> Result<u16, Error>
+        requires port { way.now.port ≡ 0 }
+        requires next { IsNext way.now.next }
+        ensures id { IfOk result (λ id. IsNextId self.old.asks.next self.old.asks.slots id) }
+        ensures begun { IfOk result (λ id. known id self.new.asks.slots
+            ≡ Some (sent (begun id (asked_of start way.now.header.target)))) }
+        ensures others { IfOk result (λ id. (other : ℕ) → other ≢ id
+            → known other self.new.asks.slots ≡ known other self.old.asks.slots) }
+        ensures next { IfOk result (λ id. self.new.asks.next ≡ (id + 1) % 65536) }
+        ensures left { OnOk result (self.new ≡ record self.old { asks = self.new.asks }) }
+        ensures sent { IfOk result (λ id. PutsOut 1 outputs.old.items outputs.new.items
+            (λ added. added ≡ made way.now
+            (ask_bytes id (asked_of start way.now.header.target)) ∷ [])) }
+        ensures full { (result ≡ Err Error.Full) → 32 ≤ open_count self.old.asks.slots }
+        ensures room { OnOk result (open_count self.old.asks.slots < 32) }
+        ensures refused { IfErr result (λ e. (e ≡ Error.Full) ⊎ (e ≡ Error.Memory)) }
+        ensures station_stays { OnErr result (self.new ≡ self.old) }
+        ensures outputs_stay { OnErr result (outputs.new.items ≡ outputs.old.items) }
+    {
+        let alloc = *self.received.allocator();
+        let mut requester = self.requester.copy()?;
+        let (id, bytes) = begin(&mut requester, alloc, start, way.header.target)?;
+        put_out(alloc, way, bytes.as_slice(), outputs)?;
+        self.requester = requester;
+        Ok(id)
+    }
+
+    /// Asks the node's router for the zones of the internet, from an index on: one datagram is
+    /// added, whose ATP request has the user bytes of GetZoneList. The ID of the transaction, which
+    /// is then open.
+    ///
+    /// Inside AppleTalk, the chapters on ATP and ZIP.
+    ///
+    /// Errors: `NoSuch(Station)` where the node has no address, then `NoRouter` where it has no
+    /// router; `Full`, unless memory runs out, where 32 transactions are open; `Memory`. A refusal
+    /// changes nothing.
+    pub fn ask_zone_list(&mut self, start: u16, outputs: &mut Outputs) -> Result<u16, Error>
+        ensures id { IfOk result (λ id. IsNextId self.old.asks.next self.old.asks.slots id) }
+        ensures begun { IfOk result (λ id. IfOk (asks self.old) (λ way.
+            known id self.new.asks.slots
+            ≡ Some (sent (begun id (asked_of start way.header.target))))) }
+        ensures others { IfOk result (λ id. (other : ℕ) → other ≢ id
+            → known other self.new.asks.slots ≡ known other self.old.asks.slots) }
+        ensures next { IfOk result (λ id. self.new.asks.next ≡ (id + 1) % 65536) }
+        ensures left { OnOk result (self.new ≡ record self.old { asks = self.new.asks }) }
+        ensures sent { IfOk result (λ id. IfOk (asks self.old) (λ way.
+            PutsOut 1 outputs.old.items outputs.new.items (λ added. added
+            ≡ made way (ask_bytes id (asked_of start way.header.target)) ∷ []))) }
+        ensures unsendable { IfErr (asks self.old) (λ e. result ≡ Err e) }
+        ensures full { (result ≡ Err Error.Full) → 32 ≤ open_count self.old.asks.slots }
+        ensures room { OnOk result (open_count self.old.asks.slots < 32) }
+        ensures refused { IfOk (asks self.old) (λ _.
+            IfErr result (λ e. (e ≡ Error.Full) ⊎ (e ≡ Error.Memory))) }
+        ensures station_stays { OnErr result (self.new ≡ self.old) }
+        ensures outputs_stay { OnErr result (outputs.new.items ≡ outputs.old.items) }
+    {
+        match self.asking_zones() {
+            Ok(way) => self.ask_by(&way, start, outputs),
+            Err(error) => Err(error),
+        }
+    }
+
+    /// What became of a request for zones, by the ID of its transaction, which is closed unless it
+    /// waits. Allocates nothing.
+    ///
+    /// Inside AppleTalk, the chapter on ATP.
+    ///
+    /// Error: `NoSuch(Transaction)` where no transaction of this ID is open. A refusal changes
+    /// nothing.
+    pub fn zone_list(&mut self, id: u16) -> Result<Outcome, Error>
+        ensures ok { IfOk result (λ outcome. IfSome (known id self.old.asks.slots)
+            (λ t. outcome ≡ outcome_of t)) }
+        ensures after { OnOk result (known id self.new.asks.slots
+            ≡ left_open (known id self.old.asks.slots)) }
+        ensures others { (other : ℕ) → other ≢ id
+            → known other self.new.asks.slots ≡ known other self.old.asks.slots }
+        ensures next { self.new.asks.next ≡ self.old.asks.next }
+        ensures left { self.new ≡ record self.old { asks = self.new.asks } }
+        ensures unknown { (result ≡ Err (Error.NoSuch Missing))
+            ↔ (known id self.old.asks.slots ≡ None) }
+        ensures refused { IsOkUnless result (Error.NoSuch Missing) }
+        ensures kept { OnErr result (self.new ≡ self.old) }
+    {
+        self.requester.result(id)
+    }
+}

@@ -1,0 +1,109 @@
+//! What the node 30.5 receives.
+
+use crate::tests::lab::{far, hears};
+use at_base::{Addr, Error};
+use end_node::{Datagram, EndNode};
+use station::{Kind, Link};
+use std::alloc::Global;
+
+/// One byte from 10.7 socket 73 to 30.5 socket 72, of type 9.
+const SENT: [u8; 14] = [
+    0x00, 0x0E, 0x00, 0x00, 0x00, 0x1E, 0x00, 0x0A, 0x05, 0x07, 0x48, 0x49, 0x09, // its header
+    0x01,
+];
+
+/// Whether it is the datagram with this byte.
+fn is_sent(datagram: &Datagram, byte: u8) -> bool {
+    datagram.source == Addr { net: 10, node: 7 }
+        && datagram.source_socket == 73
+        && datagram.target_socket == 72
+        && datagram.kind == 9
+        && datagram.payload.as_slice() == [byte].as_slice()
+}
+
+/// Whether these are the datagrams with the bytes from one on.
+fn are_sent(datagrams: &[Datagram], from: u8, len: usize) -> bool {
+    let mut byte = from;
+    for datagram in datagrams {
+        if !is_sent(datagram, byte) {
+            return false;
+        }
+        byte = byte.wrapping_add(1);
+    }
+    datagrams.len() == len
+}
+
+/// Whether the node puts nothing out for a datagram in such a frame.
+fn takes(alloc: Global, node: &mut EndNode, link: Link, bytes: &[u8]) -> Result<bool, Error> {
+    hears(alloc, node, link, Kind::Ddp, bytes, &[])
+}
+
+/// The last 64 are kept, and taken once, oldest first.
+pub(crate) fn the_last_are_kept(alloc: Global) -> Result<bool, Error> {
+    let mut node = far(alloc)?;
+    for byte in 0..64u8 {
+        let mut bytes = SENT;
+        bytes[13] = byte;
+        if !takes(alloc, &mut node, Link::Own, &bytes)? {
+            return Ok(false);
+        }
+    }
+    if !are_sent(node.received()?.as_slice(), 0, 64) {
+        return Ok(false);
+    }
+    for byte in 0..66u8 {
+        let mut bytes = SENT;
+        bytes[13] = byte;
+        if !takes(alloc, &mut node, Link::Own, &bytes)? {
+            return Ok(false);
+        }
+    }
+    let last = are_sent(node.received()?.as_slice(), 2, 64);
+    Ok(last && node.received()?.is_empty())
+}
+
+/// What is the node's own: for its address in a frame to itself, and for all of its cable in one
+/// to all.
+pub(crate) fn its_own_are_kept(alloc: Global) -> Result<bool, Error> {
+    let mut node = far(alloc)?;
+    let (mut all, mut near) = (SENT, SENT);
+    (all[5], all[8]) = (0x00, 0xFF);
+    (near[5], near[8]) = (0x27, 0xFF);
+    let cases: [(Link, &[u8]); 3] = [(Link::Own, &SENT), (Link::All, &all), (Link::All, &near)];
+    for (link, bytes) in cases {
+        if !takes(alloc, &mut node, link, bytes)? || !are_sent(node.received()?.as_slice(), 1, 1) {
+            return Ok(false);
+        }
+    }
+    Ok(true)
+}
+
+/// What is for another node or cable, in a frame to a group, or for a service of the node isn't
+/// kept.
+pub(crate) fn others_are_not_kept(alloc: Global) -> Result<bool, Error> {
+    let mut node = far(alloc)?;
+    let (mut other, mut wrong, mut far) = (SENT, SENT, SENT);
+    other[8] = 0x06;
+    wrong[3] = 0x01;
+    (far[5], far[8]) = (0x28, 0xFF);
+    let (mut rtmp, mut zip) = (SENT, SENT);
+    (rtmp[10], rtmp[12]) = (0x01, 0x01);
+    (zip[10], zip[12]) = (0x06, 0x06);
+    let cases: [(Link, &[u8]); 9] = [
+        (Link::Own, &other),
+        (Link::Own, &wrong),
+        (Link::All, &far),
+        (Link::All, &SENT),
+        (Link::Own, &far),
+        (Link::Group(118), &SENT),
+        (Link::Own, &rtmp),
+        (Link::Own, &zip),
+        (Link::Own, &SENT[..13]),
+    ];
+    for (link, bytes) in cases {
+        if !takes(alloc, &mut node, link, bytes)? || !node.received()?.is_empty() {
+            return Ok(false);
+        }
+    }
+    Ok(true)
+}

@@ -1,0 +1,138 @@
+-- What an event leaves is still a run over frozen tables.
+use Rattle.std.proofs.Common.{◌≡◌, ℕ, zero, suc, List, [], ◌∷◌, refl, sym, ap, ◌∙◌, subst, inl, inr, ◌⊎◌, Contains}
+use Rattle.std.proofs.Common.{slice_set}
+use Rattle.std.proofs.lemmas.List.{length-set}
+use Rattle.std.specs.Option.{unwrap_or}
+use Rattle.audit.proofs.WalkLists.{At}
+use Rattle.audit.specs.Rules.{Passes}
+use Rattle.cable_model.specs.Logs.{transcript}
+use Rattle.cable_model.specs.Outcomes.{all_entries, heard_by, leg as leg_on}
+use Rattle.cable_model.specs.Pending.{Pair, pending}
+use Rattle.cable_model.specs.Transcript.{Entry, Sent, Took, stamps}
+use Rattle.ddp.specs.Bodies.{body}
+use Rattle.end_node.specs.Answers.{Hears as NodeHears}
+use Rattle.end_node.specs.Holding.{NodeHolding}
+use Rattle.frozen.specs.Events.{SentBy}
+use Rattle.frozen.specs.Orders.{IsFair, bytes_for}
+use Rattle.frozen.specs.Runs.{IsFrozen, Running, TakenBy}
+use Rattle.frozen.specs.declared.order.Order.{Order}
+use Rattle.image_stations.specs.Holders.{HoldStations, HoldsStation, places_of}
+use Rattle.image_stations.specs.Members.{EitherHears}
+use Rattle.image_stations.specs.declared.member.Member.{Member}
+use Rattle.image_stations.specs.declared.member.Member.TheVariants as member
+use Rattle.legal_answers.proofs.Bridge.{sendings}
+use Rattle.legal_answers.proofs.Making.{IsSent}
+use Rattle.legal_answers.proofs.NodeTakes.{node_takes}
+use Rattle.legal_answers.proofs.RouterTakes.{router_takes}
+use Rattle.legal_runs.proofs.Frames.{whole}
+use Rattle.legal_runs.specs.Answers.{IsMade, IsOwn}
+use Rattle.legal_runs.specs.Legal.{Block, Goes, IsLegal}
+use Rattle.legal_runs.specs.Legs.{Leg}
+use Rattle.legal_runs.specs.Stations.{cable_seats}
+use Rattle.router.specs.Answers.{Hears as RouterHears}
+use Rattle.router.specs.Holding.{Holding}
+use Rattle.station.specs.Lawful.{AreLawful}
+use Rattle.station.specs.declared.output.Output.{Output}
+use Rattle.table_image.specs.Bounds.{IsBounded}
+use Rattle.table_image.specs.Internet.{Internet}
+
+-- an element of a list one of whose elements was changed
+set_at : {X : Type 0} (xs : List X) (s : ℕ) (a : X) (k : ℕ) (m : X) → At (slice_set xs s a) k m
+    → ((k ≡ s) × (a ≡ m)) ⊎ At xs k m
+set_at [] s a k m h = inr h
+set_at (x ∷ xs) zero a zero m h = inl (refl, ap (λ o. unwrap_or o a) h)
+set_at (x ∷ xs) zero a (suc k) m h = inr h
+set_at (x ∷ xs) (suc s) a zero m h = inr h
+set_at (x ∷ xs) (suc s) a (suc k) m h = elim (set_at xs s a k m h) [
+  | inl e ↦ inl (ap suc e.0, e.1)
+  | inr e ↦ inr e
+]
+
+-- the stations of an internet, one of which holds something else that its image says of it
+hold_with : (i : Internet) (xs : List (Member Holding NodeHolding)) (s : ℕ) (a : Member Holding NodeHolding) → HoldStations i xs
+    → HoldsStation i s a → HoldStations i (slice_set xs s a)
+hold_with i xs s a all holds = record {
+  number = length-set xs s a ∙ all.number;
+  each = λ k m at. elim (set_at xs s a k m at) [
+    | inl e ↦ subst (HoldsStation i k) e.1 (subst (λ n. HoldsStation i n a) (sym e.0) holds)
+    | inr e ↦ all.each k m e
+  ];
+}
+
+-- what a station does with what it takes is a block, and it holds what the image says still
+member_takes : (i : Internet) (t : List Entry) (p : Pair) (n : ℕ) (old new : Member Holding NodeHolding) (added : List Output)
+    → Passes i → IsBounded i → IsLegal i t → Contains (pending (cable_seats i) t) p → HoldsStation i p.seat.station old
+    → EitherHears RouterHears NodeHears old (heard_by p) added new → AreLawful n added
+    → Block i t (Took p.frame.stamp p.seat.station
+    ∷ all_entries (places_of i) (cable_seats i) p.seat.station (stamps t) added)
+    × HoldsStation i p.seat.station new
+member_takes i t p n (member.Router h) (member.Router g) added ok bounded legal there holds hears lawful =
+    router_takes i t p n h g added ok bounded legal there holds hears lawful
+member_takes i t p n (member.Node h) (member.Node g) added ok bounded legal there holds hears lawful =
+    let w = node_takes i t p holds.0 n h g added ok legal there holds.1 holds.2 hears lawful in
+    (w.0, (holds.0, holds.1, w.1))
+member_takes i t p n (member.Router h) (member.Node g) added ok bounded legal there holds hears lawful = absurd hears
+member_takes i t p n (member.Node h) (member.Router g) added ok bounded legal there holds hears lawful = absurd hears
+
+-- a run over the same tables
+frozen_of : (r : Running) (i : Internet) → r.internet ≡ i → Passes i → IsBounded i → HoldStations i r.stations
+    → r.cabling.seats ≡ cable_seats i → IsLegal i (transcript r.cabling) → IsFrozen r
+frozen_of r i e ok bounded holders seats legal = record {
+  passes = subst Passes (sym e) ok;
+  bounded = subst IsBounded (sym e) bounded;
+  holders = subst (λ j. HoldStations j r.stations) (sym e) holders;
+  seats = seats ∙ ap cable_seats (sym e);
+  legal = subst (λ j. IsLegal j (transcript r.cabling)) (sym e) legal;
+}
+
+-- after a taking
+pub took_keeps : (old new : Running) (stamp s : ℕ) → IsFrozen old → TakenBy old stamp s new → IsFrozen new
+took_keeps old new stamp s frozen taken =
+    let i = old.internet in
+    let t = transcript old.cabling in
+    let w = taken.taken in
+    let x = w.taken in
+    let p = x.pair in
+    let there : Contains (pending (cable_seats i) t) p = subst (λ l. Contains (pending l t) p) frozen.seats x.was_pending in
+    let holds : HoldsStation i p.seat.station w.member =
+    subst (λ n. HoldsStation i n w.member) (sym x.of_station) (frozen.holders.each s w.member w.known) in
+    let b = member_takes i t p _ w.member w.after x.added frozen.passes frozen.bounded frozen.legal there holds x.heard x.lawful in
+    let entries : List Entry = Took stamp s ∷ all_entries (places_of i) old.cabling.seats s (stamps t) x.added in
+    let block : Block i t entries =
+    subst (λ n. Block i t (Took n s ∷ all_entries (places_of i) old.cabling.seats s (stamps t) x.added)) x.of_stamp
+    (subst (λ n. Block i t (Took p.frame.stamp n ∷ all_entries (places_of i) old.cabling.seats n (stamps t) x.added)) x.of_station
+    (subst (λ l. Block i t (Took p.frame.stamp p.seat.station ∷ all_entries (places_of i) l p.seat.station (stamps t) x.added))
+    (sym frozen.seats) b.0)) in
+    frozen_of new i taken.internet frozen.passes frozen.bounded
+    (subst (HoldStations i) (sym w.changed)
+    (hold_with i old.stations s w.after frozen.holders (subst (λ n. HoldsStation i n w.after) x.of_station b.1)))
+    (x.entries.seats ∙ frozen.seats)
+    (subst (IsLegal i) (sym x.entries.added) (Goes t entries frozen.legal block))
+
+-- after a sending
+pub sent_keeps : (old new : Running) (o : Order) (payload : List ℕ) → IsFrozen old → IsFair old.internet o → IsSent o.header payload
+    → SentBy old o payload new → IsFrozen new
+sent_keeps old new o payload frozen fair sent by =
+    let i = old.internet in
+    let t = transcript old.cabling in
+    let bytes = bytes_for o payload in
+    let l : Leg = record { station = o.station; cable = o.cable; next = o.next; body = bytes; hops = 0 } in
+    let made : IsMade i l = record {
+      seated = fair.seated;
+      whole = sent.is_body;
+      fresh = refl;
+      goes = fair.goes l refl refl sent.target_is;
+    } in
+    let own : IsOwn i l = record {
+      by_node = fair.by_node;
+      handed = elim fair.handed [
+        | inl e ↦ inl (ap (λ a. a.net) sent.target_is ∙ e)
+        | inr e ↦ inr e
+      ];
+    } in
+    let is : body bytes ≡ bytes = (whole bytes sent.is_body).same in
+    let block = subst (λ b. Block i t (Sent o.station b ∷ leg_on (places_of i)
+    (record { stamp = stamps t; cable = o.cable; station = o.station }) o.next bytes)) (sym is) (sendings i t l made own) in
+    frozen_of new i by.internet frozen.passes frozen.bounded (subst (HoldStations i) (sym by.stations) frozen.holders)
+    (by.entries.seats ∙ frozen.seats)
+    (subst (IsLegal i) (sym by.entries.added) (Goes t _ frozen.legal block))

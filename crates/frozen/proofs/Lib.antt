@@ -1,0 +1,4 @@
+pub mod Seats
+pub mod Keeps
+pub mod Fair
+pub mod Refused

@@ -1,0 +1,5 @@
+use Rattle.frozen.specs.Events.{Drained}
+use Rattle.frozen.proofs.frozen.Frozen.drain.Given as goal
+
+abbrev pub invariant-loop-turn : goal.invariant-loop-turn
+invariant-loop-turn g l = Drained l.initial.self l._turn l.self

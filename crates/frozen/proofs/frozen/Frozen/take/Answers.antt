@@ -1,0 +1,49 @@
+use Rattle.std.proofs.Common.{◌≡◌, ap, sym, subst, length, ◌+◌, ◌∙◌, IfErr, refl, ◌⊎◌, Some, None}
+use Rattle.std.specs.List.{list_any}
+use Rattle.at_base.specs.declared.error.Error.TheVariants.{Memory}
+use Rattle.cable_model.specs.Logs.{Cabling, transcript}
+use Rattle.cable_model.specs.Outcomes.{AreSeatsOf, is_named}
+use Rattle.cable_model.specs.Pending.{pending}
+use Rattle.frozen.proofs.Keeps.{took_keeps}
+use Rattle.frozen.proofs.Refused.{both_err, of_both, refused_so}
+use Rattle.frozen.proofs.Seats.{seats_of_station}
+use Rattle.frozen.specs.Runs.{IsFrozen, Running, TakenFrom, ports_of, take_refusal}
+use Rattle.image_stations.specs.Holders.{places_of}
+use Rattle.frozen.proofs.frozen.Frozen.take.Goals as goal
+
+pub take-requires-clause-seated : goal.take-requires-clause-seated
+take-requires-clause-seated g c =
+    let frozen = c.self.invariant.0 in
+    λ m at. subst (λ l. AreSeatsOf l c.args.station (ports_of m)) (sym frozen.seats)
+    (seats_of_station c.self.inside.image frozen.passes c.self.inside.stations.items frozen.holders c.args.station m at)
+
+pub invariant_of-self : goal.invariant_of-self
+invariant_of-self g c =
+    let old : Running = record { internet = c.self.inside.image; stations = c.self.inside.stations.items; cabling = c.self.inside.cables } in
+    let new : Running = record { internet = c.self.inside.image; stations = c.take.new.stations.items; cabling = c.take.new.cables } in
+    of_both c.take.result
+    (TakenFrom (places_of c.self.inside.image) c.self.inside.stations.items c.self.inside.cables c.args.stamp c.args.station
+    c.take.new.stations.items c.take.new.cables)
+    ((c.take.new.cables ≡ c.self.inside.cables) × (c.take.new.stations.items ≡ c.self.inside.stations.items))
+    (IsFrozen new × (c.self.inside.limit ≡ c.take.new.cables.limit))
+    c.take.ensures.ok (both_err c.take.result (c.take.new.cables ≡ c.self.inside.cables)
+    (c.take.new.stations.items ≡ c.self.inside.stations.items) c.take.ensures.kept c.take.ensures.stations_stay)
+    (λ taken. (
+      took_keeps old new c.args.stamp c.args.station c.self.invariant.0 (record { internet = refl; taken = taken }),
+      c.self.invariant.1 ∙ sym taken.taken.entries.limit,
+    ))
+    (λ same. (
+      subst IsFrozen (ap (λ s. record { internet = c.self.inside.image; stations = s; cabling = c.self.inside.cables }) (sym same.1)
+          ∙ ap (λ k. record { internet = c.self.inside.image; stations = c.take.new.stations.items; cabling = k }) (sym same.0))
+          c.self.invariant.0,
+      c.self.invariant.1 ∙ ap (λ (k : Cabling). k.limit) (sym same.0),
+    ))
+
+pub returns-clause-refused : goal.returns-clause-refused
+returns-clause-refused g c =
+    subst (λ (r : Running). IfErr c.take.result (λ e. (take_refusal r c.args.stamp c.args.station ≡ Some e)
+    ⊎ ((e ≡ Memory) × (take_refusal r c.args.stamp c.args.station ≡ None)))) c.self.view_is
+    (refused_so c.take.result
+    (list_any (is_named c.args.stamp c.args.station) (pending c.self.inside.cables.seats (transcript c.self.inside.cables)))
+    c.self.inside.cables.limit (length c.self.inside.cables.lines + 771) c.take.ensures.refused c.take.ensures.not_pending
+    c.take.ensures.full)

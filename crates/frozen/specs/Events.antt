@@ -1,0 +1,123 @@
+-- Events of a run: what each does, and when it is refused. This project's own.
+use Rattle.std.specs.Prelude.{◌≡◌, ◌⊎◌, ℕ, ◌+◌, ◌<◌, ◌≤◌, ◌==◌, Bool, false, cond, List, [], ◌∷◌, ◌++◌, Option, Some, None, Result, Ok, Err}
+use Rattle.std.specs.Prelude.{length, nat_lt, slice_get, take}
+use Rattle.at_base.specs.declared.address.Addr.{Addr}
+use Rattle.at_base.specs.declared.error.Error.{Error}
+use Rattle.at_base.specs.declared.error.Error.TheVariants.{Full, Memory, NoSuch, NotAudited}
+use Rattle.at_base.specs.declared.error.Fault.{Fault}
+use Rattle.at_base.specs.declared.error.What.TheVariants as what
+use Rattle.audit.specs.Rules.{Passes}
+use Rattle.audit.specs.Verdicts.{IsFirst}
+use Rattle.cable_model.specs.Logs.{Adds, transcript}
+use Rattle.cable_model.specs.Outcomes.{IsLeast, sent_entries}
+use Rattle.cable_model.specs.Pending.{pending}
+use Rattle.ddp.specs.declared.header.Header.{Header}
+use Rattle.frozen.specs.Orders.{ask_data, ask_order, bytes_for, send_order}
+use Rattle.frozen.specs.Runs.{Running, TakenBy, take_refusal}
+use Rattle.frozen.specs.declared.event.Event.{Event}
+use Rattle.frozen.specs.declared.event.Event.TheVariants.{Send, Request, Take}
+use Rattle.frozen.specs.declared.order.Order.{Order}
+use Rattle.image_stations.specs.Finding.{station_at}
+use Rattle.image_stations.specs.Holders.{places_of}
+use Rattle.table_image.specs.Internet.{Internet}
+
+-- the header of a datagram whose source is still to be written
+abbrev pub header_for : Addr → ℕ → ℕ → ℕ → Bool → Header
+header_for target target_socket source_socket kind summed = record {
+  summed = summed;
+  target = target;
+  source = record { net = 0; node = 0 };
+  target_socket = target_socket;
+  source_socket = source_socket;
+  kind = kind;
+}
+
+-- A node sends a datagram with this data, as it is ordered to, and no station holds anything else then.
+pub record SentBy (old : Running) (o : Order) (payload : List ℕ) (new : Running) : Type 0 where
+  pub internet : new.internet ≡ old.internet
+  pub stations : new.stations ≡ old.stations
+  pub entries :
+      Adds old.cabling new.cabling (sent_entries (places_of old.internet) old.cabling o.cable o.station o.next (bytes_for o payload))
+
+-- the same, if there is an order
+abbrev pub Sends : Running → Result Order Error → List ℕ → Running → Type 0
+Sends old (Err e) payload new = ⊥
+Sends old (Ok o) payload new = SentBy old o payload new
+
+-- the station takes the frame, if there is such a station
+abbrev pub Takes : Running → ℕ → Option ℕ → Running → Type 0
+Takes old stamp None new = ⊥
+Takes old stamp (Some s) new = TakenBy old stamp s new
+
+-- What an event does: a node sends, or asks for names; or a station takes a frame.
+abbrev pub Happens : Running → Event → Running → Type 0
+Happens old (Send node via target target_socket source_socket kind summed payload) new =
+    Sends old (send_order old.internet node via (header_for target target_socket source_socket kind summed) (length payload)) payload new
+Happens old (Request node via id name) new = Sends old (ask_order old.internet node via) (ask_data old.internet node id name) new
+Happens old (Take stamp station) new = Takes old stamp (station_at old.internet station) new
+
+-- why an order isn't carried out: there is none, or too little room for what may follow
+abbrev pub order_refusal : Running → Result Order Error → Option Error
+order_refusal r (Err e) = Some e
+order_refusal r (Ok o) = cond (nat_lt r.cabling.limit (length r.cabling.lines + 3)) (Some Full) None
+
+-- why a station can't take a frame: there is none, or as it is told
+abbrev pub taking_refusal : Running → ℕ → Option ℕ → Option Error
+taking_refusal r stamp None = Some (NoSuch what.Station)
+taking_refusal r stamp (Some s) = take_refusal r stamp s
+
+-- Why an event is refused, if it is: the first of its errors, but for want of memory.
+abbrev pub refusal : Running → Event → Option Error
+refusal r (Send node via target target_socket source_socket kind summed payload) =
+    order_refusal r (send_order r.internet node via (header_for target target_socket source_socket kind summed) (length payload))
+refusal r (Request node via id name) = order_refusal r (ask_order r.internet node via)
+refusal r (Take stamp station) = taking_refusal r stamp (station_at r.internet station)
+
+-- no run starts over the image, for this error: the audit names a fault, the first one; or there is no memory
+abbrev pub IsUnstarted : Internet → Error → Type 0
+IsUnstarted i e = ((f : Fault) × (e ≡ NotAudited f) × IsFirst i f) ⊎ ((e ≡ Memory) × Passes i)
+
+-- Events happened, one after the other, none of which was to be refused.
+pub data Happened : Running → List Event → Running → Type 0 where
+  Nothing : (r : Running) → Happened r [] r
+  Another : (old between new : Running) (es : List Event) (e : Event) → Happened old es between → refusal between e ≡ None
+      → Happens between e new → Happened old (es ++ e ∷ []) new
+
+-- a call is refused with this error: the first of its own, or want of memory where there is none
+abbrev pub IsRefused : Option Error → Error → Type 0
+IsRefused first e = (first ≡ Some e) ⊎ ((e ≡ Memory) × (first ≡ None))
+
+-- The events before the k-th happened, which is refused with this error.
+pub record Stopped (old : Running) (es : List Event) (k : ℕ) (e : Error) (new : Running) : Type 0 where
+  pub event : Event
+  pub at : slice_get es k ≡ Some event
+  pub before : Happened old (take k es) new
+  pub refused : IsRefused (refusal new event) e
+
+-- the frame and the station of the least pair that is pending
+abbrev pub IsNext : Running → ℕ → ℕ → Type 0
+IsNext r stamp s = IsLeast (pending r.cabling.seats (transcript r.cabling)) stamp s
+
+-- So many times the least frame that was pending was taken by the least station that it was pending for.
+pub data Drained : Running → ℕ → Running → Type 0 where
+  Undrained : (r : Running) → Drained r 0 r
+  Taken : (old between new : Running) (n stamp s : ℕ) → Drained old n between → IsNext between stamp s
+      → take_refusal between stamp s ≡ None → TakenBy between stamp s new → Drained old (n + 1) new
+
+-- at most so many were taken, and fewer only where nothing is pending any more
+pub record DrainsTo (old : Running) (most : ℕ) (none_left : Bool) (new : Running) : Type 0 where
+  pub number : ℕ
+  pub few : number ≤ most
+  pub drained : Drained old number new
+  pub left : none_left ≡ (length (pending new.cabling.seats (transcript new.cabling)) == 0)
+  pub all : none_left ≡ false → number ≡ most
+
+-- fewer were taken, and the next was refused with this error
+pub record DrainStops (old : Running) (most : ℕ) (e : Error) (new : Running) : Type 0 where
+  pub number : ℕ
+  pub few : number < most
+  pub drained : Drained old number new
+  pub stamp : ℕ
+  pub station : ℕ
+  pub next : IsNext new stamp station
+  pub refused : IsRefused (take_refusal new stamp station) e

@@ -1,0 +1,248 @@
+//! What nodes are told to send, and by which router.
+
+ghost use Rattle.std.specs.Prelude.{◌≡◌, ◌<◌, ◌≤◌, cond, length, slice_get, is_some, Some};
+ghost use Rattle.std.specs.Prelude.{IfOk, IfSome, IsOkUnless};
+ghost use Rattle.at_base.specs.Address.{same_address as same};
+ghost use Rattle.at_base.specs.Text.{is_only};
+ghost use Rattle.audit.specs.Routing.{owner};
+ghost use Rattle.end_node.specs.Lookups.{is_any as stands_for_own};
+ghost use Rattle.frozen.specs.Orders.{ask_data as asked_data};
+ghost use Rattle.frozen.specs.Orders.{ask_order as asks, asked_at as asks_at, data_at as data_in};
+ghost use Rattle.frozen.specs.Orders.{next_for as goes_to, node_at as node_in};
+ghost use Rattle.frozen.specs.Orders.{own_router as own, router_for as goes_by};
+ghost use Rattle.frozen.specs.Orders.{send_order as sends, sent_at as sends_at};
+ghost use Rattle.station.specs.Lawful.{IsNext};
+
+use crate::order::Order;
+use at_base::{Addr, Bytes, Error, Name, Text32, What};
+use ddp::{Header, MAX_DATA, kind as types, socket as sockets};
+use image_stations::Whereabouts;
+use nbp::{Function, Tuple};
+use station::Next;
+use station::ways::EVERY_NODE;
+use std::alloc::Global;
+use table_image::{Image, Node};
+
+/// The socket to which the replies to a node's request for names come.
+const REPLIES: u8 = 253;
+
+/// Whether two addresses are the same.
+fn same_address(a: Addr, b: Addr) -> bool
+    ensures { result ≡ same a b }
+{
+    a.net == b.net && a.node == b.node
+}
+
+/// The index of the node that has the address.
+pub fn node_at(nodes: &[Node], addr: Addr) -> Option<usize>
+    ensures place { result ≡ node_in nodes.now addr }
+    ensures inside { IfSome result (λ k. k < length nodes.now) }
+{
+    nodes.iter().position(|n| same_address(n.address, addr))
+}
+
+/// Whether a router has a port with the address on the cable.
+fn is_router(image: &Image, cable: u8, addr: Addr) -> bool
+    ensures { result ≡ is_some (owner image.now cable addr) }
+{
+    Whereabouts::of(image).has_router(cable, addr)
+}
+
+/// The node's own router, if it has one.
+fn own_router(router: Option<Addr>) -> Result<Addr, Error>
+    ensures { result ≡ own router }
+{
+    match router {
+        Some(addr) => Ok(addr),
+        None => Err(Error::NoRouter),
+    }
+}
+
+/// The router that a node sends through.
+fn router_for(image: &Image, node: &Node, via: Option<Addr>) -> Result<Addr, Error>
+    ensures { result ≡ goes_by image.now node.now via }
+{
+    match via {
+        None => own_router(node.router),
+        Some(via) => {
+            if is_router(image, node.cable, via) {
+                Ok(via)
+            } else {
+                Err(Error::NoSuch(What::Router))
+            }
+        }
+    }
+}
+
+/// Whom a datagram of a node's goes to next.
+fn next_for(image: &Image, node: &Node, via: Option<Addr>, target: Addr) -> Result<Next, Error>
+    ensures value { result ≡ goes_to image.now node.now via target }
+    ensures next { IfOk result IsNext }
+{
+    if target.net == 0 {
+        if target.node == EVERY_NODE {
+            Ok(Next::All)
+        } else {
+            Err(Error::NoSuch(What::Station))
+        }
+    } else {
+        match router_for(image, node, via) {
+            Ok(router) => Ok(Next::Station(router)),
+            Err(error) => Err(error),
+        }
+    }
+}
+
+/// The order of node `k` to send so many bytes of data.
+fn sent_at(
+    image: &Image,
+    k: usize,
+    via: Option<Addr>,
+    header: Header,
+    len: usize,
+) -> Result<Order, Error>
+    requires { k < length image.now.nodes }
+    ensures value { result ≡ sends_at image.now k (slice_get image.now.nodes k) via header len }
+    ensures next { IfOk result (λ o. IsNext o.next) }
+    ensures short { IfOk result (λ o. len ≤ 586) }
+{
+    let node = &image.nodes()[k];
+    match next_for(image, node, via, header.target) {
+        Err(error) => Err(error),
+        Ok(_) if len > MAX_DATA => Err(Error::TooLong),
+        Ok(next) => Ok(Order {
+            station: (image.routers().len() + k) as u16,
+            cable: node.cable,
+            next,
+            header: Header {
+                source: node.address,
+                ..header
+            },
+        }),
+    }
+}
+
+/// The order of the node with an address to send so many bytes of data.
+pub fn send_order(
+    image: &Image,
+    node: Addr,
+    via: Option<Addr>,
+    header: Header,
+    len: usize,
+) -> Result<Order, Error>
+    ensures value { result ≡ sends image.now node via header len }
+    ensures next { IfOk result (λ o. IsNext o.next) }
+    ensures short { IfOk result (λ o. len ≤ 586) }
+{
+    match node_at(image.nodes(), node) {
+        Some(k) => sent_at(image, k, via, header, len),
+        None => Err(Error::NoSuch(What::Node)),
+    }
+}
+
+/// The order of node `k` to ask a router for names.
+fn asked_at(image: &Image, k: usize, via: Option<Addr>) -> Result<Order, Error>
+    requires { k < length image.now.nodes }
+    ensures value { result ≡ asks_at image.now k (slice_get image.now.nodes k) via }
+    ensures next { IfOk result (λ o. IsNext o.next) }
+{
+    let node = &image.nodes()[k];
+    match router_for(image, node, via) {
+        Err(error) => Err(error),
+        Ok(router) => Ok(Order {
+            station: (image.routers().len() + k) as u16,
+            cable: node.cable,
+            next: Next::Station(router),
+            header: Header {
+                summed: false,
+                target: router,
+                source: node.address,
+                target_socket: sockets::NAMES,
+                source_socket: REPLIES,
+                kind: types::NBP,
+            },
+        }),
+    }
+}
+
+/// The order of the node with an address to ask a router for names.
+pub fn ask_order(image: &Image, node: Addr, via: Option<Addr>) -> Result<Order, Error>
+    ensures value { result ≡ asks image.now node via }
+    ensures next { IfOk result (λ o. IsNext o.next) }
+{
+    match node_at(image.nodes(), node) {
+        Some(k) => asked_at(image, k, via),
+        None => Err(Error::NoSuch(What::Node)),
+    }
+}
+
+/// Whether the zone of a request stands for that of the node that asks.
+fn is_any(zone: &[u8]) -> bool
+    ensures { result ≡ stands_for_own zone.now }
+{
+    zone.is_empty() || is_star(zone)
+}
+
+/// Whether the text is a star and nothing else.
+fn is_star(text: &[u8]) -> bool
+    ensures { result ≡ is_only 42 text.now }
+{
+    match text {
+        [byte] => *byte == b'*',
+        _ => false,
+    }
+}
+
+/// The zone of a node, as a text.
+fn text_of(zone: &Name) -> Text32
+    ensures { result ≡ zone.now }
+{
+    Text32::new(zone.as_slice()).unwrap()
+}
+
+/// The zone that a node asks for.
+fn zone_for(own: &Name, zone: &Text32) -> Text32
+    ensures { result ≡ (cond (stands_for_own zone.now) own.now zone.now) }
+{
+    if is_any(zone.as_slice()) {
+        text_of(own)
+    } else {
+        *zone
+    }
+}
+
+/// The data of a node's request for names. Error: `Memory`.
+fn data_at(alloc: Global, node: &Node, id: u8, name: &Tuple) -> Result<Bytes, Error>
+    ensures ok { IfOk result (λ bytes. bytes ≡ data_in (Some node.now) id name.now) }
+    ensures short { IfOk result (λ bytes. length bytes ≤ 586) }
+    ensures refused { IsOkUnless result Error.Memory }
+{
+    let tuple = Tuple {
+        at: node.address,
+        socket: REPLIES,
+        enumerator: 0,
+        object: name.object,
+        kind: name.kind,
+        zone: zone_for(&node.zone, &name.zone),
+    };
+    nbp::write(alloc, Function::BroadcastRequest, id, &tuple)
+}
+
+/// The data of the request for names of the node with an address. Error: `Memory`.
+pub fn ask_data(
+    alloc: Global,
+    image: &Image,
+    node: Addr,
+    id: u8,
+    name: &Tuple,
+) -> Result<Bytes, Error>
+    ensures ok { IfOk result (λ bytes. bytes ≡ asked_data image.now node id name.now) }
+    ensures short { IfOk result (λ bytes. length bytes ≤ 586) }
+    ensures refused { IsOkUnless result Error.Memory }
+{
+    let nodes = image.nodes();
+    match node_at(nodes, node) {
+        Some(k) => data_at(alloc, &nodes[k], id, name),
+        None => Ok(Bytes::from_vec(Vec::new(alloc))),
+    }
+}

@@ -1,0 +1,74 @@
+//! What the events of a run do to its cables and its stations.
+
+ghost use Rattle.std.specs.Prelude.{◌≡◌, ◌<◌, ◌+◌, ◌↔◌, ◌⊎◌, false, length, slice_get, true};
+ghost use Rattle.std.specs.Prelude.{IfErr, OnErr, OnOk, Some};
+ghost use Rattle.std.specs.List.{list_any};
+ghost use Rattle.cable_model.specs.Logs.{Adds, transcript as said};
+ghost use Rattle.cable_model.specs.Outcomes.{AreSeatsOf, has_cable, is_named, is_seated};
+ghost use Rattle.cable_model.specs.Outcomes.{sent_entries};
+ghost use Rattle.cable_model.specs.Pending.{pending as pending_on};
+ghost use Rattle.end_node.specs.Holding.{NodeHolding};
+ghost use Rattle.frozen.specs.Runs.{TakenFrom, ports_of};
+ghost use Rattle.image_stations.specs.Holders.{places_of};
+ghost use Rattle.image_stations.specs.declared.member.Member.{Member as MemberValue};
+ghost use Rattle.router.specs.Holding.{Holding};
+ghost use Rattle.station.specs.Lawful.{IsNext};
+
+use crate::order::Order;
+use at_base::{Bytes, Error};
+use cable_model::Cables;
+use end_node::EndNode;
+use image_stations::{Member, Whereabouts};
+use router::Router;
+use rtmp::RouteTable;
+use table_image::Image;
+
+/// A node sends a datagram, as it is ordered to.
+///
+/// Errors: `Full` below 3 entries of room, `Memory`. A refusal changes nothing.
+pub fn send(cables: &mut Cables, image: &Image, order: &Order, bytes: Bytes) -> Result<(), Error>
+    requires next { IsNext order.now.next }
+    requires cable { has_cable cables.old.seats order.now.cable ≡ true }
+    requires seated { is_seated cables.old.seats order.now.cable order.now.station ≡ true }
+    ensures ok { OnOk result (Adds cables.old cables.new (sent_entries (places_of image.now)
+        cables.old order.now.cable order.now.station order.now.next bytes)) }
+    ensures full { (result ≡ Err Error.Full)
+        ↔ (cables.old.limit < length cables.old.lines + 3) }
+    ensures refused { IfErr result (λ e. (e ≡ Error.Full) ⊎ (e ≡ Error.Memory)) }
+    ensures kept { OnErr result (cables.new ≡ cables.old) }
+{
+    let places = Whereabouts::of(image);
+    cables.send(order.station, order.cable, order.next, bytes, &places)
+}
+
+/// A station takes a frame.
+///
+/// Errors, in this order: `NotPending`; `Full` below 771 entries of room; `Memory`. A refusal
+/// changes nothing.
+pub fn take<T: RouteTable>(
+    cables: &mut Cables,
+    stations: &mut Vec<Member<Router<T>, EndNode>>,
+    image: &Image,
+    stamp: u32,
+    station: u16,
+) -> Result<(), Error>
+    requires there { station < length stations.old.items }
+    requires seated { (m : MemberValue Holding NodeHolding)
+        → slice_get stations.old.items station ≡ Some m
+        → AreSeatsOf cables.old.seats station (ports_of m) }
+    ensures ok { OnOk result (TakenFrom (places_of image.now) stations.old.items cables.old
+        stamp station stations.new.items cables.new) }
+    ensures not_pending { (result ≡ Err Error.NotPending) ↔ (list_any (is_named stamp station)
+        (pending_on cables.old.seats (said cables.old)) ≡ false) }
+    ensures full { (result ≡ Err Error.Full) ↔ ((list_any (is_named stamp station)
+        (pending_on cables.old.seats (said cables.old)) ≡ true)
+        × (cables.old.limit < length cables.old.lines + 771)) }
+    ensures refused { IfErr result (λ e. (e ≡ Error.NotPending) ⊎ (e ≡ Error.Full)
+        ⊎ (e ≡ Error.Memory)) }
+    ensures kept { OnErr result (cables.new ≡ cables.old) }
+    ensures stations_stay { OnErr result (stations.new.items ≡ stations.old.items) }
+{
+    let places = Whereabouts::of(image);
+    let taker = &mut stations[station as usize];
+    cables.take(stamp, station, taker, &places)
+}

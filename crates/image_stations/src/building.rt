@@ -1,0 +1,78 @@
+//! The stations of an internet, each of which holds what the image says of it.
+
+ghost use Rattle.std.specs.Prelude.{◌≤◌, ◌+◌, length};
+ghost use Rattle.std.specs.Prelude.{IfOk, IsOkUnless, OnOk};
+ghost use Rattle.audit.specs.Rules.{Passes};
+ghost use Rattle.image_stations.specs.Building.{AreFirst};
+ghost use Rattle.image_stations.specs.Holders.{HoldStations};
+
+use crate::member::Member;
+use crate::nodes::node_of;
+use crate::routers::router_of;
+use at_base::Error;
+use end_node::EndNode;
+use router::Router;
+use rtmp::RouteTable;
+use std::alloc::Global;
+use table_image::Image;
+
+#[tactic(auto, using(crate::proofs::Pushed::with_next))]
+/// Appends the routers from an index on.
+fn put_routers<T: RouteTable>(
+    stations: &mut Vec<Member<Router<T>, EndNode>>,
+    image: &Image,
+    from: u8,
+) -> Result<(), Error>
+    requires passes { Passes image.now }
+    requires within { from ≤ length image.now.routers }
+    requires first { AreFirst image.now from stations.old.items }
+    ensures put { OnOk result
+        (AreFirst image.now (length image.now.routers) stations.new.items) }
+    ensures refused { IsOkUnless result Error.Memory }
+{
+    if (from as usize) < image.routers().len() {
+        let router = router_of(*stations.allocator(), image, from)?;
+        stations.push(Member::Router(router))?;
+        put_routers(stations, image, from + 1)
+    } else {
+        Ok(())
+    }
+}
+
+#[tactic(auto, using(crate::proofs::Pushed::with_next))]
+/// Appends the nodes from an index on.
+fn put_nodes<T: RouteTable>(
+    stations: &mut Vec<Member<Router<T>, EndNode>>,
+    image: &Image,
+    from: u8,
+) -> Result<(), Error>
+    requires passes { Passes image.now }
+    requires within { from ≤ length image.now.nodes }
+    requires first { AreFirst image.now (length image.now.routers + from) stations.old.items }
+    ensures put { OnOk result (HoldStations image.now stations.new.items) }
+    ensures refused { IsOkUnless result Error.Memory }
+{
+    if (from as usize) < image.nodes().len() {
+        let node = node_of(*stations.allocator(), image, from)?;
+        stations.push(Member::Node(node))?;
+        put_nodes(stations, image, from + 1)
+    } else {
+        Ok(())
+    }
+}
+
+#[tactic(auto, using(crate::proofs::Pushed::none_first))]
+/// The stations of an image that passes the audit: its routers, then its nodes. Error: `Memory`.
+pub fn stations_of<T: RouteTable>(
+    alloc: Global,
+    image: &Image,
+) -> Result<Vec<Member<Router<T>, EndNode>>, Error>
+    requires passes { Passes image.now }
+    ensures ok { IfOk result (λ stations. HoldStations image.now stations.items) }
+    ensures refused { IsOkUnless result Error.Memory }
+{
+    let mut stations = Vec::new(alloc);
+    put_routers(&mut stations, image, 0)?;
+    put_nodes(&mut stations, image, 0)?;
+    Ok(stations)
+}
