@@ -2,7 +2,7 @@
 
 ghost use Rattle.std.specs.Prelude.{◌≡◌, ◌≢◌, ◌⊎◌, ◌↔◌, ◌<◌, ◌≤◌, ◌+◌, ◌%◌, Some, None, true};
 ghost use Rattle.std.specs.Prelude.{false, ℕ, length, IfOk, IfErr, IfNone, IfSome, IsOkUnless};
-ghost use Rattle.std.specs.Prelude.{OnErr, OnOk};
+ghost use Rattle.std.specs.Prelude.{OnErr, OnOk, nat_le};
 ghost use Rattle.std.specs.Option.{option_map};
 ghost use Rattle.at_base.specs.Spelling.{bytes_of};
 ghost use Rattle.at_base.specs.declared.error.What.TheVariants.{Transaction as Missing};
@@ -79,6 +79,13 @@ impl Requester {
             next: self.next,
             table,
         })
+    }
+
+    /// Whether as many transactions are open as there may be. Allocates nothing.
+    pub fn is_full(&self) -> bool
+        ensures { result ≡ nat_le 32 (open_count self.now.slots) }
+    {
+        MAX_OPEN <= self.table.len()
     }
 
     /// Opens a transaction, whose request is then due. The number of the transaction. Allocates

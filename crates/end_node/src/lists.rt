@@ -1,6 +1,6 @@
 //! Lists of zones, for which a node asks its router in transactions.
 
-ghost use Rattle.std.specs.Prelude.{◌≡◌, ◌≢◌, ◌↔◌, ◌⊎◌, ◌<◌, ◌≤◌, ◌+◌, ◌%◌, ◌∷◌, [], ℕ, None, Some};
+ghost use Rattle.std.specs.Prelude.{◌≡◌, ◌≢◌, ◌↔◌, ◌⊎◌, ◌≤◌, ◌+◌, ◌%◌, ◌∷◌, [], ℕ, None, Some};
 ghost use Rattle.std.specs.Prelude.{IfErr, IfOk, IfSome, IsOkUnless, OnErr, OnOk, length};
 ghost use Rattle.std.specs.Prelude.{option_map};
 ghost use Rattle.at_base.specs.declared.error.What.TheVariants.{Transaction as Missing};
@@ -146,12 +146,14 @@ impl EndNode {
         ensures sent { IfOk result (λ id. PutsOut 1 outputs.old.items outputs.new.items
             (λ added. added ≡ made way.now
             (ask_bytes id (asked_of start way.now.header.target)) ∷ [])) }
-        ensures full { (result ≡ Err Error.Full) → 32 ≤ open_count self.old.asks.slots }
-        ensures room { OnOk result (open_count self.old.asks.slots < 32) }
+        ensures full { (result ≡ Err Error.Full) ↔ (32 ≤ open_count self.old.asks.slots) }
         ensures refused { IfErr result (λ e. (e ≡ Error.Full) ⊎ (e ≡ Error.Memory)) }
         ensures station_stays { OnErr result (self.new ≡ self.old) }
         ensures outputs_stay { OnErr result (outputs.new.items ≡ outputs.old.items) }
     {
+        if self.requester.is_full() {
+            return Err(Error::Full);
+        }
         let alloc = *self.received.allocator();
         let mut requester = self.requester.copy()?;
         let (id, bytes) = begin(&mut requester, alloc, start, way.header.target)?;
@@ -166,9 +168,8 @@ impl EndNode {
     ///
     /// Inside AppleTalk, the chapters on ATP and ZIP.
     ///
-    /// Errors: `NoSuch(Station)` where the node has no address, then `NoRouter` where it has no
-    /// router; `Full`, unless memory runs out, where 32 transactions are open; `Memory`. A refusal
-    /// changes nothing.
+    /// Errors, in this order: `NoSuch(Station)` where the node has no address; `NoRouter` where it has
+    /// no router; `Full` where 32 transactions are open; `Memory`. A refusal changes nothing.
     pub fn ask_zone_list(&mut self, start: u16, outputs: &mut Outputs) -> Result<u16, Error>
         ensures id { IfOk result (λ id. IsNextId self.old.asks.next self.old.asks.slots id) }
         ensures begun { IfOk result (λ id. IfOk (asks self.old) (λ way.
@@ -182,8 +183,8 @@ impl EndNode {
             PutsOut 1 outputs.old.items outputs.new.items (λ added. added
             ≡ made way (ask_bytes id (asked_of start way.header.target)) ∷ []))) }
         ensures unsendable { IfErr (asks self.old) (λ e. result ≡ Err e) }
-        ensures full { (result ≡ Err Error.Full) → 32 ≤ open_count self.old.asks.slots }
-        ensures room { OnOk result (open_count self.old.asks.slots < 32) }
+        ensures full { IfOk (asks self.old) (λ _.
+            (result ≡ Err Error.Full) ↔ (32 ≤ open_count self.old.asks.slots)) }
         ensures refused { IfOk (asks self.old) (λ _.
             IfErr result (λ e. (e ≡ Error.Full) ⊎ (e ≡ Error.Memory))) }
         ensures station_stays { OnErr result (self.new ≡ self.old) }
