@@ -4,8 +4,9 @@ mod lab;
 mod runs;
 
 use runs::{
-    a_frame_is_taken_once, a_taking_needs_room, an_echo_crosses_two_routers,
-    names_are_looked_up_where_the_zone_is, nobody_is_absent, orders_are_refused,
+    a_frame_is_taken_once, a_taking_needs_room, an_echo_crosses_two_routers, long_data_are_refused,
+    names_are_looked_up_where_the_zone_is, network_0_has_no_single_node, nobody_is_absent,
+    routers_are_on_the_cable, strangers_ask_nothing, strangers_take_nothing,
 };
 use std::test::*;
 
@@ -26,6 +27,10 @@ fn names_are_found(rt: HostRuntime) -> Result<(), Fail> {
 fn refusals_change_nothing(rt: HostRuntime) -> Result<(), Fail> {
     assert!(rt; a_frame_is_taken_once(rt.alloc())?);
     assert!(rt; a_taking_needs_room(rt.alloc())?);
-    assert!(rt; orders_are_refused(rt.alloc())?);
+    assert!(rt; network_0_has_no_single_node(rt.alloc())?);
+    assert!(rt; long_data_are_refused(rt.alloc())?);
+    assert!(rt; strangers_ask_nothing(rt.alloc())?);
+    assert!(rt; routers_are_on_the_cable(rt.alloc())?);
+    assert!(rt; strangers_take_nothing(rt.alloc())?);
     Ok(())
 }

@@ -51,15 +51,23 @@ pub(crate) fn sending(
 }
 
 /// The echo that 10.7 asks 30.5 for.
-pub(crate) fn echo(alloc: Global) -> Result<Event, Error> {
+fn echo(alloc: Global) -> Result<Event, Error> {
     sending(alloc, PRINTER, 4, 4, &PING)
 }
 
-/// 10.7's request for all names of a zone.
-pub(crate) fn names_of(zone: &[u8]) -> Result<Event, Error> {
+/// A run in which 10.7 has asked 30.5 for an echo.
+pub(crate) fn sent_in(alloc: Global, limit: u32) -> Result<Frozen<PlainTable>, Error> {
+    let event = echo(alloc)?;
+    let mut run = run_of(alloc, limit)?;
+    run.event(&event)?;
+    Ok(run)
+}
+
+/// A node's request for all names of a zone.
+pub(crate) fn names_from(node: Addr, zone: &[u8]) -> Result<Event, Error> {
     let any = Text32::new(b"=")?;
     Ok(Event::Request {
-        node: ASKER,
+        node,
         via: None,
         id: 1,
         name: Tuple {

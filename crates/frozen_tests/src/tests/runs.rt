@@ -1,15 +1,14 @@
 //! What happens in runs.
 
-use super::lab::{ASKER, FIRST, PRINTER, echo, is_put, names_of, reached, run_of, sending};
-use at_base::{Addr, Error, What};
+use super::lab::{ASKER, FIRST, PRINTER, is_put, names_from, reached, run_of, sending, sent_in};
+use at_base::{Addr, Bytes, Error, What};
 use frozen::Event;
 use std::alloc::Global;
 
 /// An echo request over three cables, and the reply: 16 entries, one Reached at either end, and the
 /// datagrams byte for byte, with the hops that they made.
 pub(crate) fn an_echo_crosses_two_routers(alloc: Global) -> Result<bool, Error> {
-    let mut run = run_of(alloc, 1000)?;
-    run.event(&echo(alloc)?)?;
+    let mut run = sent_in(alloc, 1000)?;
     let before = run.pending_count() == 1;
     let done = run.drain(100)?;
     let asked = [
@@ -29,7 +28,7 @@ pub(crate) fn an_echo_crosses_two_routers(alloc: Global) -> Result<bool, Error> 
 /// none on the first; the reply comes to the asker.
 pub(crate) fn names_are_looked_up_where_the_zone_is(alloc: Global) -> Result<bool, Error> {
     let mut run = run_of(alloc, 1000)?;
-    run.event(&names_of(b"blue")?)?;
+    run.event(&names_from(ASKER, b"blue")?)?;
     let request = [
         0x00, 0x1D, 0x00, 0x00, 0x00, 0x0A, 0x00, 0x0A, 0x01, 0x07, 0x02, 0xFD, 0x02, 0x11, 0x01,
         0x00, 0x0A, 0x07, 0xFD, 0x00, 0x01, 0x3D, 0x01, 0x3D, 0x04, 0x62, 0x6C, 0x75, 0x65,
@@ -49,8 +48,7 @@ pub(crate) fn nobody_is_absent(alloc: Global) -> Result<bool, Error> {
 
 /// A frame is taken once.
 pub(crate) fn a_frame_is_taken_once(alloc: Global) -> Result<bool, Error> {
-    let mut run = run_of(alloc, 1000)?;
-    run.event(&echo(alloc)?)?;
+    let mut run = sent_in(alloc, 1000)?;
     let take = Event::Take {
         stamp: 0,
         station: FIRST,
@@ -61,41 +59,55 @@ pub(crate) fn a_frame_is_taken_once(alloc: Global) -> Result<bool, Error> {
     Ok(again == Err(Error::NotPending) && run.transcript().len() == entries)
 }
 
-/// With room for 771 entries a taking is made; with less it is refused, and its frame is pending
-/// still.
-pub(crate) fn a_taking_needs_room(alloc: Global) -> Result<bool, Error> {
+/// What comes of taking the first frame of an echo in a run with room for so many entries, and how
+/// many frames are pending then.
+fn taken_within(alloc: Global, limit: u32) -> Result<(bool, usize), Error> {
+    let mut run = sent_in(alloc, limit)?;
     let take = Event::Take {
         stamp: 0,
         station: FIRST,
     };
-    let mut wide = run_of(alloc, 773)?;
-    wide.event(&echo(alloc)?)?;
-    wide.event(&take)?;
-    let mut narrow = run_of(alloc, 772)?;
-    narrow.event(&echo(alloc)?)?;
-    let refused = narrow.event(&take);
-    Ok(refused == Err(Error::Full) && narrow.pending_count() == 1 && narrow.transcript().len() == 2)
+    let taken = run.event(&take);
+    Ok((taken == Err(Error::Full), run.pending_count()))
 }
 
-/// What is refused, and for which reason.
-pub(crate) fn orders_are_refused(alloc: Global) -> Result<bool, Error> {
+/// With room for 771 entries a taking is made; with less it is refused, and its frame is pending
+/// still.
+pub(crate) fn a_taking_needs_room(alloc: Global) -> Result<bool, Error> {
+    let wide = taken_within(alloc, 773)?;
+    let narrow = taken_within(alloc, 772)?;
+    Ok(!wide.0 && narrow.0 && narrow.1 == 1)
+}
+
+/// Whether an event is refused for this reason in a run in which nothing has happened, and nothing
+/// has happened then.
+fn is_refused(alloc: Global, event: &Event, why: Error) -> Result<bool, Error> {
     let mut run = run_of(alloc, 1000)?;
-    let here = sending(alloc, Addr { net: 0, node: 5 }, 4, 4, &[])?;
-    let long = sending(alloc, PRINTER, 4, 4, &[0; 587])?;
-    let by = Event::Request {
-        node: Addr { net: 10, node: 8 },
-        via: None,
-        id: 1,
-        name: nbp::Tuple {
-            at: Addr::NONE,
-            socket: 0,
-            enumerator: 0,
-            object: at_base::Text32::new(b"=")?,
-            kind: at_base::Text32::new(b"=")?,
-            zone: at_base::Text32::new(b"Red")?,
-        },
-    };
-    let afar = Event::Send {
+    let refused = run.event(event);
+    Ok(refused == Err(why) && run.transcript().is_empty())
+}
+
+/// Nobody on the cable alone has a single node's address.
+pub(crate) fn network_0_has_no_single_node(alloc: Global) -> Result<bool, Error> {
+    let event = sending(alloc, Addr { net: 0, node: 5 }, 4, 4, &[])?;
+    is_refused(alloc, &event, Error::NoSuch(What::Station))
+}
+
+/// A datagram has at most 586 bytes of data.
+pub(crate) fn long_data_are_refused(alloc: Global) -> Result<bool, Error> {
+    let event = sending(alloc, PRINTER, 4, 4, &[0; 587])?;
+    is_refused(alloc, &event, Error::TooLong)
+}
+
+/// No node has the address 10.8.
+pub(crate) fn strangers_ask_nothing(alloc: Global) -> Result<bool, Error> {
+    let event = names_from(Addr { net: 10, node: 8 }, b"Red")?;
+    is_refused(alloc, &event, Error::NoSuch(What::Node))
+}
+
+/// The router's address on the next cable isn't one on the node's.
+pub(crate) fn routers_are_on_the_cable(alloc: Global) -> Result<bool, Error> {
+    let event = Event::Send {
         node: ASKER,
         via: Some(Addr { net: 20, node: 1 }),
         target: PRINTER,
@@ -103,18 +115,16 @@ pub(crate) fn orders_are_refused(alloc: Global) -> Result<bool, Error> {
         source_socket: 128,
         kind: 4,
         summed: false,
-        payload: at_base::Bytes::copy(alloc, &[])?,
+        payload: Bytes::copy(alloc, &[])?,
     };
-    let stranger = Event::Take {
+    is_refused(alloc, &event, Error::NoSuch(What::Router))
+}
+
+/// No station has the address 10.9.
+pub(crate) fn strangers_take_nothing(alloc: Global) -> Result<bool, Error> {
+    let event = Event::Take {
         stamp: 0,
         station: Addr { net: 10, node: 9 },
     };
-    Ok(
-        run.event(&here) == Err(Error::NoSuch(What::Station))
-            && run.event(&long) == Err(Error::TooLong)
-            && run.event(&by) == Err(Error::NoSuch(What::Node))
-            && run.event(&afar) == Err(Error::NoSuch(What::Router))
-            && run.event(&stranger) == Err(Error::NoSuch(What::Station))
-            && run.transcript().is_empty(),
-    )
+    is_refused(alloc, &event, Error::NoSuch(What::Station))
 }
