@@ -14,8 +14,8 @@ use Rattle.cable_model.specs.Pending.{pending}
 use Rattle.ddp.specs.declared.header.Header.{Header}
 use Rattle.frozen.specs.Orders.{ask_data, ask_order, bytes_for, send_order}
 use Rattle.frozen.specs.Runs.{Running, TakenBy, take_refusal}
-use Rattle.frozen.specs.declared.event.Event.{Event}
-use Rattle.frozen.specs.declared.event.Event.TheVariants.{Send, Request, Take}
+use Rattle.events.specs.declared.event.Event.{Event}
+use Rattle.events.specs.declared.event.Event.TheVariants.{Send, Request, Take}
 use Rattle.frozen.specs.declared.order.Order.{Order}
 use Rattle.image_stations.specs.Finding.{station_at}
 use Rattle.image_stations.specs.Holders.{places_of}

@@ -13,7 +13,6 @@ ghost use Rattle.frozen.specs.Runs.{IsFrozen, TakenBy, take_refusal};
 ghost use Rattle.legal_runs.specs.Stations.{cable_seats};
 ghost use Rattle.station.specs.Lawful.{IsNext};
 
-use crate::event::Event;
 use crate::order::Order;
 use crate::orders::{ask_data, ask_order, send_order};
 use crate::steps;
@@ -22,6 +21,7 @@ use audit::{Verdict, audit};
 use cable_model::{Cables, Entry, SEND_ROOM};
 use ddp::Header;
 use end_node::EndNode;
+use events::Event;
 use image_stations::{Member, Whereabouts, seats_of, stations_of};
 use nbp::Tuple;
 use router::Router;

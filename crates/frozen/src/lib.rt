@@ -1,13 +1,12 @@
 //! Runs over the frozen tables of an internet that passes the audit.
 #![tactic(auto)]
 
-mod event;
 mod frozen;
 mod laws;
 mod order;
 mod orders;
 mod steps;
 
-pub use event::Event;
+pub use events::Event;
 pub use frozen::Frozen;
 pub use laws::promises_hold;

@@ -1,0 +1,211 @@
+-- Runs grow: entries come after those that there were.
+use Rattle.std.proofs.Common.{◌≡◌, ◌≢◌, ℕ, ◌+◌, ◌<◌, ◌≤◌, List, [], ◌∷◌, ◌++◌, Option, Some, None, Result, Ok, Err, ◌⊎◌, inl, inr, true, false, ◌==◌, drop, length, slice_get, map, take, ap, ap₂, sym, subst, refl, ◌∙◌, arith}
+use Rattle.std.proofs.Math.Seq.{drop-append_seam, take-append_seam}
+use Rattle.std.proofs.lemmas.Grind.{flat_map-append}
+use Rattle.std.proofs.lemmas.List.{append_assoc, append-nil, length-append, length-map}
+use Rattle.at_base.specs.declared.error.Error.{Error}
+use Rattle.at_base.specs.declared.error.Error.TheVariants.{Memory}
+use Rattle.cable_model.specs.Logs.{entry_at, transcript}
+use Rattle.cable_model.specs.Pending.{pending}
+use Rattle.frozen.proofs.Refused.{take_one}
+use Rattle.cable_model.specs.Transcript.{Entry}
+use Rattle.cable_model.specs.declared.entry.Entry.{Entry as Line}
+use Rattle.events.specs.declared.event.Event.{Event}
+use Rattle.events.specs.declared.event.Event.TheVariants as event
+use Rattle.frozen.specs.Events.{DrainStops, Drained, DrainsTo, Happens, IsRefused, Sends, Taken, Takes, Undrained, refusal}
+use Rattle.frozen.specs.Orders.{ask_data, ask_order, send_order}
+use Rattle.frozen.specs.Events.{header_for}
+use Rattle.frozen.specs.Runs.{Running, TakenBy}
+use Rattle.frozen.specs.declared.order.Order.{Order}
+use Rattle.image_stations.specs.Finding.{station_at}
+use Rattle.frozen_trace.proofs.EntryLines.{lines_append, printed}
+use Rattle.frozen_trace.specs.Traces.{Plays, Played, PlaysAll, Refusing, added, all_printed, cables_of, refused_line, told}
+use Rattle.script.specs.declared.step.Step.{Step}
+use Rattle.script.specs.declared.step.Step.TheVariants as step
+use Rattle.trace_lines.specs.Lines.{Printed, cable_of, lines}
+
+-- the internet stays, and these entries come after those that there were
+pub record Grows (a b : Running) (more : List Entry) : Type 0 where
+  pub internet : b.internet ≡ a.internet
+  pub said : transcript b.cabling ≡ transcript a.cabling ++ more
+
+pub grows_none : (a : Running) → Grows a a []
+grows_none a = record { internet = refl; said = sym (append-nil (transcript a.cabling)) }
+
+pub grows_then : (a b c : Running) (m n : List Entry) → Grows a b m → Grows b c n → Grows a c (m ++ n)
+grows_then a b c m n x y = record {
+  internet = y.internet ∙ x.internet;
+  said = y.said ∙ ap (λ (t : List Entry). t ++ n) x.said ∙ append_assoc (transcript a.cabling) m n;
+}
+
+sends_grow : (old new : Running) (r : Result Order Error) (payload : List ℕ) → Sends old r payload new
+    → (m : List Entry) × Grows old new m
+sends_grow old new (Err e) payload s = absurd s
+sends_grow old new (Ok o) payload s = (_, record { internet = s.internet; said = s.entries.added })
+
+pub taken_grows : (old new : Running) (stamp s : ℕ) → TakenBy old stamp s new → (m : List Entry) × Grows old new m
+taken_grows old new stamp s t = (_, record { internet = t.internet; said = t.taken.taken.entries.added })
+
+takes_grow : (old new : Running) (stamp : ℕ) (s : Option ℕ) → Takes old stamp s new → (m : List Entry) × Grows old new m
+takes_grow old new stamp None t = absurd t
+takes_grow old new stamp (Some s) t = taken_grows old new stamp s t
+
+-- what an event adds
+pub happens_grows : (old new : Running) (e : Event) → Happens old e new → (m : List Entry) × Grows old new m
+happens_grows old new (event.Send node via target target_socket source_socket kind summed payload) h =
+    sends_grow old new
+    (send_order old.internet node via (header_for target target_socket source_socket kind summed) (length payload)) payload h
+happens_grows old new (event.Request node via id name) h =
+    sends_grow old new (ask_order old.internet node via) (ask_data old.internet node id name) h
+happens_grows old new (event.Take stamp station) h = takes_grow old new stamp (station_at old.internet station) h
+
+-- what takings add
+pub drained_grows : (old new : Running) (n : ℕ) → Drained old n new → (m : List Entry) × Grows old new m
+drained_grows old new n (Undrained r) = ([], grows_none old)
+drained_grows old new n (Taken a between b k stamp s before next ok taken) =
+    let first = drained_grows old between k before in
+    let last = taken_grows between new stamp s taken in
+    (first.0 ++ last.0, grows_then old between new first.0 last.0 first.1 last.1)
+
+-- takings after others
+pub drained_more : (a b c : Running) (k n : ℕ) → Drained a k b → Drained b n c → Drained a (k + n) c
+drained_more a b c k n x (Undrained r) = subst (λ (i : ℕ). Drained a i r) (nothing k) x
+  where
+    nothing : (k : ℕ) → k ≡ k + 0
+    nothing k = omega arith
+drained_more a b c k n x (Taken o between e j stamp s before next ok taken) =
+    subst (λ (i : ℕ). Drained a i c) (one_later k j)
+    (Taken a between c (k + j) stamp s (drained_more a b between k j x before) next ok taken)
+  where
+    one_later : (k j : ℕ) → k + j + 1 ≡ k + (j + 1)
+    one_later k j = omega arith
+
+-- no taking changes nothing
+pub undrained : (a b : Running) (n : ℕ) → n ≡ 0 → Drained a n b → b ≡ a
+undrained a b n z (Undrained r) = refl
+undrained a b n z (Taken o between e j stamp s before next ok taken) = absurd (not_one j z)
+  where
+    not_one : (j : ℕ) → j + 1 ≡ 0 → ⊥
+    not_one j z = omega arith
+
+pub entries_number : (a : Running) → length (transcript a.cabling) ≡ length a.cabling.lines
+entries_number a = length-map a.cabling.lines (entry_at a.cabling.kept)
+
+pub added_are : (a b : Running) (m : List Entry) → Grows a b m → added a b ≡ m
+added_are a b m x =
+    ap (λ (l : List Entry). drop (length a.cabling.lines) l) x.said
+    ∙ ap (λ (n : ℕ). drop n (transcript a.cabling ++ m)) (sym (entries_number a)) ∙ drop-append_seam (transcript a.cabling) m
+
+pub first_are : (a b : Running) (m : List Entry) → Grows a b m
+    → take (length a.cabling.lines) (transcript b.cabling) ≡ transcript a.cabling
+first_are a b m x =
+    ap (λ (l : List Entry). take (length a.cabling.lines) l) x.said
+    ∙ ap (λ (n : ℕ). take n (transcript a.cabling ++ m)) (sym (entries_number a)) ∙ take-append_seam (transcript a.cabling) m
+
+-- no fewer entries than before
+pub no_fewer : (a b : Running) (m : List Entry) → Grows a b m → length a.cabling.lines ≤ length b.cabling.lines
+no_fewer a b m x =
+    let one : length (transcript b.cabling) ≡ length (transcript a.cabling) + length m =
+    ap length x.said ∙ length-append (transcript a.cabling) m in
+    subst (λ n. n ≤ length b.cabling.lines) (entries_number a)
+    (subst (λ n. length (transcript a.cabling) ≤ n) (entries_number b)
+    (subst (λ n. length (transcript a.cabling) ≤ n) (sym one) (omega arith)))
+
+-- what is told of one growth, and then of another
+pub told_then : (a b c : Running) (m n : List Entry) → Grows a b m → Grows b c n → told a c ≡ told a b ++ told b c
+told_then a b c m n x y =
+    let ca : List ℕ = cables_of (transcript a.cabling) in
+    let cb : List ℕ = cables_of (transcript b.cabling) in
+    let known : cb ≡ ca ++ cables_of m =
+    ap cables_of x.said ∙ flat_map-append cable_of (transcript a.cabling) m in
+    ap (lines a.internet ca) (added_are a c (m ++ n) (grows_then a b c m n x y)) ∙ lines_append a.internet ca m n
+    ∙ ap (λ (k : List ℕ). lines a.internet ca m ++ lines a.internet k n) (sym known)
+    ∙ ap (λ i. lines a.internet ca m ++ lines i cb n) (sym x.internet)
+    ∙ ap (λ (l : List Entry). lines a.internet ca l ++ lines b.internet cb n) (sym (added_are a b m x))
+    ∙ ap (λ (l : List Entry). told a b ++ lines b.internet cb l) (sym (added_are b c n y))
+
+pub told_none : (a : Running) → told a a ≡ []
+told_none a = ap (lines a.internet (cables_of (transcript a.cabling))) (added_are a a [] (grows_none a))
+
+-- what is printed of a growth, by one who has printed what was there before
+pub record Prints (a b : Running) (known : Printed) (before : List Line) : Type 0 where
+  pub inside : length before ≤ length b.cabling.lines
+  pub frames : known ≡ printed b.internet (cables_of (take (length before) (transcript b.cabling)))
+  pub told_is : lines known.internet known.cables (drop (length before) (transcript b.cabling)) ≡ told a b
+
+pub prints : (a b : Running) (m : List Entry) (known : Printed) (before : List Line) → Grows a b m
+    → known ≡ all_printed a → before ≡ a.cabling.lines → Prints a b known before
+prints a b m known before x k l = record {
+  inside = subst (λ (t : List Line). length t ≤ length b.cabling.lines) (sym l) (no_fewer a b m x);
+  frames =
+      k
+      ∙ ap₂ printed (sym x.internet) (ap cables_of (sym (first_are a b m x))
+      ∙ ap (λ (t : List Line). cables_of (take (length t) (transcript b.cabling))) (sym l));
+  told_is =
+      ap (λ (p : Printed). lines p.internet p.cables (drop (length before) (transcript b.cabling))) k
+      ∙ ap (λ (t : List Line). lines a.internet (cables_of (transcript a.cabling)) (drop (length t) (transcript b.cabling))) l;
+}
+
+-- an event that is refused for a reason of its own is played so
+pub refusing : (old new : Running) (e : Event) (error : Error) → new ≡ old → IsRefused (refusal old e) error → error ≢ Memory
+    → Plays old (step.Event e) (refused_line error) new
+refusing old new e error kept (inl own) other =
+    subst (λ (r : Running). Plays old (step.Event e) (refused_line error) r) (sym kept) (Refusing old e error own)
+refusing old new e error kept (inr memory) other = absurd (other memory.0)
+
+-- steps up to one, and that one
+pub play_one : (old between new : Running) (steps : List Step) (k : ℕ) (s : Step) (text more : List ℕ)
+    → slice_get steps k ≡ Some s → PlaysAll old (take k steps) text between → Plays between s more new
+    → PlaysAll old (take (k + 1) steps) (text ++ more) new
+play_one old between new steps k s text more at before one =
+    subst (λ (l : List Step). PlaysAll old l (text ++ more) new) (sym (take_one steps k s at))
+    (Played old between new (take k steps) s text more before one)
+
+-- takings up to one that leaves something pending
+pub drain_on : (a b c : Running) (k : ℕ) → Drained a k b → DrainsTo b 1 false c → Drained a (k + 1) c
+drain_on a b c k before one =
+    subst (λ (n : ℕ). Drained a (k + n) c) (one.all refl) (drained_more a b c k one.number before one.drained)
+
+-- takings up to one after which nothing is pending
+pub drain_out : (a b c : Running) (k most : ℕ) → k < most → Drained a k b → DrainsTo b 1 true c → DrainsTo a most true c
+drain_out a b c k most more before one = record {
+  number = k + one.number;
+  few = within k one.number most more one.few;
+  drained = drained_more a b c k one.number before one.drained;
+  left = one.left;
+  all = λ odd. absurd cc;
+}
+  where
+    within : (k n most : ℕ) → k < most → n ≤ 1 → k + n ≤ most
+    within k n most more few = omega (arith, more, few)
+
+-- as many takings as are named
+pub drain_full : (a b : Running) (k most : ℕ) → k ≡ most → Drained a k b
+    → DrainsTo a most (length (pending b.cabling.seats (transcript b.cabling)) == 0) b
+drain_full a b k most full before = record {
+  number = k;
+  few = subst (λ n. k ≤ n) full (omega arith);
+  drained = before;
+  left = refl;
+  all = λ left. full;
+}
+
+-- a taking after others is refused
+pub drain_stops : (a b c : Running) (k most : ℕ) (e : Error) → k < most → Drained a k b → DrainStops b 1 e c
+    → (c ≡ b) × DrainStops a most e c
+drain_stops a b c k most e more before stop =
+    let same : c ≡ b = undrained b c stop.number (none stop.number stop.few) stop.drained in (
+      same,
+      record {
+        number = k;
+        few = more;
+        drained = subst (Drained a k) (sym same) before;
+        stamp = stop.stamp;
+        station = stop.station;
+        next = stop.next;
+        refused = stop.refused;
+      },
+    )
+  where
+    none : (n : ℕ) → n < 1 → n ≡ 0
+    none n few = omega (arith, few)

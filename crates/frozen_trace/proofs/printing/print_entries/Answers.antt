@@ -1,0 +1,44 @@
+use Rattle.std.proofs.Common.{◌≡◌, ◌++◌, [], ◌∷◌, List, ℕ, ap, get_or, map, refl, sym, subst, take, ◌∙◌}
+use Rattle.std.proofs.lemmas.List.{append_assoc, append-nil}
+use Rattle.cable_model.specs.Logs.{entry_at}
+use Rattle.cable_model.specs.Transcript.{Entry}
+use Rattle.cable_model.specs.declared.entry.Entry.TheVariants as named
+use Rattle.frozen_trace.proofs.EntryLines.{cables_one, lines_one, one_further, printed, there}
+use Rattle.frozen_trace.proofs.Going.{goes_none, goes_then}
+use Rattle.frozen_trace.specs.Going.{Goes}
+use Rattle.frozen_trace.specs.Traces.{cables_of}
+use Rattle.trace_lines.specs.Lines.{Printed, cable_of, line, lines as lines_of}
+use Rattle.frozen_trace.proofs.printing.print_entries.Goals as goal
+
+pub loop-entry-init : goal.loop-entry-init
+loop-entry-init g c = (
+  goes_none (g.W.Write.contents c.args.output.now.writer) c.args.output.now.text.items,
+  ap (λ (k : List ℕ). printed c.args.lines.now.internet k) (sym (append-nil c.args.lines.now.cables)),
+  refl,
+)
+
+pub loop-entry-preserved : goal.loop-entry-preserved
+loop-entry-preserved g c =
+    let es = c.args.entries.now in
+    let k = c.loop-entry.entry-index in
+    let e = get_or es k (named.Sent 0 0) in
+    let i = c.args.lines.now.internet in
+    let known = c.args.lines.now.cables in
+    let f = entry_at c.args.run.now.cabling.kept in
+    let before : List Entry = map f (take k es) in
+    let more = one_further f es k e (there es k (named.Sent 0 0) c.loop-entry-test.true) in
+    let held = c.loop-entry.invariant in
+    let one =
+    goes_then _ _ _ c.args.output.now.text.items _ _ _ _ held.0
+    (subst (λ (l : Printed). Goes (g.W.Write.contents c.loop-entry.output.writer) c.loop-entry.output.text.items
+    (line l.internet l.cables (f e) ++ 10 ∷ []) (g.W.Write.contents c.print_entry.new.output.writer)
+    c.print_entry.new.output.text.items) held.1 c.in_ok-print_entry.ensures.gone) in (
+      subst (λ (t : List ℕ). Goes (g.W.Write.contents c.args.output.now.writer) c.args.output.now.text.items t
+          (g.W.Write.contents c.print_entry.new.output.writer) c.print_entry.new.output.text.items)
+          (sym (ap (lines_of i known) more ∙ lines_one i known before (f e))) one,
+      c.in_ok-print_entry.ensures.further
+          ∙ ap (λ (l : Printed). printed l.internet (l.cables ++ cable_of (f e))) held.1
+          ∙ ap (printed i) (append_assoc known (cables_of before) (cable_of (f e))
+          ∙ ap (λ (l : List ℕ). known ++ l) (sym (ap cables_of more ∙ cables_one before (f e)))),
+      c.in_ok-print_entry.ensures.stays ∙ held.2,
+    )

@@ -1,0 +1,84 @@
+-- What the steps of a script do to a run over frozen tables, and what is printed of it. This project's own.
+use Rattle.std.specs.Prelude.{◌≡◌, ◌≢◌, ℕ, Bool, true, false, List, [], ◌∷◌, ◌++◌, None, Some, codes, drop, length}
+use Rattle.std.specs.Fmt.{decimal}
+use Rattle.std.specs.List.{flat_map}
+use Rattle.at_base.specs.ErrorNumber.{number_of}
+use Rattle.at_base.specs.declared.error.Error.{Error}
+use Rattle.at_base.specs.declared.error.Error.TheVariants.{Memory}
+use Rattle.at_base.specs.declared.error.Fault.{Fault}
+use Rattle.audit.specs.Rules.{Passes}
+use Rattle.audit.specs.Verdicts.{IsFirst, verdict_line}
+use Rattle.audit.specs.declared.verdict.Verdict.TheVariants.{No}
+use Rattle.cable_model.specs.Logs.{transcript}
+use Rattle.cable_model.specs.Pending.{pending}
+use Rattle.cable_model.specs.Transcript.{Entry}
+use Rattle.events.specs.declared.event.Event.{Event}
+use Rattle.frozen.specs.Events.{DrainStops, DrainsTo, Happens, refusal}
+use Rattle.frozen.specs.Runs.{IsFrozen, Running}
+use Rattle.legal_runs.specs.Stations.{cable_seats}
+use Rattle.script.specs.declared.step.Step.{Step}
+use Rattle.script.specs.declared.step.Step.TheVariants as step
+use Rattle.table_image.specs.Internet.{Internet}
+use Rattle.trace_lines.specs.Lines.{Printed, cable_of, lines}
+
+-- the cables on which frames were put, one for each frame
+abbrev pub cables_of : List Entry → List ℕ
+cables_of entries = flat_map cable_of entries
+
+-- what one knows who has printed all entries of a run
+abbrev pub all_printed : Running → Printed
+all_printed r = record { internet = r.internet; cables = cables_of (transcript r.cabling) }
+
+-- the entries that a run has and another, earlier one hadn't
+abbrev pub added : Running → Running → List Entry
+added old new = drop (length old.cabling.lines) (transcript new.cabling)
+
+-- the lines of the entries that were added
+abbrev pub told : Running → Running → List ℕ
+told old new = lines old.internet (cables_of (transcript old.cabling)) (added old new)
+
+-- the line of a step that is refused
+abbrev pub refused_line : Error → List ℕ
+refused_line e = codes "refused " ++ decimal (number_of e) ++ 10 ∷ []
+
+-- the last line: how many pairs of a frame and a station are pending
+abbrev pub pending_line : Running → List ℕ
+pending_line r = codes "pending " ++ decimal (length (pending r.cabling.seats (transcript r.cabling))) ++ 10 ∷ []
+
+-- What a step does to a run, and the text that is printed of it: an event happens, or is refused for a reason of its own and
+-- changes nothing; or frames are taken, as many as are named unless nothing is pending any more, or up to the first taking that
+-- is refused.
+pub data Plays : Running → Step → List ℕ → Running → Type 0 where
+  Happening : (old new : Running) (e : Event) → refusal old e ≡ None → Happens old e new
+      → Plays old (step.Event e) (told old new) new
+  Refusing : (r : Running) (e : Event) (error : Error) → refusal r e ≡ Some error
+      → Plays r (step.Event e) (refused_line error) r
+  Draining : (old new : Running) (most : ℕ) (none_left : Bool) → DrainsTo old most none_left new
+      → Plays old (step.Drain most) (told old new) new
+  Stopping : (old new : Running) (most : ℕ) (error : Error) → error ≢ Memory → DrainStops old most error new
+      → Plays old (step.Drain most) (told old new ++ refused_line error) new
+
+-- what steps do, one after the other, and the text that is printed of them
+pub data PlaysAll : Running → List Step → List ℕ → Running → Type 0 where
+  Unplayed : (r : Running) → PlaysAll r [] [] r
+  Played : (old between new : Running) (steps : List Step) (s : Step) (text more : List ℕ) → PlaysAll old steps text between
+      → Plays between s more new → PlaysAll old (steps ++ s ∷ []) (text ++ more) new
+
+-- The text is the trace of these steps over the frozen tables of an internet: its stations hold what its tables say, nothing
+-- has happened, and at most 4,000,000 entries have room; then the steps are played; and last stands how many pairs are pending.
+pub record IsTrace (i : Internet) (steps : List Step) (text : List ℕ) : Type 0 where
+  pub begun : Running
+  pub ended : Running
+  pub internet : begun.internet ≡ i
+  pub cabling : begun.cabling ≡ record { seats = cable_seats i; limit = 4000000; lines = []; kept = []; waiting = [] }
+  pub begun_frozen : IsFrozen begun
+  pub ended_frozen : IsFrozen ended
+  pub played : List ℕ
+  pub plays : PlaysAll begun steps played ended
+  pub whole : text ≡ played ++ pending_line ended
+
+-- What is printed of these steps over an internet: where it passes the audit, and the answer is yes, their trace; else the line
+-- of the first fault.
+abbrev pub IsPrinted : Internet → List Step → Bool → List ℕ → Type 0
+IsPrinted i steps true text = Passes i × IsTrace i steps text
+IsPrinted i steps false text = (f : Fault) × IsFirst i f × (text ≡ verdict_line (No f) ++ 10 ∷ [])

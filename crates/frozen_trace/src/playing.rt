@@ -1,0 +1,122 @@
+//! Steps of a script, one at a time.
+
+ghost use Rattle.std.specs.Prelude.{◌≡◌, ◌⊎◌, List, ℕ, true, IfErr, OnOk};
+ghost use Rattle.frozen_trace.specs.Going.{Goes};
+ghost use Rattle.frozen_trace.specs.Traces.{Plays, PlaysAll, all_printed};
+ghost use Rattle.script.specs.declared.step.Step.TheVariants as step;
+
+use crate::output::Output;
+use crate::printing::{print_from, refuse};
+use at_base::Error;
+use events::Event;
+use frozen::Frozen;
+use rtmp::RouteTable;
+use script::Step;
+use std::alloc::Global;
+use std::io::Write;
+use trace_lines::Lines;
+
+/// Lets an event happen, and prints what it adds, or that it is refused.
+fn play_event<T: RouteTable, W: Write>(
+    alloc: Global,
+    run: &mut Frozen<T>,
+    event: &Event,
+    lines: &mut Lines<'_>,
+    output: &mut Output<W>,
+) -> Result<(), Error>
+    requires known { lines.old ≡ all_printed run.old }
+    ensures played { OnOk result ((more : List ℕ)
+        × Plays run.old (step.Event event.now) more run.new
+        × Goes (W.contents output.old.writer) output.old.text.items more
+        (W.contents output.new.writer) output.new.text.items) }
+    ensures known { OnOk result (lines.new ≡ all_printed run.new) }
+    ensures refused { IfErr result (λ e.
+        (e ≡ Error.Memory) ⊎ ((e ≡ Error.WriteFault) × (output.new.failed ≡ true))) }
+    ensures stays { OnOk result (output.new.failed ≡ output.old.failed) }
+{
+    let before = run.transcript().len();
+    match run.event(event) {
+        Ok(()) => print_from(run, before, lines, output),
+        Err(error) => refuse(alloc, output, &error),
+    }
+}
+
+/// Lets so many frames be taken, and prints what each taking adds; and at last the first refusal.
+fn play_drain<T: RouteTable, W: Write>(
+    alloc: Global,
+    run: &mut Frozen<T>,
+    most: u32,
+    lines: &mut Lines<'_>,
+    output: &mut Output<W>,
+) -> Result<(), Error>
+    requires known { lines.old ≡ all_printed run.old }
+    ensures played { OnOk result ((more : List ℕ)
+        × Plays run.old (step.Drain most) more run.new
+        × Goes (W.contents output.old.writer) output.old.text.items more
+        (W.contents output.new.writer) output.new.text.items) }
+    ensures known { OnOk result (lines.new ≡ all_printed run.new) }
+    ensures refused { IfErr result (λ e.
+        (e ≡ Error.Memory) ⊎ ((e ≡ Error.WriteFault) × (output.new.failed ≡ true))) }
+    ensures stays { OnOk result (output.new.failed ≡ output.old.failed) }
+{
+    for _turn in 0..most {
+        let before = run.transcript().len();
+        match run.drain(1) {
+            Ok(none_left) => {
+                print_from(run, before, lines, output)?;
+                if none_left {
+                    return Ok(());
+                }
+            }
+            Err(error) => return refuse(alloc, output, &error),
+        }
+    }
+    Ok(())
+}
+
+/// Plays a step.
+fn play_step<T: RouteTable, W: Write>(
+    alloc: Global,
+    run: &mut Frozen<T>,
+    step: &Step,
+    lines: &mut Lines<'_>,
+    output: &mut Output<W>,
+) -> Result<(), Error>
+    requires known { lines.old ≡ all_printed run.old }
+    ensures played { OnOk result ((more : List ℕ)
+        × Plays run.old step.now more run.new
+        × Goes (W.contents output.old.writer) output.old.text.items more
+        (W.contents output.new.writer) output.new.text.items) }
+    ensures known { OnOk result (lines.new ≡ all_printed run.new) }
+    ensures refused { IfErr result (λ e.
+        (e ≡ Error.Memory) ⊎ ((e ≡ Error.WriteFault) × (output.new.failed ≡ true))) }
+    ensures stays { OnOk result (output.new.failed ≡ output.old.failed) }
+{
+    match step {
+        Step::Event(event) => play_event(alloc, run, event, lines, output),
+        Step::Drain(most) => play_drain(alloc, run, *most, lines, output),
+    }
+}
+
+/// Plays steps, one after the other.
+pub fn play<T: RouteTable, W: Write>(
+    alloc: Global,
+    run: &mut Frozen<T>,
+    steps: &[Step],
+    lines: &mut Lines<'_>,
+    output: &mut Output<W>,
+) -> Result<(), Error>
+    requires known { lines.old ≡ all_printed run.old }
+    ensures played { OnOk result ((more : List ℕ)
+        × PlaysAll run.old steps.now more run.new
+        × Goes (W.contents output.old.writer) output.old.text.items more
+        (W.contents output.new.writer) output.new.text.items) }
+    ensures refused { IfErr result (λ e.
+        (e ≡ Error.Memory) ⊎ ((e ≡ Error.WriteFault) × (output.new.failed ≡ true))) }
+    ensures stays { OnOk result (output.new.failed ≡ output.old.failed) }
+{
+    for step in steps {
+        play_step(alloc, run, step, lines, output)?;
+    }
+    Ok(())
+}

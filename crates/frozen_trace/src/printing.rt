@@ -1,0 +1,171 @@
+//! What is printed of a run.
+
+ghost use Rattle.std.specs.Prelude.{◌≡◌, ◌≢◌, ◌≤◌, ◌⊎◌, true, [], ◌∷◌, ◌++◌, drop, length, map, take};
+ghost use Rattle.std.specs.Prelude.{IfErr, OnOk};
+ghost use Rattle.cable_model.specs.Logs.{entry_at, transcript as said};
+ghost use Rattle.frozen_trace.specs.Going.{Goes};
+ghost use Rattle.frozen_trace.specs.Traces.{all_printed, cables_of, pending_line};
+ghost use Rattle.frozen_trace.specs.Traces.{refused_line};
+ghost use Rattle.trace_lines.specs.Lines.{IsNamed, cable_of, line as line_of, lines as lines_of};
+
+use crate::output::Output;
+use at_base::Error;
+use cable_model::Entry;
+use frozen::Frozen;
+use rtmp::RouteTable;
+use std::alloc::Global;
+use std::fmt::Write as _;
+use std::io::Write;
+use trace_lines::Lines;
+
+/// The longest line of a refusal or of what is pending, in bytes.
+const MAX_LINE: usize = 32;
+
+/// The bytes of the number that an entry of a run names, and none where it names no number.
+fn bytes_of<'a, T: RouteTable>(run: &'a Frozen<T>, entry: &Entry) -> &'a [u8]
+    ensures { IsNamed run.now.cabling.kept entry.now result.now }
+{
+    match entry {
+        Entry::Sent { bytes, .. }
+        | Entry::Put { bytes, .. }
+        | Entry::Reached { bytes, .. }
+        | Entry::Dropped { bytes, .. } => run.bytes(*bytes),
+        Entry::Took { .. } | Entry::Lost { .. } => &[],
+    }
+}
+
+/// Prints an entry of a run.
+fn print_entry<T: RouteTable, W: Write>(
+    run: &Frozen<T>,
+    entry: &Entry,
+    lines: &mut Lines<'_>,
+    output: &mut Output<W>,
+) -> Result<(), Error>
+    ensures gone { OnOk result (Goes (W.contents output.old.writer) output.old.text.items
+        (line_of lines.old.internet lines.old.cables (entry_at run.now.cabling.kept entry.now) ++ 10 ∷ [])
+        (W.contents output.new.writer) output.new.text.items) }
+    ensures further { OnOk result (lines.new ≡ record {
+      internet = lines.old.internet;
+      cables = lines.old.cables ++ cable_of (entry_at run.now.cabling.kept entry.now);
+    }) }
+    ensures refused { IfErr result (λ e.
+        (e ≡ Error.Memory) ⊎ ((e ≡ Error.WriteFault) × (output.new.failed ≡ true))) }
+    ensures stays { OnOk result (output.new.failed ≡ output.old.failed) }
+{
+    let bytes = bytes_of(run, entry);
+    lines.append(&mut output.text, entry, bytes)?;
+    output.pass_on()
+}
+
+/// Prints entries of a run.
+fn print_entries<T: RouteTable, W: Write>(
+    run: &Frozen<T>,
+    entries: &[Entry],
+    lines: &mut Lines<'_>,
+    output: &mut Output<W>,
+) -> Result<(), Error>
+    ensures gone { OnOk result (Goes (W.contents output.old.writer) output.old.text.items
+        (lines_of lines.old.internet lines.old.cables
+        (map (entry_at run.now.cabling.kept) entries.now))
+        (W.contents output.new.writer) output.new.text.items) }
+    ensures further { OnOk result (lines.new ≡ record {
+      internet = lines.old.internet;
+      cables = lines.old.cables
+          ++ cables_of (map (entry_at run.now.cabling.kept) entries.now);
+    }) }
+    ensures refused { IfErr result (λ e.
+        (e ≡ Error.Memory) ⊎ ((e ≡ Error.WriteFault) × (output.new.failed ≡ true))) }
+    ensures stays { OnOk result (output.new.failed ≡ output.old.failed) }
+{
+    for entry in entries {
+        print_entry(run, entry, lines, output)?;
+    }
+    Ok(())
+}
+
+/// Prints the entries of a run from one on, before which all are printed.
+pub fn print_from<T: RouteTable, W: Write>(
+    run: &Frozen<T>,
+    from: usize,
+    lines: &mut Lines<'_>,
+    output: &mut Output<W>,
+) -> Result<(), Error>
+    requires inside { from ≤ length run.now.cabling.lines }
+    requires known { lines.old ≡ record {
+      internet = run.now.internet;
+      cables = cables_of (take from (said run.now.cabling));
+    } }
+    ensures gone { OnOk result (Goes (W.contents output.old.writer) output.old.text.items
+        (lines_of lines.old.internet lines.old.cables (drop from (said run.now.cabling)))
+        (W.contents output.new.writer) output.new.text.items) }
+    ensures known { OnOk result (lines.new ≡ all_printed run.now) }
+    ensures refused { IfErr result (λ e.
+        (e ≡ Error.Memory) ⊎ ((e ≡ Error.WriteFault) × (output.new.failed ≡ true))) }
+    ensures stays { OnOk result (output.new.failed ≡ output.old.failed) }
+{
+    print_entries(run, &run.transcript()[from..], lines, output)
+}
+
+/// Prints a line.
+fn end_line<W: Write>(output: &mut Output<W>, line: &str) -> Result<(), Error>
+    ensures gone { OnOk result (Goes (W.contents output.old.writer) output.old.text.items
+        (line.now ++ 10 ∷ []) (W.contents output.new.writer) output.new.text.items) }
+    ensures refused { IfErr result (λ e.
+        (e ≡ Error.Memory) ⊎ ((e ≡ Error.WriteFault) × (output.new.failed ≡ true))) }
+    ensures stays { OnOk result (output.new.failed ≡ output.old.failed) }
+{
+    output.text.extend_from_slice(line.as_bytes())?;
+    output.text.push(b'\n')?;
+    output.pass_on()
+}
+
+/// Prints that a step is refused.
+fn print_refusal<W: Write>(
+    alloc: Global,
+    output: &mut Output<W>,
+    error: &Error,
+) -> Result<(), Error>
+    ensures gone { OnOk result (Goes (W.contents output.old.writer) output.old.text.items
+        (refused_line error.now) (W.contents output.new.writer) output.new.text.items) }
+    ensures refused { IfErr result (λ e.
+        (e ≡ Error.Memory) ⊎ ((e ≡ Error.WriteFault) × (output.new.failed ≡ true))) }
+    ensures stays { OnOk result (output.new.failed ≡ output.old.failed) }
+{
+    let number = error.number();
+    let mut line = String::with_capacity(alloc, MAX_LINE)?;
+    write!(line, "refused {number}")?;
+    end_line(output, &line)
+}
+
+/// Prints that a step is refused, unless memory ran out: then that is the error.
+pub fn refuse<W: Write>(alloc: Global, output: &mut Output<W>, error: &Error) -> Result<(), Error>
+    ensures own { OnOk result (error.now ≢ Error.Memory) }
+    ensures gone { OnOk result (Goes (W.contents output.old.writer) output.old.text.items
+        (refused_line error.now) (W.contents output.new.writer) output.new.text.items) }
+    ensures refused { IfErr result (λ e.
+        (e ≡ Error.Memory) ⊎ ((e ≡ Error.WriteFault) × (output.new.failed ≡ true))) }
+    ensures stays { OnOk result (output.new.failed ≡ output.old.failed) }
+{
+    match error {
+        Error::Memory => Err(Error::Memory),
+        other => print_refusal(alloc, output, other),
+    }
+}
+
+/// Prints how many pairs are pending.
+pub fn print_pending<T: RouteTable, W: Write>(
+    alloc: Global,
+    run: &Frozen<T>,
+    output: &mut Output<W>,
+) -> Result<(), Error>
+    ensures gone { OnOk result (Goes (W.contents output.old.writer) output.old.text.items
+        (pending_line run.now) (W.contents output.new.writer) output.new.text.items) }
+    ensures refused { IfErr result (λ e.
+        (e ≡ Error.Memory) ⊎ ((e ≡ Error.WriteFault) × (output.new.failed ≡ true))) }
+    ensures stays { OnOk result (output.new.failed ≡ output.old.failed) }
+{
+    let count = run.pending_count();
+    let mut line = String::with_capacity(alloc, MAX_LINE)?;
+    write!(line, "pending {count}")?;
+    end_line(output, &line)
+}

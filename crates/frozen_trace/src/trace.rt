@@ -1,0 +1,86 @@
+//! The trace of a script.
+
+ghost use Rattle.std.specs.Prelude.{◌≡◌, ◌⊎◌, ◌++◌, List, ℕ, true, IfErr, IfOk, OnOk};
+ghost use Rattle.std.specs.Io.KnownBytes.{Appends};
+ghost use Rattle.frozen_trace.specs.Traces.{IsPrinted, PlaysAll, all_printed, pending_line};
+ghost use Rattle.frozen.specs.Runs.{IsFrozen};
+
+use crate::output::Output;
+use crate::playing::play;
+use crate::printing::print_pending;
+use at_base::Error;
+use audit::Verdict;
+use frozen::Frozen;
+use rtmp::RouteTable;
+use script::Step;
+use std::alloc::Global;
+use std::io::Write;
+use table_image::Image;
+use trace_lines::Lines;
+
+/// The most entries of a run.
+const LIMIT: u32 = 4_000_000;
+
+/// Plays a script over the frozen tables of an image, and prints its trace: the lines of the entries
+/// that each step adds, `refused N` for each step that is refused, and at last `pending N`. Lines go
+/// out as soon as there are many. `shown` is the same image, which the lines take addresses from. Where the audit says no, the line of its verdict is printed alone.
+/// Returns whether the audit says yes.
+///
+/// Errors: `Memory`; `WriteFault`, only where the writer failed. After an error, a part of the trace
+/// may have been written. This project's own.
+pub fn trace_script<T: RouteTable, W: Write>(
+    alloc: Global,
+    image: Image,
+    shown: &Image,
+    steps: &[Step],
+    output: &mut Output<W>,
+) -> Result<bool, Error>
+    requires same { shown.now ≡ image }
+    ensures printed { IfOk result (λ yes. (text : List ℕ) × IsPrinted image steps.now yes text
+        × Appends (W.contents output.old.writer) (W.contents output.new.writer)
+        (output.old.text.items ++ text)) }
+    ensures refused { IfErr result (λ e.
+        (e ≡ Error.Memory) ⊎ ((e ≡ Error.WriteFault) × (output.new.failed ≡ true))) }
+    ensures stays { OnOk result (output.new.failed ≡ output.old.failed) }
+{
+    match Frozen::<T>::start(alloc, image, LIMIT) {
+        Ok(run) => {
+            let mut run = run;
+            let mut lines = Lines::new(alloc, shown)?;
+            trace_run(alloc, &mut run, steps, &mut lines, output)?;
+            Ok(true)
+        }
+        Err(Error::NotAudited(fault)) => {
+            let line = Verdict::No(fault).line(alloc)?;
+            output.flush()?;
+            output.write_line(line.as_bytes())?;
+            Ok(false)
+        }
+        Err(_) => Err(Error::Memory),
+    }
+}
+
+/// Plays a script over a run, and prints its trace.
+fn trace_run<T: RouteTable, W: Write>(
+    alloc: Global,
+    run: &mut Frozen<T>,
+    steps: &[Step],
+    lines: &mut Lines<'_>,
+    output: &mut Output<W>,
+) -> Result<(), Error>
+    requires known { lines.old ≡ all_printed run.old }
+    ensures printed { OnOk result ((played : List ℕ) × PlaysAll run.old steps.now played run.new
+        × Appends (W.contents output.old.writer) (W.contents output.new.writer)
+        (output.old.text.items ++ played ++ pending_line run.new)) }
+    ensures frozen { OnOk result (IsFrozen run.old × IsFrozen run.new) }
+    ensures refused { IfErr result (λ e.
+        (e ≡ Error.Memory) ⊎ ((e ≡ Error.WriteFault) × (output.new.failed ≡ true))) }
+    ensures stays { OnOk result (output.new.failed ≡ output.old.failed) }
+{
+    // For the prover alone: a run is one over frozen tables, and stays one.
+    let _begun = run.image();
+    play(alloc, run, steps, lines, output)?;
+    print_pending(alloc, run, output)?;
+    let _ended = run.image();
+    output.flush()
+}

@@ -1,0 +1,27 @@
+-- Where each line that should say a step says one, none is bad.
+use Rattle.std.proofs.Common.{◌≡◌, ℕ, ◌<◌, zero, suc, Bool, true, false, not, List, [], ◌∷◌, Option, Some, None, filter, get_or, length, map, refl, ap, sym, ◌∙◌, arith}
+use Rattle.script.specs.Lines.{is_skipped, step}
+use Rattle.script.specs.Scripts.{is_bad}
+use Rattle.script.specs.declared.step.Step.{Step}
+
+-- the lines that should say a step
+abbrev told_in : List (List ℕ) → List (List ℕ)
+told_in ls = filter (λ line. not (is_skipped line)) ls
+
+-- one line, by whether it is skipped and what it says
+one : (line : List ℕ) (ls : List (List ℕ)) (steps : List Step) (skipped : Bool) (says : Option Step) → is_skipped line ≡ skipped
+    → step line ≡ says → map step (told_in (line ∷ ls)) ≡ map Some steps
+    → (is_bad line ≡ false) × ((rest : List Step) × (map step (told_in ls) ≡ map Some rest))
+one line ls steps true says skip said all = (rw skip refl, (steps, rw skip at all))
+one line ls [] false says skip said all = let odd = rw skip at all in absurd cc
+one line ls (s ∷ steps) false None skip said all = let odd = rw (skip, said) at all in absurd cc
+one line ls (s ∷ steps) false (Some t) skip said all =
+    let both = rw (skip, said) at all in (rw (skip, said) refl, (steps, cc))
+
+-- none of the lines is bad
+pub none_bad : (ls : List (List ℕ)) (steps : List Step) (k : ℕ) → map step (told_in ls) ≡ map Some steps → k < length ls
+    → is_bad (get_or ls k []) ≡ false
+none_bad [] steps k all inside = absurd (omega (arith, inside))
+none_bad (l ∷ ls) steps zero all inside = (one l ls steps (is_skipped l) (step l) refl refl all).0
+none_bad (l ∷ ls) steps (suc k) all inside =
+    let rest = (one l ls steps (is_skipped l) (step l) refl refl all).1 in none_bad ls rest.0 k rest.1 (omega (arith, inside))

@@ -1,0 +1,27 @@
+-- What is left of a text of which some parts were read. This project's own.
+use Rattle.std.specs.Prelude.{ℕ, ◌==◌, List, [], ◌∷◌, Option, Some}
+use Rattle.std.specs.Borrow.{Bor}
+use Rattle.std.specs.List.{slice_split}
+use Rattle.std.specs.Option.{option_map_or}
+use Rattle.events.specs.declared.event.Event.TheVariants.{Request}
+use Rattle.script.specs.Lines.{name}
+use Rattle.script.specs.Words.{address, byte, given, via}
+use Rattle.script.specs.declared.request.RequestWords.{RequestWords}
+use Rattle.script.specs.declared.send.SendWords.{SendWords}
+use Rattle.script.specs.declared.step.Step.{Step}
+use Rattle.script.specs.declared.step.Step.TheVariants.{Event}
+
+-- the parts of what is left, which a byte separates; none where all were read
+abbrev pub parts_left : ℕ → Option (Bor (List ℕ)) → List (List ℕ)
+parts_left byte rest = option_map_or (λ text. slice_split (λ b. b == byte) text.now) rest []
+
+-- the eight words of a line by which a node sends, in order
+abbrev pub all_of : SendWords → List (List ℕ)
+all_of w =
+    w.node.now ∷ w.via.now ∷ w.source_socket.now ∷ w.target.now ∷ w.socket.now ∷ w.kind.now ∷ w.sum.now ∷ w.hex.now ∷ []
+
+-- the step that is said by three words and the text of a name
+abbrev pub asked_by : RequestWords → Option Step
+asked_by w =
+    given (address w.node.now) (λ node. given (via w.via.now) (λ by. given (byte w.id.now) (λ id. given (name w.name.now) (λ tuple.
+    Some (Event (Request node by id tuple))))))

@@ -1,0 +1,4 @@
+pub mod Cuts
+pub mod Words
+pub mod Lines
+pub mod Scripts

@@ -1,0 +1,69 @@
+//! Bytes in hexadecimal digits.
+
+ghost use Rattle.std.specs.Prelude.{◌≡◌, ◌<◌, ◌∷◌, None, Some, length};
+ghost use Rattle.std.specs.Prelude.{IfNone, IfOk, IfSome, IsOkUnless};
+ghost use Rattle.script.specs.Words.{bytes as bytes_of, given, nibble as nibble_of};
+ghost use Rattle.script.specs.Words.{pairs as pairs_of};
+
+use crate::word::is_dash;
+use at_base::{Bytes, Error};
+use std::alloc::Global;
+
+/// The value of a hexadecimal digit of either case.
+fn nibble(digit: u8) -> Option<u8>
+    ensures value { result ≡ nibble_of digit }
+    ensures low { IfSome result (λ n. n < 16) }
+{
+    match char::from(digit).to_digit(16) {
+        Some(n) => Some(n as u8),
+        None => None,
+    }
+}
+
+/// The byte of the first two digits, and the digits after them.
+fn first_pair(digits: &[u8]) -> Option<(u8, &[u8])>
+    requires { 0 < length digits.now }
+    ensures some { IfSome result (λ x. pairs_of digits.now
+        ≡ given (pairs_of x.1.now) (λ more. Some (x.0 ∷ more))) }
+    ensures none { IfNone result (pairs_of digits.now ≡ None) }
+    ensures shorter { IfSome result (λ x. length x.1.now < length digits.now) }
+{
+    match digits {
+        [high, low, rest @ ..] => match (nibble(*high), nibble(*low)) {
+            (Some(high), Some(low)) => Some((high * 16 + low, rest)),
+            _ => None,
+        },
+        _ => None,
+    }
+}
+
+/// The bytes of pairs of hexadecimal digits, if they are that. Error: `Memory`.
+fn pairs(alloc: Global, digits: &[u8]) -> Result<Option<Bytes>, Error>
+    ensures read { IfOk result (λ x. x ≡ pairs_of digits.now) }
+    ensures refused { IsOkUnless result Error.Memory }
+{
+    let mut bytes = Vec::with_capacity(alloc, digits.len() / 2)?;
+    let mut rest = digits;
+    while rest.len() > 0 {
+        let Some((byte, more)) = first_pair(rest) else {
+            return Ok(None);
+        };
+        bytes.push(byte)?;
+        rest = more;
+    }
+    Ok(Some(Bytes::from_vec(bytes)))
+}
+
+/// The bytes of pairs of hexadecimal digits, at least one pair; none, for a dash. Error: `Memory`.
+pub(crate) fn bytes(alloc: Global, word: &[u8]) -> Result<Option<Bytes>, Error>
+    ensures read { IfOk result (λ x. x ≡ bytes_of word.now) }
+    ensures refused { IsOkUnless result Error.Memory }
+{
+    if word.is_empty() {
+        return Ok(None);
+    }
+    if is_dash(word) {
+        return Ok(Some(Bytes::from_vec(Vec::new(alloc))));
+    }
+    pairs(alloc, word)
+}

@@ -1,0 +1,19 @@
+//! Scripts: the steps of a run, one a line.
+#![tactic(auto)]
+
+mod cut;
+mod hex;
+mod laws;
+mod line;
+mod name;
+mod number;
+mod reading;
+mod request;
+mod send;
+mod step;
+mod word;
+mod words;
+
+pub use laws::scripts_have_no_bad_line;
+pub use reading::read;
+pub use step::Step;

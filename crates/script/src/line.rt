@@ -1,0 +1,75 @@
+//! What a line says.
+
+ghost use Rattle.std.specs.Prelude.{◌≡◌, IfOk, IsOkUnless};
+ghost use Rattle.at_base.specs.Text.{same_bytes};
+ghost use Rattle.script.specs.Lines.{draining, is_skipped as skipped, step as said, taking};
+
+use crate::number::number;
+use crate::request::request;
+use crate::send::send;
+use crate::step::Step;
+use crate::word::address;
+use crate::words::Words;
+use at_base::Error;
+use events::Event;
+use std::alloc::Global;
+
+/// Whether the line says nothing: it is empty, or begins with a `#`.
+pub(crate) fn is_skipped(line: &[u8]) -> bool
+    ensures { result ≡ skipped line.now }
+{
+    match line {
+        [] => true,
+        [first, ..] => *first == b'#',
+    }
+}
+
+fn is_word(word: &[u8], other: &[u8]) -> bool
+    ensures { result ≡ same_bytes word.now other.now }
+{
+    word == other
+}
+
+/// The step that the words after `take` say, if they say one.
+fn take(mut words: Words<'_>) -> Option<Step>
+    ensures { result ≡ taking words.entry }
+{
+    let stamp = words.next()?;
+    let station = words.next()?;
+    words.end()?;
+    Some(Step::Event(Event::Take {
+        stamp: number(u32::MAX, stamp)?,
+        station: address(station)?,
+    }))
+}
+
+/// The step that the word after `drain` says, if it says one.
+fn drain(mut words: Words<'_>) -> Option<Step>
+    ensures { result ≡ draining words.entry }
+{
+    let most = words.next()?;
+    words.end()?;
+    Some(Step::Drain(number(u32::MAX, most)?))
+}
+
+/// The step that the line says, if it says one. Error: `Memory`.
+pub(crate) fn step(alloc: Global, line: &[u8]) -> Result<Option<Step>, Error>
+    ensures read { IfOk result (λ x. x ≡ said line.now) }
+    ensures refused { IsOkUnless result Error.Memory }
+{
+    let mut words = Words::of(line);
+    let Some(what) = words.next() else {
+        return Ok(None);
+    };
+    if is_word(what, b"send") {
+        send(alloc, words)
+    } else if is_word(what, b"request") {
+        Ok(request(words))
+    } else if is_word(what, b"take") {
+        Ok(take(words))
+    } else if is_word(what, b"drain") {
+        Ok(drain(words))
+    } else {
+        Ok(None)
+    }
+}

@@ -1,0 +1,49 @@
+//! From the text of a script to its steps.
+
+ghost use Rattle.std.specs.Prelude.{◌≡◌, ◌⊎◌, ℕ, IfErr, IfOk};
+ghost use Rattle.script.specs.Scripts.{IsBadAt, IsScript};
+
+use crate::cut::cut;
+use crate::line::{is_skipped, step};
+use crate::step::Step;
+use at_base::Error;
+use std::alloc::Global;
+
+/// Reads a script. Each line is a step, and lines end with a line feed, which the last may lack.
+/// Empty lines and lines that begin with `#` are skipped.
+///
+/// - `send NODE VIA SOURCE-SOCKET TARGET SOCKET TYPE SUM HEX`: a node sends a datagram. VIA is the
+///   address of a router, or `-` for the node's own; SUM is 1 where it carries a checksum, and else
+///   0; HEX is its data in hexadecimal digits, or `-` for none.
+/// - `request NODE VIA ID OBJECT:TYPE@ZONE`: a node asks for names. The name is the rest of the
+///   line, cut at its first `:` and its last `@`; the object and the type have 1 to 32 bytes, and
+///   the zone at most 32.
+/// - `take STAMP STATION`: the station with this address takes a frame.
+/// - `drain MAX`: at most so many frames are taken, the least pending one each time.
+///
+/// Words stand one space apart. An address is a network and a node, as `10.7`. A number is decimal
+/// digits, without a sign, and without a 0 in front; STAMP and MAX fit 32 bits.
+///
+/// Errors: `BadScript` with the number of the first line that is none of these, counted from 1 (and
+/// 4,294,967,295 where it is greater); `Memory`. This project's own.
+pub fn read(alloc: Global, text: &[u8]) -> Result<Vec<Step>, Error>
+    ensures script { IfOk result (λ steps. IsScript text.now steps.items) }
+    ensures refused { IfErr result (λ e.
+        ((n : ℕ) × (e ≡ Error.BadScript n) × IsBadAt text.now n) ⊎ (e ≡ Error.Memory)) }
+{
+    let mut steps = Vec::new(alloc);
+    let mut number = 0u32;
+    let mut rest = Some(text);
+    while let Some(left) = rest {
+        let (line, more) = cut(b'\n', left);
+        number = number.saturating_add(1);
+        if !is_skipped(line) {
+            let Some(step) = step(alloc, line)? else {
+                return Err(Error::BadScript(number));
+            };
+            steps.push(step)?;
+        }
+        rest = more;
+    }
+    Ok(steps)
+}

@@ -1,0 +1,47 @@
+//! What a line says by which a node asks for names.
+
+ghost use Rattle.std.specs.Prelude.{◌≡◌, None, IfNone, IfSome};
+ghost use Rattle.script.specs.Cuts.{asked_by};
+ghost use Rattle.script.specs.Lines.{request as said};
+
+use crate::name::name;
+use crate::number::byte;
+use crate::step::Step;
+use crate::word::{address, via};
+use crate::words::Words;
+use events::Event;
+
+/// The words that follow `request`, the last of which may hold spaces.
+#[derive(Debug, Drop)]
+struct RequestWords<'a> {
+    node: &'a [u8],
+    via: &'a [u8],
+    id: &'a [u8],
+    name: &'a [u8],
+}
+
+/// The three words, and the rest of the line.
+fn words_of(mut words: Words<'_>) -> Option<RequestWords<'_>>
+    ensures some { IfSome result (λ w. said words.entry ≡ asked_by w) }
+    ensures none { IfNone result (said words.entry ≡ None) }
+{
+    Some(RequestWords {
+        node: words.next()?,
+        via: words.next()?,
+        id: words.next()?,
+        name: words.text()?,
+    })
+}
+
+/// The step that the words after `request` say, if they say one.
+pub(crate) fn request(words: Words<'_>) -> Option<Step>
+    ensures { result ≡ said words.entry }
+{
+    let words = words_of(words)?;
+    Some(Step::Event(Event::Request {
+        node: address(words.node)?,
+        via: via(words.via)?,
+        id: byte(words.id)?,
+        name: name(words.name)?,
+    }))
+}

@@ -1,0 +1,78 @@
+//! What a line says by which a node sends a datagram.
+
+ghost use Rattle.std.specs.Prelude.{◌≡◌, None, Some, IfNone, IfOk, IfSome, IsOkUnless};
+ghost use Rattle.script.specs.Cuts.{all_of};
+ghost use Rattle.script.specs.Lines.{send as said};
+ghost use Rattle.script.specs.Words.{bytes as bytes_of};
+
+use crate::hex::bytes;
+use crate::number::byte;
+use crate::step::Step;
+use crate::word::{address, flag, via};
+use crate::words::Words;
+use at_base::{Bytes, Error};
+use events::Event;
+use std::alloc::Global;
+
+/// The words that follow `send`.
+#[derive(Debug, Drop)]
+struct SendWords<'a> {
+    node: &'a [u8],
+    via: &'a [u8],
+    source_socket: &'a [u8],
+    target: &'a [u8],
+    socket: &'a [u8],
+    kind: &'a [u8],
+    sum: &'a [u8],
+    hex: &'a [u8],
+}
+
+/// The eight words.
+fn words_of(mut words: Words<'_>) -> Option<SendWords<'_>>
+    ensures some { IfSome result (λ w. words.entry ≡ all_of w) }
+    ensures none { IfNone result (said words.entry ≡ None) }
+{
+    let made = SendWords {
+        node: words.next()?,
+        via: words.next()?,
+        source_socket: words.next()?,
+        target: words.next()?,
+        socket: words.next()?,
+        kind: words.next()?,
+        sum: words.next()?,
+        hex: words.next()?,
+    };
+    words.end()?;
+    Some(made)
+}
+
+/// The step that the words say, with the bytes that the last of them is.
+fn sent(words: &SendWords<'_>, payload: Bytes) -> Option<Step>
+    requires { bytes_of words.now.hex.now ≡ Some payload }
+    ensures { result ≡ said (all_of words.now) }
+{
+    Some(Step::Event(Event::Send {
+        node: address(words.node)?,
+        via: via(words.via)?,
+        source_socket: byte(words.source_socket)?,
+        target: address(words.target)?,
+        target_socket: byte(words.socket)?,
+        kind: byte(words.kind)?,
+        summed: flag(words.sum)?,
+        payload,
+    }))
+}
+
+/// The step that the words after `send` say, if they say one. Error: `Memory`.
+pub(crate) fn send(alloc: Global, words: Words<'_>) -> Result<Option<Step>, Error>
+    ensures read { IfOk result (λ x. x ≡ said words.entry) }
+    ensures refused { IsOkUnless result Error.Memory }
+{
+    let Some(words) = words_of(words) else {
+        return Ok(None);
+    };
+    let Some(payload) = bytes(alloc, words.hex)? else {
+        return Ok(None);
+    };
+    Ok(sent(&words, payload))
+}

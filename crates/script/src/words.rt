@@ -1,0 +1,62 @@
+//! The words of a line, one at a time.
+
+ghost use Rattle.std.specs.Prelude.{◌≡◌, ◌∷◌, [], ℕ, List, IfNone, IfSome};
+ghost use Rattle.script.specs.Words.{words as words_of};
+
+use crate::cut::cut;
+use std::marker::Model;
+
+/// The words of a line that are left, which contracts see as a list.
+#[derive(Debug, Drop)]
+pub(crate) struct Words<'a> {
+    /// The rest of the line; `None` where the last word was read.
+    rest: Option<&'a [u8]>,
+}
+
+impl<'a> Model for Words<'a> {
+    ghost use Rattle.std.specs.Prelude.{ℕ, List};
+    ghost use Rattle.script.specs.Cuts.{parts_left};
+
+    ghost Value = { List (List ℕ) };
+
+    ghost view = { λ w. parts_left 32 w.rest };
+}
+
+impl<'a> Words<'a> {
+    /// The words of a line: the parts that one space separates.
+    pub(crate) fn of(line: &'a [u8]) -> Words<'a>
+        ensures { result ≡ words_of line.now }
+    {
+        Words { rest: Some(line) }
+    }
+
+    /// The next word.
+    pub(crate) fn next(&mut self) -> Option<&'a [u8]>
+        ensures some { IfSome result (λ word. self.old ≡ word.now ∷ self.new) }
+        ensures none { IfNone result (self.old ≡ []) }
+    {
+        let (word, rest) = cut(b' ', self.rest?);
+        self.rest = rest;
+        Some(word)
+    }
+
+    /// Nothing, where all words were read.
+    pub(crate) fn end(&self) -> Option<()>
+        ensures some { IfSome result (λ _. self.now ≡ []) }
+        ensures none { IfNone result ((word : List ℕ) × (more : List (List ℕ))
+            × (self.now ≡ word ∷ more)) }
+    {
+        match self.rest {
+            Some(_) => None,
+            None => Some(()),
+        }
+    }
+
+    /// The words that are left as they stand in the line, with the spaces between them.
+    pub(crate) fn text(self) -> Option<&'a [u8]>
+        ensures some { IfSome result (λ text. words_of text.now ≡ self.entry) }
+        ensures none { IfNone result (self.entry ≡ []) }
+    {
+        self.rest
+    }
+}

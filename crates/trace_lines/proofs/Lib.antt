@@ -1,0 +1,2 @@
+pub mod InDigits
+pub mod Held

@@ -1,0 +1,23 @@
+use Rattle.std.proofs.Common.{◌≡◌, ◌++◌, List, ℕ, ap, ◌∙◌}
+use Rattle.std.proofs.lemmas.Result.{on_ok_weaker}
+use Rattle.cable_model.specs.Logs.{entry_at}
+use Rattle.table_image.specs.Internet.{Internet}
+use Rattle.trace_lines.specs.Lines.{Printed, cable_of}
+use Rattle.trace_lines.proofs.lines.Lines.append.Goals as goal
+
+abbrev printed : Internet → List ℕ → Printed
+printed i cables = record { internet = i; cables = cables }
+
+-- what is known when cables were added
+more : (p : Printed) (i : Internet) (old new added : List ℕ) → printed i old ≡ p → new ≡ old ++ added
+    → printed i new ≡ printed p.internet (p.cables ++ added)
+more p i old new added now grown =
+    ap (printed i) grown ∙ ap (λ (q : Printed). printed q.internet (q.cables ++ added)) now
+
+pub returns-clause-further : goal.returns-clause-further
+returns-clause-further c =
+    on_ok_weaker c.note_cable.result
+    (λ noted kept.
+    more c.args.self.now c.self.inside.stations c.self.inside.cables.items c.note_cable.new.cables.items
+    (cable_of (entry_at kept c.args.entry.now)) c.self.view_is (noted kept))
+    c.note_cable.ensures

@@ -1,0 +1,43 @@
+-- Who has which hardware address, cable by cable. This project's own.
+use Rattle.std.specs.Prelude.{◌≡◌, ℕ, ◌<◌, ◌==◌, if◌then◌else◌, List, [], ◌∷◌, ◌++◌, length, slice_index_or}
+use Rattle.at_base.specs.Text.{same_bytes}
+use Rattle.at_base.specs.declared.address.Addr.{Addr}
+use Rattle.at_base.specs.declared.address.Hw.{Hw}
+use Rattle.table_image.specs.Internet.{Internet}
+use Rattle.table_image.specs.declared.node.Node.{Node}
+use Rattle.table_image.specs.declared.port.Port.{Port}
+use Rattle.table_image.specs.declared.router.Router.{Router}
+use Rattle.trace_lines.specs.declared.holders.Place.{Place}
+
+-- the places of ports on a cable
+abbrev pub port_places : ℕ → List Port → List Place
+port_places cable [] = []
+port_places cable (p ∷ ports) =
+    if p.cable == cable then record { hardware = p.hardware; address = p.address } ∷ port_places cable ports
+    else port_places cable ports
+
+-- the places of routers on a cable
+abbrev pub router_places : ℕ → List Router → List Place
+router_places cable [] = []
+router_places cable (r ∷ routers) = port_places cable r.ports ++ router_places cable routers
+
+-- the places of nodes on a cable
+abbrev pub node_places : ℕ → List Node → List Place
+node_places cable [] = []
+node_places cable (n ∷ nodes) =
+    if n.cable == cable then record { hardware = n.hardware; address = n.address } ∷ node_places cable nodes
+    else node_places cable nodes
+
+-- the places on a cable
+abbrev pub places : Internet → ℕ → List Place
+places i cable = router_places cable i.routers ++ node_places cable i.nodes
+
+-- the address of the first place that has the hardware address, or else this one
+abbrev pub held_or : Hw → List Place → Addr → Addr
+held_or hw [] other = other
+held_or hw (p ∷ places) other = if same_bytes p.hardware.0 hw.0 then p.address else held_or hw places other
+
+-- these are the places on the cables below a number
+pub record AreRows (i : Internet) (cables : ℕ) (rows : List (List Place)) : Type 0 where
+  pub count : length rows ≡ cables
+  pub each : (k : ℕ) (other : List Place) → k < cables → slice_index_or rows k other ≡ places i k

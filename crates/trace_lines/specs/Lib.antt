@@ -1,0 +1,4 @@
+pub mod Stations
+pub mod Lines
+pub mod Said
+pub mod Holders

@@ -1,0 +1,90 @@
+-- How the entries of a transcript are printed. This project's own.
+use Rattle.std.specs.Prelude.{◌≡◌, ℕ, ◌+◌, ◌/◌, ◌%◌, true, List, [], ◌∷◌, ◌++◌, Option, Some, None, codes, slice_get, slice_index}
+use Rattle.std.specs.Prelude.{if◌then◌else◌}
+use Rattle.std.specs.Fmt.{decimal, digit_glyph}
+use Rattle.std.specs.List.{flat_map}
+use Rattle.at_base.specs.Texts.{address_text}
+use Rattle.at_base.specs.declared.address.Addr.{Addr}
+use Rattle.at_base.specs.declared.address.Hw.{Hw}
+use Rattle.cable_model.specs.Pending.{is_all, is_group}
+use Rattle.cable_model.specs.Transcript.{Entry, Sent, Put, Took, Reached, Dropped, Lost}
+use Rattle.cable_model.specs.Logs.{bytes_at}
+use Rattle.cable_model.specs.declared.entry.Entry.{Entry as Line}
+use Rattle.cable_model.specs.declared.entry.Entry.TheVariants as named
+use Rattle.cable_model.specs.declared.entry.How.{How}
+use Rattle.cable_model.specs.declared.entry.How.TheVariants as how
+use Rattle.station.specs.declared.output.Cause.{Cause}
+use Rattle.station.specs.declared.output.Cause.TheVariants as cause
+use Rattle.table_image.specs.Internet.{Internet}
+use Rattle.trace_lines.specs.Stations.{address_of, address_on, holder}
+
+-- bytes as pairs of hexadecimal digits, in upper case
+abbrev pub hex_text : List ℕ → List ℕ
+hex_text bytes = flat_map (λ b. digit_glyph true (b / 16) ∷ digit_glyph true (b % 16) ∷ []) bytes
+
+-- whom a frame on a cable is for
+abbrev pub who_text : Internet → ℕ → Hw → List ℕ
+who_text i cable to =
+    if is_all to then codes "all"
+    else if is_group to then codes "group " ++ decimal (slice_index to.0 5)
+    else address_text (holder i cable to)
+
+-- how a datagram reached a cable
+abbrev pub how_text : How → List ℕ
+how_text how.Station = codes "station"
+how_text how.All = codes "all"
+how_text how.Own = codes "own"
+how_text how.Absent = codes "absent"
+how_text how.Held = codes "held"
+
+-- why a datagram was dropped
+abbrev pub cause_text : Cause → List ℕ
+cause_text cause.NoRoute = codes "NoRoute"
+cause_text cause.HopLimit = codes "HopLimit"
+
+-- the cables on which entries put frames, one for each frame
+abbrev pub cable_of : Entry → List ℕ
+cable_of (Put f) = f.cable ∷ []
+cable_of _ = []
+
+-- the address of a station on the cable of a frame, where frames were put on these cables: the frame with stamp k is the
+-- k-th, from 0
+abbrev pub at_frame : Internet → List ℕ → ℕ → ℕ → Addr
+at_frame i cables station stamp = on_its (slice_get cables stamp)
+  where
+    on_its : Option ℕ → Addr
+    on_its None = record { net = 0; node = 0 }
+    on_its (Some cable) = address_on i station cable
+
+-- The line of an entry, without its end, where frames were put on these cables before. Cables are counted from 1 there.
+abbrev pub line : Internet → List ℕ → Entry → List ℕ
+line i cables (Sent station body) = codes "sent " ++ address_text (address_of i station) ++ codes " " ++ hex_text body
+line i cables (Put f) =
+    codes "put " ++ decimal f.stamp ++ codes " cable " ++ decimal (f.cable + 1) ++ codes " "
+    ++ address_text (address_on i f.sender f.cable) ++ codes " to " ++ who_text i f.cable f.to ++ codes " " ++ hex_text f.bytes
+line i cables (Took stamp station) = codes "took " ++ decimal stamp ++ codes " " ++ address_text (at_frame i cables station stamp)
+line i cables (Reached cable station how body) =
+    codes "reached cable " ++ decimal (cable + 1) ++ codes " " ++ address_text (address_on i station cable) ++ codes " "
+    ++ how_text how ++ codes " " ++ hex_text body
+line i cables (Dropped router cause body) =
+    codes "dropped " ++ address_text (address_of i router) ++ codes " " ++ cause_text cause ++ codes " " ++ hex_text body
+line i cables (Lost stamp) = codes "lost " ++ decimal stamp
+
+-- the lines of entries, each with a line feed at its end, where frames were put on these cables before
+abbrev pub lines : Internet → List ℕ → List Entry → List ℕ
+lines i cables [] = []
+lines i cables (e ∷ es) = line i cables e ++ 10 ∷ lines i (cables ++ cable_of e) es
+
+-- what a printer of entries knows: the internet, and the cables of the frames that were printed
+pub record Printed : Type 0 where
+  pub internet : Internet
+  pub cables : List ℕ
+
+-- these are the bytes of the number that an entry names, if it names one
+abbrev pub IsNamed : List (List ℕ) → Line → List ℕ → Type 0
+IsNamed kept (named.Sent station n) bytes = bytes ≡ bytes_at kept n
+IsNamed kept (named.Put stamp cable sender to kind n) bytes = bytes ≡ bytes_at kept n
+IsNamed kept (named.Took stamp station) bytes = Unit {0}
+IsNamed kept (named.Reached cable station how n) bytes = bytes ≡ bytes_at kept n
+IsNamed kept (named.Dropped router cause n) bytes = bytes ≡ bytes_at kept n
+IsNamed kept (named.Lost stamp) bytes = Unit {0}

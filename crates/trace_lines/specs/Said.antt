@@ -1,0 +1,16 @@
+-- Entries as they are printed. This project's own.
+use Rattle.std.specs.Prelude.{ℕ, List}
+use Rattle.cable_model.specs.Transcript.{Entry, Sent, Put, Took, Reached, Dropped, Lost}
+use Rattle.cable_model.specs.declared.entry.Entry.{Entry as Line}
+use Rattle.cable_model.specs.declared.entry.Entry.TheVariants as named
+use Rattle.ddp.specs.Bodies.{body}
+
+-- what an entry says that names these bytes
+abbrev pub entry_with : List ℕ → Line → Entry
+entry_with bytes (named.Sent station n) = Sent station (body bytes)
+entry_with bytes (named.Put stamp cable sender to kind n) =
+    Put (record { stamp = stamp; cable = cable; sender = sender; to = to; kind = kind; bytes = bytes })
+entry_with bytes (named.Took stamp station) = Took stamp station
+entry_with bytes (named.Reached cable station how n) = Reached cable station how (body bytes)
+entry_with bytes (named.Dropped router cause n) = Dropped router cause (body bytes)
+entry_with bytes (named.Lost stamp) = Lost stamp

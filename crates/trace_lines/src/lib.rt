@@ -1,0 +1,11 @@
+//! How the entries of a transcript are printed.
+#![tactic(auto)]
+
+mod digits;
+mod entries;
+mod holders;
+mod lines;
+mod stations;
+mod words;
+
+pub use lines::Lines;

@@ -1,0 +1,106 @@
+//! The lines of a transcript's entries.
+
+ghost use Rattle.std.specs.Prelude.{◌≡◌, ◌++◌, ◌∷◌, List, ℕ, [], IfOk, OnOk};
+ghost use Rattle.cable_model.specs.Logs.{entry_at};
+ghost use Rattle.trace_lines.specs.Lines.{cable_of, line, IsNamed};
+ghost use Rattle.trace_lines.specs.Said.{entry_with};
+
+use crate::entries::put_entry;
+use crate::stations::Stations;
+use cable_model::Entry;
+use std::alloc::{AllocError, Global};
+use std::marker::Model;
+use table_image::Image;
+
+/// Prints the entries of a transcript over an image, in their order. It keeps the cable of each
+/// frame, since the taking of a frame is printed with the taker's address there.
+///
+/// This project's own.
+#[derive(Drop)]
+pub struct Lines<'a> {
+    stations: Stations<'a>,
+    cables: Vec<u8>,
+}
+
+impl<'a> Model for Lines<'a> {
+    ghost use Rattle.trace_lines.specs.Lines.{Printed};
+
+    ghost Value = { Printed };
+
+    ghost view = { λ l. record { internet = l.stations; cables = l.cables.items } };
+}
+
+/// Appends the line of an entry, with a line feed at its end.
+fn put_line(
+    text: &mut Vec<u8>,
+    stations: &Stations,
+    cables: &[u8],
+    entry: &Entry,
+    bytes: &[u8],
+) -> Result<(), AllocError>
+    ensures { OnOk result (text.new.items ≡ text.old.items
+        ++ line stations.now cables.now (entry_with bytes.now entry.now) ++ 10 ∷ []) }
+{
+    put_entry(text, stations, cables, entry, bytes)?;
+    text.extend_from_slice(b"\n")
+}
+
+/// Appends the cable on which an entry put a frame, if it did.
+fn note_cable(cables: &mut Vec<u8>, entry: &Entry) -> Result<(), AllocError>
+    ensures { OnOk result ((kept : List (List ℕ)) → cables.new.items
+        ≡ cables.old.items ++ cable_of (entry_at kept entry.now)) }
+{
+    match *entry {
+        Entry::Put { cable, .. } => {
+            cables.push(cable)?;
+            Ok(())
+        }
+        _ => Ok(()),
+    }
+}
+
+impl<'a> Lines<'a> {
+    /// Nothing has been printed yet.
+    pub fn new(alloc: Global, image: &'a Image) -> Result<Lines<'a>, AllocError>
+        ensures { IfOk result (λ l. l ≡ record { internet = image.now; cables = [] }) }
+    {
+        let stations = Stations::new(alloc, image)?;
+        Ok(Lines {
+            stations,
+            cables: Vec::new(alloc),
+        })
+    }
+
+    /// Appends the line of an entry, with a line feed at its end. `bytes` are those of the number
+    /// that the entry names.
+    ///
+    /// - `sent ADDR HEX`
+    /// - `put STAMP cable K ADDR to WHO HEX`, where WHO is an address, `all` or `group G`
+    /// - `took STAMP ADDR`
+    /// - `reached cable K ADDR HOW HEX`, where HOW is `station`, `all`, `own`, `absent` or `held`
+    /// - `dropped ADDR CAUSE HEX`, where CAUSE is `NoRoute` or `HopLimit`
+    /// - `lost STAMP`
+    ///
+    /// A station's ADDR is its address on the cable of the frame, or on the one that is named;
+    /// where there is none, that of the router's first port, or of the node. Cables are counted
+    /// from 1. HEX is in upper case, and the hop count is 0 but in `put`.
+    ///
+    /// Error: no memory; then the text may end with a part of the line.
+    pub fn append(
+        &mut self,
+        text: &mut Vec<u8>,
+        entry: &Entry,
+        bytes: &[u8],
+    ) -> Result<(), AllocError>
+        ensures line { OnOk result ((kept : List (List ℕ)) → IsNamed kept entry.now bytes.now
+            → text.new.items ≡ text.old.items ++ line self.old.internet self.old.cables
+            (entry_at kept entry.now) ++ 10 ∷ []) }
+        ensures further { OnOk result ((kept : List (List ℕ)) → self.new ≡ record {
+          internet = self.old.internet;
+          cables = self.old.cables ++ cable_of (entry_at kept entry.now);
+        }) }
+    {
+        put_line(text, &self.stations, self.cables.as_slice(), entry, bytes)?;
+        note_cable(&mut self.cables, entry)
+    }
+}

@@ -1,0 +1,107 @@
+//! The words of lines.
+
+ghost use Rattle.std.specs.Prelude.{◌≡◌, ◌++◌, OnOk};
+ghost use Rattle.at_base.specs.Texts.{address_text};
+ghost use Rattle.cable_model.specs.Pending.{is_all as is_all_in, is_group as is_group_in};
+ghost use Rattle.ddp.specs.Bodies.{body, named_length as length_named};
+ghost use Rattle.trace_lines.specs.Lines.{cause_text, hex_text, how_text, who_text};
+
+use crate::digits::{put_decimal, put_hex};
+use crate::stations::Stations;
+use at_base::{Addr, Hw};
+use cable_model::How;
+use station::Cause;
+use std::alloc::AllocError;
+
+/// Appends an address.
+pub(crate) fn put_address(text: &mut Vec<u8>, address: Addr) -> Result<(), AllocError>
+    ensures { OnOk result (text.new.items ≡ text.old.items ++ address_text address) }
+{
+    put_decimal(text, u32::from(address.net))?;
+    text.extend_from_slice(b".")?;
+    put_decimal(text, u32::from(address.node))
+}
+
+/// Whether this is the hardware address of every station of a cable.
+fn is_all(to: &Hw) -> bool
+    ensures { result ≡ is_all_in to.now }
+{
+    *to == Hw::ALL
+}
+
+/// Whether this is the hardware address of a group.
+fn is_group(to: &Hw) -> bool
+    ensures { result ≡ is_group_in to.now }
+{
+    let [a, b, c, d, e, group] = to.0;
+    a == 9 && b == 0 && c == 7 && d == 0 && e == 0 && group < 253
+}
+
+/// Appends whom a frame on a cable is for.
+pub(crate) fn put_who(
+    text: &mut Vec<u8>,
+    stations: &Stations,
+    cable: u8,
+    to: &Hw,
+) -> Result<(), AllocError>
+    ensures { OnOk result (text.new.items
+        ≡ text.old.items ++ who_text stations.now cable to.now) }
+{
+    if is_all(to) {
+        return text.extend_from_slice(b"all");
+    }
+    if is_group(to) {
+        text.extend_from_slice(b"group ")?;
+        return put_decimal(text, u32::from(to.0[5]));
+    }
+    put_address(text, stations.holder(cable, to))
+}
+
+/// Appends how a datagram reached a cable.
+pub(crate) fn put_how(text: &mut Vec<u8>, how: How) -> Result<(), AllocError>
+    ensures { OnOk result (text.new.items ≡ text.old.items ++ how_text how) }
+{
+    match how {
+        How::Station => text.extend_from_slice(b"station"),
+        How::All => text.extend_from_slice(b"all"),
+        How::Own => text.extend_from_slice(b"own"),
+        How::Absent => text.extend_from_slice(b"absent"),
+        How::Held => text.extend_from_slice(b"held"),
+    }
+}
+
+/// Appends why a datagram was dropped.
+pub(crate) fn put_cause(text: &mut Vec<u8>, cause: Cause) -> Result<(), AllocError>
+    ensures { OnOk result (text.new.items ≡ text.old.items ++ cause_text cause) }
+{
+    match cause {
+        Cause::NoRoute => text.extend_from_slice(b"NoRoute"),
+        Cause::HopLimit => text.extend_from_slice(b"HopLimit"),
+    }
+}
+
+/// The length that a datagram's header names, where bytes that are missing count as 0.
+fn named_length(bytes: &[u8]) -> usize
+    ensures { result ≡ length_named bytes.now }
+{
+    match bytes {
+        [] => 0,
+        [high] => usize::from(*high % 4) * 256,
+        [high, low, ..] => usize::from(*high % 4) * 256 + usize::from(*low),
+    }
+}
+
+/// Appends a datagram's body in digits: what its header names, with hop count 0.
+pub(crate) fn put_body(text: &mut Vec<u8>, bytes: &[u8]) -> Result<(), AllocError>
+    ensures { OnOk result (text.new.items ≡ text.old.items ++ hex_text (body bytes.now)) }
+{
+    let len = named_length(bytes).min(bytes.len());
+    match &bytes[..len] {
+        [] => Ok(()),
+        [first, rest @ ..] => {
+            // The hop count is between the two top bits and the two highest bits of the length.
+            put_hex(text, &[*first / 64 * 64 + *first % 4])?;
+            put_hex(text, rest)
+        }
+    }
+}

@@ -1,0 +1,63 @@
+//! Entries printed over the image of three cables.
+
+use super::steps::{Step, put};
+use at_base::{Error, Hw};
+use cable_model::Entry;
+use example_images::three_cables::image;
+use std::alloc::Global;
+use table_image::{Image, read};
+use trace_lines::Lines;
+
+/// The text of these entries.
+fn text_once(alloc: Global, image: &Image, steps: &[Step]) -> Result<Vec<u8>, Error> {
+    let mut lines = Lines::new(alloc, image)?;
+    let mut text = Vec::new(alloc);
+    for (entry, bytes) in steps {
+        lines.append(&mut text, entry, bytes)?;
+    }
+    Ok(text)
+}
+
+/// Whether the text of these entries is this. A printing that ran out of memory is done again: a
+/// test passes whichever allocation fails.
+pub(crate) fn prints(alloc: Global, steps: &[Step], want: &str) -> Result<bool, Error> {
+    let bytes = image();
+    let image = match read(alloc, bytes.as_slice()) {
+        Err(Error::Memory) => read(alloc, bytes.as_slice())?,
+        other => other?,
+    };
+    let text = match text_once(alloc, &image, steps) {
+        Err(Error::Memory) => text_once(alloc, &image, steps)?,
+        other => other?,
+    };
+    Ok(text.as_slice() == want.as_bytes())
+}
+
+/// The eleventh frame is on the second cable, after ten on the first.
+fn later_once(alloc: Global, image: &Image) -> Result<Vec<u8>, Error> {
+    let mut lines = Lines::new(alloc, image)?;
+    let mut text = Vec::new(alloc);
+    for stamp in 0..10 {
+        lines.append(&mut text, &put(stamp, 0, 0, Hw::ALL), &[])?;
+    }
+    lines.append(&mut text, &put(10, 1, 0, Hw::ALL), &[])?;
+    text.clear();
+    for stamp in 9..11 {
+        lines.append(&mut text, &Entry::Took { stamp, station: 0 }, &[])?;
+    }
+    Ok(text)
+}
+
+/// The taking of a frame after ten others is printed with the taker's address on its cable.
+pub(crate) fn a_later_frame_is_taken(alloc: Global) -> Result<bool, Error> {
+    let bytes = image();
+    let image = match read(alloc, bytes.as_slice()) {
+        Err(Error::Memory) => read(alloc, bytes.as_slice())?,
+        other => other?,
+    };
+    let text = match later_once(alloc, &image) {
+        Err(Error::Memory) => later_once(alloc, &image)?,
+        other => other?,
+    };
+    Ok(text.as_slice() == b"took 9 10.1\ntook 10 20.1\n".as_slice())
+}
