@@ -1,15 +1,16 @@
 -- What a parse gives of arguments that are written out.
 use Rattle.std.proofs.Common.{◌≡◌, ◌≤◌, ◌==◌, ◌&&◌, ℕ, Bool, not, false, Option, Some, List, [], ◌∷◌, None, true, length}
-use Rattle.std.proofs.Common.{codes, slice_index_or, refl, ap, ap₂, ◌∙◌, arith}
-use Rattle.clap.specs.Words.{Shape, Text, built, first_of, is_simple, subcommand_of, takes, fault_of, is_simple_and_free}
-use Rattle.clap.specs.Walk.{Held, Step, value, idle, word_met, after_step, walk_from, finished, nothing_held}
-use Rattle.clap.specs.Takes.{default_passes, is_valid, settle_passes, step_passes, word_passes}
+use Rattle.std.proofs.Common.{codes, slice_index_or, refl, ap, ap₂, subst, ◌∙◌, arith}
+use Rattle.clap.specs.Words.{Row, Shape, Text, built, first_of, is_simple, subcommand_of, takes, fault_of, is_simple_and_free}
+use Rattle.clap.specs.Walk.{Held, Step, Walk, value, idle, word_met, after_step, walked, walk_from, finished, nothing_held}
+use Rattle.clap.specs.Takes.{default_passes, is_valid, settle_passes, step_passes, walk_passes, word_passes}
 use Rattle.clap.specs.Lexer.{strip_byte, long_of, short_of}
 use Rattle.std.specs.Str.{bytes_eq}
 use Rattle.std.specs.List.{list_all}
 use Rattle.clap.specs.declared.error.ErrorKind.TheVariants.{DisplayHelp, DisplayVersion}
 use Rattle.clap.proofs.OnLiterals.{clap_on_literals}
-use Rattle.atalk_tool.specs.Arguments.{atalk_app, audit_app, file_of, is_operand}
+use Rattle.atalk_tool.specs.Arguments.{Audits, IsMeant, Traces, atalk_app, audit_app, is_operand, trace_app}
+use Rattle.atalk_tool.specs.declared.arguments.Job.{Job}
 
 -- the parse of the command is one that clap's specs compute
 pub simple : is_simple atalk_app ≡ true
@@ -50,22 +51,6 @@ pub version_asked : (name : Text) → fault_of atalk_app (name ∷ codes "--vers
 unfolding clap_on_literals
 version_asked name = refl
 
--- the text of FILE in these arguments
-abbrev file_in : List Text → Option Text
-file_in words = file_of (subcommand_of atalk_app words)
-
--- `audit`, as a parse has it
-abbrev audit_shape : Shape
-audit_shape = slice_index_or (built atalk_app).subs 0 audit_app.top
-
--- what the argument is to `audit`
-abbrev met_in : Text → Held × Step
-met_in word = word_met audit_shape.rules [] false idle 1 word nothing_held
-
--- what is held of the command after an argument that was met so
-abbrev held_after : Text → Held × Step → Held
-held_after word met = (after_step audit_shape.rules word (walk_from nothing_held) met.0 met.1).held
-
 -- by the tests of a parse the argument is no flag, nor the end of flags
 abbrev IsNoFlag : Text → Type 0
 IsNoFlag word = (long_of word ≡ None) × (short_of word ≡ None) × (bytes_eq word (45 ∷ 45 ∷ []) ≡ false)
@@ -86,51 +71,177 @@ no_flag [] operand = (refl, refl, refl)
 no_flag (b ∷ []) operand = no_flag_of_one b (b == 45) refl
 no_flag (b ∷ c ∷ text) operand = no_flag_by_first b (c ∷ text) (false_of_not (b == 45) operand)
 
-met_value : (word : Text) → is_operand word ≡ true → met_in word ≡ (nothing_held, value)
-met_value word operand = let tests = no_flag word operand in rw (tests.0, tests.1, tests.2) refl
+-- what the next argument is to a command with no commands of its own
+abbrev met_in : Shape → ℕ → Held → Text → Held × Step
+met_in shape position held word = word_met shape.rules [] false idle position word held
 
-file_by_met : (name word : Text) → file_in (name ∷ codes "audit" ∷ word ∷ [])
-    ≡ first_of (codes "FILE") (finished audit_shape.rules (held_after word (met_in word)))
+-- the walk of a command after an argument that was met so
+abbrev walk_by : Shape → Walk → Text → Held × Step → Walk
+walk_by shape walk word met = after_step shape.rules word walk met.0 met.1
+
+-- the argument passes, as far as that goes before it is met
+abbrev passes_in : Shape → Held → Text → Bool
+passes_in shape held word = word_passes shape [] false idle word held
+
+met_value : (shape : Shape) (position : ℕ) (held : Held) (word : Text) → is_operand word ≡ true
+    → met_in shape position held word ≡ (held, value)
+met_value shape position held word operand = let tests = no_flag word operand in rw (tests.0, tests.1, tests.2) refl
+
+passes_value : (shape : Shape) (held : Held) (word : Text) → is_operand word ≡ true → passes_in shape held word ≡ true
+passes_value shape held word operand = let tests = no_flag word operand in rw (tests.0, tests.1, tests.2) refl
+
+-- a command's matches at the end of its walk
+abbrev rows_at_end : Shape → Walk → List Row
+rows_at_end shape end = finished shape.rules end.held
+
+-- a command's walk ends well
+abbrev ends_well : Shape → Walk → Bool
+ends_well shape end = settle_passes shape.rules shape.args_override_self end.held
+    && (list_all default_passes shape.rules && is_valid shape (rows_at_end shape end) false)
+
+-- `audit`, as a parse has it
+abbrev audit_shape : Shape
+audit_shape = slice_index_or (built atalk_app).subs 0 audit_app.top
+
+abbrev audit_end : Text → Held × Step → Walk
+audit_end = walk_by audit_shape (walk_from nothing_held)
+
+audit_by_met : (name file : Text) → subcommand_of atalk_app (name ∷ codes "audit" ∷ file ∷ [])
+    ≡ Some (codes "audit", rows_at_end audit_shape (audit_end file (met_in audit_shape 1 nothing_held file)))
 unfolding clap_on_literals
-file_by_met name word = refl
+audit_by_met name file = refl
 
-file_of_value : (word : Text) → first_of (codes "FILE") (finished audit_shape.rules (held_after word (nothing_held, value))) ≡ Some word
+file_of_value : (file : Text) → first_of (codes "FILE") (rows_at_end audit_shape (audit_end file (nothing_held, value))) ≡ Some file
 unfolding clap_on_literals
-file_of_value word = refl
+file_of_value file = refl
 
--- `audit FILE` gives FILE its argument
-pub file_given : (name word : Text) → is_operand word ≡ true → file_in (name ∷ codes "audit" ∷ word ∷ []) ≡ Some word
-file_given name word operand =
-    file_by_met name word
-    ∙ ap (λ (met : Held × Step). first_of (codes "FILE") (finished audit_shape.rules (held_after word met))) (met_value word operand)
-    ∙ file_of_value word
+-- `audit FILE` means an audit of FILE
+pub audit_meant : (name file : Text) (job : Job) → is_operand file ≡ true
+    → IsMeant (subcommand_of atalk_app (name ∷ codes "audit" ∷ file ∷ [])) job → Audits (Some file) job
+audit_meant name file job operand meant =
+    let rows = audit_by_met name file
+    ∙ ap (λ (met : Held × Step). Some (codes "audit", rows_at_end audit_shape (audit_end file met)))
+    (met_value audit_shape 1 nothing_held file operand) in
+    subst (λ (text : Option Text). Audits text job) (file_of_value file)
+    (subst (λ (met : Option (Text × List Row)). IsMeant met job) rows meant)
 
 -- the arguments pass, by what the last is to `audit` and whether it passes
-abbrev passes_after : Text → Bool → Held × Step → Bool
-passes_after word passes met =
-    ((passes && step_passes audit_shape 1 met.0 met.1) && true)
-    && (settle_passes audit_shape.rules audit_shape.args_override_self (held_after word met)
-    && (list_all default_passes audit_shape.rules && is_valid audit_shape (finished audit_shape.rules (held_after word met)) false))
+abbrev audit_passes : Text → Bool → Held × Step → Bool
+audit_passes file passes met =
+    ((passes && step_passes audit_shape 1 met.0 met.1) && true) && ends_well audit_shape (audit_end file met)
 
-abbrev word_passes_in : Text → Bool
-word_passes_in word = word_passes audit_shape [] false idle word nothing_held
-
-taken_by_met : (name word : Text) → takes atalk_app (name ∷ codes "audit" ∷ word ∷ [])
-    ≡ (passes_after word (word_passes_in word) (met_in word) && true)
+audit_taken_by_met : (name file : Text) → takes atalk_app (name ∷ codes "audit" ∷ file ∷ [])
+    ≡ (audit_passes file (passes_in audit_shape nothing_held file) (met_in audit_shape 1 nothing_held file) && true)
 unfolding clap_on_literals
-taken_by_met name word = refl
+audit_taken_by_met name file = refl
 
-value_taken : (word : Text) → (passes_after word true (nothing_held, value) && true) ≡ true
+file_passes : (file : Text) → (audit_passes file true (nothing_held, value) && true) ≡ true
 unfolding clap_on_literals
-value_taken word = refl
-
-word_passes_is : (word : Text) → is_operand word ≡ true → word_passes_in word ≡ true
-word_passes_is word operand = let tests = no_flag word operand in rw (tests.0, tests.1, tests.2) refl
+file_passes file = refl
 
 -- `audit FILE` has no fault
-pub file_taken : (name word : Text) → is_operand word ≡ true → takes atalk_app (name ∷ codes "audit" ∷ word ∷ []) ≡ true
-file_taken name word operand =
-    taken_by_met name word
-    ∙ ap₂ (λ (passes : Bool) (met : Held × Step). passes_after word passes met && true)
-    (word_passes_is word operand) (met_value word operand)
-    ∙ value_taken word
+pub audit_taken : (name file : Text) → is_operand file ≡ true → takes atalk_app (name ∷ codes "audit" ∷ file ∷ []) ≡ true
+audit_taken name file operand =
+    audit_taken_by_met name file
+    ∙ ap₂ (λ (passes : Bool) (met : Held × Step). audit_passes file passes met && true)
+    (passes_value audit_shape nothing_held file operand) (met_value audit_shape 1 nothing_held file operand)
+    ∙ file_passes file
+
+-- `trace`, as a parse has it
+abbrev trace_shape : Shape
+trace_shape = slice_index_or (built atalk_app).subs 1 trace_app.top
+
+abbrev image_end : Text → Held × Step → Walk
+image_end = walk_by trace_shape (walk_from nothing_held)
+
+-- the walk after IMAGE, where that is no flag
+abbrev image_walk : Text → Walk
+image_walk image = image_end image (nothing_held, value)
+
+abbrev script_end : Text → Text → Held × Step → Walk
+script_end image = walk_by trace_shape (image_walk image)
+
+trace_by_image : (name image script : Text) → subcommand_of atalk_app (name ∷ codes "trace" ∷ image ∷ script ∷ [])
+    ≡ Some (
+      codes "trace",
+      rows_at_end trace_shape
+          (walked trace_shape.rules [] (image_end image (met_in trace_shape 1 nothing_held image)) script),
+    )
+unfolding clap_on_literals
+trace_by_image name image script = refl
+
+trace_by_script : (image script : Text) → walked trace_shape.rules [] (image_walk image) script
+    ≡ script_end image script (met_in trace_shape 2 (image_walk image).held script)
+unfolding clap_on_literals
+trace_by_script image script = refl
+
+-- the matches of `trace`, where its operands are no flags
+abbrev trace_rows : Text → Text → List Row
+trace_rows image script = rows_at_end trace_shape (script_end image script ((image_walk image).held, value))
+
+trace_entered : (name image script : Text) → is_operand image ≡ true → is_operand script ≡ true
+    → subcommand_of atalk_app (name ∷ codes "trace" ∷ image ∷ script ∷ []) ≡ Some (codes "trace", trace_rows image script)
+trace_entered name image script first second =
+    let entered = λ (end : Walk). Some (codes "trace", rows_at_end trace_shape end) in
+    trace_by_image name image script
+    ∙ ap (λ (met : Held × Step). entered (walked trace_shape.rules [] (image_end image met) script))
+    (met_value trace_shape 1 nothing_held image first)
+    ∙ ap entered (trace_by_script image script)
+    ∙ ap (λ (met : Held × Step). entered (script_end image script met))
+    (met_value trace_shape 2 (image_walk image).held script second)
+
+image_of_values : (image script : Text) → first_of (codes "IMAGE") (trace_rows image script) ≡ Some image
+unfolding clap_on_literals
+image_of_values image script = refl
+
+script_of_values : (image script : Text) → first_of (codes "SCRIPT") (trace_rows image script) ≡ Some script
+unfolding clap_on_literals
+script_of_values image script = refl
+
+-- `trace IMAGE SCRIPT` means a trace of them
+pub trace_meant : (name image script : Text) (job : Job) → is_operand image ≡ true → is_operand script ≡ true
+    → IsMeant (subcommand_of atalk_app (name ∷ codes "trace" ∷ image ∷ script ∷ [])) job → Traces (Some image) (Some script) job
+trace_meant name image script job first second meant =
+    subst (λ (text : Option Text). Traces (Some image) text job) (script_of_values image script)
+    (subst (λ (text : Option Text). Traces text (first_of (codes "SCRIPT") (trace_rows image script)) job) (image_of_values image script)
+    (subst (λ (met : Option (Text × List Row)). IsMeant met job) (trace_entered name image script first second) meant))
+
+-- the arguments pass, by what the first is to `trace` and whether it passes
+abbrev trace_passes : Text → Text → Bool → Held × Step → Bool
+trace_passes image script passes met =
+    let walk = image_end image met in
+    ((passes && step_passes trace_shape 1 met.0 met.1) && walk_passes trace_shape [] walk (script ∷ []))
+    && ends_well trace_shape (walked trace_shape.rules [] walk script)
+
+trace_taken_by_image : (name image script : Text) → takes atalk_app (name ∷ codes "trace" ∷ image ∷ script ∷ [])
+    ≡ (trace_passes image script (passes_in trace_shape nothing_held image) (met_in trace_shape 1 nothing_held image) && true)
+unfolding clap_on_literals
+trace_taken_by_image name image script = refl
+
+-- the arguments pass, by what the second is to `trace` and whether it passes
+abbrev script_passes : Text → Text → Bool → Held × Step → Bool
+script_passes image script passes met =
+    ((passes && step_passes trace_shape 2 met.0 met.1) && true) && ends_well trace_shape (script_end image script met)
+
+trace_taken_by_script : (image script : Text) → trace_passes image script true (nothing_held, value)
+    ≡ script_passes image script (passes_in trace_shape (image_walk image).held script)
+    (met_in trace_shape 2 (image_walk image).held script)
+unfolding clap_on_literals
+trace_taken_by_script image script = refl
+
+operands_pass : (image script : Text) → (script_passes image script true ((image_walk image).held, value) && true) ≡ true
+unfolding clap_on_literals
+operands_pass image script = refl
+
+-- `trace IMAGE SCRIPT` has no fault
+pub trace_taken : (name image script : Text) → is_operand image ≡ true → is_operand script ≡ true
+    → takes atalk_app (name ∷ codes "trace" ∷ image ∷ script ∷ []) ≡ true
+trace_taken name image script first second =
+    let held = (image_walk image).held in
+    trace_taken_by_image name image script
+    ∙ ap₂ (λ (passes : Bool) (met : Held × Step). trace_passes image script passes met && true)
+    (passes_value trace_shape nothing_held image first) (met_value trace_shape 1 nothing_held image first)
+    ∙ ap (λ (all : Bool). all && true) (trace_taken_by_script image script)
+    ∙ ap₂ (λ (passes : Bool) (met : Held × Step). script_passes image script passes met && true)
+    (passes_value trace_shape held script second) (met_value trace_shape 2 held script second)
+    ∙ operands_pass image script

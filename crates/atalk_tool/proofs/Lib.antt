@@ -1,1 +1,2 @@
 mod CommandLine
+pub mod Known

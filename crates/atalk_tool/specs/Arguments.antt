@@ -1,31 +1,58 @@
 -- The command line, as a parse sees it.
-use Rattle.std.specs.Prelude.{◌≡◌, ◌≢◌, ◌⊎◌, ◌==◌, Bool, true, not, List, [], ◌∷◌, Option, Some, None, codes, option_and_then}
+use Rattle.std.specs.Prelude.{◌≡◌, ◌≢◌, ◌⊎◌, ◌==◌, Bool, true, false, not, List, [], ◌∷◌, Option, Some, None, codes}
+use Rattle.std.specs.Str.{bytes_eq}
+use Rattle.clap.specs.Walk.{Rule}
 use Rattle.clap.specs.Words.{App, Row, Text, first_of, new_app, new_rule, with_rule, with_subcommand}
 use Rattle.clap.specs.declared.builder.ArgAction.TheVariants.{Set}
 use Rattle.atalk_tool.specs.declared.arguments.Job.{Job}
-use Rattle.atalk_tool.specs.declared.arguments.Job.TheVariants.{Audit}
+use Rattle.atalk_tool.specs.declared.arguments.Job.TheVariants.{Audit, Trace}
+use Rattle.atalk_tool.specs.declared.arguments.Source.{Source}
 use Rattle.atalk_tool.specs.declared.arguments.Source.TheVariants.{StandardInput, File}
+
+-- a word that has to be there
+abbrev pub operand : Text → Rule
+operand name = record (new_rule name) { required = true; action = Some Set }
 
 -- `audit FILE`
 abbrev pub audit_app : App
-audit_app = with_rule (new_app (codes "audit")) (record (new_rule (codes "FILE")) { required = true; action = Some Set })
+audit_app = with_rule (new_app (codes "audit")) (operand (codes "FILE"))
 
 -- `atalk`, without a command
 abbrev pub bare_app : App
 bare_app = let app = new_app (codes "atalk") in record app { top = record app.top { has_version = true; disable_help_subcommand = true } }
 
+-- `trace IMAGE SCRIPT`
+abbrev pub trace_app : App
+trace_app = with_rule (with_rule (new_app (codes "trace")) (operand (codes "IMAGE"))) (operand (codes "SCRIPT"))
+
 -- `atalk`, with its commands
 abbrev pub atalk_app : App
-atalk_app = with_subcommand bare_app audit_app.top
+atalk_app = with_subcommand (with_subcommand bare_app audit_app.top) trace_app.top
 
--- the text of FILE, of the command that was met, if one was
-abbrev pub file_of : Option (Text × List Row) → Option Text
-file_of met = option_and_then (λ m. first_of (codes "FILE") m.1) met
+-- the text names the source: standard input by `-` or where there is none, and else the file of that name
+abbrev pub Names : Option Text → Source → Type 0
+Names text StandardInput = (text ≡ None) ⊎ (text ≡ Some (codes "-"))
+Names text (File path) = (text ≡ Some path.now) × (path.now ≢ codes "-")
 
--- the job audits what the text names: standard input by `-` or where there is none, and else the file of that name
+-- the job audits what the text names
 abbrev pub Audits : Option Text → Job → Type 0
-Audits text (Audit StandardInput) = (text ≡ None) ⊎ (text ≡ Some (codes "-"))
-Audits text (Audit (File path)) = (text ≡ Some path.now) × (path.now ≢ codes "-")
+Audits text (Audit source) = Names text source
+Audits text (Trace image script) = ⊥
+
+-- the job traces what these texts name
+abbrev pub Traces : Option Text → Option Text → Job → Type 0
+Traces image script (Audit source) = ⊥
+Traces image script (Trace i s) = Names image i × Names script s
+
+-- the job of a command with these words: of `trace`, if it is that one, and else of `audit`
+abbrev pub IsMeantBy : Bool → List Row → Job → Type 0
+IsMeantBy true rows job = Traces (first_of (codes "IMAGE") rows) (first_of (codes "SCRIPT") rows) job
+IsMeantBy false rows job = Audits (first_of (codes "FILE") rows) job
+
+-- the job of the command that was met, with its words, or of none
+abbrev pub IsMeant : Option (Text × List Row) → Job → Type 0
+IsMeant None job = Audits None job
+IsMeant (Some met) job = IsMeantBy (bytes_eq met.0 (codes "trace")) met.1 job
 
 -- the argument is no flag: it has at most one byte, or begins with another byte than the dash
 abbrev pub is_operand : Text → Bool

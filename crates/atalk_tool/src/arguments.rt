@@ -1,20 +1,23 @@
 //! The command line: what its arguments ask for, and the help text.
 
 ghost use Rattle.std.specs.Prelude.{◌≡◌, ◌≢◌, ◌⊎◌, ◌≤◌, ◌∷◌};
-ghost use Rattle.std.specs.Prelude.{List, ℕ, [], None, false, codes, length, map, option_map};
+ghost use Rattle.std.specs.Prelude.{List, ℕ, [], None, false, codes, length, map};
 ghost use Rattle.std.specs.Prelude.{IfOk, IfErr, IsErrAnd, IsTrue, Some};
-ghost use Rattle.clap.specs.Words.{app_of, first_value, found_of, kind_of};
+ghost use Rattle.std.specs.Str.{bytes_eq};
+ghost use Rattle.clap.specs.Words.{app_of, first_of, found_of, kind_of, rows_of, rule_of};
 ghost use Rattle.clap.specs.Words.{subcommand_of, subcommand_rows_of};
 ghost use Rattle.clap.specs.declared.Command.TheViews.{out-Command as fields_of};
 ghost use Rattle.clap.specs.declared.error.ErrorKind.TheVariants.{DisplayHelp, DisplayVersion};
 ghost use Rattle.clap.specs.declared.error.ErrorKind.TheVariants.{OutOfMemory};
-ghost use Rattle.atalk_tool.specs.Arguments.{Audits, atalk_app, audit_app, file_of, is_operand};
+ghost use Rattle.atalk_tool.specs.Arguments.{Audits, IsMeant, IsMeantBy, Names, Traces};
+ghost use Rattle.atalk_tool.specs.Arguments.{atalk_app, audit_app, is_operand, trace_app};
+ghost use Rattle.atalk_tool.specs.Arguments.{operand as operand_rule};
 
 use clap::{Arg, ArgAction, ArgMatches, Command, Error};
 use std::alloc::{AllocError, Global};
 use std::convert::AsStr;
 
-/// Where an image is read from.
+/// Where an image or a script is read from.
 #[derive(Clone, Copy, Debug, PartialEq, Eq)]
 pub enum Source<'a> {
     StandardInput,
@@ -24,17 +27,21 @@ pub enum Source<'a> {
 /// What the command line asks for.
 #[derive(Clone, Copy, Debug, PartialEq, Eq)]
 pub enum Job<'a> {
+    /// The audit of an image.
     Audit(Source<'a>),
+    /// The run over an image, of a script.
+    Trace(Source<'a>, Source<'a>),
 }
 
-const ABOUT: &str = "Audits the routing tables of an AppleTalk internet, frozen in an image.";
+const ABOUT: &str =
+    "Audits images of AppleTalk internets, frozen at one moment, and runs scripts over them.";
 
 const AFTER_HELP: &str = "Without a command, atalk audits the image on standard input.
 
 Exit status:
-  0  yes: the tables keep every rule
+  0  yes: the tables keep every rule; or a run was made
   1  no: the line printed names the first rule that is broken, and where
-  2  the input is refused, since it is no image; or a usage error
+  2  the input is refused, since it is no image or no script; or a usage error
   3  out of memory, or reading or writing failed
 
 A refusal prints `refused: N` on standard error:
@@ -42,31 +49,56 @@ A refusal prints `refused: N` on standard error:
   14  out of memory
   15  the input can't be opened or read
   16  the answer can't be written
+  17  the script has a bad line
 Where standard error is a terminal, a no and a refusal are explained there.
 
-Example:
+Examples:
   atalk audit three-cables.image
+  atalk trace three-cables.image echo.script
 
-More: man atalk, man atalk-image";
+More: man atalk, man atalk-image, man atalk-script";
 
 const AUDIT: &str =
     "Judges an image and prints one line: yes with a summary, or no with the first fault";
 
-const FILE: &str = "The image; - is standard input";
+const TRACE: &str = "Runs a script over an image that passes the audit, and prints what happens";
+
+const IMAGE: &str = "The image; - is standard input";
+
+const SCRIPT: &str = "The script; - is standard input";
+
+/// An operand that has to be there.
+fn operand<'a>(alloc: Global, name: &'a str, help: &'a str) -> Arg<'a>
+    ensures rule { rule_of result ≡ operand_rule name.entry.now }
+    ensures local { result.global ≡ false }
+{
+    Arg::new(alloc, name)
+        .help(help)
+        .required(true)
+        .action(ArgAction::Set)
+}
 
 /// `atalk audit FILE`.
 fn audit_command<'a>(alloc: Global) -> Result<Command<'a>, AllocError>
     ensures app { IfOk result (λ command. app_of command ≡ audit_app) }
     ensures local { IfOk result (λ command. (fields_of command).has_globals ≡ false) }
 {
-    let file = Arg::new(alloc, "FILE")
-        .help(FILE)
-        .required(true)
-        .action(ArgAction::Set);
     Command::new(alloc, "audit")
         .about(AUDIT)
         .after_help(AFTER_HELP)
-        .arg(file)
+        .arg(operand(alloc, "FILE", IMAGE))
+}
+
+/// `atalk trace IMAGE SCRIPT`.
+fn trace_command<'a>(alloc: Global) -> Result<Command<'a>, AllocError>
+    ensures app { IfOk result (λ command. app_of command ≡ trace_app) }
+    ensures local { IfOk result (λ command. (fields_of command).has_globals ≡ false) }
+{
+    Command::new(alloc, "trace")
+        .about(TRACE)
+        .after_help(AFTER_HELP)
+        .arg(operand(alloc, "IMAGE", IMAGE))?
+        .arg(operand(alloc, "SCRIPT", SCRIPT))
 }
 
 /// `atalk`, with its commands.
@@ -78,7 +110,8 @@ fn atalk_command<'a>(alloc: Global) -> Result<Command<'a>, AllocError>
         .about(ABOUT)
         .after_help(AFTER_HELP)
         .disable_help_subcommand(true)
-        .subcommand(audit_command(alloc)?)
+        .subcommand(audit_command(alloc)?)?
+        .subcommand(trace_command(alloc)?)
 }
 
 /// Reads the arguments, of which the first is the program's own name.
@@ -88,9 +121,9 @@ pub fn read_arguments<'a, S: AsStr>(alloc: Global, arguments: &'a [S]) -> Result
         → IfOk result (λ job. job ≡ Job.Audit Source.StandardInput) }
     ensures alone_err { length arguments.entry.now ≤ 1
         → IfErr result (λ e. kind_of e ≡ OutOfMemory) }
-    // What is audited is what FILE names, in the parse that clap's contracts define.
-    ensures file { IfOk result
-        (Audits (file_of (subcommand_of atalk_app (map S.text arguments.entry.now)))) }
+    // The job is that of the command and its words, in the parse that clap's contracts define.
+    ensures meant { IfOk result
+        (IsMeant (subcommand_of atalk_app (map S.text arguments.entry.now))) }
     // `audit FILE` asks for an audit of FILE, and fails only where memory runs out.
     ensures audit { (name file : List ℕ)
         → map S.text arguments.entry.now ≡ name ∷ codes "audit" ∷ file ∷ []
@@ -98,6 +131,15 @@ pub fn read_arguments<'a, S: AsStr>(alloc: Global, arguments: &'a [S]) -> Result
     ensures audit_err { (name file : List ℕ)
         → map S.text arguments.entry.now ≡ name ∷ codes "audit" ∷ file ∷ []
         → IsTrue (is_operand file) → IfErr result (λ e. kind_of e ≡ OutOfMemory) }
+    // `trace IMAGE SCRIPT` asks for a trace of them, and fails only where memory runs out.
+    ensures trace { (name image script : List ℕ)
+        → map S.text arguments.entry.now ≡ name ∷ codes "trace" ∷ image ∷ script ∷ []
+        → IsTrue (is_operand image) → IsTrue (is_operand script)
+        → IfOk result (Traces (Some image) (Some script)) }
+    ensures trace_err { (name image script : List ℕ)
+        → map S.text arguments.entry.now ≡ name ∷ codes "trace" ∷ image ∷ script ∷ []
+        → IsTrue (is_operand image) → IsTrue (is_operand script)
+        → IfErr result (λ e. kind_of e ≡ OutOfMemory) }
     // Help and the version are answered as such.
     ensures help { (name : List ℕ) → map S.text arguments.entry.now ≡ name ∷ codes "--help" ∷ []
         → IsErrAnd result (λ e. (kind_of e ≡ DisplayHelp) ⊎ (kind_of e ≡ OutOfMemory)) }
@@ -117,22 +159,34 @@ pub fn read_arguments<'a, S: AsStr>(alloc: Global, arguments: &'a [S]) -> Result
 /// The job that was matched: without a command, an audit of standard input.
 fn job_of<'a>(matches: &ArgMatches<'a>) -> Job<'a>
     ensures none { subcommand_rows_of matches.now ≡ None → result ≡ Job.Audit Source.StandardInput }
-    ensures file { Audits (file_of (subcommand_rows_of matches.now)) result }
+    ensures meant { IsMeant (subcommand_rows_of matches.now) result }
 {
     match matches.subcommand() {
-        Some((_, audit)) => Job::Audit(source_of(file_argument(audit).unwrap_or("-"))),
+        Some((name, operands)) => job_named(name, operands),
         None => Job::Audit(Source::StandardInput),
     }
 }
 
-/// The value of FILE.
-fn file_argument<'a>(audit: &ArgMatches<'a>) -> Option<&'a str>
-    ensures { option_map (λ s. s.now) result ≡ first_value (found_of audit.now) (codes "FILE") }
+/// The job of a command: a trace, or else an audit.
+fn job_named<'a>(name: &str, operands: &ArgMatches<'a>) -> Job<'a>
+    ensures { IsMeantBy (bytes_eq name.now (codes "trace")) (rows_of (found_of operands.now))
+        result }
 {
-    audit.get_str("FILE")
+    if name == "trace" {
+        Job::Trace(source_in(operands, "IMAGE"), source_in(operands, "SCRIPT"))
+    } else {
+        Job::Audit(source_in(operands, "FILE"))
+    }
 }
 
-/// The source that a value of FILE names.
+/// The source that the operand of this name names.
+fn source_in<'a>(operands: &ArgMatches<'a>, name: &str) -> Source<'a>
+    ensures { Names (first_of name.now (rows_of (found_of operands.now))) result }
+{
+    source_of(operands.get_str(name).unwrap_or("-"))
+}
+
+/// The source of this name.
 fn source_of(text: &str) -> Source<'_>
     ensures input { text.entry.now ≡ codes "-" → result ≡ Source.StandardInput }
     ensures file { text.entry.now ≢ codes "-" → result ≡ Source.File text.entry }

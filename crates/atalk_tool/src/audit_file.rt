@@ -13,9 +13,9 @@ ghost use Rattle.atalk_tool.specs.Answer.{is_yes};
 ghost use Rattle.atalk_tool.specs.declared.input.TheConstants.{READS};
 
 use crate::input::Input;
-use crate::output::Output;
 use at_base::Error;
 use audit::{Verdict, audit_bytes};
+use frozen_trace::Output;
 use std::alloc::Global;
 use std::io::{Read, Write};
 

@@ -78,6 +78,10 @@ fn explain_error(
                 None => eprintln!(rt; "did not end after 16777216 reads"),
             }
         }
+        Error::BadScript(line) => {
+            explain_source(rt, evidence)?;
+            eprintln!(rt; "has no event on line {line}; man atalk-script has their format")
+        }
         Error::WriteFault => eprintln!(rt;
             "atalk: the answer cannot be written to standard output"
         ),

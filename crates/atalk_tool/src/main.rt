@@ -1,4 +1,4 @@
-//! The program `atalk`: audits an image of an internet's routing tables.
+//! The program `atalk`: audits an image of an internet's tables, and runs scripts over it.
 #![tactic(auto)]
 
 mod arguments;
@@ -6,8 +6,9 @@ mod audit_file;
 mod exit;
 mod explain;
 mod input;
-mod output;
 mod run;
+mod run_frozen;
+mod sources;
 mod status;
 
 use run::{Terminals, run};

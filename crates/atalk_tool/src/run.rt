@@ -8,8 +8,11 @@ use crate::arguments::{Job, Source, read_arguments};
 use crate::audit_file::audit_file;
 use crate::exit::{Outcome, exit_of};
 use crate::explain::{Evidence, explain, prompt};
-use crate::{input, output};
+use crate::input;
+use crate::run_frozen::run_frozen;
+use at_base::Error;
 use clap::error::ErrorKind as ParseError;
+use frozen_trace::Output;
 use std::fs::File;
 use std::io;
 use std::io::{Read, writer};
@@ -45,6 +48,27 @@ impl<'a> Performed<'a> {
             },
         }
     }
+
+    /// A run that couldn't open a source.
+    fn not_opened(source: Source<'a>, kind: io::ErrorKind) -> Performed<'a>
+        ensures { result.outcome ≡ Outcome.NotOpened kind }
+    {
+        Performed {
+            outcome: Outcome::NotOpened(kind),
+            evidence: Evidence {
+                source: Some(source),
+                fault: None,
+                bytes: None,
+            },
+        }
+    }
+}
+
+/// Where the image and the script of a trace are read from.
+#[derive(Clone, Copy)]
+struct Sources<'a> {
+    image: Source<'a>,
+    script: Source<'a>,
 }
 
 /// The arguments, the program's own name first.
@@ -59,7 +83,7 @@ fn audit_reader<'a, R: Print + AllocGlobal, S: Read + Drop>(
     reader: S,
 ) -> Performed<'a> {
     let mut input = input::Input::new(reader);
-    let mut output = output::Output::new(writer(rt));
+    let mut output = Output::new(rt.alloc(), writer(rt));
     let answer = audit_file(rt.alloc(), &mut input, &mut output);
     let input::Input { fault, kept, .. } = input;
     Performed {
@@ -87,14 +111,69 @@ fn audit_source<'a, R: Files + Input + Print + Eprint + AllocGlobal>(
         }
         Source::File(path) => match File::open(rt, path) {
             Ok(file) => audit_reader(rt, source, file),
-            Err(error) => Performed {
-                outcome: Outcome::NotOpened(error.kind()),
-                evidence: Evidence {
-                    source: Some(source),
-                    fault: None,
-                    bytes: None,
-                },
-            },
+            Err(error) => Performed::not_opened(source, error.kind()),
+        },
+    }
+}
+
+/// Plays the script that one reader has over the image that the other has, and prints the trace on
+/// standard output.
+fn trace_readers<'a, R: Print + AllocGlobal, I: Read + Drop, S: Read + Drop>(
+    rt: &R,
+    sources: Sources<'a>,
+    image: I,
+    script: S,
+) -> Performed<'a> {
+    let mut image = input::Input::new(image);
+    let mut script = input::Input::new(script);
+    let mut output = Output::new(rt.alloc(), writer(rt));
+    let answer = run_frozen(rt.alloc(), &mut image, &mut script, &mut output);
+    let by_script = script.fault.is_some() || matches!(answer, Err(Error::BadScript(_)));
+    let input::Input { fault, kept, .. } = image;
+    let evidence = if by_script {
+        Evidence {
+            source: Some(sources.script),
+            fault: script.fault,
+            bytes: None,
+        }
+    } else {
+        Evidence {
+            source: Some(sources.image),
+            fault,
+            bytes: kept,
+        }
+    };
+    Performed {
+        outcome: Outcome::Answered(answer),
+        evidence,
+    }
+}
+
+/// Plays the script of the source over the image that the reader has.
+fn trace_image<'a, R: Files + Input + Print + AllocGlobal, I: Read + Drop>(
+    rt: &R,
+    sources: Sources<'a>,
+    image: I,
+) -> Performed<'a> {
+    match sources.script {
+        Source::StandardInput => trace_readers(rt, sources, image, rt.reader()),
+        Source::File(path) => match File::open(rt, path) {
+            Ok(file) => trace_readers(rt, sources, image, file),
+            Err(error) => Performed::not_opened(sources.script, error.kind()),
+        },
+    }
+}
+
+/// Plays a script over an image. Both files are opened before one is read.
+fn trace_sources<'a, R: Files + Input + Print + AllocGlobal>(
+    rt: &R,
+    sources: Sources<'a>,
+) -> Performed<'a> {
+    match sources.image {
+        Source::StandardInput => trace_image(rt, sources, rt.reader()),
+        Source::File(path) => match File::open(rt, path) {
+            Ok(file) => trace_image(rt, sources, file),
+            Err(error) => Performed::not_opened(sources.image, error.kind()),
         },
     }
 }
@@ -152,6 +231,10 @@ fn run_arguments<R: Files + Input + Print + Eprint + AllocGlobal>(
     match read_arguments(rt.alloc(), arguments) {
         Ok(Job::Audit(source)) => {
             let performed = audit_source(rt, source, terminals);
+            answer(rt, &performed, terminals)
+        }
+        Ok(Job::Trace(image, script)) => {
+            let performed = trace_sources(rt, Sources { image, script });
             answer(rt, &performed, terminals)
         }
         Err(error) => answer(rt, &print_answer(rt, &error), terminals),

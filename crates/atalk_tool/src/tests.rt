@@ -2,21 +2,20 @@
 //! mid-stream, and what arguments mean. Each test passes whichever single request for memory is
 //! refused: on `Memory` it calls again.
 
+mod arguments;
 mod exits;
 mod fakes;
 mod reading;
+mod tracing;
 
-use crate::arguments::{Job, Source, read_arguments};
 use crate::audit_file::audit_file;
 use crate::input::{Input, READS, append};
-use crate::output::Output;
 use at_base::{Cause, Error};
-use clap::error::ErrorKind as ParseError;
 use fakes::{Frail, Holding, Pieces, Places, Restless};
+use frozen_trace::Output;
 use reading::{nearly_given_up, read_all};
 use std::alloc::Global;
 use std::io::{ErrorKind, Read};
-use std::process::Abort;
 use std::test::Fail;
 
 #[test]
@@ -160,7 +159,7 @@ fn a_long_input_comes_whole(rt: HostRuntime) -> Result<(), Fail> {
 #[test]
 fn a_line_ends_with_an_end_of_line(rt: HostRuntime) -> Result<(), Fail> {
     let mut room = [0u8; 8];
-    let mut output = Output::new(room.as_mut_slice());
+    let mut output = Output::new(rt.alloc(), room.as_mut_slice());
     output.write_line(b"yes")?;
     assert_eq!(rt; room.as_slice(), b"yes\n\0\0\0\0".as_slice());
     Ok(())
@@ -170,7 +169,7 @@ fn a_line_ends_with_an_end_of_line(rt: HostRuntime) -> Result<(), Fail> {
 fn a_write_that_fails_is_a_write_fault(rt: HostRuntime) {
     // The text, the end of line and the flush, and then nothing fails.
     for fails_at in 1..5 {
-        let mut output = Output::new(Frail { calls: 0, fails_at });
+        let mut output = Output::new(rt.alloc(), Frail { calls: 0, fails_at });
         let answer = output.write_line(b"yes");
         if fails_at < 4 {
             assert_eq!(rt; answer, Err(Error::WriteFault));
@@ -184,7 +183,7 @@ fn a_write_that_fails_is_a_write_fault(rt: HostRuntime) {
 /// Audits what the reader gives, and writes into the room.
 fn audit_once<R: Read + Drop>(alloc: Global, reader: R, room: &mut [u8]) -> Result<bool, Error> {
     let mut input = Input::new(reader);
-    let mut output = Output::new(room);
+    let mut output = Output::new(alloc, room);
     audit_file(alloc, &mut input, &mut output)
 }
 
@@ -250,7 +249,7 @@ fn what_is_no_image_is_refused_and_nothing_written(rt: HostRuntime) {
 
 #[test]
 fn a_line_is_flushed_after_its_end(rt: HostRuntime) {
-    let mut output = Output::new(Holding::new());
+    let mut output = Output::new(rt.alloc(), Holding::new());
     let written = output.write_line(b"yes");
     assert!(rt; written.is_ok());
     assert_eq!(rt; output.writer.flushed(), b"yes\n".as_slice());
@@ -261,7 +260,7 @@ fn an_earlier_failure_refuses_nothing(rt: HostRuntime) {
     for _attempt in 0..2 {
         let mut room = [0u8; 80];
         let mut input = Input::new(Pieces::new(EMPTY, 3));
-        let mut output = Output::new(room.as_mut_slice());
+        let mut output = Output::new(rt.alloc(), room.as_mut_slice());
         input.failed = true;
         output.failed = true;
         let answer = audit_file(rt.alloc(), &mut input, &mut output);
@@ -275,7 +274,7 @@ fn an_input_keeps_its_bytes(rt: HostRuntime) {
         for _attempt in 0..2 {
             let mut room = [0u8; 80];
             let mut input = Input::new(Pieces::new(bytes, 3));
-            let mut output = Output::new(room.as_mut_slice());
+            let mut output = Output::new(rt.alloc(), room.as_mut_slice());
             if audit_file(rt.alloc(), &mut input, &mut output) != Err(Error::Memory) {
                 let kept = match &input.kept {
                     Some(kept) => kept.as_slice(),
@@ -306,75 +305,4 @@ fn a_verdict_that_cannot_be_written_is_a_write_fault(rt: HostRuntime) {
         let answer = audit(rt.alloc(), Pieces::new(EMPTY, 100), &mut room[..len]);
         assert_eq!(rt; answer, Err(Error::WriteFault));
     }
-}
-
-/// What the job audits.
-fn audited(job: Job<'_>) -> &str {
-    match job {
-        Job::Audit(Source::StandardInput) => "standard input",
-        Job::Audit(Source::File(path)) => path,
-    }
-}
-
-/// What the arguments ask to audit, or what clap says of them. Read again where memory was refused.
-fn meaning<'a>(alloc: Global, arguments: &'a [&'a str]) -> Result<&'a str, ParseError> {
-    match read_arguments(alloc, arguments) {
-        Ok(job) => Ok(audited(job)),
-        Err(error) if error.kind() == ParseError::OutOfMemory => match read_arguments(
-            alloc, arguments,
-        ) {
-            Ok(job) => Ok(audited(job)),
-            Err(error) => Err(error.kind()),
-        },
-        Err(error) => Err(error.kind()),
-    }
-}
-
-fn assert_audits<'a>(rt: &(impl Abort + AllocGlobal), arguments: &'a [&'a str], want: &str) {
-    match meaning(rt.alloc(), arguments) {
-        Ok(found) => assert_eq!(rt; found, want, "at {arguments:?}"),
-        Err(_) => panic!(rt; "no audit at {arguments:?}"),
-    }
-}
-
-#[test]
-fn arguments_ask_for_an_audit(rt: HostRuntime) {
-    assert_audits(&rt, [].as_slice(), "standard input");
-    assert_audits(&rt, ["atalk"].as_slice(), "standard input");
-    assert_audits(&rt, ["atalk", "audit", "-"].as_slice(), "standard input");
-    assert_audits(&rt, ["atalk", "audit", "a.image"].as_slice(), "a.image");
-    assert_audits(&rt, ["atalk", "audit", "--", "-x"].as_slice(), "-x");
-    assert_audits(&rt, ["atalk", "audit", ""].as_slice(), "");
-}
-
-fn assert_asks_for_nothing<'a>(
-    rt: &(impl Abort + AllocGlobal),
-    arguments: &'a [&'a str],
-    want: ParseError,
-) {
-    let fault = meaning(rt.alloc(), arguments).err();
-    assert_eq!(rt; fault, Some(want), "at {arguments:?}");
-}
-
-#[test]
-fn other_arguments_ask_for_nothing(rt: HostRuntime) {
-    let missing = ParseError::MissingRequiredArgument;
-    assert_asks_for_nothing(&rt, ["atalk", "audit"].as_slice(), missing);
-    let unknown = ParseError::UnknownArgument;
-    assert_asks_for_nothing(&rt, ["atalk", "audit", "a", "b"].as_slice(), unknown);
-    assert_asks_for_nothing(&rt, ["atalk", "audit", "-x"].as_slice(), unknown);
-    assert_asks_for_nothing(&rt, ["atalk", "--nonsense"].as_slice(), unknown);
-    let invalid = ParseError::InvalidSubcommand;
-    assert_asks_for_nothing(&rt, ["atalk", "nonsense"].as_slice(), invalid);
-    assert_asks_for_nothing(&rt, ["atalk", "help"].as_slice(), invalid);
-    assert_asks_for_nothing(&rt, ["atalk", "-"].as_slice(), invalid);
-}
-
-#[test]
-fn help_and_the_version_are_shown(rt: HostRuntime) {
-    let help = ParseError::DisplayHelp;
-    assert_asks_for_nothing(&rt, ["atalk", "--help"].as_slice(), help);
-    assert_asks_for_nothing(&rt, ["atalk", "audit", "--help"].as_slice(), help);
-    let version = ParseError::DisplayVersion;
-    assert_asks_for_nothing(&rt, ["atalk", "--version"].as_slice(), version);
 }

@@ -3,9 +3,10 @@ use Rattle.std.proofs.lemmas.List.{length-map}
 use Rattle.clap.specs.Words.{App, Row, Text, IsAmong, Kinds, is_simple, is_simple_and_free, subcommand_of, takes, fault_of}
 use Rattle.clap.specs.declared.error.ErrorKind.{ErrorKind}
 use Rattle.clap.specs.declared.error.ErrorKind.TheVariants.{OutOfMemory}
-use Rattle.atalk_tool.specs.Arguments.{Audits, atalk_app, file_of}
+use Rattle.atalk_tool.specs.Arguments.{IsMeant, atalk_app}
 use Rattle.atalk_tool.proofs.CommandLine.{simple, simple_and_free, none_entered, none_taken}
-use Rattle.atalk_tool.proofs.CommandLine.{help_asked, help_short_asked, version_asked, version_short_asked, file_given, file_taken}
+use Rattle.atalk_tool.proofs.CommandLine.{help_asked, help_short_asked, version_asked, version_short_asked}
+use Rattle.atalk_tool.proofs.CommandLine.{audit_meant, audit_taken, trace_meant, trace_taken}
 use Rattle.atalk_tool.proofs.arguments.read_arguments.Goals as goal
 
 -- where one kind may come, an error has it or memory ran out
@@ -64,24 +65,36 @@ returns-clause-version g c = λ name named.
     let none = c.in_ok-matches.ensures.kinds (ap is_simple_and_free app ∙ simple_and_free) in
     cc (fault, none)
 
-pub returns-clause-file : goal.returns-clause-file
-returns-clause-file g c =
+pub returns-clause-meant : goal.returns-clause-meant
+returns-clause-meant g c =
     let texts = map g.S.AsStr.text c.args.arguments.now in
     let app = c.in_ok-atalk_command.ensures in
     let met = (c.in_ok-matches.ensures.matches (ap is_simple app ∙ simple)).1 ∙ ap (λ (a : App). subcommand_of a texts) app in
-    subst (λ (rows : Option (Text × List Row)). Audits (file_of rows) c.job_of.result) met c.job_of.ensures.file
+    subst (λ (rows : Option (Text × List Row)). IsMeant rows c.job_of.result) met c.job_of.ensures.meant
 
 pub returns-in_err-matches-clause-audit_err : goal.returns-in_err-matches-clause-audit_err
 returns-in_err-matches-clause-audit_err g c = λ name file named operand.
-    let texts = map g.S.AsStr.text c.args.arguments.now in
-    let memory = c.in_err-matches.ensures.passes (ap₂ takes c.in_ok-atalk_command.ensures named ∙ file_taken name file operand) in
+    let memory = c.in_err-matches.ensures.passes (ap₂ takes c.in_ok-atalk_command.ensures named ∙ audit_taken name file operand) in
     search rules
 
 pub returns-clause-audit : goal.returns-clause-audit
 returns-clause-audit g c = λ name file named operand.
     let app = c.in_ok-atalk_command.ensures in
     let met = (c.in_ok-matches.ensures.matches (ap is_simple app ∙ simple)).1 ∙ ap₂ subcommand_of app named in
-    subst (λ (text : Option Text). Audits text c.job_of.result) (ap file_of met ∙ file_given name file operand) c.job_of.ensures.file
+    audit_meant name file c.job_of.result operand
+    (subst (λ (rows : Option (Text × List Row)). IsMeant rows c.job_of.result) met c.job_of.ensures.meant)
+
+pub returns-in_err-matches-clause-trace_err : goal.returns-in_err-matches-clause-trace_err
+returns-in_err-matches-clause-trace_err g c = λ name image script named first second.
+    let memory = c.in_err-matches.ensures.passes (ap₂ takes c.in_ok-atalk_command.ensures named ∙ trace_taken name image script first second) in
+    search rules
+
+pub returns-clause-trace : goal.returns-clause-trace
+returns-clause-trace g c = λ name image script named first second.
+    let app = c.in_ok-atalk_command.ensures in
+    let met = (c.in_ok-matches.ensures.matches (ap is_simple app ∙ simple)).1 ∙ ap₂ subcommand_of app named in
+    trace_meant name image script c.job_of.result first second
+    (subst (λ (rows : Option (Text × List Row)). IsMeant rows c.job_of.result) met c.job_of.ensures.meant)
 
 pub returns-in_err-matches-clause-help_short : goal.returns-in_err-matches-clause-help_short
 returns-in_err-matches-clause-help_short g c = λ name named.
