@@ -1,4 +1,4 @@
-use Rattle.std.proofs.Common.{◌≡◌, ◌==◌, ◌<◌, ◌++◌, Bool, List, ℕ, ap, length, refl, subst, sym, ◌∙◌, arith, true}
+use Rattle.std.proofs.Common.{◌==◌, ◌++◌, Bool, List, ℕ, ap, length, refl, subst, sym, ◌∙◌, arith, true}
 use Rattle.cable_model.specs.Logs.{transcript as said}
 use Rattle.cable_model.specs.Pending.{pending}
 use Rattle.frozen.specs.Events.{DrainsTo}

@@ -1,4 +1,4 @@
-use Rattle.std.proofs.Common.{◌≡◌, List, ℕ, ap, sym, subst, ◌∙◌}
+use Rattle.std.proofs.Common.{List, ℕ, ap, sym, subst, ◌∙◌}
 use Rattle.frozen_trace.proofs.Going.{on_ok, on_both}
 use Rattle.frozen_trace.proofs.Growth.{happens_grows, prints, refusing}
 use Rattle.frozen_trace.specs.Going.{Goes}

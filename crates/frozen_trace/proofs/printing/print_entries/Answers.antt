@@ -1,4 +1,4 @@
-use Rattle.std.proofs.Common.{◌≡◌, ◌++◌, [], ◌∷◌, List, ℕ, ap, get_or, map, refl, sym, subst, take, ◌∙◌}
+use Rattle.std.proofs.Common.{◌++◌, [], ◌∷◌, List, ℕ, ap, get_or, map, refl, sym, subst, take, ◌∙◌}
 use Rattle.std.proofs.lemmas.List.{append_assoc, append-nil}
 use Rattle.cable_model.specs.Logs.{entry_at}
 use Rattle.cable_model.specs.Transcript.{Entry}

@@ -1,4 +1,4 @@
-use Rattle.std.proofs.Common.{◌≡◌, ◌++◌, List, ◌-◌, ap, drop, length, map, subst, sym, take, ◌∙◌}
+use Rattle.std.proofs.Common.{◌++◌, List, ◌-◌, ap, drop, length, map, subst, sym, take, ◌∙◌}
 use Rattle.std.proofs.lemmas.Grind.{flat_map-append}
 use Rattle.std.proofs.lemmas.List.{take-append-drop}
 use Rattle.cable_model.specs.Logs.{entry_at, transcript as said}
