@@ -159,10 +159,15 @@ fn a_long_input_comes_whole(rt: HostRuntime) -> Result<(), Fail> {
 #[test]
 fn a_line_ends_with_an_end_of_line(rt: HostRuntime) -> Result<(), Fail> {
     let mut room = [0u8; 8];
-    let mut output = Output::new(rt.alloc(), room.as_mut_slice());
-    output.write_line(b"yes")?;
+    write_yes(rt.alloc(), room.as_mut_slice())?;
     assert_eq!(rt; room.as_slice(), b"yes\n\0\0\0\0".as_slice());
     Ok(())
+}
+
+/// Writes a line into the room.
+fn write_yes(alloc: Global, room: &mut [u8]) -> Result<(), Error> {
+    let mut output = Output::new(alloc, room);
+    output.write_line(b"yes")
 }
 
 #[test]
