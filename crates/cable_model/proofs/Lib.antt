@@ -7,5 +7,6 @@ pub mod Legs
 pub mod Outs
 pub mod Pairs
 pub mod PutOn
+pub mod Rising
 pub mod Steps
 pub mod Takes

@@ -148,3 +148,8 @@ least seats stamp station [] = (stamp, station)
 least seats stamp station (d ∷ ds) =
     cond (is_before d.stamp (seat_at seats d.seat).station stamp station) (least seats d.stamp (seat_at seats d.seat).station ds)
     (least seats stamp station ds)
+
+-- the stamps of pairs begin at this one or later, and never fall
+abbrev pub RiseFrom : ℕ → List Due → Type 0
+RiseFrom n [] = Unit {0}
+RiseFrom n (d ∷ ds) = (n ≤ d.stamp) × RiseFrom d.stamp ds

@@ -1,7 +1,7 @@
 //! Which frame is to be taken first.
 
 ghost use Rattle.std.specs.Prelude.{◌≡◌, [], IfNone, IfSome};
-ghost use Rattle.cable_model.specs.Books.{IsBook, is_before as comes_before, least, said};
+ghost use Rattle.cable_model.specs.Books.{IsBook, RiseFrom, least, said};
 ghost use Rattle.cable_model.specs.Outcomes.{IsLeast};
 ghost use Rattle.cable_model.specs.Pending.{pending};
 
@@ -10,27 +10,23 @@ use crate::ending::station_at;
 use crate::log::Log;
 use crate::seat::Seat;
 
-/// Whether a stamp and a station come before others.
-fn is_before(stamp: u32, station: u16, other_stamp: u32, other: u16) -> bool
-    ensures { result ≡ comes_before stamp station other_stamp other }
-{
-    stamp < other_stamp || stamp == other_stamp && station < other
-}
-
-/// The first of a stamp with a station and of those of the pairs.
+/// The least station of those of the pairs that begin with this stamp, and of this one. Stamps don't
+/// fall, so that no later pair comes before these.
 fn least_due(due: &[Due], seats: &[Seat], stamp: u32, station: u16) -> (u32, u16)
+    requires rising { RiseFrom stamp due.now }
     ensures { result ≡ least seats.now stamp station due.now }
 {
-    let mut first = stamp;
     let mut who = station;
     for d in due {
+        if d.stamp != stamp {
+            return (stamp, who);
+        }
         let other = station_at(seats, d.seat);
-        if is_before(d.stamp, other, first, who) {
-            first = d.stamp;
+        if other < who {
             who = other;
         }
     }
-    (first, who)
+    (stamp, who)
 }
 
 /// The least stamp of which a frame is pending, and the least station that it is pending for.

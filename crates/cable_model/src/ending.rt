@@ -1,9 +1,12 @@
 //! Frames that are taken or lost.
 
-ghost use Rattle.std.specs.Prelude.{◌≡◌, ◌<◌, ◌+◌, [], ◌∷◌, ◌==◌, List, find, true, vec_len};
+ghost use Rattle.std.specs.Prelude.{◌≡◌, ◌<◌, ◌≤◌, ◌+◌, ◌-◌, [], ◌∷◌, ◌++◌, ◌==◌};
+ghost use Rattle.std.specs.Prelude.{List, drop, filter, find, not, position, take, true};
+ghost use Rattle.std.specs.Prelude.{vec_capacity, vec_len};
 ghost use Rattle.std.specs.Prelude.{Contains, IfSome, OnSome, is_some};
 ghost use Rattle.std.specs.List.{list_any};
-ghost use Rattle.cable_model.specs.Books.{Grows, HasRoom, IsBook, IsDue, Uses, is_of, pair_at, said, seat_at};
+ghost use Rattle.cable_model.specs.Books.{Grows, HasRoom, IsBook, IsDue, RiseFrom, Uses};
+ghost use Rattle.cable_model.specs.Books.{is_of, pair_at, said, seat_at};
 ghost use Rattle.cable_model.specs.Outcomes.{has_stamp, is_named};
 ghost use Rattle.cable_model.specs.Pending.{pending};
 ghost use Rattle.cable_model.specs.declared.seat.Seat.{Seat as SeatValue};
@@ -74,6 +77,47 @@ pub fn is_stamped(log: &Log, stamp: u32) -> bool
     has_due(&log.due, stamp)
 }
 
+/// The place of the pair of a stamp and a station, if it is pending.
+fn place_of(due: &[Due], seats: &[Seat], stamp: u32, station: u16) -> Option<usize>
+    ensures { result ≡ position (is_of seats.now stamp station) due.now }
+{
+    due.iter().position(|d| is_due(d, seats, stamp, station))
+}
+
+/// Puts the pairs of a stamp and a station out of the list, from a place on where stamps are no less
+/// and don't fall.
+fn remove_from(due: &mut Vec<Due>, seats: &[Seat], stamp: u32, station: u16, from: usize)
+    requires rising { RiseFrom stamp (drop from due.old.items) }
+    ensures items { due.new.items ≡ take from due.old.items
+        ++ filter (λ d. not (is_of seats.now stamp station d)) (drop from due.old.items) }
+    ensures few { vec_len due.new ≤ vec_len due.old }
+    ensures capacity { vec_capacity due.new ≡ vec_capacity due.old }
+{
+    let Some(d) = due.get(from) else { return };
+    if d.stamp != stamp {
+        return;
+    }
+    if station == station_at(seats, d.seat) {
+        due.remove(from);
+        remove_from(due, seats, stamp, station, from);
+    } else {
+        remove_from(due, seats, stamp, station, from + 1);
+    }
+}
+
+/// Puts the pairs of a stamp and a station out of a list whose stamps don't fall.
+fn remove_due(due: &mut Vec<Due>, seats: &[Seat], stamp: u32, station: u16)
+    requires rising { RiseFrom 0 due.old.items }
+    ensures items { due.new.items
+        ≡ filter (λ d. not (is_of seats.now stamp station d)) due.old.items }
+    ensures few { vec_len due.new ≤ vec_len due.old }
+    ensures capacity { vec_capacity due.new ≡ vec_capacity due.old }
+{
+    if let Some(place) = place_of(due, seats, stamp, station) {
+        remove_from(due, seats, stamp, station, place);
+    }
+}
+
 /// A station takes a frame, so that its pair isn't pending any more.
 pub fn took(log: &mut Log, seats: &[Seat], stamp: u32, station: u16)
     requires room { HasRoom log.old 1 0 0 0 }
@@ -88,7 +132,7 @@ pub fn took(log: &mut Log, seats: &[Seat], stamp: u32, station: u16)
     ensures uses { Uses log.old log.new 1 0 0 0 }
 {
     log.lines.push_reserved(Entry::Took { stamp, station });
-    log.due.retain(|due| !is_due(due, seats, stamp, station));
+    remove_due(&mut log.due, seats, stamp, station);
 }
 
 /// A frame is lost, so that none of its pairs is pending any more.

@@ -35,7 +35,7 @@ use table_image::Image;
 /// what happened on its cables. This project's own.
 #[derive(Drop)]
 pub struct Frozen<T: RouteTable> {
-    image: Image,
+    places: Whereabouts,
     stations: Vec<Member<Router<T>, EndNode>>,
     cables: Cables,
     limit: u32,
@@ -49,13 +49,13 @@ impl<T: RouteTable> Model for Frozen<T> {
     ghost Value = { Running };
 
     ghost view = { λ f. record {
-      internet = f.image;
+      internet = f.places;
       stations = f.stations.items;
       cabling = f.cables;
     } };
 
     ghost invariant = { λ f. IsFrozen (record {
-      internet = f.image;
+      internet = f.places;
       stations = f.stations.items;
       cabling = f.cables;
     }) × (f.limit ≡ f.cables.limit) };
@@ -86,8 +86,9 @@ impl<T: RouteTable> Frozen<T> {
         let seats = seats_of(alloc, &image)?;
         let cables = Cables::new(alloc, seats.as_slice(), limit)?;
         let stations = stations_of(alloc, &image)?;
+        let places = Whereabouts::of(alloc, image)?;
         Ok(Frozen {
-            image,
+            places,
             stations,
             cables,
             limit,
@@ -121,7 +122,7 @@ impl<T: RouteTable> Frozen<T> {
         ensures value { result.now ≡ self.now.internet }
         ensures frozen { IsFrozen self.now }
     {
-        &self.image
+        self.places.image()
     }
 
     /// Whether so many more entries have room.
@@ -152,7 +153,7 @@ impl<T: RouteTable> Frozen<T> {
         match ddp::write(self.alloc, &order.header, payload) {
             Ok(bytes) => {
                 slices_have_bytes(bytes.as_slice());
-                steps::send(&mut self.cables, &self.image, order, bytes)
+                steps::send(&mut self.cables, &self.places, order, bytes)
             }
             Err(_) => Err(Error::Memory),
         }
@@ -168,14 +169,14 @@ impl<T: RouteTable> Frozen<T> {
             (IsRefused (order_refusal self.old (asks self.old.internet node via))) }
         ensures kept { OnErr result (self.new ≡ self.old) }
     {
-        let order = match ask_order(&self.image, node, via) {
+        let order = match ask_order(&self.places, node, via) {
             Ok(order) => order,
             Err(error) => return Err(error),
         };
         if !self.has_room(SEND_ROOM) {
             return Err(Error::Full);
         }
-        let data = match ask_data(self.alloc, &self.image, node, id, name) {
+        let data = match ask_data(self.alloc, self.places.image(), node, id, name) {
             Ok(data) => data,
             Err(error) => return Err(error),
         };
@@ -195,7 +196,7 @@ impl<T: RouteTable> Frozen<T> {
         steps::take(
             &mut self.cables,
             &mut self.stations,
-            &self.image,
+            &self.places,
             stamp,
             station,
         )
@@ -235,7 +236,7 @@ impl<T: RouteTable> Frozen<T> {
                     source_socket: *source_socket,
                     kind: *kind,
                 };
-                match send_order(&self.image, *node, *via, header, payload.len()) {
+                match send_order(&self.places, *node, *via, header, payload.len()) {
                     Ok(order) => self.carry_out(&order, payload.as_slice()),
                     Err(error) => Err(error),
                 }
@@ -246,7 +247,7 @@ impl<T: RouteTable> Frozen<T> {
                 id,
                 name,
             } => self.ask(*node, *via, *id, name),
-            Event::Take { stamp, station } => match Whereabouts::of(&self.image).station(*station) {
+            Event::Take { stamp, station } => match self.places.station(*station) {
                 Some(station) => self.take(*stamp, station),
                 None => Err(Error::NoSuch(What::Station)),
             },

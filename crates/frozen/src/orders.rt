@@ -1,10 +1,9 @@
 //! What nodes are told to send, and by which router.
 
-ghost use Rattle.std.specs.Prelude.{◌≡◌, ◌<◌, ◌≤◌, cond, length, slice_get, is_some, Some};
+ghost use Rattle.std.specs.Prelude.{◌≡◌, ◌<◌, ◌≤◌, cond, length, slice_get, Some};
 ghost use Rattle.std.specs.Prelude.{IfOk, IfSome, IsOkUnless};
 ghost use Rattle.at_base.specs.Address.{same_address as same};
 ghost use Rattle.at_base.specs.Text.{is_only};
-ghost use Rattle.audit.specs.Routing.{owner};
 ghost use Rattle.end_node.specs.Lookups.{is_any as stands_for_own};
 ghost use Rattle.frozen.specs.Orders.{ask_data as asked_data};
 ghost use Rattle.frozen.specs.Orders.{ask_order as asks, asked_at as asks_at, data_at as data_in};
@@ -41,13 +40,6 @@ pub fn node_at(nodes: &[Node], addr: Addr) -> Option<usize>
     nodes.iter().position(|n| same_address(n.address, addr))
 }
 
-/// Whether a router has a port with the address on the cable.
-fn is_router(image: &Image, cable: u8, addr: Addr) -> bool
-    ensures { result ≡ is_some (owner image.now cable addr) }
-{
-    Whereabouts::of(image).has_router(cable, addr)
-}
-
 /// The node's own router, if it has one.
 fn own_router(router: Option<Addr>) -> Result<Addr, Error>
     ensures { result ≡ own router }
@@ -59,13 +51,13 @@ fn own_router(router: Option<Addr>) -> Result<Addr, Error>
 }
 
 /// The router that a node sends through.
-fn router_for(image: &Image, node: &Node, via: Option<Addr>) -> Result<Addr, Error>
-    ensures { result ≡ goes_by image.now node.now via }
+fn router_for(places: &Whereabouts, node: &Node, via: Option<Addr>) -> Result<Addr, Error>
+    ensures { result ≡ goes_by places.now node.now via }
 {
     match via {
         None => own_router(node.router),
         Some(via) => {
-            if is_router(image, node.cable, via) {
+            if places.has_router(node.cable, via) {
                 Ok(via)
             } else {
                 Err(Error::NoSuch(What::Router))
@@ -75,8 +67,13 @@ fn router_for(image: &Image, node: &Node, via: Option<Addr>) -> Result<Addr, Err
 }
 
 /// Whom a datagram of a node's goes to next.
-fn next_for(image: &Image, node: &Node, via: Option<Addr>, target: Addr) -> Result<Next, Error>
-    ensures value { result ≡ goes_to image.now node.now via target }
+fn next_for(
+    places: &Whereabouts,
+    node: &Node,
+    via: Option<Addr>,
+    target: Addr,
+) -> Result<Next, Error>
+    ensures value { result ≡ goes_to places.now node.now via target }
     ensures next { IfOk result IsNext }
 {
     if target.net == 0 {
@@ -86,7 +83,7 @@ fn next_for(image: &Image, node: &Node, via: Option<Addr>, target: Addr) -> Resu
             Err(Error::NoSuch(What::Station))
         }
     } else {
-        match router_for(image, node, via) {
+        match router_for(places, node, via) {
             Ok(router) => Ok(Next::Station(router)),
             Err(error) => Err(error),
         }
@@ -95,19 +92,20 @@ fn next_for(image: &Image, node: &Node, via: Option<Addr>, target: Addr) -> Resu
 
 /// The order of node `k` to send so many bytes of data.
 fn sent_at(
-    image: &Image,
+    places: &Whereabouts,
     k: usize,
     via: Option<Addr>,
     header: Header,
     len: usize,
 ) -> Result<Order, Error>
-    requires { k < length image.now.nodes }
-    ensures value { result ≡ sends_at image.now k (slice_get image.now.nodes k) via header len }
+    requires { k < length places.now.nodes }
+    ensures value { result ≡ sends_at places.now k (slice_get places.now.nodes k) via header len }
     ensures next { IfOk result (λ o. IsNext o.next) }
     ensures short { IfOk result (λ o. len ≤ 586) }
 {
+    let image = places.image();
     let node = &image.nodes()[k];
-    match next_for(image, node, via, header.target) {
+    match next_for(places, node, via, header.target) {
         Err(error) => Err(error),
         Ok(_) if len > MAX_DATA => Err(Error::TooLong),
         Ok(next) => Ok(Order {
@@ -124,30 +122,31 @@ fn sent_at(
 
 /// The order of the node with an address to send so many bytes of data.
 pub fn send_order(
-    image: &Image,
+    places: &Whereabouts,
     node: Addr,
     via: Option<Addr>,
     header: Header,
     len: usize,
 ) -> Result<Order, Error>
-    ensures value { result ≡ sends image.now node via header len }
+    ensures value { result ≡ sends places.now node via header len }
     ensures next { IfOk result (λ o. IsNext o.next) }
     ensures short { IfOk result (λ o. len ≤ 586) }
 {
-    match node_at(image.nodes(), node) {
-        Some(k) => sent_at(image, k, via, header, len),
-        None => Err(Error::NoSuch(What::Node)),
-    }
+    let Some(k) = node_at(places.image().nodes(), node) else {
+        return Err(Error::NoSuch(What::Node));
+    };
+    sent_at(places, k, via, header, len)
 }
 
 /// The order of node `k` to ask a router for names.
-fn asked_at(image: &Image, k: usize, via: Option<Addr>) -> Result<Order, Error>
-    requires { k < length image.now.nodes }
-    ensures value { result ≡ asks_at image.now k (slice_get image.now.nodes k) via }
+fn asked_at(places: &Whereabouts, k: usize, via: Option<Addr>) -> Result<Order, Error>
+    requires { k < length places.now.nodes }
+    ensures value { result ≡ asks_at places.now k (slice_get places.now.nodes k) via }
     ensures next { IfOk result (λ o. IsNext o.next) }
 {
+    let image = places.image();
     let node = &image.nodes()[k];
-    match router_for(image, node, via) {
+    match router_for(places, node, via) {
         Err(error) => Err(error),
         Ok(router) => Ok(Order {
             station: (image.routers().len() + k) as u16,
@@ -166,12 +165,12 @@ fn asked_at(image: &Image, k: usize, via: Option<Addr>) -> Result<Order, Error>
 }
 
 /// The order of the node with an address to ask a router for names.
-pub fn ask_order(image: &Image, node: Addr, via: Option<Addr>) -> Result<Order, Error>
-    ensures value { result ≡ asks image.now node via }
+pub fn ask_order(places: &Whereabouts, node: Addr, via: Option<Addr>) -> Result<Order, Error>
+    ensures value { result ≡ asks places.now node via }
     ensures next { IfOk result (λ o. IsNext o.next) }
 {
-    match node_at(image.nodes(), node) {
-        Some(k) => asked_at(image, k, via),
+    match node_at(places.image().nodes(), node) {
+        Some(k) => asked_at(places, k, via),
         None => Err(Error::NoSuch(What::Node)),
     }
 }

@@ -21,24 +21,27 @@ use end_node::EndNode;
 use image_stations::{Member, Whereabouts};
 use router::Router;
 use rtmp::RouteTable;
-use table_image::Image;
 
 /// A node sends a datagram, as it is ordered to.
 ///
 /// Errors: `Full` below 3 entries of room, `Memory`. A refusal changes nothing.
-pub fn send(cables: &mut Cables, image: &Image, order: &Order, bytes: Bytes) -> Result<(), Error>
+pub fn send(
+    cables: &mut Cables,
+    places: &Whereabouts,
+    order: &Order,
+    bytes: Bytes,
+) -> Result<(), Error>
     requires next { IsNext order.now.next }
     requires cable { has_cable cables.old.seats order.now.cable ≡ true }
     requires seated { is_seated cables.old.seats order.now.cable order.now.station ≡ true }
-    ensures ok { OnOk result (Adds cables.old cables.new (sent_entries (places_of image.now)
+    ensures ok { OnOk result (Adds cables.old cables.new (sent_entries (places_of places.now)
         cables.old order.now.cable order.now.station order.now.next bytes)) }
     ensures full { (result ≡ Err Error.Full)
         ↔ (cables.old.limit < length cables.old.lines + 3) }
     ensures refused { IfErr result (λ e. (e ≡ Error.Full) ⊎ (e ≡ Error.Memory)) }
     ensures kept { OnErr result (cables.new ≡ cables.old) }
 {
-    let places = Whereabouts::of(image);
-    cables.send(order.station, order.cable, order.next, bytes, &places)
+    cables.send(order.station, order.cable, order.next, bytes, places)
 }
 
 /// A station takes a frame.
@@ -48,7 +51,7 @@ pub fn send(cables: &mut Cables, image: &Image, order: &Order, bytes: Bytes) -> 
 pub fn take<T: RouteTable>(
     cables: &mut Cables,
     stations: &mut Vec<Member<Router<T>, EndNode>>,
-    image: &Image,
+    places: &Whereabouts,
     stamp: u32,
     station: u16,
 ) -> Result<(), Error>
@@ -56,7 +59,7 @@ pub fn take<T: RouteTable>(
     requires seated { (m : MemberValue Holding NodeHolding)
         → slice_get stations.old.items station ≡ Some m
         → AreSeatsOf cables.old.seats station (ports_of m) }
-    ensures ok { OnOk result (TakenFrom (places_of image.now) stations.old.items cables.old
+    ensures ok { OnOk result (TakenFrom (places_of places.now) stations.old.items cables.old
         stamp station stations.new.items cables.new) }
     ensures not_pending { (result ≡ Err Error.NotPending) ↔ (list_any (is_named stamp station)
         (pending_on cables.old.seats (said cables.old)) ≡ false) }
@@ -68,7 +71,6 @@ pub fn take<T: RouteTable>(
     ensures kept { OnErr result (cables.new ≡ cables.old) }
     ensures stations_stay { OnErr result (stations.new.items ≡ stations.old.items) }
 {
-    let places = Whereabouts::of(image);
     let taker = &mut stations[station as usize];
-    cables.take(stamp, station, taker, &places)
+    cables.take(stamp, station, taker, places)
 }

@@ -7,3 +7,4 @@ pub mod Routes
 pub mod ZoneRanges
 pub mod NodeNames
 pub mod Pushed
+pub mod Housed

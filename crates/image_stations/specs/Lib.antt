@@ -1,5 +1,6 @@
 pub mod Members
 pub mod Holders
+pub mod Homes
 pub mod Building
 pub mod Plans
 pub mod Seating

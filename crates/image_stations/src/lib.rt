@@ -3,6 +3,7 @@
 #![tactic(auto)]
 
 mod building;
+mod homes;
 mod member;
 mod nodes;
 mod plans;

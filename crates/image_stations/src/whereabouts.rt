@@ -1,15 +1,19 @@
 //! Where the stations of an internet are.
 
 ghost use Rattle.std.specs.Prelude.{◌≡◌, ◌+◌, ◌≤◌, is_some, length, map, position};
+ghost use Rattle.std.specs.Prelude.{IfOk, IsOkUnless};
 ghost use Rattle.at_base.specs.Address.{same_address as same};
 ghost use Rattle.at_base.specs.Range.{is_between};
 ghost use Rattle.audit.specs.Routing.{owner};
-ghost use Rattle.audit.specs.Seats.{node_seats, port_seat, router_seats, seats};
+ghost use Rattle.audit.specs.Seats.{node_seats, port_seat, router_seats, seat_at, seats};
 ghost use Rattle.image_stations.specs.Finding.{is_named as is_named_in, spot_in};
 ghost use Rattle.image_stations.specs.Finding.{station_at as station_in};
+ghost use Rattle.image_stations.specs.Holders.{found_at};
 
-use at_base::{Addr, Hw};
+use crate::homes::Homes;
+use at_base::{Addr, Error, Hw};
 use cable_model::{Found, Resolve};
+use std::alloc::Global;
 use std::marker::Model;
 use table_image::{Cable, Image, Node, Port, Router};
 
@@ -118,33 +122,39 @@ fn home_of(cables: &[Cable], net: u16) -> Option<usize>
     cables.iter().position(|c| c.start <= net && net <= c.end)
 }
 
-/// Where the stations of an internet are, by its image. This project's own.
+/// An internet, and where its stations are. This project's own.
 #[derive(Debug, Drop)]
-pub struct Whereabouts<'a> {
-    image: &'a Image,
+pub struct Whereabouts {
+    image: Image,
+    homes: Homes,
 }
 
-impl<'a> Model for Whereabouts<'a> {
+impl Model for Whereabouts {
+    ghost use Rattle.image_stations.specs.Homes.{AreHomes};
     ghost use Rattle.table_image.specs.Internet.{Internet};
 
     ghost Value = { Internet };
 
-    ghost view = { λ w. w.image.now };
+    ghost view = { λ w. w.image };
+
+    ghost invariant = { λ w. AreHomes w.image w.homes };
 }
 
-impl<'a> Whereabouts<'a> {
-    /// Where the stations of the image's internet are.
-    pub fn of(image: &'a Image) -> Whereabouts<'a>
-        ensures { result ≡ image.now }
+impl Whereabouts {
+    /// Where the stations of the image's internet are. Error: `Memory`.
+    pub fn of(alloc: Global, image: Image) -> Result<Whereabouts, Error>
+        ensures ok { IfOk result (λ places. places ≡ image) }
+        ensures refused { IsOkUnless result Error.Memory }
     {
-        Whereabouts { image }
+        let homes = Homes::of(alloc, &image)?;
+        Ok(Whereabouts { image, homes })
     }
 
-    /// The image.
-    fn image(&self) -> &Image
+    /// The image. Allocates nothing.
+    pub fn image(&self) -> &Image
         ensures { result.now ≡ self.now }
     {
-        self.image
+        &self.image
     }
 
     /// Whether a router has a port with the address on the cable. Allocates nothing.
@@ -165,9 +175,24 @@ impl<'a> Whereabouts<'a> {
     {
         spot_of(self.image(), None, addr).map(|spot| spot.station)
     }
+
+    /// What is known of the station that has the address on a cable, looked for among those of that
+    /// cable alone. A cable that the image doesn't have is no cable of a station, and is searched for
+    /// among all.
+    fn find_on(&self, cable: u8, addr: Addr) -> Found
+        ensures { result ≡ found_at (seat_at self.now cable addr) }
+    {
+        match self.homes.find(cable, addr) {
+            Some(found) => found,
+            None => match spot_of(&self.image, Some(cable), addr) {
+                Some(spot) => Found::At(spot.hardware),
+                None => Found::Nobody,
+            },
+        }
+    }
 }
 
-impl<'a> Resolve for Whereabouts<'a> {
+impl Resolve for Whereabouts {
     ghost use Rattle.image_stations.specs.Holders.{places_of};
 
     ghost finds = { λ w. (places_of w).finds };
@@ -175,10 +200,7 @@ impl<'a> Resolve for Whereabouts<'a> {
     ghost lists = { λ w. (places_of w).lists };
 
     fn find(&self, cable: u8, addr: Addr) -> Found {
-        match spot_of(self.image(), Some(cable), addr) {
-            Some(spot) => Found::At(spot.hardware),
-            None => Found::Nobody,
-        }
+        self.find_on(cable, addr)
     }
 
     fn listed(&self, net: u16) -> bool {

@@ -1,10 +1,23 @@
 use Rattle.std.proofs.Common.{rules, ◌<◌, ◌∙◌, Some, ap, length, sym, subst}
 use Rattle.std.proofs.lemmas.Option.{slice_get-get_or}
 use Rattle.cable_model.proofs.Firsts.{least_pair}
-use Rattle.cable_model.specs.Books.{least, said, seat_at}
+use Rattle.cable_model.proofs.Rising.{book_rises, rise_from}
+use Rattle.cable_model.specs.Books.{RiseFrom, least, said, seat_at}
 use Rattle.cable_model.specs.Outcomes.{IsLeast}
 use Rattle.cable_model.specs.Pending.{pending}
 use Rattle.cable_model.proofs.earliest.first_pair.Goals as goal
+
+pub least_due-requires : goal.least_due-requires
+least_due-requires c =
+    let log = c.args.log.now in
+    let d = c.index-d.result.now in
+    let some : 0 < length log.due.items = search rules in
+    let at = slice_get-get_or log.due.items 0 d some ∙ ap Some (sym c.index-d.ensures) in
+    record {
+      rising =
+          subst (RiseFrom d.stamp) (sym c.deref.ensures.value)
+          (rise_from 0 0 log.due.items d at (book_rises c.args.seats.now log c.requires.book));
+    }
 
 pub returns-clause-some : goal.returns-clause-some
 returns-clause-some c =

@@ -1,14 +1,7 @@
-use Rattle.std.proofs.Common.{refl, subst}
+use Rattle.std.proofs.Common.{refl}
 use Rattle.std.proofs.lemmas.Option.{slice_get_read}
 use Rattle.std.proofs.lemmas.Result.{on_ok_weaker}
-use Rattle.std.specs.Prelude.{length, OnOk}
-use Rattle.cable_model.specs.Outcomes.{IsTaken}
-use Rattle.end_node.specs.Answers.{Hears as NodeHears}
-use Rattle.frozen.specs.Runs.{ports_of}
-use Rattle.image_stations.specs.Holders.{places_of}
-use Rattle.image_stations.specs.Members.{EitherHears}
-use Rattle.router.specs.Answers.{Hears as RouterHears}
-use Rattle.table_image.specs.Internet.{Internet}
+use Rattle.std.specs.Prelude.{length}
 use Rattle.frozen.proofs.steps.take.Goals as goal
 
 pub take-requires : goal.take-requires
@@ -28,7 +21,4 @@ returns-clause-ok g c =
       changed = refl;
       taken = taken;
     })
-    (subst (λ (i : Internet). OnOk c.take.result
-    (IsTaken (places_of i) (ports_of c.index_mut-taker.result.now) c.args.cables.now c.take.new.self c.args.stamp c.args.station
-    (λ h added. EitherHears RouterHears NodeHears c.index_mut-taker.result.now h added c.take.new.taker))) c.of-places.ensures
-    c.take.ensures.ok)
+    c.take.ensures.ok

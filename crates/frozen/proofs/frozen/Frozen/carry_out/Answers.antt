@@ -19,19 +19,19 @@ send-requires-clause-cable g c =
     let o = c.args.order.now in
     let fair = subst (λ (r : Running). IsFair r.internet o) (sym c.self.view_is) c.requires.fair in
     subst (λ l. has_cable l o.cable ≡ true) (sym c.self.invariant.0.seats)
-    (seated_cable c.self.inside.image o.station o.cable fair.seated)
+    (seated_cable c.self.inside.places o.station o.cable fair.seated)
 
 pub send-requires-clause-seated : goal.send-requires-clause-seated
 send-requires-clause-seated g c =
     let o = c.args.order.now in
     let fair = subst (λ (r : Running). IsFair r.internet o) (sym c.self.view_is) c.requires.fair in
     subst (λ l. is_seated l o.cable o.station ≡ true) (sym c.self.invariant.0.seats)
-    (on_seated c.self.inside.image o.station o.cable fair.seated)
+    (on_seated c.self.inside.places o.station o.cable fair.seated)
 
 pub invariant_of-self : goal.invariant_of-self
 invariant_of-self g c =
     let o = c.args.order.now in
-    let i = c.self.inside.image in
+    let i = c.self.inside.places in
     let payload = c.args.payload.now in
     let fair = subst (λ (r : Running). IsFair r.internet o) (sym c.self.view_is) c.requires.fair in
     let each = subst (λ b. IsTrue (are_bytes b)) c.as_slice.ensures c.slices_have_bytes.ensures in
@@ -62,7 +62,7 @@ invariant_of-self g c =
 pub returns-in-Ok-clause-sent : goal.returns-in-Ok-clause-sent
 returns-in-Ok-clause-sent g c =
     let o = c.args.order.now in
-    let i = c.self.inside.image in
+    let i = c.self.inside.places in
     let new : Running = record { internet = i; stations = c.self.inside.stations.items; cabling = c.send.new.cables } in
     on_ok_weaker c.send.result
     (λ adds. subst (λ (r : Running). SentBy r o c.args.payload.now new) c.self.view_is (record {

@@ -15,14 +15,14 @@ pub take-requires-clause-seated : goal.take-requires-clause-seated
 take-requires-clause-seated g c =
     let frozen = c.self.invariant.0 in
     λ m at. subst (λ l. AreSeatsOf l c.args.station (ports_of m)) (sym frozen.seats)
-    (seats_of_station c.self.inside.image frozen.passes c.self.inside.stations.items frozen.holders c.args.station m at)
+    (seats_of_station c.self.inside.places frozen.passes c.self.inside.stations.items frozen.holders c.args.station m at)
 
 pub invariant_of-self : goal.invariant_of-self
 invariant_of-self g c =
-    let old : Running = record { internet = c.self.inside.image; stations = c.self.inside.stations.items; cabling = c.self.inside.cables } in
-    let new : Running = record { internet = c.self.inside.image; stations = c.take.new.stations.items; cabling = c.take.new.cables } in
+    let old : Running = record { internet = c.self.inside.places; stations = c.self.inside.stations.items; cabling = c.self.inside.cables } in
+    let new : Running = record { internet = c.self.inside.places; stations = c.take.new.stations.items; cabling = c.take.new.cables } in
     of_both c.take.result
-    (TakenFrom (places_of c.self.inside.image) c.self.inside.stations.items c.self.inside.cables c.args.stamp c.args.station
+    (TakenFrom (places_of c.self.inside.places) c.self.inside.stations.items c.self.inside.cables c.args.stamp c.args.station
     c.take.new.stations.items c.take.new.cables)
     ((c.take.new.cables ≡ c.self.inside.cables) × (c.take.new.stations.items ≡ c.self.inside.stations.items))
     (IsFrozen new × (c.self.inside.limit ≡ c.take.new.cables.limit))
@@ -33,8 +33,8 @@ invariant_of-self g c =
       c.self.invariant.1 ∙ sym taken.taken.entries.limit,
     ))
     (λ same. (
-      subst IsFrozen (ap (λ s. record { internet = c.self.inside.image; stations = s; cabling = c.self.inside.cables }) (sym same.1)
-          ∙ ap (λ k. record { internet = c.self.inside.image; stations = c.take.new.stations.items; cabling = k }) (sym same.0))
+      subst IsFrozen (ap (λ s. record { internet = c.self.inside.places; stations = s; cabling = c.self.inside.cables }) (sym same.1)
+          ∙ ap (λ k. record { internet = c.self.inside.places; stations = c.take.new.stations.items; cabling = k }) (sym same.0))
           c.self.invariant.0,
       c.self.invariant.1 ∙ ap (λ (k : Cabling). k.limit) (sym same.0),
     ))
