@@ -5,7 +5,7 @@ use Rattle.std.proofs.lemmas.Bool.{and_parts, ltb-false, ltb-true}
 use Rattle.std.proofs.lemmas.List.Quantifiers.{position-Some}
 use Rattle.std.proofs.lemmas.List.Sums.{fails_before_first}
 use Rattle.std.proofs.lemmas.Option.{slice_get-get_or}
-use Rattle.std.specs.List.{position_or_len, AllByRecursion as Each}
+use Rattle.std.specs.List.{position_or_len, remove, AllByRecursion as Each}
 use Rattle.cable_model.proofs.Ended.{stamp_is}
 use Rattle.cable_model.specs.Books.{IsBook, IsDue, RiseFrom, is_of, least, pair_at, said, seat_at}
 use Rattle.cable_model.specs.Pending.{Pair, is_heard, pairs, was_ended}
@@ -126,6 +126,13 @@ module _ (seats : List Seat) (stamp : ℕ) where
     others_stop k [] x l ne h = absurd (omega arith)
     others_stop zero (d ∷ ds) x l ne h = sym (none_later (d ∷ ds) (later d.stamp stamp h.0 ne, h.1))
     others_stop (suc k) (d ∷ ds) x l ne h = ap (λ l. d ∷ l) (others_stop k ds x (omega (arith, l)) ne h)
+
+    -- one of this stamp and station is put out of the list
+    pub but_removed : (k : ℕ) (ds : List Due) (x : Due) → k < length ds → is_of seats stamp station (get_or ds k x) ≡ true
+        → take k (remove ds k) ++ others (drop k (remove ds k)) ≡ take k ds ++ others (drop k ds)
+    but_removed k [] x l e = absurd (omega arith)
+    but_removed zero (d ∷ ds) x l e = sym (ap (λ b. cond (not b) (d ∷ others ds) (others ds)) e)
+    but_removed (suc k) (d ∷ ds) x l e = ap (λ l. d ∷ l) (but_removed k ds x (omega (arith, l)) e)
 
     -- what stands before the first of this stamp and station stays
     pub before_place : (k : ℕ) (ds : List Due) (x : Due) → ((j : ℕ) → j < k → is_of seats stamp station (get_or ds j x) ≡ false)

@@ -1,6 +1,7 @@
 -- How cables keep what happened, and what is still to be taken. This project's own.
 use Rattle.std.specs.Prelude.{◌≡◌, ℕ, ◌+◌, ◌≤◌, ◌<◌, ◌^◌, Bool, ◌&&◌, ◌==◌, List, [], ◌∷◌, ◌++◌, map, length, slice_get, cond, nat_lt, ◌||◌}
 use Rattle.std.specs.Prelude.{Option, Some, None, vec_len, vec_capacity}
+use Rattle.std.specs.VecDeque.{deque_len, deque_capacity}
 use Rattle.std.specs.List.{AllByRecursion as Each}
 use Rattle.cable_model.specs.declared.due.Due.{Due}
 use Rattle.cable_model.specs.declared.entry.Entry.{Entry as Line}
@@ -104,7 +105,7 @@ pub record HasRoom (log : Log) (l k w d : ℕ) : Type 0 where
   pub lines : vec_len log.lines + l ≤ vec_capacity log.lines
   pub kept : vec_len log.kept + k ≤ vec_capacity log.kept
   pub waiting : vec_len log.waiting + w ≤ vec_capacity log.waiting
-  pub due : vec_len log.due + d ≤ vec_capacity log.due
+  pub due : deque_len log.due + d ≤ deque_capacity log.due
   pub line_numbers : vec_len log.lines + l < 2 ^ 32
   pub byte_numbers : vec_len log.kept + k < 2 ^ 32
   pub stamps : log.puts + l < 2 ^ 32
@@ -114,12 +115,12 @@ pub record Uses (old new : Log) (l k w d : ℕ) : Type 0 where
   pub lines : vec_len new.lines ≤ vec_len old.lines + l
   pub kept : vec_len new.kept ≤ vec_len old.kept + k
   pub waiting : vec_len new.waiting ≤ vec_len old.waiting + w
-  pub due : vec_len new.due ≤ vec_len old.due + d
+  pub due : deque_len new.due ≤ deque_len old.due + d
   pub puts : new.puts ≤ old.puts + l
   pub lines_room : vec_capacity new.lines ≡ vec_capacity old.lines
   pub kept_room : vec_capacity new.kept ≡ vec_capacity old.kept
   pub waiting_room : vec_capacity new.waiting ≡ vec_capacity old.waiting
-  pub due_room : vec_capacity new.due ≡ vec_capacity old.due
+  pub due_room : deque_capacity new.due ≡ deque_capacity old.due
   pub grown : vec_len old.lines ≤ vec_len new.lines
 
 -- What cables keep, where a station has one seat at most on a cable.

@@ -9,15 +9,17 @@ use crate::due::Due;
 use crate::ending::station_at;
 use crate::log::Log;
 use crate::seat::Seat;
+use std::collections::VecDeque;
 
 /// The least station of those of the pairs that begin with this stamp, and of this one. Stamps don't
 /// fall, so that no later pair comes before these.
-fn least_due(due: &[Due], seats: &[Seat], stamp: u32, station: u16) -> (u32, u16)
-    requires rising { RiseFrom stamp due.now }
-    ensures { result ≡ least seats.now stamp station due.now }
+fn least_due(due: &VecDeque<Due>, seats: &[Seat], stamp: u32, station: u16) -> (u32, u16)
+    requires rising { RiseFrom stamp due.now.items }
+    ensures { result ≡ least seats.now stamp station due.now.items }
 {
     let mut who = station;
-    for d in due {
+    for k in 0..due.len() {
+        let d = &due[k];
         if d.stamp != stamp {
             return (stamp, who);
         }
@@ -36,7 +38,7 @@ pub fn first_pair(log: &Log, seats: &[Seat]) -> Option<(u32, u16)>
         IsLeast (pending seats.now (said log.now)) pair.0 pair.1) }
     ensures none { IfNone result (pending seats.now (said log.now) ≡ []) }
 {
-    if log.due.len() == 0 {
+    if log.due.is_empty() {
         return None;
     }
     let d = log.due[0];

@@ -2,7 +2,8 @@
 
 ghost use Rattle.std.specs.Prelude.{◌≡◌, ◌<◌, ◌≤◌, ◌+◌, ◌-◌, [], ◌∷◌, ◌++◌, ◌==◌};
 ghost use Rattle.std.specs.Prelude.{List, drop, filter, find, not, position, take, true};
-ghost use Rattle.std.specs.Prelude.{vec_capacity, vec_len};
+ghost use Rattle.std.specs.Prelude.{vec_len};
+ghost use Rattle.std.specs.VecDeque.{deque_capacity, deque_len};
 ghost use Rattle.std.specs.Prelude.{Contains, IfSome, OnSome, is_some};
 ghost use Rattle.std.specs.List.{list_any};
 ghost use Rattle.cable_model.specs.Books.{Grows, HasRoom, IsBook, IsDue, RiseFrom, Uses};
@@ -16,6 +17,7 @@ use crate::due::Due;
 use crate::entry::Entry;
 use crate::log::Log;
 use crate::seat::Seat;
+use std::collections::VecDeque;
 
 /// Whether the pair is that of a stamp and a station.
 fn is_due(due: &Due, seats: &[Seat], stamp: u32, station: u16) -> bool
@@ -35,10 +37,11 @@ pub fn station_at(seats: &[Seat], index: usize) -> u16
 }
 
 /// The pair of a stamp and a station, if it is pending.
-fn find_due(due: &[Due], seats: &[Seat], stamp: u32, station: u16) -> Option<Due>
-    ensures { result ≡ find (is_of seats.now stamp station) due.now }
+fn find_due(due: &VecDeque<Due>, seats: &[Seat], stamp: u32, station: u16) -> Option<Due>
+    ensures { result ≡ find (is_of seats.now stamp station) due.now.items }
 {
-    for d in due {
+    for k in 0..due.len() {
+        let d = &due[k];
         if is_due(d, seats, stamp, station) {
             return Some(*d);
         }
@@ -61,8 +64,8 @@ pub fn find_pair(log: &Log, seats: &[Seat], stamp: u32, station: u16) -> Option<
 }
 
 /// Whether one of the pairs is of the frame of a stamp.
-fn has_due(due: &[Due], stamp: u32) -> bool
-    ensures { result ≡ list_any (λ d. stamp == d.stamp) due.now }
+fn has_due(due: &VecDeque<Due>, stamp: u32) -> bool
+    ensures { result ≡ list_any (λ d. stamp == d.stamp) due.now.items }
 {
     due.iter().any(|d| stamp == d.stamp)
 }
@@ -78,20 +81,20 @@ pub fn is_stamped(log: &Log, stamp: u32) -> bool
 }
 
 /// The place of the pair of a stamp and a station, if it is pending.
-fn place_of(due: &[Due], seats: &[Seat], stamp: u32, station: u16) -> Option<usize>
-    ensures { result ≡ position (is_of seats.now stamp station) due.now }
+fn place_of(due: &VecDeque<Due>, seats: &[Seat], stamp: u32, station: u16) -> Option<usize>
+    ensures { result ≡ position (is_of seats.now stamp station) due.now.items }
 {
     due.iter().position(|d| is_due(d, seats, stamp, station))
 }
 
 /// Puts the pairs of a stamp and a station out of the list, from a place on where stamps are no less
 /// and don't fall.
-fn remove_from(due: &mut Vec<Due>, seats: &[Seat], stamp: u32, station: u16, from: usize)
+fn remove_from(due: &mut VecDeque<Due>, seats: &[Seat], stamp: u32, station: u16, from: usize)
     requires rising { RiseFrom stamp (drop from due.old.items) }
     ensures items { due.new.items ≡ take from due.old.items
         ++ filter (λ d. not (is_of seats.now stamp station d)) (drop from due.old.items) }
-    ensures few { vec_len due.new ≤ vec_len due.old }
-    ensures capacity { vec_capacity due.new ≡ vec_capacity due.old }
+    ensures few { deque_len due.new ≤ deque_len due.old }
+    ensures capacity { deque_capacity due.new ≡ deque_capacity due.old }
 {
     let Some(d) = due.get(from) else { return };
     if d.stamp != stamp {
@@ -106,12 +109,12 @@ fn remove_from(due: &mut Vec<Due>, seats: &[Seat], stamp: u32, station: u16, fro
 }
 
 /// Puts the pairs of a stamp and a station out of a list whose stamps don't fall.
-fn remove_due(due: &mut Vec<Due>, seats: &[Seat], stamp: u32, station: u16)
+fn remove_due(due: &mut VecDeque<Due>, seats: &[Seat], stamp: u32, station: u16)
     requires rising { RiseFrom 0 due.old.items }
     ensures items { due.new.items
         ≡ filter (λ d. not (is_of seats.now stamp station d)) due.old.items }
-    ensures few { vec_len due.new ≤ vec_len due.old }
-    ensures capacity { vec_capacity due.new ≡ vec_capacity due.old }
+    ensures few { deque_len due.new ≤ deque_len due.old }
+    ensures capacity { deque_capacity due.new ≡ deque_capacity due.old }
 {
     if let Some(place) = place_of(due, seats, stamp, station) {
         remove_from(due, seats, stamp, station, place);

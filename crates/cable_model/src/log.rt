@@ -11,6 +11,7 @@ use crate::entry::Entry;
 use crate::waiting::Waiting;
 use at_base::Bytes;
 use std::alloc::Global;
+use std::collections::VecDeque;
 
 /// What happened, which bytes it names, who is still to take what, and which datagrams wait.
 #[derive(Drop)]
@@ -20,7 +21,7 @@ pub struct Log {
     /// The bytes that entries and waiting datagrams name, by their numbers.
     pub kept: Vec<Bytes>,
     /// The pairs of a frame and a seat that are pending, in the order in which they were put.
-    pub due: Vec<Due>,
+    pub due: VecDeque<Due>,
     /// The number of frames.
     pub puts: u32,
     /// The datagrams that wait for an address.
@@ -36,7 +37,7 @@ pub fn empty(alloc: Global) -> Log
     Log {
         lines: Vec::new(alloc),
         kept: Vec::new(alloc),
-        due: Vec::new(alloc),
+        due: VecDeque::new(alloc),
         puts: 0,
         waiting: Vec::new(alloc),
     }

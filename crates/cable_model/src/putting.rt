@@ -1,7 +1,8 @@
 //! Frames that are put on a cable.
 
 ghost use Rattle.std.specs.Prelude.{◌≡◌, ◌<◌, ◌≤◌, ◌+◌, ◌&&◌, ◌==◌, [], ◌∷◌, ◌++◌, length};
-ghost use Rattle.std.specs.Prelude.{vec_capacity, vec_len};
+ghost use Rattle.std.specs.Prelude.{vec_len};
+ghost use Rattle.std.specs.VecDeque.{deque_capacity, deque_len};
 ghost use Rattle.cable_model.specs.Books.{Grows, HasRoom, IsBook, Uses, dues};
 ghost use Rattle.cable_model.specs.Logs.{bytes_at};
 ghost use Rattle.cable_model.specs.Outcomes.{framed, is_for_as, link_of};
@@ -13,6 +14,7 @@ use crate::log::Log;
 use crate::seat::Seat;
 use at_base::Hw;
 use station::Kind;
+use std::collections::VecDeque;
 
 /// Puts a frame on its cable, for all who hear it there.
 pub fn put(log: &mut Log, seats: &[Seat], cable: u8, sender: u16, to: Hw, kind: Kind, bytes: u32)
@@ -45,7 +47,7 @@ pub fn put(log: &mut Log, seats: &[Seat], cable: u8, sender: u16, to: Hw, kind: 
 
 /// Adds the pairs of a frame with all who hear it.
 fn add_dues(
-    due: &mut Vec<Due>,
+    due: &mut VecDeque<Due>,
     seats: &[Seat],
     cable: u8,
     sender: u16,
@@ -53,17 +55,17 @@ fn add_dues(
     stamp: u32,
     put: u32,
 )
-    requires room { vec_len due.old + length seats.now ≤ vec_capacity due.old }
+    requires room { deque_len due.old + length seats.now ≤ deque_capacity due.old }
     ensures added { due.new.items ≡ due.old.items
         ++ dues (λ s. s.cable == cable && is_for_as (link_of to.now) to.now sender s) stamp put 0
         seats.now }
-    ensures few { vec_len due.new ≤ vec_len due.old + length seats.now }
-    ensures capacity { vec_capacity due.new ≡ vec_capacity due.old }
+    ensures few { deque_len due.new ≤ deque_len due.old + length seats.now }
+    ensures capacity { deque_capacity due.new ≡ deque_capacity due.old }
 {
     let link = hearing::link_of(to);
     for seat in 0..seats.len() {
         if hears(&seats[seat], cable, sender, to, link) {
-            due.push_reserved(Due { stamp, put, seat });
+            due.push_back_reserved(Due { stamp, put, seat });
         }
     }
 }

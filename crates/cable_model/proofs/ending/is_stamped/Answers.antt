@@ -1,14 +1,12 @@
-use Rattle.std.proofs.Common.{◌==◌, sym, ap, ◌∙◌}
-use Rattle.std.specs.List.{list_any}
+use Rattle.std.proofs.Common.{sym, ◌∙◌}
 use Rattle.cable_model.proofs.Finds.{stamped, stamped_below}
 use Rattle.cable_model.proofs.ending.is_stamped.Goals as goal
 
 pub returns-clause-value : goal.returns-clause-value
 returns-clause-value c = λ seats book.
-    c.has_due.ensures ∙ (ap (list_any (λ d. c.args.stamp == d.stamp)) c.deref.ensures.value
-    ∙ stamped seats c.args.log.now book c.args.stamp)
+    c.has_due.ensures ∙ stamped seats c.args.log.now book c.args.stamp
 
 pub returns-clause-earlier : goal.returns-clause-earlier
 returns-clause-earlier c = λ seats book e.
     stamped_below seats c.args.log.now book c.args.stamp
-    (sym (ap (list_any (λ d. c.args.stamp == d.stamp)) c.deref.ensures.value) ∙ (sym c.has_due.ensures ∙ e))
+    (sym c.has_due.ensures ∙ e)

@@ -89,7 +89,7 @@ add_all-requires-clause-room g c =
     let n = length c.deref-4.result.now in
     let seats = ap length c.deref-4.ensures.value in
     let room = c.in-Ok.ensures.room in
-    let whole = c.pairs_of-pairs.ensures (omega (arith, room.due, c.make_room.new.log.due.small)) in
+    let whole = c.pairs_of-pairs.ensures (omega (arith, room.due, c.make_room.new.log.due.small.0)) in
     let times = few_times (length os) n (omega (arith, long, need.all, put.lawful.made, put.lawful.others)) in
     let after =
     room_forgotten c.make_room.new.log c.forget_waiting.new.log 771 257 257 c.pairs_of-pairs.result room c.forget_waiting.ensures.lines
