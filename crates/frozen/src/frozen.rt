@@ -291,6 +291,8 @@ impl<T: RouteTable> Frozen<T> {
             → LooksUp self.new }
         ensures stopped { IfErr result (λ stop. Stopped self.old events.now stop.0 stop.1 self.new) }
     {
+        // For the prover alone: what the run keeps holds where there are no events, too.
+        let _ = &self.places;
         let mut done = 0;
         for event in events {
             match self.event(event) {
@@ -312,6 +314,8 @@ impl<T: RouteTable> Frozen<T> {
         ensures looked_up { LooksUp self.old → LooksUp self.new }
         ensures stopped { IfErr result (λ e. DrainStops self.old most e self.new) }
     {
+        // For the prover alone: what the run keeps holds where nothing is taken, too.
+        let _ = &self.places;
         for _turn in 0..most {
             match self.cables.first() {
                 None => return Ok(true),
