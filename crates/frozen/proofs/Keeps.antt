@@ -1,5 +1,5 @@
 -- What an event leaves is still a run over frozen tables.
-use Rattle.std.proofs.Common.{◌≡◌, ℕ, zero, suc, List, [], ◌∷◌, refl, sym, ap, ◌∙◌, subst, inl, inr, ◌⊎◌, Contains}
+use Rattle.std.proofs.Common.{◌≡◌, ℕ, zero, suc, List, [], ◌∷◌, ◌++◌, refl, sym, ap, ◌∙◌, subst, inl, inr, ◌⊎◌, Contains}
 use Rattle.std.proofs.Common.{slice_set}
 use Rattle.std.proofs.lemmas.List.{length-set}
 use Rattle.std.specs.Option.{unwrap_or}
@@ -85,9 +85,16 @@ frozen_of r i e ok bounded holders seats legal = record {
   legal = subst (λ j. IsLegal j (transcript r.cabling)) (sym e) legal;
 }
 
--- after a taking
-pub took_keeps : (old new : Running) (stamp s : ℕ) → IsFrozen old → TakenBy old stamp s new → IsFrozen new
-took_keeps old new stamp s frozen taken =
+-- what was taken of a run, as a block, and what its taker holds then
+pub record TookSo (old new : Running) (stamp s : ℕ) : Type 0 where
+  pub block : List Entry
+  pub added : transcript new.cabling ≡ transcript old.cabling ++ block
+  pub lawful : Block old.internet (transcript old.cabling) block
+  pub first : (others : List Entry) × (block ≡ Took stamp s ∷ others)
+  pub holders : HoldStations old.internet new.stations
+
+pub took_so : (old new : Running) (stamp s : ℕ) → IsFrozen old → TakenBy old stamp s new → TookSo old new stamp s
+took_so old new stamp s frozen taken =
     let i = old.internet in
     let t = transcript old.cabling in
     let w = taken.taken in
@@ -97,17 +104,28 @@ took_keeps old new stamp s frozen taken =
     let holds : HoldsStation i p.seat.station w.member =
     subst (λ n. HoldsStation i n w.member) (sym x.of_station) (frozen.holders.each s w.member w.known) in
     let b = member_takes i t p _ w.member w.after x.added frozen.passes frozen.bounded frozen.legal there holds x.heard x.lawful in
-    let entries : List Entry = Took stamp s ∷ all_entries (places_of i) old.cabling.seats s (stamps t) x.added in
-    let block : Block i t entries =
-    subst (λ n. Block i t (Took n s ∷ all_entries (places_of i) old.cabling.seats s (stamps t) x.added)) x.of_stamp
-    (subst (λ n. Block i t (Took p.frame.stamp n ∷ all_entries (places_of i) old.cabling.seats n (stamps t) x.added)) x.of_station
-    (subst (λ l. Block i t (Took p.frame.stamp p.seat.station ∷ all_entries (places_of i) l p.seat.station (stamps t) x.added))
-    (sym frozen.seats) b.0)) in
-    frozen_of new i taken.internet frozen.passes frozen.bounded
-    (subst (HoldStations i) (sym w.changed)
-    (hold_with i old.stations s w.after frozen.holders (subst (λ n. HoldsStation i n w.after) x.of_station b.1)))
-    (x.entries.seats ∙ frozen.seats)
-    (subst (IsLegal i) (sym x.entries.added) (Goes t entries frozen.legal block))
+    let others : List Entry = all_entries (places_of i) old.cabling.seats s (stamps t) x.added in
+    record {
+      block = Took stamp s ∷ others;
+      added = x.entries.added;
+      lawful =
+          subst (λ n. Block i t (Took n s ∷ all_entries (places_of i) old.cabling.seats s (stamps t) x.added)) x.of_stamp
+          (subst (λ n. Block i t (Took p.frame.stamp n ∷ all_entries (places_of i) old.cabling.seats n (stamps t) x.added)) x.of_station
+          (subst (λ l. Block i t (Took p.frame.stamp p.seat.station ∷ all_entries (places_of i) l p.seat.station (stamps t) x.added))
+          (sym frozen.seats) b.0));
+      first = (others, refl);
+      holders =
+          subst (HoldStations i) (sym w.changed)
+          (hold_with i old.stations s w.after frozen.holders (subst (λ n. HoldsStation i n w.after) x.of_station b.1));
+    }
+
+-- after a taking
+pub took_keeps : (old new : Running) (stamp s : ℕ) → IsFrozen old → TakenBy old stamp s new → IsFrozen new
+took_keeps old new stamp s frozen taken =
+    let so = took_so old new stamp s frozen taken in
+    frozen_of new old.internet taken.internet frozen.passes frozen.bounded so.holders
+    (taken.taken.taken.entries.seats ∙ frozen.seats)
+    (subst (IsLegal old.internet) (sym so.added) (Goes (transcript old.cabling) so.block frozen.legal so.lawful))
 
 -- after a sending
 pub sent_keeps : (old new : Running) (o : Order) (payload : List ℕ) → IsFrozen old → IsFair old.internet o → IsSent o.header payload

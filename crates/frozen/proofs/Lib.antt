@@ -2,3 +2,6 @@ pub mod Seats
 pub mod Keeps
 pub mod Fair
 pub mod Refused
+pub mod Asked
+pub mod Asking
+pub mod Promised

@@ -80,6 +80,19 @@ room_refused {T} (Err e) limit n h full = of_error h
     of_error (inl is) = inl (so (full.0 (err_is is)) is)
     of_error (inr is) = by is (nat_lt limit n) refl
 
+-- where it isn't refused, there is room
+pub room_ok : {T : Type 0} (r : Result T Error) (limit n : ℕ) → ((r ≡ Err Full) ↔ (limit < n))
+    → OnOk r (cond (nat_lt limit n) (Some Full) None ≡ None)
+room_ok (Err e) limit n full = tt
+room_ok {T} (Ok t) limit n full = by (nat_lt limit n) refl
+  where
+    never : ◌≡◌ {A = Result T Error} (Ok t) (Err Full) → ⊥
+    never h = cc
+
+    by : (b : Bool) → nat_lt limit n ≡ b → cond b (Some Full) None ≡ None
+    by true less = absurd (never (full.1 (ltb-true limit n less)))
+    by false room = refl
+
 -- one event more
 pub take_one : {X : Type 0} (xs : List X) (k : ℕ) (x : X) → slice_get xs k ≡ Some x → take (k + 1) xs ≡ take k xs ++ x ∷ []
 take_one xs k x at =

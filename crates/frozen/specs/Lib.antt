@@ -1,3 +1,4 @@
 pub mod Runs
 pub mod Orders
 pub mod Events
+pub mod Promises

@@ -3,13 +3,20 @@
 ghost use Rattle.std.specs.Prelude.{◌≡◌, ◌<◌, ◌≤◌, ◌+◌, ◌⊎◌, ◌↔◌, ℕ, [], Some, None, length};
 ghost use Rattle.std.specs.Prelude.{nat_lt, not, slice_get, take, true, false};
 ghost use Rattle.std.specs.Prelude.{IfErr, IfOk, IsOkUnless, OnErr, OnOk};
+ghost use Rattle.std.specs.List.{AllByRecursion as Each};
 ghost use Rattle.audit.specs.Rules.{Passes};
 ghost use Rattle.cable_model.specs.Logs.{bytes_at, transcript as said};
 ghost use Rattle.cable_model.specs.Pending.{pending as pending_on};
+ghost use Rattle.ddp.specs.Bodies.{body};
+ghost use Rattle.ddp.specs.Datagram.{datagram_of};
 ghost use Rattle.frozen.specs.Events.{DrainStops, DrainsTo, Happened, Happens, IsRefused};
 ghost use Rattle.frozen.specs.Events.{IsUnstarted, Sends, SentBy, Stopped, order_refusal, refusal};
 ghost use Rattle.frozen.specs.Orders.{IsFair, ask_data as asked_data, ask_order as asks};
+ghost use Rattle.frozen.specs.Orders.{bytes_for};
+ghost use Rattle.frozen.specs.Promises.{AreAllCarried, HasHops, HaveOnlyAsked, IsEachOnce};
+ghost use Rattle.frozen.specs.Promises.{LooksUp, OnlyAsks, is_routers_request};
 ghost use Rattle.frozen.specs.Runs.{IsFrozen, TakenBy, take_refusal};
+ghost use Rattle.legal_runs.specs.Requests.{packet_in as asked_in, request as asked_by};
 ghost use Rattle.legal_runs.specs.Stations.{cable_seats};
 ghost use Rattle.station.specs.Lawful.{IsNext};
 
@@ -75,6 +82,10 @@ impl<T: RouteTable> Frozen<T> {
           waiting = [];
         })) }
         ensures passes { OnOk result (Passes image) }
+        ensures conserved { IfOk result IsEachOnce }
+        ensures hops { IfOk result HasHops }
+        ensures carried { IfOk result AreAllCarried }
+        ensures looked_up { IfOk result LooksUp }
         ensures refused { IfErr result (IsUnstarted image) }
     {
         match audit(&image) {
@@ -142,6 +153,12 @@ impl<T: RouteTable> Frozen<T> {
         requires short { length payload.now ≤ 586 }
         requires fair { IsFair self.old.internet order.now }
         ensures sent { OnOk result (SentBy self.old order.now payload.now self.new) }
+        ensures request { OnOk result (asked_by (body (bytes_for order.now payload.now))
+            ≡ asked_in (Some (datagram_of order.now.header payload.now))) }
+        ensures frozen { IsFrozen self.new }
+        ensures asks { HaveOnlyAsked self.old
+            → is_routers_request (body (bytes_for order.now payload.now)) ≡ false
+            → HaveOnlyAsked self.new }
         ensures full { (result ≡ Err Error.Full)
             ↔ (self.old.cabling.limit < length self.old.cabling.lines + 3) }
         ensures refused { IfErr result (λ e. (e ≡ Error.Full) ⊎ (e ≡ Error.Memory)) }
@@ -163,6 +180,8 @@ impl<T: RouteTable> Frozen<T> {
     fn ask(&mut self, node: Addr, via: Option<Addr>, id: u8, name: &Tuple) -> Result<(), Error>
         ensures sent { OnOk result (Sends self.old (asks self.old.internet node via)
             (asked_data self.old.internet node id name.now) self.new) }
+        ensures frozen { IsFrozen self.new }
+        ensures asks { HaveOnlyAsked self.old → HaveOnlyAsked self.new }
         ensures ok { OnOk result
             (order_refusal self.old (asks self.old.internet node via) ≡ None) }
         ensures refused { IfErr result
@@ -189,6 +208,8 @@ impl<T: RouteTable> Frozen<T> {
     fn take(&mut self, stamp: u32, station: u16) -> Result<(), Error>
         requires there { station < length self.old.stations }
         ensures taken { OnOk result (TakenBy self.old stamp station self.new) }
+        ensures frozen { IsFrozen self.new }
+        ensures asks { HaveOnlyAsked self.old → HaveOnlyAsked self.new }
         ensures ok { OnOk result (take_refusal self.old stamp station ≡ None) }
         ensures refused { IfErr result (IsRefused (take_refusal self.old stamp station)) }
         ensures kept { OnErr result (self.new ≡ self.old) }
@@ -213,6 +234,11 @@ impl<T: RouteTable> Frozen<T> {
     /// entries of room; `Memory`. A refusal changes nothing.
     pub fn event(&mut self, event: &Event) -> Result<(), Error>
         ensures happens { OnOk result (Happens self.old event.now self.new) }
+        ensures conserved { IsEachOnce self.new }
+        ensures hops { HasHops self.new }
+        ensures carried { AreAllCarried self.new }
+        ensures looked_up { LooksUp self.old → OnlyAsks self.old.internet event.now
+            → LooksUp self.new }
         ensures ok { OnOk result (refusal self.old event.now ≡ None) }
         ensures refused { IfErr result (IsRefused (refusal self.old event.now)) }
         ensures kept { OnErr result (self.new ≡ self.old) }
@@ -258,8 +284,15 @@ impl<T: RouteTable> Frozen<T> {
     /// which, counted from 0, and why; the events before it have happened.
     pub fn run(&mut self, events: &[Event]) -> Result<(), (usize, Error)>
         ensures happened { OnOk result (Happened self.old events.now self.new) }
+        ensures conserved { IsEachOnce self.new }
+        ensures hops { HasHops self.new }
+        ensures carried { AreAllCarried self.new }
+        ensures looked_up { LooksUp self.old → Each (OnlyAsks self.old.internet) events.now
+            → LooksUp self.new }
         ensures stopped { IfErr result (λ stop. Stopped self.old events.now stop.0 stop.1 self.new) }
     {
+        // For the prover alone: what the run keeps holds where there are no events, too.
+        let _ = &self.places;
         let mut done = 0;
         for event in events {
             match self.event(event) {
@@ -275,8 +308,14 @@ impl<T: RouteTable> Frozen<T> {
     /// what was taken before it stays.
     pub fn drain(&mut self, most: u32) -> Result<bool, Error>
         ensures drained { IfOk result (λ none_left. DrainsTo self.old most none_left self.new) }
+        ensures conserved { IsEachOnce self.new }
+        ensures hops { HasHops self.new }
+        ensures carried { AreAllCarried self.new }
+        ensures looked_up { LooksUp self.old → LooksUp self.new }
         ensures stopped { IfErr result (λ e. DrainStops self.old most e self.new) }
     {
+        // For the prover alone: what the run keeps holds where nothing is taken, too.
+        let _ = &self.places;
         for _turn in 0..most {
             match self.cables.first() {
                 None => return Ok(true),

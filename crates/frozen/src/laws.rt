@@ -1,12 +1,16 @@
 //! What the audit's yes promises of every run. The function does nothing: what it ensures is the
 //! law.
 
-ghost use Rattle.std.specs.Prelude.{List, ℕ};
+ghost use Rattle.std.specs.Prelude.{◌≡◌, ◌≢◌, List, Some, ℕ, false, true};
+ghost use Rattle.audit.specs.Routing.{home};
 ghost use Rattle.cable_model.specs.Logs.{transcript};
+ghost use Rattle.ddp.specs.Bodies.{target};
+ghost use Rattle.frozen.specs.Promises.{HaveOnlyAsked, IsAtRest};
 ghost use Rattle.frozen.specs.Runs.{IsFrozen, Running};
 ghost use Rattle.legal_runs.specs.Carriage.{AreCarried, none_yet};
-ghost use Rattle.legal_runs.specs.Counts.{HasHopsLeft, IsConserved};
-ghost use Rattle.legal_runs.specs.Lookups.{IsLookedUp, NodesOnlyAsk};
+ghost use Rattle.legal_runs.specs.Counts.{HasHopsLeft, IsConserved, reached, sent};
+ghost use Rattle.legal_runs.specs.Lookups.{IsLookedUp, NodesOnlyAsk, asked, lookups, taken};
+ghost use Rattle.legal_runs.specs.Requests.{is_among, listing, zone_of};
 
 /// Whatever happened in a run over frozen tables (`Frozen::image` says that it is one): each
 /// datagram to a listed network is under way once or has reached its destination's cable once; it
@@ -22,4 +26,25 @@ pub fn promises_hold()
     ensures lookups { (r : Running) (k : List ℕ) → IsFrozen r
         → NodesOnlyAsk r.internet (transcript r.cabling)
         → IsLookedUp r.internet (transcript r.cabling) k }
+{}
+
+/// The headline, where nothing is pending any more: each datagram to a listed network has reached its
+/// destination's cable, as often as it was sent, and no other cable; and, where no node sent a forward
+/// request or a lookup, each request for names that was asked was taken, and has made one lookup on
+/// each cable that lists its zone, and none on another. This project's own.
+pub fn the_headline()
+    ensures arrived { (r : Running) (b : List ℕ) (c : ℕ) → IsFrozen r → IsAtRest r
+        → home r.internet (target b).net ≡ Some c
+        → sent b (transcript r.cabling) ≡ reached b c (transcript r.cabling) }
+    ensures nowhere_else { (r : Running) (b : List ℕ) (c d : ℕ) → IsFrozen r
+        → home r.internet (target b).net ≡ Some c → d ≢ c
+        → reached b d (transcript r.cabling) ≡ 0 }
+    ensures taken { (r : Running) (k : List ℕ) → IsFrozen r → IsAtRest r → HaveOnlyAsked r
+        → asked r.internet k (transcript r.cabling) ≡ taken r.internet k (transcript r.cabling) }
+    ensures looked_up { (r : Running) (k : List ℕ) (c : ℕ) → IsFrozen r → IsAtRest r
+        → HaveOnlyAsked r → is_among c (listing r.internet (zone_of k)) ≡ true
+        → lookups r.internet k c (transcript r.cabling) ≡ taken r.internet k (transcript r.cabling) }
+    ensures not_looked_up { (r : Running) (k : List ℕ) (c : ℕ) → IsFrozen r → IsAtRest r
+        → HaveOnlyAsked r → is_among c (listing r.internet (zone_of k)) ≡ false
+        → lookups r.internet k c (transcript r.cabling) ≡ 0 }
 {}

@@ -9,4 +9,4 @@ mod steps;
 
 pub use events::Event;
 pub use frozen::Frozen;
-pub use laws::promises_hold;
+pub use laws::{promises_hold, the_headline};

@@ -1,11 +1,24 @@
 use Rattle.std.proofs.Common.{◌+◌, length, take, ap, sym, subst, refl}
 use Rattle.std.proofs.lemmas.Option.{slice_get_read}
+use Rattle.cable_model.proofs.Counting.{each_at}
+use Rattle.frozen.proofs.Promised.{all_carried, each_once, has_hops, internet_stays}
 use Rattle.frozen.proofs.Refused.{take_one}
 use Rattle.frozen.specs.Events.{Another, Happened, Nothing, Stopped}
+use Rattle.frozen.specs.Promises.{LooksUp, OnlyAsks}
+use Rattle.frozen.specs.Runs.{IsFrozen}
+use Rattle.table_image.specs.Internet.{Internet}
 use Rattle.frozen.proofs.frozen.Frozen.run.Goals as goal
 
 pub loop-event-init : goal.loop-event-init
-loop-event-init g c = (refl, Nothing c.args.self.now)
+loop-event-init g c =
+    let frozen = subst IsFrozen c.self.view_is c.self.invariant.0 in (
+      refl,
+      Nothing c.args.self.now,
+      each_once c.args.self.now frozen,
+      has_hops c.args.self.now frozen,
+      all_carried c.args.self.now frozen,
+      λ up only. up,
+    )
 
 pub returns-in-Err-clause-stopped : goal.returns-in-Err-clause-stopped
 returns-in-Err-clause-stopped g c =
@@ -29,4 +42,15 @@ loop-event-preserved g c =
       subst (λ l. Happened c.args.self.now l c.event.new.self) (sym (take_one es k e at))
           (Another c.args.self.now c.loop-event.self c.event.new.self (take k es) e c.loop-event.invariant.1 c.in-Ok.ensures.ok
           c.in-Ok.ensures.happens),
+      c.event.ensures.conserved,
+      c.event.ensures.hops,
+      c.event.ensures.carried,
+      λ up only.
+          let here : OnlyAsks c.args.self.now.internet e = each_at (OnlyAsks c.args.self.now.internet) es k e at only in
+          c.event.ensures.looked_up (c.loop-event.invariant.5 up only)
+          (subst (λ (i : Internet). OnlyAsks i e)
+          (sym (internet_stays c.args.self.now c.loop-event.self (take k es) c.loop-event.invariant.1)) here),
     )
+
+pub returns-in-Err-clause-looked_up : goal.returns-in-Err-clause-looked_up
+returns-in-Err-clause-looked_up g c = λ up only. subst LooksUp (sym c.in-Err.ensures.kept) (c.loop-event.invariant.5 up only)

@@ -4,9 +4,11 @@ use Rattle.at_base.specs.declared.error.Error.TheVariants.{Memory}
 use Rattle.cable_model.specs.Logs.{Cabling, transcript}
 use Rattle.cable_model.specs.Outcomes.{AreSeatsOf, is_named}
 use Rattle.cable_model.specs.Pending.{pending}
+use Rattle.frozen.proofs.Asking.{took_asks}
 use Rattle.frozen.proofs.Keeps.{took_keeps}
 use Rattle.frozen.proofs.Refused.{both_err, of_both, refused_so}
 use Rattle.frozen.proofs.Seats.{seats_of_station}
+use Rattle.frozen.specs.Promises.{HaveOnlyAsked}
 use Rattle.frozen.specs.Runs.{IsFrozen, Running, TakenFrom, ports_of, take_refusal}
 use Rattle.image_stations.specs.Holders.{places_of}
 use Rattle.frozen.proofs.frozen.Frozen.take.Goals as goal
@@ -47,3 +49,23 @@ returns-clause-refused g c =
     (list_any (is_named c.args.stamp c.args.station) (pending c.self.inside.cables.seats (transcript c.self.inside.cables)))
     c.self.inside.cables.limit (length c.self.inside.cables.lines + 771) c.take.ensures.refused c.take.ensures.not_pending
     c.take.ensures.full)
+
+pub returns-clause-frozen : goal.returns-clause-frozen
+returns-clause-frozen g c = (invariant_of-self g c).0
+
+pub returns-clause-asks : goal.returns-clause-asks
+returns-clause-asks g c = λ only.
+    let old : Running = record { internet = c.self.inside.places; stations = c.self.inside.stations.items; cabling = c.self.inside.cables } in
+    let new : Running = record { internet = c.self.inside.places; stations = c.take.new.stations.items; cabling = c.take.new.cables } in
+    let before : HaveOnlyAsked old = subst HaveOnlyAsked (sym c.self.view_is) only in
+    of_both c.take.result
+    (TakenFrom (places_of c.self.inside.places) c.self.inside.stations.items c.self.inside.cables c.args.stamp c.args.station
+    c.take.new.stations.items c.take.new.cables)
+    ((c.take.new.cables ≡ c.self.inside.cables) × (c.take.new.stations.items ≡ c.self.inside.stations.items))
+    (HaveOnlyAsked new)
+    c.take.ensures.ok (both_err c.take.result (c.take.new.cables ≡ c.self.inside.cables)
+    (c.take.new.stations.items ≡ c.self.inside.stations.items) c.take.ensures.kept c.take.ensures.stations_stay)
+    (λ taken. took_asks old new c.args.stamp c.args.station c.self.invariant.0 (record { internet = refl; taken = taken }) before)
+    (λ same. subst HaveOnlyAsked
+    (ap (λ k. record { internet = c.self.inside.places; stations = c.self.inside.stations.items; cabling = k }) (sym same.0)
+    ∙ ap (λ s. record { internet = c.self.inside.places; stations = s; cabling = c.take.new.cables }) (sym same.1)) before)
