@@ -3,9 +3,10 @@
 
 ghost use Rattle.std.specs.Prelude.{◌≡◌, ◌≢◌, List, Some, ℕ, false, true};
 ghost use Rattle.audit.specs.Routing.{home};
+ghost use Rattle.audit.specs.Rules.{Passes};
 ghost use Rattle.cable_model.specs.Logs.{transcript};
 ghost use Rattle.ddp.specs.Bodies.{target};
-ghost use Rattle.frozen.specs.Promises.{HaveOnlyAsked, IsAtRest};
+ghost use Rattle.frozen.specs.Promises.{AreAllCarried, HaveOnlyAsked, IsAtRest, IsEachOnce};
 ghost use Rattle.frozen.specs.Runs.{IsFrozen, Running};
 ghost use Rattle.legal_runs.specs.Carriage.{AreCarried, none_yet};
 ghost use Rattle.legal_runs.specs.Counts.{HasHopsLeft, IsConserved, reached, sent};
@@ -28,11 +29,16 @@ pub fn promises_hold()
         → IsLookedUp r.internet (transcript r.cabling) k }
 {}
 
-/// The headline, where nothing is pending any more: each datagram to a listed network has reached its
-/// destination's cable, as often as it was sent, and no other cable; and, where no node sent a forward
-/// request or a lookup, each request for names that was asked was taken, and has made one lookup on
-/// each cable that lists its zone, and none on another. This project's own.
+/// The headline, in one place. In every run over frozen tables, which starts only where the audit says
+/// yes, each datagram to a listed network is under way once or has reached its destination's cable
+/// once, carried by at most fifteen routers over cables that they share; and, when no frame is
+/// pending and no node sent a forward request or a lookup, each broadcast request was taken, and has
+/// made one lookup on each cable that lists its zone, and none on another. Then each datagram to a
+/// listed network has reached its cable as often as it was sent. This project's own.
 pub fn the_headline()
+    ensures audited { (r : Running) → IsFrozen r → Passes r.internet }
+    ensures each_once { (r : Running) → IsFrozen r → IsEachOnce r }
+    ensures carried { (r : Running) → IsFrozen r → AreAllCarried r }
     ensures arrived { (r : Running) (b : List ℕ) (c : ℕ) → IsFrozen r → IsAtRest r
         → home r.internet (target b).net ≡ Some c
         → sent b (transcript r.cabling) ≡ reached b c (transcript r.cabling) }

@@ -1,4 +1,4 @@
-use Rattle.frozen.proofs.Promised.{at_rest_arrived, at_rest_looked_up, at_rest_not_looked_up, at_rest_taken, each_once}
+use Rattle.frozen.proofs.Promised.{all_carried, at_rest_arrived, at_rest_looked_up, at_rest_not_looked_up, at_rest_taken, each_once}
 use Rattle.frozen.proofs.laws.the_headline.Goals as goal
 
 pub returns-clause-arrived : goal.returns-clause-arrived
@@ -15,3 +15,12 @@ returns-clause-looked_up c = at_rest_looked_up
 
 pub returns-clause-not_looked_up : goal.returns-clause-not_looked_up
 returns-clause-not_looked_up c = at_rest_not_looked_up
+
+pub returns-clause-audited : goal.returns-clause-audited
+returns-clause-audited c = λ r f. f.passes
+
+pub returns-clause-each_once : goal.returns-clause-each_once
+returns-clause-each_once c = each_once
+
+pub returns-clause-carried : goal.returns-clause-carried
+returns-clause-carried c = all_carried
