@@ -1,0 +1,2 @@
+//! Tests of internet files.
+#![tactic(auto)]
