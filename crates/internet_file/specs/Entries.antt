@@ -1,8 +1,8 @@
 -- The entries of an internet file: tables with the keys that they are to have, and lists of these. This project's own.
-use Rattle.std.specs.Prelude.{ℕ, suc, ◌+◌, Bool, ◌&&◌, cond, List, [], ◌∷◌, Option, Some, None, Result, Ok, Err, length, min, nat_le, take}
+use Rattle.std.specs.Prelude.{ℕ, suc, ◌+◌, Bool, ◌&&◌, cond, List, [], ◌∷◌, Option, Some, None, Result, Ok, Err, bytes_eq, length, min, nat_le, take}
 use Rattle.std.specs.List.{list_all, list_any}
 use Rattle.std.specs.Result.{result_ok}
-use Rattle.toml.specs.Data.{Data, Members, no_members, member, as_table, get_member, same_key}
+use Rattle.toml.specs.Data.{Data, Members, no_members, member, as_table, get_member}
 use Rattle.at_base.specs.declared.error.Error.{Error}
 use Rattle.at_base.specs.declared.error.Error.TheVariants.{BadFile}
 use Rattle.at_base.specs.declared.error.Part.{Part}
@@ -16,7 +16,7 @@ keys (member k d ms) = k ∷ keys ms
 
 -- the table has no keys but these
 abbrev pub has_only : List (List ℕ) → Members → Bool
-has_only named ms = list_all (λ k. list_any (same_key k) named) (keys ms)
+has_only named ms = list_all (λ k. list_any (bytes_eq k) named) (keys ms)
 
 -- the members of a table that has no keys but these
 abbrev pub entry : List (List ℕ) → Data → Option Members
@@ -34,15 +34,16 @@ list_at key ms = of (get_member key ms)
     of None = Some []
     of (Some d) = list d
 
+-- what a value and those after it stand for, or the index of the first that stands for nothing
+abbrev pub before : {T : Type 0} → Option T → Result (List T) ℕ → Result (List T) ℕ
+before None _ = Err 0
+before (Some x) (Ok xs) = Ok (x ∷ xs)
+before (Some x) (Err k) = Err (suc k)
+
 -- what each of the values stands for, or the index of the first that stands for nothing
 abbrev pub each : {T : Type 0} → (Data → Option T) → List Data → Result (List T) ℕ
 each f [] = Ok []
-each {T} f (d ∷ ds) = of (f d) (each f ds)
-  where
-    of : Option T → Result (List T) ℕ → Result (List T) ℕ
-    of None _ = Err 0
-    of (Some x) (Ok xs) = Ok (x ∷ xs)
-    of (Some x) (Err k) = Err (suc k)
+each f (d ∷ ds) = before (f d) (each f ds)
 
 -- what each of the values stands for, if each stands for something
 abbrev pub all : {T : Type 0} → (Data → Option T) → List Data → Option (List T)

@@ -41,7 +41,7 @@ is_top ms =
     && is_listed (codes "lose") ms && is_listed (codes "action") ms
 
 -- how many ticks the file says, if its top is as it is to be
-abbrev pub ticks_of : Members → Result ℕ Error
+unfoldable pub ticks_of : Members → Result ℕ Error
 ticks_of ms = of (cond (is_top ms) (at (codes "ticks") (number 1 100000) ms) None)
   where
     of : Option ℕ → Result ℕ Error
@@ -52,15 +52,32 @@ ticks_of ms = of (cond (is_top ms) (at (codes "ticks") (number 1 100000) ms) Non
 abbrev pub entries_at : List ℕ → Members → List Data
 entries_at key ms = unwrap_or (list_at key ms) []
 
+-- the cables of a file, or the first at fault
+unfoldable pub cables_in : Members → Result (List Cable) Error
+cables_in ms = part_up_to 200 CablePart cable_of (entries_at (codes "cable") ms)
+
+-- the routers of a file with these cables, or the first at fault
+unfoldable pub routers_in : List Cable → Members → Result (List Router) Error
+routers_in cables ms = part_up_to 200 RouterPart (router_of cables) (entries_at (codes "router") ms)
+
+-- the nodes of a file with these cables, or the first at fault
+unfoldable pub nodes_in : List Cable → Members → Result (List Node) Error
+nodes_in cables ms = part_up_to 200 NodePart (node_of cables) (entries_at (codes "node") ms)
+
+-- the losses of a file with so many ticks and these cables, or the first at fault
+unfoldable pub losses_in : ℕ → List Cable → Members → Result (List Loss) Error
+losses_in ticks cables ms = part Lose (loss_of ticks cables) (entries_at (codes "lose") ms)
+
+-- the actions of a file with so many ticks and these nodes, or the first at fault
+unfoldable pub actions_in : ℕ → List Node → Members → Result (List Action) Error
+actions_in ticks nodes ms = part ActionPart (action_of ticks nodes) (entries_at (codes "action") ms)
+
 -- the plan that a document stands for, or its first fault
 abbrev pub file : Members → Result Planned Error
 file ms =
-    after (ticks_of ms) (λ ticks.
-    after (part_up_to 200 CablePart cable_of (entries_at (codes "cable") ms)) (λ cables.
-    after (part_up_to 200 RouterPart (router_of cables) (entries_at (codes "router") ms)) (λ routers.
-    after (part_up_to 200 NodePart (node_of cables) (entries_at (codes "node") ms)) (λ nodes.
-    after (part Lose (loss_of ticks cables) (entries_at (codes "lose") ms)) (λ losses.
-    after (part ActionPart (action_of ticks nodes) (entries_at (codes "action") ms)) (λ actions.
+    after (ticks_of ms) (λ ticks. after (cables_in ms) (λ cables. after (routers_in cables ms) (λ routers.
+    after (nodes_in cables ms) (λ nodes. after (losses_in ticks cables ms) (λ losses.
+    after (actions_in ticks nodes ms) (λ actions.
     Ok (record {
       ticks = ticks; cables = cables; routers = routers; nodes = nodes; losses = losses; actions = actions })))))))
 

@@ -76,14 +76,15 @@ abbrev pub with_service : List Named → Service → List Named
 with_service names s =
     with_name (record { socket = s.socket; enumerator = free_from 1 names; object = s.object; kind = s.kind }) names
 
--- the names of a node that registers the services in turn
-abbrev pub registered : List Named → List Service → Option (List Named)
+-- the names of a node with these ones that registers, in turn, the services that entries stand for
+abbrev pub registered : List Named → List Data → Option (List Named)
 registered names [] = Some names
-registered names (s ∷ services) = cond (may_register names s) (registered (with_service names s) services) None
+registered names (d ∷ ds) =
+    given (service_of d) (λ s. cond (may_register names s) (registered (with_service names s) ds) None)
 
 -- the names that the members of a node's entry stand for
 abbrev pub names_in : Members → Option (List Named)
-names_in ms = given (list_at (codes "name") ms) (λ ds. given (all service_of ds) (registered []))
+names_in ms = given (list_at (codes "name") ms) (registered [])
 
 -- the keys of a node
 abbrev pub node_keys : List (List ℕ)

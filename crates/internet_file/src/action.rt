@@ -106,24 +106,24 @@ fn lookup(table: &Table) -> Option<Do>
     })
 }
 
-fn is_word(word: &str, other: &str) -> bool
+fn is_word(word: &[u8], other: &[u8]) -> bool
     ensures { result ≡ same_bytes word.now other.now }
 {
-    word.as_bytes() == other.as_bytes()
+    word == other
 }
 
 /// What the word has a node do. Error: `Memory`.
-fn done(alloc: Global, table: &Table, word: &str) -> Result<Option<Do>, Error>
+fn done(alloc: Global, table: &Table, word: &[u8]) -> Result<Option<Do>, Error>
     ensures read { IfOk result (λ x. x ≡ doing (table_view table.now) word.now) }
     ensures refused { IsOkUnless result Error.Memory }
 {
-    if is_word(word, "send") {
+    if is_word(word, b"send") {
         if has_only(&["at", "node", "do", "to", "socket", "source", "type", "hex"], table) {
             return send(alloc, table);
         }
         return Ok(None);
     }
-    if is_word(word, "lookup")
+    if is_word(word, b"lookup")
         && has_only(&["at", "node", "do", "id", "object", "type", "zone"], table)
     {
         return Ok(lookup(table));
@@ -141,7 +141,7 @@ fn do_at(alloc: Global, table: &Table, key: &str) -> Result<Option<Do>, Error>
         return Ok(None);
     };
     match value.as_str() {
-        Some(word) => done(alloc, table, word),
+        Some(word) => done(alloc, table, word.as_bytes()),
         None => Ok(None),
     }
 }

@@ -1,7 +1,8 @@
 //! Bytes in hexadecimal digits.
 
-ghost use Rattle.std.specs.Prelude.{◌≡◌, ◌∷◌, [], ◌==◌, Some, IfOk, IsOkUnless};
-ghost use Rattle.script.specs.Words.{given, nibble as nibble_of};
+ghost use Rattle.std.specs.Prelude.{◌≡◌, ◌<◌, ◌∷◌, ◌+◌, Some, None, length};
+ghost use Rattle.std.specs.Prelude.{IfOk, IfSome, IfNone, IsOkUnless};
+ghost use Rattle.script.specs.Words.{given, pairs as pairs_of};
 ghost use Rattle.toml.specs.View.{view};
 ghost use Rattle.internet_file.specs.Values.{hardware as hardware_of, hex as hex_of};
 
@@ -10,28 +11,49 @@ use script::hex::{nibble, pairs};
 use std::alloc::Global;
 use toml::Value;
 
-/// The byte of two hexadecimal digits, if they are that.
-fn pair(high: u8, low: u8) -> Option<u8>
-    ensures { result ≡ given (nibble_of high) (λ h. given (nibble_of low) (λ l. Some (h * 16 + l))) }
+/// The byte of the first two of some hexadecimal digits, and the digits after them.
+fn first_pair(digits: &[u8]) -> Option<(u8, &[u8])>
+    requires { 0 < length digits.now }
+    ensures some { IfSome result (λ x.
+        pairs_of digits.now ≡ given (pairs_of x.1.now) (λ more. Some (x.0 ∷ more))) }
+    ensures none { IfNone result (pairs_of digits.now ≡ None) }
+    ensures shorter { IfSome result (λ x. length digits.now ≡ length x.1.now + 2) }
 {
-    Some(nibble(high)? * 16 + nibble(low)?)
+    match digits {
+        [high, low, rest @ ..] => match (nibble(*high), nibble(*low)) {
+            (Some(high), Some(low)) => Some((high * 16 + low, rest)),
+            _ => None,
+        },
+        _ => None,
+    }
+}
+
+/// The six bytes of twelve hexadecimal digits.
+fn six_bytes(digits: &[u8]) -> Option<[u8; 6]>
+    requires { length digits.now ≡ 12 }
+    ensures { result ≡ pairs_of digits.now }
+{
+    let (a, rest) = first_pair(digits)?;
+    let (b, rest) = first_pair(rest)?;
+    let (c, rest) = first_pair(rest)?;
+    let (d, rest) = first_pair(rest)?;
+    let (e, rest) = first_pair(rest)?;
+    let (f, rest) = first_pair(rest)?;
+    match rest {
+        [] => Some([a, b, c, d, e, f]),
+        _ => None,
+    }
 }
 
 /// A hardware address: twelve hexadecimal digits.
 pub(crate) fn hardware(value: &Value) -> Option<Hw>
     ensures { result ≡ hardware_of (view value.now) }
 {
-    match value.as_str()?.as_bytes() {
-        [a, b, c, d, e, f, g, h, i, j, k, l] => Some(Hw([
-            pair(*a, *b)?,
-            pair(*c, *d)?,
-            pair(*e, *f)?,
-            pair(*g, *h)?,
-            pair(*i, *j)?,
-            pair(*k, *l)?,
-        ])),
-        _ => None,
+    let digits = value.as_str()?.as_bytes();
+    if digits.len() != 12 {
+        return None;
     }
+    Some(Hw(six_bytes(digits)?))
 }
 
 /// An even number of hexadecimal digits. Error: `Memory`.

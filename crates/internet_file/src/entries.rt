@@ -1,6 +1,6 @@
 //! Lists of entries.
 
-ghost use Rattle.std.specs.Prelude.{◌≡◌, ◌⊎◌, map, Ok, Err, IfOk, IfErr, IsOkUnless};
+ghost use Rattle.std.specs.Prelude.{◌≡◌, ◌<◌, ◌⊎◌, map, take, Ok, Err, IfOk, IfErr, IsOkUnless};
 ghost use Rattle.std.specs.Prelude.{List, ℕ, Option};
 ghost use Rattle.toml.specs.Data.{Data};
 ghost use Rattle.toml.specs.View.{view};
@@ -36,13 +36,11 @@ fn each<R: Reader>(
     ensures refused { IsOkUnless result Error.Memory }
 {
     let mut entries = Vec::with_capacity(alloc, values.len())?;
-    let mut index = 0;
     for value in values {
         let Some(entry) = reader.read_one(alloc, value)? else {
-            return Ok(Err(index));
+            return Ok(Err(entries.len()));
         };
         entries.push(entry)?;
-        index += 1;
     }
     Ok(Ok(Listed::from_vec(entries)))
 }
@@ -85,6 +83,17 @@ pub(crate) fn part<R: Reader>(
     }
 }
 
+/// The values up to a limit.
+fn up_to(limit: u32, values: &[Value]) -> &[Value]
+    ensures { map view result.now ≡ take limit (map view values.now) }
+{
+    if values.len() <= limit as usize {
+        values
+    } else {
+        &values[..limit as usize]
+    }
+}
+
 /// What the entries of a part stand for. Errors: `BadFile` with the number of the first that stands
 /// for nothing, or that of the one past the limit; `Memory`.
 pub(crate) fn part_up_to<R: Reader>(
@@ -101,9 +110,13 @@ pub(crate) fn part_up_to<R: Reader>(
         (part_up_to_of limit name (R.meaning reader.now) (map view values.now) ≡ Err e)
         ⊎ (e ≡ Error.Memory)) }
 {
+    let entries = match part(alloc, name, reader, up_to(limit, values)) {
+        Ok(entries) => entries,
+        Err(stop) => return Err(stop),
+    };
     if values.len() <= limit as usize {
-        return part(alloc, name, reader, values);
+        Ok(entries)
+    } else {
+        Err(Error::BadFile(name, limit + 1))
     }
-    part(alloc, name, reader, &values[..limit as usize])?;
-    Err(Error::BadFile(name, limit + 1))
 }

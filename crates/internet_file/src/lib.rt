@@ -11,6 +11,7 @@ mod listed;
 mod loss;
 mod names;
 mod node;
+mod parts;
 mod plan;
 mod port;
 mod reading;

@@ -1,16 +1,15 @@
 //! The names of a node, which registers its services in turn.
 
-ghost use Rattle.std.specs.Prelude.{◌≡◌, ◌≤◌, [], true, IfOk, IsOkUnless};
-ghost use Rattle.toml.specs.View.{table_view};
+ghost use Rattle.std.specs.Prelude.{◌≡◌, ◌≤◌, [], true, map, IfOk, IsOkUnless};
+ghost use Rattle.toml.specs.View.{table_view, view};
 ghost use Rattle.internet_file.specs.Stations.{may_register, names_in, registered, with_service};
 
-use crate::entries::all;
 use crate::key::list_at;
-use crate::service::{Service, Services};
+use crate::service::{Service, service_of};
 use at_base::Error;
 use nbp::Names;
 use std::alloc::Global;
-use toml::Table;
+use toml::{Table, Value};
 
 /// Registers the service, if a node with these names may. Error: `Memory`.
 fn register(names: &mut Names, service: &Service) -> Result<bool, Error>
@@ -20,6 +19,8 @@ fn register(names: &mut Names, service: &Service) -> Result<bool, Error>
     ensures added { IfOk result (λ b. b ≡ true → names.new ≡ with_service names.old service.now) }
     ensures refused { IsOkUnless result Error.Memory }
 {
+    // Read for the prover alone: what is known of all names is known of these.
+    let _names = names.entries();
     match names.register(service.object, service.kind, service.socket) {
         Ok(_) => Ok(true),
         Err(Error::Memory) => Err(Error::Memory),
@@ -27,14 +28,18 @@ fn register(names: &mut Names, service: &Service) -> Result<bool, Error>
     }
 }
 
-/// The names of a node that registers the services in turn, if it may. Error: `Memory`.
-fn registered_of(alloc: Global, services: &[Service]) -> Result<Option<Names>, Error>
-    ensures read { IfOk result (λ x. x ≡ registered [] services.now) }
+/// The names of a node that registers the services of these entries in turn, if it may. Error:
+/// `Memory`.
+fn registered_of(alloc: Global, values: &[Value]) -> Result<Option<Names>, Error>
+    ensures read { IfOk result (λ x. x ≡ registered [] (map view values.now)) }
     ensures refused { IsOkUnless result Error.Memory }
 {
     let mut names = Names::new(alloc)?;
-    for service in services {
-        if !register(&mut names, service)? {
+    for value in values {
+        let Some(service) = service_of(value) else {
+            return Ok(None);
+        };
+        if !register(&mut names, &service)? {
             return Ok(None);
         }
     }
@@ -46,11 +51,8 @@ pub(crate) fn names_at(alloc: Global, table: &Table) -> Result<Option<Names>, Er
     ensures read { IfOk result (λ x. x ≡ names_in (table_view table.now)) }
     ensures refused { IsOkUnless result Error.Memory }
 {
-    let Some(values) = list_at(table, "name") else {
-        return Ok(None);
-    };
-    let Some(services) = all(alloc, &Services, values)? else {
-        return Ok(None);
-    };
-    registered_of(alloc, services.as_slice())
+    match list_at(table, "name") {
+        Some(values) => registered_of(alloc, values),
+        None => Ok(None),
+    }
 }

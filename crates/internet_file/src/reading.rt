@@ -4,14 +4,9 @@ ghost use Rattle.std.specs.Prelude.{◌≡◌, ◌⊎◌, Ok, Err, IfOk, IfErr};
 ghost use Rattle.toml.specs.View.{table_view};
 ghost use Rattle.internet_file.specs.Files.{IsFile, IsFileRefused, file};
 
-use crate::action::Actions;
-use crate::cable::Cables;
-use crate::entries::{part, part_up_to};
-use crate::loss::Losses;
-use crate::node::Nodes;
+use crate::parts::{read_actions, read_cables, read_losses, read_nodes, read_routers};
 use crate::plan::Plan;
-use crate::router::Routers;
-use crate::top::{entries_at, ticks};
+use crate::top::ticks;
 use at_base::{Error, Part};
 use std::alloc::Global;
 use toml::Table;
@@ -22,19 +17,30 @@ fn plan(alloc: Global, table: &Table) -> Result<Plan, Error>
     ensures refused { IfErr result (λ e.
         (file (table_view table.now) ≡ Err e) ⊎ (e ≡ Error.Memory)) }
 {
-    let ticks = ticks(table)?;
-    let values = entries_at(table, "cable");
-    let cables = part_up_to(alloc, 200, Part::Cable, &Cables, values)?;
-    let on = cables.as_slice();
-    let values = entries_at(table, "router");
-    let routers = part_up_to(alloc, 200, Part::Router, &Routers { cables: on }, values)?;
-    let values = entries_at(table, "node");
-    let nodes = part_up_to(alloc, 200, Part::Node, &Nodes { cables: on }, values)?;
-    let values = entries_at(table, "lose");
-    let losses = part(alloc, Part::Lose, &Losses { ticks, cables: on }, values)?;
-    let of = nodes.as_slice();
-    let values = entries_at(table, "action");
-    let actions = part(alloc, Part::Action, &Actions { ticks, nodes: of }, values)?;
+    let ticks = match ticks(table) {
+        Ok(ticks) => ticks,
+        Err(stop) => return Err(stop),
+    };
+    let cables = match read_cables(alloc, table) {
+        Ok(cables) => cables,
+        Err(stop) => return Err(stop),
+    };
+    let routers = match read_routers(alloc, cables.as_slice(), table) {
+        Ok(routers) => routers,
+        Err(stop) => return Err(stop),
+    };
+    let nodes = match read_nodes(alloc, cables.as_slice(), table) {
+        Ok(nodes) => nodes,
+        Err(stop) => return Err(stop),
+    };
+    let losses = match read_losses(alloc, ticks, cables.as_slice(), table) {
+        Ok(losses) => losses,
+        Err(stop) => return Err(stop),
+    };
+    let actions = match read_actions(alloc, ticks, nodes.as_slice(), table) {
+        Ok(actions) => actions,
+        Err(stop) => return Err(stop),
+    };
     Ok(Plan {
         ticks,
         cables,

@@ -1,14 +1,12 @@
 //! Services that a node registers.
 
-ghost use Rattle.std.specs.Prelude.{◌≡◌, ◌≤◌};
+ghost use Rattle.std.specs.Prelude.{◌≡◌, ◌≤◌, IfSome};
 ghost use Rattle.toml.specs.View.{view};
-ghost use Rattle.internet_file.specs.Stations.{service_of};
+ghost use Rattle.internet_file.specs.Stations.{service_of as said};
 
-use crate::entries::Reader;
 use crate::fields::{number_at, short_at};
 use crate::key::entry;
-use at_base::{Error, Text32};
-use std::alloc::Global;
+use at_base::Text32;
 use toml::Value;
 
 /// A service that a node registers.
@@ -20,8 +18,10 @@ pub(crate) struct Service {
 }
 
 /// The service that an entry of a node's names stands for.
-fn read_service(value: &Value) -> Option<Service>
-    ensures { result ≡ service_of (view value.now) }
+pub(crate) fn service_of(value: &Value) -> Option<Service>
+    ensures value { result ≡ said (view value.now) }
+    ensures low { IfSome result (λ s. 1 ≤ s.socket) }
+    ensures high { IfSome result (λ s. s.socket ≤ 254) }
 {
     let table = entry(&["object", "type", "socket"], value)?;
     Some(Service {
@@ -29,18 +29,4 @@ fn read_service(value: &Value) -> Option<Service>
         kind: short_at(table, "type", 0)?,
         socket: number_at(table, "socket", 1, 254)? as u8,
     })
-}
-
-/// Reads services.
-#[derive(Clone, Copy)]
-pub(crate) struct Services;
-
-impl Reader for Services {
-    type Entry = Service;
-
-    ghost meaning = { λ _ d. service_of d };
-
-    fn read_one(&self, _alloc: Global, value: &Value) -> Result<Option<Service>, Error> {
-        Ok(read_service(value))
-    }
 }

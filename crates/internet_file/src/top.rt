@@ -31,6 +31,7 @@ fn is_top(table: &Table) -> bool
 }
 
 /// How many ticks the file says. Error: `BadFile(Top, 0)` where its top isn't as it is to be.
+#[tactic(auto, unfolding(crate::specs::Files::ticks_of))]
 pub(crate) fn ticks(table: &Table) -> Result<u32, Error>
     ensures { result ≡ ticks_of (table_view table.now) }
 {
