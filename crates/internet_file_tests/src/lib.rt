@@ -1,2 +1,5 @@
-//! Tests of internet files.
+//! Tests of internet_file through its public call.
 #![tactic(auto)]
+
+#[cfg(test)]
+mod tests;
