@@ -156,3 +156,13 @@ pub(crate) fn is_example(plan: &Plan) -> bool {
         && plan.losses().is_empty()
         && has_actions(plan)
 }
+
+/// What is before the first place of a line in a text, and what is after it.
+pub(crate) fn around<'a>(text: &'a [u8], line: &[u8]) -> (&'a [u8], &'a [u8]) {
+    for at in 0..text.len() {
+        if text[at..].starts_with(line) {
+            return (&text[..at], &text[at + line.len()..]);
+        }
+    }
+    (text, &[])
+}
