@@ -14,6 +14,7 @@ values_of_items [] = refl
 values_of_items (d ∷ ds) = ap (λ l. d ∷ l) (values_of_items ds)
 
 -- a test of all keys of a map is one of the keys of its members
-pub all_keys : (test : List ℕ → Bool) (es : List (String Global × Value)) → list_all (λ k. test (string_bytes k)) (keys_of es) ≡ list_all test (keys (members_view es))
+pub all_keys : (test : List ℕ → Bool) (es : List (String Global × Value))
+    → list_all (λ k. test (string_bytes k)) (keys_of es) ≡ list_all test (keys (members_view es))
 all_keys test [] = refl
 all_keys test (e ∷ es) = ap (λ b. test (string_bytes e.0) && b) (all_keys test es)

@@ -1,5 +1,5 @@
 -- What happens in the internet of a file: frames that are lost, and actions of its nodes. This project's own.
-use Rattle.std.specs.Prelude.{ℕ, cond, List, [], ◌∷◌, Option, Some, None, codes, nat_le}
+use Rattle.std.specs.Prelude.{ℕ, cond, List, [], ◌∷◌, Option, Some, None, codes}
 use Rattle.toml.specs.Data.{Data, Members, as_str, as_table}
 use Rattle.at_base.specs.Text.{same_bytes}
 use Rattle.script.specs.Words.{given}

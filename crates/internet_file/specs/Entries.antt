@@ -1,5 +1,6 @@
 -- The entries of an internet file: tables with the keys that they are to have, and lists of these. This project's own.
-use Rattle.std.specs.Prelude.{ℕ, suc, ◌+◌, Bool, ◌&&◌, cond, List, [], ◌∷◌, Option, Some, None, Result, Ok, Err, bytes_eq, length, min, nat_le, take}
+use Rattle.std.specs.Prelude.{ℕ, suc, ◌+◌, Bool, cond, List, [], ◌∷◌, Option, Some, None, Result, Ok, Err, bytes_eq, length, min}
+use Rattle.std.specs.Prelude.{nat_le, take}
 use Rattle.std.specs.List.{list_all, list_any}
 use Rattle.std.specs.Result.{result_ok}
 use Rattle.toml.specs.Data.{Data, Members, no_members, member, as_table, get_member}

@@ -1,10 +1,12 @@
 -- Internet files: what a network is made of, and what happens in it when. This project's own.
-use Rattle.std.specs.Prelude.{◌≡◌, ◌⊎◌, ℕ, Bool, ◌&&◌, cond, List, [], ◌∷◌, Option, Some, None, Result, Ok, Err, IsUtf8, codes, is_some, unwrap_or}
+use Rattle.std.specs.Prelude.{◌≡◌, ◌⊎◌, ℕ, Bool, ◌&&◌, cond, List, [], ◌∷◌, Option, Some, None, Result, Ok, Err, IsUtf8}
+use Rattle.std.specs.Prelude.{codes, is_some, unwrap_or}
 use Rattle.toml.specs.Data.{Data, Members}
 use Rattle.toml.specs.Parse.{parse_document}
 use Rattle.at_base.specs.declared.error.Error.{Error}
 use Rattle.at_base.specs.declared.error.Error.TheVariants.{BadFile, Memory}
-use Rattle.at_base.specs.declared.error.Part.TheVariants.{Text, Top, Cable as CablePart, Router as RouterPart, Node as NodePart, Lose, Action as ActionPart}
+use Rattle.at_base.specs.declared.error.Part.TheVariants.{Text, Top, Cable as CablePart, Router as RouterPart, Node as NodePart}
+use Rattle.at_base.specs.declared.error.Part.TheVariants.{Lose, Action as ActionPart}
 use Rattle.internet_file.specs.Actions.{action_of, loss_of}
 use Rattle.internet_file.specs.Cables.{cable_of}
 use Rattle.internet_file.specs.Entries.{after, at, has_only, list_at, part, part_up_to}
@@ -79,7 +81,13 @@ file ms =
     after (nodes_in cables ms) (λ nodes. after (losses_in ticks cables ms) (λ losses.
     after (actions_in ticks nodes ms) (λ actions.
     Ok (record {
-      ticks = ticks; cables = cables; routers = routers; nodes = nodes; losses = losses; actions = actions })))))))
+      ticks = ticks;
+      cables = cables;
+      routers = routers;
+      nodes = nodes;
+      losses = losses;
+      actions = actions;
+    })))))))
 
 -- the text is the TOML document with these members
 abbrev pub IsDocument : List ℕ → Members → Type 0

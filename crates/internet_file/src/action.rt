@@ -118,7 +118,10 @@ fn done(alloc: Global, table: &Table, word: &[u8]) -> Result<Option<Do>, Error>
     ensures refused { IsOkUnless result Error.Memory }
 {
     if is_word(word, b"send") {
-        if has_only(&["at", "node", "do", "to", "socket", "source", "type", "hex"], table) {
+        if has_only(
+            &["at", "node", "do", "to", "socket", "source", "type", "hex"],
+            table,
+        ) {
             return send(alloc, table);
         }
         return Ok(None);

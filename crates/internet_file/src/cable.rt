@@ -1,7 +1,7 @@
 //! Cables.
 
 ghost use Rattle.std.specs.Prelude.{◌≡◌, IfOk, IsOkUnless};
-ghost use Rattle.toml.specs.View.{table_view, view};
+ghost use Rattle.toml.specs.View.{table_view};
 ghost use Rattle.internet_file.specs.Cables.{cable_of, zones as zones_of};
 ghost use Rattle.internet_file.specs.Entries.{at};
 ghost use Rattle.internet_file.specs.Values.{zone as zone_of};

@@ -1,7 +1,7 @@
 //! Lists of entries.
 
 ghost use Rattle.std.specs.Prelude.{◌≡◌, ◌<◌, ◌⊎◌, map, take, Ok, Err, IfOk, IfErr, IsOkUnless};
-ghost use Rattle.std.specs.Prelude.{List, ℕ, Option};
+ghost use Rattle.std.specs.Prelude.{Option};
 ghost use Rattle.toml.specs.Data.{Data};
 ghost use Rattle.toml.specs.View.{view};
 ghost use Rattle.internet_file.specs.Entries.{all as all_of, each as each_of};
@@ -77,7 +77,11 @@ pub(crate) fn part<R: Reader>(
     match each(alloc, reader, values)? {
         Ok(entries) => Ok(entries),
         Err(index) => {
-            let index = if index < 4294967295 { index as u32 } else { 4294967294 };
+            let index = if index < 4294967295 {
+                index as u32
+            } else {
+                4294967294
+            };
             Err(Error::BadFile(name, index + 1))
         }
     }

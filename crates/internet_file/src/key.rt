@@ -5,14 +5,16 @@ ghost use Rattle.std.specs.BTreeMap.{keys as btree_keys};
 ghost use Rattle.std.specs.List.{list_all, list_any};
 ghost use Rattle.toml.specs.Data.{get_member};
 ghost use Rattle.toml.specs.View.{table_view, view};
-ghost use Rattle.internet_file.specs.Entries.{entry as entry_of, has_only as only, list_at as list_of};
+ghost use Rattle.internet_file.specs.Entries.{entry as entry_of, has_only as only};
+ghost use Rattle.internet_file.specs.Entries.{list_at as list_of};
 
 use crate::value::list;
 use toml::{Table, Value};
 
 /// The value at the key, if there is one.
 pub(crate) fn get<'a>(table: &'a Table, key: &str) -> Option<&'a Value>
-    ensures some { IfSome result (λ v. get_member key.now (table_view table.now) ≡ Some (view v.now)) }
+    ensures some { IfSome result (λ v.
+        get_member key.now (table_view table.now) ≡ Some (view v.now)) }
     ensures none { IfNone result (get_member key.now (table_view table.now) ≡ None) }
 {
     match table.get(key) {
@@ -33,7 +35,8 @@ fn is_among(key: &str, named: &[&str]) -> bool
 
 /// Whether each key of the table is one of these.
 fn are_among(named: &[&str], table: &Table) -> bool
-    ensures { result ≡ list_all (λ k. list_any (bytes_eq (string_bytes k)) (map (λ k. k.now) named.now))
+    ensures { result ≡ list_all
+        (λ k. list_any (bytes_eq (string_bytes k)) (map (λ n. n.now) named.now))
         (btree_keys table.now) }
 {
     table.keys().all(|key| is_among(key.as_str(), named))

@@ -1,6 +1,5 @@
 //! Nodes.
 
-ghost use Rattle.std.specs.Prelude.{◌≡◌};
 ghost use Rattle.internet_file.specs.Stations.{node_of};
 
 use crate::cable::Cable;

@@ -28,18 +28,32 @@ pub(crate) fn read_cables(alloc: Global, table: &Table) -> Result<Listed<Cable>,
 
 /// The routers, at most 200. Errors: the first at fault; `Memory`.
 #[tactic(auto, unfolding(crate::specs::Files::routers_in))]
-pub(crate) fn read_routers(alloc: Global, cables: &[Cable], table: &Table) -> Result<Listed<Router>, Error>
+pub(crate) fn read_routers(
+    alloc: Global,
+    cables: &[Cable],
+    table: &Table,
+) -> Result<Listed<Router>, Error>
     ensures read { IfOk result (λ xs. routers_in cables.now (table_view table.now) ≡ Ok xs) }
     ensures refused { IfErr result (λ e.
         (routers_in cables.now (table_view table.now) ≡ Err e) ⊎ (e ≡ Error.Memory)) }
 {
     let reader = Routers { cables };
-    part_up_to(alloc, 200, Part::Router, &reader, entries_at(table, "router"))
+    part_up_to(
+        alloc,
+        200,
+        Part::Router,
+        &reader,
+        entries_at(table, "router"),
+    )
 }
 
 /// The nodes, at most 200. Errors: the first at fault; `Memory`.
 #[tactic(auto, unfolding(crate::specs::Files::nodes_in))]
-pub(crate) fn read_nodes(alloc: Global, cables: &[Cable], table: &Table) -> Result<Listed<Node>, Error>
+pub(crate) fn read_nodes(
+    alloc: Global,
+    cables: &[Cable],
+    table: &Table,
+) -> Result<Listed<Node>, Error>
     ensures read { IfOk result (λ xs. nodes_in cables.now (table_view table.now) ≡ Ok xs) }
     ensures refused { IfErr result (λ e.
         (nodes_in cables.now (table_view table.now) ≡ Err e) ⊎ (e ≡ Error.Memory)) }
@@ -50,7 +64,12 @@ pub(crate) fn read_nodes(alloc: Global, cables: &[Cable], table: &Table) -> Resu
 
 /// The losses. Errors: the first at fault; `Memory`.
 #[tactic(auto, unfolding(crate::specs::Files::losses_in))]
-pub(crate) fn read_losses(alloc: Global, ticks: u32, cables: &[Cable], table: &Table) -> Result<Listed<Loss>, Error>
+pub(crate) fn read_losses(
+    alloc: Global,
+    ticks: u32,
+    cables: &[Cable],
+    table: &Table,
+) -> Result<Listed<Loss>, Error>
     ensures read { IfOk result (λ xs. losses_in ticks cables.now (table_view table.now) ≡ Ok xs) }
     ensures refused { IfErr result (λ e.
         (losses_in ticks cables.now (table_view table.now) ≡ Err e) ⊎ (e ≡ Error.Memory)) }
@@ -64,7 +83,12 @@ pub(crate) fn read_losses(alloc: Global, ticks: u32, cables: &[Cable], table: &T
 
 /// The actions. Errors: the first at fault; `Memory`.
 #[tactic(auto, unfolding(crate::specs::Files::actions_in))]
-pub(crate) fn read_actions(alloc: Global, ticks: u32, nodes: &[Node], table: &Table) -> Result<Listed<Action>, Error>
+pub(crate) fn read_actions(
+    alloc: Global,
+    ticks: u32,
+    nodes: &[Node],
+    table: &Table,
+) -> Result<Listed<Action>, Error>
     ensures read { IfOk result (λ xs. actions_in ticks nodes.now (table_view table.now) ≡ Ok xs) }
     ensures refused { IfErr result (λ e.
         (actions_in ticks nodes.now (table_view table.now) ≡ Err e) ⊎ (e ≡ Error.Memory)) }

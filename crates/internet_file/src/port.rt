@@ -1,6 +1,6 @@
 //! Ports: where routers and nodes are on cables.
 
-ghost use Rattle.std.specs.Prelude.{◌≡◌, ◌≤◌, IfOk, IsOkUnless, length};
+ghost use Rattle.std.specs.Prelude.{◌≡◌, ◌≤◌, IfOk, IsOkUnless};
 ghost use Rattle.toml.specs.View.{table_view};
 ghost use Rattle.internet_file.specs.Entries.{at};
 ghost use Rattle.internet_file.specs.Stations.{port_in, port_of, tries as tries_of};
@@ -52,7 +52,8 @@ fn tries_at(
     cable: u16,
 ) -> Result<Option<Listed<Addr>>, Error>
     requires { 1 ≤ cable }
-    ensures read { IfOk result (λ x. x ≡ at key.now (tries_of cables.now cable) (table_view table.now)) }
+    ensures read { IfOk result (λ x.
+        x ≡ at key.now (tries_of cables.now cable) (table_view table.now)) }
     ensures refused { IsOkUnless result Error.Memory }
 {
     let Some(value) = get(table, key) else {

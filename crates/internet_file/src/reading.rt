@@ -51,8 +51,8 @@ fn plan(alloc: Global, table: &Table) -> Result<Plan, Error>
     })
 }
 
-/// Reads an internet file: TOML with the tables `cable`, `router`, `node`, `lose` and `action`, each
-/// of which may be absent, and with the number of `ticks`. docs/FORMATS.md has their keys.
+/// Reads an internet file: TOML with a number of `ticks`, and with the tables `cable`, `router`,
+/// `node`, `lose` and `action`, each of which may be absent. docs/FORMATS.md has their keys.
 ///
 /// Errors: `BadFile` with `Text` and 0 where the text is no TOML; with `Top` and 0 where `ticks` is
 /// absent or wrong, a key at the top is none of these, or a table's name is that of no list; with

@@ -4,8 +4,8 @@ ghost use Rattle.std.specs.Prelude.{◌≡◌, not, option_copied, IfOk, IsOkUnl
 ghost use Rattle.std.specs.List.{list_all};
 ghost use Rattle.toml.specs.View.{table_view};
 ghost use Rattle.internet_file.specs.Entries.{at};
-ghost use Rattle.internet_file.specs.Stations.{are_apart as apart, meet as meet_on, cable_at as cable_of};
-ghost use Rattle.internet_file.specs.Stations.{ports as ports_of, router_of};
+ghost use Rattle.internet_file.specs.Stations.{are_apart as apart, cable_at as cable_of};
+ghost use Rattle.internet_file.specs.Stations.{meet as meet_on, ports as ports_of, router_of};
 
 use crate::cable::Cable;
 use crate::entries::{Reader, all};

@@ -1,6 +1,6 @@
 //! The top of a file.
 
-ghost use Rattle.std.specs.Prelude.{◌≡◌, map, Ok, Err, IfSome, IfNone};
+ghost use Rattle.std.specs.Prelude.{◌≡◌, map, Ok, Err};
 ghost use Rattle.toml.specs.View.{table_view, view};
 ghost use Rattle.at_base.specs.declared.error.Part.TheVariants.{Top};
 ghost use Rattle.internet_file.specs.Files.{entries_at as entries_of, is_listed as listed};
@@ -22,8 +22,10 @@ fn is_listed(table: &Table, key: &str) -> bool
 fn is_top(table: &Table) -> bool
     ensures { result ≡ top (table_view table.now) }
 {
-    has_only(&["ticks", "cable", "router", "node", "lose", "action"], table)
-        && is_listed(table, "cable")
+    has_only(
+        &["ticks", "cable", "router", "node", "lose", "action"],
+        table,
+    ) && is_listed(table, "cable")
         && is_listed(table, "router")
         && is_listed(table, "node")
         && is_listed(table, "lose")

@@ -5,6 +5,7 @@ mod example;
 mod more;
 mod nodes;
 mod reading;
+mod readme;
 mod routers;
 mod values;
 mod whole;
@@ -15,6 +16,7 @@ use example::{EXAMPLE, around, is_example};
 use more::{MORE, is_more, names_text, ports_text};
 use nodes::NODES;
 use reading::{fault_of, plan_of};
+use readme::{FILE, datagrams_again};
 use routers::ROUTERS;
 use std::alloc::Global;
 use std::test::*;
@@ -122,5 +124,13 @@ fn the_example_changed_has_one_fault(rt: HostRuntime) -> Result<(), Fail> {
         let fault = fault_of(rt.alloc(), &[(1, before), (1, instead), (1, after)])?;
         assert_eq!(rt; fault, Some((part, index)));
     }
+    Ok(())
+}
+
+#[test]
+fn the_readme_counts_datagrams(rt: HostRuntime) -> Result<(), Fail> {
+    assert_eq!(rt; datagrams_again(rt.alloc(), FILE)?, 1);
+    assert_eq!(rt; datagrams_again(rt.alloc(), EXAMPLE)?, 1);
+    assert_eq!(rt; datagrams_again(rt.alloc(), MORE)?, 1);
     Ok(())
 }

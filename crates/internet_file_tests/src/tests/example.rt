@@ -1,6 +1,6 @@
 //! An example file, and whether a plan is what it says.
 
-use at_base::{Addr, Error, Hw};
+use at_base::{Addr, Hw};
 use internet_file::{Action, Cable, Do, Node, Plan, Port, Router};
 use nbp::Named;
 
@@ -43,7 +43,10 @@ hex = "0170696E67"
 
 /// Whether a cable has this range and these zones.
 pub(crate) fn is_cable(cable: &Cable, start: u16, end: u16, zones: &[&[u8]]) -> bool {
-    if cable.range.start() != start || cable.range.end() != end || cable.zones.len() != zones.len() {
+    if cable.range.start() != start
+        || cable.range.end() != end
+        || cable.zones.len() != zones.len()
+    {
         return false;
     }
     let mut index = 0;
@@ -92,7 +95,13 @@ pub(crate) fn is_name(name: &Named, object: &[u8], kind: &[u8], socket: u8, numb
 /// Whether an action sends `ping` as the example says.
 fn is_ping(action: &Action) -> bool {
     match &action.action {
-        Do::Send { to, socket, source, kind, hex } => {
+        Do::Send {
+            to,
+            socket,
+            source,
+            kind,
+            hex,
+        } => {
             *to == Addr { net: 30, node: 5 }
                 && *socket == 4
                 && *source == 128

@@ -40,7 +40,12 @@ zones = ["~"]
 
 fn is_lookup(action: &Action) -> bool {
     match &action.action {
-        Do::Lookup { id, object, kind, zone } => {
+        Do::Lookup {
+            id,
+            object,
+            kind,
+            zone,
+        } => {
             *id == 513
                 && object.as_slice() == b"=".as_slice()
                 && kind.as_slice() == b"Laser*".as_slice()
@@ -52,7 +57,13 @@ fn is_lookup(action: &Action) -> bool {
 
 fn is_empty_send(action: &Action) -> bool {
     match &action.action {
-        Do::Send { to, socket, source, kind, hex } => {
+        Do::Send {
+            to,
+            socket,
+            source,
+            kind,
+            hex,
+        } => {
             let all = Addr { net: 0, node: 255 };
             *to == all && *socket == 1 && *source == 2 && *kind == 3 && hex.is_empty()
         }
@@ -77,8 +88,16 @@ fn has_two_names(node: &Node) -> bool {
 /// Whether the plan is what the file says.
 pub(crate) fn is_more(plan: &Plan) -> bool {
     let losses = [
-        Loss { cable: 2, first: 3, last: 70000 },
-        Loss { cable: 1, first: 9, last: 9 },
+        Loss {
+            cable: 2,
+            first: 3,
+            last: 70000,
+        },
+        Loss {
+            cable: 1,
+            first: 9,
+            last: 9,
+        },
     ];
     let nodes = match plan.nodes() {
         [a, b] => is_first(a) && b.cable == 2 && b.tries.is_empty() && has_two_names(b),
@@ -86,7 +105,12 @@ pub(crate) fn is_more(plan: &Plan) -> bool {
     };
     let actions = match plan.actions() {
         [a, b] => {
-            a.at == 100000 && a.node == 2 && is_lookup(a) && b.at == 7 && b.node == 1 && is_empty_send(b)
+            a.at == 100000
+                && a.node == 2
+                && is_lookup(a)
+                && b.at == 7
+                && b.node == 1
+                && is_empty_send(b)
         }
         _ => false,
     };
@@ -133,7 +157,9 @@ pub(crate) fn ports_text(alloc: Global, count: u8) -> Result<Vec<u8>, Error> {
 fn names_once(alloc: Global, count: u8) -> Result<Vec<u8>, Error> {
     let mut text = Vec::new(alloc);
     text.extend_from_slice(b"ticks = 1\n[[cable]]\nzones = ['a']\nrange = [1, 1]\n")?;
-    text.extend_from_slice(b"[[node]]\ncable = 1\nhardware = '020000000001'\ntry = []\nzone = 'a'\n")?;
+    text.extend_from_slice(
+        b"[[node]]\ncable = 1\nhardware = '020000000001'\ntry = []\nzone = 'a'\n",
+    )?;
     for k in 0..count {
         text.extend_from_slice(b"[[node.name]]\ntype = 't'\nsocket = 1\nobject = 'a")?;
         put_number(&mut text, k)?;

@@ -1,4 +1,4 @@
-use Rattle.std.proofs.Common.{sym, ◌∙◌, ap, map, take}
+use Rattle.std.proofs.Common.{sym}
 use Rattle.std.proofs.lemmas.List.{take-map}
 use Rattle.toml.specs.View.{view}
 use Rattle.internet_file.proofs.entries.up_to.Goals as goal
