@@ -81,12 +81,38 @@ fn another_file_is_read_field_by_field(rt: HostRuntime) -> Result<(), Fail> {
 }
 
 #[test]
-fn each_value_has_its_bounds(rt: HostRuntime) -> Result<(), Fail> {
+fn values_of_cables_have_their_bounds(rt: HostRuntime) -> Result<(), Fail> {
     assert_eq!(rt; wrong_places(rt.alloc(), &CABLES)?, 0);
+    Ok(())
+}
+
+#[test]
+fn values_of_routers_have_their_bounds(rt: HostRuntime) -> Result<(), Fail> {
     assert_eq!(rt; wrong_places(rt.alloc(), &ROUTERS)?, 0);
+    Ok(())
+}
+
+#[test]
+fn values_of_nodes_have_their_bounds(rt: HostRuntime) -> Result<(), Fail> {
     assert_eq!(rt; wrong_places(rt.alloc(), &NODES)?, 0);
+    Ok(())
+}
+
+#[test]
+fn values_of_losses_have_their_bounds(rt: HostRuntime) -> Result<(), Fail> {
     assert_eq!(rt; wrong_places(rt.alloc(), &LOSSES)?, 0);
-    assert_eq!(rt; wrong_places(rt.alloc(), &ACTIONS)?, 0);
+    Ok(())
+}
+
+#[test]
+fn the_first_values_of_actions_have_their_bounds(rt: HostRuntime) -> Result<(), Fail> {
+    assert_eq!(rt; wrong_places(rt.alloc(), &ACTIONS[..8])?, 0);
+    Ok(())
+}
+
+#[test]
+fn the_other_values_of_actions_have_their_bounds(rt: HostRuntime) -> Result<(), Fail> {
+    assert_eq!(rt; wrong_places(rt.alloc(), &ACTIONS[8..])?, 0);
     Ok(())
 }
 
@@ -98,8 +124,20 @@ fn the_first_fault_is_told(rt: HostRuntime) -> Result<(), Fail> {
 }
 
 #[test]
+fn a_cable_past_the_last_is_at_fault(rt: HostRuntime) -> Result<(), Fail> {
+    assert_eq!(rt; wrong_wholes(rt.alloc(), &LIMITS[..4])?, 0);
+    Ok(())
+}
+
+#[test]
+fn a_station_past_the_last_is_at_fault(rt: HostRuntime) -> Result<(), Fail> {
+    assert_eq!(rt; wrong_wholes(rt.alloc(), &LIMITS[4..8])?, 0);
+    Ok(())
+}
+
+#[test]
 fn an_entry_past_a_limit_is_at_fault(rt: HostRuntime) -> Result<(), Fail> {
-    assert_eq!(rt; wrong_wholes(rt.alloc(), &LIMITS)?, 0);
+    assert_eq!(rt; wrong_wholes(rt.alloc(), &LIMITS[8..])?, 0);
     for (count, fault) in [(16, None), (17, Some((Part::Router, 1)))] {
         let text = ports_text(rt.alloc(), count)?;
         assert_eq!(rt; fault_of(rt.alloc(), &[(1, text.as_slice())])?, fault);
