@@ -9,8 +9,8 @@ use crate::word::is_dash;
 use at_base::{Bytes, Error};
 use std::alloc::Global;
 
-/// The value of a hexadecimal digit of either case.
-fn nibble(digit: u8) -> Option<u8>
+/// The value of a hexadecimal digit of either case, 0 to 15.
+pub fn nibble(digit: u8) -> Option<u8>
     ensures value { result ≡ nibble_of digit }
     ensures low { IfSome result (λ n. n < 16) }
 {
@@ -37,8 +37,9 @@ fn first_pair(digits: &[u8]) -> Option<(u8, &[u8])>
     }
 }
 
-/// The bytes of pairs of hexadecimal digits, if they are that. Error: `Memory`.
-fn pairs(alloc: Global, digits: &[u8]) -> Result<Option<Bytes>, Error>
+/// The bytes of pairs of hexadecimal digits of either case, if the digits are that; no digits are no
+/// bytes. Error: `Memory`.
+pub fn pairs(alloc: Global, digits: &[u8]) -> Result<Option<Bytes>, Error>
     ensures read { IfOk result (λ x. x ≡ pairs_of digits.now) }
     ensures refused { IsOkUnless result Error.Memory }
 {

@@ -2,7 +2,7 @@
 #![tactic(auto)]
 
 mod cut;
-mod hex;
+pub mod hex;
 mod laws;
 mod line;
 mod name;
@@ -17,3 +17,4 @@ mod words;
 pub use laws::scripts_have_no_bad_line;
 pub use reading::read;
 pub use step::Step;
+pub use word::address;

@@ -44,7 +44,7 @@ fn halves(word: &[u8]) -> Option<(&[u8], &[u8])>
 }
 
 /// The address that the word is, if it is one: the network and the node, as `10.7`.
-pub(crate) fn address(word: &[u8]) -> Option<Addr>
+pub fn address(word: &[u8]) -> Option<Addr>
     ensures { result ≡ address_of word.now }
 {
     let Some((net, node)) = halves(word) else {

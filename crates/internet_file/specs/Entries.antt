@@ -1,0 +1,69 @@
+-- The entries of an internet file: tables with the keys that they are to have, and lists of these. This project's own.
+use Rattle.std.specs.Prelude.{ℕ, suc, ◌+◌, Bool, cond, List, [], ◌∷◌, Option, Some, None, Result, Ok, Err, bytes_eq, length, min}
+use Rattle.std.specs.Prelude.{nat_le, take}
+use Rattle.std.specs.List.{list_all, list_any}
+use Rattle.std.specs.Result.{result_ok}
+use Rattle.toml.specs.Data.{Data, Members, no_members, member, as_table, get_member}
+use Rattle.at_base.specs.declared.error.Error.{Error}
+use Rattle.at_base.specs.declared.error.Error.TheVariants.{BadFile}
+use Rattle.at_base.specs.declared.error.Part.{Part}
+use Rattle.script.specs.Words.{given}
+use Rattle.internet_file.specs.Values.{list}
+
+-- the keys of a table
+abbrev pub keys : Members → List (List ℕ)
+keys no_members = []
+keys (member k d ms) = k ∷ keys ms
+
+-- the table has no keys but these
+abbrev pub has_only : List (List ℕ) → Members → Bool
+has_only named ms = list_all (λ k. list_any (bytes_eq k) named) (keys ms)
+
+-- the members of a table that has no keys but these
+abbrev pub entry : List (List ℕ) → Data → Option Members
+entry named d = given (as_table d) (λ ms. cond (has_only named ms) (Some ms) None)
+
+-- what the value at a key stands for, if there is one
+abbrev pub at : {T : Type 0} → List ℕ → (Data → Option T) → Members → Option T
+at key f ms = given (get_member key ms) f
+
+-- the values of the list at a key that may be absent
+abbrev pub list_at : List ℕ → Members → Option (List Data)
+list_at key ms = of (get_member key ms)
+  where
+    of : Option Data → Option (List Data)
+    of None = Some []
+    of (Some d) = list d
+
+-- what a value and those after it stand for, or the index of the first that stands for nothing
+abbrev pub before : {T : Type 0} → Option T → Result (List T) ℕ → Result (List T) ℕ
+before None _ = Err 0
+before (Some x) (Ok xs) = Ok (x ∷ xs)
+before (Some x) (Err k) = Err (suc k)
+
+-- what each of the values stands for, or the index of the first that stands for nothing
+abbrev pub each : {T : Type 0} → (Data → Option T) → List Data → Result (List T) ℕ
+each f [] = Ok []
+each f (d ∷ ds) = before (f d) (each f ds)
+
+-- what each of the values stands for, if each stands for something
+abbrev pub all : {T : Type 0} → (Data → Option T) → List Data → Option (List T)
+all f ds = result_ok (each f ds)
+
+-- what follows, unless it was refused
+abbrev pub after : {T U E : Type 0} → Result T E → (T → Result U E) → Result U E
+after (Ok x) next = next x
+after (Err e) next = Err e
+
+-- what the entries of a part stand for, or the number of the first that stands for nothing, from 1
+abbrev pub part : {T : Type 0} → Part → (Data → Option T) → List Data → Result (List T) Error
+part {T} p f ds = of (each f ds)
+  where
+    of : Result (List T) ℕ → Result (List T) Error
+    of (Ok xs) = Ok xs
+    of (Err k) = Err (BadFile p (min (k + 1) 4294967295))
+
+-- the same of a part with a limit: the entry past it is at fault, whatever it stands for
+abbrev pub part_up_to : {T : Type 0} → ℕ → Part → (Data → Option T) → List Data → Result (List T) Error
+part_up_to limit p f ds =
+    after (part p f (take limit ds)) (λ xs. cond (nat_le (length ds) limit) (Ok xs) (Err (BadFile p (limit + 1))))

@@ -1,0 +1,6 @@
+pub mod Actions
+pub mod Cables
+pub mod Entries
+pub mod Files
+pub mod Stations
+pub mod Values

@@ -1,0 +1,76 @@
+//! Cables.
+
+ghost use Rattle.std.specs.Prelude.{◌≡◌, IfOk, IsOkUnless};
+ghost use Rattle.toml.specs.View.{table_view};
+ghost use Rattle.internet_file.specs.Cables.{cable_of, zones as zones_of};
+ghost use Rattle.internet_file.specs.Entries.{at};
+ghost use Rattle.internet_file.specs.Values.{zone as zone_of};
+
+use crate::entries::{Reader, all};
+use crate::fields::range_at;
+use crate::key::{entry, get};
+use crate::listed::Listed;
+use crate::value::{list_within, zone};
+use at_base::{Error, Name, Range};
+use std::alloc::Global;
+use toml::{Table, Value};
+
+/// A cable. This project's own.
+#[derive(Debug, Drop)]
+pub struct Cable {
+    /// The networks of the cable.
+    pub range: Range,
+    /// The names of its zones, 1 to 64; the first is the default zone.
+    pub zones: Listed<Name>,
+}
+
+/// Reads the names of zones.
+#[derive(Clone, Copy)]
+struct Zones;
+
+impl Reader for Zones {
+    type Entry = Name;
+
+    ghost meaning = { λ _ d. zone_of d };
+
+    fn read_one(&self, _alloc: Global, value: &Value) -> Result<Option<Name>, Error> {
+        Ok(zone(value))
+    }
+}
+
+/// The 1 to 64 names of zones at the key. Error: `Memory`.
+fn zones_at(alloc: Global, table: &Table, key: &str) -> Result<Option<Listed<Name>>, Error>
+    ensures read { IfOk result (λ x. x ≡ at key.now zones_of (table_view table.now)) }
+    ensures refused { IsOkUnless result Error.Memory }
+{
+    let Some(value) = get(table, key) else {
+        return Ok(None);
+    };
+    let Some(values) = list_within(1, 64, value) else {
+        return Ok(None);
+    };
+    all(alloc, &Zones, values)
+}
+
+/// Reads cables.
+#[derive(Clone, Copy)]
+pub(crate) struct Cables;
+
+impl Reader for Cables {
+    type Entry = Cable;
+
+    ghost meaning = { λ _ d. cable_of d };
+
+    fn read_one(&self, alloc: Global, value: &Value) -> Result<Option<Cable>, Error> {
+        let Some(table) = entry(&["range", "zones"], value) else {
+            return Ok(None);
+        };
+        let Some(range) = range_at(table, "range") else {
+            return Ok(None);
+        };
+        match zones_at(alloc, table, "zones")? {
+            Some(zones) => Ok(Some(Cable { range, zones })),
+            None => Ok(None),
+        }
+    }
+}

@@ -1,0 +1,126 @@
+//! Lists of entries.
+
+ghost use Rattle.std.specs.Prelude.{◌≡◌, ◌<◌, ◌⊎◌, map, take, Ok, Err, IfOk, IfErr, IsOkUnless};
+ghost use Rattle.std.specs.Prelude.{Option};
+ghost use Rattle.toml.specs.Data.{Data};
+ghost use Rattle.toml.specs.View.{view};
+ghost use Rattle.internet_file.specs.Entries.{all as all_of, each as each_of};
+ghost use Rattle.internet_file.specs.Entries.{part as part_of, part_up_to as part_up_to_of};
+
+use crate::listed::Listed;
+use at_base::{Error, Part};
+use std::alloc::Global;
+use toml::Value;
+
+/// What entries of one kind stand for.
+pub(crate) trait Reader {
+    type Entry: Drop;
+
+    // What an entry stands for, if anything.
+    ghost meaning: { Self → Data → Option Self.Entry };
+
+    /// What the value stands for, if anything. Error: `Memory`.
+    fn read_one(&self, alloc: Global, value: &Value) -> Result<Option<Self::Entry>, Error>
+        ensures read { IfOk result (λ x. x ≡ meaning self.now (view value.now)) }
+        ensures refused { IsOkUnless result Error.Memory };
+}
+
+/// What each of the values stands for, or the index of the first that stands for nothing. Error:
+/// `Memory`.
+fn each<R: Reader>(
+    alloc: Global,
+    reader: &R,
+    values: &[Value],
+) -> Result<Result<Listed<R::Entry>, usize>, Error>
+    ensures read { IfOk result (λ x. x ≡ each_of (R.meaning reader.now) (map view values.now)) }
+    ensures refused { IsOkUnless result Error.Memory }
+{
+    let mut entries = Vec::with_capacity(alloc, values.len())?;
+    for value in values {
+        let Some(entry) = reader.read_one(alloc, value)? else {
+            return Ok(Err(entries.len()));
+        };
+        entries.push(entry)?;
+    }
+    Ok(Ok(Listed::from_vec(entries)))
+}
+
+/// What each of the values stands for, if each stands for something. Error: `Memory`.
+pub(crate) fn all<R: Reader>(
+    alloc: Global,
+    reader: &R,
+    values: &[Value],
+) -> Result<Option<Listed<R::Entry>>, Error>
+    ensures read { IfOk result (λ x. x ≡ all_of (R.meaning reader.now) (map view values.now)) }
+    ensures refused { IsOkUnless result Error.Memory }
+{
+    match each(alloc, reader, values)? {
+        Ok(entries) => Ok(Some(entries)),
+        Err(_) => Ok(None),
+    }
+}
+
+/// What the entries of a part stand for. Errors: `BadFile` with the number of the first that stands
+/// for nothing, counted from 1; `Memory`.
+pub(crate) fn part<R: Reader>(
+    alloc: Global,
+    name: Part,
+    reader: &R,
+    values: &[Value],
+) -> Result<Listed<R::Entry>, Error>
+    ensures read { IfOk result (λ xs.
+        part_of name (R.meaning reader.now) (map view values.now) ≡ Ok xs) }
+    ensures refused { IfErr result (λ e.
+        (part_of name (R.meaning reader.now) (map view values.now) ≡ Err e)
+        ⊎ (e ≡ Error.Memory)) }
+{
+    match each(alloc, reader, values)? {
+        Ok(entries) => Ok(entries),
+        Err(index) => {
+            let index = if index < 4294967295 {
+                index as u32
+            } else {
+                4294967294
+            };
+            Err(Error::BadFile(name, index + 1))
+        }
+    }
+}
+
+/// The values up to a limit.
+fn up_to(limit: u32, values: &[Value]) -> &[Value]
+    ensures { map view result.now ≡ take limit (map view values.now) }
+{
+    if values.len() <= limit as usize {
+        values
+    } else {
+        &values[..limit as usize]
+    }
+}
+
+/// What the entries of a part stand for. Errors: `BadFile` with the number of the first that stands
+/// for nothing, or that of the one past the limit; `Memory`.
+pub(crate) fn part_up_to<R: Reader>(
+    alloc: Global,
+    limit: u32,
+    name: Part,
+    reader: &R,
+    values: &[Value],
+) -> Result<Listed<R::Entry>, Error>
+    requires { limit < 4294967295 }
+    ensures read { IfOk result (λ xs.
+        part_up_to_of limit name (R.meaning reader.now) (map view values.now) ≡ Ok xs) }
+    ensures refused { IfErr result (λ e.
+        (part_up_to_of limit name (R.meaning reader.now) (map view values.now) ≡ Err e)
+        ⊎ (e ≡ Error.Memory)) }
+{
+    let entries = match part(alloc, name, reader, up_to(limit, values)) {
+        Ok(entries) => entries,
+        Err(stop) => return Err(stop),
+    };
+    if values.len() <= limit as usize {
+        Ok(entries)
+    } else {
+        Err(Error::BadFile(name, limit + 1))
+    }
+}

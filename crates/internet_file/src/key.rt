@@ -1,0 +1,76 @@
+//! What stands at a key of a table.
+
+ghost use Rattle.std.specs.Prelude.{◌≡◌, map, Some, None, IfSome, IfNone, bytes_eq, string_bytes};
+ghost use Rattle.std.specs.BTreeMap.{keys as btree_keys};
+ghost use Rattle.std.specs.List.{list_all, list_any};
+ghost use Rattle.toml.specs.Data.{get_member};
+ghost use Rattle.toml.specs.View.{table_view, view};
+ghost use Rattle.internet_file.specs.Entries.{entry as entry_of, has_only as only};
+ghost use Rattle.internet_file.specs.Entries.{list_at as list_of};
+
+use crate::value::list;
+use toml::{Table, Value};
+
+/// The value at the key, if there is one.
+pub(crate) fn get<'a>(table: &'a Table, key: &str) -> Option<&'a Value>
+    ensures some { IfSome result (λ v.
+        get_member key.now (table_view table.now) ≡ Some (view v.now)) }
+    ensures none { IfNone result (get_member key.now (table_view table.now) ≡ None) }
+{
+    match table.get(key) {
+        Some(value) => Some(value),
+        None => None,
+    }
+}
+
+/// Whether the key is one of these.
+fn is_among(key: &str, named: &[&str]) -> bool
+    ensures { result ≡ list_any (bytes_eq key.now) (map (λ k. k.now) named.now) }
+{
+    match named {
+        [] => false,
+        [first, rest @ ..] => key == *first || is_among(key, rest),
+    }
+}
+
+/// Whether each key of the table is one of these.
+fn are_among(named: &[&str], table: &Table) -> bool
+    ensures { result ≡ list_all
+        (λ k. list_any (bytes_eq (string_bytes k)) (map (λ n. n.now) named.now))
+        (btree_keys table.now) }
+{
+    table.keys().all(|key| is_among(key.as_str(), named))
+}
+
+/// Whether the table has no keys but these.
+pub(crate) fn has_only(named: &[&str], table: &Table) -> bool
+    ensures { result ≡ only (map (λ k. k.now) named.now) (table_view table.now) }
+{
+    are_among(named, table)
+}
+
+/// The value as a table that has no keys but these.
+pub(crate) fn entry<'a>(named: &[&str], value: &'a Value) -> Option<&'a Table>
+    ensures some { IfSome result (λ t.
+        entry_of (map (λ k. k.now) named.now) (view value.now) ≡ Some (table_view t.now)) }
+    ensures none { IfNone result (entry_of (map (λ k. k.now) named.now) (view value.now) ≡ None) }
+{
+    let table = value.as_table()?;
+    if has_only(named, table) {
+        Some(table)
+    } else {
+        None
+    }
+}
+
+/// The values of the list at a key that may be absent.
+pub(crate) fn list_at<'a>(table: &'a Table, key: &str) -> Option<&'a [Value]>
+    ensures some { IfSome result (λ vs.
+        list_of key.now (table_view table.now) ≡ Some (map view vs.now)) }
+    ensures none { IfNone result (list_of key.now (table_view table.now) ≡ None) }
+{
+    match get(table, key) {
+        Some(value) => list(value),
+        None => Some(&[]),
+    }
+}

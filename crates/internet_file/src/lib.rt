@@ -1,0 +1,31 @@
+//! Internet files: what a network is made of and what happens in it when, in TOML.
+#![tactic(auto)]
+
+mod action;
+mod bytes;
+mod cable;
+mod entries;
+mod fields;
+mod key;
+mod listed;
+mod loss;
+mod names;
+mod node;
+mod parts;
+mod plan;
+mod port;
+mod reading;
+mod router;
+mod service;
+mod top;
+mod value;
+
+pub use action::{Action, Do};
+pub use cable::Cable;
+pub use listed::Listed;
+pub use loss::Loss;
+pub use node::Node;
+pub use plan::Plan;
+pub use port::Port;
+pub use reading::read;
+pub use router::Router;

@@ -1,0 +1,64 @@
+//! Nodes.
+
+ghost use Rattle.internet_file.specs.Stations.{node_of};
+
+use crate::cable::Cable;
+use crate::entries::Reader;
+use crate::fields::zone_at;
+use crate::key::entry;
+use crate::listed::Listed;
+use crate::names::names_at;
+use crate::port::port_at;
+use at_base::{Addr, Error, Hw, Name};
+use nbp::Names;
+use std::alloc::Global;
+use toml::Value;
+
+/// A node. This project's own.
+#[derive(Debug, Drop)]
+pub struct Node {
+    /// The number of its cable, from 1.
+    pub cable: u16,
+    /// The hardware address.
+    pub hardware: Hw,
+    /// The addresses to try first, at most 16: nodes 1 to 253 of the cable's networks.
+    pub tries: Listed<Addr>,
+    /// The zone that it is in.
+    pub zone: Name,
+    /// Its names, as it registers them in turn.
+    pub name: Names,
+}
+
+/// Reads nodes on these cables.
+#[derive(Clone, Copy)]
+pub(crate) struct Nodes<'a> {
+    pub(crate) cables: &'a [Cable],
+}
+
+impl<'a> Reader for Nodes<'a> {
+    type Entry = Node;
+
+    ghost meaning = { λ r d. node_of r.cables.now d };
+
+    fn read_one(&self, alloc: Global, value: &Value) -> Result<Option<Node>, Error> {
+        let Some(table) = entry(&["cable", "hardware", "try", "zone", "name"], value) else {
+            return Ok(None);
+        };
+        let Some(zone) = zone_at(table, "zone") else {
+            return Ok(None);
+        };
+        let Some(port) = port_at(alloc, table, self.cables)? else {
+            return Ok(None);
+        };
+        let Some(name) = names_at(alloc, table)? else {
+            return Ok(None);
+        };
+        Ok(Some(Node {
+            cable: port.cable,
+            hardware: port.hardware,
+            tries: port.tries,
+            zone,
+            name,
+        }))
+    }
+}

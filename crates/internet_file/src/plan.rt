@@ -1,0 +1,81 @@
+//! What an internet file plans.
+
+ghost use Rattle.std.specs.Prelude.{◌≡◌};
+
+use crate::action::Action;
+use crate::cable::Cable;
+use crate::listed::Listed;
+use crate::loss::Loss;
+use crate::node::Node;
+use crate::router::Router;
+use std::marker::Model;
+
+/// What an internet file plans: a network, and what happens in it when. This project's own.
+#[derive(Debug, Drop)]
+pub struct Plan {
+    pub(crate) ticks: u32,
+    pub(crate) cables: Listed<Cable>,
+    pub(crate) routers: Listed<Router>,
+    pub(crate) nodes: Listed<Node>,
+    pub(crate) losses: Listed<Loss>,
+    pub(crate) actions: Listed<Action>,
+}
+
+impl Model for Plan {
+    ghost use Rattle.internet_file.specs.Files.{Planned};
+
+    ghost Value = { Planned };
+
+    ghost view = { λ p. record {
+      ticks = p.ticks;
+      cables = p.cables;
+      routers = p.routers;
+      nodes = p.nodes;
+      losses = p.losses;
+      actions = p.actions;
+    } };
+}
+
+impl Plan {
+    /// How many ticks it takes, 1 to 100,000.
+    pub fn ticks(&self) -> u32
+        ensures { result ≡ self.now.ticks }
+    {
+        self.ticks
+    }
+
+    /// The cables, at most 200.
+    pub fn cables(&self) -> &[Cable]
+        ensures { result.now ≡ self.now.cables }
+    {
+        self.cables.as_slice()
+    }
+
+    /// The routers, at most 200.
+    pub fn routers(&self) -> &[Router]
+        ensures { result.now ≡ self.now.routers }
+    {
+        self.routers.as_slice()
+    }
+
+    /// The nodes, at most 200.
+    pub fn nodes(&self) -> &[Node]
+        ensures { result.now ≡ self.now.nodes }
+    {
+        self.nodes.as_slice()
+    }
+
+    /// The losses, in the order of the file.
+    pub fn losses(&self) -> &[Loss]
+        ensures { result.now ≡ self.now.losses }
+    {
+        self.losses.as_slice()
+    }
+
+    /// The actions, in the order of the file.
+    pub fn actions(&self) -> &[Action]
+        ensures { result.now ≡ self.now.actions }
+    {
+        self.actions.as_slice()
+    }
+}

@@ -1,0 +1,110 @@
+//! Ports: where routers and nodes are on cables.
+
+ghost use Rattle.std.specs.Prelude.{◌≡◌, ◌≤◌, IfOk, IsOkUnless};
+ghost use Rattle.toml.specs.View.{table_view};
+ghost use Rattle.internet_file.specs.Entries.{at};
+ghost use Rattle.internet_file.specs.Stations.{port_in, port_of, tries as tries_of};
+ghost use Rattle.internet_file.specs.Values.{try_of};
+
+use crate::cable::Cable;
+use crate::entries::{Reader, all};
+use crate::fields::{hardware_at, one_at};
+use crate::key::{entry, get};
+use crate::listed::Listed;
+use crate::value::{list_within, try_address};
+use at_base::{Addr, Error, Hw, Range};
+use std::alloc::Global;
+use toml::{Table, Value};
+
+/// A port of a router, or that of a node. This project's own.
+#[derive(Debug, Drop)]
+pub struct Port {
+    /// The number of the cable, from 1.
+    pub cable: u16,
+    /// The hardware address.
+    pub hardware: Hw,
+    /// The addresses to try first, at most 16: nodes 1 to 253 of the cable's networks.
+    pub tries: Listed<Addr>,
+}
+
+/// Reads the addresses to try on a cable with this range.
+#[derive(Clone, Copy)]
+struct Tries {
+    range: Range,
+}
+
+impl Reader for Tries {
+    type Entry = Addr;
+
+    ghost meaning = { λ r d. try_of r.range d };
+
+    fn read_one(&self, _alloc: Global, value: &Value) -> Result<Option<Addr>, Error> {
+        Ok(try_address(&self.range, value))
+    }
+}
+
+/// The addresses at the key that are to be tried on a cable. Error: `Memory`.
+fn tries_at(
+    alloc: Global,
+    table: &Table,
+    key: &str,
+    cables: &[Cable],
+    cable: u16,
+) -> Result<Option<Listed<Addr>>, Error>
+    requires { 1 ≤ cable }
+    ensures read { IfOk result (λ x.
+        x ≡ at key.now (tries_of cables.now cable) (table_view table.now)) }
+    ensures refused { IsOkUnless result Error.Memory }
+{
+    let Some(value) = get(table, key) else {
+        return Ok(None);
+    };
+    let Some(cable) = cables.get(cable as usize - 1) else {
+        return Ok(None);
+    };
+    let Some(values) = list_within(0, 16, value) else {
+        return Ok(None);
+    };
+    all(alloc, &Tries { range: cable.range }, values)
+}
+
+/// The port of which the table has the cable, the hardware address and the addresses to try. Error:
+/// `Memory`.
+pub(crate) fn port_at(alloc: Global, table: &Table, cables: &[Cable]) -> Result<Option<Port>, Error>
+    ensures read { IfOk result (λ x. x ≡ port_in cables.now (table_view table.now)) }
+    ensures refused { IsOkUnless result Error.Memory }
+{
+    let Some(cable) = one_at(table, "cable", cables) else {
+        return Ok(None);
+    };
+    let Some(hardware) = hardware_at(table, "hardware") else {
+        return Ok(None);
+    };
+    match tries_at(alloc, table, "try", cables, cable)? {
+        Some(tries) => Ok(Some(Port {
+            cable,
+            hardware,
+            tries,
+        })),
+        None => Ok(None),
+    }
+}
+
+/// Reads ports on these cables.
+#[derive(Clone, Copy)]
+pub(crate) struct Ports<'a> {
+    pub(crate) cables: &'a [Cable],
+}
+
+impl<'a> Reader for Ports<'a> {
+    type Entry = Port;
+
+    ghost meaning = { λ r d. port_of r.cables.now d };
+
+    fn read_one(&self, alloc: Global, value: &Value) -> Result<Option<Port>, Error> {
+        let Some(table) = entry(&["cable", "hardware", "try"], value) else {
+            return Ok(None);
+        };
+        port_at(alloc, table, self.cables)
+    }
+}

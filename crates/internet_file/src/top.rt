@@ -1,0 +1,56 @@
+//! The top of a file.
+
+ghost use Rattle.std.specs.Prelude.{◌≡◌, map, Ok, Err};
+ghost use Rattle.toml.specs.View.{table_view, view};
+ghost use Rattle.at_base.specs.declared.error.Part.TheVariants.{Top};
+ghost use Rattle.internet_file.specs.Files.{entries_at as entries_of, is_listed as listed};
+ghost use Rattle.internet_file.specs.Files.{is_top as top, ticks_of};
+
+use crate::fields::number_at;
+use crate::key::{has_only, list_at};
+use at_base::{Error, Part};
+use toml::{Table, Value};
+
+/// Whether there is a list at the key, or nothing.
+fn is_listed(table: &Table, key: &str) -> bool
+    ensures { result ≡ listed key.now (table_view table.now) }
+{
+    list_at(table, key).is_some()
+}
+
+/// Whether the top has no keys but those of a file, and lists where it has tables.
+fn is_top(table: &Table) -> bool
+    ensures { result ≡ top (table_view table.now) }
+{
+    has_only(
+        &["ticks", "cable", "router", "node", "lose", "action"],
+        table,
+    ) && is_listed(table, "cable")
+        && is_listed(table, "router")
+        && is_listed(table, "node")
+        && is_listed(table, "lose")
+        && is_listed(table, "action")
+}
+
+/// How many ticks the file says. Error: `BadFile(Top, 0)` where its top isn't as it is to be.
+#[tactic(auto, unfolding(crate::specs::Files::ticks_of))]
+pub(crate) fn ticks(table: &Table) -> Result<u32, Error>
+    ensures { result ≡ ticks_of (table_view table.now) }
+{
+    if is_top(table) {
+        if let Some(ticks) = number_at(table, "ticks", 1, 100_000) {
+            return Ok(ticks);
+        }
+    }
+    Err(Error::BadFile(Part::Top, 0))
+}
+
+/// The entries at a key of the top.
+pub(crate) fn entries_at<'a>(table: &'a Table, key: &str) -> &'a [Value]
+    ensures { map view result.now ≡ entries_of key.now (table_view table.now) }
+{
+    match list_at(table, key) {
+        Some(values) => values,
+        None => &[],
+    }
+}
