@@ -1,0 +1,13 @@
+use Rattle.std.proofs.Common.{flat_map, ap, ◌∙◌, arith}
+use Rattle.std.proofs.lemmas.List.{take_all}
+use Rattle.learning.specs.Queries.{query_at}
+use Rattle.learning.proofs.Asked.{asked}
+use Rattle.learning.proofs.asking.queries.Goals as goal
+
+pub returns-clause-ok : goal.returns-clause-ok
+returns-clause-ok g c =
+    let rows = g.T.RouteTable.rows c.args.routes.now in
+    c.loop-start.invariant
+    ∙ ap (flat_map (query_at rows)) (take_all _ c.as_slice-start-items.result.now (omega (arith, c.loop-start-test.false))
+    ∙ c.as_slice-start-items.ensures.value ∙ c.in_ok-starts.ensures.ok)
+    ∙ asked rows c.args.zones.now c.recall_map.ensures
