@@ -1,13 +1,13 @@
 -- The rows whose lists are asked for, found again by their first networks.
-use Rattle.std.proofs.Common.{◌≡◌, ℕ, ◌+◌, ◌<◌, ◌≤◌, Bool, true, false, not, ◌&&◌, ◌==◌, List, [], ◌∷◌, ◌++◌, length, map, filter, find}
-use Rattle.std.proofs.Common.{Option, Some, None, flat_map, refl, sym, ap, ◌∙◌, arith, nat_le, nat_lt, if◌then◌else◌}
+use Rattle.std.proofs.Common.{◌≡◌, ◌∙◌, ℕ, ◌<◌, ◌≤◌, Bool, true, false, not, ◌&&◌, List, [], ◌∷◌, ◌++◌, flat_map}
+use Rattle.std.proofs.Common.{refl, sym, ap, arith, nat_le, nat_lt, if◌then◌else◌}
 use Rattle.std.specs.List.{list_all}
 use Rattle.std.proofs.lemmas.Bool.{and_parts, and_from, and_left, and_right, ltb-true, le-leb, lt-leb}
-use Rattle.at_base.specs.Range.{is_between, is_range}
+use Rattle.at_base.specs.Range.{is_between}
 use Rattle.rtmp.specs.declared.row.Row.{Row}
-use Rattle.rtmp.specs.Routes.{IsRouteMap, are_above, is_direct, is_row, row_for}
+use Rattle.rtmp.specs.Routes.{IsRouteMap, are_above, is_direct, is_row}
 use Rattle.rtmp.specs.States.{is_usable}
-use Rattle.rtmp.proofs.Maps.{above_lower, row_ends}
+use Rattle.rtmp.proofs.Maps.{row_ends}
 use Rattle.zip_zones.specs.Zones.{Known, due, is_answered}
 use Rattle.learning.specs.declared.query.Query.{Query}
 use Rattle.learning.specs.Queries.{is_asked, queries_of, query_about, query_at}
@@ -84,27 +84,27 @@ one_asked : (r : Row) (rows : List Row) (zones : List Known) (usable answered di
     → flat_map (query_at (r ∷ rows)) (due (r ∷ rows) zones) ≡ queries_of (r ∷ rows) zones
 one_asked r rows zones false answered direct t u v found rest =
     let unasked : is_asked zones r ≡ false =
-        and_left (is_usable r.state && not (is_direct r)) (not (is_answered zones r.range))
-        (and_left (is_usable r.state) (not (is_direct r)) t) in
+    and_left (is_usable r.state && not (is_direct r)) (not (is_answered zones r.range))
+    (and_left (is_usable r.state) (not (is_direct r)) t) in
     ap (flat_map (query_at (r ∷ rows))) (due_one r rows zones false (and_left _ _ t)) ∙ rest
     ∙ sym (asked_one r rows zones false unasked)
 one_asked r rows zones true true direct t u v found rest =
     let met : not (is_answered zones r.range) ≡ false = ap not u in
     let unasked : is_asked zones r ≡ false =
-        and_right (is_usable r.state && not (is_direct r)) (not (is_answered zones r.range)) met in
+    and_right (is_usable r.state && not (is_direct r)) (not (is_answered zones r.range)) met in
     ap (flat_map (query_at (r ∷ rows))) (due_one r rows zones false (and_right _ _ met)) ∙ rest
     ∙ sym (asked_one r rows zones false unasked)
 one_asked r rows zones true false true t u v found rest =
     let unasked : is_asked zones r ≡ false =
-        and_left (is_usable r.state && not (is_direct r)) (not (is_answered zones r.range))
-        (and_right (is_usable r.state) (not (is_direct r)) (ap not v)) in
+    and_left (is_usable r.state && not (is_direct r)) (not (is_answered zones r.range))
+    (and_right (is_usable r.state) (not (is_direct r)) (ap not v)) in
     ap (flat_map (query_at (r ∷ rows))) (due_one r rows zones true (and_from _ _ t (ap not u)))
     ∙ ap (λ (l : List Query). l ++ flat_map (query_at (r ∷ rows)) (due rows zones)) (found refl) ∙ rest
     ∙ sym (asked_one r rows zones false unasked)
 one_asked r rows zones true false false t u v found rest =
     let asked_too : is_asked zones r ≡ true =
-        and_from (is_usable r.state && not (is_direct r)) (not (is_answered zones r.range))
-        (and_from (is_usable r.state) (not (is_direct r)) t (ap not v)) (ap not u) in
+    and_from (is_usable r.state && not (is_direct r)) (not (is_answered zones r.range))
+    (and_from (is_usable r.state) (not (is_direct r)) t (ap not v)) (ap not u) in
     ap (flat_map (query_at (r ∷ rows))) (due_one r rows zones true (and_from _ _ t (ap not u)))
     ∙ ap (λ (l : List Query). l ++ flat_map (query_at (r ∷ rows)) (due rows zones)) (found refl)
     ∙ ap (λ (l : List Query). query_about r ∷ l) rest
@@ -121,5 +121,7 @@ asked_above low (r ∷ rows) zones each h =
     ∙ asked_above r.range.end rows zones good.1 apart.1)
 
 -- the rows that are found by the first networks that are due are those whose lists are asked for
-pub asked : (rows : List Row) (zones : List Known) → IsRouteMap rows → flat_map (query_at rows) (due rows zones) ≡ queries_of rows zones
-asked rows zones h = asked_above 0 rows zones h.each h.apart
+pub asked : (rows : List Row) (zones : List Known) (starts : List ℕ) (queries : List Query) → IsRouteMap rows
+    → starts ≡ due rows zones → queries ≡ flat_map (query_at rows) starts → queries ≡ queries_of rows zones
+asked rows zones starts queries map are found =
+    found ∙ ap (flat_map (query_at rows)) are ∙ asked_above 0 rows zones map.each map.apart

@@ -90,8 +90,8 @@ fn learn_each<T: RouteTable>(
     routes: &T,
     entries: &[Entry],
 ) -> Result<(), Error>
-    ensures ok { OnOk result (zones.new
-        ≡ fold (after_list (T.rows routes.now) entries.now) zones.old (networks_named entries.now)) }
+    ensures ok { OnOk result (zones.new ≡ fold (after_list (T.rows routes.now) entries.now)
+        zones.old (networks_named entries.now)) }
     ensures refused { IsOkUnless result Error.Memory }
 {
     for (index, entry) in entries.iter().enumerate() {
