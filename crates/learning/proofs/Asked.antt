@@ -1,7 +1,8 @@
 -- The rows whose lists are asked for, found again by their first networks.
-use Rattle.std.proofs.Common.{◌≡◌, ◌∙◌, ℕ, ◌<◌, ◌≤◌, Bool, true, false, not, ◌&&◌, List, [], ◌∷◌, ◌++◌, flat_map}
-use Rattle.std.proofs.Common.{refl, sym, ap, arith, nat_le, nat_lt, if◌then◌else◌}
+use Rattle.std.proofs.Common.{◌≡◌, ◌∙◌, ℕ, suc, ◌<◌, ◌≤◌, Bool, true, false, not, ◌&&◌, List, [], ◌∷◌, ◌++◌, flat_map}
+use Rattle.std.proofs.Common.{length, take, refl, sym, ap, arith, nat_le, nat_lt, if◌then◌else◌}
 use Rattle.std.specs.List.{list_all}
+use Rattle.std.proofs.lemmas.List.{take_all}
 use Rattle.std.proofs.lemmas.Bool.{and_parts, and_from, and_left, and_right, ltb-true, le-leb, lt-leb}
 use Rattle.at_base.specs.Range.{is_between}
 use Rattle.rtmp.specs.declared.row.Row.{Row}
@@ -120,8 +121,23 @@ asked_above low (r ∷ rows) zones each h =
     (beyond_all r rows (due rows zones) (due_above r.range.end rows zones good.1 apart.1)
     ∙ asked_above r.range.end rows zones good.1 apart.1)
 
--- the rows that are found by the first networks that are due are those whose lists are asked for
-pub asked : (rows : List Row) (zones : List Known) (starts : List ℕ) (queries : List Query) → IsRouteMap rows
-    → starts ≡ due rows zones → queries ≡ flat_map (query_at rows) starts → queries ≡ queries_of rows zones
-asked rows zones starts queries map are found =
-    found ∙ ap (flat_map (query_at rows)) are ∙ asked_above 0 rows zones map.each map.apart
+-- the rows that are found by the first networks that are due, all of them, are those whose lists are asked for
+pub asked : (rows : List Row) (zones : List Known) (starts : List ℕ) (i : ℕ) (queries : List Query) → IsRouteMap rows
+    → starts ≡ due rows zones → length starts ≤ i → queries ≡ flat_map (query_at rows) (take i starts)
+    → queries ≡ queries_of rows zones
+asked rows zones starts i queries map are past found =
+    found ∙ ap (flat_map (query_at rows)) (take_all i starts past ∙ are) ∙ asked_above 0 rows zones map.each map.apart
+
+asked_within : (rows : List Row) (zones : List Known) → length (queries_of rows zones) ≤ length rows
+asked_within [] zones = omega arith
+asked_within (r ∷ rows) zones = by (is_asked zones r) refl (asked_within rows zones)
+  where
+    by : (asked_too : Bool) → is_asked zones r ≡ asked_too → length (queries_of rows zones) ≤ length rows
+        → length (queries_of (r ∷ rows) zones) ≤ suc (length rows)
+    by true t rest = rw (asked_one r rows zones true t) (omega arith)
+    by false t rest = rw (asked_one r rows zones false t) (omega arith)
+
+-- there are no more queries than rows
+pub asked_few : (rows : List Row) (zones : List Known) (queries : List Query) → IsRouteMap rows → queries ≡ queries_of rows zones
+    → length queries ≤ 200
+asked_few rows zones queries map is = let within = asked_within rows zones in rw is (omega (arith, within, map.few))

@@ -1,6 +1,6 @@
 //! For which zone lists a router asks, and whom.
 
-ghost use Rattle.std.specs.Prelude.{◌≡◌, ◌++◌, IfOk, IsOkUnless, OnOk};
+ghost use Rattle.std.specs.Prelude.{◌≡◌, ◌≤◌, ◌++◌, length, IfOk, IsOkUnless, OnOk};
 ghost use Rattle.rtmp.specs.Routes.{IsRouteMap};
 ghost use Rattle.learning.specs.Queries.{queries_of, query_at};
 
@@ -47,6 +47,8 @@ pub fn queries<T: RouteTable>(
     zones: &ZoneTable,
 ) -> Result<Vec<Query>, Error>
     ensures ok { IfOk result (λ list. list.items ≡ queries_of (T.rows routes.now) zones.now) }
+    // As many as a routing table has rows.
+    ensures few { IfOk result (λ list. length list.items ≤ 200) }
     ensures refused { IsOkUnless result Error.Memory }
 {
     recall_map(routes);
