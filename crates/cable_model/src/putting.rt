@@ -63,9 +63,11 @@ fn add_dues(
     ensures capacity { deque_capacity due.new ≡ deque_capacity due.old }
 {
     let link = hearing::link_of(to);
-    for seat in 0..seats.len() {
-        if hears(&seats[seat], cable, sender, to, link) {
+    let mut seat = 0;
+    for s in seats {
+        if s.cable == cable && hears(s, cable, sender, to, link) {
             due.push_back_reserved(Due { stamp, put, seat });
         }
+        seat += 1;
     }
 }

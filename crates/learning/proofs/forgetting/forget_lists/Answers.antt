@@ -1,0 +1,22 @@
+use Rattle.std.proofs.Common.{sym, ◌∙◌, arith}
+use Rattle.rtmp.proofs.Sent.{none_next}
+use Rattle.learning.proofs.Gone.{gone_at, gone_past}
+use Rattle.learning.proofs.forgetting.forget_lists.Goals as goal
+use Rattle.learning.proofs.forgetting.forget_lists.Goals.{in-Some, in_default}
+
+pub loop-index-preserved : goal.loop-index-preserved
+loop-index-preserved g c =
+    let rows = g.T.RouteTable.rows c.args.routes.now in
+    elim c.match-row.branch [
+      | in-Some w ↦
+          gone_at rows c.loop-index.index w.in-Some.row c.loop-index.zones c.match-row.zones _ (sym c.row.ensures.value ∙ w.in-Some.is)
+          (w.zones-is ∙ w.forget_list.ensures) c.loop-index.invariant
+      | in_default w ↦
+          absurd (none_next rows c.loop-index.index (sym c.row.ensures.value
+          ∙ w.in_default.is) (omega (arith, c.loop-index-test.true, c.len-index-end.ensures.value)))
+    ]
+
+pub returns : goal.returns
+returns g c =
+    gone_past (g.T.RouteTable.rows c.args.routes.now) c.loop-index.index c.loop-index.zones _
+    (omega (arith, c.loop-index-test.false, c.len-index-end.ensures.value)) c.loop-index.invariant

@@ -1,0 +1,4 @@
+pub mod Heard
+pub mod Forgetting
+pub mod Queries
+pub mod Examples

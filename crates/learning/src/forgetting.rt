@@ -1,0 +1,52 @@
+//! What a router forgets when a period passes.
+
+ghost use Rattle.std.specs.Prelude.{◌≡◌, if◌then◌else◌};
+ghost use Rattle.rtmp.specs.Routes.{aged, is_over as over};
+ghost use Rattle.zip_zones.specs.Zones.{without};
+ghost use Rattle.learning.specs.Forgetting.{without_gone};
+
+use rtmp::{RouteTable, Row, State};
+use zip_zones::ZoneTable;
+
+/// Whether the row goes when a period passes.
+fn is_over(row: &Row) -> bool
+    ensures { result ≡ over row.now }
+{
+    match row.state {
+        State::Last => !row.is_direct(),
+        _ => false,
+    }
+}
+
+/// Forgets the list of the row's range, where the row goes.
+fn forget_list(zones: &mut ZoneTable, row: &Row)
+    ensures { zones.new ≡ (if over row.now then without row.now.range zones.old else zones.old) }
+{
+    if is_over(row) {
+        zones.remove(row.range);
+    }
+}
+
+/// Forgets the lists of the ranges whose rows go.
+fn forget_lists<T: RouteTable>(routes: &T, zones: &mut ZoneTable)
+    ensures { zones.new ≡ without_gone (T.rows routes.now) zones.old }
+{
+    for index in 0..routes.len() {
+        if let Some(row) = routes.row(index) {
+            forget_list(zones, &row);
+        }
+    }
+}
+
+/// A period passes. Each row that isn't direct grows older, from good through suspect and bad to
+/// its last state; one that was in its last state is removed, and the zone list of its range with
+/// it. Allocates nothing.
+///
+/// Inside AppleTalk, the chapters on RTMP and ZIP.
+pub fn forget<T: RouteTable>(routes: &mut T, zones: &mut ZoneTable)
+    ensures routes { T.rows routes.new ≡ aged (T.rows routes.old) }
+    ensures zones { zones.new ≡ without_gone (T.rows routes.old) zones.old }
+{
+    forget_lists(routes, zones);
+    routes.age();
+}

@@ -1,0 +1,18 @@
+//! What a router learns of its neighbours, and forgets: pure calls on its routing table and its
+//! zone table.
+#![tactic(auto)]
+
+mod asking;
+mod forgetting;
+mod laws;
+mod lists;
+mod query;
+mod routes;
+mod zones;
+
+pub use asking::queries;
+pub use forgetting::forget;
+pub use laws::{the_examples_of_ageing, the_examples_of_queries, the_examples_of_routes_heard};
+pub use query::Query;
+pub use routes::learn_routes;
+pub use zones::learn_zones;

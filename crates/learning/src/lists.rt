@@ -1,0 +1,118 @@
+//! What a router learns from replies that have whole lists.
+
+ghost use Rattle.std.specs.Prelude.{◌≡◌, [], fold, length, if◌then◌else◌};
+ghost use Rattle.std.specs.Prelude.{IfOk, OnOk, IsOkUnless};
+ghost use Rattle.std.specs.List.{list_any};
+ghost use Rattle.std.specs.Prelude.{◌==◌};
+ghost use Rattle.zip_zones.specs.Answers.{after_list, is_taken, names_for as names_in};
+ghost use Rattle.zip_zones.specs.Answers.{networks_named};
+ghost use Rattle.zip_zones.specs.Zones.{set_list, with_known};
+
+use crate::zones::range_of;
+use at_base::{Error, Name, Range};
+use rtmp::RouteTable;
+use std::alloc::Global;
+use zip_zones::{Entries, Entry, ZoneTable};
+
+/// What the table's lists are allocated by. Error: `Memory`, which an empty list never needs.
+fn allocator_of(zones: &ZoneTable) -> Result<Global, Error>
+    ensures { IsOkUnless result Error.Memory }
+{
+    // No range holds network 0.
+    let none = zones.names_of(0)?;
+    Ok(*none.allocator())
+}
+
+/// The entries, in order. Error: `Memory`.
+fn all_of(alloc: Global, entries: Entries<'_>) -> Result<Vec<Entry>, Error>
+    ensures ok { IfOk result (λ all. all.items ≡ entries.entry) }
+    ensures refused { IsOkUnless result Error.Memory }
+{
+    let mut all = Vec::new(alloc);
+    for entry in entries {
+        all.push(entry)?;
+    }
+    Ok(all)
+}
+
+/// The names that the entries have for a network. Error: `Memory`.
+fn names_for(alloc: Global, entries: &[Entry], net: u16) -> Result<Vec<Name>, Error>
+    ensures ok { IfOk result (λ names. names.items ≡ names_in net entries.now) }
+    ensures refused { IsOkUnless result Error.Memory }
+{
+    let names = entries.iter().filter(|entry| entry.net == net);
+    Ok(names.map(|entry| entry.name).collect(alloc)?)
+}
+
+/// Whether one of the entries is of the network.
+fn has_network(entries: &[Entry], net: u16) -> bool
+    ensures { result ≡ list_any (λ e. e.net == net) entries.now }
+{
+    entries.iter().any(|entry| entry.net == net)
+}
+
+/// Takes the whole list of a range, and leaves it out where there is no room for it.
+fn take_list(zones: &mut ZoneTable, range: Range, names: &[Name]) -> Result<(), Error>
+    ensures ok { OnOk result (zones.new ≡ (if is_taken range (length names.now) zones.old
+        then with_known (set_list range names.now) zones.old else zones.old)) }
+    ensures refused { IsOkUnless result Error.Memory }
+{
+    match zones.set(range, names) {
+        Ok(()) | Err(Error::BadRange | Error::Full) => Ok(()),
+        Err(error) => Err(error),
+    }
+}
+
+/// Learns the whole list of a network. Error: `Memory`.
+fn learn_list<T: RouteTable>(
+    zones: &mut ZoneTable,
+    routes: &T,
+    entries: &[Entry],
+    net: u16,
+) -> Result<(), Error>
+    ensures ok { OnOk result
+        (zones.new ≡ after_list (T.rows routes.now) entries.now zones.old net) }
+    ensures refused { IsOkUnless result Error.Memory }
+{
+    match range_of(routes, net) {
+        Some(range) => {
+            let alloc = allocator_of(zones)?;
+            let names = names_for(alloc, entries, net)?;
+            take_list(zones, range, names.as_slice())
+        }
+        None => Ok(()),
+    }
+}
+
+/// Learns the list of each network of these entries, where it first comes. Error: `Memory`.
+fn learn_each<T: RouteTable>(
+    zones: &mut ZoneTable,
+    routes: &T,
+    entries: &[Entry],
+) -> Result<(), Error>
+    ensures ok { OnOk result (zones.new ≡ fold (after_list (T.rows routes.now) entries.now)
+        zones.old (networks_named entries.now)) }
+    ensures refused { IsOkUnless result Error.Memory }
+{
+    for (index, entry) in entries.iter().enumerate() {
+        if !has_network(&entries[..index], entry.net) {
+            learn_list(zones, routes, entries, entry.net)?;
+        }
+    }
+    Ok(())
+}
+
+/// Learns the whole lists of a reply. Error: `Memory`.
+pub(crate) fn learn_lists<T: RouteTable>(
+    zones: &mut ZoneTable,
+    routes: &T,
+    entries: Entries<'_>,
+) -> Result<(), Error>
+    ensures ok { OnOk result (zones.new ≡ fold (after_list (T.rows routes.now) entries.entry)
+        zones.old (networks_named entries.entry)) }
+    ensures refused { IsOkUnless result Error.Memory }
+{
+    let alloc = allocator_of(zones)?;
+    let all = all_of(alloc, entries)?;
+    learn_each(zones, routes, all.as_slice())
+}

@@ -1,0 +1,38 @@
+//! What a router learns from packets of routing data.
+
+ghost use Rattle.std.specs.Prelude.{◌≡◌, OnOk, IsOkUnless};
+ghost use Rattle.learning.specs.Heard.{is_from_neighbour, routes_after};
+
+use at_base::{Error, Range};
+use rtmp::{DataPacket, RouteTable, hear_packet};
+
+/// Whether a packet comes from a router on a cable of this range, and was sent there.
+fn is_neighbours(range: Range, packet: &DataPacket<'_>) -> bool
+    ensures { result ≡ is_from_neighbour range packet.now }
+{
+    range.holds(packet.router().net) && packet.own() == range
+}
+
+/// Hears a packet of routing data that came in on a port, whose cable has this range: each of its
+/// tuples in turn, but for those for whose ranges there is no room.
+///
+/// A packet whose router's network isn't in the range, or whose first tuple has another range, is
+/// ignored.
+///
+/// Inside AppleTalk, the chapter on RTMP; which packets are ignored is this project's own. Error:
+/// `Memory`, after which only some of the tuples were heard.
+pub fn learn_routes<T: RouteTable>(
+    routes: &mut T,
+    range: Range,
+    port: u8,
+    packet: &DataPacket<'_>,
+) -> Result<(), Error>
+    ensures ok { OnOk result
+        (T.rows routes.new ≡ routes_after range port packet.now (T.rows routes.old)) }
+    ensures refused { IsOkUnless result Error.Memory }
+{
+    if !is_neighbours(range, packet) {
+        return Ok(());
+    }
+    hear_packet(routes, packet, port)
+}

@@ -1,0 +1,91 @@
+//! What a router learns from replies to its queries.
+
+ghost use Rattle.std.specs.Prelude.{◌≡◌, fold, if◌then◌else◌, OnOk, IsOkUnless};
+ghost use Rattle.zip_zones.specs.Answers.{after_name, after_reply, is_taken, range_heard};
+ghost use Rattle.zip_zones.specs.Zones.{heard};
+
+use crate::lists::learn_lists;
+use at_base::{Error, Range};
+use rtmp::RouteTable;
+use zip_zones::{Entries, Entry, Packet, ZoneTable};
+
+/// The range whose list a reply for the network is: that of its usable row, unless that row is
+/// direct.
+pub(crate) fn range_of<T: RouteTable>(routes: &T, net: u16) -> Option<Range>
+    ensures { result ≡ range_heard (T.rows routes.now) net }
+{
+    match routes.row_for(net) {
+        Some(row) if !row.is_direct() => Some(row.range),
+        _ => None,
+    }
+}
+
+/// Takes a name of a range that has so many zones, and leaves it out where there is no room for it.
+fn take_name(zones: &mut ZoneTable, range: Range, total: u8, entry: &Entry) -> Result<(), Error>
+    ensures ok { OnOk result (zones.new ≡ (if is_taken range total zones.old
+        then heard range total entry.now.name zones.old else zones.old)) }
+    ensures refused { IsOkUnless result Error.Memory }
+{
+    match zones.add(range, total, &entry.name) {
+        Ok(()) | Err(Error::BadRange | Error::Full) => Ok(()),
+        Err(error) => Err(error),
+    }
+}
+
+/// Learns a name of a network that has so many zones. Error: `Memory`.
+fn learn_name<T: RouteTable>(
+    zones: &mut ZoneTable,
+    routes: &T,
+    total: u8,
+    entry: &Entry,
+) -> Result<(), Error>
+    ensures ok { OnOk result
+        (zones.new ≡ after_name (T.rows routes.now) total zones.old entry.now) }
+    ensures refused { IsOkUnless result Error.Memory }
+{
+    match range_of(routes, entry.net) {
+        Some(range) => take_name(zones, range, total, entry),
+        None => Ok(()),
+    }
+}
+
+/// Learns the names of an extended reply, one by one. Error: `Memory`.
+fn learn_names<T: RouteTable>(
+    zones: &mut ZoneTable,
+    routes: &T,
+    total: u8,
+    entries: Entries<'_>,
+) -> Result<(), Error>
+    ensures ok { OnOk result
+        (zones.new ≡ fold (after_name (T.rows routes.now) total) zones.old entries.entry) }
+    ensures refused { IsOkUnless result Error.Memory }
+{
+    for entry in entries {
+        learn_name(zones, routes, total, &entry)?;
+    }
+    Ok(())
+}
+
+/// Learns zone lists from a packet of ZIP: only replies teach any. A name is taken for a network
+/// whose usable row isn't direct, as one of that row's range.
+///
+/// In a reply of function 2 the names of a network are its whole list. In one of function 8 they
+/// are some of a list that has as many zones as the reply says. What the zone table has no room
+/// for, or what overlaps another range of it, is left out.
+///
+/// Inside AppleTalk, the chapter on ZIP; for which rows replies are taken, and what is left out, is
+/// this project's own. Error: `Memory`, after which only some of the names were taken.
+pub fn learn_zones<T: RouteTable>(
+    zones: &mut ZoneTable,
+    routes: &T,
+    packet: Packet<'_>,
+) -> Result<(), Error>
+    ensures ok { OnOk result (zones.new ≡ after_reply (T.rows routes.now) packet.entry zones.old) }
+    ensures refused { IsOkUnless result Error.Memory }
+{
+    match packet {
+        Packet::Reply(_, entries) => learn_lists(zones, routes, entries),
+        Packet::ExtendedReply(total, entries) => learn_names(zones, routes, total, entries),
+        _ => Ok(()),
+    }
+}
