@@ -1,9 +1,8 @@
 //! What a router learns from replies that have whole lists.
 
-ghost use Rattle.std.specs.Prelude.{◌≡◌, [], fold, length, if◌then◌else◌};
+ghost use Rattle.std.specs.Prelude.{◌≡◌, ◌==◌, fold, length, if◌then◌else◌};
 ghost use Rattle.std.specs.Prelude.{IfOk, OnOk, IsOkUnless};
 ghost use Rattle.std.specs.List.{list_any};
-ghost use Rattle.std.specs.Prelude.{◌==◌};
 ghost use Rattle.zip_zones.specs.Answers.{after_list, is_taken, names_for as names_in};
 ghost use Rattle.zip_zones.specs.Answers.{networks_named};
 ghost use Rattle.zip_zones.specs.Zones.{set_list, with_known};
