@@ -1,6 +1,6 @@
 -- What a node asks for names is neither a forward request nor a lookup.
 use Rattle.std.proofs.Common.{◌≡◌, ℕ, Bool, true, false, ◌||◌, ◌&&◌, ◌==◌, ◌/◌, ◌%◌, cond, if◌then◌else◌, nat_lt, length, List, [], ◌∷◌, Option, Some, None}
-use Rattle.std.proofs.Common.{Result, Ok, Err, refl, sym, ap, ◌∙◌, subst, drop, arith}
+use Rattle.std.proofs.Common.{Result, Ok, Err, refl, sym, ap, subst, arith}
 use Rattle.std.proofs.lemmas.Bool.{le-ltb}
 use Rattle.at_base.proofs.Readers.{begins_read}
 use Rattle.at_base.specs.Grammar.{Grammar, done, field, list, number, one}

@@ -14,7 +14,7 @@ use Rattle.cable_model.specs.Transcript.{Entry, Sent, Took, count, stamps}
 use Rattle.cable_model.specs.declared.resolve.Found.{Found}
 use Rattle.cable_model.specs.declared.resolve.Found.TheVariants.{At, Nobody, Later}
 use Rattle.ddp.specs.Bodies.{body, hops, target}
-use Rattle.frozen.proofs.Keeps.{TookSo, took_so}
+use Rattle.frozen.proofs.Keeps.{took_so}
 use Rattle.frozen.specs.Events.{SentBy}
 use Rattle.frozen.specs.Orders.{bytes_for}
 use Rattle.frozen.specs.Promises.{HaveOnlyAsked, is_routers_request}
@@ -24,7 +24,7 @@ use Rattle.image_stations.specs.Holders.{places_of}
 use Rattle.legal_answers.proofs.Asked.{unended}
 use Rattle.legal_runs.proofs.Listing.{other_alone}
 use Rattle.legal_runs.specs.Answers.{Answers, Expanded, LookedUp, Others, asks_here, ends_at, is_other, seeks_here}
-use Rattle.legal_runs.specs.Legal.{Block, Sends, Takes, handled, said}
+use Rattle.legal_runs.specs.Legal.{Block, Sends, Takes, said}
 use Rattle.legal_runs.specs.Legs.{Leg, fate, fate_by, final, is_copy, is_unicast, leg, leg_to, passed, to_other, to_target}
 use Rattle.legal_runs.specs.Lookups.{is_unasked}
 use Rattle.legal_runs.specs.Requests.{is_forward, is_lookup, request}

@@ -63,9 +63,9 @@ at_rest_looked_up r k c frozen rest only is =
     let none = none_left r frozen rest (forwarded r.internet k c) in
     omega (arith, counted, none)
 
-pub at_rest_not_looked_up : (r : Running) (k : List ℕ) (c : ℕ) → IsFrozen r → IsAtRest r → HaveOnlyAsked r
+pub not_looked_up : (r : Running) (k : List ℕ) (c : ℕ) → IsFrozen r → HaveOnlyAsked r
     → is_among c (listing r.internet (zone_of k)) ≡ false → lookups r.internet k c (transcript r.cabling) ≡ 0
-at_rest_not_looked_up r k c frozen rest only is =
+not_looked_up r k c frozen only is =
     let counted = ((looks_up r frozen only).1 k).others c is in
     omega (arith, counted)
 

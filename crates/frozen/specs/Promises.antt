@@ -1,5 +1,5 @@
 -- What a run keeps at every moment, as its calls promise it. This project's own.
-use Rattle.std.specs.Prelude.{◌≡◌, ℕ, Bool, false, ◌||◌, ◌==◌, List, [], Result, Ok, length}
+use Rattle.std.specs.Prelude.{◌≡◌, ℕ, Bool, false, ◌||◌, List, [], Result, Ok, length}
 use Rattle.at_base.specs.declared.error.Error.{Error}
 use Rattle.cable_model.specs.Logs.{transcript}
 use Rattle.cable_model.specs.Pending.{pending}

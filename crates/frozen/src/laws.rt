@@ -28,10 +28,10 @@ pub fn promises_hold()
         → IsLookedUp r.internet (transcript r.cabling) k }
 {}
 
-/// The headline, where nothing is pending any more: each datagram to a listed network has reached its
-/// destination's cable, as often as it was sent, and no other cable; and, where no node sent a forward
-/// request or a lookup, each request for names that was asked was taken, and has made one lookup on
-/// each cable that lists its zone, and none on another. This project's own.
+/// The headline, where nothing is pending any more: each datagram to a listed network has reached
+/// its destination's cable, as often as it was sent, and no other cable; and, where no node sent a
+/// forward request or a lookup, each request for names that was asked was taken, and has made one
+/// lookup on each cable that lists its zone, and none on another. This project's own.
 pub fn the_headline()
     ensures arrived { (r : Running) (b : List ℕ) (c : ℕ) → IsFrozen r → IsAtRest r
         → home r.internet (target b).net ≡ Some c
@@ -44,7 +44,7 @@ pub fn the_headline()
     ensures looked_up { (r : Running) (k : List ℕ) (c : ℕ) → IsFrozen r → IsAtRest r
         → HaveOnlyAsked r → is_among c (listing r.internet (zone_of k)) ≡ true
         → lookups r.internet k c (transcript r.cabling) ≡ taken r.internet k (transcript r.cabling) }
-    ensures not_looked_up { (r : Running) (k : List ℕ) (c : ℕ) → IsFrozen r → IsAtRest r
+    ensures not_looked_up { (r : Running) (k : List ℕ) (c : ℕ) → IsFrozen r
         → HaveOnlyAsked r → is_among c (listing r.internet (zone_of k)) ≡ false
         → lookups r.internet k c (transcript r.cabling) ≡ 0 }
 {}

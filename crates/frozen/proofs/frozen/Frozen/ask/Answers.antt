@@ -1,4 +1,4 @@
-use Rattle.std.proofs.Common.{Some, ◌≡◌, ap, sym, subst, ◌∙◌, Result, Ok, None, IfErr, OnOk, length, ◌+◌, ◌||◌, false, List, ℕ}
+use Rattle.std.proofs.Common.{Some, ◌≡◌, ap, sym, subst, ◌∙◌, Result, Ok, None, IfErr, OnOk, length, ◌+◌, ◌||◌, List, ℕ}
 use Rattle.std.proofs.lemmas.Result.{on_ok_weaker}
 use Rattle.at_base.specs.declared.error.Error.{Error}
 use Rattle.ddp.specs.Bodies.{body}
@@ -7,7 +7,7 @@ use Rattle.frozen.proofs.Fair.{ask_fair}
 use Rattle.frozen.proofs.Refused.{of_both, room_ok, room_refused}
 use Rattle.frozen.specs.Events.{IsRefused, SentBy, Sends, order_refusal}
 use Rattle.frozen.specs.Orders.{IsFair, ask_data, ask_order, bytes_for}
-use Rattle.frozen.specs.Promises.{HaveOnlyAsked, is_routers_request}
+use Rattle.frozen.specs.Promises.{HaveOnlyAsked}
 use Rattle.frozen.specs.Runs.{Running}
 use Rattle.frozen.specs.declared.order.Order.{Order}
 use Rattle.ddp.specs.Datagram.{datagram_of}

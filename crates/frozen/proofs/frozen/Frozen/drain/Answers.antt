@@ -2,7 +2,6 @@ use Rattle.std.proofs.Common.{◌<◌, length, sym, subst}
 use Rattle.frozen.proofs.Promised.{all_carried, each_once, has_hops, looks_up}
 use Rattle.frozen.proofs.Seats.{next_within}
 use Rattle.frozen.specs.Events.{DrainStops, IsNext, Taken, Undrained}
-use Rattle.frozen.specs.Promises.{LooksUp}
 use Rattle.frozen.specs.Runs.{IsFrozen, Running}
 use Rattle.frozen.proofs.frozen.Frozen.drain.Goals as goal
 
