@@ -1,5 +1,6 @@
 -- What follows of a run over frozen tables.
-use Rattle.std.proofs.Common.{◌≡◌, Bool, true, false, List, ℕ, Option, Some, None, Result, Ok, Err, refl, sym, ap, ◌∙◌, length, arith}
+use Rattle.std.proofs.Common.{◌≡◌, Bool, true, false, List, ℕ, Option, Some, None, Result, Ok, Err, refl, sym, ap, ◌∙◌}
+use Rattle.std.proofs.Common.{length, arith}
 use Rattle.at_base.specs.declared.error.Error.{Error}
 use Rattle.audit.specs.Routing.{home}
 use Rattle.cable_model.specs.Logs.{transcript}
@@ -71,7 +72,8 @@ not_looked_up r k c frozen only is =
 
 -- ---- The internet stays
 
-sends_stays : (old new : Running) (o : Result Order Error) (payload : List ℕ) → Sends old o payload new → new.internet ≡ old.internet
+sends_stays : (old new : Running) (o : Result Order Error) (payload : List ℕ) → Sends old o payload new
+    → new.internet ≡ old.internet
 sends_stays old new (Err e) payload h = absurd h
 sends_stays old new (Ok o) payload h = h.internet
 

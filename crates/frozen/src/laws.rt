@@ -43,7 +43,8 @@ pub fn the_headline()
         → asked r.internet k (transcript r.cabling) ≡ taken r.internet k (transcript r.cabling) }
     ensures looked_up { (r : Running) (k : List ℕ) (c : ℕ) → IsFrozen r → IsAtRest r
         → HaveOnlyAsked r → is_among c (listing r.internet (zone_of k)) ≡ true
-        → lookups r.internet k c (transcript r.cabling) ≡ taken r.internet k (transcript r.cabling) }
+        → lookups r.internet k c (transcript r.cabling)
+        ≡ taken r.internet k (transcript r.cabling) }
     ensures not_looked_up { (r : Running) (k : List ℕ) (c : ℕ) → IsFrozen r
         → HaveOnlyAsked r → is_among c (listing r.internet (zone_of k)) ≡ false
         → lookups r.internet k c (transcript r.cabling) ≡ 0 }
