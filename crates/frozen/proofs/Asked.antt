@@ -1,5 +1,6 @@
 -- What a node asks for names is neither a forward request nor a lookup.
-use Rattle.std.proofs.Common.{◌≡◌, ℕ, Bool, true, false, ◌||◌, ◌&&◌, ◌==◌, ◌/◌, ◌%◌, cond, if◌then◌else◌, nat_lt, length, List, [], ◌∷◌, Option, Some, None}
+use Rattle.std.proofs.Common.{◌≡◌, ℕ, Bool, true, false, ◌||◌, ◌&&◌, ◌==◌, ◌/◌, ◌%◌, cond, if◌then◌else◌, nat_lt}
+use Rattle.std.proofs.Common.{length, List, [], ◌∷◌, Option, Some, None}
 use Rattle.std.proofs.Common.{Result, Ok, Err, refl, sym, ap, subst, arith}
 use Rattle.std.proofs.lemmas.Bool.{le-ltb}
 use Rattle.at_base.proofs.Readers.{begins_read}
@@ -37,7 +38,8 @@ IsQuiet o = (is_forward o || is_lookup o) ≡ false
 abbrev Quiet : Result (NbpPacket × List ℕ) Error → Type 0
 Quiet r = IsQuiet (value_of r)
 
-goes_on : {A : Type 0} (r : Result A Error) (f : A → Result (NbpPacket × List ℕ) Error) → ((x : A) → Quiet (f x)) → Quiet (r >>= f)
+goes_on : {A : Type 0} (r : Result A Error) (f : A → Result (NbpPacket × List ℕ) Error) → ((x : A) → Quiet (f x))
+    → Quiet (r >>= f)
 goes_on (Ok x) f h = h x
 goes_on (Err e) f h = refl
 
@@ -79,7 +81,8 @@ front id t = refl
 
 -- so are the bytes of a broadcast request
 asked_quiet : (id : ℕ) (t : Tuple) → IsQuiet (value_of (read packets packet (request_bytes id t)))
-asked_quiet id t = subst (λ (b : List ℕ). Quiet (read packets packet b)) (sym (front id t)) (read_quiet (key (packet_of BroadcastRequest id t)))
+asked_quiet id t =
+    subst (λ (b : List ℕ). Quiet (read packets packet b)) (sym (front id t)) (read_quiet (key (packet_of BroadcastRequest id t)))
 
 nothing_quiet : IsQuiet (value_of (read packets packet []))
 unfolding packet
@@ -97,8 +100,10 @@ data_quiet i a id t = by (node_at i.nodes a)
     by (Some k) = at _
 
 -- nor is what carries them
-pub ask_quiet : (i : Internet) (a : Addr) (id : ℕ) (t : Tuple) (h : Header) → IsQuiet (packet_in (Some (datagram_of h (ask_data i a id t))))
-ask_quiet i a id t h = by (h.kind == 2 && h.target_socket == 2) (value_of (read packets packet (ask_data i a id t))) (data_quiet i a id t)
+pub ask_quiet : (i : Internet) (a : Addr) (id : ℕ) (t : Tuple) (h : Header)
+    → IsQuiet (packet_in (Some (datagram_of h (ask_data i a id t))))
+ask_quiet i a id t h =
+    by (h.kind == 2 && h.target_socket == 2) (value_of (read packets packet (ask_data i a id t))) (data_quiet i a id t)
   where
     by : (b : Bool) (o : Option NbpPacket) → IsQuiet o → IsQuiet (cond b o None)
     by true o h = h

@@ -1,5 +1,6 @@
 -- Which entries say that a node sent a forward request or a lookup: only its own sending adds one.
-use Rattle.std.proofs.Common.{◌≡◌, ℕ, ◌+◌, Bool, true, false, not, ◌&&◌, ◌||◌, ◌==◌, cond, List, [], ◌∷◌, ◌++◌, Option, Some, None, is_some}
+use Rattle.std.proofs.Common.{◌≡◌, ℕ, ◌+◌, Bool, true, false, not, ◌&&◌, ◌||◌, ◌==◌, cond, List, [], ◌∷◌, ◌++◌}
+use Rattle.std.proofs.Common.{Option, Some, None, is_some}
 use Rattle.std.proofs.Common.{refl, sym, ap, ◌∙◌, subst, arith}
 use Rattle.std.specs.List.{AllByRecursion as Each}
 use Rattle.std.proofs.lemmas.Bool.{and_right}
@@ -8,7 +9,8 @@ use Rattle.audit.specs.Routing.{Hand, Here, On, Nowhere, hand, home}
 use Rattle.audit.specs.Seats.{Seat as PlaceOf, seat_at}
 use Rattle.cable_model.proofs.Counting.{count-append}
 use Rattle.cable_model.specs.Logs.{transcript}
-use Rattle.cable_model.specs.Outcomes.{Places, Sender, leg as leg_on, sent_entries, to_other as to_other_on, to_target as to_target_on}
+use Rattle.cable_model.specs.Outcomes.{Places, Sender, leg as leg_on, sent_entries}
+use Rattle.cable_model.specs.Outcomes.{to_other as to_other_on, to_target as to_target_on}
 use Rattle.cable_model.specs.Pending.{Pair}
 use Rattle.cable_model.specs.Transcript.{Entry, Sent, Took, count, stamps}
 use Rattle.cable_model.specs.declared.resolve.Found.{Found}
@@ -121,7 +123,8 @@ module _ (i : Internet) where
       none false r o e = refl
       none true true o e = cc
 
-  answers_asked : (p : Pair) (ls : List Leg) → Each (λ (l : Leg). l.station ≡ p.seat.station) ls → Answers i p ls → Each IsAsked ls
+  answers_asked : (p : Pair) (ls : List Leg) → Each (λ (l : Leg). l.station ≡ p.seat.station) ls → Answers i p ls
+      → Each IsAsked ls
   answers_asked p ls by answers = of (is_router i p.seat.station) refl answers
     where
       apart : (b : Bool) → b ≡ true → b ≡ false → ⊥
@@ -139,7 +142,8 @@ module _ (i : Internet) where
   block_none t b (Sends l made own) stamp s others e = cc
   block_none t b (Takes p ls there made by answers) stamp s others e =
       let fs = fate i (stamps t) p in
-      let gone = either_none (is_copy i p) _ [] (fate_none (stamps t) p.seat.station p (hand i p.seat.station (target p.frame.bytes).net)) refl in
+      let handed = hand i p.seat.station (target p.frame.bytes).net in
+      let gone = either_none (is_copy i p) _ [] (fate_none (stamps t) p.seat.station p handed) refl in
       let rest = said_none (stamps t + stamps fs) ls (answers_asked p ls by answers) in
       let parts = count-append (is_unasked i) fs (said i (stamps t + stamps fs) ls) in
       omega (arith, gone, rest, parts)

@@ -5,15 +5,17 @@ use Rattle.std.proofs.lemmas.List.{length-set}
 use Rattle.std.specs.Option.{unwrap_or}
 use Rattle.audit.proofs.WalkLists.{At}
 use Rattle.audit.specs.Rules.{Passes}
-use Rattle.cable_model.specs.Logs.{transcript}
+use Rattle.cable_model.specs.Logs.{Cabling, transcript}
 use Rattle.cable_model.specs.Outcomes.{all_entries, heard_by, leg as leg_on}
 use Rattle.cable_model.specs.Pending.{Pair, pending}
 use Rattle.cable_model.specs.Transcript.{Entry, Sent, Took, stamps}
+use Rattle.cable_model.specs.declared.seat.Seat.{Seat}
 use Rattle.ddp.specs.Bodies.{body}
 use Rattle.end_node.specs.Answers.{Hears as NodeHears}
 use Rattle.end_node.specs.Holding.{NodeHolding}
 use Rattle.frozen.specs.Events.{SentBy}
 use Rattle.frozen.specs.Orders.{IsFair, bytes_for}
+use Rattle.frozen.specs.Promises.{HaveOnlyAsked}
 use Rattle.frozen.specs.Runs.{IsFrozen, Running, TakenBy}
 use Rattle.frozen.specs.declared.order.Order.{Order}
 use Rattle.image_stations.specs.Holders.{HoldStations, HoldsStation, places_of}
@@ -26,7 +28,7 @@ use Rattle.legal_answers.proofs.NodeTakes.{node_takes}
 use Rattle.legal_answers.proofs.RouterTakes.{router_takes}
 use Rattle.legal_runs.proofs.Frames.{whole}
 use Rattle.legal_runs.specs.Answers.{IsMade, IsOwn}
-use Rattle.legal_runs.specs.Legal.{Block, Goes, IsLegal}
+use Rattle.legal_runs.specs.Legal.{Begins, Block, Goes, IsLegal}
 use Rattle.legal_runs.specs.Legs.{Leg}
 use Rattle.legal_runs.specs.Stations.{cable_seats}
 use Rattle.router.specs.Answers.{Hears as RouterHears}
@@ -84,6 +86,21 @@ frozen_of r i e ok bounded holders seats legal = record {
   seats = seats ∙ ap cable_seats (sym e);
   legal = subst (λ j. IsLegal j (transcript r.cabling)) (sym e) legal;
 }
+
+-- a run in which nothing has happened yet
+pub begun : (i j : Internet) (stations : List (Member Holding NodeHolding)) (k : Cabling) (seats : List Seat) (limit : ℕ) → j ≡ i
+    → k ≡ record { seats = seats; limit = limit; lines = []; kept = []; waiting = [] } → seats ≡ cable_seats i → Passes i
+    → IsBounded i → HoldStations i stations → IsFrozen (record { internet = j; stations = stations; cabling = k })
+begun i j stations k seats limit same is on ok bounded holders =
+    frozen_of (record { internet = j; stations = stations; cabling = k }) i same ok bounded holders (ap (λ (c : Cabling). c.seats) is ∙ on)
+    (subst (λ c. IsLegal i (transcript c)) (sym is) Begins)
+
+-- nobody has asked in it
+pub begun_asks : (j : Internet) (stations : List (Member Holding NodeHolding)) (k : Cabling) (seats : List Seat) (limit : ℕ)
+    → k ≡ record { seats = seats; limit = limit; lines = []; kept = []; waiting = [] }
+    → HaveOnlyAsked (record { internet = j; stations = stations; cabling = k })
+begun_asks j stations k seats limit is =
+    subst (λ c. HaveOnlyAsked (record { internet = j; stations = stations; cabling = c })) (sym is) refl
 
 -- what was taken of a run, as a block, and what its taker holds then
 pub record TookSo (old new : Running) (stamp s : ℕ) : Type 0 where

@@ -1,5 +1,6 @@
 -- What follows of a run over frozen tables.
-use Rattle.std.proofs.Common.{◌≡◌, Bool, true, false, List, ℕ, Option, Some, None, Result, Ok, Err, refl, sym, ap, ◌∙◌, length, arith}
+use Rattle.std.proofs.Common.{◌≡◌, Bool, true, false, List, ℕ, Option, Some, None, Result, Ok, Err, refl, sym, ap, ◌∙◌}
+use Rattle.std.proofs.Common.{length, arith}
 use Rattle.at_base.specs.declared.error.Error.{Error}
 use Rattle.audit.specs.Routing.{home}
 use Rattle.cable_model.specs.Logs.{transcript}
@@ -63,15 +64,16 @@ at_rest_looked_up r k c frozen rest only is =
     let none = none_left r frozen rest (forwarded r.internet k c) in
     omega (arith, counted, none)
 
-pub at_rest_not_looked_up : (r : Running) (k : List ℕ) (c : ℕ) → IsFrozen r → IsAtRest r → HaveOnlyAsked r
+pub not_looked_up : (r : Running) (k : List ℕ) (c : ℕ) → IsFrozen r → HaveOnlyAsked r
     → is_among c (listing r.internet (zone_of k)) ≡ false → lookups r.internet k c (transcript r.cabling) ≡ 0
-at_rest_not_looked_up r k c frozen rest only is =
+not_looked_up r k c frozen only is =
     let counted = ((looks_up r frozen only).1 k).others c is in
     omega (arith, counted)
 
 -- ---- The internet stays
 
-sends_stays : (old new : Running) (o : Result Order Error) (payload : List ℕ) → Sends old o payload new → new.internet ≡ old.internet
+sends_stays : (old new : Running) (o : Result Order Error) (payload : List ℕ) → Sends old o payload new
+    → new.internet ≡ old.internet
 sends_stays old new (Err e) payload h = absurd h
 sends_stays old new (Ok o) payload h = h.internet
 

@@ -39,7 +39,12 @@ use std::marker::Model;
 use table_image::Image;
 
 /// A run over the frozen tables of an internet that passes the audit: what its stations hold, and
-/// what happened on its cables. This project's own.
+/// what happened on its cables. Each call that starts a run or goes on with it says of what it
+/// leaves, also where it refuses, that each datagram to a listed network is under way once or has
+/// reached its destination's cable once (`conserved`), that it has hops enough (`hops`), that at
+/// most fifteen routers carried it (`carried`), and, as long as no node sends a forward request or a
+/// lookup, that each request for names that was taken has made its lookups, or is on its way to
+/// them, on exactly the cables that list its zone (`looked_up`). This project's own.
 #[derive(Drop)]
 pub struct Frozen<T: RouteTable> {
     places: Whereabouts,

@@ -29,9 +29,9 @@ pub fn promises_hold()
         → IsLookedUp r.internet (transcript r.cabling) k }
 {}
 
-/// The headline, in one place. In every run over frozen tables, which starts only where the audit says
-/// yes, each datagram to a listed network is under way once or has reached its destination's cable
-/// once, carried by at most fifteen routers over cables that they share; and, when no frame is
+/// The headline, in one place. In every run over frozen tables, which starts only where the audit
+/// says yes, each datagram to a listed network is under way once or has reached its destination's
+/// cable once, carried by at most fifteen routers over cables that they share; and, when no frame is
 /// pending and no node sent a forward request or a lookup, each broadcast request was taken, and has
 /// made one lookup on each cable that lists its zone, and none on another. Then each datagram to a
 /// listed network has reached its cable as often as it was sent. This project's own.
@@ -49,8 +49,9 @@ pub fn the_headline()
         → asked r.internet k (transcript r.cabling) ≡ taken r.internet k (transcript r.cabling) }
     ensures looked_up { (r : Running) (k : List ℕ) (c : ℕ) → IsFrozen r → IsAtRest r
         → HaveOnlyAsked r → is_among c (listing r.internet (zone_of k)) ≡ true
-        → lookups r.internet k c (transcript r.cabling) ≡ taken r.internet k (transcript r.cabling) }
-    ensures not_looked_up { (r : Running) (k : List ℕ) (c : ℕ) → IsFrozen r → IsAtRest r
+        → lookups r.internet k c (transcript r.cabling)
+        ≡ taken r.internet k (transcript r.cabling) }
+    ensures not_looked_up { (r : Running) (k : List ℕ) (c : ℕ) → IsFrozen r
         → HaveOnlyAsked r → is_among c (listing r.internet (zone_of k)) ≡ false
         → lookups r.internet k c (transcript r.cabling) ≡ 0 }
 {}

@@ -1,4 +1,4 @@
-use Rattle.frozen.proofs.Promised.{all_carried, at_rest_arrived, at_rest_looked_up, at_rest_not_looked_up, at_rest_taken, each_once}
+use Rattle.frozen.proofs.Promised.{all_carried, at_rest_arrived, at_rest_looked_up, at_rest_taken, each_once, not_looked_up}
 use Rattle.frozen.proofs.laws.the_headline.Goals as goal
 
 pub returns-clause-arrived : goal.returns-clause-arrived
@@ -14,7 +14,7 @@ pub returns-clause-looked_up : goal.returns-clause-looked_up
 returns-clause-looked_up c = at_rest_looked_up
 
 pub returns-clause-not_looked_up : goal.returns-clause-not_looked_up
-returns-clause-not_looked_up c = at_rest_not_looked_up
+returns-clause-not_looked_up c = not_looked_up
 
 pub returns-clause-audited : goal.returns-clause-audited
 returns-clause-audited c = λ r f. f.passes
