@@ -15,13 +15,22 @@ fn put_digit(text: &mut Vec<u8>, digit: u8) -> Result<(), AllocError>
     Ok(())
 }
 
-/// Appends a number in decimal.
+/// Appends a number in decimal. Most numbers are short, and take one call.
 #[tactic(auto, using(std::proofs::lemmas::Fmt::decimal_digit))]
 pub(crate) fn put_decimal(text: &mut Vec<u8>, number: u32) -> Result<(), AllocError>
     ensures { OnOk result (text.new.items ≡ text.old.items ++ decimal number) }
 {
     if number < 10 {
         return put_digit(text, number as u8);
+    }
+    if number < 100 {
+        put_digit(text, (number / 10) as u8)?;
+        return put_digit(text, (number % 10) as u8);
+    }
+    if number < 1000 {
+        put_digit(text, (number / 100) as u8)?;
+        put_digit(text, (number / 10 % 10) as u8)?;
+        return put_digit(text, (number % 10) as u8);
     }
     put_decimal(text, number / 10)?;
     put_digit(text, (number % 10) as u8)
