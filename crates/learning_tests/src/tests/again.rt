@@ -76,11 +76,7 @@ pub(crate) fn hear(routes: &mut PlainTable, range: Range, bytes: &[u8]) -> Resul
 }
 
 /// Learns from the packet of ZIP that the bytes are.
-pub(crate) fn learn(
-    zones: &mut ZoneTable,
-    routes: &PlainTable,
-    bytes: &[u8],
-) -> Result<(), Error> {
+pub(crate) fn learn(zones: &mut ZoneTable, routes: &PlainTable, bytes: &[u8]) -> Result<(), Error> {
     match learn_zones(zones, routes, Packet::read(bytes)?) {
         Err(Error::Memory) => learn_zones(zones, routes, Packet::read(bytes)?),
         answer => answer,

@@ -53,7 +53,10 @@ fn leaves(
         [a, b, c, ..] => {
             let near = row(20, 29, 0, NEAR, *a)?;
             let far = row(40, 49, 0, NEAR, *c)?;
-            are(routes, &[own()?, near, row(30, 39, 1, OTHER, *b)?, far, last])
+            are(
+                routes,
+                &[own()?, near, row(30, 39, 1, OTHER, *b)?, far, last],
+            )
         }
     };
     Ok(same && has_lists(zones, starts))
@@ -63,7 +66,10 @@ pub(crate) fn ages_so(alloc: Global) -> Result<bool, Error> {
     let mut table = routes(alloc, &all()?)?;
     let mut zones = lists(alloc)?;
     let steps: [(&[State], &[u16]); 5] = [
-        (&[State::Suspect, State::Bad, State::Last], &[10, 20, 30, 40, 60, 70]),
+        (
+            &[State::Suspect, State::Bad, State::Last],
+            &[10, 20, 30, 40, 60, 70],
+        ),
         (&[State::Bad, State::Last], &[10, 20, 30, 60, 70]),
         (&[State::Last], &[10, 20, 60, 70]),
         (&[], &[10, 60, 70]),

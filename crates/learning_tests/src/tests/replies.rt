@@ -93,10 +93,7 @@ pub(crate) fn lists_taken(
 }
 
 /// Whether the names of 20-29 are these after each packet, and are all of them.
-pub(crate) fn learns_each(
-    alloc: Global,
-    steps: &[(&[u8], &[&[u8]], bool)],
-) -> Result<bool, Error> {
+pub(crate) fn learns_each(alloc: Global, steps: &[(&[u8], &[&[u8]], bool)]) -> Result<bool, Error> {
     let table = routes(alloc, &all()?)?;
     let mut zones = zones(alloc)?;
     for (bytes, names, complete) in steps {
@@ -175,7 +172,11 @@ pub(crate) fn loses_an_overlap(alloc: Global) -> Result<bool, Error> {
     let table = routes(alloc, &all()?)?;
     let mut zones = zones(alloc)?;
     set(&mut zones, Range::new(29, 30)?, &[Name::new(b"Old")?])?;
-    learn(&mut zones, &table, b"\x02\x01\x00\x14\x03Red\x00\x1E\x03Red")?;
+    learn(
+        &mut zones,
+        &table,
+        b"\x02\x01\x00\x14\x03Red\x00\x1E\x03Red",
+    )?;
     learn(&mut zones, &table, b"\x08\x01\x00\x1D\x03Red")?;
     Ok(zones.len() == 1 && has(&zones, 30, &[b"Old"])?)
 }

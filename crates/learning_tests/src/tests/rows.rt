@@ -10,13 +10,7 @@ pub(crate) const NEAR: Addr = Addr { net: 10, node: 2 };
 pub(crate) const OTHER: Addr = Addr { net: 60, node: 3 };
 
 /// The row of a range by a port and a next router.
-pub(crate) fn row(
-    start: u16,
-    end: u16,
-    port: u8,
-    next: Addr,
-    state: State,
-) -> Result<Row, Error> {
+pub(crate) fn row(start: u16, end: u16, port: u8, next: Addr, state: State) -> Result<Row, Error> {
     Ok(Row {
         range: Range::new(start, end)?,
         distance: if next.is_none() { 0 } else { 1 },
