@@ -170,6 +170,14 @@ pub record IsTaken (places : Places) (ports : ℕ) (old new : Cabling) (stamp st
       Adds old new (Took stamp station ∷ all_entries places old.seats station (stamps (transcript old)) added)
   pub waits : map (held_at new.kept) new.waiting ≡ all_held places old.seats station added
 
+-- A station hears this of the frame of a stamp that is pending for it.
+pub record IsHeard (pairs : List Pair) (stamp station : ℕ) (h : Hearing) : Type 0 where
+  pub pair : Pair
+  pub was_pending : Contains pairs pair
+  pub of_stamp : pair.frame.stamp ≡ stamp
+  pub of_station : pair.seat.station ≡ station
+  pub heard : h ≡ heard_by pair
+
 -- The port of a station that is on a cable: that of its seat there.
 abbrev pub port_on : List Seat → ℕ → ℕ → ℕ
 port_on seats cable station = of_seat (find (λ s. s.cable == cable && s.station == station) seats)

@@ -7,11 +7,12 @@ ghost use Rattle.std.specs.List.{list_any};
 ghost use Rattle.at_base.specs.declared.error.What.TheVariants.{Cable, Station};
 ghost use Rattle.cable_model.specs.Books.{HasOneSeat};
 ghost use Rattle.cable_model.specs.Logs.{Adds, bytes_at, transcript as said};
-ghost use Rattle.cable_model.specs.Outcomes.{AreSeatsOf, IsLeast, IsTaken, Places, framed, has_cable, has_stamp};
+ghost use Rattle.cable_model.specs.Outcomes.{AreSeatsOf, IsHeard, IsLeast, IsTaken, Places, framed, has_cable, has_stamp};
 ghost use Rattle.cable_model.specs.Outcomes.{held_at, held_next, is_named, is_seated, port_on};
 ghost use Rattle.cable_model.specs.Outcomes.{sent_entries};
 ghost use Rattle.cable_model.specs.Pending.{pending as pending_on};
 ghost use Rattle.cable_model.specs.Transcript.{AreNumbered, Lost, stamps};
+ghost use Rattle.station.specs.Hearing.{hearing};
 ghost use Rattle.station.specs.Lawful.{IsNext};
 
 use crate::entry::Entry;
@@ -22,7 +23,7 @@ use crate::seat::Seat;
 use crate::waiting::Waiting;
 use crate::{earliest, ending, outcome, putting, seating, taking};
 use at_base::{Bytes, Error, Hw};
-use station::{Kind, Next, Outputs, Station as Taker};
+use station::{Heard, Kind, Next, Outputs, Station as Taker};
 use std::alloc::Global;
 use std::marker::Model;
 
@@ -103,6 +104,19 @@ impl Cables {
             (pending_on self.now.seats (said self.now)) }
     {
         ending::find_pair(&self.log, &self.seats, stamp, station).is_some()
+    }
+
+    /// What the station hears of the frame of a stamp, where it is pending for it. Allocates nothing.
+    pub fn heard(&self, stamp: u32, station: u16) -> Option<Heard<'_>>
+        ensures some { IfSome result (λ h. IsHeard (pending_on self.now.seats (said self.now))
+            stamp station (hearing h)) }
+        ensures none { IfNone result (list_any (is_named stamp station)
+            (pending_on self.now.seats (said self.now)) ≡ false) }
+    {
+        match ending::find_pair(&self.log, &self.seats, stamp, station) {
+            Some(due) => Some(taking::heard_of(&self.log, &self.seats, due)),
+            None => None,
+        }
     }
 
     /// The least stamp of which a frame is pending, and the least station that it is pending for.

@@ -4,3 +4,4 @@ pub mod Sending
 pub mod Lookups
 pub mod Answers
 pub mod Asking
+pub mod Taking

@@ -4,6 +4,7 @@
 mod asking;
 mod hearing;
 mod lists;
+mod live;
 mod lookups;
 mod node;
 mod receive;

@@ -114,7 +114,7 @@ impl EndNode {
     }
 
     /// Whether the node takes a datagram as its own.
-    fn takes(&self, link: Link, view: &View<'_>) -> bool
+    pub(crate) fn takes(&self, link: Link, view: &View<'_>) -> bool
         ensures { result ≡ is_taken self.now link view.now }
     {
         match link {

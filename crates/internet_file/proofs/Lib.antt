@@ -1,3 +1,5 @@
 pub mod Lists
 pub mod Turns
 pub mod Registered
+pub mod Given
+pub mod Soundness

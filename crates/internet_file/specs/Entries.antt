@@ -55,13 +55,14 @@ abbrev pub after : {T U E : Type 0} → Result T E → (T → Result U E) → Re
 after (Ok x) next = next x
 after (Err e) next = Err e
 
+-- the entry at fault by its part and its number, from 1
+abbrev pub numbered : {T : Type 0} → Part → Result (List T) ℕ → Result (List T) Error
+numbered p (Ok xs) = Ok xs
+numbered p (Err k) = Err (BadFile p (min (k + 1) 4294967295))
+
 -- what the entries of a part stand for, or the number of the first that stands for nothing, from 1
 abbrev pub part : {T : Type 0} → Part → (Data → Option T) → List Data → Result (List T) Error
-part {T} p f ds = of (each f ds)
-  where
-    of : Result (List T) ℕ → Result (List T) Error
-    of (Ok xs) = Ok xs
-    of (Err k) = Err (BadFile p (min (k + 1) 4294967295))
+part p f ds = numbered p (each f ds)
 
 -- the same of a part with a limit: the entry past it is at fault, whatever it stands for
 abbrev pub part_up_to : {T : Type 0} → ℕ → Part → (Data → Option T) → List Data → Result (List T) Error

@@ -4,3 +4,4 @@ pub mod Entries
 pub mod Files
 pub mod Stations
 pub mod Values
+pub mod Sound

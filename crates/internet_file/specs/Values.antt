@@ -59,12 +59,13 @@ list d = option_map values (as_array d)
 abbrev pub list_within : ℕ → ℕ → Data → Option (List Data)
 list_within low high d = given (list d) (λ ds. cond (is_between low high (length ds)) (Some ds) None)
 
+-- the range whose first and last network these are
+abbrev pub span_of : List Data → Option Span
+span_of (first ∷ last ∷ []) =
+    given (number 0 65535 first) (λ s. given (number 0 65535 last) (λ e.
+    cond (is_range s e) (Some (record { start = s; end = e })) None))
+span_of _ = None
+
 -- a range of networks, given by its first and its last one
 abbrev pub range : Data → Option Span
-range d = given (list d) of_ends
-  where
-    of_ends : List Data → Option Span
-    of_ends (first ∷ last ∷ []) =
-        given (number 0 65535 first) (λ s. given (number 0 65535 last) (λ e.
-        cond (is_range s e) (Some (record { start = s; end = e })) None))
-    of_ends _ = None
+range d = given (list d) span_of

@@ -1,6 +1,7 @@
 //! What an internet file plans.
 
 ghost use Rattle.std.specs.Prelude.{◌≡◌};
+ghost use Rattle.internet_file.specs.Sound.{IsSound};
 
 use crate::action::Action;
 use crate::cable::Cable;
@@ -23,6 +24,7 @@ pub struct Plan {
 
 impl Model for Plan {
     ghost use Rattle.internet_file.specs.Files.{Planned};
+    ghost use Rattle.internet_file.specs.Sound.{IsSound};
 
     ghost Value = { Planned };
 
@@ -34,6 +36,15 @@ impl Model for Plan {
       losses = p.losses;
       actions = p.actions;
     } };
+
+    ghost invariant = { λ p. IsSound (record {
+      ticks = p.ticks;
+      cables = p.cables;
+      routers = p.routers;
+      nodes = p.nodes;
+      losses = p.losses;
+      actions = p.actions;
+    }) };
 }
 
 impl Plan {
@@ -46,35 +57,40 @@ impl Plan {
 
     /// The cables, at most 200.
     pub fn cables(&self) -> &[Cable]
-        ensures { result.now ≡ self.now.cables }
+        ensures value { result.now ≡ self.now.cables }
+        ensures sound { IsSound self.now }
     {
         self.cables.as_slice()
     }
 
     /// The routers, at most 200.
     pub fn routers(&self) -> &[Router]
-        ensures { result.now ≡ self.now.routers }
+        ensures value { result.now ≡ self.now.routers }
+        ensures sound { IsSound self.now }
     {
         self.routers.as_slice()
     }
 
     /// The nodes, at most 200.
     pub fn nodes(&self) -> &[Node]
-        ensures { result.now ≡ self.now.nodes }
+        ensures value { result.now ≡ self.now.nodes }
+        ensures sound { IsSound self.now }
     {
         self.nodes.as_slice()
     }
 
     /// The losses, in the order of the file.
     pub fn losses(&self) -> &[Loss]
-        ensures { result.now ≡ self.now.losses }
+        ensures value { result.now ≡ self.now.losses }
+        ensures sound { IsSound self.now }
     {
         self.losses.as_slice()
     }
 
     /// The actions, in the order of the file.
     pub fn actions(&self) -> &[Action]
-        ensures { result.now ≡ self.now.actions }
+        ensures value { result.now ≡ self.now.actions }
+        ensures sound { IsSound self.now }
     {
         self.actions.as_slice()
     }

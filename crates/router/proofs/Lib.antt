@@ -1,3 +1,4 @@
 pub mod Ports
 pub mod Stays
 pub mod Onward
+pub mod Poisoned

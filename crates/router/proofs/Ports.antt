@@ -11,7 +11,7 @@ use Rattle.router.specs.Holding.{IsHandIn, hand, hand_by}
 use Rattle.router.specs.declared.hand.Hand.TheVariants.{Here, On}
 
 -- both parts of a test of a list's first element and the others
-both : (a b : Bool) → (a && b) ≡ true → (a ≡ true) × (b ≡ true)
+pub both : (a b : Bool) → (a && b) ≡ true → (a ≡ true) × (b ≡ true)
 both true true e = (refl, refl)
 both true false e = absurd cc
 both false b e = absurd cc

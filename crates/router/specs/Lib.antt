@@ -6,3 +6,4 @@ pub mod Zones
 pub mod Resolution
 pub mod Answers
 pub mod Stays
+pub mod Ending

@@ -8,6 +8,7 @@ mod handled;
 mod hearing;
 mod laws;
 mod lists;
+mod live;
 mod names;
 mod receive;
 mod request;

@@ -17,7 +17,7 @@ fn put_digit(text: &mut Vec<u8>, digit: u8) -> Result<(), AllocError>
 
 /// Appends a number in decimal. Most numbers are short, and take one call.
 #[tactic(auto, using(std::proofs::lemmas::Fmt::decimal_digit))]
-pub(crate) fn put_decimal(text: &mut Vec<u8>, number: u32) -> Result<(), AllocError>
+pub fn put_decimal(text: &mut Vec<u8>, number: u32) -> Result<(), AllocError>
     ensures { OnOk result (text.new.items ≡ text.old.items ++ decimal number) }
 {
     if number < 10 {
@@ -62,7 +62,7 @@ fn write_hex(out: &mut [u8], bytes: &[u8])
 
 /// Appends bytes as pairs of hexadecimal digits: room is made first, so that the loop over them is
 /// one without a branch.
-pub(crate) fn put_hex(text: &mut Vec<u8>, bytes: &[u8]) -> Result<(), AllocError>
+pub fn put_hex(text: &mut Vec<u8>, bytes: &[u8]) -> Result<(), AllocError>
     ensures { OnOk result (text.new.items ≡ text.old.items ++ hex_text bytes.now) }
 {
     let start = text.len();

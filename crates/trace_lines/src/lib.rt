@@ -8,4 +8,6 @@ mod lines;
 mod stations;
 mod words;
 
+pub use digits::{put_decimal, put_hex};
 pub use lines::Lines;
+pub use words::put_address;

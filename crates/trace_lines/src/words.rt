@@ -14,7 +14,7 @@ use station::Cause;
 use std::alloc::AllocError;
 
 /// Appends an address.
-pub(crate) fn put_address(text: &mut Vec<u8>, address: Addr) -> Result<(), AllocError>
+pub fn put_address(text: &mut Vec<u8>, address: Addr) -> Result<(), AllocError>
     ensures { OnOk result (text.new.items ≡ text.old.items ++ address_text address) }
 {
     put_decimal(text, u32::from(address.net))?;

@@ -1,0 +1,25 @@
+-- Datagrams that a node takes as its own. (Inside AppleTalk, the chapter on DDP)
+use Rattle.std.specs.Prelude.{◌&&◌, cond, Option, Some, None}
+use Rattle.ddp.specs.Datagram.{Datagram}
+use Rattle.station.specs.Hearing.{Hearing}
+use Rattle.station.specs.Values.{datagram_at}
+use Rattle.station.specs.Ways.{checks}
+use Rattle.station.specs.declared.heard.Kind.{Kind}
+use Rattle.station.specs.declared.heard.Kind.TheVariants.{Ddp, Aarp}
+use Rattle.station.specs.declared.heard.Link.{Link}
+use Rattle.end_node.specs.Answers.{takes}
+use Rattle.end_node.specs.Holding.{NodeHolding}
+
+-- the datagram, if the node takes it and its checksum is right
+abbrev pub taken_datagram : NodeHolding → Link → Option Datagram → Option Datagram
+taken_datagram h l None = None
+taken_datagram h l (Some d) = cond (takes h l d && checks d) (Some d) None
+
+-- by what the frame holds
+abbrev pub taken_kind : Kind → NodeHolding → Hearing → Option Datagram
+taken_kind Ddp h x = taken_datagram h x.link (datagram_at x.bytes)
+taken_kind Aarp h x = None
+
+-- The datagram that a frame brings to a node which holds this, if the node takes it as its own and its checksum is right.
+abbrev pub taken : NodeHolding → Hearing → Option Datagram
+taken h x = taken_kind x.kind h x

@@ -1,0 +1,62 @@
+-- What holds of each plan. This project's own.
+use Rattle.std.specs.Prelude.{ℕ, ◌≤◌, Bool, false, ◌&&◌, IsTrue, List, Option, Some, None, length, nat_le}
+use Rattle.std.specs.List.{list_all}
+use Rattle.at_base.specs.Range.{Span, is_between, is_range}
+use Rattle.at_base.specs.declared.address.Addr.{Addr}
+use Rattle.internet_file.specs.Files.{Planned}
+use Rattle.internet_file.specs.Stations.{are_apart, cable_at}
+use Rattle.internet_file.specs.declared.action.Action.{Action}
+use Rattle.internet_file.specs.declared.cable.Cable.{Cable}
+use Rattle.internet_file.specs.declared.loss.Loss.{Loss}
+use Rattle.internet_file.specs.declared.node.Node.{Node}
+use Rattle.internet_file.specs.declared.port.Port.{Port}
+use Rattle.internet_file.specs.declared.router.Router.{Router}
+
+-- the range is valid
+abbrev pub is_cable : Cable → Bool
+is_cable c = is_range c.range.start c.range.end
+
+-- a station on a cable of this range may have the address
+abbrev pub may_try : Span → Addr → Bool
+may_try range a = is_between range.start range.end a.net && is_between 1 253 a.node
+
+-- the stations of a cable may have each of the addresses
+abbrev pub may_try_on : Option Cable → List Addr → Bool
+may_try_on None tries = false
+may_try_on (Some c) tries = list_all (may_try c.range) tries
+
+-- there is a cable with this number, and its stations may have each of these addresses
+abbrev pub is_seated : List Cable → ℕ → List Addr → Bool
+is_seated cables k tries = is_between 1 (length cables) k && may_try_on (cable_at cables k) tries
+
+-- a port of a router
+abbrev pub is_port : List Cable → Port → Bool
+is_port cables p = is_seated cables p.cable p.tries
+
+-- 1 to 16 ports, no two of them on cables that have a network in common
+abbrev pub is_router : List Cable → Router → Bool
+is_router cables r =
+    is_between 1 16 (length r.port) && list_all (is_port cables) r.port && are_apart cables r.port
+
+-- a node
+abbrev pub is_node : List Cable → Node → Bool
+is_node cables n = is_seated cables n.cable n.tries
+
+-- there is a cable with the number of the loss
+abbrev pub is_loss : List Cable → Loss → Bool
+is_loss cables l = is_between 1 (length cables) l.cable
+
+-- there is a node with the number of the action
+abbrev pub is_action : List Node → Action → Bool
+is_action nodes a = is_between 1 (length nodes) a.node
+
+-- What each plan keeps: its limits, and what its parts say of one another.
+pub record IsSound (p : Planned) : Type 0 where
+  pub few_cables : length p.cables ≤ 200
+  pub few_routers : length p.routers ≤ 200
+  pub few_nodes : length p.nodes ≤ 200
+  pub cables : IsTrue (list_all is_cable p.cables)
+  pub routers : IsTrue (list_all (is_router p.cables) p.routers)
+  pub nodes : IsTrue (list_all (is_node p.cables) p.nodes)
+  pub losses : IsTrue (list_all (is_loss p.cables) p.losses)
+  pub actions : IsTrue (list_all (is_action p.nodes) p.actions)

@@ -1,0 +1,5 @@
+pub mod Pending
+pub mod Played
+pub mod Quiet
+pub mod Losses
+pub mod Calls

@@ -1,0 +1,5 @@
+use Rattle.live_cables.proofs.Quiet.{puts_then}
+use Rattle.live_cables.proofs.giving.+give_all.Goals as goal
+
+pub returns-clause-puts : goal.returns-clause-puts
+returns-clause-puts t c = puts_then _ _ _ c.give.ensures.puts c.give_all.ensures.puts

@@ -1,0 +1,4 @@
+pub mod Playing
+pub mod Living
+pub mod Finding
+pub mod Steps

@@ -1,0 +1,62 @@
+-- What live cables hold. This project's own.
+use Rattle.std.specs.Prelude.{◌≡◌, ℕ, Bool, false, IsTrue, List, ◌∷◌, ◌++◌, Option, slice_get}
+use Rattle.std.specs.Option.{unwrap_or}
+use Rattle.aarp.specs.Mapping.{Mappings}
+use Rattle.at_base.specs.Range.{Span}
+use Rattle.at_base.specs.declared.address.Addr.{Addr}
+use Rattle.cable_model.specs.Logs.{Cabling, transcript}
+use Rattle.cable_model.specs.Outcomes.{heard_by}
+use Rattle.cable_model.specs.Pending.{Pair, pending}
+use Rattle.cable_model.specs.Transcript.{Entry, Took, count}
+use Rattle.live_cables.specs.Playing.{IsPlayed, are_lost, is_took}
+use Rattle.station.specs.Hearing.{Hearing}
+use Rattle.station.specs.declared.output.Output.{Output}
+use Rattle.std.specs.Prelude.{Contains}
+
+-- Cables; for each seat its address, where that is settled, and the mappings that it knows; the ranges of the cables; and
+-- for each cable whether it loses what is put there.
+pub record Wires : Type 0 where
+  pub cabling : Cabling
+  pub own : List (Option Addr)
+  pub maps : List Mappings
+  pub ranges : List Span
+  pub losing : List Bool
+
+-- the cable loses what is put there
+abbrev pub loses : Wires → ℕ → Bool
+loses w cable = unwrap_or (slice_get w.losing cable) false
+
+-- what happened
+abbrev pub happened : Wires → List Entry
+happened w = transcript w.cabling
+
+-- Further entries were played, of which so many are takings; the seats, the ranges, and which cables lose, stay.
+pub record Plays (old new : Wires) : Type 0 where
+  pub added : List Entry
+  pub grown : happened new ≡ happened old ++ added
+  pub played : IsPlayed old.cabling.seats (loses old) (happened old) added
+  pub seats : new.cabling.seats ≡ old.cabling.seats
+  pub own : new.own ≡ old.own
+  pub ranges : new.ranges ≡ old.ranges
+  pub losing : new.losing ≡ old.losing
+
+-- The same, done to its end: so many frames were taken, and what was put on cables that lose is lost.
+pub record PlaysOn (taken : ℕ) (old new : Wires) : Type 0 where
+  pub plays : Plays old new
+  pub takes : count is_took plays.added ≡ taken
+  pub lost : IsTrue (are_lost old.cabling.seats (loses old) (happened old) plays.added)
+
+-- A station heard the frame of a stamp, which was pending for it.
+pub record IsHeardFrom (w : Wires) (stamp station : ℕ) (Hears : Hearing → List Output → Type 0) : Type 0 where
+  pub pair : Pair
+  pub was_pending : Contains (pending w.cabling.seats (happened w)) pair
+  pub of_stamp : pair.frame.stamp ≡ stamp
+  pub of_station : pair.seat.station ≡ station
+  pub put_out : List Output
+  pub hears : Hears (heard_by pair) put_out
+
+-- A station took the frame of a stamp, which was pending for it, before anything else happened.
+pub record IsTakenBy (old new : Wires) (stamp station : ℕ) (Hears : Hearing → List Output → Type 0) : Type 0 where
+  pub heard : IsHeardFrom old stamp station Hears
+  pub rest : List Entry
+  pub first : happened new ≡ happened old ++ Took stamp station ∷ rest

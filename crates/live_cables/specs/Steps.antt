@@ -1,0 +1,77 @@
+-- The steps of one call on live cables. This project's own.
+use Rattle.std.specs.Prelude.{◌≡◌, ℕ, Bool, true, false, not, cond, drop, slice_get, Contains, IsTrue, List, [], ◌∷◌, ◌++◌}
+use Rattle.std.specs.List.{list_all, list_any}
+use Rattle.std.specs.Option.{unwrap_or}
+use Rattle.cable_model.specs.Logs.{Cabling, transcript}
+use Rattle.cable_model.specs.Outcomes.{heard_by}
+use Rattle.cable_model.specs.Pending.{Pair, pending}
+use Rattle.cable_model.specs.Transcript.{Entry, Took, Lost}
+use Rattle.cable_model.specs.declared.entry.Entry.{Entry as Line}
+use Rattle.cable_model.specs.declared.entry.Entry.TheVariants as line
+use Rattle.live_cables.specs.Playing.{is_in, losses}
+use Rattle.station.specs.Hearing.{Hearing}
+use Rattle.station.specs.Lawful.{IsNext}
+use Rattle.station.specs.declared.output.Output.{Output}
+use Rattle.station.specs.declared.output.Output.TheVariants.{Made}
+
+-- the entry ends no pair
+abbrev pub is_quiet : Entry → Bool
+is_quiet (Took stamp station) = false
+is_quiet (Lost stamp) = false
+is_quiet _ = true
+
+-- Entries were added that end no pair.
+pub record Puts (old new : Cabling) : Type 0 where
+  pub added : List Entry
+  pub grown : transcript new ≡ transcript old ++ added
+  pub quiet : IsTrue (list_all is_quiet added)
+  pub seats : new.seats ≡ old.seats
+
+-- the entry is the loss of one of these frames
+abbrev pub is_loss : List ℕ → Entry → Bool
+is_loss stamps (Lost stamp) = is_in stamps stamp
+is_loss stamps _ = false
+
+-- Entries were added that are losses of these frames.
+pub record Loses (stamps : List ℕ) (old new : Cabling) : Type 0 where
+  pub added : List Entry
+  pub grown : transcript new ≡ transcript old ++ added
+  pub losses : IsTrue (list_all (is_loss stamps) added)
+  pub seats : new.seats ≡ old.seats
+
+-- none of these frames is pending
+abbrev pub are_gone : List ℕ → Cabling → Bool
+are_gone stamps c = not (list_any (λ p. is_in stamps p.frame.stamp) (pending c.seats (transcript c)))
+
+-- whether a cable loses what is put there; one that isn't named loses nothing
+abbrev pub loses_by : List Bool → ℕ → Bool
+loses_by losing cable = unwrap_or (slice_get losing cable) false
+
+-- the stamps of the frames that were put on cables that lose, in the entries from an index on
+abbrev pub losses_since : List Bool → ℕ → Cabling → List ℕ
+losses_since losing from c = losses (loses_by losing) (drop from (transcript c))
+
+-- the stamps of the frames that were put on cables that lose, as they are kept
+abbrev pub line_losses : (ℕ → Bool) → List Line → List ℕ
+line_losses losing [] = []
+line_losses losing (line.Put stamp cable sender to kind n ∷ ls) =
+    cond (losing cable) (stamp ∷ line_losses losing ls) (line_losses losing ls)
+line_losses losing (l ∷ ls) = line_losses losing ls
+
+-- a datagram that a station made names a group that there is
+abbrev pub IsSendable : Output → Type 0
+IsSendable (Made port next bytes) = IsNext next
+IsSendable _ = Unit {0}
+
+-- A station took a frame that was pending for it and put out what follows, and the further entries end no pair.
+pub record Takes (old new : Cabling) (stamp station : ℕ) (Hears : Hearing → List Output → Type 0) : Type 0 where
+  pub pair : Pair
+  pub was_pending : Contains (pending old.seats (transcript old)) pair
+  pub of_stamp : pair.frame.stamp ≡ stamp
+  pub of_station : pair.seat.station ≡ station
+  pub put_out : List Output
+  pub hears : Hears (heard_by pair) put_out
+  pub rest : List Entry
+  pub grown : transcript new ≡ transcript old ++ Took stamp station ∷ rest
+  pub quiet : IsTrue (list_all is_quiet rest)
+  pub seats : new.seats ≡ old.seats

@@ -1,0 +1,111 @@
+//! What a station puts out in a tick.
+
+ghost use Rattle.std.specs.Prelude.{◌≡◌, ◌⊎◌, [], IfErr, OnOk, length};
+ghost use Rattle.std.specs.Prelude.{option_and_then, slice_get};
+ghost use Rattle.std.specs.List.{AllByRecursion};
+ghost use Rattle.station.specs.Lawful.{IsNext};
+ghost use Rattle.live_cables.specs.Finding.{seat_by as seat_by_in};
+ghost use Rattle.live_cables.specs.Steps.{IsSendable, Puts};
+
+use crate::holding::hold_from;
+use crate::ports::{Ports, seat_by};
+use crate::putting::{put, send};
+use crate::resolver::Resolver;
+use aarp::Mapper;
+use at_base::{Bytes, Error};
+use cable_model::{Cables, Seat};
+use station::{Kind, Next, Output, Outputs};
+use std::alloc::Global;
+
+/// The seat of a station's port.
+fn seat_of(ports: &Ports, station: u16, port: u8) -> Option<Seat>
+    ensures { result ≡ option_and_then (slice_get ports.now.seats.items)
+        (seat_by_in ports.now.seats.items station port) }
+{
+    match seat_by(&ports.seats, station, port) {
+        Some(index) => ports.seats.get(index).copied(),
+        None => None,
+    }
+}
+
+/// A station sends a datagram that it made, which is held where nothing is known yet of its next
+/// station. Errors: `Full`, `Memory`.
+fn made(
+    alloc: Global,
+    cables: &mut Cables,
+    ports: &Ports,
+    mappers: &mut [Mapper],
+    seat: Seat,
+    next: Next,
+    bytes: Bytes,
+) -> Result<(), Error>
+    requires { IsNext next }
+    ensures puts { Puts cables.old cables.new }
+    ensures refused { IfErr result (λ e. (e ≡ Error.Full) ⊎ (e ≡ Error.Memory)) }
+    ensures mappers { length mappers.new ≡ length mappers.old }
+{
+    let resolver = Resolver {
+        station: seat.station,
+        ports,
+        mappers,
+    };
+    match send(cables, &resolver, seat, next, bytes) {
+        Ok(()) => {}
+        Err(error) => return Err(error),
+    }
+    hold_from(alloc, cables, ports, mappers, seat.station, 0)
+}
+
+/// A station puts something out. What no station puts out in a tick is dropped. Errors: `Full`,
+/// `Memory`.
+fn give(
+    alloc: Global,
+    cables: &mut Cables,
+    ports: &Ports,
+    mappers: &mut [Mapper],
+    station: u16,
+    output: Output,
+) -> Result<(), Error>
+    requires { IsSendable output }
+    ensures puts { Puts cables.old cables.new }
+    ensures refused { IfErr result (λ e. (e ≡ Error.Full) ⊎ (e ≡ Error.Memory)) }
+    ensures mappers { length mappers.new ≡ length mappers.old }
+{
+    match output {
+        Output::Made { port, next, bytes } => match seat_of(ports, station, port) {
+            Some(seat) => made(alloc, cables, ports, mappers, seat, next, bytes),
+            None => Ok(()),
+        },
+        Output::Wire { port, to, bytes } => match seat_of(ports, station, port) {
+            Some(seat) => put(cables, seat, to, Kind::Aarp, bytes),
+            None => Ok(()),
+        },
+        _ => Ok(()),
+    }
+}
+
+/// A station puts outputs out, from the oldest on. Errors: `Full`, `Memory`.
+pub fn give_all(
+    alloc: Global,
+    cables: &mut Cables,
+    ports: &Ports,
+    mappers: &mut [Mapper],
+    station: u16,
+    outputs: &mut Outputs,
+) -> Result<(), Error>
+    requires { AllByRecursion IsSendable outputs.old.items }
+    ensures puts { Puts cables.old cables.new }
+    ensures refused { IfErr result (λ e. (e ≡ Error.Full) ⊎ (e ≡ Error.Memory)) }
+    ensures mappers { length mappers.new ≡ length mappers.old }
+    ensures emptied { OnOk result (outputs.new.items ≡ []) }
+{
+    let output = match outputs.pop() {
+        Some(output) => output,
+        None => return Ok(()),
+    };
+    match give(alloc, cables, ports, mappers, station, output) {
+        Ok(()) => {}
+        Err(error) => return Err(error),
+    }
+    give_all(alloc, cables, ports, mappers, station, outputs)
+}

@@ -1,0 +1,17 @@
+//! Cables on which stations find each other by AARP, and where frames may be lost.
+#![tactic(auto)]
+
+mod answer;
+mod giving;
+mod holding;
+mod laws;
+mod live;
+mod losing;
+mod passing;
+mod ports;
+mod putting;
+mod resolver;
+mod taking;
+
+pub use laws::{losses_then, nothing_plays, plays_then};
+pub use live::LiveCables;

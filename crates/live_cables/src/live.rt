@@ -1,0 +1,299 @@
+//! Live cables.
+
+ghost use Rattle.std.specs.Prelude.{◌≡◌, ◌⊎◌, ◌↔◌, ◌++◌, [], IfErr, IfOk, IfNone, IfSome};
+ghost use Rattle.std.specs.Prelude.{false, length, map, slice_set, IsOkUnless, None, OnErr};
+ghost use Rattle.std.specs.Prelude.{OnOk, ℕ};
+ghost use Rattle.std.specs.List.{list_any};
+ghost use Rattle.aarp.specs.Mapping.{given_up as given_up_of};
+ghost use Rattle.cable_model.specs.Books.{HasOneSeat};
+ghost use Rattle.cable_model.specs.Logs.{bytes_at, transcript as said};
+ghost use Rattle.cable_model.specs.Outcomes.{AreSeatsOf, IsLeast, is_named};
+ghost use Rattle.cable_model.specs.Pending.{pending as pending_on};
+ghost use Rattle.cable_model.specs.Transcript.{AreNumbered};
+ghost use Rattle.live_cables.specs.Finding.{held_at};
+ghost use Rattle.live_cables.specs.Living.{IsTakenBy, Plays, PlaysOn, happened};
+ghost use Rattle.station.specs.Lawful.{AreLawful};
+
+use crate::giving::give_all;
+use crate::losing::lose_from;
+use crate::passing::{ask_all, tick};
+use crate::ports::Ports;
+use crate::resolver::Resolver;
+use crate::taking::{answer_of, follow, take};
+use aarp::{Addresses, Mapper};
+use at_base::{Addr, Error, Range};
+use cable_model::{Cables, Entry, Seat};
+use station::{Outputs, Station as Taker};
+use std::alloc::Global;
+use std::marker::Model;
+
+/// Cables on which stations find each other by AARP, and where frames may be lost.
+///
+/// This project's own.
+#[derive(Drop)]
+pub struct LiveCables {
+    cables: Cables,
+    ports: Ports,
+    // of each seat, in the order of the seats
+    mappers: Vec<Mapper>,
+    // of each cable, whether it loses what is put there in this tick
+    losing: Vec<bool>,
+    alloc: Global,
+}
+
+impl Model for LiveCables {
+    ghost use Rattle.std.specs.Prelude.{◌≡◌, length};
+    ghost use Rattle.live_cables.specs.Living.{Wires};
+
+    ghost Value = { Wires };
+
+    ghost view = { λ c. record {
+      cabling = c.cables;
+      own = c.ports.own.items;
+      maps = c.mappers.items;
+      ranges = c.ports.ranges.items;
+      losing = c.losing.items;
+    } };
+
+    ghost invariant = { λ c. (c.ports.seats.items ≡ c.cables.seats)
+        × (length c.ports.own.items ≡ length c.cables.seats)
+        × (length c.mappers.items ≡ length c.cables.seats) };
+}
+
+/// Recalls that frames are numbered from 0. Does nothing.
+fn recall_numbered(cables: &Cables)
+    ensures { AreNumbered 0 (said cables.now) }
+{
+    let _len = cables.transcript().len();
+}
+
+/// Adds mappings for each of these seats, which know nothing yet. Error: `Memory`.
+fn add_mappers(alloc: Global, mappers: &mut Vec<Mapper>, seats: &[Seat]) -> Result<(), Error>
+    ensures ok { OnOk result (mappers.new.items
+        ≡ mappers.old.items ++ map (λ s. record { known = []; held = [] }) seats.now) }
+    ensures refused { IsOkUnless result Error.Memory }
+{
+    match seats {
+        [] => Ok(()),
+        [_, rest @ ..] => {
+            mappers.push(Mapper::new(alloc)?)?;
+            add_mappers(alloc, mappers, rest)
+        }
+    }
+}
+
+/// Adds an address that isn't settled for each of these seats. Error: `Memory`.
+fn add_unsettled(own: &mut Vec<Option<Addr>>, seats: &[Seat]) -> Result<(), Error>
+    ensures ok { OnOk result (own.new.items ≡ own.old.items ++ map (λ s. None) seats.now) }
+    ensures refused { IsOkUnless result Error.Memory }
+{
+    match seats {
+        [] => Ok(()),
+        [_, rest @ ..] => {
+            own.push(None)?;
+            add_unsettled(own, rest)
+        }
+    }
+}
+
+impl LiveCables {
+    /// Cables with these seats and ranges, where nothing has happened yet, for at most `limit`
+    /// entries. No address is settled or known, and no cable loses anything. That a station has one
+    /// seat at most on a cable is the caller's condition. Error: `Memory`.
+    pub fn new(
+        alloc: Global,
+        seats: &[Seat],
+        ranges: &[Range],
+        limit: u32,
+    ) -> Result<LiveCables, Error>
+        requires { HasOneSeat seats.now }
+        ensures ok { IfOk result (λ live. live ≡ record {
+          cabling = record {
+            seats = seats.now;
+            limit = limit;
+            lines = [];
+            kept = [];
+            waiting = [];
+          };
+          own = map (λ s. None) seats.now;
+          maps = map (λ s. record { known = []; held = [] }) seats.now;
+          ranges = ranges.now;
+          losing = [];
+        }) }
+        ensures refused { IsOkUnless result Error.Memory }
+    {
+        let cables = Cables::new(alloc, seats, limit)?;
+        let mut own = Vec::new(alloc);
+        add_unsettled(&mut own, seats)?;
+        let mut mappers = Vec::new(alloc);
+        add_mappers(alloc, &mut mappers, seats)?;
+        Ok(LiveCables {
+            cables,
+            ports: Ports {
+                seats: Vec::from_slice(alloc, seats)?,
+                own,
+                ranges: Vec::from_slice(alloc, ranges)?,
+            },
+            mappers,
+            losing: Vec::new(alloc),
+            alloc,
+        })
+    }
+
+    /// What happened, in order. Allocates nothing.
+    pub fn transcript(&self) -> &[Entry]
+        ensures value { result.now ≡ self.now.cabling.lines }
+        ensures numbered { AreNumbered 0 (happened self.now) }
+        ensures one_seat { HasOneSeat self.now.cabling.seats }
+    {
+        self.cables.transcript()
+    }
+
+    /// The bytes of a number that entries name, and none for any other number. Allocates nothing.
+    pub fn bytes(&self, number: u32) -> &[u8]
+        ensures { result.now ≡ bytes_at self.now.cabling.kept number }
+    {
+        self.cables.bytes(number)
+    }
+
+    /// The least stamp of which a frame is pending, and the least station that it is pending for.
+    /// Allocates nothing.
+    pub fn first(&self) -> Option<(u32, u16)>
+        ensures some { IfSome result (λ pair.
+            IsLeast (pending_on self.now.cabling.seats (happened self.now)) pair.0 pair.1) }
+        ensures none { IfNone result (pending_on self.now.cabling.seats (happened self.now) ≡ []) }
+    {
+        self.cables.first()
+    }
+
+    /// The number of pairs of a frame and a station that are pending. Allocates nothing.
+    pub fn pending_count(&self) -> usize
+        ensures { result ≡ length (pending_on self.now.cabling.seats (happened self.now)) }
+    {
+        self.cables.pending_count()
+    }
+
+    /// Says of each cable whether it loses what is put there from now on. Cables that aren't named
+    /// lose nothing.
+    pub fn set_losing(&mut self, losing: Vec<bool>)
+        ensures { self.new ≡ record self.old { losing = losing.items } }
+    {
+        self.losing = losing;
+    }
+
+    /// Says which address of a seat is settled, if one is. Nothing changes where there is no such
+    /// seat.
+    pub fn set_own(&mut self, seat: usize, own: Option<Addr>)
+        ensures { self.new ≡ record self.old { own = slice_set self.old.own seat own } }
+    {
+        if seat < self.ports.own.len() {
+            self.ports.own[seat] = own;
+        }
+    }
+
+    /// Gives out what a station made of its own, in a tick or for its user. What it sends to an
+    /// address of which nothing is known yet is held, and the address is asked for. Outputs that no
+    /// station makes of its own are dropped.
+    ///
+    /// Errors: `Full`, `Memory`. What was done so far then stays.
+    pub fn give(&mut self, station: u16, outputs: &mut Outputs) -> Result<(), Error>
+        requires lawful { (n : ℕ) × AreLawful n outputs.old.items }
+        ensures plays { Plays self.old self.new }
+        ensures done { OnOk result (PlaysOn 0 self.old self.new) }
+        ensures emptied { OnOk result (outputs.new.items ≡ []) }
+        ensures refused { IfErr result (λ e. (e ≡ Error.Full) ⊎ (e ≡ Error.Memory)) }
+    {
+        let from = self.cables.transcript().len();
+        match give_all(
+            self.alloc,
+            &mut self.cables,
+            &self.ports,
+            &mut self.mappers,
+            station,
+            outputs,
+        ) {
+            Ok(()) => {}
+            Err(error) => return Err(error),
+        }
+        lose_from(self.alloc, &mut self.cables, &self.losing, from)
+    }
+
+    /// A station takes a frame that is pending for it, and what it puts out goes onto its cables.
+    /// What it sends to an address of which nothing is known yet is held, and the address is asked
+    /// for; a response gives out what is held for its sender. That the station's ports are those of
+    /// its seats is the caller's condition.
+    ///
+    /// Errors: `NotPending`, which changes nothing; `Full`, `Memory`. What was done so far then
+    /// stays.
+    pub fn take<S: Taker>(&mut self, stamp: u32, station: u16, taker: &mut S) -> Result<(), Error>
+        requires { AreSeatsOf self.old.cabling.seats station (S.ports_of taker.old) }
+        ensures plays { Plays self.old self.new }
+        ensures done { OnOk result (PlaysOn 1 self.old self.new) }
+        ensures heard { OnOk result (IsTakenBy self.old self.new stamp station
+            (λ h added. S.hears taker.old h added taker.new)) }
+        ensures stopped { OnErr result (((self.new ≡ self.old) × (taker.new ≡ taker.old))
+            ⊎ IsTakenBy self.old self.new stamp station
+            (λ h added. S.hears taker.old h added taker.new)) }
+        ensures ports_stay { S.ports_of taker.new ≡ S.ports_of taker.old }
+        ensures not_pending { (result ≡ Err Error.NotPending) ↔ (list_any (is_named stamp station)
+            (pending_on self.old.cabling.seats (happened self.old)) ≡ false) }
+        ensures refused { IfErr result (λ e. (e ≡ Error.NotPending) ⊎ (e ≡ Error.Full)
+            ⊎ (e ≡ Error.Memory)) }
+    {
+        let from = self.cables.transcript().len();
+        let answer = answer_of(&self.cables, stamp, station);
+        let resolver = Resolver {
+            station,
+            ports: &self.ports,
+            mappers: &self.mappers,
+        };
+        match take(&mut self.cables, &resolver, stamp, station, taker) {
+            Ok(()) => {}
+            Err(error) => return Err(error),
+        }
+        let followed = follow(
+            self.alloc,
+            &mut self.cables,
+            &self.ports,
+            &mut self.mappers,
+            station,
+            answer,
+        );
+        recall_numbered(&self.cables);
+        match followed {
+            Ok(()) => {}
+            Err(error) => return Err(error),
+        }
+        lose_from(self.alloc, &mut self.cables, &self.losing, from)
+    }
+
+    /// A tick passes for the mappings of a seat: addresses that nobody answered for are asked for
+    /// again. The result is those that were asked for ten times in vain; what was held for them is
+    /// dropped.
+    ///
+    /// Errors: `Full`, `Memory`. What was done so far then stays.
+    pub fn pass(&mut self, seat: usize) -> Result<Addresses, Error>
+        ensures plays { Plays self.old self.new }
+        ensures done { OnOk result (PlaysOn 0 self.old self.new) }
+        ensures given_up { IfOk result (λ addrs. addrs ≡ given_up_of (held_at self.old.maps seat)) }
+        ensures refused { IfErr result (λ e. (e ≡ Error.Full) ⊎ (e ≡ Error.Memory)) }
+    {
+        let from = self.cables.transcript().len();
+        let asks = tick(&mut self.mappers, seat);
+        match ask_all(
+            self.alloc,
+            &mut self.cables,
+            &self.ports,
+            seat,
+            asks.ask.as_slice(),
+        ) {
+            Ok(()) => {}
+            Err(error) => return Err(error),
+        }
+        match lose_from(self.alloc, &mut self.cables, &self.losing, from) {
+            Ok(()) => {}
+            Err(error) => return Err(error),
+        }
+        Ok(asks.given_up)
+    }
+}

@@ -1,0 +1,51 @@
+//! Ticks that pass for mappings.
+
+ghost use Rattle.std.specs.Prelude.{◌≡◌, ◌⊎◌, IfErr, length};
+ghost use Rattle.aarp.specs.Mapping.{given_up as given_up_of, to_ask};
+ghost use Rattle.live_cables.specs.Finding.{held_at};
+ghost use Rattle.live_cables.specs.Steps.{Puts};
+
+use crate::ports::Ports;
+use crate::putting::ask;
+use aarp::{Addresses, Asks, Mapper};
+use at_base::{Addr, Error};
+use cable_model::Cables;
+use std::alloc::Global;
+
+/// A tick passes for the mappings of a seat, if it is one.
+pub fn tick(mappers: &mut [Mapper], seat: usize) -> Asks
+    ensures ask { result.ask ≡ to_ask (held_at mappers.old seat) }
+    ensures given_up { result.given_up ≡ given_up_of (held_at mappers.old seat) }
+    ensures mappers { length mappers.new ≡ length mappers.old }
+{
+    if seat >= mappers.len() {
+        return Asks {
+            ask: Addresses::new(),
+            given_up: Addresses::new(),
+        };
+    }
+    mappers[seat].tick()
+}
+
+/// Asks on the cable of a seat for each of the addresses. Errors: `Full`, `Memory`.
+pub fn ask_all(
+    alloc: Global,
+    cables: &mut Cables,
+    ports: &Ports,
+    seat: usize,
+    addrs: &[Addr],
+) -> Result<(), Error>
+    ensures puts { Puts cables.old cables.new }
+    ensures refused { IfErr result (λ e. (e ≡ Error.Full) ⊎ (e ≡ Error.Memory)) }
+{
+    match addrs {
+        [] => Ok(()),
+        [addr, rest @ ..] => {
+            match ask(alloc, cables, ports, seat, *addr) {
+                Ok(()) => {}
+                Err(error) => return Err(error),
+            }
+            ask_all(alloc, cables, ports, seat, rest)
+        }
+    }
+}

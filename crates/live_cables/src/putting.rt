@@ -1,0 +1,103 @@
+//! Frames that a seat's station puts on its cable.
+
+ghost use Rattle.std.specs.Prelude.{◌≡◌, ◌⊎◌, IfErr, slice_get};
+ghost use Rattle.live_cables.specs.Finding.{own_or_none, request_for};
+ghost use Rattle.station.specs.Lawful.{IsNext};
+ghost use Rattle.live_cables.specs.Steps.{Puts};
+
+use crate::ports::Ports;
+use aarp::{Function, Packet};
+use at_base::{Addr, Bytes, Error, Hw};
+use cable_model::{Cables, Resolve, Seat};
+use station::{Kind, Next};
+use std::alloc::Global;
+
+/// The hardware address of nobody, where a packet goes to all.
+const NOBODY: Hw = Hw([0; 6]);
+
+/// The error of a call that stops what is done. Those that say that nothing is to be done don't.
+pub fn stop(error: Error) -> Result<(), Error>
+    ensures { IfErr result (λ e. (e ≡ Error.Full) ⊎ (e ≡ Error.Memory)) }
+{
+    match error {
+        Error::Full => Err(Error::Full),
+        Error::Memory => Err(Error::Memory),
+        _ => Ok(()),
+    }
+}
+
+/// Puts a frame on the cable of a seat. What is too long for a frame isn't put. Errors: `Full`,
+/// `Memory`.
+pub fn put(cables: &mut Cables, seat: Seat, to: Hw, kind: Kind, bytes: Bytes) -> Result<(), Error>
+    ensures puts { Puts cables.old cables.new }
+    ensures waiting { cables.new.waiting ≡ cables.old.waiting }
+    ensures refused { IfErr result (λ e. (e ≡ Error.Full) ⊎ (e ≡ Error.Memory)) }
+{
+    match cables.put(seat.cable, seat.station, to, kind, bytes) {
+        Ok(_) => Ok(()),
+        Err(error) => stop(error),
+    }
+}
+
+/// Sends a datagram by a seat. Errors: `Full`, `Memory`.
+pub fn send<R: Resolve>(
+    cables: &mut Cables,
+    resolver: &R,
+    seat: Seat,
+    next: Next,
+    bytes: Bytes,
+) -> Result<(), Error>
+    requires { IsNext next }
+    ensures puts { Puts cables.old cables.new }
+    ensures refused { IfErr result (λ e. (e ≡ Error.Full) ⊎ (e ≡ Error.Memory)) }
+{
+    match cables.send(seat.station, seat.cable, next, bytes, resolver) {
+        Ok(()) => Ok(()),
+        Err(error) => stop(error),
+    }
+}
+
+/// The settled address of a seat, and 0.0 where it has none.
+fn own_at(own: &[Option<Addr>], seat: usize) -> Addr
+    ensures { result ≡ own_or_none (slice_get own.now seat) }
+{
+    match own.get(seat) {
+        Some(Some(own)) => *own,
+        _ => Addr::NONE,
+    }
+}
+
+/// The request of a seat for the hardware address of an address.
+fn request(hw: Hw, own: Addr, addr: Addr) -> Packet
+    ensures { result ≡ request_for hw own addr }
+{
+    Packet {
+        function: Function::Request,
+        source_hw: hw,
+        source: own,
+        target_hw: NOBODY,
+        target: addr,
+    }
+}
+
+/// Asks on the cable of a seat for the hardware address of an address. Errors: `Full`, `Memory`.
+pub fn ask(
+    alloc: Global,
+    cables: &mut Cables,
+    ports: &Ports,
+    index: usize,
+    addr: Addr,
+) -> Result<(), Error>
+    ensures puts { Puts cables.old cables.new }
+    ensures waiting { cables.new.waiting ≡ cables.old.waiting }
+    ensures refused { IfErr result (λ e. (e ≡ Error.Full) ⊎ (e ≡ Error.Memory)) }
+{
+    let Some(seat) = ports.seats.get(index) else {
+        return Ok(());
+    };
+    let packet = request(seat.hw, own_at(&ports.own, index), addr);
+    match Bytes::copy(alloc, &packet.write()) {
+        Ok(bytes) => put(cables, *seat, Hw::ALL, Kind::Aarp, bytes),
+        Err(_) => Err(Error::Memory),
+    }
+}

@@ -1,0 +1,66 @@
+//! What a station knows of the others on its cables.
+
+ghost use Rattle.std.specs.Prelude.{◌≡◌, slice_get};
+ghost use Rattle.live_cables.specs.Finding.{found_at, mapped};
+
+use crate::ports::{Ports, hw_at, is_listed, is_own, seat_on};
+use aarp::Mapper;
+use at_base::Addr;
+use cable_model::{Found, Resolve};
+
+/// What a station knows.
+#[derive(Clone, Copy)]
+pub struct Resolver<'a> {
+    pub station: u16,
+    pub ports: &'a Ports,
+    pub mappers: &'a [Mapper],
+}
+
+/// What a seat's mappings say of an address.
+fn mapping_at(mappers: &[Mapper], seat: usize, addr: Addr) -> Found
+    ensures { result ≡ mapped (slice_get mappers.now seat) addr }
+{
+    match mappers.get(seat) {
+        None => Found::Later,
+        Some(mapper) => match mapper.look(addr) {
+            Some(hw) => Found::At(hw),
+            None => Found::Later,
+        },
+    }
+}
+
+/// What is known at a seat of the station that has an address there.
+fn find_at(ports: &Ports, mappers: &[Mapper], seat: Option<usize>, addr: Addr) -> Found
+    ensures { result
+        ≡ found_at ports.now.seats.items ports.now.own.items mappers.now seat addr }
+{
+    match seat {
+        None => Found::Later,
+        Some(seat) => {
+            if is_own(&ports.own, seat, addr) {
+                hw_at(&ports.seats, seat)
+            } else {
+                mapping_at(mappers, seat, addr)
+            }
+        }
+    }
+}
+
+impl Resolve for Resolver<'_> {
+    ghost use Rattle.live_cables.specs.Finding.{found_at as known_at, is_listed as is_listed_in};
+    ghost use Rattle.live_cables.specs.Finding.{seat_on as seat_on_in};
+
+    ghost finds = { λ r cable addr. known_at r.ports.now.seats.items r.ports.now.own.items
+        r.mappers.now (seat_on_in r.ports.now.seats.items cable r.station) addr };
+
+    ghost lists = { λ r net. is_listed_in r.ports.now.ranges.items net };
+
+    fn find(&self, cable: u8, addr: Addr) -> Found {
+        let seat = seat_on(&self.ports.seats, cable, self.station);
+        find_at(self.ports, self.mappers, seat, addr)
+    }
+
+    fn listed(&self, net: u16) -> bool {
+        is_listed(&self.ports.ranges, net)
+    }
+}

@@ -1,0 +1,72 @@
+//! A frame that a station takes.
+
+ghost use Rattle.std.specs.Prelude.{◌≡◌, ◌⊎◌, ◌↔◌, false, IfErr, OnErr, OnOk, length};
+ghost use Rattle.std.specs.List.{list_any};
+ghost use Rattle.cable_model.specs.Logs.{transcript as said};
+ghost use Rattle.cable_model.specs.Outcomes.{AreSeatsOf, is_named};
+ghost use Rattle.cable_model.specs.Pending.{pending as pending_on};
+ghost use Rattle.live_cables.specs.Steps.{Puts, Takes};
+
+use crate::answer::{Answer, answer_in};
+use crate::holding::{hold_from, learn};
+use crate::ports::Ports;
+use aarp::Mapper;
+use at_base::Error;
+use cable_model::{Cables, Resolve};
+use station::Station as Taker;
+use std::alloc::Global;
+
+/// A station takes a frame, and what it puts out goes onto its cables. Errors: `NotPending`,
+/// `Full`, `Memory`. A refusal changes nothing.
+pub fn take<S: Taker, R: Resolve>(
+    cables: &mut Cables,
+    resolver: &R,
+    stamp: u32,
+    station: u16,
+    taker: &mut S,
+) -> Result<(), Error>
+    requires { AreSeatsOf cables.old.seats station (S.ports_of taker.old) }
+    ensures ok { OnOk result (Takes cables.old cables.new stamp station
+        (λ h added. S.hears taker.old h added taker.new)) }
+    ensures ports_stay { S.ports_of taker.new ≡ S.ports_of taker.old }
+    ensures not_pending { (result ≡ Err Error.NotPending) ↔ (list_any (is_named stamp station)
+        (pending_on cables.old.seats (said cables.old)) ≡ false) }
+    ensures refused { IfErr result (λ e. (e ≡ Error.NotPending) ⊎ (e ≡ Error.Full)
+        ⊎ (e ≡ Error.Memory)) }
+    ensures kept { OnErr result (cables.new ≡ cables.old) }
+    ensures taker_stays { OnErr result (taker.new ≡ taker.old) }
+{
+    cables.take(stamp, station, taker, resolver)
+}
+
+/// What a response says that a station is to take, if it is one.
+pub fn answer_of(cables: &Cables, stamp: u32, station: u16) -> Option<Answer> {
+    match cables.heard(stamp, station) {
+        Some(heard) => answer_in(&heard),
+        None => None,
+    }
+}
+
+/// Holds what waits after a station took a frame, and learns what it was answered. Errors: `Full`,
+/// `Memory`.
+pub fn follow(
+    alloc: Global,
+    cables: &mut Cables,
+    ports: &Ports,
+    mappers: &mut [Mapper],
+    station: u16,
+    answer: Option<Answer>,
+) -> Result<(), Error>
+    ensures puts { Puts cables.old cables.new }
+    ensures refused { IfErr result (λ e. (e ≡ Error.Full) ⊎ (e ≡ Error.Memory)) }
+    ensures mappers { length mappers.new ≡ length mappers.old }
+{
+    match hold_from(alloc, cables, ports, mappers, station, 0) {
+        Ok(()) => {}
+        Err(error) => return Err(error),
+    }
+    match answer {
+        Some(answer) => learn(cables, ports, mappers, station, answer),
+        None => Ok(()),
+    }
+}

@@ -1,0 +1,10 @@
+use Rattle.std.proofs.Common.{sym}
+use Rattle.station.specs.Hearing.{hearing}
+use Rattle.live_node.proofs.Heard.{heard}
+use Rattle.live_node.proofs.hearing.LiveNodeStation.receive.Goals as goal
+
+pub returns-clause-ok : goal.returns-clause-ok
+returns-clause-ok c =
+    rw (sym c.self.view_is)
+    (heard _ (hearing c.args.heard.now) c.args.outputs.now.items c.receive.new.outputs.items c.receive.new.self c.learn.new.self
+    c.taken-taken.result c.in_ok-receive.ensures.ok c.taken-taken.ensures c.learn.ensures)

@@ -1,0 +1,3 @@
+pub mod Living
+pub mod Ticking
+pub mod Passing

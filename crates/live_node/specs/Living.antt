@@ -1,0 +1,71 @@
+-- What a live node holds, and what frames teach it. (Inside AppleTalk, the chapters on RTMP and ZIP)
+use Rattle.std.specs.Prelude.{◌≡◌, ℕ, Bool, true, not, ◌&&◌, List, Option, Some, None, if◌then◌else◌, nat_lt}
+use Rattle.std.specs.Option.{unwrap_or}
+use Rattle.at_base.specs.Packets.{packets}
+use Rattle.at_base.specs.Reading.{read}
+use Rattle.ddp.specs.Datagram.{Datagram}
+use Rattle.end_node.specs.Answers.{Hears, is_to}
+use Rattle.end_node.specs.Holding.{NodeHolding}
+use Rattle.end_node.specs.Taking.{taken}
+use Rattle.rtmp.specs.Data.{RoutingData, routing_data}
+use Rattle.station.specs.Hearing.{Hearing}
+use Rattle.station.specs.Values.{value_of}
+use Rattle.station.specs.declared.output.Output.{Output}
+use Rattle.zip_zones.specs.Formats.{packet as zip_packet}
+use Rattle.zip_zones.specs.declared.packet.NetInfo.{NetInfo}
+use Rattle.zip_zones.specs.declared.packet.Packet.{Packet}
+use Rattle.zip_zones.specs.declared.packet.Packet.TheVariants.{Query, Reply, GetNetInfo, NetInfoReply, ExtendedReply}
+
+-- A node; for how many ticks its router has been silent; how often it has asked about its cable, for how many ticks it waits
+-- before it asks again, and whether it was answered.
+pub record LivingNode : Type 0 where
+  pub node : NodeHolding
+  pub silence : ℕ
+  pub asked : ℕ
+  pub wait : ℕ
+  pub answered : Bool
+
+-- the packet of routing data that a datagram's data is
+unfoldable pub routing_in : List ℕ → Option RoutingData
+routing_in payload = value_of (read packets routing_data payload)
+
+-- the packet of ZIP that a datagram's data is
+unfoldable pub zones_in : List ℕ → Option Packet
+zones_in payload = value_of (read packets zip_packet payload)
+
+-- any router that a node hears of is its router from then on
+abbrev pub routed : LivingNode → Option RoutingData → LivingNode
+routed l None = l
+routed l (Some p) = record l { node = record l.node { router = Some p.router }; silence = 0 }
+
+-- the node waits for an answer about its cable
+abbrev pub is_waiting : LivingNode → Bool
+is_waiting l = nat_lt 0 l.asked && not l.answered
+
+-- what it was told of its cable: where the zone that it asked for isn't one, the default zone becomes its own
+abbrev pub informed : LivingNode → NetInfo → LivingNode
+informed l info =
+    if is_waiting l then record l { node = record l.node { zone = unwrap_or info.default l.node.zone }; answered = true } else l
+
+-- the first answer counts
+abbrev pub told : LivingNode → Option Packet → LivingNode
+told l None = l
+told l (Some (Query nets)) = l
+told l (Some (Reply count entries)) = l
+told l (Some (GetNetInfo unused asked)) = l
+told l (Some (NetInfoReply info)) = informed l info
+told l (Some (ExtendedReply total entries)) = l
+
+-- What a datagram of its own teaches a node: routing data on socket 1, and ZIP on socket 6.
+abbrev pub taught : LivingNode → Option Datagram → LivingNode
+taught l None = l
+taught l (Some d) =
+    if is_to 1 1 d then routed l (routing_in d.payload)
+    else if is_to 6 6 d then told l (zones_in d.payload)
+    else l
+
+-- A live node that holds this hears a frame, puts these out, and holds that then: it answers as a frozen one, and then learns.
+pub record LiveHears (old : LivingNode) (x : Hearing) (added : List Output) (new : LivingNode) : Type 0 where
+  pub answered : NodeHolding
+  pub answers : Hears old.node x added answered
+  pub learns : new ≡ taught (record old { node = answered }) (taken old.node x)

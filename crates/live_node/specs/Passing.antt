@@ -1,0 +1,14 @@
+-- What a tick changes in a live node beside its port. This project's own.
+use Rattle.std.specs.Prelude.{Option}
+use Rattle.at_base.specs.declared.address.Addr.{Addr}
+use Rattle.live_node.specs.Living.{LivingNode}
+use Rattle.live_node.specs.Ticking.{asked_after, silent, wait_after}
+
+-- the node after a tick, where this is its address then, with the port that it had
+abbrev pub passed : Option Addr → LivingNode → LivingNode
+passed own l = record l {
+  node = record l.node { router = (silent l.node.router l.silence).0 };
+  silence = (silent l.node.router l.silence).1;
+  asked = asked_after own l;
+  wait = wait_after own l;
+}

@@ -1,0 +1,125 @@
+//! What a node asks about its cable.
+
+ghost use Rattle.std.specs.Prelude.{◌≡◌, ◌≤◌, length, IfOk, IsOkUnless, OnErr, OnOk, Some};
+ghost use Rattle.at_base.specs.Spelling.{bytes_of};
+ghost use Rattle.live_node.specs.Ticking.{asked_after, asked_from, asks as asks_now};
+ghost use Rattle.live_node.specs.Ticking.{is_asking as still_asks, question_way, questions};
+ghost use Rattle.live_node.specs.Ticking.{wait_after};
+ghost use Rattle.station.specs.Lawful.{PutsOut};
+ghost use Rattle.zip_zones.specs.Formats.{packet as spelled_packet};
+ghost use Rattle.zip_zones.specs.Written.{question};
+
+use crate::live::LiveNode;
+use at_base::{Addr, Bytes, Error, Name, Text32};
+use ddp::{Header, kind, socket};
+use station::ways::EVERY_NODE;
+use station::{Next, Outputs, Way};
+use std::alloc::Global;
+use zip_zones::write_get_net_info;
+
+/// How often a node asks about its cable. This project's own.
+const MAX_QUESTIONS: u8 = 3;
+
+/// The ticks between two questions, in which none is asked: questions are a second apart. This
+/// project's own.
+const PAUSE: u8 = 4;
+
+/// The way of a question from this address: to all stations of the cable.
+fn way_from(me: Addr) -> Way
+    ensures { result ≡ question_way me }
+{
+    Way {
+        port: 0,
+        next: Next::All,
+        header: Header {
+            summed: false,
+            target: Addr {
+                net: 0,
+                node: EVERY_NODE,
+            },
+            source: me,
+            target_socket: socket::ZIP,
+            source_socket: socket::ZIP,
+            kind: kind::ZIP,
+        },
+    }
+}
+
+/// The zone's name as a text.
+fn text_of(zone: &Name) -> Text32
+    ensures value { result ≡ zone.now }
+    ensures short { length zone.now ≤ 32 }
+{
+    Text32::new(zone.as_slice()).unwrap()
+}
+
+/// The data of the question of a node in this zone.
+fn data_for(alloc: Global, zone: &Name) -> Result<Bytes, Error>
+    ensures ok { IfOk result (λ bytes. bytes ≡ bytes_of spelled_packet (question zone.now)) }
+    ensures short { IfOk result (λ bytes. length bytes ≤ 586) }
+    ensures refused { IsOkUnless result Error.Memory }
+{
+    write_get_net_info(alloc, &text_of(zone))
+}
+
+impl LiveNode {
+    /// Whether the node still asks about its cable, where this is its address.
+    fn is_asking(&self, own: Option<Addr>) -> bool
+        ensures { result ≡ still_asks own self.now }
+    {
+        own.is_some() && !self.answered && self.asked < MAX_QUESTIONS
+    }
+
+    /// Whether it asks in this tick.
+    fn asks(&self, own: Option<Addr>) -> bool
+        ensures { result ≡ asks_now own self.now }
+    {
+        self.is_asking(own) && self.wait == 0
+    }
+
+    /// Puts the question out from this address.
+    fn ask_from(&self, me: Addr, outputs: &mut Outputs) -> Result<(), Error>
+        ensures sent { OnOk result (PutsOut 1 outputs.old.items outputs.new.items
+            (λ added. added ≡ asked_from (Some me) self.now.node.zone)) }
+        ensures refused { IsOkUnless result Error.Memory }
+        ensures outputs_stay { OnErr result (outputs.new.items ≡ outputs.old.items) }
+    {
+        let alloc = self.node.allocator();
+        let data = data_for(alloc, self.node.zone())?;
+        let output = way_from(me).make(alloc, data.as_slice())?;
+        outputs.room(1)?;
+        outputs.add(output);
+        Ok(())
+    }
+
+    /// Puts the question of this tick out, if there is one.
+    pub(crate) fn put_question(&self, own: Option<Addr>, outputs: &mut Outputs) -> Result<(), Error>
+        ensures sent { OnOk result (PutsOut 1 outputs.old.items outputs.new.items
+            (λ added. added ≡ questions own self.now)) }
+        ensures refused { IsOkUnless result Error.Memory }
+        ensures outputs_stay { OnErr result (outputs.new.items ≡ outputs.old.items) }
+    {
+        match own {
+            Some(me) if self.asks(own) => self.ask_from(me, outputs),
+            _ => Ok(()),
+        }
+    }
+
+    /// Counts the question of this tick, if there is one, and the ticks up to the next.
+    pub(crate) fn count_question(&mut self, own: Option<Addr>)
+        ensures { self.new ≡ record self.old {
+          asked = asked_after own self.old;
+          wait = wait_after own self.old;
+        } }
+    {
+        if !self.is_asking(own) {
+            return;
+        }
+        if self.wait == 0 {
+            self.asked += 1;
+            self.wait = PAUSE;
+        } else {
+            self.wait -= 1;
+        }
+    }
+}

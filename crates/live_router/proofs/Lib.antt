@@ -1,0 +1,5 @@
+pub mod Seated
+pub mod Settled
+pub mod Learned
+pub mod Short
+pub mod Few

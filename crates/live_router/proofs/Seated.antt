@@ -1,0 +1,169 @@
+-- Rows are by ports that there are, whatever is heard, joined or aged.
+use Rattle.std.proofs.Common.{◌≡◌, ℕ, ◌+◌, ◌≤◌, Bool, true, false, cond, not, ◌&&◌, ◌||◌, ◌==◌, List, [], ◌∷◌, length, map, filter, find}
+use Rattle.std.proofs.Common.{Option, Some, None, refl, arith}
+use Rattle.std.specs.Prelude.{nat_le, nat_lt}
+use Rattle.std.specs.List.{list_all}
+use Rattle.std.proofs.lemmas.Bool.{and_parts, lt-ltb}
+use Rattle.aarp.specs.Choosing.{Choice}
+use Rattle.at_base.specs.Address.{same_address}
+use Rattle.at_base.specs.Range.{Span, overlaps, same_range}
+use Rattle.at_base.specs.declared.address.Addr.{Addr}
+use Rattle.learning.specs.Heard.{is_from_neighbour, routes_after}
+use Rattle.live_router.specs.Ticking.{all_joined, joined, routes_aged, settles}
+use Rattle.rtmp.specs.Data.{RoutingData, tuples_of}
+use Rattle.rtmp.specs.Routes.{added, after_hearing, aged, aged_row, beside, direct_row, directed, heard, heard_packet, heard_row}
+use Rattle.rtmp.specs.Routes.{heard_within, is_direct, is_new, is_over, older, replaced, replaced_row, row_at}
+use Rattle.rtmp.specs.States.{is_usable}
+use Rattle.rtmp.specs.declared.row.Row.{Row}
+use Rattle.rtmp.specs.declared.state.State.TheVariants.{Bad}
+use Rattle.rtmp.specs.declared.table.Change.{Change}
+use Rattle.rtmp.specs.declared.table.Change.TheVariants.{Ignored, Changed}
+use Rattle.rtmp.specs.declared.tuple.Tuple.{Tuple}
+
+-- the row is by one of so many ports
+abbrev pub is_seated : ℕ → Row → Bool
+is_seated n r = nat_lt r.port n
+
+-- each row is
+abbrev pub Seated : ℕ → List Row → Type 0
+Seated n rows = list_all (λ r. nat_lt r.port n) rows ≡ true
+
+-- ---- Lists of rows
+
+-- rows that leave their ports alone, or take others that there are
+map_seated : (n : ℕ) (f : Row → Row) → ((r : Row) → is_seated n r ≡ true → is_seated n (f r) ≡ true) → (rows : List Row)
+    → Seated n rows → Seated n (map f rows)
+map_seated n f keeps [] h = refl
+map_seated n f keeps (r ∷ rows) h =
+    let p = and_parts (is_seated n r) (list_all (λ x. nat_lt x.port n) rows) h in
+    rw (keeps r p.0, map_seated n f keeps rows p.1) refl
+
+filter_seated : (n : ℕ) (test : Row → Bool) (rows : List Row) → Seated n rows → Seated n (filter test rows)
+filter_seated n test [] h = refl
+filter_seated n test (r ∷ rows) h =
+    let p = and_parts (is_seated n r) (list_all (λ x. nat_lt x.port n) rows) h in
+    let rest = filter_seated n test rows p.1 in
+    (elim (test r) as (λ b. test r ≡ b → Seated n (filter test (r ∷ rows))) [
+      | true ↦ λ t. rw (t, p.0, rest) refl
+      | false ↦ λ t. rw t rest
+    ]) refl
+
+added_seated : (n : ℕ) (row : Row) (rows : List Row) → is_seated n row ≡ true → Seated n rows → Seated n (added row rows)
+added_seated n row [] new h = rw new refl
+added_seated n row (r ∷ rows) new h =
+    let p = and_parts (is_seated n r) (list_all (λ x. nat_lt x.port n) rows) h in
+    let rest = added_seated n row rows new p.1 in
+    (elim (nat_lt r.range.start row.range.start) as (λ b. nat_lt r.range.start row.range.start ≡ b → Seated n (added row (r ∷ rows))) [
+      | true ↦ λ t. rw (t, p.0, rest) refl
+      | false ↦ λ t. rw (t, new, p.0, p.1) refl
+    ]) refl
+
+found_seated : (n : ℕ) (test : Row → Bool) (rows : List Row) (row : Row) → Seated n rows → find test rows ≡ Some row
+    → is_seated n row ≡ true
+found_seated n test [] row h e = absurd cc
+found_seated n test (r ∷ rows) row h e =
+    let p = and_parts (is_seated n r) (list_all (λ x. nat_lt x.port n) rows) h in
+    (elim (test r) as (λ b. test r ≡ b → is_seated n row ≡ true) [
+      | true ↦ λ t. let is : Some r ≡ Some row = rw t at e in let same : r ≡ row = cc in rw (← same) p.0
+      | false ↦ λ t. found_seated n test rows row p.1 (rw t at e)
+    ]) refl
+
+-- ---- What is heard
+
+hearing_seated : (n : ℕ) (row : Row) (t : ℕ) (s : Addr) (port : ℕ) → is_seated n row ≡ true → nat_lt port n ≡ true
+    → is_seated n (after_hearing row t s port).0 ≡ true
+hearing_seated n row t s port old new =
+    by (is_direct row) (nat_le t 14 && (not (is_usable row.state) || nat_le (t + 1) row.distance))
+    (same_address row.next s && row.port == port) (nat_le t 14)
+  where
+    by : (direct nearer next near : Bool)
+        → is_seated n (cond {A = Row × Change} direct (row, Ignored) (cond nearer (heard_row row.range t s port, Changed)
+        (cond next (cond near (heard_row row.range t s port) (record row { state = Bad }), Changed) (row, Ignored)))).0 ≡ true
+    by true nearer next near = old
+    by false true next near = new
+    by false false true true = new
+    by false false true false = old
+    by false false false near = old
+
+replaced_seated : (n : ℕ) (row : Row) (rows : List Row) → is_seated n row ≡ true → Seated n rows → Seated n (replaced row rows)
+replaced_seated n row rows new h = map_seated n (replaced_row row) (λ r old. by r (same_range r.range row.range) old) rows h
+  where
+    by : (r : Row) (b : Bool) → is_seated n r ≡ true → is_seated n (cond b row r) ≡ true
+    by r true old = new
+    by r false old = old
+
+heard_seated : (n : ℕ) (range : Span) (t : ℕ) (s : Addr) (port : ℕ) (rows : List Row) → nat_lt port n ≡ true → Seated n rows
+    → Seated n (heard range t s port rows).0
+heard_seated n range t s port rows new h = by (row_at range rows) refl
+  where
+    by_new : (b : Bool) → is_new range t rows ≡ b → row_at range rows ≡ None → Seated n (heard range t s port rows).0
+    by_new true u e = rw (e, u) (added_seated n (heard_row range t s port) rows new h)
+    by_new false u e = rw (e, u) h
+
+    by : (o : Option Row) → row_at range rows ≡ o → Seated n (heard range t s port rows).0
+    by (Some row) e =
+        let old = found_seated n (λ r. same_range r.range range) rows row h e in
+        rw e (replaced_seated n (after_hearing row t s port).0 rows (hearing_seated n row t s port old new) h)
+    by None e = by_new (is_new range t rows) refl e
+
+within_seated : (n : ℕ) (range : Span) (t : ℕ) (s : Addr) (port : ℕ) (rows : List Row) → nat_lt port n ≡ true → Seated n rows
+    → Seated n (heard_within range t s port rows)
+within_seated n range t s port rows new h = by _
+  where
+    by : (full : Bool) → Seated n (cond full rows (heard range t s port rows).0)
+    by true = h
+    by false = heard_seated n range t s port rows new h
+
+packet_seated : (n : ℕ) (s : Addr) (port : ℕ) (tuples : List Tuple) (rows : List Row) → nat_lt port n ≡ true → Seated n rows
+    → Seated n (heard_packet s port tuples rows)
+packet_seated n s port [] rows new h = h
+packet_seated n s port (t ∷ tuples) rows new h =
+    packet_seated n s port tuples (heard_within t.range t.distance s port rows) new
+    (within_seated n t.range t.distance s port rows new h)
+
+-- rows after a packet that came in on one of the ports
+pub after_seated : (n : ℕ) (range : Span) (port : ℕ) (p : RoutingData) (rows : List Row) → nat_lt port n ≡ true → Seated n rows
+    → Seated n (routes_after range port p rows)
+after_seated n range port p rows new h = by (is_from_neighbour range p)
+  where
+    by : (b : Bool) → Seated n (cond b (heard_packet p.router port (tuples_of p.written) rows) rows)
+    by true = packet_seated n p.router port (tuples_of p.written) rows new h
+    by false = h
+
+-- ---- What a tick leaves
+
+joined_seated : (n : ℕ) (range : Span) (k : ℕ) (rows : List Row) → nat_lt k n ≡ true → Seated n rows → Seated n (joined range k rows)
+joined_seated n range k rows new h = by (nat_lt (length (beside range rows)) 200)
+  where
+    by : (b : Bool) → Seated n (cond b (directed range k rows) rows)
+    by true =
+        added_seated n (direct_row range k) (beside range rows) new (filter_seated n (λ r. not (overlaps r.range range)) rows h)
+    by false = h
+
+-- rows after ports that are numbered from k
+pub all_joined_seated : (n k : ℕ) (ports : List Choice) (rows : List Row) → k + length ports ≤ n → Seated n rows
+    → Seated n (all_joined k ports rows)
+all_joined_seated n k [] rows few h = h
+all_joined_seated n k (c ∷ cs) rows few h =
+    all_joined_seated n (k + 1) cs (cond (settles c) (joined c.range k rows) rows) (omega arith) (by (settles c))
+  where
+    by : (b : Bool) → Seated n (cond b (joined c.range k rows) rows)
+    by true = joined_seated n c.range k rows (lt-ltb k n (omega arith)) h
+    by false = h
+
+aged_seated : (n : ℕ) (rows : List Row) → Seated n rows → Seated n (aged rows)
+aged_seated n rows h =
+    map_seated n aged_row (λ r old. by r (is_direct r) old) (filter (λ r. not (is_over r)) rows)
+    (filter_seated n (λ r. not (is_over r)) rows h)
+  where
+    by : (r : Row) (b : Bool) → is_seated n r ≡ true → is_seated n (cond b r (record r { state = older r.state })) ≡ true
+    by r true old = old
+    by r false old = old
+
+-- rows that may have grown older
+pub routes_aged_seated : (n phase : ℕ) (rows : List Row) → Seated n rows → Seated n (routes_aged phase rows)
+routes_aged_seated n phase rows h = by (phase == 0)
+  where
+    by : (b : Bool) → Seated n (cond b (aged rows) rows)
+    by true = aged_seated n rows h
+    by false = h

@@ -1,0 +1,34 @@
+-- Ports that are settled stay as they are, and where none settles no cable is joined.
+use Rattle.std.proofs.Common.{◌≡◌, ℕ, ◌+◌, Bool, true, false, List, [], ◌∷◌, refl, ap, ◌∙◌}
+use Rattle.std.specs.List.{list_all, list_any}
+use Rattle.std.proofs.lemmas.Bool.{and_parts}
+use Rattle.aarp.specs.Choosing.{Choice, ticked}
+use Rattle.live_router.specs.Ticking.{all_joined, ports_ticked, probes, settles}
+use Rattle.rtmp.specs.declared.row.Row.{Row}
+
+-- each port is settled
+abbrev pub AreSettled : List Choice → Type 0
+AreSettled ports = list_all (λ c. c.is_settled) ports ≡ true
+
+pub settled_stay : (ports : List Choice) → AreSettled ports → ports ≡ ports_ticked ports
+settled_stay [] h = refl
+settled_stay (c ∷ cs) h =
+    let p = and_parts c.is_settled (list_all (λ x. x.is_settled) cs) h in
+    let same : c ≡ (ticked c).0 = rw p.0 refl in
+    ap (λ (x : Choice). x ∷ cs) same ∙ ap (λ (l : List Choice). (ticked c).0 ∷ l) (settled_stay cs p.1)
+
+pub settled_silent : (k : ℕ) (ports : List Choice) → AreSettled ports → probes k ports ≡ []
+settled_silent k [] h = refl
+settled_silent k (c ∷ cs) h =
+    let p = and_parts c.is_settled (list_all (λ x. x.is_settled) cs) h in
+    rw p.0 (settled_silent (k + 1) cs p.1)
+
+-- no port settles
+pub none_joined : (k : ℕ) (ports : List Choice) (rows : List Row) → list_any settles ports ≡ false → rows ≡ all_joined k ports rows
+none_joined k [] rows h = refl
+none_joined k (c ∷ cs) rows h = by (settles c) refl (λ (none : list_any settles cs ≡ false). none_joined (k + 1) cs rows none)
+  where
+    by : (b : Bool) → settles c ≡ b → (list_any settles cs ≡ false → rows ≡ all_joined (k + 1) cs rows)
+        → rows ≡ all_joined k (c ∷ cs) rows
+    by true e rest = absurd (let bad : true ≡ false = rw e at h in cc)
+    by false e rest = rw e (rest (rw e at h))

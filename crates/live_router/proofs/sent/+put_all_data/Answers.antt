@@ -1,0 +1,10 @@
+use Rattle.std.proofs.Common.{arith}
+use Rattle.std.proofs.lemmas.Result.{on_ok_weaker}
+use Rattle.live_router.proofs.sent.+put_all_data.Goals as goal
+
+pub returns-in_ok-put_data-in-len1-up-clause-good : goal.returns-in_ok-put_data-in-len1-up-clause-good
+returns-in_ok-put_data-in-len1-up-clause-good g t c =
+    on_ok_weaker c.put_all_data.result (λ others n le before.
+    others n (omega (arith, le, c.in-len1-up.len_at_least))
+    ((c.in_ok-put_data-in-len1-up.ensures {u = tt}).good n (omega (arith, le, c.in-len1-up.len_at_least)) before))
+    c.put_all_data.ensures.good

@@ -1,0 +1,150 @@
+-- What a live router does as time passes. (Inside AppleTalk, the chapters on AARP, RTMP and ZIP; the order within a tick, and
+-- what is left out where there is no room, are this project's own)
+use Rattle.std.specs.Prelude.{◌≡◌, ℕ, ◌+◌, ◌%◌, Bool, false, not, ◌&&◌, ◌==◌, List, [], ◌∷◌, ◌++◌, length, map, nat_lt, option_to_list}
+use Rattle.std.specs.Prelude.{Option, Some, None, if◌then◌else◌}
+use Rattle.aarp.specs.Choosing.{Choice, settled, ticked}
+use Rattle.aarp.specs.Packets.{packet, written}
+use Rattle.aarp.specs.declared.packet.Packet.{Packet}
+use Rattle.at_base.specs.Range.{Span}
+use Rattle.at_base.specs.Spelling.{bytes_of}
+use Rattle.at_base.specs.declared.address.Addr.{Addr}
+use Rattle.at_base.specs.declared.address.Hw.{Hw}
+use Rattle.atp.specs.Responding.{ticked as requests_ticked}
+use Rattle.ddp.specs.declared.header.Header.{Header}
+use Rattle.learning.specs.Forgetting.{without_gone}
+use Rattle.learning.specs.Queries.{queries_of}
+use Rattle.learning.specs.declared.query.Query.{Query}
+use Rattle.live_router.specs.Living.{Living}
+use Rattle.router.specs.Holding.{Holding, own_at}
+use Rattle.rtmp.specs.Data.{RoutingData, routing_data}
+use Rattle.rtmp.specs.Routes.{aged, beside, directed}
+use Rattle.rtmp.specs.Sending.{packet_numbered}
+use Rattle.rtmp.specs.declared.row.Row.{Row}
+use Rattle.station.specs.Making.{made}
+use Rattle.station.specs.declared.output.Next.TheVariants as next
+use Rattle.station.specs.declared.output.Output.{Output}
+use Rattle.station.specs.declared.output.Output.TheVariants.{Wire}
+use Rattle.station.specs.declared.way.Way.{Way}
+use Rattle.zip_zones.specs.Formats.{packet as spelled_packet}
+use Rattle.zip_zones.specs.Zones.{Known}
+use Rattle.zip_zones.specs.declared.packet.Packet.TheVariants.{Query as QueryPacket}
+
+-- ---- Addresses
+
+-- the hardware address of all stations
+abbrev pub everyone_hw : Hw
+everyone_hw = record { 0 = 9 ∷ 0 ∷ 7 ∷ 255 ∷ 255 ∷ 255 ∷ [] }
+
+-- the choices of the ports after a tick
+abbrev pub ports_ticked : List Choice → List Choice
+ports_ticked ports = map (λ c. (ticked c).0) ports
+
+-- a probe goes by port k to all stations of the cable
+abbrev pub probe_by : ℕ → Option Packet → List Output
+probe_by k None = []
+probe_by k (Some p) = Wire k everyone_hw (bytes_of packet (written p)) ∷ []
+
+-- the probes of a tick, of ports numbered from k
+abbrev pub probes : ℕ → List Choice → List Output
+probes k [] = []
+probes k (c ∷ cs) = probe_by k (ticked c).1 ++ probes (k + 1) cs
+
+-- ---- Tables
+
+-- the port settles in this tick
+abbrev pub settles : Choice → Bool
+settles c = not c.is_settled && (ticked c).0.is_settled
+
+-- port k has settled on a cable of this range, which is direct from now on; it is left out where there is no room for its row
+abbrev pub joined : Span → ℕ → List Row → List Row
+joined range k rows = if nat_lt (length (beside range rows)) 200 then directed range k rows else rows
+
+-- the rows after the ports, numbered from k, of which some settle
+abbrev pub all_joined : ℕ → List Choice → List Row → List Row
+all_joined k [] rows = rows
+all_joined k (c ∷ cs) rows = all_joined (k + 1) cs (if settles c then joined c.range k rows else rows)
+
+-- the phase of the next tick, which counts to 100 and begins again
+abbrev pub phase_after : ℕ → ℕ
+phase_after phase = (phase + 1) % 100
+
+-- in every hundredth tick rows grow older
+abbrev pub routes_aged : ℕ → List Row → List Row
+routes_aged phase rows = if phase == 0 then aged rows else rows
+
+-- and the lists of rows that go go with them
+abbrev pub zones_aged : ℕ → List Row → List Known → List Known
+zones_aged phase rows zones = if phase == 0 then without_gone rows zones else zones
+
+-- ---- What is sent
+
+-- the header of a datagram of the router's own from this address
+abbrev pub header_of : Addr → Addr → ℕ → ℕ → Header
+header_of source target socket kind = record {
+  summed = false;
+  target = target;
+  source = source;
+  target_socket = socket;
+  source_socket = socket;
+  kind = kind;
+}
+
+-- the way of routing data: to all stations of the cable, from socket 1 to socket 1
+abbrev pub data_way : ℕ → Addr → Way
+data_way k me = record { port = k; next = next.All; header = header_of me (record { net = 0; node = 255 }) 1 1 }
+
+-- the packets of routing data for a cable of this range by port k: of at most 200 rows there are at most three
+abbrev pub packets_for : ℕ → Span → Addr → List Row → List RoutingData
+packets_for k range me rows = option_to_list (packet_numbered k range me 0 rows)
+    ++ option_to_list (packet_numbered k range me 1 rows) ++ option_to_list (packet_numbered k range me 2 rows)
+
+-- the routing data by port k, where it is settled
+abbrev pub data_by : ℕ → Span → Option Addr → List Row → List Output
+data_by k range None rows = []
+data_by k range (Some me) rows =
+    map (λ p. made (data_way k me) (bytes_of routing_data p)) (packets_for k range me rows)
+
+-- the routing data by the ports, numbered from k
+abbrev pub data_from : ℕ → List Choice → List Row → List Output
+data_from k [] rows = []
+data_from k (c ∷ cs) rows = data_by k c.range (settled c) rows ++ data_from (k + 1) cs rows
+
+-- the query about a range, from the address of the port by which it leaves, where that is settled
+abbrev pub query_from : Option Addr → Query → List Output
+query_from None q = []
+query_from (Some me) q =
+    made (record { port = q.port; next = next.Station q.next; header = header_of me q.next 6 6 })
+    (bytes_of spelled_packet (QueryPacket (q.start ∷ []))) ∷ []
+
+-- the queries, one after another
+abbrev pub all_queries : List Choice → List Query → List Output
+all_queries ports [] = []
+all_queries ports (q ∷ qs) = query_from (own_at ports q.port) q ++ all_queries ports qs
+
+-- what is sent of these tables in every fiftieth tick
+abbrev pub sent_by : ℕ → Holding → List Output
+sent_by phase h =
+    if phase % 50 == 0 then data_from 0 h.ports h.routes ++ all_queries h.ports (queries_of h.routes h.zones) else []
+
+-- ---- A tick
+
+-- The router after a tick: first each port goes on with its choice, and the cables of those that settle are direct; then rows
+-- grow older.
+abbrev pub router_after : ℕ → Holding → Holding
+router_after phase h = record {
+  ports = ports_ticked h.ports;
+  routes = routes_aged phase (all_joined 0 h.ports h.routes);
+  zones = zones_aged phase (all_joined 0 h.ports h.routes) h.zones;
+  requests = requests_ticked h.requests;
+}
+
+-- What a live router puts out in a tick, and what it holds then: probes, then routing data, then queries for zone lists.
+abbrev pub ticked_live : Living → List Output × Living
+ticked_live l = (
+  probes 0 l.router.ports ++ sent_by (phase_after l.phase) (router_after (phase_after l.phase) l.router),
+  record { router = router_after (phase_after l.phase) l.router; phase = phase_after l.phase },
+)
+
+-- a live router that holds this lets a tick pass, puts these out, and holds that then
+abbrev pub LiveTicks : Living → List Output → Living → Type 0
+LiveTicks old added new = (added, new) ≡ ticked_live old

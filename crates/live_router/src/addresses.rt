@@ -1,0 +1,125 @@
+//! How ports choose their addresses, tick by tick.
+
+ghost use Rattle.std.specs.Prelude.{◌≡◌, ◌<◌, ◌≤◌, ◌+◌, ◌++◌, ◌∷◌, [], ℕ, length, option_map};
+ghost use Rattle.std.specs.Prelude.{unwrap_or, IfOk, IsOkUnless, OnOk, Some};
+ghost use Rattle.std.specs.List.{list_all};
+ghost use Rattle.aarp.specs.Choosing.{ticked};
+ghost use Rattle.live_router.specs.Ticking.{ports_ticked, probe_by as probes_by, probes};
+ghost use Rattle.station.specs.Made.{AreMade, IsMadeIn};
+
+use aarp::{Chooser, Packet};
+use at_base::{Bytes, Error, Hw};
+use router::Router;
+use rtmp::RouteTable;
+use station::Output;
+use std::alloc::Global;
+
+/// Whether the port has an address.
+fn is_settled(chooser: &Chooser) -> bool
+    ensures { result ≡ chooser.now.is_settled }
+{
+    chooser.settled().is_some()
+}
+
+/// Whether each port has an address.
+fn are_settled(ports: &[Chooser]) -> bool
+    ensures { result ≡ list_all (λ c. c.is_settled) ports.now }
+{
+    ports.iter().all(is_settled)
+}
+
+/// The frame with a probe, for all stations of the port's cable. Error: `Memory`.
+fn probe_frame(alloc: Global, port: u8, probe: &Packet) -> Result<Output, Error>
+    ensures ok { IfOk result (λ output. output ∷ [] ≡ probes_by port (Some probe.now)) }
+    ensures good { IfOk result (λ output. (n : ℕ) → port < n → IsMadeIn n output) }
+    ensures refused { IsOkUnless result Error.Memory }
+{
+    Ok(Output::Wire {
+        port,
+        to: Hw::ALL,
+        bytes: Bytes::copy(alloc, &probe.write())?,
+    })
+}
+
+/// Appends the frame with a probe, where there is one. Error: `Memory`.
+fn put_probe(made: &mut Vec<Output>, port: u8, probe: &Option<Packet>) -> Result<(), Error>
+    ensures put { OnOk result (made.new.items ≡ made.old.items ++ probes_by port probe.now) }
+    ensures good { OnOk result ((n : ℕ) → port < n → AreMade n made.old.items
+        → AreMade n made.new.items) }
+    ensures refused { IsOkUnless result Error.Memory }
+{
+    match probe {
+        Some(probe) => {
+            let frame = probe_frame(*made.allocator(), port, probe)?;
+            made.push(frame)?;
+            Ok(())
+        }
+        None => Ok(()),
+    }
+}
+
+/// Lets a tick pass for the choice of a port's address: appends the choice after it, and the probe
+/// that the port sends. Error: `Memory`.
+fn tick_port(
+    made: &mut Vec<Output>,
+    next: &mut Vec<Chooser>,
+    port: u8,
+    chooser: &Chooser,
+) -> Result<(), Error>
+    ensures next { OnOk result (next.new.items ≡ next.old.items ++ (ticked chooser.now).0 ∷ []) }
+    ensures put { OnOk result
+        (made.new.items ≡ made.old.items ++ probes_by port (ticked chooser.now).1) }
+    ensures good { OnOk result ((n : ℕ) → port < n → AreMade n made.old.items
+        → AreMade n made.new.items) }
+    ensures refused { IsOkUnless result Error.Memory }
+{
+    let mut chooser = chooser.copy()?;
+    let probe = chooser.tick();
+    next.push(chooser)?;
+    put_probe(made, port, &probe)
+}
+
+/// Lets a tick pass for the choices of ports that are numbered from `port`. Error: `Memory`.
+fn tick_ports(
+    made: &mut Vec<Output>,
+    next: &mut Vec<Chooser>,
+    port: u8,
+    ports: &[Chooser],
+) -> Result<(), Error>
+    requires { port + length ports.now ≤ 16 }
+    ensures next { OnOk result (next.new.items ≡ next.old.items ++ ports_ticked ports.now) }
+    ensures put { OnOk result (made.new.items ≡ made.old.items ++ probes port ports.now) }
+    ensures good { OnOk result ((n : ℕ) → port + length ports.now ≤ n → AreMade n made.old.items
+        → AreMade n made.new.items) }
+    ensures refused { IsOkUnless result Error.Memory }
+{
+    match ports {
+        [] => Ok(()),
+        [chooser, rest @ ..] => {
+            tick_port(made, next, port, chooser)?;
+            tick_ports(made, next, port + 1, rest)
+        }
+    }
+}
+
+/// The choices after a tick, where one isn't made yet, and the probes. Error: `Memory`.
+pub(crate) fn ports_after<T: RouteTable>(
+    router: &Router<T>,
+    made: &mut Vec<Output>,
+) -> Result<Option<Vec<Chooser>>, Error>
+    ensures next { IfOk result (λ next. unwrap_or (option_map (λ v. v.items) next)
+        router.now.ports ≡ ports_ticked router.now.ports) }
+    ensures put { IfOk result
+        (λ next. made.new.items ≡ made.old.items ++ probes 0 router.now.ports) }
+    ensures good { IfOk result (λ next. AreMade (length router.now.ports) made.old.items
+        → AreMade (length router.now.ports) made.new.items) }
+    ensures refused { IsOkUnless result Error.Memory }
+{
+    let ports = router.ports_now();
+    if are_settled(ports) {
+        return Ok(None);
+    }
+    let mut next = Vec::with_capacity(router.allocator(), ports.len())?;
+    tick_ports(made, &mut next, 0, ports)?;
+    Ok(Some(next))
+}

@@ -1,0 +1,100 @@
+//! The queries for zone lists that a router sends.
+
+ghost use Rattle.std.specs.Prelude.{◌≡◌, ◌<◌, ◌≤◌, ◌+◌, ◌++◌, ◌∷◌, [], ℕ, length};
+ghost use Rattle.std.specs.Prelude.{IfOk, IfSome, IsOkUnless, OnOk, Some};
+ghost use Rattle.at_base.specs.Spelling.{bytes_of};
+ghost use Rattle.live_router.specs.Ticking.{all_queries, query_from};
+ghost use Rattle.router.specs.Holding.{own_at as address_at};
+ghost use Rattle.station.specs.Made.{AreMade};
+ghost use Rattle.zip_zones.specs.Formats.{packet as spelled_packet};
+ghost use Rattle.zip_zones.specs.declared.packet.Packet.TheVariants.{Query as QueryPacket};
+
+use crate::sent::header_of;
+use aarp::Chooser;
+use at_base::{Addr, Bytes, Error};
+use ddp::{kind, socket};
+use learning::Query;
+use station::making::put;
+use station::{Next, Output, Way};
+use std::alloc::Global;
+use zip_zones::write_query;
+
+/// The address of the port at an index, once it is settled.
+fn own_at(ports: &[Chooser], port: u8) -> Option<Addr>
+    ensures value { result ≡ address_at ports.now port }
+    ensures inside { IfSome result (λ me. port < length ports.now) }
+{
+    match ports.get(port as usize) {
+        Some(chooser) => chooser.settled(),
+        None => None,
+    }
+}
+
+/// The query about the range that begins with this network. Error: `Memory`.
+fn query_bytes(alloc: Global, start: u16) -> Result<Bytes, Error>
+    ensures ok { IfOk result
+        (λ bytes. bytes ≡ bytes_of spelled_packet (QueryPacket (start ∷ []))) }
+    ensures short { IfOk result (λ bytes. length bytes ≤ 586) }
+    ensures refused { IsOkUnless result Error.Memory }
+{
+    match write_query(alloc, &[start]) {
+        Ok(bytes) => Ok(bytes),
+        Err(_) => Err(Error::Memory),
+    }
+}
+
+/// Sends a query from this address, which is that of the port by which it leaves. Error: `Memory`.
+fn put_query_from(made: &mut Vec<Output>, me: Addr, query: &Query) -> Result<(), Error>
+    ensures put { OnOk result
+        (made.new.items ≡ made.old.items ++ query_from (Some me) query.now) }
+    ensures few { OnOk result (length made.new.items ≤ length made.old.items + 1) }
+    ensures good { OnOk result ((n : ℕ) → query.now.port < n → AreMade n made.old.items
+        → AreMade n made.new.items) }
+    ensures refused { IsOkUnless result Error.Memory }
+{
+    let payload = query_bytes(*made.allocator(), query.start)?;
+    let way = Way {
+        port: query.port,
+        next: Next::Station(query.next),
+        header: header_of(me, query.next, socket::ZIP, kind::ZIP),
+    };
+    put(made, &Some(way), payload.as_slice())
+}
+
+/// Sends a query by its port, where that is settled. Error: `Memory`.
+fn put_query(made: &mut Vec<Output>, ports: &[Chooser], query: &Query) -> Result<(), Error>
+    ensures put { OnOk result (made.new.items ≡ made.old.items
+        ++ query_from (address_at ports.now query.now.port) query.now) }
+    ensures few { OnOk result (length made.new.items ≤ length made.old.items + 1) }
+    ensures good { OnOk result ((n : ℕ) → length ports.now ≤ n → AreMade n made.old.items
+        → AreMade n made.new.items) }
+    ensures refused { IsOkUnless result Error.Memory }
+{
+    match own_at(ports, query.port) {
+        Some(me) => put_query_from(made, me, query),
+        None => Ok(()),
+    }
+}
+
+/// Sends queries, each by its port, where that is settled. Error: `Memory`.
+pub(crate) fn put_queries(
+    made: &mut Vec<Output>,
+    ports: &[Chooser],
+    queries: &[Query],
+) -> Result<(), Error>
+    ensures put { OnOk result
+        (made.new.items ≡ made.old.items ++ all_queries ports.now queries.now) }
+    ensures few { OnOk result
+        (length made.new.items ≤ length made.old.items + length queries.now) }
+    ensures good { OnOk result ((n : ℕ) → length ports.now ≤ n → AreMade n made.old.items
+        → AreMade n made.new.items) }
+    ensures refused { IsOkUnless result Error.Memory }
+{
+    match queries {
+        [] => Ok(()),
+        [query, rest @ ..] => {
+            put_query(made, ports, query)?;
+            put_queries(made, ports, rest)
+        }
+    }
+}

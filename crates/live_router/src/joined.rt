@@ -1,0 +1,137 @@
+//! How the tables change as time passes: the cables of ports that settle are direct, and rows grow
+//! older.
+
+ghost use Rattle.std.specs.Prelude.{◌≡◌, ◌≤◌, ◌+◌, length, option_map, unwrap_or};
+ghost use Rattle.std.specs.Prelude.{IfOk, IsOkUnless, OnOk, Some};
+ghost use Rattle.std.specs.List.{list_any};
+ghost use Rattle.aarp.specs.Choosing.{ticked};
+ghost use Rattle.live_router.specs.Ticking.{all_joined, joined, ports_ticked, routes_aged};
+ghost use Rattle.live_router.specs.Ticking.{settles as settles_now, zones_aged};
+ghost use Rattle.learning.specs.Forgetting.{without_gone};
+ghost use Rattle.rtmp.specs.Routes.{aged};
+
+use crate::tables::Tables;
+use aarp::Chooser;
+use at_base::{Error, Range};
+use learning::forget;
+use router::Router;
+use rtmp::RouteTable;
+use zip_zones::ZoneTable;
+
+/// Whether a port settles in the tick between these choices.
+fn settles(before: &Chooser, after: &Chooser) -> bool
+    requires { after.now ≡ (ticked before.now).0 }
+    ensures { result ≡ settles_now before.now }
+{
+    before.settled().is_none() && after.settled().is_some()
+}
+
+/// Whether one of the ports settles in the tick between these choices.
+fn any_settles(before: &[Chooser], after: &[Chooser]) -> bool
+    requires { after.now ≡ ports_ticked before.now }
+    ensures { result ≡ list_any settles_now before.now }
+{
+    match before {
+        [] => false,
+        [first, rest @ ..] => settles(first, &after[0]) || any_settles(rest, &after[1..]),
+    }
+}
+
+/// Makes the cable of a port, which has this range, direct, and leaves it out where there is no
+/// room for its row. Error: `Memory`.
+fn join<T: RouteTable>(routes: &mut T, range: Range, port: u8) -> Result<(), Error>
+    ensures ok { OnOk result (T.rows routes.new ≡ joined range port (T.rows routes.old)) }
+    ensures refused { IsOkUnless result Error.Memory }
+{
+    match routes.direct(range, port) {
+        Ok(()) | Err(Error::Full) => Ok(()),
+        Err(error) => Err(error),
+    }
+}
+
+/// Makes the cables direct whose ports settle in the tick between these choices, which are numbered
+/// from `port`. Error: `Memory`.
+fn join_all<T: RouteTable>(
+    routes: &mut T,
+    port: u8,
+    before: &[Chooser],
+    after: &[Chooser],
+) -> Result<(), Error>
+    requires ticked { after.now ≡ ports_ticked before.now }
+    requires few { port + length before.now ≤ 16 }
+    ensures ok { OnOk result
+        (T.rows routes.new ≡ all_joined port before.now (T.rows routes.old)) }
+    ensures refused { IsOkUnless result Error.Memory }
+{
+    match before {
+        [] => Ok(()),
+        [first, rest @ ..] => {
+            if settles(first, &after[0]) {
+                join(routes, first.range(), port)?;
+            }
+            join_all(routes, port + 1, rest, &after[1..])
+        }
+    }
+}
+
+/// The routing table with the cables of the ports that settle. Error: `Memory`.
+fn routes_joined<T: RouteTable>(router: &Router<T>, after: &[Chooser]) -> Result<T, Error>
+    requires { after.now ≡ ports_ticked router.now.ports }
+    ensures ok { IfOk result
+        (λ routes. T.rows routes ≡ all_joined 0 router.now.ports router.now.routes) }
+    ensures refused { IsOkUnless result Error.Memory }
+{
+    let mut routes = router.routes().copy()?;
+    join_all(&mut routes, 0, router.ports_now(), after)?;
+    Ok(routes)
+}
+
+/// The tables after a period has passed for this routing table: rows grow older, and the lists of
+/// those that go go with them. Error: `Memory`.
+fn tables_aged<T: RouteTable>(zones: &ZoneTable, joined: T) -> Result<Tables<T>, Error>
+    ensures routes { IfOk result
+        (λ next. option_map T.rows next.routes ≡ Some (aged (T.rows joined))) }
+    ensures zones { IfOk result
+        (λ next. next.zones ≡ Some (without_gone (T.rows joined) zones.now)) }
+    ensures refused { IsOkUnless result Error.Memory }
+{
+    let mut routes = joined;
+    let mut zones = zones.copy()?;
+    forget(&mut routes, &mut zones);
+    Ok(Tables {
+        routes: Some(routes),
+        zones: Some(zones),
+    })
+}
+
+/// The tables after a tick in which the ports' choices become these, and in whose phase rows may
+/// grow older. Error: `Memory`.
+pub(crate) fn tables_after<T: RouteTable>(
+    router: &Router<T>,
+    phase: u8,
+    after: &[Chooser],
+) -> Result<Tables<T>, Error>
+    requires { after.now ≡ ports_ticked router.now.ports }
+    ensures routes { IfOk result (λ next. unwrap_or (option_map T.rows next.routes)
+        router.now.routes
+        ≡ routes_aged phase (all_joined 0 router.now.ports router.now.routes)) }
+    ensures zones { IfOk result (λ next. unwrap_or next.zones router.now.zones
+        ≡ zones_aged phase (all_joined 0 router.now.ports router.now.routes) router.now.zones) }
+    ensures refused { IsOkUnless result Error.Memory }
+{
+    if phase == 0 {
+        let routes = routes_joined(router, after)?;
+        return tables_aged(router.zones(), routes);
+    }
+    if any_settles(router.ports_now(), after) {
+        let routes = routes_joined(router, after)?;
+        return Ok(Tables {
+            routes: Some(routes),
+            zones: None,
+        });
+    }
+    Ok(Tables {
+        routes: None,
+        zones: None,
+    })
+}

@@ -1,0 +1,117 @@
+//! Live routers, and what they hold.
+
+ghost use Rattle.std.specs.Prelude.{◌≡◌, ◌<◌, ◌⊎◌, ◌↔◌, [], length, map, IfErr, IfOk, IsTrue};
+ghost use Rattle.std.specs.List.{list_all};
+ghost use Rattle.rtmp.specs.Routes.{poisoned};
+ghost use Rattle.station.specs.Ports.{is_planned, planned};
+
+use crate::passing::{pass, phase_after};
+use crate::received::hear;
+use at_base::{Addr, Error};
+use router::{MAX_PORTS, Router};
+use rtmp::RouteTable;
+use station::{Heard, Outputs, PortPlan, Station};
+use std::alloc::Global;
+use std::marker::Model;
+use zip_zones::ZoneTable;
+
+/// A live router: a router that chooses the addresses of its ports, learns its tables from its
+/// neighbours and forgets what nobody says any more.
+///
+/// Inside AppleTalk, the chapters on AARP, RTMP and ZIP.
+#[derive(Drop)]
+pub struct LiveRouter<T: RouteTable> {
+    router: Router<T>,
+    // ticks since rows last grew older
+    phase: u8,
+}
+
+impl<T: RouteTable> Model for LiveRouter<T> {
+    ghost use Rattle.std.specs.Prelude.{◌<◌};
+    ghost use Rattle.live_router.specs.Living.{Living};
+
+    ghost Value = { Living };
+
+    ghost view = { λ l. record { router = l.router; phase = l.phase } };
+
+    ghost invariant = { λ l. l.phase < 100 };
+}
+
+impl<T: RouteTable> LiveRouter<T> {
+    /// A router that begins: its ports have yet to choose their addresses, where their plans give
+    /// none, it knows no route, and it knows the zones of its cables. That a station of each port's
+    /// range may have the port's addresses is the caller's condition.
+    ///
+    /// Errors: `Full` above 16 ports, `Memory`.
+    pub fn new(
+        alloc: Global,
+        plans: &[PortPlan<'_>],
+        zones: ZoneTable,
+    ) -> Result<LiveRouter<T>, Error>
+        requires planned { IsTrue (list_all is_planned plans.now) }
+        ensures ok { IfOk result (λ live. live ≡ record {
+          router = record {
+            ports = map planned plans.now;
+            routes = [];
+            zones = zones;
+            requests = [];
+          };
+          phase = 0;
+        }) }
+        ensures full { (result ≡ Err Error.Full) ↔ (16 < length plans.now) }
+        ensures refused { IfErr result (λ e. (e ≡ Error.Full) ⊎ (e ≡ Error.Memory)) }
+    {
+        if plans.len() > MAX_PORTS {
+            return Err(Error::Full);
+        }
+        let routes = T::empty(alloc)?;
+        let router = Router::new(alloc, plans, routes, zones)?;
+        Ok(LiveRouter { router, phase: 0 })
+    }
+
+    /// The router as it stands. Allocates nothing.
+    pub fn router(&self) -> &Router<T>
+        ensures { result.now ≡ self.now.router }
+    {
+        &self.router
+    }
+
+    /// AARP has given an address up: the rows that lead through its router are bad. Allocates
+    /// nothing.
+    ///
+    /// Inside AppleTalk, the chapter on RTMP.
+    pub fn give_up(&mut self, next: Addr)
+        ensures { self.new ≡ record self.old {
+          router = record self.old.router { routes = poisoned next self.old.router.routes };
+        } }
+    {
+        self.router.poison(next);
+    }
+}
+
+impl<T: RouteTable> Station for LiveRouter<T> {
+    ghost use Rattle.std.specs.Prelude.{length};
+    ghost use Rattle.live_router.specs.Living.{LiveHears};
+    ghost use Rattle.live_router.specs.Ticking.{LiveTicks};
+
+    ghost ports_of = { λ l. length l.router.ports };
+
+    ghost hears = { LiveHears };
+
+    ghost ticks = { LiveTicks };
+
+    fn ports(&self) -> u8 {
+        self.router.ports()
+    }
+
+    fn receive(&mut self, heard: &Heard<'_>, outputs: &mut Outputs) -> Result<(), Error> {
+        hear(&mut self.router, heard, outputs)
+    }
+
+    fn tick(&mut self, outputs: &mut Outputs) -> Result<(), Error> {
+        let phase = phase_after(self.phase);
+        pass(&mut self.router, phase, outputs)?;
+        self.phase = phase;
+        Ok(())
+    }
+}

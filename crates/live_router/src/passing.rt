@@ -1,0 +1,155 @@
+//! How a live router lets a tick pass.
+
+ghost use Rattle.std.specs.Prelude.{◌≡◌, ◌<◌, ◌≤◌, ◌+◌, ◌++◌, ◌==◌, ◌%◌, [], length, nat_lt};
+ghost use Rattle.std.specs.Prelude.{if◌then◌else◌, option_map, unwrap_or};
+ghost use Rattle.std.specs.Prelude.{IfOk, IsOkUnless, IsTrue, OnErr, OnOk};
+ghost use Rattle.std.specs.List.{list_all};
+ghost use Rattle.learning.specs.Queries.{queries_of};
+ghost use Rattle.live_router.specs.Ticking.{all_joined, all_queries, data_from};
+ghost use Rattle.live_router.specs.Ticking.{phase_after as next_phase, ports_ticked, probes};
+ghost use Rattle.live_router.specs.Ticking.{router_after, routes_aged, sent_by, zones_aged};
+ghost use Rattle.station.specs.Lawful.{PutsOut};
+ghost use Rattle.station.specs.Made.{AreMade};
+
+use crate::addresses::ports_after;
+use crate::asked::put_queries;
+use crate::joined::tables_after;
+use crate::sent::put_all_data;
+use crate::tables::{Tables, ports_now, routes_now, take_ports, take_tables, zones_now};
+use aarp::Chooser;
+use at_base::Error;
+use learning::queries;
+use router::Router;
+use rtmp::RouteTable;
+use station::{Output, Outputs};
+use zip_zones::ZoneTable;
+
+/// The ticks from one time at which rows grow older to the next.
+const AGE_TICKS: u8 = 100;
+
+/// The ticks from one time at which tables are sent to the next.
+const SEND_TICKS: u8 = 50;
+
+/// The phase of the next tick.
+pub(crate) fn phase_after(phase: u8) -> u8
+    requires { phase < 100 }
+    ensures value { result ≡ next_phase phase }
+    ensures inside { result < 100 }
+{
+    (phase + 1) % AGE_TICKS
+}
+
+/// Sends routing data by each settled port, and queries for zone lists. Error: `Memory`.
+fn send_all<T: RouteTable>(
+    made: &mut Vec<Output>,
+    ports: &[Chooser],
+    routes: &T,
+    zones: &ZoneTable,
+) -> Result<(), Error>
+    requires { length ports.now ≤ 16 }
+    ensures put { OnOk result (made.new.items ≡ made.old.items
+        ++ (data_from 0 ports.now (T.rows routes.now)
+        ++ all_queries ports.now (queries_of (T.rows routes.now) zones.now))) }
+    ensures few { OnOk result (length made.new.items ≤ length made.old.items
+        + length (data_from 0 ports.now (T.rows routes.now)) + 200) }
+    ensures good { OnOk result (AreMade (length ports.now) made.old.items
+        → AreMade (length ports.now) made.new.items) }
+    ensures refused { IsOkUnless result Error.Memory }
+{
+    put_all_data(made, 0, ports, routes)?;
+    let queries = queries(*made.allocator(), routes, zones)?;
+    put_queries(made, ports, queries.as_slice())
+}
+
+/// Sends what is due in a phase. Error: `Memory`.
+fn send<T: RouteTable>(
+    made: &mut Vec<Output>,
+    phase: u8,
+    ports: &[Chooser],
+    routes: &T,
+    zones: &ZoneTable,
+) -> Result<(), Error>
+    requires { length ports.now ≤ 16 }
+    ensures put { OnOk result (made.new.items ≡ made.old.items ++ (if phase % 50 == 0
+        then data_from 0 ports.now (T.rows routes.now)
+        ++ all_queries ports.now (queries_of (T.rows routes.now) zones.now) else [])) }
+    ensures few { OnOk result (length made.new.items ≤ length made.old.items
+        + length (data_from 0 ports.now (T.rows routes.now)) + 200) }
+    ensures good { OnOk result (AreMade (length ports.now) made.old.items
+        → AreMade (length ports.now) made.new.items) }
+    ensures refused { IsOkUnless result Error.Memory }
+{
+    if phase % SEND_TICKS != 0 {
+        return Ok(());
+    }
+    send_all(made, ports, routes, zones)
+}
+
+/// What a tick makes of a router: what it puts out, and what is other than before.
+#[derive(Drop)]
+struct Ticked<T: RouteTable> {
+    made: Vec<Output>,
+    ports: Option<Vec<Chooser>>,
+    tables: Tables<T>,
+}
+
+/// What a tick makes of a router, which is in this phase then. Error: `Memory`.
+fn passed<T: RouteTable>(router: &Router<T>, phase: u8) -> Result<Ticked<T>, Error>
+    ensures made { IfOk result (λ x. x.made.items
+        ≡ probes 0 router.now.ports ++ sent_by phase (router_after phase router.now)) }
+    ensures few { IfOk result (λ x. length x.made.items ≤ 256) }
+    ensures good { IfOk result (λ x. AreMade (length router.now.ports) x.made.items) }
+    ensures ports { IfOk result (λ x. unwrap_or (option_map (λ v. v.items) x.ports)
+        router.now.ports ≡ ports_ticked router.now.ports) }
+    ensures routes { IfOk result (λ x. unwrap_or (option_map T.rows x.tables.routes)
+        router.now.routes
+        ≡ routes_aged phase (all_joined 0 router.now.ports router.now.routes)) }
+    ensures zones { IfOk result (λ x. unwrap_or x.tables.zones router.now.zones
+        ≡ zones_aged phase (all_joined 0 router.now.ports router.now.routes) router.now.zones) }
+    ensures seated { IfOk result (λ x. IsTrue (list_all
+        (λ r. nat_lt r.port (length router.now.ports))
+        (unwrap_or (option_map T.rows x.tables.routes) router.now.routes))) }
+    ensures refused { IsOkUnless result Error.Memory }
+{
+    let mut made = Vec::new(router.allocator());
+    let ports = ports_after(router, &mut made)?;
+    let after = ports_now(&ports, router.ports_now());
+    let tables = tables_after(router, phase, after)?;
+    let routes = routes_now(&tables.routes, router.routes());
+    let zones = zones_now(&tables.zones, router.zones());
+    send(&mut made, phase, after, routes, zones)?;
+    Ok(Ticked {
+        made,
+        ports,
+        tables,
+    })
+}
+
+/// Lets a tick pass for a router, which is in this phase then. Error: `Memory`, which changes
+/// neither the router nor the outputs.
+pub(crate) fn pass<T: RouteTable>(
+    router: &mut Router<T>,
+    phase: u8,
+    outputs: &mut Outputs,
+) -> Result<(), Error>
+    ensures ok { OnOk result
+        (PutsOut (length router.old.ports) outputs.old.items outputs.new.items (λ added.
+        added ≡ probes 0 router.old.ports ++ sent_by phase (router_after phase router.old))) }
+    ensures after { OnOk result (router.new ≡ router_after phase router.old) }
+    ensures refused { IsOkUnless result Error.Memory }
+    ensures router_stays { OnErr result (router.new ≡ router.old) }
+    ensures outputs_stay { OnErr result (outputs.new.items ≡ outputs.old.items) }
+{
+    // All that may fail comes first: a refusal then leaves the router as it is.
+    let Ticked {
+        made,
+        ports,
+        tables,
+    } = passed(router, phase)?;
+    outputs.room(made.len())?;
+    outputs.append(made);
+    take_tables(router, tables);
+    take_ports(router, ports);
+    router.pass_requests();
+    Ok(())
+}

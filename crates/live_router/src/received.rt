@@ -1,0 +1,41 @@
+//! What a live router makes of the frames that it hears.
+
+ghost use Rattle.std.specs.Prelude.{◌≡◌, ◌<◌, length, OnErr, OnOk, IsOkUnless};
+ghost use Rattle.live_router.specs.Living.{taught};
+ghost use Rattle.router.specs.Answers.{heard as answered};
+ghost use Rattle.router.specs.Ending.{ended};
+ghost use Rattle.station.specs.Hearing.{hearing};
+ghost use Rattle.station.specs.Lawful.{PutsOut};
+
+use crate::tables::take_tables;
+use crate::taught::tables_taught;
+use at_base::Error;
+use router::Router;
+use rtmp::RouteTable;
+use station::{Heard, Outputs, Station};
+
+/// Hears a frame on one of the ports: answers it, and learns from it. Error: `Memory`, which
+/// changes neither the router nor the outputs.
+pub(crate) fn hear<T: RouteTable>(
+    router: &mut Router<T>,
+    heard: &Heard<'_>,
+    outputs: &mut Outputs,
+) -> Result<(), Error>
+    requires { heard.now.port < length router.old.ports }
+    ensures ok { OnOk result
+        (PutsOut (length router.old.ports) outputs.old.items outputs.new.items (λ added.
+        added ≡ (answered router.old (hearing heard.now)).0)) }
+    ensures after { OnOk result (router.new
+        ≡ taught router.old (answered router.old (hearing heard.now)).1
+        (ended router.old (hearing heard.now))) }
+    ensures ports_stay { length router.new.ports ≡ length router.old.ports }
+    ensures refused { IsOkUnless result Error.Memory }
+    ensures router_stays { OnErr result (router.new ≡ router.old) }
+    ensures outputs_stay { OnErr result (outputs.new.items ≡ outputs.old.items) }
+{
+    // The tables are made first: a refusal then leaves the router as it is.
+    let tables = tables_taught(router, heard)?;
+    router.receive(heard, outputs)?;
+    take_tables(router, tables);
+    Ok(())
+}

@@ -1,0 +1,132 @@
+//! The routing data that a router sends by its ports.
+
+ghost use Rattle.std.specs.Prelude.{◌≡◌, ◌<◌, ◌≤◌, ◌+◌, ◌++◌, ℕ, length, map, option_to_list};
+ghost use Rattle.std.specs.Prelude.{IsOkUnless, OnOk};
+ghost use Rattle.aarp.specs.Choosing.{settled};
+ghost use Rattle.at_base.specs.Spelling.{bytes_of};
+ghost use Rattle.live_router.specs.Ticking.{data_by, data_from, data_way as way_of_data};
+ghost use Rattle.live_router.specs.Ticking.{header_of as header_from, packets_for};
+ghost use Rattle.rtmp.specs.Data.{routing_data};
+ghost use Rattle.rtmp.specs.Sending.{packet_numbered};
+ghost use Rattle.station.specs.Made.{AreMade};
+ghost use Rattle.station.specs.Making.{made as datagram_made};
+
+use aarp::Chooser;
+use at_base::{Addr, Error, Range};
+use ddp::{Header, kind, socket};
+use rtmp::{RouteTable, write_data};
+use station::making::put_one;
+use station::ways::EVERY_NODE;
+use station::{Next, Output, Way};
+
+/// The header of a datagram of the router's own, from a socket to the same one.
+pub(crate) fn header_of(source: Addr, target: Addr, socket: u8, kind: u8) -> Header
+    ensures { result ≡ header_from source target socket kind }
+{
+    Header {
+        summed: false,
+        target,
+        source,
+        target_socket: socket,
+        source_socket: socket,
+        kind,
+    }
+}
+
+/// The way of routing data: by a port to all stations of its cable.
+fn data_way(port: u8, me: Addr) -> Way
+    ensures { result ≡ way_of_data port me }
+{
+    let all = Addr {
+        net: 0,
+        node: EVERY_NODE,
+    };
+    Way {
+        port,
+        next: Next::All,
+        header: header_of(me, all, socket::RTMP, kind::RTMP_DATA),
+    }
+}
+
+/// Sends the packet of this number by a port, where there is one. Error: `Memory`.
+fn put_packet<T: RouteTable>(
+    made: &mut Vec<Output>,
+    port: u8,
+    range: Range,
+    me: Addr,
+    routes: &T,
+    number: u16,
+) -> Result<(), Error>
+    ensures put { OnOk result (made.new.items ≡ made.old.items
+        ++ map (λ p. datagram_made (way_of_data port me) (bytes_of routing_data p))
+        (option_to_list (packet_numbered port range me number (T.rows routes.now)))) }
+    ensures good { OnOk result ((n : ℕ) → port < n → AreMade n made.old.items
+        → AreMade n made.new.items) }
+    ensures refused { IsOkUnless result Error.Memory }
+{
+    let packet = write_data(*made.allocator(), routes, port, range, me, number)?;
+    put_one(made, &Some(data_way(port, me)), &packet)
+}
+
+/// Sends the packets of routing data by a port. Error: `Memory`.
+fn put_packets<T: RouteTable>(
+    made: &mut Vec<Output>,
+    port: u8,
+    range: Range,
+    me: Addr,
+    routes: &T,
+) -> Result<(), Error>
+    ensures put { OnOk result (made.new.items ≡ made.old.items
+        ++ map (λ p. datagram_made (way_of_data port me) (bytes_of routing_data p))
+        (packets_for port range me (T.rows routes.now))) }
+    ensures good { OnOk result ((n : ℕ) → port < n → AreMade n made.old.items
+        → AreMade n made.new.items) }
+    ensures refused { IsOkUnless result Error.Memory }
+{
+    // Of at most 200 rows there are at most three.
+    put_packet(made, port, range, me, routes, 0)?;
+    put_packet(made, port, range, me, routes, 1)?;
+    put_packet(made, port, range, me, routes, 2)
+}
+
+/// Sends the routing data by a port, where it is settled. Error: `Memory`.
+fn put_data<T: RouteTable>(
+    made: &mut Vec<Output>,
+    port: u8,
+    chooser: &Chooser,
+    routes: &T,
+) -> Result<(), Error>
+    ensures put { OnOk result (made.new.items ≡ made.old.items
+        ++ data_by port chooser.now.range (settled chooser.now) (T.rows routes.now)) }
+    ensures good { OnOk result ((n : ℕ) → port < n → AreMade n made.old.items
+        → AreMade n made.new.items) }
+    ensures refused { IsOkUnless result Error.Memory }
+{
+    match chooser.settled() {
+        Some(me) => put_packets(made, port, chooser.range(), me, routes),
+        None => Ok(()),
+    }
+}
+
+/// Sends the routing data by the ports, which are numbered from `port`. Error: `Memory`.
+pub(crate) fn put_all_data<T: RouteTable>(
+    made: &mut Vec<Output>,
+    port: u8,
+    ports: &[Chooser],
+    routes: &T,
+) -> Result<(), Error>
+    requires { port + length ports.now ≤ 16 }
+    ensures put { OnOk result
+        (made.new.items ≡ made.old.items ++ data_from port ports.now (T.rows routes.now)) }
+    ensures good { OnOk result ((n : ℕ) → port + length ports.now ≤ n → AreMade n made.old.items
+        → AreMade n made.new.items) }
+    ensures refused { IsOkUnless result Error.Memory }
+{
+    match ports {
+        [] => Ok(()),
+        [chooser, rest @ ..] => {
+            put_data(made, port, chooser, routes)?;
+            put_all_data(made, port + 1, rest, routes)
+        }
+    }
+}

@@ -1,0 +1,193 @@
+//! What a datagram that ended at a router teaches it.
+
+ghost use Rattle.std.specs.Prelude.{◌≡◌, ◌<◌, length, nat_lt, option_map, slice_get, unwrap_or};
+ghost use Rattle.std.specs.Prelude.{IfOk, IsOkUnless, IsTrue};
+ghost use Rattle.std.specs.List.{list_all};
+ghost use Rattle.learning.specs.Heard.{routes_after};
+ghost use Rattle.live_router.specs.Living.{routes_taught, routes_then, routing_in, taught};
+ghost use Rattle.live_router.specs.Living.{zones_taught, zones_then};
+ghost use Rattle.live_router.specs.Replies.{is_reply as has_names};
+ghost use Rattle.router.specs.Answers.{is_to as goes_to};
+ghost use Rattle.router.specs.Ending.{ended};
+ghost use Rattle.router.specs.Zones.{zones_in};
+ghost use Rattle.station.specs.Hearing.{hearing};
+ghost use Rattle.zip_zones.specs.Answers.{after_reply};
+
+use crate::tables::Tables;
+use at_base::{Error, Range};
+use ddp::{View, kind, socket};
+use learning::{learn_routes, learn_zones};
+use router::Router;
+use rtmp::{DataPacket, RouteTable};
+use station::Heard;
+use zip_zones::{Packet, ZoneTable};
+
+/// Whether the datagram is of this type and for this socket.
+fn is_to(view: &View<'_>, kind: u8, socket: u8) -> bool
+    ensures { result ≡ goes_to kind socket view.now }
+{
+    view.kind() == kind && view.target_socket() == socket
+}
+
+/// The packet of routing data in the data of a datagram.
+fn read_data(payload: &[u8]) -> Option<DataPacket<'_>>
+    ensures { result ≡ routing_in payload.now }
+{
+    match DataPacket::read(payload) {
+        Ok(packet) => Some(packet),
+        Err(_) => None,
+    }
+}
+
+/// The packet of ZIP in the data of a datagram.
+fn read_zip(payload: &[u8]) -> Option<Packet<'_>>
+    ensures { result ≡ zones_in payload.now }
+{
+    match Packet::read(payload) {
+        Ok(packet) => Some(packet),
+        Err(_) => None,
+    }
+}
+
+/// The routing table after a packet that ended on a port, whose cable has this range. Error:
+/// `Memory`.
+fn routes_with<T: RouteTable>(
+    routes: &T,
+    range: Range,
+    port: u8,
+    packet: &DataPacket<'_>,
+) -> Result<T, Error>
+    ensures ok { IfOk result
+        (λ table. T.rows table ≡ routes_after range port packet.now (T.rows routes.now)) }
+    ensures refused { IsOkUnless result Error.Memory }
+{
+    let mut table = routes.copy()?;
+    learn_routes(&mut table, range, port, packet)?;
+    Ok(table)
+}
+
+/// The routing table after a packet that ended on a port, where it is routing data. Error:
+/// `Memory`.
+fn routes_taught_by<T: RouteTable>(
+    router: &Router<T>,
+    port: u8,
+    payload: &[u8],
+) -> Result<Option<T>, Error>
+    ensures ok { IfOk result (λ next. unwrap_or (option_map T.rows next) router.now.routes
+        ≡ routes_taught port router.now.routes (slice_get router.now.ports port)
+        (routing_in payload.now)) }
+    ensures refused { IsOkUnless result Error.Memory }
+{
+    let Some(packet) = read_data(payload) else {
+        return Ok(None);
+    };
+    match router.ports_now().get(port as usize) {
+        Some(chooser) => {
+            let table = routes_with(router.routes(), chooser.range(), port, &packet)?;
+            Ok(Some(table))
+        }
+        None => Ok(None),
+    }
+}
+
+/// Whether the packet is a reply, which alone teaches zone lists.
+fn is_reply(packet: &Packet<'_>) -> bool
+    ensures { result ≡ has_names packet.now }
+{
+    matches!(packet, Packet::Reply(_, _) | Packet::ExtendedReply(_, _))
+}
+
+/// The zone table after a reply. Error: `Memory`.
+fn zones_with<T: RouteTable>(router: &Router<T>, packet: Packet<'_>) -> Result<ZoneTable, Error>
+    ensures ok { IfOk result
+        (λ table. table ≡ after_reply router.now.routes packet.entry router.now.zones) }
+    ensures refused { IsOkUnless result Error.Memory }
+{
+    let mut table = router.zones().copy()?;
+    learn_zones(&mut table, router.routes(), packet)?;
+    Ok(table)
+}
+
+/// The zone table after a packet of ZIP, where it is a reply. Error: `Memory`.
+fn zones_taught_by<T: RouteTable>(
+    router: &Router<T>,
+    payload: &[u8],
+) -> Result<Option<ZoneTable>, Error>
+    ensures ok { IfOk result (λ next. unwrap_or next router.now.zones
+        ≡ zones_taught router.now.routes router.now.zones (zones_in payload.now)) }
+    ensures refused { IsOkUnless result Error.Memory }
+{
+    match read_zip(payload) {
+        Some(packet) if is_reply(&packet) => {
+            let table = zones_with(router, packet)?;
+            Ok(Some(table))
+        }
+        _ => Ok(None),
+    }
+}
+
+/// The tables after a datagram that ended on a port. Error: `Memory`.
+fn taught_by<T: RouteTable>(
+    router: &Router<T>,
+    port: u8,
+    view: &View<'_>,
+) -> Result<Tables<T>, Error>
+    ensures routes { IfOk result (λ next. unwrap_or (option_map T.rows next.routes)
+        router.now.routes ≡ routes_then router.now port view.now) }
+    ensures zones { IfOk result (λ next. unwrap_or next.zones router.now.zones
+        ≡ zones_then router.now view.now) }
+    ensures refused { IsOkUnless result Error.Memory }
+{
+    if is_to(view, kind::RTMP_DATA, socket::RTMP) {
+        let routes = routes_taught_by(router, port, view.payload())?;
+        return Ok(Tables {
+            routes,
+            zones: None,
+        });
+    }
+    if is_to(view, kind::ZIP, socket::ZIP) {
+        let zones = zones_taught_by(router, view.payload())?;
+        return Ok(Tables {
+            routes: None,
+            zones,
+        });
+    }
+    Ok(Tables {
+        routes: None,
+        zones: None,
+    })
+}
+
+/// Does nothing: it tells the prover that each row is by one of the ports, which only a call can.
+fn recall_seated<T: RouteTable>(router: &Router<T>)
+    ensures { IsTrue (list_all (λ r. nat_lt r.port (length router.now.ports)) router.now.routes) }
+{
+    let _ports = router.ports_now();
+}
+
+/// The tables after a frame on one of the ports: a datagram that ended at the router teaches it.
+/// Error: `Memory`.
+pub(crate) fn tables_taught<T: RouteTable>(
+    router: &Router<T>,
+    heard: &Heard<'_>,
+) -> Result<Tables<T>, Error>
+    requires { heard.now.port < length router.now.ports }
+    ensures routes { IfOk result (λ next. unwrap_or (option_map T.rows next.routes)
+        router.now.routes
+        ≡ (taught router.now router.now (ended router.now (hearing heard.now))).routes) }
+    ensures zones { IfOk result (λ next. unwrap_or next.zones router.now.zones
+        ≡ (taught router.now router.now (ended router.now (hearing heard.now))).zones) }
+    ensures seated { IfOk result (λ next. IsTrue (list_all
+        (λ r. nat_lt r.port (length router.now.ports))
+        (unwrap_or (option_map T.rows next.routes) router.now.routes))) }
+    ensures refused { IsOkUnless result Error.Memory }
+{
+    recall_seated(router);
+    match router.ended(heard) {
+        Some((port, view)) => taught_by(router, port, &view),
+        None => Ok(Tables {
+            routes: None,
+            zones: None,
+        }),
+    }
+}

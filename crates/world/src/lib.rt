@@ -1,0 +1,10 @@
+//! Live worlds: an internet that a file plans, tick by tick, until its tables are frozen.
+#![tactic(auto)]
+
+mod acting;
+mod freezing;
+mod plans;
+mod ticking;
+mod world;
+
+pub use world::{MAX_ENTRIES, MAX_TAKES, World};
