@@ -1,6 +1,6 @@
 //! Writing text, so that a writer's failure is known.
 
-ghost use Rattle.std.specs.Prelude.{◌≡◌, true, false, [], ◌∷◌, ◌++◌, ◌⊎◌, OnOk, OnErr, IfErr, IsOkUnless};
+ghost use Rattle.std.specs.Prelude.{◌≡◌, ◌<◌, length, true, false, [], ◌∷◌, ◌++◌, ◌⊎◌, OnOk, OnErr, IfErr, IsOkUnless};
 ghost use Rattle.std.specs.Io.KnownBytes.{Appends};
 ghost use Rattle.frozen_trace.specs.Going.{Goes};
 
@@ -78,9 +78,10 @@ impl<W: Write> Output<W> {
         }
     }
 
-    /// Writes what is still to be written, where that is much. Error: `WriteFault`, only where the
-    /// writer failed.
+    /// Writes what is still to be written, where that is much: less than 64 KiB are left. Error:
+    /// `WriteFault`, only where the writer failed.
     pub fn pass_on(&mut self) -> Result<(), Error>
+        ensures little { OnOk result (length self.new.text.items < 65536) }
         ensures gone { OnOk result (Goes (W.contents self.old.writer) self.old.text.items []
             (W.contents self.new.writer) self.new.text.items) }
         ensures fault { OnErr result (self.new.failed ≡ true) }
