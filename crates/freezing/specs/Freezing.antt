@@ -1,5 +1,5 @@
 -- The parts of an image that say what routers and nodes hold. This project's own.
-use Rattle.std.specs.Prelude.{ℕ, List, [], ◌∷◌, Option, Some, None, map}
+use Rattle.std.specs.Prelude.{ℕ, List, [], ◌∷◌, map}
 use Rattle.std.specs.Option.{unwrap_or}
 use Rattle.aarp.specs.Choosing.{Choice, settled}
 use Rattle.at_base.specs.declared.address.Addr.{Addr}

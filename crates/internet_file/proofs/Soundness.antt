@@ -1,9 +1,9 @@
 -- The plan of a file is sound.
-use Rattle.std.proofs.Common.{◌≡◌, ℕ, Bool, true, false, ◌&&◌, cond, List, [], ◌∷◌, length, refl, sym, subst, ◌∙◌}
-use Rattle.std.specs.Prelude.{Option, Some, None, Ok, codes, nat_le, ℤ, pos, negsuc}
+use Rattle.std.proofs.Common.{◌≡◌, ℕ, true, ◌&&◌, List, [], ◌∷◌, length, sym, subst}
+use Rattle.std.specs.Prelude.{Some, Ok, codes, nat_le, ℤ, pos, negsuc}
 use Rattle.std.specs.List.{list_all}
 use Rattle.std.proofs.lemmas.Bool.{and_parts}
-use Rattle.toml.specs.Data.{Data, Members, as_array, as_integer, as_str, as_table, get_member}
+use Rattle.toml.specs.Data.{Data, Members, as_integer, as_str, as_table, get_member}
 use Rattle.at_base.specs.Range.{Span, is_between, is_range}
 use Rattle.at_base.specs.declared.address.Addr.{Addr}
 use Rattle.at_base.specs.declared.error.Part.TheVariants.{Cable as CablePart, Router as RouterPart, Node as NodePart}
@@ -13,7 +13,7 @@ use Rattle.internet_file.specs.Actions.{action_of, doing, loss_of}
 use Rattle.internet_file.specs.Cables.{cable_of, zones}
 use Rattle.internet_file.specs.Entries.{all, at, entry}
 use Rattle.internet_file.specs.Files.{Planned, actions_in, cables_in, entries_at, losses_in, nodes_in, routers_in}
-use Rattle.internet_file.specs.Sound.{IsSound, is_action, is_cable, is_loss, is_node, is_port, is_router, is_seated, may_try, may_try_on}
+use Rattle.internet_file.specs.Sound.{IsSound, is_action, is_cable, is_loss, is_node, is_port, is_router, may_try, may_try_on}
 use Rattle.internet_file.specs.Stations.{are_apart, cable_at, names_in, node_keys, node_of, port_in, port_of, ports, router_of, tries}
 use Rattle.internet_file.specs.Values.{any_address, hardware, list, list_within, number, one_of, range, span_of, try_of, within, zone}
 use Rattle.internet_file.specs.declared.action.Action.{Action}

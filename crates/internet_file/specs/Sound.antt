@@ -1,5 +1,5 @@
 -- What holds of each plan. This project's own.
-use Rattle.std.specs.Prelude.{ℕ, ◌≤◌, Bool, false, ◌&&◌, IsTrue, List, Option, Some, None, length, nat_le}
+use Rattle.std.specs.Prelude.{ℕ, ◌≤◌, Bool, false, ◌&&◌, IsTrue, List, Option, Some, None, length}
 use Rattle.std.specs.List.{list_all}
 use Rattle.at_base.specs.Range.{Span, is_between, is_range}
 use Rattle.at_base.specs.declared.address.Addr.{Addr}

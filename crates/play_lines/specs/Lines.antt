@@ -1,5 +1,5 @@
 -- The lines of a play before its verdict. This project's own.
-use Rattle.std.specs.Prelude.{ℕ, suc, ◌==◌, List, [], ◌∷◌, ◌++◌, codes, length, if◌then◌else◌}
+use Rattle.std.specs.Prelude.{ℕ, ◌==◌, List, [], ◌∷◌, ◌++◌, codes, length, if◌then◌else◌}
 use Rattle.std.specs.Fmt.{decimal}
 use Rattle.at_base.specs.Texts.{address_text}
 use Rattle.end_node.specs.declared.node.Datagram.{Datagram}
