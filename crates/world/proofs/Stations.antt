@@ -1,0 +1,181 @@
+-- Stations, of which one changes, and the frames that are pending for them.
+use Rattle.std.proofs.Common.{◌≡◌, ◌⊎◌, ◌↔◌, inl, inr, ℕ, zero, suc, ◌<◌, Bool, true, false, ◌&&◌, ◌==◌, not, List, [], ◌∷◌, ◌++◌}
+use Rattle.std.proofs.Common.{◌+◌, ◌≤◌, cond, Option, None, Some, map, length, slice_get, slice_set, Contains, IfErr, Result, Ok, Err, refl, sym, ap, ◌∙◌, subst}
+use Rattle.std.proofs.Common.{arith, eq-eqb, filter, OnErr, OnOk}
+use Rattle.std.specs.List.{list_any, AllByRecursion as Each}
+use Rattle.std.proofs.lemmas.Bool.{and_from}
+use Rattle.at_base.specs.declared.error.Error.{Error}
+use Rattle.at_base.specs.declared.error.Error.TheVariants.{Full, Memory, NotPending}
+use Rattle.cable_model.proofs.Counting.{At, contained_at, each_at, each-append, each_map, filter_at, map_at}
+use Rattle.cable_model.proofs.Finds.{contains_at}
+use Rattle.cable_model.specs.Outcomes.{AreSeatsOf, IsLeast, is_named}
+use Rattle.cable_model.specs.Pending.{Pair, is_heard, pairs, pairs_of, pending, was_ended}
+use Rattle.cable_model.specs.Transcript.{Entry, Frame, Sent, Put, Took, Reached, Dropped, Lost}
+use Rattle.cable_model.specs.declared.seat.Seat.{Seat}
+use Rattle.image_stations.specs.declared.member.Member.{Member}
+use Rattle.live_cables.proofs.Pending.{has_any}
+use Rattle.live_node.specs.Living.{LivingNode}
+use Rattle.live_router.specs.Living.{Living}
+use Rattle.image_stations.specs.declared.member.Member.TheVariants as member
+use Rattle.internet_file.specs.Files.{Planned}
+use Rattle.internet_file.specs.Sound.{IsSound}
+use Rattle.internet_file.specs.declared.node.Node.{Node}
+use Rattle.internet_file.specs.declared.router.Router.{Router}
+use Rattle.world.proofs.Seated.{plan_seated}
+use Rattle.world.specs.Keeping.{AreSeated, IsLaid, planned_ports}
+use Rattle.world.specs.Seating.{plan_seats}
+use Rattle.world.specs.Seen.{emptied, emptied_at, emptied_by}
+use Rattle.world.specs.Worlds.{Worldly, ports_of}
+
+-- one station becomes another with as many ports
+pub ports_set : (ms : List (Member Living LivingNode)) (k : ℕ) (old new : Member Living LivingNode) → At ms k old
+    → ports_of new ≡ ports_of old → map ports_of (slice_set ms k new) ≡ map ports_of ms
+ports_set [] k old new h e = cc
+ports_set (m ∷ ms) zero old new h e =
+    let is : m ≡ old = cc in ap (λ n. n ∷ map ports_of ms) (e ∙ ap ports_of (sym is))
+ports_set (m ∷ ms) (suc k) old new h e = ap (λ l. ports_of m ∷ l) (ports_set ms k old new h e)
+
+-- the seats of a station
+pub seats_at : (seats : List Seat) (ms : List (Member Living LivingNode)) (k : ℕ) (m : Member Living LivingNode)
+    → AreSeated seats (map ports_of ms) → At ms k m → AreSeatsOf seats k (ports_of m)
+seats_at seats ms k m seated at = seated.each k (ports_of m) (map_at ports_of ms k m at)
+
+-- ---- Frames that are pending
+
+seats_each : (seats : List Seat) → Each (λ s. Contains seats s) seats
+seats_each seats = by seats (λ k s at. contains_at seats k s at)
+  where
+    by : (xs : List Seat) → ((k : ℕ) (s : Seat) → At xs k s → Contains seats s) → Each (λ s. Contains seats s) xs
+    by [] f = tt
+    by (x ∷ xs) f = (f zero x refl, by xs (λ k s at. f (suc k) s at))
+
+kept_each : {X : Type 0} (P : X → Type 0) (t : X → Bool) (xs : List X) → Each P xs → Each P (filter t xs)
+kept_each P t [] h = tt
+kept_each P t (x ∷ xs) h =
+    elim (t x) as (λ b. Each P (cond b (x ∷ filter t xs) (filter t xs))) [
+      | true ↦ (h.0, kept_each P t xs h.1)
+      | false ↦ kept_each P t xs h.1
+    ]
+
+module _ (seats : List Seat) where
+  pairs_each : (es : List Entry) → Each (λ (p : Pair). Contains seats p.seat) (pairs seats es)
+  pairs_each [] = tt
+  pairs_each (e ∷ es) =
+      each-append (λ (p : Pair). Contains seats p.seat) (pairs_of seats e) (pairs seats es) (by e) (pairs_each es)
+    where
+      by : (e : Entry) → Each (λ (p : Pair). Contains seats p.seat) (pairs_of seats e)
+      by (Put f) =
+          each_map (λ (p : Pair). Contains seats p.seat) (λ s. record { frame = f; seat = s }) (filter (is_heard f) seats)
+          (kept_each (λ s. Contains seats s) (is_heard f) seats (seats_each seats))
+      by (Sent s x) = tt
+      by (Took p s) = tt
+      by (Reached c s w x) = tt
+      by (Dropped r c x) = tt
+      by (Lost p) = tt
+
+  -- a pair that is pending is of one of the seats
+  pub pending_seat : (t : List Entry) (p : Pair) → Contains (pending seats t) p → Contains seats p.seat
+  pending_seat t p h =
+      let k = contained_at (pending seats t) p h in
+      let j = filter_at (λ p. not (was_ended t p)) (pairs seats t) k.0 p k.1 in
+      each_at (λ (p : Pair). Contains seats p.seat) (pairs seats t) j.0 p j.1 (pairs_each t)
+
+  -- the station that is to take the first frame is one of so many
+  pub least_within : (ports : List ℕ) (t : List Entry) (stamp station : ℕ) → AreSeated seats ports
+      → IsLeast (pending seats t) stamp station → station < length ports
+  least_within ports t stamp station seated least =
+      let w = least.there in
+      subst (λ k. k < length ports) w.3 (seated.within w.0.seat (pending_seat t w.0 w.1))
+
+  -- the first frame is pending
+  pub least_named : (t : List Entry) (stamp station : ℕ) → IsLeast (pending seats t) stamp station
+      → list_any (is_named stamp station) (pending seats t) ≡ true
+  least_named t stamp station least =
+      let w = least.there in
+      has_any (is_named stamp station) (pending seats t) w.0 (contained_at (pending seats t) w.0 w.1)
+      (and_from (stamp == w.0.frame.stamp) (station == w.0.seat.station) (eq-eqb stamp w.0.frame.stamp (sym w.2))
+      (eq-eqb station w.0.seat.station (sym w.3)))
+
+-- what is pending is refused for no other reason
+pub was_pending : {T : Type 0} (r : Result T Error) (named : Bool) → named ≡ true → (r ≡ Err NotPending) ↔ (named ≡ false)
+    → IfErr r (λ e. (e ≡ NotPending) ⊎ (e ≡ Full) ⊎ (e ≡ Memory)) → IfErr r (λ e. (e ≡ Full) ⊎ (e ≡ Memory))
+was_pending (Ok x) named is iff h = tt
+was_pending (Err e) named is iff h = elim h [
+  | inl same ↦ let no : named ≡ false = iff.0 (ap Err same) in absurd cc
+  | inr e ↦ e
+]
+
+-- ---- What a world keeps
+
+pub length_ports : (ms : List (Member Living LivingNode)) → length (map ports_of ms) ≡ length ms
+length_ports [] = refl
+length_ports (m ∷ ms) = ap suc (length_ports ms)
+
+length-map : {X Y : Type 0} (f : X → Y) (xs : List X) → length (map f xs) ≡ length xs
+length-map f [] = refl
+length-map f (x ∷ xs) = ap suc (length-map f xs)
+
+length-append : {X : Type 0} (xs ys : List X) → length (xs ++ ys) ≡ length xs + length ys
+length-append [] ys = omega arith
+length-append (x ∷ xs) ys = let h = length-append xs ys in omega (arith, h)
+
+-- as many stations as are planned
+pub laid_whole : (w : Worldly) → IsLaid w → length w.stations ≡ length w.plan.routers + length w.plan.nodes
+laid_whole w h =
+    let all = length_ports w.stations in
+    let planned = ap length h.ports in
+    let one : Node → ℕ = λ n. 1 in
+    let both = length-append (map (λ (r : Router). length r.port) w.plan.routers) (map one w.plan.nodes) in
+    let routers = length-map (λ (r : Router). length r.port) w.plan.routers in
+    let nodes = length-map one w.plan.nodes in
+    omega (arith, all, planned, both, routers, nodes)
+
+pub laid_few : (w : Worldly) → IsLaid w → length w.stations ≤ 400
+laid_few w h =
+    let all = laid_whole w h in
+    let routers = h.sound.few_routers in
+    let nodes = h.sound.few_nodes in
+    omega (arith, all, routers, nodes)
+
+-- the stations have the seats that they need
+pub laid_seated : (w : Worldly) → IsLaid w → AreSeated w.wires.cabling.seats (map ports_of w.stations)
+laid_seated w h =
+    subst (λ s. AreSeated s (map ports_of w.stations)) (sym h.seats)
+    (subst (AreSeated (plan_seats w.plan)) (sym h.ports) (plan_seated w.plan h.sound))
+
+-- so it is where neither the seats nor the numbers of ports change
+pub laid_after : (old new : Worldly) → IsLaid old → new.plan ≡ old.plan → map ports_of new.stations ≡ map ports_of old.stations
+    → new.wires.cabling.seats ≡ old.wires.cabling.seats → new.now ≤ old.plan.ticks → IsLaid new
+laid_after old new h plan ports seats few = record {
+  sound = subst IsSound (sym plan) h.sound;
+  seats = seats ∙ (h.seats ∙ ap plan_seats (sym plan));
+  ports = ports ∙ (h.ports ∙ ap planned_ports (sym plan));
+  few = subst (λ (p : Planned). new.now ≤ p.ticks) (sym plan) few;
+}
+
+-- ---- What was received is taken out
+
+pub emptied_is : (ms : List (Member Living LivingNode)) (k : ℕ) (m : Member Living LivingNode) → At ms k m
+    → slice_set ms k (emptied m) ≡ emptied_at ms k
+emptied_is ms k m at = ap (emptied_by ms k) (sym at)
+
+emptied_ports : (m : Member Living LivingNode) → ports_of (emptied m) ≡ ports_of m
+emptied_ports (member.Router l) = refl
+emptied_ports (member.Node n) = refl
+
+pub ports_emptied : (ms : List (Member Living LivingNode)) (k : ℕ) → map ports_of (emptied_at ms k) ≡ map ports_of ms
+ports_emptied ms k = by (slice_get ms k) refl
+  where
+    by : (o : Option (Member Living LivingNode)) → slice_get ms k ≡ o → map ports_of (emptied_by ms k o) ≡ map ports_of ms
+    by None e = refl
+    by (Some m) e = ports_set ms k m (emptied m) e (emptied_ports m)
+
+-- what holds either way
+pub either_way : {T E : Type 0} (r : Result T E) (P : Type 0) → OnOk r P → OnErr r P → P
+either_way (Ok x) P ok err = ok
+either_way (Err e) P ok err = err
+
+pub length_set : {X : Type 0} (xs : List X) (k : ℕ) (x : X) → length (slice_set xs k x) ≡ length xs
+length_set [] k x = refl
+length_set (y ∷ xs) zero x = refl
+length_set (y ∷ xs) (suc k) x = ap suc (length_set xs k x)

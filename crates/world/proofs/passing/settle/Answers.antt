@@ -1,0 +1,4 @@
+use Rattle.world.proofs.passing.settle.Goals as goal
+
+pub returns : goal.returns
+returns g c = c.loop-port.invariant

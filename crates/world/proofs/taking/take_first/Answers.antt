@@ -1,0 +1,20 @@
+use Rattle.std.proofs.Common.{◌≡◌, ◌⊎◌, ◌<◌, IfErr, length, map, subst}
+use Rattle.at_base.specs.declared.error.Error.TheVariants.{Full, Memory}
+use Rattle.live_cables.specs.Living.{happened}
+use Rattle.world.proofs.Stations.{least_named, least_within, length_ports, was_pending}
+use Rattle.world.specs.Worlds.{ports_of}
+use Rattle.world.proofs.taking.take_first.Goals as goal
+
+pub take-requires-clause-there : goal.take-requires-clause-there
+take-requires-clause-there g c =
+    let w = c.args.wires.now in
+    let ms = c.args.stations.now.items in
+    subst (λ n. c.in-Some.station < n) (length_ports ms)
+    (least_within w.cabling.seats (map ports_of ms) (happened w) c.in-Some.stamp c.in-Some.station c.requires c.in-Some.ensures.some)
+
+pub returns-in-Err-clause-refused : goal.returns-in-Err-clause-refused
+returns-in-Err-clause-refused g c =
+    let w = c.args.wires.now in
+    subst (λ r. IfErr r (λ e. (e ≡ Full) ⊎ (e ≡ Memory))) c.in-Err.is
+    (was_pending c.take.result _ (least_named w.cabling.seats (happened w) c.in-Some.stamp c.in-Some.station c.in-Some.ensures.some)
+    c.take.ensures.not_pending c.take.ensures.refused)

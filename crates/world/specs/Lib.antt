@@ -1,0 +1,5 @@
+pub mod Seating
+pub mod Worlds
+pub mod Keeping
+pub mod Seen
+pub mod Frozen

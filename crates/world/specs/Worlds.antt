@@ -1,0 +1,71 @@
+-- What a live world holds, and what it keeps. This project's own.
+use Rattle.std.specs.Prelude.{◌≡◌, ◌⊎◌, ℕ, ◌+◌, ◌≤◌, IsTrue, List, [], ◌++◌, Option, Some, None, Contains, length, slice_get}
+use Rattle.std.specs.List.{All}
+use Rattle.at_base.specs.declared.error.Error.{Error}
+use Rattle.cable_model.specs.Outcomes.{AreSeatsOf}
+use Rattle.cable_model.specs.Pending.{pending}
+use Rattle.cable_model.specs.Transcript.{Entry, Frame, Put, Took, count}
+use Rattle.ddp.specs.Datagram.{Datagram}
+use Rattle.end_node.specs.Answers.{kept}
+use Rattle.end_node.specs.declared.node.Datagram.{Datagram as Received}
+use Rattle.image_stations.specs.Members.{either}
+use Rattle.image_stations.specs.declared.member.Member.{Member}
+use Rattle.image_stations.specs.declared.member.Member.TheVariants.{Node}
+use Rattle.internet_file.specs.Files.{Planned}
+use Rattle.live_cables.specs.Living.{Wires, happened}
+use Rattle.live_cables.specs.Playing.{AreDue, IsPlayed, are_lost, is_took}
+use Rattle.live_node.specs.Living.{LivingNode}
+use Rattle.live_router.specs.Living.{Living}
+use Rattle.station.specs.Values.{datagram_at}
+use Rattle.world.specs.Seating.{loses_at, plan_seats}
+
+-- A plan; its stations, the routers and then the nodes; the cables; how many ticks have passed; the error by which a tick was
+-- refused, if one was; and the actions that were refused, by their numbers from 1 and the numbers of the errors.
+pub record Worldly : Type 0 where
+  pub plan : Planned
+  pub stations : List (Member Living LivingNode)
+  pub wires : Wires
+  pub now : ℕ
+  pub stopped : Option Error
+  pub refused : List (ℕ × ℕ)
+
+-- the number of a station's ports
+abbrev pub ports_of : Member Living LivingNode → ℕ
+ports_of m = either (λ l. length l.router.ports) (λ n. 1) m
+
+-- A datagram that a station received is that of a frame which it took.
+pub record IsReceived (entries : List Entry) (station : ℕ) (d : Received) : Type 0 where
+  pub frame : Frame
+  pub put : Contains entries (Put frame)
+  pub took : Contains entries (Took frame.stamp station)
+  pub datagram : Datagram
+  pub read : datagram_at frame.bytes ≡ Some datagram
+  pub keeps : kept datagram ≡ d
+
+-- What a world keeps.
+pub record IsWorld (w : Worldly) : Type 0 where
+  -- each port of a station has its seat, and each seat of it is of one of its ports
+  pub seats : w.wires.cabling.seats ≡ plan_seats w.plan
+  pub seated : (k : ℕ) (m : Member Living LivingNode) → slice_get w.stations k ≡ Some m
+      → AreSeatsOf w.wires.cabling.seats k (ports_of m)
+  -- each frame that was taken was pending for its station
+  pub due : AreDue (plan_seats w.plan) [] (happened w.wires)
+  -- each datagram that a node received is that of a frame that it took
+  pub received : (k : ℕ) (n : LivingNode) → slice_get w.stations k ≡ Some (Node n)
+      → All (IsReceived (happened w.wires) k) n.node.received
+  -- as many stations as are planned
+  pub whole : length w.stations ≡ length w.plan.routers + length w.plan.nodes
+  pub few : w.now ≤ w.plan.ticks
+
+-- In the tick of this number entries were added: each frame that was taken was pending for its station; no frame was taken that
+-- was put in this tick on a cable that loses then, and no other frame was lost.
+pub record Ticks (plan : Planned) (tick : ℕ) (old new : Wires) : Type 0 where
+  pub added : List Entry
+  pub grown : happened new ≡ happened old ++ added
+  pub played : IsPlayed (plan_seats plan) (loses_at plan tick) (happened old) added
+
+-- The same, to its end: no frame that was put on such a cable is pending, and no frame at all is, unless 10,000 were taken.
+pub record TicksOn (plan : Planned) (tick : ℕ) (old new : Wires) : Type 0 where
+  pub ticks : Ticks plan tick old new
+  pub lost : IsTrue (are_lost (plan_seats plan) (loses_at plan tick) (happened old) ticks.added)
+  pub ended : (pending (plan_seats plan) (happened new) ≡ []) ⊎ (count is_took ticks.added ≡ 10000)

@@ -1,0 +1,133 @@
+//! What the nodes of a world do.
+
+ghost use Rattle.std.specs.Prelude.{◌≡◌, ◌⊎◌, ◌<◌, ◌≤◌, ℕ, [], length, IfErr, IfSome, OnErr};
+ghost use Rattle.std.specs.Prelude.{OnOk};
+ghost use Rattle.station.specs.Lawful.{AreLawful};
+
+use at_base::Error;
+use image_stations::Member;
+use internet_file::{Action, Do, Plan};
+use live_cables::LiveCables;
+use live_node::LiveNode;
+use live_router::LiveRouter;
+use rtmp::RouteTable;
+use station::Outputs;
+
+/// Lets a node do what is planned, which puts out what it sends.
+fn act(node: &LiveNode, action: &Do, outputs: &mut Outputs) -> Result<(), Error>
+    requires { outputs.old.items ≡ [] }
+    ensures { OnOk result (AreLawful 1 outputs.new.items) }
+{
+    match action {
+        Do::Send {
+            to,
+            socket,
+            source,
+            kind,
+            hex,
+        } => node.send(*to, *socket, *source, *kind, false, hex.as_slice(), outputs),
+        Do::Lookup {
+            id,
+            object,
+            kind,
+            zone,
+        } => node.lookup((*id % 256) as u8, object, kind, zone, outputs),
+    }
+}
+
+/// Lets a station do what is planned, if it is a node, which puts out what it sends.
+fn act_by<T: RouteTable>(
+    station: &Member<LiveRouter<T>, LiveNode>,
+    action: &Do,
+    outputs: &mut Outputs,
+) -> Result<(), Error>
+    requires { outputs.old.items ≡ [] }
+    ensures { OnOk result (AreLawful 1 outputs.new.items) }
+{
+    match station {
+        Member::Node(node) => act(node, action, outputs),
+        Member::Router(_) => Ok(()),
+    }
+}
+
+/// Notes that an action, by its index from 0, was refused. Error: `Memory`.
+fn note(refused: &mut Vec<(u32, u8)>, index: u32, error: Error) -> Result<(), Error>
+    ensures { IfErr result (λ e. (e ≡ Error.Full) ⊎ (e ≡ Error.Memory)) }
+{
+    match error {
+        Error::Memory => Err(Error::Memory),
+        error => {
+            refused.push((index.saturating_add(1), error.number()))?;
+            Ok(())
+        }
+    }
+}
+
+/// The index of the station of an action's node.
+fn station_of(plan: &Plan, action: &Action) -> usize {
+    plan.routers().len() + (action.node as usize).saturating_sub(1)
+}
+
+/// Lets the node of an action do it, and notes a refusal. Errors: `Full`, `Memory`.
+fn act_one<T: RouteTable>(
+    plan: &Plan,
+    stations: &[Member<LiveRouter<T>, LiveNode>],
+    wires: &mut LiveCables,
+    refused: &mut Vec<(u32, u8)>,
+    index: u32,
+) -> Result<(), Error>
+    requires { length stations.now ≤ 400 }
+    ensures seats { wires.new.cabling.seats ≡ wires.old.cabling.seats }
+    ensures refused { IfErr result (λ e. (e ≡ Error.Full) ⊎ (e ≡ Error.Memory)) }
+{
+    let Some(action) = plan.actions().get(index as usize) else {
+        return Ok(());
+    };
+    let station = station_of(plan, action);
+    let Some(member) = stations.get(station) else {
+        return Ok(());
+    };
+    let mut outputs = Outputs::new(*refused.allocator())?;
+    match act_by(member, &action.action, &mut outputs) {
+        Ok(()) => wires.give(station as u16, &mut outputs),
+        Err(error) => note(refused, index, error),
+    }
+}
+
+/// Takes the next action off the schedule, if it is one of this tick.
+fn next_due(schedule: &mut Vec<u32>, actions: &[Action], now: u32) -> Option<u32>
+    ensures { IfSome result (λ index. length schedule.new.items < length schedule.old.items) }
+{
+    let index = *schedule.last()?;
+    let action = actions.get(index as usize)?;
+    if action.at != now {
+        return None;
+    }
+    schedule.pop()
+}
+
+/// Lets the nodes do what is planned for a tick, in the order of the schedule, whose last is the
+/// next. Errors: `Full`, `Memory`.
+pub fn act_all<T: RouteTable>(
+    plan: &Plan,
+    stations: &[Member<LiveRouter<T>, LiveNode>],
+    wires: &mut LiveCables,
+    refused: &mut Vec<(u32, u8)>,
+    schedule: &mut Vec<u32>,
+    now: u32,
+) -> Result<(), Error>
+    requires { length stations.now ≤ 400 }
+    ensures seats { wires.new.cabling.seats ≡ wires.old.cabling.seats }
+    ensures refused { IfErr result (λ e. (e ≡ Error.Full) ⊎ (e ≡ Error.Memory)) }
+{
+    match next_due(schedule, plan.actions(), now) {
+        Some(index) => {
+            match act_one(plan, stations, wires, refused, index) {
+                Ok(()) => {}
+                Err(error) => return Err(error),
+            }
+            act_all(plan, stations, wires, refused, schedule, now)
+        }
+        None => Ok(()),
+    }
+}

@@ -1,0 +1,16 @@
+//! Live worlds: an internet that a file plans, tick by tick, until its tables are frozen.
+#![tactic(auto)]
+
+mod acting;
+mod losing;
+mod passing;
+mod plans;
+mod playing;
+mod seats;
+mod seen;
+mod tables;
+mod taking;
+mod ticking;
+mod world;
+
+pub use world::{MAX_ENTRIES, MAX_TAKES, World};

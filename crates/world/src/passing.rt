@@ -1,0 +1,179 @@
+//! A tick that passes for the stations of a world.
+
+ghost use Rattle.std.specs.Prelude.{◌≡◌, ◌⊎◌, ◌≤◌, length, map, IfErr};
+ghost use Rattle.world.specs.Worlds.{ports_of};
+
+use at_base::{Addr, Error};
+use image_stations::Member;
+use live_cables::LiveCables;
+use live_node::LiveNode;
+use live_router::LiveRouter;
+use rtmp::RouteTable;
+use station::{Outputs, Station};
+use std::alloc::Global;
+
+/// The settled address of a station's port.
+fn own_of<T: RouteTable>(station: &Member<LiveRouter<T>, LiveNode>, port: u8) -> Option<Addr> {
+    match station {
+        Member::Router(router) => router.router().own(port),
+        Member::Node(node) => node.node().own(),
+    }
+}
+
+/// Says which addresses of a station are settled. Its seats begin at an index.
+fn settle<T: RouteTable>(
+    station: &Member<LiveRouter<T>, LiveNode>,
+    wires: &mut LiveCables,
+    seat: usize,
+)
+    requires { seat ≤ 102000 }
+    ensures { wires.new ≡ record wires.old { own = wires.new.own } }
+{
+    for port in 0..station.ports() {
+        wires.set_own(seat + port as usize, own_of(station, port));
+    }
+}
+
+/// AARP has given an address up, which a router is told.
+fn give_up<T: RouteTable>(station: &mut Member<LiveRouter<T>, LiveNode>, addr: Addr)
+    ensures { ports_of station.new ≡ ports_of station.old }
+{
+    match station {
+        Member::Router(router) => router.give_up(addr),
+        Member::Node(_) => {}
+    }
+}
+
+/// AARP has given addresses up, which a router is told.
+fn give_up_all<T: RouteTable>(station: &mut Member<LiveRouter<T>, LiveNode>, addrs: &[Addr])
+    ensures { ports_of station.new ≡ ports_of station.old }
+{
+    match addrs {
+        [] => {}
+        [addr, rest @ ..] => {
+            give_up(station, *addr);
+            give_up_all(station, rest);
+        }
+    }
+}
+
+/// Lets a tick pass for the mappings of a station's seat. Errors: `Full`, `Memory`.
+fn pass_seat<T: RouteTable>(
+    station: &mut Member<LiveRouter<T>, LiveNode>,
+    wires: &mut LiveCables,
+    seat: usize,
+) -> Result<(), Error>
+    ensures ports { ports_of station.new ≡ ports_of station.old }
+    ensures seats { wires.new.cabling.seats ≡ wires.old.cabling.seats }
+    ensures refused { IfErr result (λ e. (e ≡ Error.Full) ⊎ (e ≡ Error.Memory)) }
+{
+    match wires.pass(seat) {
+        Ok(given_up) => {
+            give_up_all(station, given_up.as_slice());
+            Ok(())
+        }
+        Err(error) => Err(error),
+    }
+}
+
+/// Lets a tick pass for the mappings of a station's seats, so many from an index on. Errors:
+/// `Full`, `Memory`.
+fn pass_seats<T: RouteTable>(
+    station: &mut Member<LiveRouter<T>, LiveNode>,
+    wires: &mut LiveCables,
+    seat: usize,
+    ports: u8,
+) -> Result<(), Error>
+    requires { seat ≤ 102000 }
+    ensures ports { ports_of station.new ≡ ports_of station.old }
+    ensures seats { wires.new.cabling.seats ≡ wires.old.cabling.seats }
+    ensures refused { IfErr result (λ e. (e ≡ Error.Full) ⊎ (e ≡ Error.Memory)) }
+{
+    for port in 0..ports {
+        match pass_seat(station, wires, seat + port as usize) {
+            Ok(()) => {}
+            Err(error) => return Err(error),
+        }
+    }
+    Ok(())
+}
+
+/// Lets a tick pass for a station, whose outputs are given out. Errors: `Full`, `Memory`.
+fn tick<T: RouteTable>(
+    alloc: Global,
+    station: &mut Member<LiveRouter<T>, LiveNode>,
+    wires: &mut LiveCables,
+    number: u16,
+    seat: usize,
+) -> Result<(), Error>
+    requires { seat ≤ 102000 }
+    ensures ports { ports_of station.new ≡ ports_of station.old }
+    ensures seats { wires.new.cabling.seats ≡ wires.old.cabling.seats }
+    ensures refused { IfErr result (λ e. (e ≡ Error.Full) ⊎ (e ≡ Error.Memory)) }
+{
+    let mut outputs = match Outputs::new(alloc) {
+        Ok(outputs) => outputs,
+        Err(error) => return Err(error),
+    };
+    match station.tick(&mut outputs) {
+        Ok(()) => {}
+        Err(error) => return Err(error),
+    }
+    settle(station, wires, seat);
+    wires.give(number, &mut outputs)
+}
+
+/// Lets a tick pass for a station, and for the mappings of its ports, whose seats begin at an
+/// index. Errors: `Full`, `Memory`.
+fn pass<T: RouteTable>(
+    alloc: Global,
+    station: &mut Member<LiveRouter<T>, LiveNode>,
+    wires: &mut LiveCables,
+    number: u16,
+    seat: usize,
+) -> Result<(), Error>
+    requires { seat ≤ 102000 }
+    ensures ports { ports_of station.new ≡ ports_of station.old }
+    ensures seats { wires.new.cabling.seats ≡ wires.old.cabling.seats }
+    ensures refused { IfErr result (λ e. (e ≡ Error.Full) ⊎ (e ≡ Error.Memory)) }
+{
+    match tick(alloc, station, wires, number, seat) {
+        Ok(()) => {}
+        Err(error) => return Err(error),
+    }
+    let ports = station.ports();
+    pass_seats(station, wires, seat, ports)
+}
+
+/// The number of the ports of the station at an index.
+fn ports_at<T: RouteTable>(stations: &[Member<LiveRouter<T>, LiveNode>], index: usize) -> usize
+    ensures { result ≤ 255 }
+{
+    match stations.get(index) {
+        Some(station) => station.ports() as usize,
+        None => 0,
+    }
+}
+
+/// Lets a tick pass for all stations. Errors: `Full`, `Memory`.
+pub fn pass_all<T: RouteTable>(
+    alloc: Global,
+    stations: &mut Vec<Member<LiveRouter<T>, LiveNode>>,
+    wires: &mut LiveCables,
+) -> Result<(), Error>
+    requires { length stations.old.items ≤ 400 }
+    ensures ports { map ports_of stations.new.items ≡ map ports_of stations.old.items }
+    ensures seats { wires.new.cabling.seats ≡ wires.old.cabling.seats }
+    ensures refused { IfErr result (λ e. (e ≡ Error.Full) ⊎ (e ≡ Error.Memory)) }
+{
+    let mut seat = 0;
+    for index in 0..stations.len() {
+        let station = &mut stations[index];
+        match pass(alloc, station, wires, index as u16, seat) {
+            Ok(()) => {}
+            Err(error) => return Err(error),
+        }
+        seat += ports_at(stations, index);
+    }
+    Ok(())
+}

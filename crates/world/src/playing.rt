@@ -1,0 +1,62 @@
+//! What happens in a tick.
+
+ghost use Rattle.std.specs.Prelude.{◌≡◌, ◌⊎◌, ◌≤◌, length, map, IfErr};
+ghost use Rattle.world.specs.Keeping.{AreSeated};
+ghost use Rattle.world.specs.Worlds.{ports_of};
+
+use crate::acting::act_all;
+use crate::passing::pass_all;
+use crate::taking::take_all;
+use crate::world::MAX_TAKES;
+use at_base::Error;
+use image_stations::Member;
+use internet_file::Plan;
+use live_cables::LiveCables;
+use live_node::LiveNode;
+use live_router::LiveRouter;
+use rtmp::RouteTable;
+
+/// Lets the tick pass for all stations, and lets the nodes do what is planned for it. Errors:
+/// `Full`, `Memory`.
+fn begin<T: RouteTable>(
+    plan: &Plan,
+    stations: &mut Vec<Member<LiveRouter<T>, LiveNode>>,
+    wires: &mut LiveCables,
+    refused: &mut Vec<(u32, u8)>,
+    schedule: &mut Vec<u32>,
+    now: u32,
+) -> Result<(), Error>
+    requires { length stations.old.items ≤ 400 }
+    ensures ports { map ports_of stations.new.items ≡ map ports_of stations.old.items }
+    ensures seats { wires.new.cabling.seats ≡ wires.old.cabling.seats }
+    ensures refused { IfErr result (λ e. (e ≡ Error.Full) ⊎ (e ≡ Error.Memory)) }
+{
+    match pass_all(*refused.allocator(), stations, wires) {
+        Ok(()) => {}
+        Err(error) => return Err(error),
+    }
+    act_all(plan, stations.as_slice(), wires, refused, schedule, now)
+}
+
+/// What happens in a tick: it passes for all stations, the nodes do what is planned for it, and
+/// frames are taken. Errors: `Full`, `Memory`.
+pub fn play<T: RouteTable>(
+    plan: &Plan,
+    stations: &mut Vec<Member<LiveRouter<T>, LiveNode>>,
+    wires: &mut LiveCables,
+    refused: &mut Vec<(u32, u8)>,
+    schedule: &mut Vec<u32>,
+    now: u32,
+) -> Result<(), Error>
+    requires few { length stations.old.items ≤ 400 }
+    requires seated { AreSeated wires.old.cabling.seats (map ports_of stations.old.items) }
+    ensures ports { map ports_of stations.new.items ≡ map ports_of stations.old.items }
+    ensures seats { wires.new.cabling.seats ≡ wires.old.cabling.seats }
+    ensures refused { IfErr result (λ e. (e ≡ Error.Full) ⊎ (e ≡ Error.Memory)) }
+{
+    match begin(plan, stations, wires, refused, schedule, now) {
+        Ok(()) => {}
+        Err(error) => return Err(error),
+    }
+    take_all(stations, wires, MAX_TAKES)
+}

@@ -1,0 +1,90 @@
+//! What is seen of a world's nodes.
+
+ghost use Rattle.std.specs.Prelude.{◌≡◌, ◌<◌, length, slice_get, Some, IfOk, IsOkUnless};
+ghost use Rattle.std.specs.Prelude.{option_copied, OnErr, OnOk};
+ghost use Rattle.world.specs.Seen.{emptied as emptied_of, emptied_at, node_of as node_in};
+ghost use Rattle.world.specs.Seen.{received_by};
+
+use at_base::Error;
+use end_node::{Datagram, EndNode};
+use image_stations::Member;
+use live_node::LiveNode;
+use live_router::LiveRouter;
+use rtmp::RouteTable;
+use std::alloc::Global;
+
+/// The node, if the station is one.
+fn node_of<T: RouteTable>(station: &Member<LiveRouter<T>, LiveNode>) -> Option<&EndNode>
+    ensures { option_copied result ≡ node_in (Some station.now) }
+{
+    match station {
+        Member::Node(node) => Some(node.node()),
+        Member::Router(_) => None,
+    }
+}
+
+/// The node at an index of stations, if it is one. Allocates nothing.
+pub fn node_by<T: RouteTable>(
+    stations: &[Member<LiveRouter<T>, LiveNode>],
+    index: usize,
+) -> Option<&EndNode>
+    ensures { option_copied result ≡ node_in (slice_get stations.now index) }
+{
+    match stations.get(index) {
+        Some(station) => node_of(station),
+        None => None,
+    }
+}
+
+/// Takes what a station has received, if it is a node. Error: `Memory`.
+fn take_of<T: RouteTable>(
+    alloc: Global,
+    station: &mut Member<LiveRouter<T>, LiveNode>,
+) -> Result<Vec<Datagram>, Error>
+    ensures taken { IfOk result
+        (λ datagrams. datagrams.items ≡ received_by (node_in (Some station.old))) }
+    ensures left { OnOk result (station.new ≡ emptied_of station.old) }
+    ensures refused { IsOkUnless result Error.Memory }
+    ensures stay { OnErr result (station.new ≡ station.old) }
+{
+    match station {
+        Member::Node(node) => node.received(),
+        Member::Router(_) => Ok(Vec::new(alloc)),
+    }
+}
+
+/// Takes what the station at an index has received, if it is a node. Error: `Memory`.
+fn take_in<T: RouteTable>(
+    alloc: Global,
+    stations: &mut Vec<Member<LiveRouter<T>, LiveNode>>,
+    index: usize,
+) -> Result<Vec<Datagram>, Error>
+    requires there { index < length stations.old.items }
+    ensures taken { IfOk result (λ datagrams.
+        datagrams.items ≡ received_by (node_in (slice_get stations.old.items index))) }
+    ensures left { OnOk result (stations.new.items ≡ emptied_at stations.old.items index) }
+    ensures refused { IsOkUnless result Error.Memory }
+    ensures stay { OnErr result (stations.new.items ≡ stations.old.items) }
+{
+    let station = &mut stations[index];
+    take_of(alloc, station)
+}
+
+/// Takes what the node at an index of stations has received, if it is one. Error: `Memory`.
+pub fn take_at<T: RouteTable>(
+    alloc: Global,
+    stations: &mut Vec<Member<LiveRouter<T>, LiveNode>>,
+    index: usize,
+) -> Result<Vec<Datagram>, Error>
+    ensures taken { IfOk result (λ datagrams.
+        datagrams.items ≡ received_by (node_in (slice_get stations.old.items index))) }
+    ensures left { OnOk result (stations.new.items ≡ emptied_at stations.old.items index) }
+    ensures refused { IsOkUnless result Error.Memory }
+    ensures stay { OnErr result (stations.new.items ≡ stations.old.items) }
+{
+    if index < stations.len() {
+        take_in(alloc, stations, index)
+    } else {
+        Ok(Vec::new(alloc))
+    }
+}

@@ -1,0 +1,77 @@
+//! Frames that the stations of a world take.
+
+ghost use Rattle.std.specs.Prelude.{◌≡◌, ◌⊎◌, ◌↔◌, ◌<◌, false, length, map, IfErr};
+ghost use Rattle.std.specs.List.{list_any};
+ghost use Rattle.cable_model.specs.Outcomes.{is_named};
+ghost use Rattle.cable_model.specs.Pending.{pending as pending_on};
+ghost use Rattle.live_cables.specs.Living.{happened};
+ghost use Rattle.world.specs.Keeping.{AreSeated};
+ghost use Rattle.world.specs.Worlds.{ports_of};
+
+use at_base::Error;
+use image_stations::Member;
+use live_cables::LiveCables;
+use live_node::LiveNode;
+use live_router::LiveRouter;
+use rtmp::RouteTable;
+
+/// A station takes a frame. Errors: `NotPending`, `Full`, `Memory`.
+fn take<T: RouteTable>(
+    stations: &mut Vec<Member<LiveRouter<T>, LiveNode>>,
+    wires: &mut LiveCables,
+    stamp: u32,
+    station: u16,
+) -> Result<(), Error>
+    requires there { station < length stations.old.items }
+    requires seated { AreSeated wires.old.cabling.seats (map ports_of stations.old.items) }
+    ensures ports { map ports_of stations.new.items ≡ map ports_of stations.old.items }
+    ensures seats { wires.new.cabling.seats ≡ wires.old.cabling.seats }
+    ensures not_pending { (result ≡ Err Error.NotPending) ↔ (list_any (is_named stamp station)
+        (pending_on wires.old.cabling.seats (happened wires.old)) ≡ false) }
+    ensures refused { IfErr result (λ e. (e ≡ Error.NotPending) ⊎ (e ≡ Error.Full)
+        ⊎ (e ≡ Error.Memory)) }
+{
+    let taker = &mut stations[station as usize];
+    wires.take(stamp, station, taker)
+}
+
+/// Takes the frame of the least stamp, by the least station that it is pending for; says whether
+/// there was one. Errors: `Full`, `Memory`.
+fn take_first<T: RouteTable>(
+    stations: &mut Vec<Member<LiveRouter<T>, LiveNode>>,
+    wires: &mut LiveCables,
+) -> Result<bool, Error>
+    requires { AreSeated wires.old.cabling.seats (map ports_of stations.old.items) }
+    ensures ports { map ports_of stations.new.items ≡ map ports_of stations.old.items }
+    ensures seats { wires.new.cabling.seats ≡ wires.old.cabling.seats }
+    ensures refused { IfErr result (λ e. (e ≡ Error.Full) ⊎ (e ≡ Error.Memory)) }
+{
+    match wires.first() {
+        Some((stamp, station)) => match take(stations, wires, stamp, station) {
+            Ok(()) => Ok(true),
+            Err(error) => Err(error),
+        },
+        None => Ok(false),
+    }
+}
+
+/// Takes frames, until none is pending or so many were taken. Errors: `Full`, `Memory`.
+pub fn take_all<T: RouteTable>(
+    stations: &mut Vec<Member<LiveRouter<T>, LiveNode>>,
+    wires: &mut LiveCables,
+    most: u32,
+) -> Result<(), Error>
+    requires { AreSeated wires.old.cabling.seats (map ports_of stations.old.items) }
+    ensures ports { map ports_of stations.new.items ≡ map ports_of stations.old.items }
+    ensures seats { wires.new.cabling.seats ≡ wires.old.cabling.seats }
+    ensures refused { IfErr result (λ e. (e ≡ Error.Full) ⊎ (e ≡ Error.Memory)) }
+{
+    for _step in 0..most {
+        match take_first(stations, wires) {
+            Ok(true) => {}
+            Ok(false) => return Ok(()),
+            Err(error) => return Err(error),
+        }
+    }
+    Ok(())
+}

@@ -1,0 +1,78 @@
+//! A tick of a world.
+
+ghost use Rattle.std.specs.Prelude.{◌≡◌, ◌≤◌, ◌+◌, ◌⊎◌, IfErr, IfSome, None, OnOk, Some};
+
+use crate::losing::losing_at;
+use crate::playing::play;
+use crate::world::World;
+use at_base::Error;
+use rtmp::RouteTable;
+
+impl<T: RouteTable> World<T> {
+    /// What happens in a tick. Errors: `Full`, `Memory`.
+    fn play(&mut self) -> Result<(), Error>
+        ensures plan { self.new.plan ≡ self.old.plan }
+        ensures now { self.new.now ≡ self.old.now }
+        ensures stopped { self.new.stopped ≡ self.old.stopped }
+        ensures refused { IfErr result (λ e. (e ≡ Error.Full) ⊎ (e ≡ Error.Memory)) }
+    {
+        let losing = match losing_at(self.alloc, &self.plan, self.passed) {
+            Ok(losing) => losing,
+            Err(error) => return Err(error),
+        };
+        self.wires.set_losing(losing);
+        play(
+            &self.plan,
+            &mut self.stations,
+            &mut self.wires,
+            &mut self.refused,
+            &mut self.schedule,
+            self.passed,
+        )
+    }
+
+    /// The next tick, if there is one. Errors: `Full`, `Memory`.
+    fn pass(&mut self) -> Result<(), Error>
+        ensures plan { self.new.plan ≡ self.old.plan }
+        ensures now { OnOk result (self.new.now ≡ self.old.now + 1) }
+        ensures stopped { self.new.stopped ≡ self.old.stopped }
+        ensures over { self.old.plan.ticks ≤ self.old.now → result ≡ Err Error.Full }
+        ensures refused { IfErr result (λ e. (e ≡ Error.Full) ⊎ (e ≡ Error.Memory)) }
+    {
+        if self.passed >= self.plan.ticks() {
+            return Err(Error::Full);
+        }
+        self.passed += 1;
+        self.play()
+    }
+
+    /// Lets a tick pass: for each station in turn, and for the mappings of its ports; then the
+    /// actions of this tick; then frames are taken, by the least stamp and station, until none is
+    /// pending or 10,000 were taken.
+    ///
+    /// Errors: `Full` after the plan's last tick, or where the transcript has no room; `Memory`.
+    /// What was done before it stays, and each later tick is refused by the same error.
+    pub fn tick(&mut self) -> Result<(), Error>
+        ensures now { OnOk result (self.new.now ≡ self.old.now + 1) }
+        ensures plan { self.new.plan ≡ self.old.plan }
+        ensures over { self.old.stopped ≡ None → self.old.plan.ticks ≤ self.old.now
+            → result ≡ Err Error.Full }
+        ensures again { IfSome self.old.stopped
+            (λ e. (result ≡ Err e) × (self.new ≡ self.old)) }
+        ensures stops { IfErr result (λ e. self.new.stopped ≡ Some e) }
+        ensures goes_on { OnOk result (self.new.stopped ≡ None) }
+        ensures refused { IfErr result (λ e.
+            (self.old.stopped ≡ Some e) ⊎ (e ≡ Error.Full) ⊎ (e ≡ Error.Memory)) }
+    {
+        if let Some(error) = self.stopped {
+            return Err(error);
+        }
+        match self.pass() {
+            Ok(()) => Ok(()),
+            Err(error) => {
+                self.stopped = Some(error);
+                Err(error)
+            }
+        }
+    }
+}

@@ -1,0 +1,241 @@
+//! Worlds, and what is seen of them.
+
+ghost use Rattle.std.specs.Prelude.{◌≡◌, ◌≢◌, [], None, IfErr, IfOk, IsOkUnless, OnErr, OnOk};
+ghost use Rattle.std.specs.Prelude.{option_copied};
+ghost use Rattle.cable_model.specs.Logs.{bytes_at};
+ghost use Rattle.internet_file.specs.Sound.{IsSound};
+ghost use Rattle.live_cables.specs.Living.{happened};
+ghost use Rattle.at_base.specs.Spelling.{IsValue};
+ghost use Rattle.table_image.specs.Spelling.{image_spelling};
+ghost use Rattle.world.specs.Frozen.{frozen as frozen_image};
+ghost use Rattle.world.specs.Seating.{plan_seats};
+ghost use Rattle.world.specs.Seen.{node_at, received_by, station_of as station_in, taken_out};
+
+use crate::plans::stations_of;
+use crate::seats::{ranges_of, seats_of};
+use crate::seen::{node_by, take_at};
+use crate::tables::image_of;
+use at_base::{Error, Range};
+use cable_model::{Entry, Seat};
+use end_node::{Datagram, EndNode};
+use image_stations::Member;
+use internet_file::{Action, Plan};
+use live_cables::LiveCables;
+use live_node::LiveNode;
+use live_router::LiveRouter;
+use rtmp::RouteTable;
+use std::alloc::Global;
+use std::marker::Model;
+use table_image::Image;
+
+/// The most entries of a world's transcript. This project's own.
+pub const MAX_ENTRIES: u32 = 4_000_000;
+
+/// The most frames that are taken in a tick. This project's own.
+pub const MAX_TAKES: u32 = 10_000;
+
+/// An internet that a file plans, as it lives. This project's own.
+#[derive(Drop)]
+pub struct World<T: RouteTable> {
+    pub(crate) plan: Plan,
+    pub(crate) stations: Vec<Member<LiveRouter<T>, LiveNode>>,
+    pub(crate) wires: LiveCables,
+    // the indices of the actions that are still to come, the next one last
+    pub(crate) schedule: Vec<u32>,
+    // the actions that were refused, by their numbers from 1, and the numbers of the errors
+    pub(crate) refused: Vec<(u32, u8)>,
+    // how many ticks have passed
+    pub(crate) passed: u32,
+    // the error of a tick that was refused
+    pub(crate) stopped: Option<Error>,
+    pub(crate) alloc: Global,
+}
+
+impl<T: RouteTable> Model for World<T> {
+    ghost use Rattle.world.specs.Keeping.{IsLaid};
+    ghost use Rattle.world.specs.Worlds.{Worldly};
+
+    ghost Value = { Worldly };
+
+    ghost view = { λ w. record {
+      plan = w.plan;
+      stations = w.stations.items;
+      wires = w.wires;
+      now = w.passed;
+      stopped = w.stopped;
+      refused = w.refused.items;
+    } };
+
+    ghost invariant = { λ w. IsLaid (record {
+      plan = w.plan;
+      stations = w.stations.items;
+      wires = w.wires;
+      now = w.passed;
+      stopped = w.stopped;
+      refused = w.refused.items;
+    }) };
+}
+
+/// The tick of the action at an index.
+fn tick_of(actions: &[Action], index: u32) -> u32 {
+    match actions.get(index as usize) {
+        Some(action) => action.at,
+        None => 0,
+    }
+}
+
+/// The indices of the actions, in the order of their ticks and then of the file, from the last to
+/// the first. Error: `Memory`.
+fn schedule_of(alloc: Global, actions: &[Action]) -> Result<Vec<u32>, Error>
+    ensures { IsOkUnless result Error.Memory }
+{
+    let Ok(len) = u32::try_from(actions.len()) else {
+        return Err(Error::Memory);
+    };
+    let mut indices: Vec<u32> = (0..len).collect(alloc)?;
+    indices.sort_unstable_by_key(|index| (tick_of(actions, *index), *index));
+    indices.reverse();
+    Ok(indices)
+}
+
+/// Recalls that a plan is sound. Does nothing.
+fn recall_sound(plan: &Plan)
+    ensures { IsSound plan.now }
+{
+    let _cables = plan.cables();
+}
+
+/// The cables of a plan with its seats, where nothing has happened yet. Error: `Memory`.
+fn wires_by(
+    alloc: Global,
+    plan: &Plan,
+    seats: &[Seat],
+    ranges: &[Range],
+) -> Result<LiveCables, Error>
+    requires { seats.now ≡ plan_seats plan.now }
+    ensures ok { IfOk result (λ wires. wires.cabling ≡ record {
+      seats = plan_seats plan.now;
+      limit = 4000000;
+      lines = [];
+      kept = [];
+      waiting = [];
+    }) }
+    ensures refused { IsOkUnless result Error.Memory }
+{
+    recall_sound(plan);
+    LiveCables::new(alloc, seats, ranges, MAX_ENTRIES)
+}
+
+/// The cables of a plan, where nothing has happened yet. Error: `Memory`.
+fn wires_of(alloc: Global, plan: &Plan) -> Result<LiveCables, Error>
+    ensures ok { IfOk result (λ wires. wires.cabling ≡ record {
+      seats = plan_seats plan.now;
+      limit = 4000000;
+      lines = [];
+      kept = [];
+      waiting = [];
+    }) }
+    ensures refused { IsOkUnless result Error.Memory }
+{
+    let seats = seats_of(alloc, plan)?;
+    let ranges = ranges_of(alloc, plan.cables())?;
+    wires_by(alloc, plan, seats.as_slice(), ranges.as_slice())
+}
+
+impl<T: RouteTable> World<T> {
+    /// A world in which nothing has happened yet. Error: `Memory`.
+    pub fn new(alloc: Global, plan: Plan) -> Result<World<T>, Error>
+        ensures ok { IfOk result (λ w. (w.plan ≡ plan) × (w.now ≡ 0) × (w.stopped ≡ None)
+            × (w.refused ≡ []) × (happened w.wires ≡ [])) }
+        ensures limit { IfOk result (λ w. w.wires.cabling.limit ≡ 4000000) }
+        ensures refused { IsOkUnless result Error.Memory }
+    {
+        recall_sound(&plan);
+        let wires = wires_of(alloc, &plan)?;
+        let stations = stations_of(alloc, &plan)?;
+        let schedule = schedule_of(alloc, plan.actions())?;
+        Ok(World {
+            plan,
+            stations,
+            wires,
+            schedule,
+            refused: Vec::new(alloc),
+            passed: 0,
+            stopped: None,
+            alloc,
+        })
+    }
+
+    /// The plan that it is played by.
+    pub fn plan(&self) -> &Plan
+        ensures { result.now ≡ self.now.plan }
+    {
+        &self.plan
+    }
+
+    /// What happened, in order. Stations are counted from 0: the routers, then the nodes. Allocates
+    /// nothing.
+    pub fn transcript(&self) -> &[Entry]
+        ensures value { result.now ≡ self.now.wires.cabling.lines }
+    {
+        self.wires.transcript()
+    }
+
+    /// The bytes of a number that entries name, and none for any other number. Allocates nothing.
+    pub fn bytes(&self, number: u32) -> &[u8]
+        ensures { result.now ≡ bytes_at self.now.wires.cabling.kept number }
+    {
+        self.wires.bytes(number)
+    }
+
+    /// The index of the station of a node's number, from 1.
+    fn station_of(&self, number: u16) -> usize
+        ensures { result ≡ station_in self.now number }
+    {
+        self.plan.routers().len() + (number as usize).saturating_sub(1)
+    }
+
+    /// The node of a number, from 1. Allocates nothing.
+    pub fn node(&self, number: u16) -> Option<&EndNode>
+        ensures { option_copied result ≡ node_at self.now number }
+    {
+        if number == 0 {
+            return None;
+        }
+        node_by(self.stations.as_slice(), self.station_of(number))
+    }
+
+    /// Takes the datagrams that a node has received since they were last taken, at most 64, oldest
+    /// first; none where there is no node of this number, from 1. Error: `Memory`, which taking them
+    /// never needs.
+    pub fn received(&mut self, number: u16) -> Result<Vec<Datagram>, Error>
+        ensures taken { IfOk result
+            (λ datagrams. datagrams.items ≡ received_by (node_at self.old number)) }
+        ensures left { OnOk result (self.new ≡ taken_out self.old number) }
+        ensures refused { IsOkUnless result Error.Memory }
+        ensures stay { OnErr result (self.new ≡ self.old) }
+    {
+        if number == 0 {
+            return Ok(Vec::new(self.alloc));
+        }
+        let station = self.station_of(number);
+        take_at(self.alloc, &mut self.stations, station)
+    }
+
+    /// The actions that were refused, in their order: the number of each, from 1, and that of its
+    /// error. Allocates nothing.
+    pub fn refused(&self) -> &[(u32, u8)]
+        ensures { result.now ≡ self.now.refused }
+    {
+        self.refused.as_slice()
+    }
+
+    /// The image of the tables as they stand. An address that isn't settled is 0.0. Error: `Memory`.
+    pub fn freeze(&self) -> Result<Image, Error>
+        ensures ok { IfOk result (λ image. image ≡ frozen_image self.now) }
+        ensures refused { IfErr result (λ e. e ≢ Error.Memory
+            → IsValue image_spelling (frozen_image self.now) → ⊥) }
+    {
+        image_of(self.alloc, &self.plan, self.stations.as_slice())
+    }
+}
