@@ -1,2 +1,4 @@
 pub mod Taken
 pub mod Listed
+pub mod Values
+pub mod Eaches

@@ -1,13 +1,15 @@
--- The parts of an image that say what routers and nodes hold. This project's own.
+-- The parts of an image that say what cables are, and what routers and nodes hold. This project's own.
 use Rattle.std.specs.Prelude.{ℕ, List, [], ◌∷◌, map}
 use Rattle.std.specs.Option.{unwrap_or}
 use Rattle.aarp.specs.Choosing.{Choice, settled}
+use Rattle.at_base.specs.Range.{Span}
 use Rattle.at_base.specs.declared.address.Addr.{Addr}
 use Rattle.end_node.specs.Holding.{NodeHolding}
 use Rattle.nbp.specs.declared.names.Named.{Named}
 use Rattle.router.specs.Holding.{Holding}
 use Rattle.rtmp.specs.declared.row.Row.{Row}
 use Rattle.station.specs.Ways.{nobody}
+use Rattle.table_image.specs.declared.cable.Cable.{Cable}
 use Rattle.table_image.specs.declared.node.Node.{Node}
 use Rattle.table_image.specs.declared.node.NodeName.{NodeName}
 use Rattle.table_image.specs.declared.port.Port.{Port}
@@ -15,6 +17,10 @@ use Rattle.table_image.specs.declared.router.Router.{Router}
 use Rattle.table_image.specs.declared.row.Row.{Row as ImageRow}
 use Rattle.table_image.specs.declared.zone_list.ZoneList.{ZoneList}
 use Rattle.zip_zones.specs.Zones.{Known, is_complete}
+
+-- a cable of this range with these zones
+abbrev pub frozen_cable : Span → List (List ℕ) → Cable
+frozen_cable range zones = record { start = range.start; end = range.end; zones = zones }
 
 -- the address of a port, and 0.0 where it isn't settled
 abbrev pub address_of : Choice → Addr

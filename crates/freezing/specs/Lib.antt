@@ -1,1 +1,2 @@
 pub mod Freezing
+pub mod Fits

@@ -1,9 +1,14 @@
 //! Routers, as an image says them.
 
-ghost use Rattle.std.specs.Prelude.{◌≡◌, ◌++◌, map, option_to_list, slice_get, IfOk, IsOkUnless, OnOk};
+ghost use Rattle.std.specs.Prelude.{◌≡◌, ◌++◌, ℕ, length, map, nat_lt, option_to_list, slice_get};
+ghost use Rattle.std.specs.Prelude.{IfOk, IsOkUnless, IsTrue, OnOk};
+ghost use Rattle.std.specs.List.{list_all};
+ghost use Rattle.at_base.specs.Spelling.{IsValue};
 ghost use Rattle.freezing.specs.Freezing.{address_of, frozen_list, frozen_port, frozen_ports};
 ghost use Rattle.freezing.specs.Freezing.{frozen_router, frozen_row};
+ghost use Rattle.table_image.specs.Spelling.{router_spelling};
 
+use crate::fits::fit_router;
 use aarp::Chooser;
 use at_base::{Addr, Error};
 use router::Router;
@@ -108,12 +113,8 @@ fn lists_of(alloc: Global, zones: &ZoneTable) -> Result<Vec<ZoneList>, Error>
     Ok(lists)
 }
 
-/// What an image says of a router whose ports are on these cables, by their indexes from 0: its
-/// ports with their addresses, 0.0 where one isn't settled, its rows and its lists of zones as they
-/// stand. Error: `Memory`.
-///
-/// This project's own.
-pub fn freeze_router<T: RouteTable>(
+/// What an image says of a router, part by part.
+fn router_of<T: RouteTable>(
     alloc: Global,
     router: &Router<T>,
     cables: &[u8],
@@ -130,4 +131,30 @@ pub fn freeze_router<T: RouteTable>(
         rows: Listed::from_vec(rows),
         lists: Listed::from_vec(lists),
     })
+}
+
+/// What an image says of a router whose ports are on these cables, by their indexes from 0: its
+/// ports with their addresses, 0.0 where one isn't settled, its rows and its lists of zones as they
+/// stand. Error: `Memory`.
+///
+/// This project's own.
+pub fn freeze_router<T: RouteTable>(
+    alloc: Global,
+    router: &Router<T>,
+    cables: &[u8],
+) -> Result<table_image::Router, Error>
+    ensures ok { IfOk result (λ frozen. frozen ≡ frozen_router cables.now router.now) }
+    // Where each port is on a cable, and there are so many, it is a router of an image.
+    ensures valid { (count : ℕ) → IsTrue (list_all (λ c. nat_lt c count) cables.now)
+        → length cables.now ≡ length router.now.ports
+        → IfOk result (λ frozen. IsValue (router_spelling count) frozen) }
+    ensures refused { IsOkUnless result Error.Memory }
+{
+    let frozen = router_of(alloc, router, cables)?;
+    // For the prover alone: the tables are maps, and their numbers fit.
+    let _ports = router.ports_now();
+    let _rows = router.routes().len();
+    let _lists = router.zones().len();
+    fit_router(&frozen);
+    Ok(frozen)
 }

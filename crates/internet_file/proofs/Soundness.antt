@@ -1,5 +1,5 @@
 -- The plan of a file is sound.
-use Rattle.std.proofs.Common.{◌≡◌, ℕ, true, ◌&&◌, List, [], ◌∷◌, length, sym, subst}
+use Rattle.std.proofs.Common.{◌≡◌, ℕ, true, ◌&&◌, List, [], ◌∷◌, length, refl, sym, subst}
 use Rattle.std.specs.Prelude.{Some, Ok, codes, nat_le, ℤ, pos, negsuc}
 use Rattle.std.specs.List.{list_all}
 use Rattle.std.proofs.lemmas.Bool.{and_parts}
@@ -41,6 +41,13 @@ one_is entries d k e =
     subst (λ m. is_between 1 (length entries) m ≡ true) c.1
     (joined (nat_le 1 g.0) (nat_le g.0 (length entries)) (low_is 1 200 n.0 g.0 n.2) c.0)
 
+within_is : (low high : ℕ) (d : Data) (ds : List Data) → list_within low high d ≡ Some ds
+    → is_between low high (length ds) ≡ true
+within_is low high d ds e =
+    let g = given_is (list d) _ ds e in
+    let c = cond_is (is_between low high (length g.0)) g.0 ds g.2 in
+    subst (λ (x : List Data). is_between low high (length x) ≡ true) c.1 c.0
+
 -- ---- Cables
 
 span_is : (ds : List Data) (s : Span) → span_of ds ≡ Some s → is_range s.start s.end ≡ true
@@ -53,6 +60,12 @@ span_is (a ∷ b ∷ []) s e =
     subst (λ (x : Span). is_range x.start x.end ≡ true) c.1 c.0
 span_is (a ∷ b ∷ c ∷ ds) s e = absurd cc
 
+zones_are : (d : Data) (names : List (List ℕ)) → zones d ≡ Some names → is_between 1 64 (length names) ≡ true
+zones_are d names e =
+    let items = given_is (list_within 1 64 d) (all zone) names e in
+    let read = each_all zone (λ name. true) (λ d name e. refl) items.0 names (all_is zone items.0 names items.2) in
+    subst (λ n. is_between 1 64 n ≡ true) (sym read.1) (within_is 1 64 d items.0 items.1)
+
 cable_is : (d : Data) (c : Cable) → cable_of d ≡ Some c → is_cable c ≡ true
 cable_is d c e =
     let ms = given_is (entry (codes "range" ∷ codes "zones" ∷ []) d) _ c e in
@@ -60,7 +73,10 @@ cable_is d c e =
     let names = given_is (at (codes "zones") zones ms.0) _ c networks.2 in
     let value = given_is (get_member (codes "range") ms.0) range networks.0 networks.1 in
     let items = given_is (list value.0) span_of networks.0 value.2 in
-    subst (λ (x : Cable). is_cable x ≡ true) (some_is names.2) (span_is items.0 networks.0 items.2)
+    let listed = given_is (get_member (codes "zones") ms.0) zones names.0 names.1 in
+    subst (λ (x : Cable). is_cable x ≡ true) (some_is names.2)
+    (joined (is_range networks.0.start networks.0.end) (is_between 1 64 (length names.0))
+    (span_is items.0 networks.0 items.2) (zones_are listed.0 names.0 listed.2))
 
 -- ---- Ports
 
@@ -95,13 +111,6 @@ port_is cables d p e =
     in_is cables ms.0 p ms.2
 
 -- ---- Stations
-
-within_is : (low high : ℕ) (d : Data) (ds : List Data) → list_within low high d ≡ Some ds
-    → is_between low high (length ds) ≡ true
-within_is low high d ds e =
-    let g = given_is (list d) _ ds e in
-    let c = cond_is (is_between low high (length g.0)) g.0 ds g.2 in
-    subst (λ (x : List Data). is_between low high (length x) ≡ true) c.1 c.0
 
 of_ports : (cables : List Cable) (d : Data) (ps : List Port) → ports cables d ≡ Some ps
     → is_router cables (record { port = ps }) ≡ true

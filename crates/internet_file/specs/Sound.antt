@@ -12,9 +12,9 @@ use Rattle.internet_file.specs.declared.node.Node.{Node}
 use Rattle.internet_file.specs.declared.port.Port.{Port}
 use Rattle.internet_file.specs.declared.router.Router.{Router}
 
--- the range is valid
+-- the range is valid, and there are 1 to 64 zones
 abbrev pub is_cable : Cable → Bool
-is_cable c = is_range c.range.start c.range.end
+is_cable c = is_range c.range.start c.range.end && is_between 1 64 (length c.zones)
 
 -- a station on a cable of this range may have the address
 abbrev pub may_try : Span → Addr → Bool

@@ -1,3 +1,6 @@
-pub mod Bounds
-pub mod Seated
+pub mod Going
+pub mod Received
+pub mod Emptied
 pub mod Stations
+pub mod Losses
+pub mod Ticked

@@ -1,7 +1,7 @@
 -- Stations, of which one changes, and the frames that are pending for them.
-use Rattle.std.proofs.Common.{◌≡◌, ◌⊎◌, ◌↔◌, inl, inr, ℕ, zero, suc, ◌<◌, Bool, true, false, ◌&&◌, ◌==◌, not, List, [], ◌∷◌, ◌++◌}
-use Rattle.std.proofs.Common.{◌+◌, ◌≤◌, cond, Option, None, Some, map, length, slice_get, slice_set, Contains, IfErr, Result, Ok, Err, refl, sym, ap, ◌∙◌, subst}
-use Rattle.std.proofs.Common.{arith, eq-eqb, filter, OnErr, OnOk}
+use Rattle.std.proofs.Common.{◌≡◌, ◌⊎◌, ◌↔◌, inl, inr, ℕ, zero, suc, ◌<◌, Bool, true, false, ◌==◌, not, List, [], ◌∷◌, ◌++◌}
+use Rattle.std.proofs.Common.{◌+◌, ◌≤◌, cond, Option, None, Some, map, length, slice_get, slice_set, Contains, IfErr, Result, Ok, Err}
+use Rattle.std.proofs.Common.{refl, sym, ap, ◌∙◌, subst, arith, eq-eqb, filter, OnErr, OnOk}
 use Rattle.std.specs.List.{list_any, AllByRecursion as Each}
 use Rattle.std.proofs.lemmas.Bool.{and_from}
 use Rattle.at_base.specs.declared.error.Error.{Error}
@@ -10,10 +10,12 @@ use Rattle.cable_model.proofs.Counting.{At, contained_at, each_at, each-append, 
 use Rattle.cable_model.proofs.Finds.{contains_at}
 use Rattle.cable_model.specs.Outcomes.{AreSeatsOf, IsLeast, is_named}
 use Rattle.cable_model.specs.Pending.{Pair, is_heard, pairs, pairs_of, pending, was_ended}
-use Rattle.cable_model.specs.Transcript.{Entry, Frame, Sent, Put, Took, Reached, Dropped, Lost}
+use Rattle.cable_model.specs.Transcript.{Entry, Sent, Put, Took, Reached, Dropped, Lost}
 use Rattle.cable_model.specs.declared.seat.Seat.{Seat}
 use Rattle.image_stations.specs.declared.member.Member.{Member}
 use Rattle.live_cables.proofs.Pending.{has_any}
+use Rattle.live_cables.specs.Living.{happened}
+use Rattle.live_cables.specs.Playing.{AreDue}
 use Rattle.live_node.specs.Living.{LivingNode}
 use Rattle.live_router.specs.Living.{Living}
 use Rattle.image_stations.specs.declared.member.Member.TheVariants as member
@@ -21,11 +23,13 @@ use Rattle.internet_file.specs.Files.{Planned}
 use Rattle.internet_file.specs.Sound.{IsSound}
 use Rattle.internet_file.specs.declared.node.Node.{Node}
 use Rattle.internet_file.specs.declared.router.Router.{Router}
-use Rattle.world.proofs.Seated.{plan_seated}
-use Rattle.world.specs.Keeping.{AreSeated, IsLaid, planned_ports}
-use Rattle.world.specs.Seating.{plan_seats}
+use Rattle.planned_stations.proofs.Seated.{plan_seated}
+use Rattle.planned_stations.specs.Planning.{AreSeated, planned_ports, ports_of}
+use Rattle.world.specs.Keeping.{IsLaid}
+use Rattle.planned_stations.specs.Seating.{plan_seats}
 use Rattle.world.specs.Seen.{emptied, emptied_at, emptied_by}
-use Rattle.world.specs.Worlds.{Worldly, ports_of}
+use Rattle.world.specs.Received.{AreReceived, got}
+use Rattle.world.specs.Worlds.{IsWorld, Worldly}
 
 -- one station becomes another with as many ports
 pub ports_set : (ms : List (Member Living LivingNode)) (k : ℕ) (old new : Member Living LivingNode) → At ms k old
@@ -143,14 +147,28 @@ laid_seated w h =
     subst (λ s. AreSeated s (map ports_of w.stations)) (sym h.seats)
     (subst (AreSeated (plan_seats w.plan)) (sym h.ports) (plan_seated w.plan h.sound))
 
--- so it is where neither the seats nor the numbers of ports change
+-- so it is where neither the seats nor the numbers of ports change, and what happened is as it is to be
 pub laid_after : (old new : Worldly) → IsLaid old → new.plan ≡ old.plan → map ports_of new.stations ≡ map ports_of old.stations
-    → new.wires.cabling.seats ≡ old.wires.cabling.seats → new.now ≤ old.plan.ticks → IsLaid new
-laid_after old new h plan ports seats few = record {
+    → new.wires.cabling.seats ≡ old.wires.cabling.seats → new.now ≤ old.plan.ticks
+    → AreDue (plan_seats old.plan) [] (happened new.wires) → AreReceived (happened new.wires) (map got new.stations) → IsLaid new
+laid_after old new h plan ports seats few due received = record {
   sound = subst IsSound (sym plan) h.sound;
   seats = seats ∙ (h.seats ∙ ap plan_seats (sym plan));
   ports = ports ∙ (h.ports ∙ ap planned_ports (sym plan));
   few = subst (λ (p : Planned). new.now ≤ p.ticks) (sym plan) few;
+  due = subst (λ (p : Planned). AreDue (plan_seats p) [] (happened new.wires)) (sym plan) due;
+  received = received;
+}
+
+-- what its users are promised
+pub laid_lives : (w : Worldly) → IsLaid w → IsWorld w
+laid_lives w h = record {
+  seats = h.seats;
+  seated = λ k m at. seats_at w.wires.cabling.seats w.stations k m (laid_seated w h) at;
+  due = h.due;
+  received = λ k n at. h.received k n.node.received (map_at got w.stations k (member.Node n) at);
+  whole = laid_whole w h;
+  few = h.few;
 }
 
 -- ---- What was received is taken out

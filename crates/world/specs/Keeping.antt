@@ -1,40 +1,19 @@
 -- What a live world keeps, beside what its users are promised. This project's own.
-use Rattle.std.specs.Prelude.{◌≡◌, ℕ, ◌+◌, ◌<◌, ◌≤◌, Bool, ◌&&◌, IsTrue, List, ◌++◌, Contains, length, map, nat_le, slice_get, Some}
-use Rattle.std.specs.List.{list_all}
-use Rattle.cable_model.specs.Outcomes.{AreSeatsOf}
-use Rattle.cable_model.specs.declared.seat.Seat.{Seat}
-use Rattle.internet_file.specs.Files.{Planned}
+use Rattle.std.specs.Prelude.{◌≡◌, ◌≤◌, [], map}
 use Rattle.internet_file.specs.Sound.{IsSound}
-use Rattle.internet_file.specs.declared.node.Node.{Node}
-use Rattle.internet_file.specs.declared.port.Port.{Port}
-use Rattle.internet_file.specs.declared.router.Router.{Router}
-use Rattle.world.specs.Seating.{plan_seats}
-use Rattle.world.specs.Worlds.{Worldly, ports_of}
+use Rattle.live_cables.specs.Living.{happened}
+use Rattle.live_cables.specs.Playing.{AreDue}
+use Rattle.planned_stations.specs.Planning.{planned_ports, ports_of}
+use Rattle.planned_stations.specs.Seating.{plan_seats}
+use Rattle.world.specs.Received.{AreReceived, got}
+use Rattle.world.specs.Worlds.{Worldly}
 
--- the number of the port's cable is one of at most 200
-abbrev pub is_low_port : Port → Bool
-is_low_port p = nat_le p.cable 200
-
--- the router has at most 16 ports, with such numbers
-abbrev pub is_low_router : Router → Bool
-is_low_router r = nat_le (length r.port) 16 && list_all is_low_port r.port
-
--- the number of the node's cable is one of at most 200
-abbrev pub is_low_node : Node → Bool
-is_low_node n = nat_le n.cable 200
-
--- how many ports the stations of a plan have: the routers, then the nodes
-abbrev pub planned_ports : Planned → List ℕ
-planned_ports p = map (λ r. length r.port) p.routers ++ map (λ n. 1) p.nodes
-
--- Stations with so many ports, each, have these seats.
-pub record AreSeated (seats : List Seat) (ports : List ℕ) : Type 0 where
-  pub each : (k n : ℕ) → slice_get ports k ≡ Some n → AreSeatsOf seats k n
-  pub within : (s : Seat) → Contains seats s → s.station < length ports
-
--- The plan is sound, and the stations and the seats are those that are planned.
+-- The plan is sound, and the stations and the seats are those that are planned. Each frame that was taken was pending for its
+-- station, and each datagram that a station received is that of a frame that it took.
 pub record IsLaid (w : Worldly) : Type 0 where
   pub sound : IsSound w.plan
   pub seats : w.wires.cabling.seats ≡ plan_seats w.plan
   pub ports : map ports_of w.stations ≡ planned_ports w.plan
   pub few : w.now ≤ w.plan.ticks
+  pub due : AreDue (plan_seats w.plan) [] (happened w.wires)
+  pub received : AreReceived (happened w.wires) (map got w.stations)

@@ -1,5 +1,7 @@
-pub mod Seating
+pub mod Losing
 pub mod Worlds
+pub mod Going
+pub mod Received
 pub mod Keeping
 pub mod Seen
 pub mod Frozen

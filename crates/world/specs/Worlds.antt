@@ -1,5 +1,5 @@
 -- What a live world holds, and what it keeps. This project's own.
-use Rattle.std.specs.Prelude.{◌≡◌, ◌⊎◌, ℕ, ◌+◌, ◌≤◌, IsTrue, List, [], ◌++◌, Option, Some, None, Contains, length, slice_get}
+use Rattle.std.specs.Prelude.{◌≡◌, ◌⊎◌, ℕ, ◌+◌, ◌≤◌, IsTrue, List, [], ◌++◌, Option, Some, Contains, length, slice_get}
 use Rattle.std.specs.List.{All}
 use Rattle.at_base.specs.declared.error.Error.{Error}
 use Rattle.cable_model.specs.Outcomes.{AreSeatsOf}
@@ -8,7 +8,6 @@ use Rattle.cable_model.specs.Transcript.{Entry, Frame, Put, Took, count}
 use Rattle.ddp.specs.Datagram.{Datagram}
 use Rattle.end_node.specs.Answers.{kept}
 use Rattle.end_node.specs.declared.node.Datagram.{Datagram as Received}
-use Rattle.image_stations.specs.Members.{either}
 use Rattle.image_stations.specs.declared.member.Member.{Member}
 use Rattle.image_stations.specs.declared.member.Member.TheVariants.{Node}
 use Rattle.internet_file.specs.Files.{Planned}
@@ -17,7 +16,9 @@ use Rattle.live_cables.specs.Playing.{AreDue, IsPlayed, are_lost, is_took}
 use Rattle.live_node.specs.Living.{LivingNode}
 use Rattle.live_router.specs.Living.{Living}
 use Rattle.station.specs.Values.{datagram_at}
-use Rattle.world.specs.Seating.{loses_at, plan_seats}
+use Rattle.planned_stations.specs.Planning.{ports_of}
+use Rattle.planned_stations.specs.Seating.{plan_seats}
+use Rattle.world.specs.Losing.{loses_at}
 
 -- A plan; its stations, the routers and then the nodes; the cables; how many ticks have passed; the error by which a tick was
 -- refused, if one was; and the actions that were refused, by their numbers from 1 and the numbers of the errors.
@@ -28,10 +29,6 @@ pub record Worldly : Type 0 where
   pub now : ℕ
   pub stopped : Option Error
   pub refused : List (ℕ × ℕ)
-
--- the number of a station's ports
-abbrev pub ports_of : Member Living LivingNode → ℕ
-ports_of m = either (λ l. length l.router.ports) (λ n. 1) m
 
 -- A datagram that a station received is that of a frame which it took.
 pub record IsReceived (entries : List Entry) (station : ℕ) (d : Received) : Type 0 where

@@ -3,6 +3,7 @@
 ghost use Rattle.std.specs.Prelude.{◌≡◌, ◌⊎◌, ◌<◌, ◌≤◌, ℕ, [], length, IfErr, IfSome, OnErr};
 ghost use Rattle.std.specs.Prelude.{OnOk};
 ghost use Rattle.station.specs.Lawful.{AreLawful};
+ghost use Rattle.world.specs.Going.{Goes, GoesOn};
 
 use at_base::Error;
 use image_stations::Member;
@@ -77,7 +78,8 @@ fn act_one<T: RouteTable>(
     index: u32,
 ) -> Result<(), Error>
     requires { length stations.now ≤ 400 }
-    ensures seats { wires.new.cabling.seats ≡ wires.old.cabling.seats }
+    ensures goes { Goes wires.old wires.new }
+    ensures done { OnOk result (GoesOn 0 wires.old wires.new) }
     ensures refused { IfErr result (λ e. (e ≡ Error.Full) ⊎ (e ≡ Error.Memory)) }
 {
     let Some(action) = plan.actions().get(index as usize) else {
@@ -89,9 +91,10 @@ fn act_one<T: RouteTable>(
     };
     let mut outputs = Outputs::new(*refused.allocator())?;
     match act_by(member, &action.action, &mut outputs) {
-        Ok(()) => wires.give(station as u16, &mut outputs),
-        Err(error) => note(refused, index, error),
+        Ok(()) => {}
+        Err(error) => return note(refused, index, error),
     }
+    wires.give(station as u16, &mut outputs)
 }
 
 /// Takes the next action off the schedule, if it is one of this tick.
@@ -117,7 +120,8 @@ pub fn act_all<T: RouteTable>(
     now: u32,
 ) -> Result<(), Error>
     requires { length stations.now ≤ 400 }
-    ensures seats { wires.new.cabling.seats ≡ wires.old.cabling.seats }
+    ensures goes { Goes wires.old wires.new }
+    ensures done { OnOk result (GoesOn 0 wires.old wires.new) }
     ensures refused { IfErr result (λ e. (e ≡ Error.Full) ⊎ (e ≡ Error.Memory)) }
 {
     match next_due(schedule, plan.actions(), now) {

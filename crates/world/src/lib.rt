@@ -2,13 +2,11 @@
 #![tactic(auto)]
 
 mod acting;
+mod beginning;
 mod losing;
 mod passing;
-mod plans;
 mod playing;
-mod seats;
 mod seen;
-mod tables;
 mod taking;
 mod ticking;
 mod world;

@@ -1,7 +1,9 @@
 //! Which cables lose what is put there in a tick.
 
-ghost use Rattle.std.specs.Prelude.{◌≡◌, IsOkUnless};
-ghost use Rattle.world.specs.Seating.{is_on as is_on_in};
+ghost use Rattle.std.specs.Prelude.{◌≡◌, ◌||◌, ◌≤◌, ℕ, length, IfOk, IsOkUnless, IsTrue};
+ghost use Rattle.std.specs.List.{list_all, list_any};
+ghost use Rattle.live_cables.specs.Steps.{loses_by};
+ghost use Rattle.world.specs.Losing.{is_lossy, is_on as is_on_in, loses_at, loses_in, marked};
 
 use at_base::Error;
 use internet_file::{Loss, Plan};
@@ -14,25 +16,57 @@ fn is_on(loss: &Loss, now: u32) -> bool
     loss.first <= now && now <= loss.last
 }
 
+/// Whether one of the losses is on in a tick.
+fn any_is_on(losses: &[Loss], now: u32) -> bool
+    ensures { result ≡ list_any (is_on_in now) losses.now }
+{
+    losses.iter().any(|loss| is_on(loss, now))
+}
+
 /// Marks the cable of a loss, if the loss is on in a tick.
-fn mark(losing: &mut [bool], loss: &Loss, now: u32) {
+fn mark(losing: &mut Vec<bool>, loss: &Loss, now: u32)
+    requires from { 1 ≤ loss.now.cable }
+    requires to { loss.now.cable ≤ length losing.old.items }
+    ensures { losing.new.items ≡ marked now loss.now losing.old.items }
+{
     if is_on(loss, now) {
-        if let Some(loses) = losing.get_mut((loss.cable as usize).saturating_sub(1)) {
-            *loses = true;
-        }
+        losing[loss.cable as usize - 1] = true;
     }
+}
+
+/// Marks the cables of those losses that are on in a tick.
+fn mark_all(losing: &mut Vec<bool>, losses: &[Loss], now: u32)
+    requires { IsTrue (list_all (is_lossy (length losing.old.items)) losses.now) }
+    ensures { (cable : ℕ) → loses_by losing.new.items cable
+        ≡ (loses_by losing.old.items cable || loses_in now losses.now cable) }
+{
+    for index in 0..losses.len() {
+        mark(losing, &losses[index], now);
+    }
+}
+
+/// Which of so many cables lose what is put there in a tick, and none where no cable does. Error:
+/// `Memory`.
+fn losing_by(alloc: Global, cables: usize, losses: &[Loss], now: u32) -> Result<Vec<bool>, Error>
+    requires { IsTrue (list_all (is_lossy cables) losses.now) }
+    ensures losing { IfOk result
+        (λ losing. (cable : ℕ) → loses_by losing.items cable ≡ loses_in now losses.now cable) }
+    ensures refused { IsOkUnless result Error.Memory }
+{
+    let mut losing = Vec::new(alloc);
+    if !any_is_on(losses, now) {
+        return Ok(losing);
+    }
+    losing.resize(cables, false)?;
+    mark_all(&mut losing, losses, now);
+    Ok(losing)
 }
 
 /// Which cables lose what is put there in a tick, and none where no cable does. Error: `Memory`.
 pub fn losing_at(alloc: Global, plan: &Plan, now: u32) -> Result<Vec<bool>, Error>
-    ensures { IsOkUnless result Error.Memory }
+    ensures losing { IfOk result
+        (λ losing. (cable : ℕ) → loses_by losing.items cable ≡ loses_at plan.now now cable) }
+    ensures refused { IsOkUnless result Error.Memory }
 {
-    let mut losing = Vec::new(alloc);
-    if plan.losses().iter().any(|loss| is_on(loss, now)) {
-        losing.resize(plan.cables().len(), false)?;
-        for loss in plan.losses() {
-            mark(&mut losing, loss, now);
-        }
-    }
-    Ok(losing)
+    losing_by(alloc, plan.cables().len(), plan.losses(), now)
 }

@@ -1,7 +1,9 @@
 //! A tick that passes for the stations of a world.
 
-ghost use Rattle.std.specs.Prelude.{◌≡◌, ◌⊎◌, ◌≤◌, length, map, IfErr};
-ghost use Rattle.world.specs.Worlds.{ports_of};
+ghost use Rattle.std.specs.Prelude.{◌≡◌, ◌⊎◌, ◌≤◌, length, map, IfErr, OnOk};
+ghost use Rattle.planned_stations.specs.Planning.{ports_of};
+ghost use Rattle.world.specs.Going.{Goes, GoesOn};
+ghost use Rattle.world.specs.Received.{got};
 
 use at_base::{Addr, Error};
 use image_stations::Member;
@@ -36,7 +38,8 @@ fn settle<T: RouteTable>(
 
 /// AARP has given an address up, which a router is told.
 fn give_up<T: RouteTable>(station: &mut Member<LiveRouter<T>, LiveNode>, addr: Addr)
-    ensures { ports_of station.new ≡ ports_of station.old }
+    ensures ports { ports_of station.new ≡ ports_of station.old }
+    ensures got { got station.new ≡ got station.old }
 {
     match station {
         Member::Router(router) => router.give_up(addr),
@@ -46,7 +49,8 @@ fn give_up<T: RouteTable>(station: &mut Member<LiveRouter<T>, LiveNode>, addr: A
 
 /// AARP has given addresses up, which a router is told.
 fn give_up_all<T: RouteTable>(station: &mut Member<LiveRouter<T>, LiveNode>, addrs: &[Addr])
-    ensures { ports_of station.new ≡ ports_of station.old }
+    ensures ports { ports_of station.new ≡ ports_of station.old }
+    ensures got { got station.new ≡ got station.old }
 {
     match addrs {
         [] => {}
@@ -64,7 +68,9 @@ fn pass_seat<T: RouteTable>(
     seat: usize,
 ) -> Result<(), Error>
     ensures ports { ports_of station.new ≡ ports_of station.old }
-    ensures seats { wires.new.cabling.seats ≡ wires.old.cabling.seats }
+    ensures got { got station.new ≡ got station.old }
+    ensures goes { Goes wires.old wires.new }
+    ensures done { OnOk result (GoesOn 0 wires.old wires.new) }
     ensures refused { IfErr result (λ e. (e ≡ Error.Full) ⊎ (e ≡ Error.Memory)) }
 {
     match wires.pass(seat) {
@@ -86,7 +92,9 @@ fn pass_seats<T: RouteTable>(
 ) -> Result<(), Error>
     requires { seat ≤ 102000 }
     ensures ports { ports_of station.new ≡ ports_of station.old }
-    ensures seats { wires.new.cabling.seats ≡ wires.old.cabling.seats }
+    ensures got { got station.new ≡ got station.old }
+    ensures goes { Goes wires.old wires.new }
+    ensures done { OnOk result (GoesOn 0 wires.old wires.new) }
     ensures refused { IfErr result (λ e. (e ≡ Error.Full) ⊎ (e ≡ Error.Memory)) }
 {
     for port in 0..ports {
@@ -108,7 +116,9 @@ fn tick<T: RouteTable>(
 ) -> Result<(), Error>
     requires { seat ≤ 102000 }
     ensures ports { ports_of station.new ≡ ports_of station.old }
-    ensures seats { wires.new.cabling.seats ≡ wires.old.cabling.seats }
+    ensures got { got station.new ≡ got station.old }
+    ensures goes { Goes wires.old wires.new }
+    ensures done { OnOk result (GoesOn 0 wires.old wires.new) }
     ensures refused { IfErr result (λ e. (e ≡ Error.Full) ⊎ (e ≡ Error.Memory)) }
 {
     let mut outputs = match Outputs::new(alloc) {
@@ -134,7 +144,9 @@ fn pass<T: RouteTable>(
 ) -> Result<(), Error>
     requires { seat ≤ 102000 }
     ensures ports { ports_of station.new ≡ ports_of station.old }
-    ensures seats { wires.new.cabling.seats ≡ wires.old.cabling.seats }
+    ensures got { got station.new ≡ got station.old }
+    ensures goes { Goes wires.old wires.new }
+    ensures done { OnOk result (GoesOn 0 wires.old wires.new) }
     ensures refused { IfErr result (λ e. (e ≡ Error.Full) ⊎ (e ≡ Error.Memory)) }
 {
     match tick(alloc, station, wires, number, seat) {
@@ -163,7 +175,9 @@ pub fn pass_all<T: RouteTable>(
 ) -> Result<(), Error>
     requires { length stations.old.items ≤ 400 }
     ensures ports { map ports_of stations.new.items ≡ map ports_of stations.old.items }
-    ensures seats { wires.new.cabling.seats ≡ wires.old.cabling.seats }
+    ensures got { map got stations.new.items ≡ map got stations.old.items }
+    ensures goes { Goes wires.old wires.new }
+    ensures done { OnOk result (GoesOn 0 wires.old wires.new) }
     ensures refused { IfErr result (λ e. (e ≡ Error.Full) ⊎ (e ≡ Error.Memory)) }
 {
     let mut seat = 0;

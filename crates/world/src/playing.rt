@@ -1,8 +1,10 @@
 //! What happens in a tick.
 
-ghost use Rattle.std.specs.Prelude.{◌≡◌, ◌⊎◌, ◌≤◌, length, map, IfErr};
-ghost use Rattle.world.specs.Keeping.{AreSeated};
-ghost use Rattle.world.specs.Worlds.{ports_of};
+ghost use Rattle.std.specs.Prelude.{◌≡◌, ◌⊎◌, ◌≤◌, length, map, IfErr, OnOk};
+ghost use Rattle.live_cables.specs.Living.{happened};
+ghost use Rattle.planned_stations.specs.Planning.{AreSeated, ports_of};
+ghost use Rattle.world.specs.Going.{Ends, Goes, GoesOn};
+ghost use Rattle.world.specs.Received.{AreReceived, got};
 
 use crate::acting::act_all;
 use crate::passing::pass_all;
@@ -28,7 +30,9 @@ fn begin<T: RouteTable>(
 ) -> Result<(), Error>
     requires { length stations.old.items ≤ 400 }
     ensures ports { map ports_of stations.new.items ≡ map ports_of stations.old.items }
-    ensures seats { wires.new.cabling.seats ≡ wires.old.cabling.seats }
+    ensures got { map got stations.new.items ≡ map got stations.old.items }
+    ensures goes { Goes wires.old wires.new }
+    ensures done { OnOk result (GoesOn 0 wires.old wires.new) }
     ensures refused { IfErr result (λ e. (e ≡ Error.Full) ⊎ (e ≡ Error.Memory)) }
 {
     match pass_all(*refused.allocator(), stations, wires) {
@@ -51,7 +55,10 @@ pub fn play<T: RouteTable>(
     requires few { length stations.old.items ≤ 400 }
     requires seated { AreSeated wires.old.cabling.seats (map ports_of stations.old.items) }
     ensures ports { map ports_of stations.new.items ≡ map ports_of stations.old.items }
-    ensures seats { wires.new.cabling.seats ≡ wires.old.cabling.seats }
+    ensures goes { Goes wires.old wires.new }
+    ensures done { OnOk result (Ends 10000 wires.old wires.new) }
+    ensures received { AreReceived (happened wires.old) (map got stations.old.items)
+        → AreReceived (happened wires.new) (map got stations.new.items) }
     ensures refused { IfErr result (λ e. (e ≡ Error.Full) ⊎ (e ≡ Error.Memory)) }
 {
     match begin(plan, stations, wires, refused, schedule, now) {

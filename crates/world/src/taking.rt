@@ -1,12 +1,14 @@
 //! Frames that the stations of a world take.
 
-ghost use Rattle.std.specs.Prelude.{◌≡◌, ◌⊎◌, ◌↔◌, ◌<◌, false, length, map, IfErr};
+ghost use Rattle.std.specs.Prelude.{◌≡◌, ◌⊎◌, ◌↔◌, ◌<◌, [], false, length, map, IfErr, IfOk, OnOk};
 ghost use Rattle.std.specs.List.{list_any};
 ghost use Rattle.cable_model.specs.Outcomes.{is_named};
 ghost use Rattle.cable_model.specs.Pending.{pending as pending_on};
+ghost use Rattle.cable_model.specs.Transcript.{one};
 ghost use Rattle.live_cables.specs.Living.{happened};
-ghost use Rattle.world.specs.Keeping.{AreSeated};
-ghost use Rattle.world.specs.Worlds.{ports_of};
+ghost use Rattle.planned_stations.specs.Planning.{AreSeated, ports_of};
+ghost use Rattle.world.specs.Going.{Ends, Goes, GoesOn};
+ghost use Rattle.world.specs.Received.{AreReceived, got};
 
 use at_base::Error;
 use image_stations::Member;
@@ -25,7 +27,10 @@ fn take<T: RouteTable>(
     requires there { station < length stations.old.items }
     requires seated { AreSeated wires.old.cabling.seats (map ports_of stations.old.items) }
     ensures ports { map ports_of stations.new.items ≡ map ports_of stations.old.items }
-    ensures seats { wires.new.cabling.seats ≡ wires.old.cabling.seats }
+    ensures goes { Goes wires.old wires.new }
+    ensures done { OnOk result (GoesOn 1 wires.old wires.new) }
+    ensures received { AreReceived (happened wires.old) (map got stations.old.items)
+        → AreReceived (happened wires.new) (map got stations.new.items) }
     ensures not_pending { (result ≡ Err Error.NotPending) ↔ (list_any (is_named stamp station)
         (pending_on wires.old.cabling.seats (happened wires.old)) ≡ false) }
     ensures refused { IfErr result (λ e. (e ≡ Error.NotPending) ⊎ (e ≡ Error.Full)
@@ -43,7 +48,12 @@ fn take_first<T: RouteTable>(
 ) -> Result<bool, Error>
     requires { AreSeated wires.old.cabling.seats (map ports_of stations.old.items) }
     ensures ports { map ports_of stations.new.items ≡ map ports_of stations.old.items }
-    ensures seats { wires.new.cabling.seats ≡ wires.old.cabling.seats }
+    ensures goes { Goes wires.old wires.new }
+    ensures took { IfOk result (λ was_one. GoesOn (one was_one) wires.old wires.new) }
+    ensures none { IfOk result (λ was_one. was_one ≡ false
+        → pending_on wires.new.cabling.seats (happened wires.new) ≡ []) }
+    ensures received { AreReceived (happened wires.old) (map got stations.old.items)
+        → AreReceived (happened wires.new) (map got stations.new.items) }
     ensures refused { IfErr result (λ e. (e ≡ Error.Full) ⊎ (e ≡ Error.Memory)) }
 {
     match wires.first() {
@@ -63,7 +73,10 @@ pub fn take_all<T: RouteTable>(
 ) -> Result<(), Error>
     requires { AreSeated wires.old.cabling.seats (map ports_of stations.old.items) }
     ensures ports { map ports_of stations.new.items ≡ map ports_of stations.old.items }
-    ensures seats { wires.new.cabling.seats ≡ wires.old.cabling.seats }
+    ensures goes { Goes wires.old wires.new }
+    ensures done { OnOk result (Ends most wires.old wires.new) }
+    ensures received { AreReceived (happened wires.old) (map got stations.old.items)
+        → AreReceived (happened wires.new) (map got stations.new.items) }
     ensures refused { IfErr result (λ e. (e ≡ Error.Full) ⊎ (e ≡ Error.Memory)) }
 {
     for _step in 0..most {

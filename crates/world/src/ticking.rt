@@ -1,12 +1,23 @@
 //! A tick of a world.
 
 ghost use Rattle.std.specs.Prelude.{◌≡◌, ◌≤◌, ◌+◌, ◌⊎◌, IfErr, IfSome, None, OnOk, Some};
+ghost use Rattle.cable_model.specs.Transcript.{AreNumbered};
+ghost use Rattle.live_cables.specs.Living.{happened};
+ghost use Rattle.world.specs.Worlds.{Ticks, TicksOn};
 
 use crate::losing::losing_at;
 use crate::playing::play;
 use crate::world::World;
 use at_base::Error;
+use live_cables::LiveCables;
 use rtmp::RouteTable;
+
+/// Recalls that frames are numbered from 0. Does nothing.
+fn recall_numbered(wires: &LiveCables)
+    ensures { AreNumbered 0 (happened wires.now) }
+{
+    let _lines = wires.transcript();
+}
 
 impl<T: RouteTable> World<T> {
     /// What happens in a tick. Errors: `Full`, `Memory`.
@@ -14,6 +25,9 @@ impl<T: RouteTable> World<T> {
         ensures plan { self.new.plan ≡ self.old.plan }
         ensures now { self.new.now ≡ self.old.now }
         ensures stopped { self.new.stopped ≡ self.old.stopped }
+        ensures ticks { Ticks self.old.plan self.old.now self.old.wires self.new.wires }
+        ensures ticks_on { OnOk result
+            (TicksOn self.old.plan self.old.now self.old.wires self.new.wires) }
         ensures refused { IfErr result (λ e. (e ≡ Error.Full) ⊎ (e ≡ Error.Memory)) }
     {
         let losing = match losing_at(self.alloc, &self.plan, self.passed) {
@@ -21,14 +35,16 @@ impl<T: RouteTable> World<T> {
             Err(error) => return Err(error),
         };
         self.wires.set_losing(losing);
-        play(
+        let played = play(
             &self.plan,
             &mut self.stations,
             &mut self.wires,
             &mut self.refused,
             &mut self.schedule,
             self.passed,
-        )
+        );
+        recall_numbered(&self.wires);
+        played
     }
 
     /// The next tick, if there is one. Errors: `Full`, `Memory`.
@@ -37,6 +53,9 @@ impl<T: RouteTable> World<T> {
         ensures now { OnOk result (self.new.now ≡ self.old.now + 1) }
         ensures stopped { self.new.stopped ≡ self.old.stopped }
         ensures over { self.old.plan.ticks ≤ self.old.now → result ≡ Err Error.Full }
+        ensures ticks { Ticks self.old.plan self.new.now self.old.wires self.new.wires }
+        ensures ticks_on { OnOk result
+            (TicksOn self.old.plan self.new.now self.old.wires self.new.wires) }
         ensures refused { IfErr result (λ e. (e ≡ Error.Full) ⊎ (e ≡ Error.Memory)) }
     {
         if self.passed >= self.plan.ticks() {
@@ -61,6 +80,9 @@ impl<T: RouteTable> World<T> {
             (λ e. (result ≡ Err e) × (self.new ≡ self.old)) }
         ensures stops { IfErr result (λ e. self.new.stopped ≡ Some e) }
         ensures goes_on { OnOk result (self.new.stopped ≡ None) }
+        ensures ticks { Ticks self.old.plan self.new.now self.old.wires self.new.wires }
+        ensures ticks_on { OnOk result
+            (TicksOn self.old.plan self.new.now self.old.wires self.new.wires) }
         ensures refused { IfErr result (λ e.
             (self.old.stopped ≡ Some e) ⊎ (e ≡ Error.Full) ⊎ (e ≡ Error.Memory)) }
     {

@@ -1,28 +1,28 @@
 //! Worlds, and what is seen of them.
 
-ghost use Rattle.std.specs.Prelude.{◌≡◌, ◌≢◌, [], None, IfErr, IfOk, IsOkUnless, OnErr, OnOk};
+ghost use Rattle.std.specs.Prelude.{◌≡◌, [], None, IfOk, IsOkUnless, OnErr, OnOk};
 ghost use Rattle.std.specs.Prelude.{option_copied};
 ghost use Rattle.cable_model.specs.Logs.{bytes_at};
 ghost use Rattle.internet_file.specs.Sound.{IsSound};
 ghost use Rattle.live_cables.specs.Living.{happened};
-ghost use Rattle.at_base.specs.Spelling.{IsValue};
-ghost use Rattle.table_image.specs.Spelling.{image_spelling};
 ghost use Rattle.world.specs.Frozen.{frozen as frozen_image};
-ghost use Rattle.world.specs.Seating.{plan_seats};
+ghost use Rattle.planned_stations.specs.Beginning.{AreBegun};
+ghost use Rattle.planned_stations.specs.Seating.{plan_seats};
 ghost use Rattle.world.specs.Seen.{node_at, received_by, station_of as station_in, taken_out};
+ghost use Rattle.world.specs.Worlds.{IsWorld};
 
-use crate::plans::stations_of;
-use crate::seats::{ranges_of, seats_of};
+use crate::beginning::stations_begun;
 use crate::seen::{node_by, take_at};
-use crate::tables::image_of;
 use at_base::{Error, Range};
 use cable_model::{Entry, Seat};
 use end_node::{Datagram, EndNode};
+use frozen_stations::image_of;
 use image_stations::Member;
 use internet_file::{Action, Plan};
 use live_cables::LiveCables;
 use live_node::LiveNode;
 use live_router::LiveRouter;
+use planned_stations::{ranges_of, seats_of};
 use rtmp::RouteTable;
 use std::alloc::Global;
 use std::marker::Model;
@@ -143,16 +143,18 @@ fn wires_of(alloc: Global, plan: &Plan) -> Result<LiveCables, Error>
 }
 
 impl<T: RouteTable> World<T> {
-    /// A world in which nothing has happened yet. Error: `Memory`.
+    /// A world in which nothing has happened yet, of a plan's stations as they begin. Error:
+    /// `Memory`.
     pub fn new(alloc: Global, plan: Plan) -> Result<World<T>, Error>
         ensures ok { IfOk result (λ w. (w.plan ≡ plan) × (w.now ≡ 0) × (w.stopped ≡ None)
             × (w.refused ≡ []) × (happened w.wires ≡ [])) }
+        ensures begun { IfOk result (λ w. AreBegun plan w.stations) }
         ensures limit { IfOk result (λ w. w.wires.cabling.limit ≡ 4000000) }
         ensures refused { IsOkUnless result Error.Memory }
     {
         recall_sound(&plan);
         let wires = wires_of(alloc, &plan)?;
-        let stations = stations_of(alloc, &plan)?;
+        let stations = stations_begun(alloc, &plan)?;
         let schedule = schedule_of(alloc, plan.actions())?;
         Ok(World {
             plan,
@@ -177,6 +179,7 @@ impl<T: RouteTable> World<T> {
     /// nothing.
     pub fn transcript(&self) -> &[Entry]
         ensures value { result.now ≡ self.now.wires.cabling.lines }
+        ensures lived { IsWorld self.now }
     {
         self.wires.transcript()
     }
@@ -197,17 +200,19 @@ impl<T: RouteTable> World<T> {
 
     /// The node of a number, from 1. Allocates nothing.
     pub fn node(&self, number: u16) -> Option<&EndNode>
-        ensures { option_copied result ≡ node_at self.now number }
+        ensures value { option_copied result ≡ node_at self.now number }
+        ensures lived { IsWorld self.now }
     {
+        let stations = self.stations.as_slice();
         if number == 0 {
             return None;
         }
-        node_by(self.stations.as_slice(), self.station_of(number))
+        node_by(stations, self.station_of(number))
     }
 
     /// Takes the datagrams that a node has received since they were last taken, at most 64, oldest
-    /// first; none where there is no node of this number, from 1. Error: `Memory`, which taking them
-    /// never needs.
+    /// first; none where there is no node of this number, from 1. Error: `Memory`, which taking
+    /// them never needs.
     pub fn received(&mut self, number: u16) -> Result<Vec<Datagram>, Error>
         ensures taken { IfOk result
             (λ datagrams. datagrams.items ≡ received_by (node_at self.old number)) }
@@ -230,11 +235,11 @@ impl<T: RouteTable> World<T> {
         self.refused.as_slice()
     }
 
-    /// The image of the tables as they stand. An address that isn't settled is 0.0. Error: `Memory`.
+    /// The image of the tables as they stand. An address that isn't settled is 0.0. Error:
+    /// `Memory`.
     pub fn freeze(&self) -> Result<Image, Error>
         ensures ok { IfOk result (λ image. image ≡ frozen_image self.now) }
-        ensures refused { IfErr result (λ e. e ≢ Error.Memory
-            → IsValue image_spelling (frozen_image self.now) → ⊥) }
+        ensures refused { IsOkUnless result Error.Memory }
     {
         image_of(self.alloc, &self.plan, self.stations.as_slice())
     }

@@ -1,7 +1,12 @@
-use Rattle.std.proofs.Common.{◌≡◌, ◌∙◌, arith, length, refl, slice_get, Some}
+use Rattle.std.proofs.Common.{◌∙◌, arith, length, refl}
 use Rattle.std.proofs.lemmas.Option.{slice_get_read}
+use Rattle.world.proofs.Going.{goes_none, goes_on_then, goes_then}
+use Rattle.world.proofs.Received.{got_stays}
 use Rattle.world.proofs.Stations.{length_set, ports_set}
 use Rattle.world.proofs.passing.pass_all.Goals as goal
+
+pub loop-index-init : goal.loop-index-init
+loop-index-init g c = (refl, refl, refl, goes_none _, omega arith)
 
 pub returns-in-Err-clause-ports : goal.returns-in-Err-clause-ports
 returns-in-Err-clause-ports g c =
@@ -10,9 +15,26 @@ returns-in-Err-clause-ports g c =
     let old = c.index_mut-station.result.now in
     let test = c.loop-index-test.true in
     let len = c.len-index-end.ensures in
-    let same = c.loop-index.invariant.1 in
+    let same = c.loop-index.invariant.2 in
     let at = slice_get_read ms (length ms) k old refl (omega (arith, test, len, same)) c.index_mut-station.ensures.value in
     ports_set ms k old c.pass.new.station at c.pass.ensures.ports ∙ c.loop-index.invariant.0
+
+pub returns-in-Err-clause-got : goal.returns-in-Err-clause-got
+returns-in-Err-clause-got g c =
+    let ms = c.loop-index.stations.items in
+    let k = c.loop-index.index in
+    let old = c.index_mut-station.result.now in
+    let test = c.loop-index-test.true in
+    let len = c.len-index-end.ensures in
+    let same = c.loop-index.invariant.2 in
+    let at = slice_get_read ms (length ms) k old refl (omega (arith, test, len, same)) c.index_mut-station.ensures.value in
+    got_stays ms k old c.pass.new.station at c.pass.ensures.got ∙ c.loop-index.invariant.1
+
+pub returns-in-Err-clause-goes : goal.returns-in-Err-clause-goes
+returns-in-Err-clause-goes g c = goes_then 0 _ _ _ c.loop-index.invariant.3 c.pass.ensures.goes
+
+pub returns-clause-goes : goal.returns-clause-goes
+returns-clause-goes g c = c.loop-index.invariant.3.goes
 
 pub loop-index-preserved : goal.loop-index-preserved
 loop-index-preserved g c =
@@ -21,12 +43,13 @@ loop-index-preserved g c =
     let old = c.index_mut-station.result.now in
     let test = c.loop-index-test.true in
     let len = c.len-index-end.ensures in
-    let same = c.loop-index.invariant.1 in
+    let same = c.loop-index.invariant.2 in
     let at = slice_get_read ms (length ms) k old refl (omega (arith, test, len, same)) c.index_mut-station.ensures.value in
-    let few = c.loop-index.invariant.3 in
+    let few = c.loop-index.invariant.4 in
     let more = c.ports_at-seat.ensures in (
       ports_set ms k old c.pass.new.station at c.pass.ensures.ports ∙ c.loop-index.invariant.0,
+      got_stays ms k old c.pass.new.station at c.pass.ensures.got ∙ c.loop-index.invariant.1,
       length_set ms k c.pass.new.station ∙ same,
-      c.pass.ensures.seats ∙ c.loop-index.invariant.2,
+      goes_on_then 0 _ _ _ c.loop-index.invariant.3 0 0 (omega arith) c.in-Ok.ensures.done,
       omega (arith, few, more),
     )

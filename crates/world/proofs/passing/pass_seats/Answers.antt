@@ -1,8 +1,25 @@
-use Rattle.std.proofs.Common.{◌∙◌}
+use Rattle.std.proofs.Common.{◌∙◌, arith, refl}
+use Rattle.world.proofs.Going.{goes_none, goes_on_then, goes_then}
 use Rattle.world.proofs.passing.pass_seats.Goals as goal
+
+pub loop-port-init : goal.loop-port-init
+loop-port-init g c = (refl, refl, goes_none _)
+
+pub loop-port-preserved : goal.loop-port-preserved
+loop-port-preserved g c = (
+  c.pass_seat.ensures.ports ∙ c.loop-port.invariant.0,
+  c.pass_seat.ensures.got ∙ c.loop-port.invariant.1,
+  goes_on_then 0 _ _ _ c.loop-port.invariant.2 0 0 (omega arith) c.in-Ok.ensures.done,
+)
 
 pub returns-in-Err-clause-ports : goal.returns-in-Err-clause-ports
 returns-in-Err-clause-ports g c = c.pass_seat.ensures.ports ∙ c.loop-port.invariant.0
 
-pub returns-in-Err-clause-seats : goal.returns-in-Err-clause-seats
-returns-in-Err-clause-seats g c = c.pass_seat.ensures.seats ∙ c.loop-port.invariant.1
+pub returns-in-Err-clause-got : goal.returns-in-Err-clause-got
+returns-in-Err-clause-got g c = c.pass_seat.ensures.got ∙ c.loop-port.invariant.1
+
+pub returns-in-Err-clause-goes : goal.returns-in-Err-clause-goes
+returns-in-Err-clause-goes g c = goes_then 0 _ _ _ c.loop-port.invariant.2 c.pass_seat.ensures.goes
+
+pub returns-clause-goes : goal.returns-clause-goes
+returns-clause-goes g c = c.loop-port.invariant.2.goes

@@ -1,21 +1,49 @@
-use Rattle.std.proofs.Common.{◌∙◌, map, subst, sym}
-use Rattle.world.specs.Keeping.{AreSeated}
-use Rattle.world.specs.Worlds.{ports_of}
+use Rattle.std.proofs.Common.{◌+◌, ◌∙◌, arith, inl, map, refl, subst, sym}
+use Rattle.cable_model.specs.Transcript.{one}
+use Rattle.planned_stations.specs.Planning.{AreSeated, ports_of}
+use Rattle.world.proofs.Going.{goes_none, goes_on_then, goes_then}
+use Rattle.world.specs.Going.{GoesOn}
 use Rattle.world.proofs.taking.take_all.Goals as goal
+
+pub loop-step-init : goal.loop-step-init
+loop-step-init g c = (refl, goes_none _, λ h. h)
 
 pub take_first-requires : goal.take_first-requires
 take_first-requires g c =
-    subst (λ s. AreSeated s (map ports_of c.loop-step.stations.items)) (sym c.loop-step.invariant.1)
+    subst (λ s. AreSeated s (map ports_of c.loop-step.stations.items)) (sym c.loop-step.invariant.1.goes.seats)
     (subst (AreSeated c.args.wires.now.cabling.seats) (sym c.loop-step.invariant.0) c.requires)
+
+pub loop-step-preserved : goal.loop-step-preserved
+loop-step-preserved g c = (
+  c.take_first.ensures.ports ∙ c.loop-step.invariant.0,
+  goes_on_then c.loop-step._step _ _ _ c.loop-step.invariant.1 1 (c.loop-step._step + 1) refl
+      (subst (λ b. GoesOn (one b) c.loop-step.wires c.take_first.new.wires) c.in-Ok-true.field-0-test c.in-Ok-true.ensures.took),
+  λ h. c.take_first.ensures.received (c.loop-step.invariant.2 h),
+)
 
 pub returns-in-Ok-false-clause-ports : goal.returns-in-Ok-false-clause-ports
 returns-in-Ok-false-clause-ports g c = c.take_first.ensures.ports ∙ c.loop-step.invariant.0
 
-pub returns-in-Ok-false-clause-seats : goal.returns-in-Ok-false-clause-seats
-returns-in-Ok-false-clause-seats g c = c.take_first.ensures.seats ∙ c.loop-step.invariant.1
+pub returns-in-Ok-false-clause-goes : goal.returns-in-Ok-false-clause-goes
+returns-in-Ok-false-clause-goes g c = goes_then c.loop-step._step _ _ _ c.loop-step.invariant.1 c.take_first.ensures.goes
+
+pub returns-in-Ok-false-clause-done : goal.returns-in-Ok-false-clause-done
+returns-in-Ok-false-clause-done g c = record {
+  taken = c.loop-step._step;
+  goes_on =
+      goes_on_then c.loop-step._step _ _ _ c.loop-step.invariant.1 0 c.loop-step._step (omega arith)
+      (subst (λ b. GoesOn (one b) c.loop-step.wires c.take_first.new.wires) c.in-Ok-false.field-0-test c.in-Ok-false.ensures.took);
+  ended = inl (c.in-Ok-false.ensures.none c.in-Ok-false.field-0-test);
+}
+
+pub returns-in-Ok-false-clause-received : goal.returns-in-Ok-false-clause-received
+returns-in-Ok-false-clause-received g c = λ h. c.take_first.ensures.received (c.loop-step.invariant.2 h)
 
 pub returns-in-Err-clause-ports : goal.returns-in-Err-clause-ports
 returns-in-Err-clause-ports g c = c.take_first.ensures.ports ∙ c.loop-step.invariant.0
 
-pub returns-in-Err-clause-seats : goal.returns-in-Err-clause-seats
-returns-in-Err-clause-seats g c = c.take_first.ensures.seats ∙ c.loop-step.invariant.1
+pub returns-in-Err-clause-goes : goal.returns-in-Err-clause-goes
+returns-in-Err-clause-goes g c = goes_then c.loop-step._step _ _ _ c.loop-step.invariant.1 c.take_first.ensures.goes
+
+pub returns-in-Err-clause-received : goal.returns-in-Err-clause-received
+returns-in-Err-clause-received g c = λ h. c.take_first.ensures.received (c.loop-step.invariant.2 h)

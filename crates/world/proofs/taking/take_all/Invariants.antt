@@ -1,8 +1,13 @@
 use Rattle.std.proofs.Common.{◌≡◌, map}
-use Rattle.world.specs.Worlds.{ports_of}
+use Rattle.live_cables.specs.Living.{happened}
+use Rattle.planned_stations.specs.Planning.{ports_of}
+use Rattle.world.specs.Going.{GoesOn}
+use Rattle.world.specs.Received.{AreReceived, got}
 use Rattle.world.proofs.taking.take_all.Given as goal
 
+-- a frame was taken in each step
 abbrev pub invariant-loop-step : goal.invariant-loop-step
 invariant-loop-step g l =
-    (map ports_of l.stations.items ≡ map ports_of l.initial.stations.items)
-    × (l.wires.cabling.seats ≡ l.initial.wires.cabling.seats)
+    (map ports_of l.stations.items ≡ map ports_of l.initial.stations.items) × GoesOn l._step l.initial.wires l.wires
+    × (AreReceived (happened l.initial.wires) (map got l.initial.stations.items)
+    → AreReceived (happened l.wires) (map got l.stations.items))

@@ -1,8 +1,9 @@
-use Rattle.std.proofs.Common.{◌≡◌, ◌⊎◌, ◌<◌, IfErr, length, map, subst}
+use Rattle.std.proofs.Common.{◌≡◌, ◌⊎◌, ◌<◌, IfErr, map, subst}
 use Rattle.at_base.specs.declared.error.Error.TheVariants.{Full, Memory}
 use Rattle.live_cables.specs.Living.{happened}
+use Rattle.world.proofs.Going.{goes_none}
 use Rattle.world.proofs.Stations.{least_named, least_within, length_ports, was_pending}
-use Rattle.world.specs.Worlds.{ports_of}
+use Rattle.planned_stations.specs.Planning.{ports_of}
 use Rattle.world.proofs.taking.take_first.Goals as goal
 
 pub take-requires-clause-there : goal.take-requires-clause-there
@@ -18,3 +19,6 @@ returns-in-Err-clause-refused g c =
     subst (λ r. IfErr r (λ e. (e ≡ Full) ⊎ (e ≡ Memory))) c.in-Err.is
     (was_pending c.take.result _ (least_named w.cabling.seats (happened w) c.in-Some.stamp c.in-Some.station c.in-Some.ensures.some)
     c.take.ensures.not_pending c.take.ensures.refused)
+
+pub returns-in-None-clause-took : goal.returns-in-None-clause-took
+returns-in-None-clause-took g c = goes_none _

@@ -1,6 +1,6 @@
 use Rattle.std.proofs.Common.{subst, sym}
 use Rattle.cable_model.specs.Books.{HasOneSeat}
-use Rattle.world.proofs.Seated.{plan_one}
+use Rattle.planned_stations.proofs.Seated.{plan_one}
 use Rattle.world.proofs.world.wires_by.Goals as goal
 
 pub new-requires : goal.new-requires

@@ -1,11 +1,45 @@
-use Rattle.std.proofs.Common.{map, subst, sym}
-use Rattle.live_cables.specs.Living.{Wires}
-use Rattle.world.proofs.Stations.{laid_seated}
-use Rattle.world.specs.Keeping.{AreSeated}
-use Rattle.world.specs.Worlds.{ports_of}
+use Rattle.std.proofs.Common.{◌∙◌, ap, map, refl, subst, sym}
+use Rattle.std.specs.Prelude.{OnOk}
+use Rattle.std.proofs.lemmas.Result.{on_ok_weaker}
+use Rattle.live_cables.specs.Living.{Wires, happened}
+use Rattle.planned_stations.specs.Planning.{AreSeated, ports_of}
+use Rattle.world.proofs.Stations.{laid_after, laid_seated}
+use Rattle.world.proofs.Ticked.{due_ticks, ticks_ends, ticks_goes}
+use Rattle.world.specs.Received.{AreReceived, got}
+use Rattle.world.specs.Worlds.{Ticks, TicksOn, Worldly}
 use Rattle.world.proofs.world.World.play.Goals as goal
 
-pub play-requires-clause-seated : goal.play-requires-clause-seated
-play-requires-clause-seated g c =
+pub play-played-requires-clause-seated : goal.play-played-requires-clause-seated
+play-played-requires-clause-seated g c =
     subst (λ (w : Wires). AreSeated w.cabling.seats (map ports_of c.self.inside.stations.items)) (sym c.set_losing.ensures)
     (laid_seated _ c.self.invariant)
+
+pub invariant_of-self : goal.invariant_of-self
+invariant_of-self g c =
+    let old = c.self.inside in
+    let new = c.play-played.new.wires in
+    laid_after _ _ c.self.invariant refl c.play-played.ensures.ports
+    (c.play-played.ensures.goes.seats ∙ ap (λ (w : Wires). w.cabling.seats) c.set_losing.ensures) c.self.invariant.few
+    (due_ticks old.plan old.passed old.wires new
+    (ticks_goes old.plan old.passed old.wires new c.in-Ok.losing.items c.in-Ok.ensures.losing c.self.invariant.seats
+    c.recall_numbered.ensures c.set_losing.new.self c.set_losing.ensures c.play-played.ensures.goes)
+    c.self.invariant.due)
+    (c.play-played.ensures.received
+    (subst (λ (w : Wires). AreReceived (happened w) (map got old.stations.items)) (sym c.set_losing.ensures) c.self.invariant.received))
+
+pub returns-clause-ticks : goal.returns-clause-ticks
+returns-clause-ticks g c =
+    let old = c.self.inside in
+    let new = c.play-played.new.wires in
+    subst (λ (w : Worldly). Ticks w.plan w.now w.wires new) c.self.view_is
+    (ticks_goes old.plan old.passed old.wires new c.in-Ok.losing.items c.in-Ok.ensures.losing c.self.invariant.seats
+    c.recall_numbered.ensures c.set_losing.new.self c.set_losing.ensures c.play-played.ensures.goes)
+
+pub returns-clause-ticks_on : goal.returns-clause-ticks_on
+returns-clause-ticks_on g c =
+    let old = c.self.inside in
+    let new = c.play-played.new.wires in
+    subst (λ (w : Worldly). OnOk c.play-played.result (TicksOn w.plan w.now w.wires new)) c.self.view_is
+    (on_ok_weaker c.play-played.result
+    (λ d. ticks_ends old.plan old.passed old.wires new c.in-Ok.losing.items c.in-Ok.ensures.losing c.self.invariant.seats
+    c.recall_numbered.ensures c.set_losing.new.self c.set_losing.ensures d) c.play-played.ensures.done)

@@ -1,0 +1,95 @@
+-- The stations of a plan as they begin. This project's own.
+use Rattle.std.specs.Prelude.{◌≡◌, ℕ, Bool, true, false, not, List, [], ◌∷◌, ◌++◌, Option, Some, None, fold, map}
+use Rattle.std.specs.List.{list_all, list_any}
+use Rattle.aarp.specs.Choosing.{Choice, begun}
+use Rattle.at_base.specs.Range.{Span, overlaps}
+use Rattle.atp.specs.Requesting.{known}
+use Rattle.image_stations.specs.declared.member.Member.{Member}
+use Rattle.image_stations.specs.declared.member.Member.TheVariants as member
+use Rattle.internet_file.specs.Files.{Planned}
+use Rattle.internet_file.specs.Stations.{cable_at}
+use Rattle.internet_file.specs.declared.cable.Cable.{Cable}
+use Rattle.internet_file.specs.declared.node.Node.{Node}
+use Rattle.internet_file.specs.declared.port.Port.{Port}
+use Rattle.internet_file.specs.declared.router.Router.{Router}
+use Rattle.live_node.specs.Living.{LivingNode}
+use Rattle.live_router.specs.Living.{Living}
+use Rattle.zip_zones.specs.Zones.{Known, set_list, with_known}
+
+-- ---- Routers
+
+-- the range of a cable, if there is one
+abbrev pub range_of : Option Cable → Span
+range_of None = record { start = 0; end = 0 }
+range_of (Some c) = c.range
+
+-- a port that has yet to choose its address
+abbrev pub port_begun : List Cable → Port → Choice
+port_begun cables p = begun (range_of (cable_at cables p.cable)) p.tries p.hardware
+
+-- a zone table with the complete list of a cable, if there is one
+abbrev pub with_cable : List Known → Option Cable → List Known
+with_cable table None = table
+with_cable table (Some c) = with_known (set_list c.range c.zones) table
+
+-- a zone table with the complete lists of the cables of ports
+abbrev pub with_cables : List Cable → List Known → List Port → List Known
+with_cables cables table ports = fold (λ t p. with_cable t (cable_at cables p.cable)) table ports
+
+-- a router that begins: it has no routes, and the complete lists of its ports' cables
+abbrev pub router_begun : List Cable → Router → Living
+router_begun cables r = record {
+  router = record {
+    ports = map (port_begun cables) r.port;
+    routes = [];
+    zones = with_cables cables [] r.port;
+    requests = [];
+  };
+  phase = 0;
+}
+
+-- ---- Nodes
+
+-- A node that begins: it has its zone and its names, no router, and has received and asked nothing.
+pub record IsNodeBegun (cables : List Cable) (n : Node) (l : LivingNode) : Type 0 where
+  pub is : l ≡ record {
+    node = record {
+      port = begun (range_of (cable_at cables n.cable)) n.tries n.hardware;
+      zone = n.zone;
+      router = None;
+      names = n.name;
+      received = [];
+      asks = l.node.asks;
+    };
+    silence = 0;
+    asked = 0;
+    wait = 0;
+    answered = false;
+  }
+  pub none : (id : ℕ) → known id l.node.asks.slots ≡ None
+
+-- each of the nodes begins, as planned
+abbrev pub AreNodesBegun : List Cable → List Node → List LivingNode → Type 0
+AreNodesBegun cables [] [] = Unit {0}
+AreNodesBegun cables (n ∷ ns) (l ∷ ls) = IsNodeBegun cables n l × AreNodesBegun cables ns ls
+AreNodesBegun cables [] (l ∷ ls) = ⊥
+AreNodesBegun cables (n ∷ ns) [] = ⊥
+
+-- ---- All stations
+
+-- Stations as a plan's begin: the routers, then the nodes, in its order.
+pub record AreBegun (p : Planned) (stations : List (Member Living LivingNode)) : Type 0 where
+  pub nodes : List LivingNode
+  pub are : stations ≡ map (λ r. member.Router (router_begun p.cables r)) p.routers ++ map member.Node nodes
+  pub each : AreNodesBegun p.cables p.nodes nodes
+
+-- ---- Which lists a table takes
+
+-- no list of the table is of a network of the cable
+abbrev pub is_free : List Known → Option Cable → Bool
+is_free table None = true
+is_free table (Some c) = not (list_any (λ k. overlaps k.range c.range) table)
+
+-- the same of the cables of ports
+abbrev pub are_free : List Cable → List Known → List Port → Bool
+are_free cables table ports = list_all (λ p. is_free table (cable_at cables p.cable)) ports

@@ -1,0 +1,3 @@
+pub mod Seating
+pub mod Planning
+pub mod Beginning

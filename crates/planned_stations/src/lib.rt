@@ -1,0 +1,8 @@
+//! The stations that a file plans, before anything has happened, and their seats on its cables.
+#![tactic(auto)]
+
+mod plans;
+mod seats;
+
+pub use plans::stations_of;
+pub use seats::{nodes_in, ranges_of, routers_in, seats_of};

@@ -1,0 +1,148 @@
+-- Steps of a tick, one after another.
+use Rattle.std.proofs.Common.{◌≡◌, ℕ, ◌+◌, Bool, not, cond, IsTrue, List, [], ◌∷◌, ◌++◌, refl, sym, ap, ◌∙◌, subst, arith}
+use Rattle.std.proofs.Common.{append-nil, append_assoc}
+use Rattle.std.specs.List.{list_all, list_any}
+use Rattle.cable_model.proofs.Counting.{count-append}
+use Rattle.cable_model.specs.Pending.{Pair, pending}
+use Rattle.cable_model.specs.Transcript.{AreNumbered, Entry, Sent, Put, Took, Reached, Dropped, Lost}
+use Rattle.cable_model.specs.declared.seat.Seat.{Seat}
+use Rattle.live_cables.proofs.Pending.{numbered_front}
+use Rattle.live_cables.proofs.Played.{lost_then, nothing_lost, nothing_played, played_then}
+use Rattle.live_cables.specs.Living.{Plays, PlaysOn, Wires, happened, loses}
+use Rattle.live_cables.specs.Playing.{IsPlayed, are_lost, is_in, is_took, losses, may_be}
+use Rattle.live_cables.specs.Steps.{loses_by}
+use Rattle.world.specs.Going.{Ends, Goes, GoesOn}
+
+pub goes_none : (w : Wires) → GoesOn 0 w w
+goes_none w = record {
+  goes = record {
+    added = [];
+    grown = sym (append-nil (happened w));
+    seats = refl;
+    losing = refl;
+    played = λ n. nothing_played w.cabling.seats (loses w) (happened w);
+  };
+  takes = refl;
+  lost = λ n. nothing_lost w.cabling.seats (loses w) (happened w);
+}
+
+pub goes_nowhere : (w : Wires) → Goes w w
+goes_nowhere w = (goes_none w).goes
+
+pub goes_plays : (old new : Wires) → Plays old new → Goes old new
+goes_plays old new x = record {
+  added = x.added;
+  grown = x.grown;
+  seats = x.seats;
+  losing = x.losing;
+  played = λ n. x.played;
+}
+
+pub goes_plays_on : (taken : ℕ) (old new : Wires) → PlaysOn taken old new → GoesOn taken old new
+unfolding goes_plays
+goes_plays_on taken old new x = record {
+  goes = goes_plays old new x.plays;
+  takes = x.takes;
+  lost = λ n. x.lost;
+}
+
+-- ---- Two steps
+
+module _ (taken : ℕ) (a b c : Wires) (x : GoesOn taken a b) where
+  module _ (y : Goes b c) where
+    joined : happened c ≡ (happened a ++ x.goes.added) ++ y.added
+    joined = y.grown ∙ ap (λ l. l ++ y.added) x.goes.grown
+
+    first : AreNumbered 0 (happened c) → AreNumbered 0 (happened b)
+    first n = numbered_front 0 (happened b) y.added (subst (AreNumbered 0) y.grown n)
+
+    later : AreNumbered 0 (happened c) → IsPlayed a.cabling.seats (loses a) (happened a ++ x.goes.added) y.added
+    later n =
+        subst (λ s. IsPlayed s (loses a) (happened a ++ x.goes.added) y.added) x.goes.seats
+        (subst (λ l. IsPlayed b.cabling.seats (loses_by l) (happened a ++ x.goes.added) y.added) x.goes.losing
+        (subst (λ t. IsPlayed b.cabling.seats (loses b) t y.added) x.goes.grown (y.played n)))
+
+    pub goes_then : Goes a c
+    goes_then = record {
+      added = x.goes.added ++ y.added;
+      grown = joined ∙ append_assoc (happened a) x.goes.added y.added;
+      seats = y.seats ∙ x.goes.seats;
+      losing = y.losing ∙ x.goes.losing;
+      played =
+          λ n. played_then a.cabling.seats (loses a) (happened a) x.goes.added y.added (subst (AreNumbered 0) joined n)
+          (x.goes.played (first n)) (x.lost (first n)) (later n);
+    }
+
+  pub goes_on_then : (more sum : ℕ) → sum ≡ taken + more → GoesOn more b c → GoesOn sum a c
+  unfolding goes_then
+  goes_on_then more sum is y =
+      let counts = count-append is_took x.goes.added y.goes.added in
+      let before = x.takes in
+      let after = y.takes in
+      record {
+        goes = goes_then y.goes;
+        takes = omega (arith, counts, before, after, is);
+        lost =
+            λ n. lost_then a.cabling.seats (loses a) (happened a) x.goes.added y.goes.added (subst (AreNumbered 0) (joined y.goes) n)
+            (x.lost (first y.goes n))
+            (subst (λ s. IsTrue (are_lost s (loses a) (happened a ++ x.goes.added) y.goes.added)) x.goes.seats
+            (subst (λ l. IsTrue (are_lost b.cabling.seats (loses_by l) (happened a ++ x.goes.added) y.goes.added)) x.goes.losing
+            (subst (λ t. IsTrue (are_lost b.cabling.seats (loses b) t y.goes.added)) x.goes.grown (y.lost n))));
+      }
+
+  pub ends_then : (most : ℕ) → taken ≡ 0 → Ends most b c → Ends most a c
+  ends_then most none y = record {
+    taken = y.taken;
+    goes_on = goes_on_then y.taken y.taken (omega (arith, none)) y.goes_on;
+    ended = y.ended;
+  }
+
+-- ---- Addresses that settle
+
+-- what goes on after addresses have settled went on from before
+module _ (old mid new : Wires) (settled : mid ≡ record old { own = mid.own }) where
+  pub goes_settled : Goes mid new → Goes old new
+  goes_settled x = by (subst (λ w. Goes w new) settled x)
+    where
+      by : Goes (record old { own = mid.own }) new → Goes old new
+      by y = record { added = y.added; grown = y.grown; seats = y.seats; losing = y.losing; played = y.played }
+
+  pub goes_on_settled : (taken : ℕ) → GoesOn taken mid new → GoesOn taken old new
+  goes_on_settled taken x = by (subst (λ w. GoesOn taken w new) settled x)
+    where
+      by : GoesOn taken (record old { own = mid.own }) new → GoesOn taken old new
+      by y = record {
+        goes = record {
+          added = y.goes.added;
+          grown = y.goes.grown;
+          seats = y.goes.seats;
+          losing = y.goes.losing;
+          played = y.goes.played;
+        };
+        takes = y.takes;
+        lost = y.lost;
+      }
+
+-- ---- The same cables lose
+
+module _ (f g : ℕ → Bool) (same : (cable : ℕ) → f cable ≡ g cable) where
+  losses_same : (es : List Entry) → losses f es ≡ losses g es
+  losses_same [] = refl
+  losses_same (Sent s x ∷ es) = losses_same es
+  losses_same (Took p s ∷ es) = losses_same es
+  losses_same (Reached c s w x ∷ es) = losses_same es
+  losses_same (Dropped r c x ∷ es) = losses_same es
+  losses_same (Lost p ∷ es) = losses_same es
+  losses_same (Put frame ∷ es) =
+      ap (λ b. cond b (frame.stamp ∷ losses f es) (losses f es)) (same frame.cable)
+      ∙ ap (λ l. cond (g frame.cable) (frame.stamp ∷ l) l) (losses_same es)
+
+  pub played_same : (seats : List Seat) (t es : List Entry) → IsPlayed seats f t es → IsPlayed seats g t es
+  played_same seats t es x = record {
+    due = x.due;
+    each = subst (λ l. IsTrue (list_all (may_be l) es)) (losses_same es) x.each;
+  }
+
+  pub lost_same : (seats : List Seat) (t es : List Entry) → IsTrue (are_lost seats f t es) → IsTrue (are_lost seats g t es)
+  lost_same seats t es =
+      subst (λ l. IsTrue (not (list_any (λ (p : Pair). is_in l p.frame.stamp) (pending seats (t ++ es))))) (losses_same es)

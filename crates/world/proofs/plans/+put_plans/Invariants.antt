@@ -1,5 +1,0 @@
-use Rattle.std.proofs.Common.{length}
-use Rattle.world.proofs.plans.+put_plans.Given as goal
-
-abbrev pub decreases-put_plans : goal.decreases-put_plans
-decreases-put_plans l = length l.ports.now
