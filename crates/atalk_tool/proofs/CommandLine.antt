@@ -1,16 +1,14 @@
 -- What a parse gives of arguments that are written out.
-use Rattle.std.proofs.Common.{◌≡◌, ◌≤◌, ◌==◌, ◌&&◌, ℕ, Bool, not, false, Option, Some, List, [], ◌∷◌, None, true, length}
+use Rattle.std.proofs.Common.{◌≡◌, ◌≤◌, ◌&&◌, Bool, Option, Some, List, [], ◌∷◌, None, true, length}
 use Rattle.std.proofs.Common.{codes, slice_index_or, refl, ap, ap₂, subst, ◌∙◌, arith}
 use Rattle.clap.specs.Words.{Row, Shape, Text, built, first_of, is_simple, subcommand_of, takes, fault_of, is_simple_and_free}
-use Rattle.clap.specs.Walk.{Held, Step, Walk, value, idle, word_met, after_step, walked, walk_from, finished, nothing_held}
-use Rattle.clap.specs.Takes.{default_passes, is_valid, settle_passes, step_passes, walk_passes, word_passes}
-use Rattle.clap.specs.Lexer.{strip_byte, long_of, short_of}
-use Rattle.std.specs.Str.{bytes_eq}
-use Rattle.std.specs.List.{list_all}
+use Rattle.clap.specs.Walk.{Held, Step, Walk, value, walked, walk_from, nothing_held}
+use Rattle.clap.specs.Takes.{step_passes, walk_passes}
 use Rattle.clap.specs.declared.error.ErrorKind.TheVariants.{DisplayHelp, DisplayVersion}
 use Rattle.clap.proofs.OnLiterals.{clap_on_literals}
 use Rattle.atalk_tool.specs.Arguments.{Audits, IsMeant, Traces, atalk_app, audit_app, is_operand, trace_app}
 use Rattle.atalk_tool.specs.declared.arguments.Job.{Job}
+use Rattle.atalk_tool.proofs.Operands.{ends_well, met_in, met_value, passes_in, passes_value, rows_at_end, walk_by}
 
 -- the parse of the command is one that clap's specs compute
 pub simple : is_simple atalk_app ≡ true
@@ -50,54 +48,6 @@ version_short_asked name = refl
 pub version_asked : (name : Text) → fault_of atalk_app (name ∷ codes "--version" ∷ []) ≡ DisplayVersion ∷ []
 unfolding clap_on_literals
 version_asked name = refl
-
--- by the tests of a parse the argument is no flag, nor the end of flags
-abbrev IsNoFlag : Text → Type 0
-IsNoFlag word = (long_of word ≡ None) × (short_of word ≡ None) × (bytes_eq word (45 ∷ 45 ∷ []) ≡ false)
-
-no_flag_by_first : (b : ℕ) (text : Text) → (b == 45) ≡ false → IsNoFlag (b ∷ text)
-no_flag_by_first b text other = (rw (other, strip_byte) refl, rw (other, strip_byte) refl, rw (other, bytes_eq) refl)
-
-no_flag_of_one : (b : ℕ) (dash : Bool) → (b == 45) ≡ dash → IsNoFlag (b ∷ [])
-no_flag_of_one b true is = (rw (is, strip_byte) refl, rw (is, strip_byte) refl, rw (is, bytes_eq) refl)
-no_flag_of_one b false is = no_flag_by_first b [] is
-
-false_of_not : (b : Bool) → not b ≡ true → b ≡ false
-false_of_not true is = cc
-false_of_not false is = refl
-
-no_flag : (word : Text) → is_operand word ≡ true → IsNoFlag word
-no_flag [] operand = (refl, refl, refl)
-no_flag (b ∷ []) operand = no_flag_of_one b (b == 45) refl
-no_flag (b ∷ c ∷ text) operand = no_flag_by_first b (c ∷ text) (false_of_not (b == 45) operand)
-
--- what the next argument is to a command with no commands of its own
-abbrev met_in : Shape → ℕ → Held → Text → Held × Step
-met_in shape position held word = word_met shape.rules [] false idle position word held
-
--- the walk of a command after an argument that was met so
-abbrev walk_by : Shape → Walk → Text → Held × Step → Walk
-walk_by shape walk word met = after_step shape.rules word walk met.0 met.1
-
--- the argument passes, as far as that goes before it is met
-abbrev passes_in : Shape → Held → Text → Bool
-passes_in shape held word = word_passes shape [] false idle word held
-
-met_value : (shape : Shape) (position : ℕ) (held : Held) (word : Text) → is_operand word ≡ true
-    → met_in shape position held word ≡ (held, value)
-met_value shape position held word operand = let tests = no_flag word operand in rw (tests.0, tests.1, tests.2) refl
-
-passes_value : (shape : Shape) (held : Held) (word : Text) → is_operand word ≡ true → passes_in shape held word ≡ true
-passes_value shape held word operand = let tests = no_flag word operand in rw (tests.0, tests.1, tests.2) refl
-
--- a command's matches at the end of its walk
-abbrev rows_at_end : Shape → Walk → List Row
-rows_at_end shape end = finished shape.rules end.held
-
--- a command's walk ends well
-abbrev ends_well : Shape → Walk → Bool
-ends_well shape end = settle_passes shape.rules shape.args_override_self end.held
-    && (list_all default_passes shape.rules && is_valid shape (rows_at_end shape end) false)
 
 -- `audit`, as a parse has it
 abbrev audit_shape : Shape

@@ -1,2 +1,4 @@
 mod CommandLine
 pub mod Known
+mod Operands
+mod PlayLine

@@ -8,7 +8,7 @@ use Rattle.at_base.specs.declared.error.Error.TheVariants.{Memory, ReadFault, Wr
 use Rattle.atalk_tool.specs.Status.{status_of}
 use Rattle.atalk_tool.specs.declared.exit.Exit.{Exit}
 use Rattle.atalk_tool.specs.declared.exit.Outcome.{Outcome}
-use Rattle.atalk_tool.specs.declared.exit.Outcome.TheVariants.{NoArguments, NoJob, NotOpened, Answered}
+use Rattle.atalk_tool.specs.declared.exit.Outcome.TheVariants.{NoArguments, NoJob, NotOpened, NotCreated, Answered}
 
 -- the error, and its status
 abbrev pub refused : Error → Exit
@@ -29,5 +29,6 @@ exit_at (NoJob DisplayVersion true) = silent 0
 exit_at (NoJob DisplayVersion false) = refused WriteFault
 exit_at (NoJob kind printed) = silent 2
 exit_at (NotOpened kind) = refused ReadFault
+exit_at (NotCreated kind) = refused WriteFault
 exit_at (Answered (Ok verdict)) = silent (status_of (Ok verdict))
 exit_at (Answered (Err e)) = refused e

@@ -1,4 +1,3 @@
-pub mod Answer
 pub mod Arguments
 pub mod Exits
 pub mod Status

@@ -9,13 +9,15 @@ ghost use Rattle.table_image.specs.Spelling.{image_spelling};
 ghost use Rattle.table_image.specs.Reading.{IsFirstFlaw, refusal};
 ghost use Rattle.table_image.specs.declared.flaw.Flaw.{Flaw};
 ghost use Rattle.audit.specs.Verdicts.{Judges, verdict_line};
-ghost use Rattle.atalk_tool.specs.Answer.{is_yes};
+ghost use Rattle.audit.specs.declared.verdict.Verdict.{Verdict};
+ghost use Rattle.playing.specs.Answer.{is_yes};
 ghost use Rattle.atalk_tool.specs.declared.input.TheConstants.{READS};
 
 use crate::input::Input;
 use at_base::Error;
-use audit::{Verdict, audit_bytes};
+use audit::audit_bytes;
 use frozen_trace::Output;
+use playing::says_yes;
 use std::alloc::Global;
 use std::io::{Read, Write};
 
@@ -63,11 +65,4 @@ pub fn audit_file<R: Read, W: Write>(
     let line = verdict.line(alloc)?;
     output.write_line(line.as_bytes())?;
     Ok(says_yes(&verdict))
-}
-
-/// Whether the verdict is a yes.
-fn says_yes(verdict: &Verdict) -> bool
-    ensures { result ≡ is_yes verdict.now }
-{
-    matches!(verdict, Verdict::Yes(_))
 }

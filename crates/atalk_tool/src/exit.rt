@@ -1,5 +1,5 @@
-//! How a run ends: all that can come of the arguments, of opening the file and of the audit, and
-//! the exit of each.
+//! How a run ends: all that can come of the arguments, of opening the files and of the job, and the
+//! exit of each.
 
 ghost use Rattle.std.specs.Prelude.{◌≡◌};
 ghost use Rattle.atalk_tool.specs.Exits.{exit_at, refused as refused_by};
@@ -18,7 +18,9 @@ pub enum Outcome {
     NoJob(ParseError, bool),
     /// The file couldn't be opened, by this error.
     NotOpened(ErrorKind),
-    /// The audit gave this answer.
+    /// The file for the image couldn't be created, by this error.
+    NotCreated(ErrorKind),
+    /// The audit, the trace or the play gave this answer.
     Answered(Result<bool, Error>),
 }
 
@@ -52,6 +54,7 @@ pub fn exit_of(outcome: &Outcome) -> Exit
         }
         Outcome::NoJob(_, _) => 2,
         Outcome::NotOpened(_) => return refused(Error::ReadFault),
+        Outcome::NotCreated(_) => return refused(Error::WriteFault),
         Outcome::Answered(Err(error)) => return refused(error),
         Outcome::Answered(Ok(yes)) => status(&Ok(yes)),
     };

@@ -4,25 +4,27 @@
 use crate::arguments::Source;
 use crate::exit::Outcome;
 use advice::{explain_bytes, explain_kind, explain_no};
-use at_base::Error;
+use at_base::{Error, Part};
 use std::io;
 use std::io::ErrorKind;
 
 /// What is known of a run besides its outcome.
 #[derive(Drop)]
 pub struct Evidence<'a> {
-    /// Where the image came from.
+    /// The input, or the file for the image, that the outcome is about.
     pub source: Option<Source<'a>>,
     /// Why a read failed.
     pub fault: Option<ErrorKind>,
-    /// The whole input.
+    /// The bytes of the image.
     pub bytes: Option<Vec<u8>>,
+    /// The file for the image, if it couldn't be written.
+    pub unwritten: Option<&'a str>,
 }
 
-/// Says that the image is read from the terminal.
-pub fn prompt(rt: &impl Eprint) {
+/// Says that the input is read from the terminal.
+pub fn prompt(rt: &impl Eprint, what: &str) {
     let _ = eprintln!(rt;
-        "atalk: reading an image from standard input; Ctrl-C ends it, and atalk --help has help"
+        "atalk: reading {what} from standard input; Ctrl-C ends it, and atalk --help has help"
     );
 }
 
@@ -47,6 +49,10 @@ fn explain_outcome(
             explain_source(rt, evidence)?;
             eprintln!(rt; "cannot be opened: {}", explain_kind(*kind))
         }
+        Outcome::NotCreated(kind) => {
+            explain_source(rt, evidence)?;
+            eprintln!(rt; "cannot be created: {}", explain_kind(*kind))
+        }
         Outcome::NoArguments(ErrorKind::OutOfMemory) => eprintln!(rt; "atalk: out of memory"),
         // Clap's text was printed, or that an argument is no text.
         Outcome::NoArguments(_) | Outcome::NoJob(_, _) => Ok(()),
@@ -58,6 +64,34 @@ fn explain_source(rt: &impl Eprint, evidence: &Evidence<'_>) -> io::Result<()> {
     match evidence.source {
         Some(Source::File(path)) => eprint!(rt; "atalk: {path:?} "),
         _ => eprint!(rt; "atalk: standard input "),
+    }
+}
+
+/// Where the fault of an internet file is.
+fn explain_entry(rt: &impl Eprint, part: Part, index: u32) -> io::Result<()> {
+    match part {
+        Part::Text => eprintln!(rt; "is no TOML text"),
+        Part::Top => eprintln!(rt;
+            "needs ticks, from 1 to 100000, and may have only the lists cable, router, node, \
+            lose and action beside it"
+        ),
+        part => eprintln!(rt;
+            "has a fault in {} {index}, counted from 1; man atalk-internet has the keys of each \
+            entry",
+            entry_name(part)
+        ),
+    }
+}
+
+/// The name of the list that a part is.
+fn entry_name(part: Part) -> &'static str {
+    match part {
+        Part::Cable => "cable",
+        Part::Router => "router",
+        Part::Node => "node",
+        Part::Lose => "lose",
+        Part::Action => "action",
+        Part::Text | Part::Top => "the file",
     }
 }
 
@@ -82,9 +116,17 @@ fn explain_error(
             explain_source(rt, evidence)?;
             eprintln!(rt; "has no event on line {line}; man atalk-script has their format")
         }
-        Error::WriteFault => eprintln!(rt;
-            "atalk: the answer cannot be written to standard output"
+        Error::BadFile(part, index) => {
+            explain_source(rt, evidence)?;
+            explain_entry(rt, *part, *index)
+        }
+        Error::Full => eprintln!(rt;
+            "atalk: more than 4000000 things happened in the play; plan fewer ticks or stations"
         ),
+        Error::WriteFault => match evidence.unwritten {
+            Some(path) => eprintln!(rt; "atalk: the image cannot be written to {path:?}"),
+            None => eprintln!(rt; "atalk: the answer cannot be written to standard output"),
+        },
         Error::Memory => eprintln!(rt; "atalk: out of memory"),
         _ => Ok(()),
     }

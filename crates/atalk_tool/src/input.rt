@@ -26,7 +26,7 @@ pub struct Input<R> {
     pub failed: bool,
     /// Why the last read that failed did so.
     pub fault: Option<ErrorKind>,
-    /// What was read to the end, for an explanation of the answer.
+    /// For an explanation of the answer: what was read to the end, or the image of a play.
     pub kept: Option<Vec<u8>>,
     ghost counted: { reads ≤ READS },
 }

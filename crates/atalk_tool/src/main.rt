@@ -1,4 +1,5 @@
-//! The program `atalk`: audits an image of an internet's tables, and runs scripts over it.
+//! The program `atalk`: audits an image of an internet's tables, runs scripts over it, and plays an
+//! internet file whose tables an image holds.
 #![tactic(auto)]
 
 mod arguments;
@@ -6,10 +7,14 @@ mod audit_file;
 mod exit;
 mod explain;
 mod input;
+mod performed;
+mod play_file;
 mod run;
 mod run_frozen;
+mod run_play;
 mod sources;
 mod status;
+mod watching;
 
 use run::{Terminals, run};
 use std::io::IsTerminal;

@@ -9,7 +9,9 @@ use crate::audit_file::audit_file;
 use crate::exit::{Outcome, exit_of};
 use crate::explain::{Evidence, explain, prompt};
 use crate::input;
+use crate::performed::Performed;
 use crate::run_frozen::run_frozen;
+use crate::run_play::{PlayJob, play_source};
 use at_base::Error;
 use clap::error::ErrorKind as ParseError;
 use frozen_trace::Output;
@@ -25,43 +27,6 @@ pub struct Terminals {
     pub input: bool,
     /// Standard error.
     pub errors: bool,
-}
-
-/// What came of a run, and what explains it.
-#[derive(Drop)]
-struct Performed<'a> {
-    outcome: Outcome,
-    evidence: Evidence<'a>,
-}
-
-impl<'a> Performed<'a> {
-    /// A run that got to no source of an image.
-    fn without_source(outcome: Outcome) -> Performed<'a>
-        ensures { result.outcome ≡ outcome }
-    {
-        Performed {
-            outcome,
-            evidence: Evidence {
-                source: None,
-                fault: None,
-                bytes: None,
-            },
-        }
-    }
-
-    /// A run that couldn't open a source.
-    fn not_opened(source: Source<'a>, kind: io::ErrorKind) -> Performed<'a>
-        ensures { result.outcome ≡ Outcome.NotOpened kind }
-    {
-        Performed {
-            outcome: Outcome::NotOpened(kind),
-            evidence: Evidence {
-                source: Some(source),
-                fault: None,
-                bytes: None,
-            },
-        }
-    }
 }
 
 /// Where the image and the script of a trace are read from.
@@ -92,6 +57,7 @@ fn audit_reader<'a, R: Print + AllocGlobal, S: Read + Drop>(
             source: Some(source),
             fault,
             bytes: kept,
+            unwritten: None,
         },
     }
 }
@@ -105,7 +71,7 @@ fn audit_source<'a, R: Files + Input + Print + Eprint + AllocGlobal>(
     match source {
         Source::StandardInput => {
             if terminals.input && terminals.errors {
-                prompt(rt);
+                prompt(rt, "an image");
             }
             audit_reader(rt, source, rt.reader())
         }
@@ -135,12 +101,14 @@ fn trace_readers<'a, R: Print + AllocGlobal, I: Read + Drop, S: Read + Drop>(
             source: Some(sources.script),
             fault: script.fault,
             bytes: None,
+            unwritten: None,
         }
     } else {
         Evidence {
             source: Some(sources.image),
             fault,
             bytes: kept,
+            unwritten: None,
         }
     };
     Performed {
@@ -235,6 +203,10 @@ fn run_arguments<R: Files + Input + Print + Eprint + AllocGlobal>(
         }
         Ok(Job::Trace(image, script)) => {
             let performed = trace_sources(rt, Sources { image, script });
+            answer(rt, &performed, terminals)
+        }
+        Ok(Job::Play(source, image)) => {
+            let performed = play_source(rt, PlayJob { source, image }, terminals);
             answer(rt, &performed, terminals)
         }
         Err(error) => answer(rt, &print_answer(rt, &error), terminals),

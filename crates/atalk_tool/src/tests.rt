@@ -5,6 +5,7 @@
 mod arguments;
 mod exits;
 mod fakes;
+mod plays;
 mod reading;
 mod tracing;
 

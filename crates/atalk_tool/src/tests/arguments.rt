@@ -51,6 +51,20 @@ fn arguments_ask_for_a_trace(rt: HostRuntime) {
     assert_asks_for(&rt, ["atalk", "trace", "a", "--", "-x"].as_slice(), dashed);
 }
 
+#[test]
+fn arguments_ask_for_a_play(rt: HostRuntime) {
+    let (a, piped) = (Source::File("a"), Source::StandardInput);
+    let silent = Job::Play(a, None);
+    assert_asks_for(&rt, ["atalk", "play", "a"].as_slice(), silent);
+    let to_b = Job::Play(a, Some("b"));
+    assert_asks_for(&rt, ["atalk", "play", "a", "--image", "b"].as_slice(), to_b);
+    assert_asks_for(&rt, ["atalk", "play", "--image", "b", "a"].as_slice(), to_b);
+    assert_asks_for(&rt, ["atalk", "play", "--image=b", "a"].as_slice(), to_b);
+    // A dash is standard input, and no standard output.
+    let both = Job::Play(piped, Some("-"));
+    assert_asks_for(&rt, ["atalk", "play", "-", "--image", "-"].as_slice(), both);
+}
+
 fn assert_asks_for_nothing<'a>(
     rt: &(impl Abort + AllocGlobal),
     arguments: &'a [&'a str],
@@ -66,11 +80,14 @@ fn other_arguments_ask_for_nothing(rt: HostRuntime) {
     assert_asks_for_nothing(&rt, ["atalk", "audit"].as_slice(), missing);
     assert_asks_for_nothing(&rt, ["atalk", "trace"].as_slice(), missing);
     assert_asks_for_nothing(&rt, ["atalk", "trace", "a"].as_slice(), missing);
+    assert_asks_for_nothing(&rt, ["atalk", "play"].as_slice(), missing);
+    assert_asks_for_nothing(&rt, ["atalk", "play", "--image", "b"].as_slice(), missing);
     let unknown = ParseError::UnknownArgument;
     assert_asks_for_nothing(&rt, ["atalk", "audit", "a", "b"].as_slice(), unknown);
     assert_asks_for_nothing(&rt, ["atalk", "audit", "-x"].as_slice(), unknown);
     assert_asks_for_nothing(&rt, ["atalk", "trace", "a", "b", "c"].as_slice(), unknown);
     assert_asks_for_nothing(&rt, ["atalk", "trace", "a", "-x"].as_slice(), unknown);
+    assert_asks_for_nothing(&rt, ["atalk", "play", "a", "b"].as_slice(), unknown);
     assert_asks_for_nothing(&rt, ["atalk", "--nonsense"].as_slice(), unknown);
     let invalid = ParseError::InvalidSubcommand;
     assert_asks_for_nothing(&rt, ["atalk", "nonsense"].as_slice(), invalid);
@@ -84,6 +101,7 @@ fn help_and_the_version_are_shown(rt: HostRuntime) {
     assert_asks_for_nothing(&rt, ["atalk", "--help"].as_slice(), help);
     assert_asks_for_nothing(&rt, ["atalk", "audit", "--help"].as_slice(), help);
     assert_asks_for_nothing(&rt, ["atalk", "trace", "--help"].as_slice(), help);
+    assert_asks_for_nothing(&rt, ["atalk", "play", "--help"].as_slice(), help);
     let version = ParseError::DisplayVersion;
     assert_asks_for_nothing(&rt, ["atalk", "--version"].as_slice(), version);
 }

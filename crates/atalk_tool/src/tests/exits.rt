@@ -60,12 +60,23 @@ fn each_outcome_has_its_exit(rt: HostRuntime) {
         (Outcome::NoJob(ParseError::UnknownArgument, false), 2, None),
         (Outcome::NotOpened(ErrorKind::NotFound), 3, Some(15)),
         (Outcome::NotOpened(ErrorKind::OutOfMemory), 3, Some(15)),
+        (
+            Outcome::NotCreated(ErrorKind::PermissionDenied),
+            3,
+            Some(16),
+        ),
         (Outcome::Answered(Ok(true)), 0, None),
         (Outcome::Answered(Ok(false)), 1, None),
         (
             Outcome::Answered(Err(Error::BadImage(0, Cause::Cut))),
             2,
             Some(12),
+        ),
+        (Outcome::Answered(Err(Error::Full)), 2, Some(11)),
+        (
+            Outcome::Answered(Err(Error::BadFile(Part::Cable, 1))),
+            2,
+            Some(13),
         ),
         (Outcome::Answered(Err(Error::Memory)), 3, Some(14)),
         (Outcome::Answered(Err(Error::ReadFault)), 3, Some(15)),

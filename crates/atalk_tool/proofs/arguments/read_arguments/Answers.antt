@@ -7,6 +7,7 @@ use Rattle.atalk_tool.specs.Arguments.{IsMeant, atalk_app}
 use Rattle.atalk_tool.proofs.CommandLine.{simple, simple_and_free, none_entered, none_taken}
 use Rattle.atalk_tool.proofs.CommandLine.{help_asked, help_short_asked, version_asked, version_short_asked}
 use Rattle.atalk_tool.proofs.CommandLine.{audit_meant, audit_taken, trace_meant, trace_taken}
+use Rattle.atalk_tool.proofs.PlayLine.{play_meant, play_taken, play_to_meant, play_to_taken}
 use Rattle.atalk_tool.proofs.arguments.read_arguments.Goals as goal
 
 -- where one kind may come, an error has it or memory ran out
@@ -94,6 +95,30 @@ returns-clause-trace g c = λ name image script named first second.
     let app = c.in_ok-atalk_command.ensures in
     let met = (c.in_ok-matches.ensures.matches (ap is_simple app ∙ simple)).1 ∙ ap₂ subcommand_of app named in
     trace_meant name image script c.job_of.result first second
+    (subst (λ (rows : Option (Text × List Row)). IsMeant rows c.job_of.result) met c.job_of.ensures.meant)
+
+pub returns-in_err-matches-clause-play_err : goal.returns-in_err-matches-clause-play_err
+returns-in_err-matches-clause-play_err g c = λ name file named operand.
+    let memory = c.in_err-matches.ensures.passes (ap₂ takes c.in_ok-atalk_command.ensures named ∙ play_taken name file operand) in
+    search rules
+
+pub returns-clause-play : goal.returns-clause-play
+returns-clause-play g c = λ name file named operand.
+    let app = c.in_ok-atalk_command.ensures in
+    let met = (c.in_ok-matches.ensures.matches (ap is_simple app ∙ simple)).1 ∙ ap₂ subcommand_of app named in
+    play_meant name file c.job_of.result operand
+    (subst (λ (rows : Option (Text × List Row)). IsMeant rows c.job_of.result) met c.job_of.ensures.meant)
+
+pub returns-in_err-matches-clause-play_to_err : goal.returns-in_err-matches-clause-play_to_err
+returns-in_err-matches-clause-play_to_err g c = λ name file out named first second.
+    let memory = c.in_err-matches.ensures.passes (ap₂ takes c.in_ok-atalk_command.ensures named ∙ play_to_taken name file out first second) in
+    search rules
+
+pub returns-clause-play_to : goal.returns-clause-play_to
+returns-clause-play_to g c = λ name file out named first second.
+    let app = c.in_ok-atalk_command.ensures in
+    let met = (c.in_ok-matches.ensures.matches (ap is_simple app ∙ simple)).1 ∙ ap₂ subcommand_of app named in
+    play_to_meant name file out c.job_of.result first second
     (subst (λ (rows : Option (Text × List Row)). IsMeant rows c.job_of.result) met c.job_of.ensures.meant)
 
 pub returns-in_err-matches-clause-help_short : goal.returns-in_err-matches-clause-help_short

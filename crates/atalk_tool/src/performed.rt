@@ -1,0 +1,61 @@
+//! What came of a run.
+
+ghost use Rattle.std.specs.Prelude.{◌≡◌};
+
+use crate::arguments::Source;
+use crate::exit::Outcome;
+use crate::explain::Evidence;
+use std::io;
+
+/// What came of a run, and what explains it.
+#[derive(Drop)]
+pub struct Performed<'a> {
+    pub outcome: Outcome,
+    pub evidence: Evidence<'a>,
+}
+
+impl<'a> Performed<'a> {
+    /// A run that got to no source of an image.
+    pub fn without_source(outcome: Outcome) -> Performed<'a>
+        ensures { result.outcome ≡ outcome }
+    {
+        Performed {
+            outcome,
+            evidence: Evidence {
+                source: None,
+                fault: None,
+                bytes: None,
+                unwritten: None,
+            },
+        }
+    }
+
+    /// A run that couldn't open a source.
+    pub fn not_opened(source: Source<'a>, kind: io::ErrorKind) -> Performed<'a>
+        ensures { result.outcome ≡ Outcome.NotOpened kind }
+    {
+        Performed {
+            outcome: Outcome::NotOpened(kind),
+            evidence: Evidence {
+                source: Some(source),
+                fault: None,
+                bytes: None,
+                unwritten: None,
+            },
+        }
+    }
+    /// A run that couldn't create the file for the image.
+    pub fn not_created(path: &'a str, kind: io::ErrorKind) -> Performed<'a>
+        ensures { result.outcome ≡ Outcome.NotCreated kind }
+    {
+        Performed {
+            outcome: Outcome::NotCreated(kind),
+            evidence: Evidence {
+                source: Some(Source::File(path)),
+                fault: None,
+                bytes: None,
+                unwritten: None,
+            },
+        }
+    }
+}

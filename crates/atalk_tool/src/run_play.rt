@@ -1,0 +1,91 @@
+//! Plays of internet files, from their sources to where their lines and images go.
+
+use crate::arguments::Source;
+use crate::exit::Outcome;
+use crate::explain::{Evidence, prompt};
+use crate::input;
+use crate::performed::Performed;
+use crate::play_file::play_bytes;
+use crate::run::Terminals;
+use crate::watching::Watching;
+use frozen_trace::Output;
+use std::fs::File;
+use std::io;
+use std::io::{Read, Write, writer};
+use std::rt::Files;
+
+/// What is played, and the file that the image goes to, if one is wanted.
+#[derive(Clone, Copy)]
+pub struct PlayJob<'a> {
+    pub source: Source<'a>,
+    pub image: Option<&'a str>,
+}
+
+/// Plays what the reader has, and prints its lines on standard output; the image goes to a writer.
+/// Where standard error is a terminal, it is said there how far a long play is.
+fn play_reader<'a, R: Print + Eprint + AllocGlobal, S: Read + Drop, I: Write + Drop>(
+    rt: &R,
+    job: PlayJob<'a>,
+    reader: S,
+    image: I,
+    terminals: Terminals,
+) -> Performed<'a> {
+    let mut input = input::Input::new(reader);
+    let mut output = Output::new(rt.alloc(), writer(rt));
+    let mut image = Output::new(rt.alloc(), image);
+    let mut watching = Watching::new(rt, terminals.errors);
+    let answer = play_bytes(
+        rt.alloc(),
+        &mut input,
+        &mut output,
+        &mut image,
+        &mut watching,
+    );
+    watching.end();
+    let input::Input { fault, kept, .. } = input;
+    Performed {
+        outcome: Outcome::Answered(answer),
+        evidence: Evidence {
+            source: Some(job.source),
+            fault,
+            bytes: kept,
+            unwritten: if image.failed { job.image } else { None },
+        },
+    }
+}
+
+/// Plays what the reader has. The file for the image is created before anything is read.
+fn play_into<'a, R: Files + Print + Eprint + AllocGlobal, S: Read + Drop>(
+    rt: &R,
+    job: PlayJob<'a>,
+    reader: S,
+    terminals: Terminals,
+) -> Performed<'a> {
+    match job.image {
+        None => play_reader(rt, job, reader, io::sink(), terminals),
+        Some(path) => match File::create(rt, path) {
+            Ok(file) => play_reader(rt, job, reader, file, terminals),
+            Err(error) => Performed::not_created(path, error.kind()),
+        },
+    }
+}
+
+/// Plays an internet file. That it is read from a terminal is said there.
+pub fn play_source<'a, R: Files + Input + Print + Eprint + AllocGlobal>(
+    rt: &R,
+    job: PlayJob<'a>,
+    terminals: Terminals,
+) -> Performed<'a> {
+    match job.source {
+        Source::StandardInput => {
+            if terminals.input && terminals.errors {
+                prompt(rt, "an internet file");
+            }
+            play_into(rt, job, rt.reader(), terminals)
+        }
+        Source::File(path) => match File::open(rt, path) {
+            Ok(file) => play_into(rt, job, file, terminals),
+            Err(error) => Performed::not_opened(job.source, error.kind()),
+        },
+    }
+}

@@ -1,0 +1,87 @@
+//! How far a long play is, for a person at a terminal.
+
+use playing::Progress;
+use rtmp::PlainTable;
+use table_image::{Cable, Image, Router};
+use world::World;
+
+/// Plays of more ticks than this are long.
+const LONG: u32 = 1_000;
+
+/// How many ticks pass from one line to the next.
+const EVERY: u32 = 256;
+
+/// Says on standard error how far a play is, if it is long and someone is watching.
+#[derive(Drop)]
+pub struct Watching<'a, R> {
+    rt: &'a R,
+    watched: bool,
+    // how many ticks have passed
+    passed: u32,
+    // whether there is a line to be cleared
+    shown: bool,
+}
+
+impl<'a, R: Eprint> Watching<'a, R> {
+    /// Says nothing yet.
+    pub fn new(rt: &'a R, watched: bool) -> Watching<'a, R> {
+        Watching {
+            rt,
+            watched,
+            passed: 0,
+            shown: false,
+        }
+    }
+
+    /// Clears the line.
+    pub fn end(&mut self) {
+        if self.shown {
+            let _ = eprint!(self.rt; "\r\x1B[K");
+            self.shown = false;
+        }
+    }
+
+    /// Says how far the play is.
+    fn show(&mut self, world: &World<PlainTable>) {
+        let ticks = world.plan().ticks();
+        let missing = match world.freeze() {
+            Ok(image) => missing_in(&image),
+            // Out of memory: the play will say so.
+            Err(_) => return,
+        };
+        let tick = self.passed;
+        let _ = eprint!(self.rt; "\r\x1B[Ktick {tick} of {ticks}, {missing} cables without routes");
+        self.shown = true;
+    }
+}
+
+impl<R: Eprint> Progress for Watching<'_, R> {
+    fn passed(&mut self, world: &World<PlainTable>) {
+        let ticks = world.plan().ticks();
+        self.passed = self.passed.saturating_add(1);
+        if self.passed >= ticks {
+            // The lines of the play follow, perhaps on the same terminal.
+            self.end();
+        } else if self.watched && ticks > LONG && self.passed % EVERY == 0 {
+            self.show(world);
+        }
+    }
+}
+
+/// Whether the router has a usable row for the cable.
+fn has_row(router: &Router, cable: &Cable) -> bool {
+    router.rows.iter().any(|row| {
+        row.start == cable.start && row.end == cable.end && row.state.is_usable()
+    })
+}
+
+/// How many cables there are for which some router has no usable row.
+fn missing_in(image: &Image) -> usize {
+    let mut missing = 0usize;
+    for cable in image.cables() {
+        if image.routers().iter().any(|router| !has_row(router, cable)) {
+            missing = missing.saturating_add(1);
+        }
+    }
+    missing
+}

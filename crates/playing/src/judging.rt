@@ -1,0 +1,49 @@
+//! The end of a play: the verdict on its tables, and their bytes.
+
+ghost use Rattle.std.specs.Prelude.{◌≡◌, ◌++◌, ◌∷◌, [], IfOk, IsOkUnless, OnOk};
+ghost use Rattle.at_base.specs.Spelling.{Spells};
+ghost use Rattle.audit.specs.Verdicts.{Judges, verdict_line};
+ghost use Rattle.playing.specs.Answer.{is_yes};
+ghost use Rattle.table_image.specs.Spelling.{image_spelling};
+
+use crate::playing::Played;
+use at_base::Error;
+use audit::{Verdict, audit};
+use std::alloc::Global;
+use table_image::{Image, write};
+
+/// Whether the verdict is a yes.
+pub fn says_yes(verdict: &Verdict) -> bool
+    ensures { result ≡ is_yes verdict.now }
+{
+    matches!(verdict, Verdict::Yes(_))
+}
+
+/// Appends the line of the verdict and an end of line. Error: `Memory`.
+fn put_verdict(alloc: Global, text: &mut Vec<u8>, verdict: &Verdict) -> Result<(), Error>
+    ensures ok { OnOk result
+        (text.new.items ≡ text.old.items ++ verdict_line verdict.now ++ 10 ∷ []) }
+    ensures refused { IsOkUnless result Error.Memory }
+{
+    let line = verdict.line(alloc)?;
+    text.extend_from_slice(line.as_bytes())?;
+    text.push(b'\n')?;
+    Ok(())
+}
+
+/// Audits the image, and ends the lines with that of its verdict. Error: `Memory`.
+pub fn judge(alloc: Global, mut lines: Vec<u8>, image: &Image) -> Result<Played, Error>
+    ensures judged { IfOk result (λ p. (v : Verdict) × Judges image.now v × (p.yes ≡ is_yes v)
+        × (p.lines.items ≡ lines.items ++ verdict_line v ++ 10 ∷ [])) }
+    ensures spelled { IfOk result (λ p. Spells image_spelling p.image.items image.now) }
+    ensures refused { IsOkUnless result Error.Memory }
+{
+    let verdict = audit(image);
+    put_verdict(alloc, &mut lines, &verdict)?;
+    let bytes = write(alloc, image)?;
+    Ok(Played {
+        lines,
+        yes: says_yes(&verdict),
+        image: bytes.into_vec(),
+    })
+}

@@ -1,0 +1,63 @@
+//! What is printed of a world.
+
+ghost use Rattle.std.specs.Prelude.{◌≡◌, ◌≤◌, ◌+◌, ◌++◌, IsOkUnless, OnOk, length};
+ghost use Rattle.play_lines.specs.Lines.{received_lines, refused_lines};
+ghost use Rattle.playing.specs.Plays.{all_received};
+ghost use Rattle.world.specs.Seen.{node_at, received_by, taken_out};
+
+use at_base::Error;
+use play_lines::{put_received, put_refused};
+use rtmp::PlainTable;
+use world::World;
+
+/// Takes what a node received, and appends its lines. Error: `Memory`.
+fn put_node(text: &mut Vec<u8>, world: &mut World<PlainTable>, number: u16) -> Result<(), Error>
+    ensures lines { OnOk result (text.new.items
+        ≡ text.old.items ++ received_lines number (received_by (node_at world.old number))) }
+    ensures left { OnOk result (world.new ≡ taken_out world.old number) }
+    ensures refused { IsOkUnless result Error.Memory }
+{
+    let datagrams = world.received(number)?;
+    put_received(text, number, datagrams.as_slice())?;
+    Ok(())
+}
+
+/// Takes what so many nodes received, from one number on, and appends its lines. Error: `Memory`.
+fn put_nodes(
+    text: &mut Vec<u8>,
+    world: &mut World<PlainTable>,
+    number: u16,
+    left: u16,
+) -> Result<(), Error>
+    requires counted { 1 ≤ number }
+    requires within { number + left ≤ 65535 }
+    ensures lines { OnOk result
+        (text.new.items ≡ text.old.items ++ all_received world.old number left) }
+    ensures refused { IsOkUnless result Error.Memory }
+{
+    if left == 0 {
+        return Ok(());
+    }
+    put_node(text, world, number)?;
+    put_nodes(text, world, number + 1, left - 1)
+}
+
+/// How many nodes a world has.
+fn nodes_of(world: &World<PlainTable>) -> u16
+    ensures number { result ≡ length world.now.plan.nodes }
+    ensures few { result ≤ 200 }
+{
+    world.plan().nodes().len() as u16
+}
+
+/// Appends the lines of the actions that were refused; takes what the nodes received, and appends its
+/// lines. Error: `Memory`.
+pub fn put_world(text: &mut Vec<u8>, world: &mut World<PlainTable>) -> Result<(), Error>
+    ensures lines { OnOk result (text.new.items ≡ text.old.items ++ refused_lines world.old.refused
+        ++ all_received world.old 1 (length world.old.plan.nodes)) }
+    ensures refused { IsOkUnless result Error.Memory }
+{
+    put_refused(text, world.refused())?;
+    let nodes = nodes_of(world);
+    put_nodes(text, world, 1, nodes)
+}
