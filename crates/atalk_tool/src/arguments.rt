@@ -45,7 +45,7 @@ const AFTER_HELP: &str = "Without a command, atalk audits the image on standard 
 Exit status:
   0  yes: the tables keep every rule; or a run was made
   1  no: the line printed names the first rule that is broken, and where
-  2  the input is refused, since it is no image, script or internet file; or a usage error
+  2  the input is refused, for the reason that its number gives; or a usage error
   3  out of memory, or reading or writing failed
 
 A refusal prints `refused: N` on standard error:

@@ -140,7 +140,7 @@ pub fn play_bytes<R: Read, W: Write, I: Write, P: Progress>(
     progress: &mut P,
 ) -> Result<bool, Error>
     // For a reader whose bytes are known: they are a file; what was written by the first writer is
-    // what is printed of its play, and by the second one the bytes of the image, each behind what
+    // what is printed of its play, and by the second one the bytes of the image, each after what
     // was still to be written.
     ensures printed { IfOk result (λ yes. IfSome (R.remaining input.old.reader) (λ text.
         (lines : List ℕ) × (bytes : List ℕ) × (i : Internet)

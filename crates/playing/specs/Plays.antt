@@ -5,6 +5,7 @@ use Rattle.audit.specs.declared.verdict.Verdict.{Verdict}
 use Rattle.internet_file.specs.Files.{IsFile}
 use Rattle.play_lines.specs.Lines.{received_lines, refused_lines}
 use Rattle.playing.specs.Answer.{is_yes}
+use Rattle.playing.specs.Lives.{Lives}
 use Rattle.table_image.specs.Internet.{Internet}
 use Rattle.world.specs.Frozen.{frozen}
 use Rattle.world.specs.Seen.{node_at, received_by}
@@ -24,7 +25,8 @@ play_lines w v = refused_lines w.refused ++ all_received w 1 (length w.plan.node
 pub record IsPlay (text : List ℕ) (lines : List ℕ) (yes : Bool) (image : Internet) : Type 0 where
   pub world : Worldly
   pub file : IsFile text world.plan
-  pub lived : IsWorld world
+  pub lived : Lives world
+  pub keeps : IsWorld world
   pub whole : world.now ≡ world.plan.ticks
   pub going : world.stopped ≡ None
   pub frozen : image ≡ frozen world

@@ -5,6 +5,7 @@ ghost use Rattle.std.specs.Prelude.{length};
 ghost use Rattle.at_base.specs.Spelling.{Spells};
 ghost use Rattle.internet_file.specs.Files.{IsFile, IsFileRefused, Planned};
 ghost use Rattle.play_lines.specs.Lines.{refused_lines};
+ghost use Rattle.playing.specs.Lives.{Lives};
 ghost use Rattle.playing.specs.Plays.{IsPlay, all_received};
 ghost use Rattle.table_image.specs.Internet.{Internet};
 ghost use Rattle.table_image.specs.Spelling.{image_spelling};
@@ -49,6 +50,18 @@ fn recall_lived(world: &World<PlainTable>)
     let _entries = world.transcript();
 }
 
+/// Lets the next tick pass. Errors: `Full`, `Memory`.
+fn play_tick(world: &mut World<PlainTable>) -> Result<(), Error>
+    requires unstopped { world.old.stopped ≡ None }
+    ensures plan { world.new.plan ≡ world.old.plan }
+    ensures now { OnOk result (world.new.now ≡ world.old.now + 1) }
+    ensures going { OnOk result (world.new.stopped ≡ None) }
+    ensures lived { OnOk result (Lives world.old → Lives world.new) }
+    ensures refused { IfErr result (λ e. (e ≡ Error.Full) ⊎ (e ≡ Error.Memory)) }
+{
+    world.tick()
+}
+
 /// Lets all ticks of the plan pass. Errors: `Full`, `Memory`.
 fn play_ticks<P: Progress>(world: &mut World<PlainTable>, progress: &mut P) -> Result<(), Error>
     requires unstopped { world.old.stopped ≡ None }
@@ -56,16 +69,27 @@ fn play_ticks<P: Progress>(world: &mut World<PlainTable>, progress: &mut P) -> R
     ensures plan { world.new.plan ≡ world.old.plan }
     ensures whole { OnOk result (world.new.now ≡ world.old.plan.ticks) }
     ensures going { OnOk result (world.new.stopped ≡ None) }
+    ensures lived { OnOk result (Lives world.old → Lives world.new) }
     ensures refused { IfErr result (λ e. (e ≡ Error.Full) ⊎ (e ≡ Error.Memory)) }
 {
     for _tick in 0..world.plan().ticks() {
-        match world.tick() {
+        match play_tick(world) {
             Ok(()) => {}
             Err(error) => return Err(error),
         }
         progress.passed(world);
     }
     Ok(())
+}
+
+/// The world of a plan, in which nothing has happened yet. Error: `Memory`.
+fn begin(alloc: Global, plan: Plan) -> Result<World<PlainTable>, Error>
+    ensures plan { IfOk result (λ w. w.plan ≡ plan) }
+    ensures fresh { IfOk result (λ w. (w.now ≡ 0) × (w.stopped ≡ None)) }
+    ensures lived { IfOk result (λ w. Lives w) }
+    ensures refused { IsOkUnless result Error.Memory }
+{
+    World::<PlainTable>::new(alloc, plan)
 }
 
 /// Plays what is planned to the last tick. Errors: `Full`, `Memory`.
@@ -77,9 +101,10 @@ fn play_plan<P: Progress>(
     ensures plan { IfOk result (λ w. w.plan ≡ plan) }
     ensures whole { IfOk result (λ w. w.now ≡ w.plan.ticks) }
     ensures going { IfOk result (λ w. w.stopped ≡ None) }
+    ensures lived { IfOk result (λ w. Lives w) }
     ensures refused { IfErr result (λ e. (e ≡ Error.Full) ⊎ (e ≡ Error.Memory)) }
 {
-    let mut world = match World::<PlainTable>::new(alloc, plan) {
+    let mut world = match begin(alloc, plan) {
         Ok(world) => world,
         Err(error) => return Err(error),
     };

@@ -6,10 +6,12 @@ use at_base::Error;
 use audit::audit_bytes;
 use example_images::three_cables;
 use files::{CABLE, HEAD, ROWS, Row, STATIONS, ZONES};
+use internet_file::read;
 use playing::{Played, Progress, Silent, play_text};
 use rtmp::PlainTable;
 use std::alloc::Global;
 use std::test::*;
+use table_image::write;
 use world::World;
 
 /// The text of a file.
@@ -126,5 +128,35 @@ fn each_tick_is_told(rt: HostRuntime) -> Result<(), Fail> {
             assert!(rt; counting.agrees);
         }
     }
+    Ok(())
+}
+
+/// Whether each call of a world answers, and what it should.
+fn lives_once(alloc: Global, text: &[u8]) -> Result<bool, Error> {
+    let plan = read(alloc, text)?;
+    let ticks = plan.ticks();
+    let mut world = World::<PlainTable>::new(alloc, plan)?;
+    for _tick in 0..ticks {
+        world.tick()?;
+    }
+    let image = world.freeze()?;
+    let bytes = write(alloc, &image)?;
+    let received = world.received(1)?;
+    let none = world.received(1)?;
+    Ok(bytes.as_slice() == three_cables::image().as_slice()
+        && received.len() == 1
+        && none.is_empty()
+        && world.refused().is_empty()
+        && !world.transcript().is_empty())
+}
+
+#[test]
+fn every_call_succeeds_once(rt: HostRuntime) -> Result<(), Fail> {
+    let text = text_of(rt.alloc(), &ROWS[0])?;
+    let lives = match lives_once(rt.alloc(), text.as_slice()) {
+        Err(Error::Memory) => lives_once(rt.alloc(), text.as_slice()),
+        answer => answer,
+    };
+    assert!(rt; lives?);
     Ok(())
 }

@@ -1,0 +1,12 @@
+-- How a world comes to be as it is: it begins as it is planned, and its ticks pass one after the other. This project's own.
+use Rattle.std.specs.Prelude.{◌≡◌, ◌+◌, []}
+use Rattle.live_cables.specs.Living.{happened}
+use Rattle.planned_stations.specs.Beginning.{AreBegun}
+use Rattle.world.specs.Worlds.{TicksOn, Worldly}
+
+pub data Lives : Worldly → Type 0 where
+  -- the stations are those of the plan, and nothing has happened
+  Begun : (w : Worldly) → AreBegun w.plan w.stations → w.now ≡ 0 → happened w.wires ≡ [] → Lives w
+  -- a tick passed to its end
+  Passed : (old new : Worldly) → Lives old → new.plan ≡ old.plan → new.now ≡ old.now + 1
+      → TicksOn old.plan new.now old.wires new.wires → Lives new
