@@ -211,7 +211,22 @@ def receiving(chance):
     return world
 
 
-KINDS = [ageing, asking, giving_up, keeping, forgetting, choosing, joining, receiving, Plan]
+def reaching(chance):
+    """So many cables in a line that the last ones are about as far away as a cable may be, for a time that may be too short."""
+    world = Timed(chance, chance.choice([15, 16, 17, 18]))
+    for cable in world.cables:
+        cable["zones"] = ["Red"]
+    ends = [world.node(1), world.node(len(world.cables))]
+    at = chance.choice([600, 760, 800, 850])
+    world.send(at, ends[0], world.address(ends[1]))
+    world.send(at + 1, ends[1], chance.choice(["10.2", "10.255", "20.2"]))
+    if chance.random() < 0.3:
+        world.lose(len(world.cables), world.near(at + 2), at + 2 + chance.choice([1, 2, 3]) * PERIOD)
+    world.until(world.near(world.ticks + chance.choice([5, 50, 100, 300])))
+    return world
+
+
+KINDS = [reaching, ageing, asking, giving_up, keeping, forgetting, choosing, joining, receiving, Plan]
 
 
 def timed(chance, number):
