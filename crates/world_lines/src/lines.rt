@@ -1,0 +1,139 @@
+//! The lines of a world's entries, in which stations are numbers.
+
+use at_base::Hw;
+use cable_model::{Cause, Entry, How};
+use rtmp::RouteTable;
+use std::alloc::AllocError;
+use trace_lines::{put_decimal, put_hex};
+use world::World;
+
+/// Appends a word and a number that counts from 1.
+fn put_number(text: &mut Vec<u8>, word: &[u8], index: u16) -> Result<(), AllocError> {
+    text.extend_from_slice(word)?;
+    put_decimal(text, u32::from(index) + 1)
+}
+
+/// Appends a datagram in digits, with hop count 0, and the end of the line.
+fn put_body(text: &mut Vec<u8>, bytes: &[u8]) -> Result<(), AllocError> {
+    text.extend_from_slice(b" ")?;
+    match bytes {
+        [] => {}
+        [first, rest @ ..] => {
+            // The hop count is between the two top bits and the two highest bits of the length.
+            put_hex(text, &[*first & 0xC3])?;
+            put_hex(text, rest)?;
+        }
+    }
+    text.extend_from_slice(b"\n")
+}
+
+/// Appends whom a frame is for: all, a group, or who has the hardware address.
+fn put_who(text: &mut Vec<u8>, to: &Hw) -> Result<(), AllocError> {
+    if *to == Hw::ALL {
+        return text.extend_from_slice(b"all");
+    }
+    let [a, b, c, d, e, group] = to.0;
+    if a == 9 && b == 0 && c == 7 && d == 0 && e == 0 && group < 253 {
+        text.extend_from_slice(b"group ")?;
+        return put_decimal(text, u32::from(group));
+    }
+    put_hex(text, &to.0)
+}
+
+/// How a datagram reached a cable.
+fn how(how: How) -> &'static [u8] {
+    match how {
+        How::Station => b" station",
+        How::All => b" all",
+        How::Own => b" own",
+        How::Absent => b" absent",
+        How::Held => b" held",
+    }
+}
+
+/// Why a datagram was dropped.
+fn cause(cause: Cause) -> &'static [u8] {
+    match cause {
+        Cause::NoRoute => b" NoRoute",
+        Cause::HopLimit => b" HopLimit",
+    }
+}
+
+/// Appends the line of a frame that was put on a cable.
+fn put_frame(
+    text: &mut Vec<u8>,
+    stamp: u32,
+    cable: u8,
+    sender: u16,
+    to: &Hw,
+    bytes: &[u8],
+) -> Result<(), AllocError> {
+    text.extend_from_slice(b"put ")?;
+    put_decimal(text, stamp)?;
+    put_number(text, b" cable ", u16::from(cable))?;
+    put_number(text, b" ", sender)?;
+    text.extend_from_slice(b" to ")?;
+    put_who(text, to)?;
+    text.extend_from_slice(b" ")?;
+    put_hex(text, bytes)?;
+    text.extend_from_slice(b"\n")
+}
+
+/// Appends the line of a frame that was taken.
+fn put_took(text: &mut Vec<u8>, stamp: u32, station: u16) -> Result<(), AllocError> {
+    text.extend_from_slice(b"took ")?;
+    put_decimal(text, stamp)?;
+    put_number(text, b" ", station)?;
+    text.extend_from_slice(b"\n")
+}
+
+/// Appends the line of a frame that was lost.
+fn put_lost(text: &mut Vec<u8>, stamp: u32) -> Result<(), AllocError> {
+    text.extend_from_slice(b"lost ")?;
+    put_decimal(text, stamp)?;
+    text.extend_from_slice(b"\n")
+}
+
+/// Appends the line of an entry of a world.
+pub fn put_entry<T: RouteTable>(
+    text: &mut Vec<u8>,
+    world: &World<T>,
+    entry: &Entry,
+) -> Result<(), AllocError> {
+    match *entry {
+        Entry::Sent { station, bytes } => {
+            put_number(text, b"sent ", station)?;
+            put_body(text, world.bytes(bytes))
+        }
+        Entry::Put {
+            stamp,
+            cable,
+            sender,
+            to,
+            bytes,
+            ..
+        } => put_frame(text, stamp, cable, sender, &to, world.bytes(bytes)),
+        Entry::Took { stamp, station } => put_took(text, stamp, station),
+        Entry::Reached {
+            cable,
+            station,
+            how: reached,
+            bytes,
+        } => {
+            put_number(text, b"reached cable ", u16::from(cable))?;
+            put_number(text, b" ", station)?;
+            text.extend_from_slice(how(reached))?;
+            put_body(text, world.bytes(bytes))
+        }
+        Entry::Dropped {
+            router,
+            cause: why,
+            bytes,
+        } => {
+            put_number(text, b"dropped ", router)?;
+            text.extend_from_slice(cause(why))?;
+            put_body(text, world.bytes(bytes))
+        }
+        Entry::Lost { stamp } => put_lost(text, stamp),
+    }
+}

@@ -1,0 +1,69 @@
+//! Plays the internet file on standard input to its last tick, and prints all that happened, one line
+//! for each entry of the transcript. `scripts/compare-runs` compares that with another program.
+#![tactic(auto)]
+
+mod lines;
+mod output;
+
+use at_base::Error;
+use internet_file::read;
+use lines::put_entry;
+use output::Output;
+use rtmp::{PlainTable, RouteTable};
+use std::alloc::Global;
+use std::io::{Read, Write, writer};
+use std::process::ExitCode;
+use world::World;
+
+/// Lets all ticks of the plan pass, or those before one that is refused.
+fn play<T: RouteTable>(world: &mut World<T>) -> Result<(), Error> {
+    for _tick in 0..world.plan().ticks() {
+        match world.tick() {
+            Ok(()) => {}
+            Err(error) => return Err(error),
+        }
+    }
+    Ok(())
+}
+
+/// Prints all that happened in a world.
+fn print<T: RouteTable, W: Write>(
+    world: &World<T>,
+    output: &mut Output<W>,
+) -> Result<(), Error> {
+    for entry in world.transcript() {
+        put_entry(&mut output.text, world, entry)?;
+        output.pass_on()?;
+    }
+    output.flush()
+}
+
+/// Plays a file, and prints all that happened, also where a tick is refused.
+fn print_play<W: Write>(alloc: Global, text: &[u8], output: &mut Output<W>) -> Result<(), Error> {
+    let plan = read(alloc, text)?;
+    let mut world = World::<PlainTable>::new(alloc, plan)?;
+    let answer = play(&mut world);
+    print(&world, output)?;
+    answer
+}
+
+/// Plays what the reader has, and prints it.
+fn run<R: Print + AllocGlobal + Input>(rt: &R) -> Result<(), Error> {
+    let mut bytes = Vec::new(rt.alloc());
+    if rt.reader().read_to_end(&mut bytes).is_err() {
+        return Err(Error::ReadFault);
+    }
+    let mut output = Output::new(rt.alloc(), writer(rt));
+    print_play(rt.alloc(), bytes.as_slice(), &mut output)
+}
+
+fn main(rt: HostRuntime) -> ExitCode {
+    match run(&rt) {
+        Ok(()) => ExitCode::SUCCESS,
+        Err(error) => {
+            let number = error.number();
+            let _ = eprintln!(&rt; "refused: {number}");
+            ExitCode::from(2)
+        }
+    }
+}
