@@ -1,0 +1,20 @@
+use Rattle.std.proofs.Common.{◌≡◌, ℕ, List, [], None, Result, Ok, Err, IfOk, subst, sym}
+use Rattle.at_base.specs.declared.error.Error.{Error}
+use Rattle.internet_file.specs.Files.{Planned}
+use Rattle.live_cables.specs.Living.{happened}
+use Rattle.planned_stations.specs.Beginning.{AreBegun}
+use Rattle.playing.specs.Lives.{Lives}
+use Rattle.playing.specs.Lives.Lives.{Begun}
+use Rattle.world.specs.Worlds.{Worldly}
+use Rattle.playing.proofs.playing.begin.Goals as goal
+
+begun : (plan : Planned) (r : Result Worldly Error)
+    → IfOk r (λ w. (w.plan ≡ plan) × (w.now ≡ 0) × (w.stopped ≡ None) × (w.refused ≡ []) × (happened w.wires ≡ []))
+    → IfOk r (λ w. AreBegun plan w.stations) → IfOk r (λ w. Lives w)
+begun plan (Ok w) ok stations =
+    Begun w (subst (λ (p : Planned). AreBegun p w.stations) (sym ok.0) stations) ok.1 ok.4
+begun plan (Err e) ok stations = tt
+
+-- src/playing.rt:86:1
+pub returns-clause-lived : goal.returns-clause-lived
+returns-clause-lived c = begun c.args.plan c.new.result c.new.ensures.ok c.new.ensures.begun
