@@ -226,12 +226,20 @@ def reaching(chance):
     return world
 
 
-KINDS = [reaching, ageing, asking, giving_up, keeping, forgetting, choosing, joining, receiving, Plan]
-
-
-def timed(chance, number):
-    """The file of a number; the kinds come in turn."""
-    return KINDS[number % len(KINDS)](chance).file()
+def mapping(chance):
+    """One cable with so many stations that a node can't know all of their hardware addresses, and more frames in a tick than are
+    taken in one. What the stations say to one another before is lost, for it would be too much."""
+    world = Timed(chance, 1)
+    world.cables[0]["range"] = [10, 19]
+    nodes = [world.node(1, [f"{10 + number % 4}.{100 + number // 4}"]) for number in range(200)]
+    world.routers = [{"port": [world.seat(1, 0, [f"19.{number}"])]} for number in range(1, 61)]
+    stations = [f"{10 + number % 4}.{100 + number // 4}" for number in range(1, 200)] + [f"19.{number}" for number in range(1, 61)]
+    world.lose(1, 1, PERIOD - chance.choice([0, 1]))
+    asked = stations[: chance.choice([254, 255, 256, 257, 258])]
+    for number, to in enumerate(asked + stations[:4]):
+        world.send(PERIOD + 3 + number // 15, nodes[0], to, b"", socket=200, source=200, kind=200)
+    world.until(world.ticks + 3)
+    return world
 
 
 def crowd(chance):
@@ -241,3 +249,11 @@ def crowd(chance):
     world.routers = [{"port": [world.seat(1, 0, [f"{10 + number // 20}.{1 + number % 20}"])]} for number in range(200)]
     world.until(chance.randint(12000, 13000))
     return world.file()
+
+
+KINDS = [reaching, ageing, asking, giving_up, keeping, forgetting, choosing, joining, receiving, Plan]
+
+
+def timed(chance, number):
+    """The file of a number; the kinds come in turn, and seldom there is a crowd."""
+    return (mapping if number % 100 == 99 else KINDS[number % len(KINDS)])(chance).file()
