@@ -235,10 +235,13 @@ def mapping(chance):
     world.routers = [{"port": [world.seat(1, 0, [f"19.{number}"])]} for number in range(1, 61)]
     stations = [f"{10 + number % 4}.{100 + number // 4}" for number in range(1, 200)] + [f"19.{number}" for number in range(1, 61)]
     world.lose(1, 1, PERIOD - chance.choice([0, 1]))
-    asked = stations[: chance.choice([254, 255, 256, 257, 258])]
-    for number, to in enumerate(asked + stations[:4]):
+    world.send(PERIOD + 1, nodes[1], "0.255", b"", socket=200, source=200, kind=200)
+    count = chance.choice([257, 258, 259])
+    again = count - 256 - chance.choice([0, 1])  # the first one that is known still, or the last one that isn't
+    for number, to in enumerate(stations[:count]):
         world.send(PERIOD + 3 + number // 15, nodes[0], to, b"", socket=200, source=200, kind=200)
-    world.until(world.ticks + 3)
+    world.send(PERIOD + 23, nodes[0], stations[again], b"", socket=200, source=200, kind=200)
+    world.ticks = PERIOD + 25
     return world
 
 
