@@ -245,6 +245,19 @@ def mapping(chance):
     return world
 
 
+def fanning(chance):
+    """So many cables that a router needs two packets for its routes, or just doesn't: a backbone with seven routers, and the cables
+    that these have to themselves."""
+    world = Timed(chance, 1)
+    count = chance.choice([96, 97, 98, 99])
+    world.cables += [{"range": [10 * k, 10 * k + 9], "zones": ["Red"]} for k in range(2, count + 1)]
+    for number in range(7):
+        own = range(2 + number, count + 1, 7)
+        world.routers.append({"port": [world.seat(1, 1 + number), *(world.seat(k, 1) for k in own)]})
+    world.until(world.near(2 * PERIOD, 0, 1))
+    return world
+
+
 def crowd(chance):
     """More happens than there is room for: the routing data of two hundred routers on one cable."""
     world = Timed(chance, 1)
@@ -258,5 +271,6 @@ KINDS = [reaching, ageing, asking, giving_up, keeping, forgetting, choosing, joi
 
 
 def timed(chance, number):
-    """The file of a number; the kinds come in turn, and seldom there is a crowd."""
-    return (mapping if number % 100 == 99 else KINDS[number % len(KINDS)])(chance).file()
+    """The file of a number; the kinds come in turn, and seldom there is a large one."""
+    make = {49: fanning, 99: mapping}.get(number % 100, KINDS[number % len(KINDS)])
+    return make(chance).file()
