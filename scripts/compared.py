@@ -1,5 +1,4 @@
 """What is compared: traces of scripts, plays of internet files, and the transcripts of plays."""
-import collections
 import itertools
 import os
 import random

@@ -174,6 +174,17 @@ def with_ports(chance):
     return Variously(chance).file({"ticks": 60, "cable": cables, "router": [{"port": ports}]})
 
 
+def with_overlap(chance):
+    """A router on two cables, whose ranges overlap, or just don't."""
+    first, last = chance.choice([(19, 25), (20, 25), (1, 10), (1, 9), (12, 13), (1, 30), (10, 19), (10, 10), (19, 19), (20, 20)])
+    ranges = [[10, 19], [first, last]]
+    if chance.random() < 0.5:
+        ranges.reverse()
+    ports = [{"cable": k, "hardware": f"02000000000{k}", "try": []} for k in (1, 2)]
+    cables = [{"range": ends, "zones": ["Red"]} for ends in ranges]
+    return Variously(chance).file({"ticks": 20, "cable": cables, "router": [{"port": ports}]})
+
+
 def with_ticks(chance):
     """As many ticks as a file may have, or one more, and one cable."""
     return Variously(chance).file({"ticks": chance.choice([100000, 100001]), "cable": [{"range": [1, 1], "zones": ["Red"]}]})
@@ -205,7 +216,7 @@ FAULTS = faults()
 def faulted(chance, number):
     """The file of a number: first each fault by itself, then several, and other things that may be wrong."""
     if number >= len(FAULTS):
-        make = chance.choice([with_many, with_ports, with_ticks, *[with_snippet] * 4, *[with_bytes] * 4, *[None] * 4])
+        make = chance.choice([with_many, with_ports, with_overlap, with_ticks, *[with_snippet] * 4, *[with_bytes] * 4, *[None] * 4])
         if make:
             return make(chance)
     plan = Rich(chance)

@@ -198,8 +198,20 @@ class Plan:
             target = self.target(node)
             for _ in range(chance.choice([5, 17, 20])):
                 actions.append(self.send(min(self.ticks, at + chance.choice([0, 0, 0, 1])), node, target))
+        if chance.random() < 0.05:
+            actions += self.flood()
         chance.shuffle(actions)
         return actions
+
+    def flood(self):
+        """About as many datagrams from one node to another as that keeps, after one that finds its address."""
+        chance = self.chance
+        sender, taker = chance.choice(range(len(self.nodes))), chance.choice(self.nodes)
+        near = [k for k, node in enumerate(self.nodes) if node[0] == taker[0] and node is not taker]
+        sender, at = chance.choice(near or [sender]), self.tick()
+        one = {"node": sender + 1, "do": "send", "to": written(taker[1]), "socket": 200, "source": 200, "type": 200}
+        later = min(self.ticks, at + 2)
+        return [{"at": at, **one, "hex": ""}, *({"at": later, **one, "hex": f"{k:02X}"} for k in range(chance.choice([62, 63, 64, 65])))]
 
     def action(self, at, node):
         return self.lookup(at, node) if self.chance.random() < 0.35 else self.send(at, node, self.target(node))

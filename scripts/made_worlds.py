@@ -226,12 +226,36 @@ def reaching(chance):
     return world
 
 
-KINDS = [reaching, ageing, asking, giving_up, keeping, forgetting, choosing, joining, receiving, Plan]
+def mapping(chance):
+    """One cable with so many stations that a node can't know all of their hardware addresses, and more frames in a tick than are
+    taken in one. What the stations say to one another before is lost, for it would be too much."""
+    world = Timed(chance, 1)
+    world.cables[0]["range"] = [10, 19]
+    nodes = [world.node(1, [f"{10 + number % 4}.{100 + number // 4}"]) for number in range(200)]
+    world.routers = [{"port": [world.seat(1, 0, [f"19.{number}"])]} for number in range(1, 61)]
+    stations = [f"{10 + number % 4}.{100 + number // 4}" for number in range(1, 200)] + [f"19.{number}" for number in range(1, 61)]
+    world.lose(1, 1, PERIOD - chance.choice([0, 1]))
+    world.send(PERIOD + 1, nodes[1], "0.255", b"", socket=200, source=200, kind=200)
+    count = chance.choice([257, 258, 259])
+    again = count - 256 - chance.choice([0, 1])  # the first one that is known still, or the last one that isn't
+    for number, to in enumerate(stations[:count]):
+        world.send(PERIOD + 3 + number // 15, nodes[0], to, b"", socket=200, source=200, kind=200)
+    world.send(PERIOD + 23, nodes[0], stations[again], b"", socket=200, source=200, kind=200)
+    world.ticks = PERIOD + 25
+    return world
 
 
-def timed(chance, number):
-    """The file of a number; the kinds come in turn."""
-    return KINDS[number % len(KINDS)](chance).file()
+def fanning(chance):
+    """So many cables that a router needs two packets for its routes, or just doesn't: a backbone with seven routers, and the cables
+    that these have to themselves."""
+    world = Timed(chance, 1)
+    count = chance.choice([96, 97, 98, 99])
+    world.cables += [{"range": [10 * k, 10 * k + 9], "zones": ["Red"]} for k in range(2, count + 1)]
+    for number in range(7):
+        own = range(2 + number, count + 1, 7)
+        world.routers.append({"port": [world.seat(1, 1 + number), *(world.seat(k, 1) for k in own)]})
+    world.until(world.near(2 * PERIOD, 0, 1))
+    return world
 
 
 def crowd(chance):
@@ -241,3 +265,12 @@ def crowd(chance):
     world.routers = [{"port": [world.seat(1, 0, [f"{10 + number // 20}.{1 + number % 20}"])]} for number in range(200)]
     world.until(chance.randint(12000, 13000))
     return world.file()
+
+
+KINDS = [reaching, ageing, asking, giving_up, keeping, forgetting, choosing, joining, receiving, Plan]
+
+
+def timed(chance, number):
+    """The file of a number; the kinds come in turn, and seldom there is a large one."""
+    make = {49: fanning, 99: mapping}.get(number % 100, KINDS[number % len(KINDS)])
+    return make(chance).file()

@@ -1,4 +1,4 @@
-//! Plays the internet file on standard input to its last tick, and prints all that happened, one line
+//! Plays the internet file on standard input to its last tick, and prints all that happened: a line
 //! for each entry of the transcript. `scripts/compare-runs` compares that with another program.
 #![tactic(auto)]
 
@@ -27,10 +27,7 @@ fn play<T: RouteTable>(world: &mut World<T>) -> Result<(), Error> {
 }
 
 /// Prints all that happened in a world.
-fn print<T: RouteTable, W: Write>(
-    world: &World<T>,
-    output: &mut Output<W>,
-) -> Result<(), Error> {
+fn print<T: RouteTable, W: Write>(world: &World<T>, output: &mut Output<W>) -> Result<(), Error> {
     for entry in world.transcript() {
         put_entry(&mut output.text, world, entry)?;
         output.pass_on()?;
