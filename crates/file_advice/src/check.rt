@@ -107,11 +107,7 @@ pub(crate) fn entry_of<'a>(
 ) -> Result<&'a Value, Fault> {
     match entries.get((number as usize).saturating_sub(1)) {
         Some(entry) => Ok(entry),
-        None => Err(Fault::Absent {
-            what,
-            number,
-            count: entries.len(),
-        }),
+        None => Err(Fault::Absent(what, number, entries.len())),
     }
 }
 

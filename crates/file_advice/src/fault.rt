@@ -40,18 +40,10 @@ pub(crate) enum Fault {
         number: usize,
         must: Must,
     },
-    /// There is no cable or node of this number.
-    Absent {
-        what: Key,
-        number: u32,
-        count: usize,
-    },
-    /// The address can't be that of a station of the cable.
-    Elsewhere {
-        address: Addr,
-        cable: u32,
-        range: Range,
-    },
+    /// There is no cable or node of this number: its key, the number, and how many there are.
+    Absent(Key, u32, usize),
+    /// The address can't be that of a station of the cable with this number and range.
+    Elsewhere(Addr, u32, Range),
     /// The first tick is after the last one.
     Reversed {
         first: u32,
@@ -88,6 +80,16 @@ fn show_absent(rt: &impl Eprint, what: Key, number: u32, count: usize) -> io::Re
     let what = what.name();
     let mark = if count == 1 { "" } else { "s" };
     eprintln!(rt; "{what} {number} isn't in the file, which has {count} {what}{mark}")
+}
+
+/// Says that the address can't be that of a station of the cable.
+fn show_elsewhere(rt: &impl Eprint, address: Addr, cable: u32, range: Range) -> io::Result<()> {
+    eprintln!(rt;
+        "{address} in try isn't an address on cable {cable}, which has networks {} to {} and nodes \
+        1 to 253",
+        range.start(),
+        range.end()
+    )
 }
 
 /// Says that two ports of a router are on cables that have a network in common.
@@ -131,21 +133,8 @@ pub(crate) fn show(rt: &impl Eprint, fault: Fault) -> io::Result<()> {
             key.name(),
             must.words()
         ),
-        Fault::Absent {
-            what,
-            number,
-            count,
-        } => show_absent(rt, what, number, count),
-        Fault::Elsewhere {
-            address,
-            cable,
-            range,
-        } => eprintln!(rt;
-            "{address} in try isn't an address on cable {cable}, which has networks {} to {} and \
-            nodes 1 to 253",
-            range.start(),
-            range.end()
-        ),
+        Fault::Absent(what, number, count) => show_absent(rt, what, number, count),
+        Fault::Elsewhere(address, cable, range) => show_elsewhere(rt, address, cable, range),
         Fault::Reversed { first, last } => {
             eprintln!(rt; "first, tick {first}, is after last, tick {last}")
         }

@@ -1,5 +1,5 @@
-//! Which key of an internet file is wrong and why, for a person at a terminal. It writes to standard
-//! error alone, and promises no more than to return.
+//! Which key of an internet file is wrong and why, for a person at a terminal. It writes to
+//! standard error alone, and promises no more than to return.
 #![tactic(auto)]
 
 mod cable;

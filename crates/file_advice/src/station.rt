@@ -90,11 +90,7 @@ fn check_place(place: Place<'_>, cables: &[Value]) -> Result<(), Fault> {
     for value in place.tries {
         if let Some(address) = address_of(value) {
             if !range.holds(address.net) || address.node < 1 || 253 < address.node {
-                return Err(Fault::Elsewhere {
-                    address,
-                    cable,
-                    range,
-                });
+                return Err(Fault::Elsewhere(address, cable, range));
             }
         }
     }
