@@ -5,6 +5,7 @@ use crate::arguments::Source;
 use crate::exit::Outcome;
 use advice::{explain_bytes, explain_kind, explain_no};
 use at_base::{Error, Part};
+use file_advice::explain_entry;
 use std::io;
 use std::io::ErrorKind;
 
@@ -15,7 +16,7 @@ pub struct Evidence<'a> {
     pub source: Option<Source<'a>>,
     /// Why a read failed.
     pub fault: Option<ErrorKind>,
-    /// The bytes of the image.
+    /// The bytes of the image, or the text of an internet file that is refused.
     pub bytes: Option<Vec<u8>>,
     /// The file for the image, if it couldn't be written.
     pub unwritten: Option<&'a str>,
@@ -67,31 +68,19 @@ fn explain_source(rt: &impl Eprint, evidence: &Evidence<'_>) -> io::Result<()> {
     }
 }
 
-/// Where the fault of an internet file is.
-fn explain_entry(rt: &impl Eprint, part: Part, index: u32) -> io::Result<()> {
-    match part {
-        Part::Text => eprintln!(rt; "is no TOML text"),
-        Part::Top => eprintln!(rt;
-            "needs ticks, from 1 to 100000, and may have only the lists cable, router, node, \
-            lose and action beside it"
-        ),
-        part => eprintln!(rt;
-            "has a fault in {} {index}, counted from 1; man atalk-internet has the keys of each \
-            entry",
-            entry_name(part)
-        ),
-    }
-}
-
-/// The name of the list that a part is.
-fn entry_name(part: Part) -> &'static str {
-    match part {
-        Part::Cable => "cable",
-        Part::Router => "router",
-        Part::Node => "node",
-        Part::Lose => "lose",
-        Part::Action => "action",
-        Part::Text | Part::Top => "the file",
+/// Where the fault of an internet file is, and what it is, if the text of the file was kept.
+fn explain_file(
+    rt: &(impl Eprint + AllocGlobal),
+    part: Part,
+    index: u32,
+    evidence: &Evidence<'_>,
+) -> io::Result<()> {
+    match &evidence.bytes {
+        Some(text) => {
+            explain_source(rt, evidence)?;
+            explain_entry(rt, text.as_slice(), part, index)
+        }
+        None => Ok(()),
     }
 }
 
@@ -116,10 +105,7 @@ fn explain_error(
             explain_source(rt, evidence)?;
             eprintln!(rt; "has no event on line {line}; man atalk-script has their format")
         }
-        Error::BadFile(part, index) => {
-            explain_source(rt, evidence)?;
-            explain_entry(rt, *part, *index)
-        }
+        Error::BadFile(part, index) => explain_file(rt, *part, *index, evidence),
         Error::Full => eprintln!(rt;
             "atalk: more than 4000000 things happened in the play; plan fewer ticks or stations"
         ),

@@ -45,8 +45,17 @@ fn write_bytes<W: Write>(output: &mut Output<W>, bytes: &[u8]) -> Result<(), Err
     }
 }
 
-/// Reads the whole input, and plays the internet file that it is. Errors: `ReadFault`, `BadFile`,
-/// `Full`, `Memory`.
+/// Keeps the text of a file whose play is refused in the input.
+fn keep_text<R>(input: &mut Input<R>, text: Vec<u8>)
+    ensures reader { input.new.reader ≡ input.old.reader }
+    ensures reads { input.new.reads ≡ input.old.reads }
+    ensures stays { input.new.failed ≡ input.old.failed }
+{
+    input.kept = Some(text);
+}
+
+/// Reads the whole input, and plays the internet file that it is. A text that is refused stays in
+/// the input. Errors: `ReadFault`, `BadFile`, `Full`, `Memory`.
 fn read_and_play<R: Read, P: Progress>(
     alloc: Global,
     input: &mut Input<R>,
@@ -67,7 +76,13 @@ fn read_and_play<R: Read, P: Progress>(
     ensures stays { OnOk result (input.new.failed ≡ input.old.failed) }
 {
     let text = input.read_all(alloc)?;
-    play_text(alloc, text.as_slice(), progress)
+    match play_text(alloc, text.as_slice(), progress) {
+        Ok(played) => Ok(played),
+        Err(error) => {
+            keep_text(input, text);
+            Err(error)
+        }
+    }
 }
 
 /// Writes the lines of a play, and then the bytes of its image. Error: `WriteFault`.
@@ -131,7 +146,7 @@ fn hand_over<R, W: Write, I: Write>(
 
 /// Reads the whole internet file, plays it, and writes the lines of its play; then the image's
 /// bytes, by a writer of their own. Returns whether the verdict is a yes, and leaves the image's
-/// bytes in the input. Errors: `ReadFault`, `BadFile`, `Full`, `Memory`, `WriteFault`.
+/// bytes, or the text where the play is refused, in the input. Errors: `ReadFault`, `BadFile`, `Full`, `Memory`, `WriteFault`.
 pub fn play_bytes<R: Read, W: Write, I: Write, P: Progress>(
     alloc: Global,
     input: &mut Input<R>,

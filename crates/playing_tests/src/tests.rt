@@ -143,11 +143,13 @@ fn lives_once(alloc: Global, text: &[u8]) -> Result<bool, Error> {
     let bytes = write(alloc, &image)?;
     let received = world.received(1)?;
     let none = world.received(1)?;
-    Ok(bytes.as_slice() == three_cables::image().as_slice()
-        && received.len() == 1
-        && none.is_empty()
-        && world.refused().is_empty()
-        && !world.transcript().is_empty())
+    Ok(
+        bytes.as_slice() == three_cables::image().as_slice()
+            && received.len() == 1
+            && none.is_empty()
+            && world.refused().is_empty()
+            && !world.transcript().is_empty(),
+    )
 }
 
 #[test]

@@ -3,7 +3,7 @@ use Rattle.std.proofs.Common.{◌≡◌, ℕ, zero, suc, ◌+◌, ◌<◌, ◌�
 use Rattle.std.proofs.Common.{filter, take, drop, set, insert, get_or, refl, sym, ap, ◌∙◌, arith, nat_lt, nat_le}
 use Rattle.std.specs.List.{list_all, list_any}
 use Rattle.std.proofs.lemmas.Bool.Decides.{nat_tests}
-use Rattle.std.proofs.lemmas.Bool.{and_parts, or_parts, ltb-true, ltb-false, lt-ltb, eqb-true}
+use Rattle.std.proofs.lemmas.Bool.{and_parts, or_parts, ltb-true, ltb-false, lt-ltb, eqb-true, ne_eqb}
 use Rattle.at_base.specs.Range.{Span, overlaps, same_range, is_range}
 use Rattle.at_base.proofs.Ranges.{ends_of}
 use Rattle.at_base.specs.Address.{same_address}
@@ -121,6 +121,66 @@ put_at row (r ∷ rows) =
       | true ↦ λ t. rw t (ap (λ (l : List Row). r ∷ l) (put_at row rows))
       | false ↦ λ t. rw t refl
     ]) refl
+
+-- ---- A row in the place of the one of its range
+
+-- rows above a network have no range that starts there or below
+none_above : (row : Row) (low : ℕ) (rows : List Row) → row.range.start ≤ low → list_all is_row rows ≡ true → are_above low rows ≡ true
+    → replaced row rows ≡ rows
+none_above row low [] le each h = refl
+none_above row low (r ∷ rows) le each h =
+    let q = and_parts (nat_lt low r.range.start) (are_above r.range.end rows) h in
+    let e = and_parts (is_row r) (list_all is_row rows) each in
+    let ends = row_ends r e.0 in
+    let over = ltb-true _ _ q.0 in
+    let other : (r.range.start == row.range.start) ≡ false = ne_eqb _ _ (λ same. absurd (omega (arith, same, over, le))) in
+    rw other (ap (λ (l : List Row). r ∷ l) (none_above row r.range.end rows (omega (arith, ends.1, over, le)) e.1 q.1))
+
+-- the row of the range, if there is one, is the first that doesn't start below it
+pub replace_at : (row d : Row) (low : ℕ) (rows : List Row) → list_all is_row rows ≡ true → are_above low rows ≡ true
+    → before row.range.start rows < length rows → same_range (get_or rows (before row.range.start rows) d).range row.range ≡ true
+    → set rows (before row.range.start rows) row ≡ replaced row rows
+replace_at row d low [] each h less same = absurd (omega (arith, less))
+replace_at row d low (r ∷ rows) each h less same =
+    let q = and_parts (nat_lt low r.range.start) (are_above r.range.end rows) h in
+    let e = and_parts (is_row r) (list_all is_row rows) each in
+    let ends = row_ends r e.0 in
+    (elim (nat_lt r.range.start row.range.start) as
+    (λ b. nat_lt r.range.start row.range.start ≡ b
+    → cond b (suc (before row.range.start rows)) 0 < length (r ∷ rows)
+    → same_range (get_or (r ∷ rows) (cond b (suc (before row.range.start rows)) 0) d).range row.range ≡ true
+    → set (r ∷ rows) (cond b (suc (before row.range.start rows)) 0) row ≡ replaced row (r ∷ rows)) [
+      | true ↦ λ t less same.
+          let below = ltb-true _ _ t in
+          let other : (r.range.start == row.range.start) ≡ false = ne_eqb _ _ (λ is. absurd (omega (arith, is, below))) in
+          rw other (ap (λ (l : List Row). r ∷ l) (replace_at row d r.range.end rows e.1 q.1 (omega (arith, less)) same))
+      | false ↦ λ t less same.
+          let starts : r.range.start ≡ row.range.start = eqb-true _ _ (and_parts (r.range.start == row.range.start) _ same).0 in
+          rw same (ap (λ (l : List Row). row ∷ l) (sym (none_above row r.range.end rows (omega (arith, starts, ends.1)) e.1 q.1)))
+    ]) refl less same
+
+-- where the first row that doesn't start below it is another range's, no row is of the range
+pub none_at : (row d : Row) (low : ℕ) (rows : List Row) → list_all is_row rows ≡ true → are_above low rows ≡ true
+    → (before row.range.start rows < length rows → same_range (get_or rows (before row.range.start rows) d).range row.range ≡ false)
+    → rows ≡ replaced row rows
+none_at row d low [] each h other = refl
+none_at row d low (r ∷ rows) each h other =
+    let q = and_parts (nat_lt low r.range.start) (are_above r.range.end rows) h in
+    let e = and_parts (is_row r) (list_all is_row rows) each in
+    let ends = row_ends r e.0 in
+    (elim (nat_lt r.range.start row.range.start) as
+    (λ b. nat_lt r.range.start row.range.start ≡ b
+    → (cond b (suc (before row.range.start rows)) 0 < length (r ∷ rows)
+    → same_range (get_or (r ∷ rows) (cond b (suc (before row.range.start rows)) 0) d).range row.range ≡ false)
+    → r ∷ rows ≡ replaced row (r ∷ rows)) [
+      | true ↦ λ t other.
+          let below = ltb-true _ _ t in
+          let apart : (r.range.start == row.range.start) ≡ false = ne_eqb _ _ (λ is. absurd (omega (arith, is, below))) in
+          rw apart (ap (λ (l : List Row). r ∷ l) (none_at row d r.range.end rows e.1 q.1 (λ less. other (omega (arith, less)))))
+      | false ↦ λ t other.
+          let le = ltb-false _ _ t in
+          rw (other (omega arith)) (ap (λ (l : List Row). r ∷ l) (sym (none_above row r.range.end rows (omega (arith, le, ends.1)) e.1 q.1)))
+    ]) refl other
 
 -- ---- A loop that updates each row
 

@@ -2,14 +2,13 @@
 use Rattle.std.specs.Prelude.{ℕ, suc, List, [], ◌∷◌, nat_lt, if◌then◌else◌}
 use Rattle.rtmp.specs.declared.row.Row.{Row}
 use Rattle.rtmp.specs.declared.update.Update.{Update}
-use Rattle.rtmp.specs.declared.update.Update.TheVariants.{Age, Poison, Put}
-use Rattle.rtmp.specs.Routes.{aged_row, poisoned_row, replaced_row}
+use Rattle.rtmp.specs.declared.update.Update.TheVariants.{Age, Poison}
+use Rattle.rtmp.specs.Routes.{aged_row, poisoned_row}
 
 -- the row after an update
 abbrev pub updated : Update → Row → Row
 updated Age r = aged_row r
 updated (Poison next) r = poisoned_row next r
-updated (Put row) r = replaced_row row r
 
 -- how many rows there are before the first one that doesn't start below a network
 abbrev pub before : ℕ → List Row → ℕ

@@ -6,7 +6,7 @@ ghost use Rattle.std.specs.List.{list_all, list_any};
 ghost use Rattle.std.specs.Option.{option_copied};
 ghost use Rattle.at_base.specs.Range.{IsRange, overlaps, is_range};
 ghost use Rattle.rtmp.specs.Routes.{are_apart, row_at, row_for as row_in, beside, added};
-ghost use Rattle.rtmp.specs.Routes.{is_over as over};
+ghost use Rattle.rtmp.specs.Routes.{is_over as over, replaced, IsRouteMap};
 ghost use Rattle.rtmp.specs.Routes.{after_hearing as hears, heard_row as new_row};
 ghost use Rattle.rtmp.specs.Routes.{direct_row as own_row, is_new as new_range};
 ghost use Rattle.rtmp.specs.Updates.{before};
@@ -189,6 +189,20 @@ fn put(rows: &mut Vec<Row>, row: Row)
     rows.insert(index, row).unwrap();
 }
 
+/// Puts the row in the place of the one of its range, if there is one.
+fn replace(rows: &mut Vec<Row>, row: Row)
+    requires { IsRouteMap rows.old.items }
+    ensures { rows.new.items ≡ replaced row rows.old.items }
+{
+    let place = place_for(rows.as_slice(), row.range.start());
+    if place >= rows.len() {
+        return;
+    }
+    if rows[place].range == row.range {
+        rows[place] = row;
+    }
+}
+
 impl RouteTable for PlainTable {
     ghost rows = { λ t. t };
 
@@ -247,7 +261,7 @@ impl RouteTable for PlainTable {
     ) -> Result<Change, Error> {
         if let Some(row) = row_of(self.rows.as_slice(), range) {
             let (row, change) = after_hearing(row, distance, source, port);
-            update_all(&mut self.rows, &Update::Put(row));
+            replace(&mut self.rows, row);
             return Ok(change);
         }
         if !is_new(self.rows.as_slice(), range, distance) {

@@ -15,8 +15,6 @@ pub(crate) enum Update {
     Age,
     /// It is bad where it leads through this router.
     Poison(Addr),
-    /// It is this one where it is for the same range.
-    Put(Row),
 }
 
 /// The state that follows.
@@ -58,11 +56,6 @@ fn updated_row(update: &Update, row: &Row) -> Row
         Update::Poison(next) => {
             if !row.is_direct() && row.next == *next {
                 after.state = State::Bad;
-            }
-        }
-        Update::Put(new) => {
-            if row.range == new.range {
-                after = *new;
             }
         }
     }

@@ -3,28 +3,58 @@
 ghost use Rattle.std.specs.Prelude.{◌≡◌, ◌<◌, ◌≤◌, [], length, true, IfOk, OnErr, OnOk};
 ghost use Rattle.std.specs.Prelude.{IsOkUnless};
 ghost use Rattle.zip_zones.specs.Zones.{each_once, has_zone as with_this, is_complete as complete};
-ghost use Rattle.zip_zones.specs.Zones.{list_of_least, set_list, with_zone};
+ghost use Rattle.zip_zones.specs.Zones.{list_of_least, set_list, with_name, with_zone};
+ghost use Rattle.std.specs.Arc.{arc_value};
 
 use crate::zone::Zone;
 use at_base::{Error, Name, Range};
 use indexmap::IndexSet;
 use std::alloc::Global;
 use std::marker::Model;
+use std::sync::Arc;
 
 /// What is known of the zones of a range: how many there are, and the names that came.
 #[derive(Drop)]
 pub(crate) struct KnownZones {
     range: Range,
     total: u8,
-    zones: IndexSet<Zone>,
+    // Routers copy their tables before they learn, and learn of few lists: copies share the names.
+    zones: Arc<IndexSet<Zone>, Global>,
+    alloc: Global,
 }
 
 impl Model for KnownZones {
+    ghost use Rattle.std.specs.Arc.{arc_value};
     ghost use Rattle.zip_zones.specs.Zones.{Known};
 
     ghost Value = { Known };
 
-    ghost view = { λ k. record { range = k.range; total = k.total; names = k.zones.keys } };
+    ghost view = { λ k. record {
+      range = k.range;
+      total = k.total;
+      names = (arc_value k.zones).keys;
+    } };
+}
+
+/// The names, which may have several owners. Error: `Memory`.
+fn shared(alloc: Global, zones: IndexSet<Zone>) -> Result<Arc<IndexSet<Zone>, Global>, Error>
+    ensures ok { IfOk result (λ shared. (arc_value shared).keys ≡ zones.keys) }
+    ensures err { IsOkUnless result Error.Memory }
+{
+    match Arc::new(alloc, zones) {
+        Ok(shared) => Ok(shared),
+        Err(_) => Err(Error::Memory),
+    }
+}
+
+/// The names and one more, unless it is one of them. Error: `Memory`.
+fn with(zones: &IndexSet<Zone>, name: &Name) -> Result<IndexSet<Zone>, Error>
+    ensures ok { IfOk result (λ more. more.keys ≡ with_name zones.now.keys name.now) }
+    ensures err { IsOkUnless result Error.Memory }
+{
+    let mut more = zones.clone()?;
+    more.insert(Zone::new(name))?;
+    Ok(more)
 }
 
 /// The names, each once. Error: `Memory`.
@@ -40,15 +70,19 @@ fn zones_of(alloc: Global, names: &[Name]) -> Result<IndexSet<Zone>, Error>
 }
 
 impl KnownZones {
-    /// A list of so many zones, of which none has come.
-    pub(crate) fn new(alloc: Global, range: Range, total: u8) -> KnownZones
-        ensures { result ≡ record { range = range; total = total; names = [] } }
+    /// A list of so many zones, of which none has come. Error: `Memory`.
+    pub(crate) fn new(alloc: Global, range: Range, total: u8) -> Result<KnownZones, Error>
+        ensures ok { IfOk result
+            (λ known. known ≡ record { range = range; total = total; names = [] }) }
+        ensures err { IsOkUnless result Error.Memory }
     {
-        KnownZones {
+        let zones = shared(alloc, IndexSet::new(alloc))?;
+        Ok(KnownZones {
             range,
             total,
-            zones: IndexSet::new(alloc),
-        }
+            zones,
+            alloc,
+        })
     }
 
     /// The complete list of these names. Error: `Memory`.
@@ -58,10 +92,13 @@ impl KnownZones {
         ensures err { IsOkUnless result Error.Memory }
     {
         let zones = zones_of(alloc, names)?;
+        let total = zones.len() as u8;
+        let zones = shared(alloc, zones)?;
         Ok(KnownZones {
             range,
-            total: zones.len() as u8,
+            total,
             zones,
+            alloc,
         })
     }
 
@@ -77,10 +114,13 @@ impl KnownZones {
         ensures err { IsOkUnless result Error.Memory }
     {
         let zones = zones_of(alloc, names)?;
+        let total = least.max(zones.len() as u8);
+        let zones = shared(alloc, zones)?;
         Ok(KnownZones {
             range,
-            total: least.max(zones.len() as u8),
+            total,
             zones,
+            alloc,
         })
     }
 
@@ -89,11 +129,16 @@ impl KnownZones {
         ensures ok { IfOk result (λ known. known ≡ self.now) }
         ensures err { IsOkUnless result Error.Memory }
     {
-        Ok(KnownZones {
-            range: self.range,
-            total: self.total,
-            zones: self.zones.clone()?,
-        })
+        // A count of owners is never full.
+        match Arc::try_clone(&self.zones) {
+            Ok(zones) => Ok(KnownZones {
+                range: self.range,
+                total: self.total,
+                zones,
+                alloc: self.alloc,
+            }),
+            Err(_) => Err(Error::Memory),
+        }
     }
 
     /// Takes a name, unless the list is complete or has it. Error: `Memory`, which changes nothing.
@@ -105,7 +150,8 @@ impl KnownZones {
         if self.is_complete() {
             return Ok(());
         }
-        self.zones.insert(Zone::new(name))?;
+        let zones = with(self.zones.as_ref(), name)?;
+        self.zones = shared(self.alloc, zones)?;
         Ok(())
     }
 
@@ -127,20 +173,20 @@ impl KnownZones {
     pub(crate) fn zones(&self) -> &[Zone]
         ensures { result.now ≡ self.now.names }
     {
-        self.zones.as_slice()
+        self.zones.as_ref().as_slice()
     }
 
     /// Whether all names have come.
     pub(crate) fn is_complete(&self) -> bool
         ensures { result ≡ complete self.now }
     {
-        self.zones.len() == self.total as usize
+        self.zones.as_ref().len() == self.total as usize
     }
 
     /// Whether the zone is one of those that came.
     pub(crate) fn has(&self, zone: &Name) -> bool
         ensures { result ≡ with_this zone.now self.now }
     {
-        self.zones.contains(&Zone::new(zone))
+        self.zones.as_ref().contains(&Zone::new(zone))
     }
 }

@@ -204,7 +204,7 @@ fn begin(lists: &mut Vec<KnownZones>, range: Range, total: u8, name: &Name) -> R
     ensures err { IsOkUnless result Error.Memory }
     ensures kept { OnErr result (lists.new.items ≡ lists.old.items) }
 {
-    let mut known = KnownZones::new(*lists.allocator(), range, total);
+    let mut known = KnownZones::new(*lists.allocator(), range, total)?;
     known.take(name)?;
     // Room is made first: a refusal then leaves the lists as they are.
     lists.reserve(1)?;

@@ -11,7 +11,7 @@ invariant_of-self c =
     rw c.as_slice.ensures.value at (sym c.row_of.ensures ∙ ap option_copied c.in-Some.is) in
     let t =
     there c.args.range c.args.distance c.args.source c.args.port c.self.inside.rows.items c.in-Some.row.now c.self.invariant found in
-    rw (c.update_all.ensures, c.after_hearing-row.ensures) t.map
+    rw (c.replace.ensures, c.after_hearing-row.ensures) t.map
 
 pub returns-in-Some-clause-ok : goal.returns-in-Some-clause-ok
 returns-in-Some-clause-ok c =
@@ -19,7 +19,7 @@ returns-in-Some-clause-ok c =
     rw c.as_slice.ensures.value at (sym c.row_of.ensures ∙ ap option_copied c.in-Some.is) in
     let t =
     there c.args.range c.args.distance c.args.source c.args.port c.self.inside.rows.items c.in-Some.row.now c.self.invariant found in
-    rw (← c.self.view_is, t.is, c.update_all.ensures, c.after_hearing-row.ensures) refl
+    rw (← c.self.view_is, t.is, c.replace.ensures, c.after_hearing-row.ensures) refl
 
 pub invariant_of-self-2 : goal.invariant_of-self-2
 invariant_of-self-2 c =

@@ -2,7 +2,7 @@ use Rattle.std.proofs.Common.{ℕ, List, length, ap, ◌∙◌, arith}
 use Rattle.zip_zones.proofs.Names.{not_more}
 use Rattle.zip_zones.proofs.known.KnownZones.of.Goals as goal
 
-pub overflow_cast-result : goal.overflow_cast-result
-overflow_cast-result c =
-    let len = c.len.ensures.len ∙ ap (λ (names : List (List ℕ)). length names) c.in_ok-zones.ensures.ok in
+pub overflow_cast-total : goal.overflow_cast-total
+overflow_cast-total c =
+    let len = c.len-total.ensures.len ∙ ap (λ (names : List (List ℕ)). length names) c.in_ok-zones.ensures.ok in
     omega (arith, not_more c.args.names.now, len, c.requires)

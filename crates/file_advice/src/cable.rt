@@ -1,0 +1,72 @@
+//! What is wrong with a cable.
+
+use crate::check::{at, integer, list_at, table_with};
+use crate::fault::Fault;
+use crate::key::Key;
+use crate::must::Must;
+use at_base::{Range, is_zone_name};
+use toml::{Table, Value};
+
+/// Whether the value is the name of a zone.
+fn is_zone(value: &Value) -> bool {
+    match value.as_str() {
+        Some(text) => is_zone_name(text.as_bytes()),
+        None => false,
+    }
+}
+
+/// That there is the name of a zone at the key.
+pub(crate) fn check_zone(table: &Table, key: Key) -> Result<(), Fault> {
+    if is_zone(at(table, key)?) {
+        Ok(())
+    } else {
+        Err(Fault::Wrong {
+            key,
+            must: Must::Zone,
+        })
+    }
+}
+
+/// That there are 1 to 64 names of zones at the key.
+fn check_zones(table: &Table, key: Key) -> Result<(), Fault> {
+    let zones = list_at(table, key, 1, 64, Must::Zones)?;
+    for (index, zone) in zones.iter().enumerate() {
+        if !is_zone(zone) {
+            return Err(Fault::WrongValue {
+                key,
+                number: index + 1,
+                must: Must::Zone,
+            });
+        }
+    }
+    Ok(())
+}
+
+/// The range of a cable's entry, if that is one.
+pub(crate) fn range_of(cable: &Value) -> Option<Range> {
+    match cable
+        .as_table()?
+        .get(Key::Range.name())?
+        .as_array()?
+        .as_slice()
+    {
+        [first, last] => {
+            let start = u16::try_from(integer(first, 1, 65279)?).ok()?;
+            let end = u16::try_from(integer(last, 1, 65279)?).ok()?;
+            Range::new(start, end).ok()
+        }
+        _ => None,
+    }
+}
+
+/// What is wrong with a cable.
+pub(crate) fn check_cable(cable: &Value) -> Result<(), Fault> {
+    let table = table_with(cable, &[Key::Range, Key::Zones])?;
+    if range_of(cable).is_none() {
+        return Err(Fault::Wrong {
+            key: Key::Range,
+            must: Must::Range,
+        });
+    }
+    check_zones(table, Key::Zones)
+}

@@ -1,0 +1,150 @@
+//! What is wrong with a loss or an action.
+
+use crate::check::{
+    at, entry_of, has_all, has_only, integer_at, number_at, table_of, table_with, text_at, tick_at,
+};
+use crate::fault::Fault;
+use crate::key::Key;
+use crate::must::Must;
+use crate::station::{address_of, are_digits};
+use toml::{Table, Value};
+
+/// What is wrong with a loss.
+pub(crate) fn check_loss(loss: &Value, ticks: u32, cables: &[Value]) -> Result<(), Fault> {
+    let table = table_with(loss, &[Key::Cable, Key::First, Key::Last])?;
+    let cable = number_at(table, Key::Cable)?;
+    let first = tick_at(table, Key::First, ticks)?;
+    let last = tick_at(table, Key::Last, ticks)?;
+    entry_of(cables, Key::Cable, cable)?;
+    if first > last {
+        return Err(Fault::Reversed { first, last });
+    }
+    Ok(())
+}
+
+/// The keys of an action that sends.
+const SEND_KEYS: [Key; 8] = [
+    Key::At,
+    Key::Node,
+    Key::Do,
+    Key::To,
+    Key::Socket,
+    Key::Source,
+    Key::Type,
+    Key::Hex,
+];
+
+/// The keys of an action that looks up names.
+const LOOKUP_KEYS: [Key; 7] = [
+    Key::At,
+    Key::Node,
+    Key::Do,
+    Key::Id,
+    Key::Object,
+    Key::Type,
+    Key::Zone,
+];
+
+/// The keys of all actions.
+const ACTION_KEYS: [Key; 11] = [
+    Key::At,
+    Key::Node,
+    Key::Do,
+    Key::To,
+    Key::Socket,
+    Key::Source,
+    Key::Type,
+    Key::Hex,
+    Key::Id,
+    Key::Object,
+    Key::Zone,
+];
+
+/// What the word of an action has its node do.
+#[derive(Clone, Copy, Debug, PartialEq, Eq)]
+enum Word {
+    Send,
+    Lookup,
+    Neither,
+}
+
+/// What an action has its node do.
+fn word_in(table: &Table) -> Word {
+    if let Some(value) = table.get(Key::Do.name())
+        && let Some(word) = value.as_str()
+    {
+        if word == "send" {
+            return Word::Send;
+        }
+        if word == "lookup" {
+            return Word::Lookup;
+        }
+    }
+    Word::Neither
+}
+
+/// What is wrong with the keys, the tick or the node of an action; there may be no such node.
+fn check_common(action: &Value, named: &[Key], ticks: u32) -> Result<(), Fault> {
+    let table = table_with(action, named)?;
+    tick_at(table, Key::At, ticks)?;
+    number_at(table, Key::Node)?;
+    Ok(())
+}
+
+/// What is wrong with an action that sends.
+fn check_send(action: &Value, table: &Table, ticks: u32) -> Result<(), Fault> {
+    check_common(action, &SEND_KEYS, ticks)?;
+    if address_of(at(table, Key::To)?).is_none() {
+        return Err(Fault::Wrong {
+            key: Key::To,
+            must: Must::Address,
+        });
+    }
+    integer_at(table, Key::Socket, 0, 255)?;
+    integer_at(table, Key::Source, 0, 255)?;
+    integer_at(table, Key::Type, 0, 255)?;
+    let digits = text_at(table, Key::Hex, 0, usize::MAX, Must::Digits)?;
+    if digits.len() % 2 == 0 && are_digits(digits) {
+        return Ok(());
+    }
+    Err(Fault::Wrong {
+        key: Key::Hex,
+        must: Must::Digits,
+    })
+}
+
+/// What is wrong with an action that looks up names.
+fn check_lookup(action: &Value, table: &Table, ticks: u32) -> Result<(), Fault> {
+    check_common(action, &LOOKUP_KEYS, ticks)?;
+    integer_at(table, Key::Id, 0, 65535)?;
+    text_at(table, Key::Object, 1, 32, Must::Pattern)?;
+    text_at(table, Key::Type, 1, 32, Must::Pattern)?;
+    text_at(table, Key::Zone, 0, 32, Must::Text)?;
+    Ok(())
+}
+
+/// What is wrong with an action whose `do` is neither of the two words.
+fn check_neither(action: &Value, ticks: u32) -> Result<(), Fault> {
+    let table = table_of(action)?;
+    has_only(table, &ACTION_KEYS)?;
+    has_all(table, &[Key::At, Key::Node, Key::Do])?;
+    tick_at(table, Key::At, ticks)?;
+    number_at(table, Key::Node)?;
+    Err(Fault::Wrong {
+        key: Key::Do,
+        must: Must::Word,
+    })
+}
+
+/// What is wrong with an action.
+pub(crate) fn check_action(action: &Value, ticks: u32, nodes: &[Value]) -> Result<(), Fault> {
+    let table = table_of(action)?;
+    match word_in(table) {
+        Word::Send => check_send(action, table, ticks)?,
+        Word::Lookup => check_lookup(action, table, ticks)?,
+        Word::Neither => check_neither(action, ticks)?,
+    }
+    let node = number_at(table, Key::Node)?;
+    entry_of(nodes, Key::Node, node)?;
+    Ok(())
+}
