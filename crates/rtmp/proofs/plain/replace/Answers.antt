@@ -1,6 +1,5 @@
-use Rattle.std.proofs.Common.{◌≡◌, ◌<◌, ◌≤◌, ◌∙◌, ℕ, length, sym, arith}
+use Rattle.std.proofs.Common.{◌≡◌, ◌∙◌, sym, arith}
 use Rattle.rtmp.proofs.Maps.{none_at, replace_at}
-use Rattle.rtmp.specs.Routes.{replaced}
 use Rattle.rtmp.specs.Updates.{before}
 use Rattle.rtmp.proofs.plain.replace.Goals as goal
 
