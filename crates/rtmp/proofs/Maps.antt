@@ -1,6 +1,6 @@
 -- Finite maps as rows by rising range: what filters, updates of rows and a new row leave of them.
 use Rattle.std.proofs.Common.{◌≡◌, ℕ, zero, suc, ◌+◌, ◌<◌, ◌≤◌, Bool, true, false, cond, not, ◌&&◌, ◌==◌, List, [], ◌∷◌, ◌++◌, length, map}
-use Rattle.std.proofs.Common.{filter, take, drop, set, insert, get_or, refl, sym, ap, ◌∙◌, arith, nat_lt, nat_le}
+use Rattle.std.proofs.Common.{find, Some, None, filter, take, drop, set, insert, get_or, refl, sym, ap, ◌∙◌, arith, nat_lt, nat_le}
 use Rattle.std.specs.List.{list_all, list_any}
 use Rattle.std.proofs.lemmas.Bool.Decides.{nat_tests}
 use Rattle.std.proofs.lemmas.Bool.{and_parts, or_parts, ltb-true, ltb-false, lt-ltb, eqb-true, ne_eqb}
@@ -11,7 +11,7 @@ use Rattle.at_base.specs.declared.address.Addr.{Addr}
 use Rattle.rtmp.specs.declared.state.State.TheVariants.{Bad}
 use Rattle.rtmp.specs.declared.row.Row.{Row}
 use Rattle.rtmp.specs.Routes.{are_above, is_row, is_direct, added, beside, directed, direct_row, aged, aged_row, is_over, older, poisoned}
-use Rattle.rtmp.specs.Routes.{poisoned_row, replaced, replaced_row, IsRouteMap}
+use Rattle.rtmp.specs.Routes.{poisoned_row, replaced, replaced_row, row_at, IsRouteMap}
 use Rattle.rtmp.specs.Updates.{before}
 
 -- ---- A valid row
@@ -180,6 +180,114 @@ none_at row d low (r ∷ rows) each h other =
       | false ↦ λ t other.
           let le = ltb-false _ _ t in
           rw (other (omega arith)) (ap (λ (l : List Row). r ∷ l) (sym (none_above row r.range.end rows (omega (arith, le, ends.1)) e.1 q.1)))
+    ]) refl other
+
+-- ---- Which rows start below a network
+
+-- each row starts above the network that all are above
+above_each : (low : ℕ) (rows : List Row) (k : ℕ) (d : Row) → list_all is_row rows ≡ true → are_above low rows ≡ true
+    → k < length rows → low < (get_or rows k d).range.start
+above_each low [] k d each h less = absurd (omega (arith, less))
+above_each low (r ∷ rows) zero d each h less =
+    ltb-true _ _ (and_parts (nat_lt low r.range.start) (are_above r.range.end rows) h).0
+above_each low (r ∷ rows) (suc k) d each h less =
+    let q = and_parts (nat_lt low r.range.start) (are_above r.range.end rows) h in
+    let e = and_parts (is_row r) (list_all is_row rows) each in
+    let first = ltb-true _ _ q.0 in
+    let ends = (row_ends r e.0).1 in
+    let rest = above_each r.range.end rows k d e.1 q.1 (omega (arith, less)) in
+    omega (arith, first, ends, rest)
+
+-- a row that starts below a network is one of the first that do
+pub before_over : (start low : ℕ) (rows : List Row) (k : ℕ) (d : Row) → list_all is_row rows ≡ true → are_above low rows ≡ true
+    → k < length rows → (get_or rows k d).range.start < start → k < before start rows
+before_over start low [] k d each h less below = absurd (omega (arith, less))
+before_over start low (r ∷ rows) zero d each h less below = rw (lt-ltb _ _ below) (omega arith)
+before_over start low (r ∷ rows) (suc k) d each h less below =
+    let q = and_parts (nat_lt low r.range.start) (are_above r.range.end rows) h in
+    let e = and_parts (is_row r) (list_all is_row rows) each in
+    let ends = (row_ends r e.0).1 in
+    let rest = above_each r.range.end rows k d e.1 q.1 (omega (arith, less)) in
+    let first : nat_lt r.range.start start ≡ true = lt-ltb _ _ (omega (arith, ends, rest, below)) in
+    let more = before_over start r.range.end rows k d e.1 q.1 (omega (arith, less)) below in
+    rw first (omega (arith, more))
+
+-- and one that doesn't isn't
+pub before_under : (start : ℕ) (rows : List Row) (k : ℕ) (d : Row) → k < length rows
+    → start ≤ (get_or rows k d).range.start → before start rows ≤ k
+before_under start [] k d less over = absurd (omega (arith, less))
+before_under start (r ∷ rows) zero d less over =
+    (elim (nat_lt r.range.start start) as (λ b. nat_lt r.range.start start ≡ b → cond b (suc (before start rows)) 0 ≤ 0) [
+      | true ↦ λ t. let is = ltb-true _ _ t in absurd (omega (arith, is, over))
+      | false ↦ λ t. omega arith
+    ]) refl
+before_under start (r ∷ rows) (suc k) d less over =
+    let rest = before_under start rows k d (omega (arith, less)) over in
+    (elim (nat_lt r.range.start start) as (λ b. cond b (suc (before start rows)) 0 ≤ suc k) [
+      | true ↦ omega (arith, rest)
+      | false ↦ omega arith
+    ])
+
+pub before_fits : (start : ℕ) (rows : List Row) → before start rows ≤ length rows
+before_fits start [] = omega arith
+before_fits start (r ∷ rows) =
+    let rest = before_fits start rows in
+    (elim (nat_lt r.range.start start) as (λ b. cond b (suc (before start rows)) 0 ≤ suc (length rows)) [
+      | true ↦ omega (arith, rest)
+      | false ↦ omega arith
+    ])
+
+-- rows above a network have no range that starts there or below
+no_row_above : (range : Span) (low : ℕ) (rows : List Row) → range.start ≤ low → list_all is_row rows ≡ true → are_above low rows ≡ true
+    → row_at range rows ≡ None
+no_row_above range low [] le each h = refl
+no_row_above range low (r ∷ rows) le each h =
+    let q = and_parts (nat_lt low r.range.start) (are_above r.range.end rows) h in
+    let e = and_parts (is_row r) (list_all is_row rows) each in
+    let ends = row_ends r e.0 in
+    let over = ltb-true _ _ q.0 in
+    let other : (r.range.start == range.start) ≡ false = ne_eqb _ _ (λ same. absurd (omega (arith, same, over, le))) in
+    rw other (no_row_above range r.range.end rows (omega (arith, ends.1, over, le)) e.1 q.1)
+
+-- the row of a range is the first that doesn't start below it
+pub row_found : (range : Span) (d : Row) (rows : List Row)
+    → before range.start rows < length rows → same_range (get_or rows (before range.start rows) d).range range ≡ true
+    → row_at range rows ≡ Some (get_or rows (before range.start rows) d)
+row_found range d [] less same = absurd (omega (arith, less))
+row_found range d (r ∷ rows) less same =
+    (elim (nat_lt r.range.start range.start) as
+    (λ b. nat_lt r.range.start range.start ≡ b
+    → cond b (suc (before range.start rows)) 0 < length (r ∷ rows)
+    → same_range (get_or (r ∷ rows) (cond b (suc (before range.start rows)) 0) d).range range ≡ true
+    → row_at range (r ∷ rows) ≡ Some (get_or (r ∷ rows) (cond b (suc (before range.start rows)) 0) d)) [
+      | true ↦ λ t less same.
+          let below = ltb-true _ _ t in
+          let other : (r.range.start == range.start) ≡ false = ne_eqb _ _ (λ is. absurd (omega (arith, is, below))) in
+          rw other (row_found range d rows (omega (arith, less)) same)
+      | false ↦ λ t less same. rw same refl
+    ]) refl less same
+
+-- and where that is another range's, there is none
+pub row_missing : (range : Span) (d : Row) (low : ℕ) (rows : List Row) → list_all is_row rows ≡ true → are_above low rows ≡ true
+    → (before range.start rows < length rows → same_range (get_or rows (before range.start rows) d).range range ≡ false)
+    → row_at range rows ≡ None
+row_missing range d low [] each h other = refl
+row_missing range d low (r ∷ rows) each h other =
+    let q = and_parts (nat_lt low r.range.start) (are_above r.range.end rows) h in
+    let e = and_parts (is_row r) (list_all is_row rows) each in
+    let ends = row_ends r e.0 in
+    (elim (nat_lt r.range.start range.start) as
+    (λ b. nat_lt r.range.start range.start ≡ b
+    → (cond b (suc (before range.start rows)) 0 < length (r ∷ rows)
+    → same_range (get_or (r ∷ rows) (cond b (suc (before range.start rows)) 0) d).range range ≡ false)
+    → row_at range (r ∷ rows) ≡ None) [
+      | true ↦ λ t other.
+          let below = ltb-true _ _ t in
+          let apart : (r.range.start == range.start) ≡ false = ne_eqb _ _ (λ is. absurd (omega (arith, is, below))) in
+          rw apart (row_missing range d r.range.end rows e.1 q.1 (λ less. other (omega (arith, less))))
+      | false ↦ λ t other.
+          let le = ltb-false _ _ t in
+          rw (other (omega arith)) (no_row_above range r.range.end rows (omega (arith, le, ends.1)) e.1 q.1)
     ]) refl other
 
 -- ---- A loop that updates each row

@@ -53,11 +53,48 @@ fn rows_are_apart(rows: &[Row]) -> bool
     true
 }
 
+/// The number of rows that start below the network, which is between these two.
+fn place_between(rows: &[Row], start: u16, low: usize, high: usize) -> usize
+    requires map { IsRouteMap rows.now }
+    requires from { low ≤ before start rows.now }
+    requires to { before start rows.now ≤ high }
+    requires inside { high ≤ length rows.now }
+    ensures { result ≡ before start rows.now }
+{
+    if low >= high {
+        return low;
+    }
+    let middle = low + (high - low) / 2;
+    if rows[middle].range.start() < start {
+        place_between(rows, start, middle + 1, high)
+    } else {
+        place_between(rows, start, low, middle)
+    }
+}
+
+/// The number of rows that start below the network. The rows are halved.
+fn place_in(rows: &[Row], start: u16) -> usize
+    requires { IsRouteMap rows.now }
+    ensures { result ≡ before start rows.now }
+{
+    place_between(rows, start, 0, rows.len())
+}
+
 /// The row of a range.
 fn row_of(rows: &[Row], range: Range) -> Option<&Row>
+    requires { IsRouteMap rows.now }
     ensures { option_copied result ≡ row_at range rows.now }
 {
-    rows.iter().find(|row| row.range == range)
+    let place = place_in(rows, range.start());
+    if place >= rows.len() {
+        return None;
+    }
+    let row = &rows[place];
+    if row.range == range {
+        Some(row)
+    } else {
+        None
+    }
 }
 
 /// The usable row whose range holds the network.
@@ -194,7 +231,7 @@ fn replace(rows: &mut Vec<Row>, row: Row)
     requires { IsRouteMap rows.old.items }
     ensures { rows.new.items ≡ replaced row rows.old.items }
 {
-    let place = place_for(rows.as_slice(), row.range.start());
+    let place = place_in(rows.as_slice(), row.range.start());
     if place >= rows.len() {
         return;
     }
