@@ -19,7 +19,8 @@ use at_base::{Addr, Error, Range};
 use std::alloc::Global;
 use std::marker::Model;
 
-/// A routing table as a vector of rows by rising range. It searches row by row.
+/// A routing table as a vector of rows by rising range. It finds the row of a range by halving, and
+/// that of a network row by row.
 #[derive(Debug, Drop)]
 pub struct PlainTable {
     rows: Vec<Row>,
