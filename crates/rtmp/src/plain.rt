@@ -91,11 +91,7 @@ fn row_of(rows: &[Row], range: Range) -> Option<&Row>
         return None;
     }
     let row = &rows[place];
-    if row.range == range {
-        Some(row)
-    } else {
-        None
-    }
+    if row.range == range { Some(row) } else { None }
 }
 
 /// The usable row whose range holds the network.

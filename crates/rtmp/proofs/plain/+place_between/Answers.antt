@@ -19,6 +19,13 @@ place_between-requires-else-start t c =
     let start : c.start.result ≡ (slice_index_or c.args.rows.now middle c.index-rows-middle.result).range.start =
     c.start.ensures.value in
     let under = before_under c.args.start c.args.rows.now (c.args.low + (c.args.high - c.args.low) / 2) c.index-rows-middle.result
-    (omega (arith, c.if-low-high.false, c.requires.inside)) (omega (arith, start, c.if-start.false)) in
-    (omega (arith, c.if-low-high.false, c.decreases), (c.requires.map, (c.requires.from,
-    (omega (arith, under), omega (arith, c.if-low-high.false, c.requires.inside)))))
+    (omega (arith, c.if-low-high.false, c.requires.inside)) (omega (arith, start, c.if-start.false)) in (
+      omega (arith, c.if-low-high.false, c.decreases),
+      (
+        c.requires.map,
+        (
+          c.requires.from,
+          (omega (arith, under), omega (arith, c.if-low-high.false, c.requires.inside)),
+        ),
+      ),
+    )
