@@ -3,6 +3,7 @@ pub mod Counting
 pub mod Ended
 pub mod Finds
 pub mod Firsts
+pub mod Indexed
 pub mod Legs
 pub mod Outs
 pub mod Pairs

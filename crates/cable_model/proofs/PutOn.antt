@@ -1,6 +1,6 @@
 -- The pairs that a frame makes, as they are kept.
 use Rattle.std.proofs.Common.{◌≡◌, ℕ, suc, ◌+◌, ◌<◌, ◌≤◌, Bool, true, false, not, cond, ◌&&◌, ◌==◌, List, [], ◌∷◌, ◌++◌, Some}
-use Rattle.std.proofs.Common.{length, refl, sym, ap, ◌∙◌, subst, arith, map, filter, append-nil, slice_get, drop, slice_index_or, drop-cons}
+use Rattle.std.proofs.Common.{length, refl, sym, ap, ◌∙◌, subst, arith, map, filter, append-nil, slice_get}
 use Rattle.std.proofs.Common.{if◌then◌else◌, slice_index}
 use Rattle.std.specs.List.{AllByRecursion as Each}
 use Rattle.std.proofs.lemmas.List.{map-append, length-map}
@@ -33,17 +33,6 @@ is_for_is to sender s = by (is_all to) (is_group to)
     by false true = refl
     by false false = refl
 
--- one seat more
-pub dues_next : (test : Seat → Bool) (stamp put i : ℕ) (ss : List Seat) (s : Seat) → i < length ss → s ≡ slice_index_or ss i s
-    → dues test stamp put i (drop i ss)
-    ≡ cond (test s) (record { stamp = stamp; put = put; seat = i } ∷ dues test stamp put (i + 1) (drop (i + 1) ss))
-    (dues test stamp put (i + 1) (drop (i + 1) ss))
-dues_next test stamp put i ss s h e =
-    let next : suc i ≡ i + 1 = omega arith in
-    let split : drop i ss ≡ s ∷ drop (i + 1) ss =
-    drop-cons ss i s h ∙ (ap (λ x. x ∷ drop (suc i) ss) (sym e) ∙ ap (λ n. s ∷ drop n ss) next) in
-    ap (dues test stamp put i) split
-
 dues_agree : (t u : Seat → Bool) (stamp put k : ℕ) (ss : List Seat) → ((s : Seat) → t s ≡ u s) → dues t stamp put k ss ≡ dues u stamp put k ss
 dues_agree t u stamp put k [] h = refl
 dues_agree t u stamp put k (s ∷ ss) h =
@@ -51,15 +40,15 @@ dues_agree t u stamp put k (s ∷ ss) h =
     ∙ ap (λ l. cond (u s) (record { stamp = stamp; put = put; seat = k } ∷ l) l) (dues_agree t u stamp put (k + 1) ss h)
 
 -- the rest of a list of seats, from an index on
-abbrev IsRest : List Seat → ℕ → List Seat → Type 0
+abbrev pub IsRest : List Seat → ℕ → List Seat → Type 0
 IsRest seats k rest = (i : ℕ) (s : Seat) → slice_get rest i ≡ Some s → slice_get seats (k + i) ≡ Some s
 
-rest_next : (seats rest : List Seat) (s : Seat) (k : ℕ) → IsRest seats k (s ∷ rest) → IsRest seats (k + 1) rest
+pub rest_next : (seats rest : List Seat) (s : Seat) (k : ℕ) → IsRest seats k (s ∷ rest) → IsRest seats (k + 1) rest
 rest_next seats rest s k h = λ i x e.
     let same : k + suc i ≡ (k + 1) + i = omega arith in
     subst (λ n. slice_get seats n ≡ Some x) same (h (suc i) x e)
 
-rest_first : (seats rest : List Seat) (s : Seat) (k : ℕ) → IsRest seats k (s ∷ rest) → slice_get seats k ≡ Some s
+pub rest_first : (seats rest : List Seat) (s : Seat) (k : ℕ) → IsRest seats k (s ∷ rest) → slice_get seats k ≡ Some s
 rest_first seats rest s k h =
     let same : k + 0 ≡ k = omega arith in
     subst (λ n. slice_get seats n ≡ Some s) same (h 0 s refl)

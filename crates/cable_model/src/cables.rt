@@ -20,6 +20,7 @@ use crate::log::{self, Log};
 use crate::resolve::Resolve;
 use crate::room::{make_room, pairs_of};
 use crate::seat::Seat;
+use crate::seats::Seats;
 use crate::waiting::Waiting;
 use crate::{earliest, ending, outcome, putting, seating, taking};
 use at_base::{Bytes, Error, Hw};
@@ -40,7 +41,7 @@ pub const MAX_FRAME: usize = 599;
 /// Cables, the seats on them, and what happened there. This project's own.
 #[derive(Drop)]
 pub struct Cables {
-    seats: Vec<Seat>,
+    seats: Seats,
     limit: u32,
     log: Log,
     alloc: Global,
@@ -53,14 +54,14 @@ impl Model for Cables {
     ghost Value = { Cabling };
 
     ghost view = { λ c. record {
-      seats = c.seats.items;
+      seats = c.seats;
       limit = c.limit;
       lines = c.log.lines.items;
       kept = c.log.kept.items;
       waiting = c.log.waiting.items;
     } };
 
-    ghost invariant = { λ c. IsKept c.seats.items c.limit c.log };
+    ghost invariant = { λ c. IsKept c.seats c.limit c.log };
 }
 
 impl Cables {
@@ -73,7 +74,7 @@ impl Cables {
             ≡ record { seats = seats.now; limit = limit; lines = []; kept = []; waiting = [] }) }
         ensures refused { IsOkUnless result Error.Memory }
     {
-        let seats = Vec::from_slice(alloc, seats)?;
+        let seats = Seats::of(alloc, seats)?;
         Ok(Cables {
             seats,
             limit,
@@ -103,7 +104,7 @@ impl Cables {
         ensures { result ≡ list_any (is_named stamp station)
             (pending_on self.now.seats (said self.now)) }
     {
-        ending::find_pair(&self.log, &self.seats, stamp, station).is_some()
+        ending::find_pair(&self.log, self.seats.as_slice(), stamp, station).is_some()
     }
 
     /// What the station hears of the frame of a stamp, where it is pending for it. Allocates nothing.
@@ -113,8 +114,8 @@ impl Cables {
         ensures none { IfNone result (list_any (is_named stamp station)
             (pending_on self.now.seats (said self.now)) ≡ false) }
     {
-        match ending::find_pair(&self.log, &self.seats, stamp, station) {
-            Some(due) => Some(taking::heard_of(&self.log, &self.seats, due)),
+        match ending::find_pair(&self.log, self.seats.as_slice(), stamp, station) {
+            Some(due) => Some(taking::heard_of(&self.log, self.seats.as_slice(), due)),
             None => None,
         }
     }
@@ -126,7 +127,7 @@ impl Cables {
             IsLeast (pending_on self.now.seats (said self.now)) pair.0 pair.1) }
         ensures none { IfNone result (pending_on self.now.seats (said self.now) ≡ []) }
     {
-        earliest::first_pair(&self.log, &self.seats)
+        earliest::first_pair(&self.log, self.seats.as_slice())
     }
 
     /// The number of pairs of a frame and a station that are pending. Allocates nothing.
@@ -174,7 +175,7 @@ impl Cables {
             ⊎ (e ≡ Error.TooLong) ⊎ (e ≡ Error.Full) ⊎ (e ≡ Error.Memory)) }
         ensures kept { OnErr result (self.new ≡ self.old) }
     {
-        match seating::check(&self.seats, cable, station) {
+        match seating::check(self.seats.as_slice(), cable, station) {
             Ok(()) => {}
             Err(stop) => return Err(stop),
         }
@@ -223,7 +224,7 @@ impl Cables {
             ⊎ (e ≡ Error.Full) ⊎ (e ≡ Error.Memory)) }
         ensures kept { OnErr result (self.new ≡ self.old) }
     {
-        match seating::check(&self.seats, cable, station) {
+        match seating::check(self.seats.as_slice(), cable, station) {
             Ok(()) => {}
             Err(stop) => return Err(stop),
         }
@@ -232,7 +233,7 @@ impl Cables {
             Err(stop) => return Err(stop),
         }
         log::forget_waiting(&mut self.log);
-        let exit = seating::exit_on(&self.seats, cable, station);
+        let exit = seating::exit_on(self.seats.as_slice(), cable, station);
         outcome::sent(&mut self.log, &self.seats, resolver, exit, next, bytes);
         Ok(())
     }
@@ -264,7 +265,7 @@ impl Cables {
         ensures kept { OnErr result (self.new ≡ self.old) }
         ensures taker_stays { OnErr result (taker.new ≡ taker.old) }
     {
-        let Some(due) = ending::find_pair(&self.log, &self.seats, stamp, station) else {
+        let Some(due) = ending::find_pair(&self.log, self.seats.as_slice(), stamp, station) else {
             return Err(Error::NotPending);
         };
         let pairs = pairs_of(self.seats.len());
@@ -276,13 +277,13 @@ impl Cables {
             Ok(outputs) => outputs,
             Err(stop) => return Err(stop),
         };
-        let heard = taking::heard_of(&self.log, &self.seats, due);
+        let heard = taking::heard_of(&self.log, self.seats.as_slice(), due);
         match taker.receive(&heard, &mut outputs) {
             Ok(()) => {}
             Err(stop) => return Err(stop),
         }
         log::forget_waiting(&mut self.log);
-        ending::took(&mut self.log, &self.seats, stamp, station);
+        ending::took(&mut self.log, self.seats.as_slice(), stamp, station);
         outcome::add_all(&mut self.log, &self.seats, resolver, station, &mut outputs);
         Ok(())
     }
@@ -310,7 +311,7 @@ impl Cables {
             Ok(()) => {}
             Err(stop) => return Err(stop),
         }
-        ending::lost(&mut self.log, &self.seats, stamp);
+        ending::lost(&mut self.log, self.seats.as_slice(), stamp);
         Ok(())
     }
 }

@@ -1,6 +1,6 @@
 //! Who hears a frame.
 
-ghost use Rattle.std.specs.Prelude.{◌≡◌, ◌&&◌, ◌==◌};
+ghost use Rattle.std.specs.Prelude.{◌≡◌};
 ghost use Rattle.at_base.specs.Text.{same_bytes};
 ghost use Rattle.cable_model.specs.Outcomes.{is_for_as, link_of as link_in};
 
@@ -29,14 +29,13 @@ pub fn link_of(to: &Hw) -> Link
     }
 }
 
-/// Whether a frame with this link is on the seat's cable, and for the station there.
-pub fn hears(seat: &Seat, cable: u8, sender: u16, to: &Hw, link: Link) -> bool
-    ensures { result ≡ (seat.now.cable == cable && is_for_as link to.now sender seat.now) }
+/// Whether a frame with this link on a seat's cable is for the station there.
+pub fn is_for(seat: &Seat, sender: u16, to: &Hw, link: Link) -> bool
+    ensures { result ≡ is_for_as link to.now sender seat.now }
 {
-    seat.cable == cable
-        && match link {
-            Link::All => seat.station != sender,
-            Link::Group(group) => seat.station != sender && seat.group == Some(group),
-            Link::Own => same_hw(&seat.hw, to),
-        }
+    match link {
+        Link::All => seat.station != sender,
+        Link::Group(group) => seat.station != sender && seat.group == Some(group),
+        Link::Own => same_hw(&seat.hw, to),
+    }
 }

@@ -17,7 +17,7 @@ use crate::exit::Exit;
 use crate::log::{Log, hold, note};
 use crate::putting::put;
 use crate::resolve::Found;
-use crate::seat::Seat;
+use crate::seats::Seats;
 use crate::waiting::Waiting;
 use crate::way::Way;
 use at_base::{Addr, Hw};
@@ -47,7 +47,7 @@ fn reached(log: &mut Log, exit: Exit, how: How, bytes: u32)
 }
 
 /// A datagram goes to the station that it is for.
-fn to_target(log: &mut Log, seats: &[Seat], exit: Exit, addr: Addr, found: Found, bytes: u32)
+fn to_target(log: &mut Log, seats: &Seats, exit: Exit, addr: Addr, found: Found, bytes: u32)
     requires room { HasRoom log.old 2 0 1 (length seats.now) }
     requires book { IsBook seats.now log.old }
     requires names { bytes < length log.old.kept.items }
@@ -72,7 +72,7 @@ fn to_target(log: &mut Log, seats: &[Seat], exit: Exit, addr: Addr, found: Found
 }
 
 /// A datagram goes to another station.
-fn to_other(log: &mut Log, seats: &[Seat], exit: Exit, addr: Addr, found: Found, bytes: u32)
+fn to_other(log: &mut Log, seats: &Seats, exit: Exit, addr: Addr, found: Found, bytes: u32)
     requires room { HasRoom log.old 1 0 1 (length seats.now) }
     requires book { IsBook seats.now log.old }
     requires names { bytes < length log.old.kept.items }
@@ -109,7 +109,7 @@ fn wait(log: &mut Log, exit: Exit, next: Addr, bytes: u32)
 }
 
 /// A datagram goes to all stations.
-fn to_all(log: &mut Log, seats: &[Seat], exit: Exit, listed: bool, bytes: u32)
+fn to_all(log: &mut Log, seats: &Seats, exit: Exit, listed: bool, bytes: u32)
     requires room { HasRoom log.old 2 0 0 (length seats.now) }
     requires book { IsBook seats.now log.old }
     requires names { bytes < length log.old.kept.items }
@@ -144,7 +144,7 @@ fn to_all(log: &mut Log, seats: &[Seat], exit: Exit, listed: bool, bytes: u32)
 }
 
 /// A datagram goes onto a cable.
-pub fn leave(log: &mut Log, seats: &[Seat], exit: Exit, way: Way, bytes: u32)
+pub fn leave(log: &mut Log, seats: &Seats, exit: Exit, way: Way, bytes: u32)
     requires room { HasRoom log.old 2 0 1 (length seats.now) }
     requires book { IsBook seats.now log.old }
     requires names { bytes < length log.old.kept.items }

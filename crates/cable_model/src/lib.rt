@@ -17,6 +17,7 @@ mod resolve;
 mod room;
 mod seat;
 mod seating;
+mod seats;
 mod taking;
 mod waiting;
 mod way;

@@ -17,8 +17,8 @@ use crate::leaving::leave;
 use crate::log::{Log, keep, note};
 use crate::putting::put;
 use crate::resolve::{Found, Resolve};
-use crate::seat::Seat;
 use crate::seating::exit_by;
+use crate::seats::Seats;
 use crate::way::{Way, way_of};
 use at_base::{Bytes, Hw};
 use station::{Cause, Kind, Next, Output, Outputs};
@@ -26,7 +26,7 @@ use station::{Cause, Kind, Next, Output, Outputs};
 /// A station made a datagram, which goes onto a cable.
 pub fn sent<R: Resolve>(
     log: &mut Log,
-    seats: &[Seat],
+    seats: &Seats,
     resolver: &R,
     exit: Exit,
     next: Next,
@@ -59,7 +59,7 @@ pub fn sent<R: Resolve>(
 /// aren't kept.
 fn passed<R: Resolve>(
     log: &mut Log,
-    seats: &[Seat],
+    seats: &Seats,
     resolver: &R,
     exit: Exit,
     next: Next,
@@ -140,7 +140,7 @@ fn dropped(log: &mut Log, router: u16, cause: Cause, bytes: Bytes)
 }
 
 /// A station puts an AARP packet on a cable.
-fn wire(log: &mut Log, seats: &[Seat], exit: Exit, to: Hw, bytes: Bytes)
+fn wire(log: &mut Log, seats: &Seats, exit: Exit, to: Hw, bytes: Bytes)
     requires room { HasRoom log.old 3 1 0 (length seats.now) }
     requires book { IsBook seats.now log.old }
     ensures grows { Grows log.old log.new
@@ -155,7 +155,7 @@ fn wire(log: &mut Log, seats: &[Seat], exit: Exit, to: Hw, bytes: Bytes)
 }
 
 /// Adds what becomes of an output.
-fn add<R: Resolve>(log: &mut Log, seats: &[Seat], resolver: &R, station: u16, output: Output)
+fn add<R: Resolve>(log: &mut Log, seats: &Seats, resolver: &R, station: u16, output: Output)
     requires room { HasRoom log.old (lines_for output) 1 1 (length seats.now) }
     requires book { IsBook seats.now log.old }
     ensures grows { let places : Places = record { finds = R.finds resolver.now; lists = R.lists resolver.now } in
@@ -198,7 +198,7 @@ fn add<R: Resolve>(log: &mut Log, seats: &[Seat], resolver: &R, station: u16, ou
 /// Adds what becomes of outputs, one after another, and leaves none.
 pub fn add_all<R: Resolve>(
     log: &mut Log,
-    seats: &[Seat],
+    seats: &Seats,
     resolver: &R,
     station: u16,
     outputs: &mut Outputs,

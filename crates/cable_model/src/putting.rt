@@ -1,23 +1,25 @@
 //! Frames that are put on a cable.
 
-ghost use Rattle.std.specs.Prelude.{◌≡◌, ◌<◌, ◌≤◌, ◌+◌, ◌&&◌, ◌==◌, [], ◌∷◌, ◌++◌, length};
+ghost use Rattle.std.specs.Prelude.{◌≡◌, ◌<◌, ◌≤◌, ◌+◌, ◌&&◌, ◌==◌, [], ◌∷◌, ◌++◌, length, slice_get};
 ghost use Rattle.std.specs.Prelude.{vec_len};
 ghost use Rattle.std.specs.VecDeque.{deque_capacity, deque_len};
 ghost use Rattle.cable_model.specs.Books.{Grows, HasRoom, IsBook, Uses, dues};
 ghost use Rattle.cable_model.specs.Logs.{bytes_at};
 ghost use Rattle.cable_model.specs.Outcomes.{framed, is_for_as, link_of};
+ghost use Rattle.cable_model.specs.Places.{due_at, dues_at};
 
 use crate::due::Due;
 use crate::entry::Entry;
-use crate::hearing::{self, hears};
+use crate::hearing::{self, is_for};
 use crate::log::Log;
 use crate::seat::Seat;
+use crate::seats::Seats;
 use at_base::Hw;
-use station::Kind;
+use station::{Kind, Link};
 use std::collections::VecDeque;
 
 /// Puts a frame on its cable, for all who hear it there.
-pub fn put(log: &mut Log, seats: &[Seat], cable: u8, sender: u16, to: Hw, kind: Kind, bytes: u32)
+pub fn put(log: &mut Log, seats: &Seats, cable: u8, sender: u16, to: Hw, kind: Kind, bytes: u32)
     requires room { HasRoom log.old 1 0 0 (length seats.now) }
     requires book { IsBook seats.now log.old }
     requires names { bytes < length log.old.kept.items }
@@ -45,10 +47,68 @@ pub fn put(log: &mut Log, seats: &[Seat], cable: u8, sender: u16, to: Hw, kind: 
     add_dues(&mut log.due, seats, cable, sender, &to, stamp, put);
 }
 
+/// The seat at an index, if there is one.
+fn seat_at(seats: &[Seat], index: usize) -> Option<Seat>
+    ensures { result ≡ slice_get seats.now index }
+{
+    seats.get(index).copied()
+}
+
+/// Adds the pair of a frame with the seat at an index, if its station is one that the frame is for.
+fn add_due(
+    due: &mut VecDeque<Due>,
+    seats: &[Seat],
+    seat: usize,
+    sender: u16,
+    to: &Hw,
+    link: Link,
+    stamp: u32,
+    put: u32,
+)
+    requires room { deque_len due.old + 1 ≤ deque_capacity due.old }
+    ensures added { due.new.items ≡ due.old.items
+        ++ due_at (is_for_as link to.now sender) (slice_get seats.now seat) stamp put seat }
+    ensures few { deque_len due.new ≤ deque_len due.old + 1 }
+    ensures capacity { deque_capacity due.new ≡ deque_capacity due.old }
+{
+    let Some(s) = seat_at(seats, seat) else {
+        return;
+    };
+    if is_for(&s, sender, to, link) {
+        due.push_back_reserved(Due { stamp, put, seat });
+    }
+}
+
+/// Adds the pairs of a frame with those of the seats at these indices whose stations it is for.
+fn add_those(
+    due: &mut VecDeque<Due>,
+    seats: &[Seat],
+    indices: &[usize],
+    sender: u16,
+    to: &Hw,
+    link: Link,
+    stamp: u32,
+    put: u32,
+)
+    requires room { deque_len due.old + length indices.now ≤ deque_capacity due.old }
+    ensures added { due.new.items ≡ due.old.items
+        ++ dues_at (is_for_as link to.now sender) seats.now stamp put indices.now }
+    ensures few { deque_len due.new ≤ deque_len due.old + length indices.now }
+    ensures capacity { deque_capacity due.new ≡ deque_capacity due.old }
+{
+    match indices {
+        [] => {}
+        [seat, rest @ ..] => {
+            add_due(due, seats, *seat, sender, to, link, stamp, put);
+            add_those(due, seats, rest, sender, to, link, stamp, put);
+        }
+    }
+}
+
 /// Adds the pairs of a frame with all who hear it.
 fn add_dues(
     due: &mut VecDeque<Due>,
-    seats: &[Seat],
+    seats: &Seats,
     cable: u8,
     sender: u16,
     to: &Hw,
@@ -63,11 +123,6 @@ fn add_dues(
     ensures capacity { deque_capacity due.new ≡ deque_capacity due.old }
 {
     let link = hearing::link_of(to);
-    let mut seat = 0;
-    for s in seats {
-        if s.cable == cable && hears(s, cable, sender, to, link) {
-            due.push_back_reserved(Due { stamp, put, seat });
-        }
-        seat += 1;
-    }
+    let indices = seats.on(cable);
+    add_those(due, seats.as_slice(), indices, sender, to, link, stamp, put);
 }

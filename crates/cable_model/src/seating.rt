@@ -8,6 +8,7 @@ ghost use Rattle.cable_model.specs.Outcomes.{is_seated as is_there, port_on as p
 
 use crate::exit::Exit;
 use crate::seat::Seat;
+use crate::seats::Seats;
 use at_base::{Error, What};
 
 /// Whether a station is on the cable.
@@ -66,11 +67,11 @@ fn cable_of(seats: &[Seat], station: u16, port: u8) -> u8
 }
 
 /// A station's port, with its cable.
-pub fn exit_by(seats: &[Seat], station: u16, port: u8) -> Exit
+pub fn exit_by(seats: &Seats, station: u16, port: u8) -> Exit
     ensures { result ≡ record { cable = cable_in seats.now station port; station = station; port = port } }
 {
     Exit {
-        cable: cable_of(seats, station, port),
+        cable: cable_of(seats.as_slice(), station, port),
         station,
         port,
     }

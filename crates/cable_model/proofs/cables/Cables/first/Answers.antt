@@ -8,4 +8,4 @@ pub returns-clause-some : goal.returns-clause-some
 returns-clause-some c =
     rw (← c.self.view_is)
     (subst (λ ss. IfSome c.first_pair.result (λ pair. IsLeast (pending ss (said c.self.inside.log)) pair.0 pair.1))
-    c.deref.ensures.value c.first_pair.ensures.some)
+    c.as_slice.ensures c.first_pair.ensures.some)

@@ -5,21 +5,20 @@ use Rattle.cable_model.specs.Outcomes.{framed}
 use Rattle.cable_model.proofs.cables.Cables.put.Goals as goal
 
 pub invariant_of-self : goal.invariant_of-self
-invariant_of-self c = c.make_room.ensures.kept c.self.inside.seats.items c.self.invariant
+invariant_of-self c = c.make_room.ensures.kept c.self.inside.seats c.self.invariant
 
 pub put-requires-clause-book : goal.put-requires-clause-book
 put-requires-clause-book c =
-    rw c.deref-2.ensures.value
-    (c.keep-number.ensures.book c.self.inside.seats.items
-    (c.make_room.ensures.kept c.self.inside.seats.items c.self.invariant).book)
+    (c.keep-number.ensures.book c.self.inside.seats
+    (c.make_room.ensures.kept c.self.inside.seats c.self.invariant).book)
 
 pub invariant_of-self-2 : goal.invariant_of-self-2
 invariant_of-self-2 c =
-    let k = c.make_room.ensures.kept c.self.inside.seats.items c.self.invariant in
+    let k = c.make_room.ensures.kept c.self.inside.seats c.self.invariant in
     let kept = ap (λ v. v.len) c.put.ensures.kept in
     let lines = ap (λ v. v.len) c.keep-number.ensures.lines in
     record {
-      book = subst (λ ss. IsBook ss c.put.new.log) c.deref-2.ensures.value c.put.ensures.book;
+      book = c.put.ensures.book;
       few = omega (arith, c.put.ensures.one, lines, c.in-Ok-make_room.ensures.within);
       named = omega (arith, k.named, kept, c.put.ensures.one, lines, c.keep-number.ensures.one);
       frames = omega (arith, k.frames, c.put.ensures.puts, c.keep-number.ensures.puts, c.put.ensures.one, lines);
@@ -28,7 +27,7 @@ invariant_of-self-2 c =
 
 pub returns-clause-ok : goal.returns-clause-ok
 returns-clause-ok c =
-    let s = c.self.inside.seats.items in
+    let s = c.self.inside.seats in
     let same = same_grows c.self.inside.log c.make_room.new.log c.make_room.ensures.same in
     let kept = c.keep-number.ensures.grows s (c.make_room.ensures.kept s c.self.invariant).book in
     let put : Grows c.keep-number.new.log c.put.new.log

@@ -9,22 +9,21 @@ use Rattle.ddp.specs.Bodies.{body}
 use Rattle.cable_model.proofs.cables.Cables.send.Goals as goal
 
 pub invariant_of-self : goal.invariant_of-self
-invariant_of-self g c = c.make_room.ensures.kept c.self.inside.seats.items c.self.invariant
+invariant_of-self g c = c.make_room.ensures.kept c.self.inside.seats c.self.invariant
 
 pub sent-requires-clause-book : goal.sent-requires-clause-book
 sent-requires-clause-book g c =
-    rw c.deref-3.ensures.value
-    (c.forget_waiting.ensures.book c.self.inside.seats.items
-    (c.make_room.ensures.kept c.self.inside.seats.items c.self.invariant).book)
+    (c.forget_waiting.ensures.book c.self.inside.seats
+    (c.make_room.ensures.kept c.self.inside.seats c.self.invariant).book)
 
 pub invariant_of-self-2 : goal.invariant_of-self-2
 invariant_of-self-2 g c =
-    let s = c.self.inside.seats.items in
+    let s = c.self.inside.seats in
     let k = c.make_room.ensures.kept s c.self.invariant in
     let lines = ap (λ v. v.len) c.forget_waiting.ensures.lines in
     let kept = ap (λ v. v.len) c.forget_waiting.ensures.kept in
     kept_after s c.self.inside.limit c.make_room.new.log c.sent.new.log k
-    (subst (λ ss. IsBook ss c.sent.new.log) c.deref-3.ensures.value c.sent.ensures.book)
+    c.sent.ensures.book
     (omega (arith, c.sent.ensures.uses.lines, lines, c.in-Ok-make_room.ensures.within))
     (omega (arith, c.sent.ensures.named, lines, kept, k.named))
 
@@ -36,7 +35,7 @@ returns-clause-ok g c =
     let exit : Exit = record {
       cable = c.args.cable;
       station = c.args.station;
-      port = port_on c.deref-2.result.now c.args.cable c.args.station;
+      port = port_on c.as_slice-2.result.now c.args.cable c.args.station;
     } in
     let grows =
     subst (λ (e : Exit). Grows mid new
@@ -45,7 +44,7 @@ returns-clause-ok g c =
     let puts : mid.puts ≡ stamps (said_in c.self.inside.log) =
     c.forget_waiting.ensures.puts ∙ (c.make_room.ensures.same.puts ∙ c.self.invariant.book.puts) in
     rw (← c.self.view_is)
-    (adds_from c.self.inside.seats.items c.self.inside.limit c.self.inside.log mid new
+    (adds_from c.self.inside.seats c.self.inside.limit c.self.inside.log mid new
     (Sent c.args.station (body c.args.bytes) ∷ leg places (sender_at exit (stamps (said_in c.self.inside.log))) c.args.next c.args.bytes)
     (held_next places c.args.cable exit.port c.args.next c.args.bytes)
     (ap (λ v. v.items) c.forget_waiting.ensures.lines ∙ c.make_room.ensures.same.lines)
