@@ -37,7 +37,7 @@ find_at t (y ∷ xs) x e = by (find_at t xs x) (t y) refl e
     by rest true p q = front p q
     by rest false p q = let h = rest q in (suc h.0, h.1, h.2)
 
-any_find : {X : Type 0} (t : X → Bool) (xs : List X) → is_some (find t xs) ≡ list_any t xs
+pub any_find : {X : Type 0} (t : X → Bool) (xs : List X) → is_some (find t xs) ≡ list_any t xs
 any_find t [] = refl
 any_find t (x ∷ xs) = by (any_find t xs) (t x)
   where

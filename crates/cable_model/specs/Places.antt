@@ -1,21 +1,30 @@
--- Which seats are on each cable, by their indices. This project's own.
-use Rattle.std.specs.Prelude.{◌≡◌, ℕ, ◌+◌, ◌≤◌, ◌==◌, cond, List, [], ◌∷◌, ◌++◌, length, slice_get, Option, Some, None, Bool}
+-- Which seats are on each cable, and which each station has, by their indices. This project's own.
+use Rattle.std.specs.Prelude.{◌≡◌, ℕ, ◌+◌, ◌≤◌, ◌==◌, ◌++◌, cond, Bool, true, false, List, [], ◌∷◌, length, slice_get, Option, Some, None}
 use Rattle.cable_model.specs.declared.due.Due.{Due}
 use Rattle.cable_model.specs.declared.seat.Seat.{Seat}
+use Rattle.cable_model.specs.declared.seats.Key.{Key}
+use Rattle.cable_model.specs.declared.seats.Key.TheVariants as key
 
--- the indices of the seats on a cable, where the first of these has the index k
-abbrev pub on_cable : ℕ → ℕ → List Seat → List ℕ
-on_cable cable k [] = []
-on_cable cable k (s ∷ ss) = cond (s.cable == cable) (k ∷ on_cable cable (k + 1) ss) (on_cable cable (k + 1) ss)
+-- the seat is on the cable, of the station, or by the port
+abbrev pub has_key : Key → Seat → Bool
+has_key (key.Cable cable) s = s.cable == cable
+has_key (key.Station station) s = s.station == station
+has_key (key.Port port) s = s.port == port
 
--- the lists are those of the first cables
-abbrev pub AreLists : List Seat → List (List ℕ) → Type 0
-AreLists seats lists = (cable : ℕ) (indices : List ℕ) → slice_get lists cable ≡ Some indices → indices ≡ on_cable cable 0 seats
+-- the indices of the seats that pass, where the first of these has the index k
+abbrev pub indices : (Seat → Bool) → ℕ → List Seat → List ℕ
+indices test k [] = []
+indices test k (s ∷ ss) = cond (test s) (k ∷ indices test (k + 1) ss) (indices test (k + 1) ss)
 
--- there is a list for each cable
-pub record AreIndexed (seats : List Seat) (lists : List (List ℕ)) : Type 0 where
-  pub each : AreLists seats lists
-  pub all : 256 ≤ length lists
+-- the lists are those of the first numbers, each of the seats that a number is looked for by
+abbrev pub AreLists : (ℕ → Key) → List Seat → List (List ℕ) → Type 0
+AreLists key_of seats lists = (n : ℕ) (list : List ℕ) → slice_get lists n ≡ Some list → list ≡ indices (has_key (key_of n)) 0 seats
+
+-- There is a list for each cable, and for some of the first stations.
+pub record AreIndexed (seats : List Seat) (on of : List (List ℕ)) : Type 0 where
+  pub cables : AreLists key.Cable seats on
+  pub all : 256 ≤ length on
+  pub stations : AreLists key.Station seats of
 
 -- a seat that passes, with the frame of this stamp and entry
 abbrev pub due_at : (Seat → Bool) → Option Seat → ℕ → ℕ → ℕ → List Due
@@ -26,3 +35,18 @@ due_at test (Some s) stamp put k = cond (test s) (record { stamp = stamp; put = 
 abbrev pub dues_at : (Seat → Bool) → List Seat → ℕ → ℕ → List ℕ → List Due
 dues_at test seats stamp put [] = []
 dues_at test seats stamp put (k ∷ ks) = due_at test (slice_get seats k) stamp put k ++ dues_at test seats stamp put ks
+
+-- there is a seat, and it passes
+abbrev pub passes : (Seat → Bool) → Option Seat → Bool
+passes test None = false
+passes test (Some s) = test s
+
+-- the first of these indices whose seat passes
+abbrev pub first_at : (Seat → Bool) → List Seat → List ℕ → Option ℕ
+first_at test seats [] = None
+first_at test seats (k ∷ ks) = cond (passes test (slice_get seats k)) (Some k) (first_at test seats ks)
+
+-- there are indices
+abbrev pub has_some : List ℕ → Bool
+has_some [] = false
+has_some (k ∷ ks) = true

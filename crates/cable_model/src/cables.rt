@@ -175,7 +175,7 @@ impl Cables {
             ⊎ (e ≡ Error.TooLong) ⊎ (e ≡ Error.Full) ⊎ (e ≡ Error.Memory)) }
         ensures kept { OnErr result (self.new ≡ self.old) }
     {
-        match seating::check(self.seats.as_slice(), cable, station) {
+        match seating::check(&self.seats, cable, station) {
             Ok(()) => {}
             Err(stop) => return Err(stop),
         }
@@ -224,7 +224,7 @@ impl Cables {
             ⊎ (e ≡ Error.Full) ⊎ (e ≡ Error.Memory)) }
         ensures kept { OnErr result (self.new ≡ self.old) }
     {
-        match seating::check(self.seats.as_slice(), cable, station) {
+        match seating::check(&self.seats, cable, station) {
             Ok(()) => {}
             Err(stop) => return Err(stop),
         }
@@ -233,7 +233,7 @@ impl Cables {
             Err(stop) => return Err(stop),
         }
         log::forget_waiting(&mut self.log);
-        let exit = seating::exit_on(self.seats.as_slice(), cable, station);
+        let exit = seating::exit_on(&self.seats, cable, station);
         outcome::sent(&mut self.log, &self.seats, resolver, exit, next, bytes);
         Ok(())
     }

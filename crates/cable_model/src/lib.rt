@@ -27,5 +27,6 @@ pub use entry::{Entry, How};
 pub use laws::taking_ends_one_pair;
 pub use resolve::{Found, Resolve};
 pub use seat::Seat;
+pub use seats::Seats;
 pub use station::{Cause, Kind};
 pub use waiting::Waiting;

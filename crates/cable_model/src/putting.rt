@@ -13,7 +13,7 @@ use crate::entry::Entry;
 use crate::hearing::{self, is_for};
 use crate::log::Log;
 use crate::seat::Seat;
-use crate::seats::Seats;
+use crate::seats::{Seats, seat_at};
 use at_base::Hw;
 use station::{Kind, Link};
 use std::collections::VecDeque;
@@ -45,13 +45,6 @@ pub fn put(log: &mut Log, seats: &Seats, cable: u8, sender: u16, to: Hw, kind: K
     });
     log.puts += 1;
     add_dues(&mut log.due, seats, cable, sender, &to, stamp, put);
-}
-
-/// The seat at an index, if there is one.
-fn seat_at(seats: &[Seat], index: usize) -> Option<Seat>
-    ensures { result ≡ slice_get seats.now index }
-{
-    seats.get(index).copied()
 }
 
 /// Adds the pair of a frame with the seat at an index, if its station is one that the frame is for.

@@ -1,41 +1,31 @@
 //! Who is on a cable.
 
-ghost use Rattle.std.specs.Prelude.{◌≡◌, ◌⊎◌, ◌==◌, ◌&&◌, true, false, find, IfErr, OnOk};
+ghost use Rattle.std.specs.Prelude.{◌≡◌, ◌⊎◌, ◌==◌, ◌&&◌, true, false, IfErr, OnOk};
 ghost use Rattle.std.specs.List.{list_any};
 ghost use Rattle.at_base.specs.declared.error.What.TheVariants.{Cable, Station};
 ghost use Rattle.cable_model.specs.Outcomes.{cable_of as cable_in, has_cable as has_any};
 ghost use Rattle.cable_model.specs.Outcomes.{is_seated as is_there, port_on as port_in};
 
 use crate::exit::Exit;
-use crate::seat::Seat;
 use crate::seats::Seats;
 use at_base::{Error, What};
 
-/// Whether a station is on the cable.
-fn has_cable(seats: &[Seat], cable: u8) -> bool
-    ensures { result ≡ has_any seats.now cable }
-{
-    seats.iter().any(|s| s.cable == cable)
-}
-
 /// Whether this station is on the cable.
-fn is_seated(seats: &[Seat], cable: u8, station: u16) -> bool
+fn is_seated(seats: &Seats, cable: u8, station: u16) -> bool
     ensures { result ≡ is_there seats.now cable station }
 {
-    seats
-        .iter()
-        .any(|s| s.cable == cable && s.station == station)
+    seats.seat_on(cable, station).is_some()
 }
 
 /// That the station is on the cable, and an error where it isn't.
-pub fn check(seats: &[Seat], cable: u8, station: u16) -> Result<(), Error>
+pub fn check(seats: &Seats, cable: u8, station: u16) -> Result<(), Error>
     ensures ok { OnOk result ((is_there seats.now cable station ≡ true)
         × (has_any seats.now cable ≡ true)) }
     ensures refused { IfErr result (λ e. (is_there seats.now cable station ≡ false)
         × (((e ≡ Error.NoSuch Cable) × (has_any seats.now cable ≡ false))
         ⊎ ((e ≡ Error.NoSuch Station) × (has_any seats.now cable ≡ true)))) }
 {
-    if !has_cable(seats, cable) {
+    if !seats.has_cable(cable) {
         return Err(Error::NoSuch(What::Cable));
     }
     if !is_seated(seats, cable, station) {
@@ -44,23 +34,11 @@ pub fn check(seats: &[Seat], cable: u8, station: u16) -> Result<(), Error>
     Ok(())
 }
 
-/// The first seat of a station's port.
-fn seat_of(seats: &[Seat], station: u16, port: u8) -> Option<Seat>
-    ensures { result ≡ find (λ s. s.station == station && s.port == port) seats.now }
-{
-    for s in seats {
-        if s.station == station && s.port == port {
-            return Some(*s);
-        }
-    }
-    None
-}
-
 /// The cable of a station's port, and 0 where it has none.
-fn cable_of(seats: &[Seat], station: u16, port: u8) -> u8
+fn cable_of(seats: &Seats, station: u16, port: u8) -> u8
     ensures { result ≡ cable_in seats.now station port }
 {
-    match seat_of(seats, station, port) {
+    match seats.seat_by(station, port) {
         None => 0,
         Some(seat) => seat.cable,
     }
@@ -71,36 +49,24 @@ pub fn exit_by(seats: &Seats, station: u16, port: u8) -> Exit
     ensures { result ≡ record { cable = cable_in seats.now station port; station = station; port = port } }
 {
     Exit {
-        cable: cable_of(seats.as_slice(), station, port),
+        cable: cable_of(seats, station, port),
         station,
         port,
     }
 }
 
-/// The first seat of a station on a cable.
-fn seat_on(seats: &[Seat], cable: u8, station: u16) -> Option<Seat>
-    ensures { result ≡ find (λ s. s.cable == cable && s.station == station) seats.now }
-{
-    for s in seats {
-        if s.cable == cable && s.station == station {
-            return Some(*s);
-        }
-    }
-    None
-}
-
 /// The port of a station that is on a cable, and 0 where it isn't there.
-fn port_on(seats: &[Seat], cable: u8, station: u16) -> u8
+fn port_on(seats: &Seats, cable: u8, station: u16) -> u8
     ensures { result ≡ port_in seats.now cable station }
 {
-    match seat_on(seats, cable, station) {
+    match seats.seat_on(cable, station) {
         None => 0,
         Some(seat) => seat.port,
     }
 }
 
 /// A station on a cable, with its port there.
-pub fn exit_on(seats: &[Seat], cable: u8, station: u16) -> Exit
+pub fn exit_on(seats: &Seats, cable: u8, station: u16) -> Exit
     ensures { result ≡ record { cable = cable; station = station; port = port_in seats.now cable station } }
 {
     Exit {

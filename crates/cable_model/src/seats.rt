@@ -1,14 +1,28 @@
-//! The seats on cables, and which of them are on each cable.
+//! The seats on cables, and which of them are on each cable and of each station.
 
-ghost use Rattle.std.specs.Prelude.{◌≡◌, ◌<◌, ◌≤◌, ◌+◌, ◌^◌, ◌++◌, length, IfOk, IsOkUnless, OnOk};
-ghost use Rattle.cable_model.specs.Places.{AreIndexed, on_cable as indices_on};
+ghost use Rattle.std.specs.Prelude.{◌≡◌, ◌<◌, ◌≤◌, ◌+◌, ◌^◌, ◌++◌, ◌&&◌, ◌==◌, ℕ, length, slice_get};
+ghost use Rattle.std.specs.Prelude.{find, position, IfOk, IsOkUnless, OnOk};
+ghost use Rattle.std.specs.List.{list_any};
+ghost use Rattle.cable_model.specs.Places.{AreLists, first_at as first_in, has_key, has_some, indices, passes};
+ghost use Rattle.cable_model.specs.declared.seats.Key.TheVariants.{Cable, Station};
 
 use crate::seat::Seat;
 use at_base::Error;
 use std::alloc::Global;
 use std::marker::Model;
 
-/// The indices of the seats on one cable, by rising index.
+/// What a seat is looked for by.
+#[derive(Clone, Copy, Debug)]
+pub enum Key {
+    /// Its cable.
+    Cable(u8),
+    /// Its station.
+    Station(u16),
+    /// The port of its station.
+    Port(u8),
+}
+
+/// The indices of some seats, by rising index.
 #[derive(Drop)]
 pub struct Indices {
     items: Vec<usize>,
@@ -31,13 +45,18 @@ impl Indices {
     }
 }
 
-/// The seats on cables, in order. Those of each cable are kept beside them by their indices, so that
-/// a frame is offered to the seats of its own cable alone.
+/// The seats on cables, in order. Those of each cable and of each station are kept beside them by
+/// their indices: a frame is offered to the seats of its own cable alone, and a station's seat is
+/// looked for among its own.
+///
+/// This project's own.
 #[derive(Drop)]
 pub struct Seats {
     items: Vec<Seat>,
     // of each cable from 0 on
     on: Vec<Indices>,
+    // of each station from 0 on, up to that of the last seat
+    of: Vec<Indices>,
 }
 
 impl Model for Seats {
@@ -49,54 +68,127 @@ impl Model for Seats {
 
     ghost view = { λ s. s.items.items };
 
-    ghost invariant = { λ s. AreIndexed s.items.items s.on.items };
+    ghost invariant = { λ s. AreIndexed s.items.items s.on.items s.of.items };
 }
 
-/// Appends the indices of those of the seats that are on the cable, where they are counted from
-/// `from`. Error: `Memory`.
-fn add_indices(
-    indices: &mut Vec<usize>,
-    seats: &[Seat],
-    cable: u8,
-    from: usize,
-) -> Result<(), Error>
+/// Whether the seat has the key.
+fn has(seat: &Seat, key: Key) -> bool
+    ensures { result ≡ has_key key seat.now }
+{
+    match key {
+        Key::Cable(cable) => seat.cable == cable,
+        Key::Station(station) => seat.station == station,
+        Key::Port(port) => seat.port == port,
+    }
+}
+
+/// Appends the indices of those of the seats that have the key, where they are counted from `from`.
+/// Error: `Memory`.
+fn add_indices(list: &mut Vec<usize>, seats: &[Seat], key: Key, from: usize) -> Result<(), Error>
     requires { from + length seats.now < 2 ^ 63 }
-    ensures ok { OnOk result (indices.new.items ≡ indices.old.items ++ indices_on cable from seats.now) }
+    ensures ok { OnOk result
+        (list.new.items ≡ list.old.items ++ indices (has_key key) from seats.now) }
     ensures refused { IsOkUnless result Error.Memory }
 {
     match seats {
         [] => Ok(()),
         [seat, rest @ ..] => {
-            if seat.cable == cable {
-                indices.push(from)?;
+            if has(seat, key) {
+                list.push(from)?;
             }
-            add_indices(indices, rest, cable, from + 1)
+            add_indices(list, rest, key, from + 1)
         }
     }
 }
 
-/// The indices of the seats on one cable. Error: `Memory`.
-fn indices_of(alloc: Global, seats: &[Seat], cable: u8) -> Result<Indices, Error>
+/// The indices of the seats that have the key. Error: `Memory`.
+fn indices_by(alloc: Global, seats: &[Seat], key: Key) -> Result<Indices, Error>
     requires { length seats.now < 2 ^ 63 }
-    ensures ok { IfOk result (λ indices. indices ≡ indices_on cable 0 seats.now) }
+    ensures ok { IfOk result (λ list. list ≡ indices (has_key key) 0 seats.now) }
     ensures refused { IsOkUnless result Error.Memory }
 {
     let mut items = Vec::new(alloc);
-    add_indices(&mut items, seats, cable, 0)?;
+    add_indices(&mut items, seats, key, 0)?;
     Ok(Indices { items })
 }
 
 /// The indices of the seats on each cable, by its number. Error: `Memory`.
 fn indices_by_cable(alloc: Global, seats: &[Seat]) -> Result<Vec<Indices>, Error>
     requires { length seats.now < 2 ^ 63 }
-    ensures ok { IfOk result (λ on. AreIndexed seats.now on.items) }
+    ensures ok { IfOk result (λ on. AreLists Cable seats.now on.items × (256 ≤ length on.items)) }
     ensures refused { IsOkUnless result Error.Memory }
 {
     let mut on = Vec::new(alloc);
     for cable in 0..256usize {
-        on.push(indices_of(alloc, seats, cable as u8)?)?;
+        on.push(indices_by(alloc, seats, Key::Cable(cable as u8))?)?;
     }
     Ok(on)
+}
+
+/// The number of the last seat's station and 1, or 0 where there is no seat.
+fn stations_of(seats: &[Seat]) -> usize
+    ensures { result ≤ 65536 }
+{
+    match seats.last() {
+        Some(seat) => seat.station as usize + 1,
+        None => 0,
+    }
+}
+
+/// The indices of the seats of each station, by its number. Error: `Memory`.
+fn indices_by_station(alloc: Global, seats: &[Seat]) -> Result<Vec<Indices>, Error>
+    requires { length seats.now < 2 ^ 63 }
+    ensures ok { IfOk result (λ of. AreLists Station seats.now of.items) }
+    ensures refused { IsOkUnless result Error.Memory }
+{
+    let mut of = Vec::new(alloc);
+    for station in 0..stations_of(seats) {
+        of.push(indices_by(alloc, seats, Key::Station(station as u16))?)?;
+    }
+    Ok(of)
+}
+
+/// The seat at an index, if there is one.
+pub fn seat_at(seats: &[Seat], index: usize) -> Option<Seat>
+    ensures { result ≡ slice_get seats.now index }
+{
+    seats.get(index).copied()
+}
+
+/// Whether the seat at an index has the key.
+fn has_at(seats: &[Seat], index: usize, key: Key) -> bool
+    ensures { result ≡ passes (has_key key) (slice_get seats.now index) }
+{
+    match seat_at(seats, index) {
+        Some(seat) => has(&seat, key),
+        None => false,
+    }
+}
+
+/// Whether there are indices.
+fn is_any(list: &[usize]) -> bool
+    ensures { result ≡ has_some list.now }
+{
+    match list {
+        [] => false,
+        [_, ..] => true,
+    }
+}
+
+/// The first of these indices whose seat has the key.
+fn first_at(seats: &[Seat], list: &[usize], key: Key) -> Option<usize>
+    ensures { result ≡ first_in (has_key key) seats.now list.now }
+{
+    match list {
+        [] => None,
+        [index, rest @ ..] => {
+            if has_at(seats, *index, key) {
+                Some(*index)
+            } else {
+                first_at(seats, rest, key)
+            }
+        }
+    }
 }
 
 impl Seats {
@@ -107,7 +199,8 @@ impl Seats {
     {
         let items = Vec::from_slice(alloc, seats)?;
         let on = indices_by_cable(alloc, items.as_slice())?;
-        Ok(Seats { items, on })
+        let of = indices_by_station(alloc, items.as_slice())?;
+        Ok(Seats { items, on, of })
     }
 
     /// The number of seats.
@@ -125,11 +218,67 @@ impl Seats {
         self.items.as_slice()
     }
 
+    /// The seat at an index, if there is one.
+    pub fn get(&self, index: usize) -> Option<Seat>
+        ensures { result ≡ slice_get self.now index }
+    {
+        seat_at(self.items.as_slice(), index)
+    }
+
     /// The indices of the seats on the cable, by rising index.
     pub fn on(&self, cable: u8) -> &[usize]
-        ensures value { result.now ≡ indices_on cable 0 self.now }
+        ensures value { result.now ≡ indices (has_key (Cable cable)) 0 self.now }
         ensures few { length result.now ≤ length self.now }
     {
         self.on[cable as usize].as_slice()
+    }
+
+    /// Whether there is a seat on the cable.
+    pub fn has_cable(&self, cable: u8) -> bool
+        ensures { result ≡ list_any (λ s. s.cable == cable) self.now }
+    {
+        is_any(self.on(cable))
+    }
+
+    /// The index of the first seat of the station on the cable.
+    pub fn index_on(&self, cable: u8, station: u16) -> Option<usize>
+        ensures { result ≡ position (λ s. s.cable == cable && s.station == station) self.now }
+    {
+        first_at(self.items.as_slice(), self.on(cable), Key::Station(station))
+    }
+
+    /// The index of the first seat of the station's port.
+    pub fn index_by(&self, station: u16, port: u8) -> Option<usize>
+        ensures { result ≡ position (λ s. s.station == station && s.port == port) self.now }
+    {
+        if (station as usize) < self.of.len() {
+            let list = self.of[station as usize].as_slice();
+            first_at(self.items.as_slice(), list, Key::Port(port))
+        } else {
+            // Seats that don't rise by station may have one past that of the last.
+            self.items
+                .iter()
+                .position(|s| s.station == station && s.port == port)
+        }
+    }
+
+    /// The first seat of the station on the cable.
+    pub fn seat_on(&self, cable: u8, station: u16) -> Option<Seat>
+        ensures { result ≡ find (λ s. s.cable == cable && s.station == station) self.now }
+    {
+        match self.index_on(cable, station) {
+            Some(index) => self.get(index),
+            None => None,
+        }
+    }
+
+    /// The first seat of the station's port.
+    pub fn seat_by(&self, station: u16, port: u8) -> Option<Seat>
+        ensures { result ≡ find (λ s. s.station == station && s.port == port) self.now }
+    {
+        match self.index_by(station, port) {
+            Some(index) => self.get(index),
+            None => None,
+        }
     }
 }

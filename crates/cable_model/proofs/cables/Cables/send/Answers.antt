@@ -35,7 +35,7 @@ returns-clause-ok g c =
     let exit : Exit = record {
       cable = c.args.cable;
       station = c.args.station;
-      port = port_on c.as_slice-2.result.now c.args.cable c.args.station;
+      port = port_on c.self.inside.seats c.args.cable c.args.station;
     } in
     let grows =
     subst (λ (e : Exit). Grows mid new

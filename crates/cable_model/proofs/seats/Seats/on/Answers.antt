@@ -1,7 +1,8 @@
 use Rattle.std.proofs.Common.{◌≡◌, ◌≤◌, arith, length, subst, sym, refl, ap, ◌∙◌, slice_get, Some}
 use Rattle.std.proofs.lemmas.Option.{slice_get_read}
-use Rattle.cable_model.proofs.Indexed.{on_few}
-use Rattle.cable_model.specs.Places.{on_cable}
+use Rattle.cable_model.proofs.Indexed.{indices_few}
+use Rattle.cable_model.specs.Places.{has_key, indices}
+use Rattle.cable_model.specs.declared.seats.Key.TheVariants.{Cable}
 use Rattle.cable_model.proofs.seats.Seats.on.Goals as goal
 
 pub returns-clause-value : goal.returns-clause-value
@@ -11,8 +12,9 @@ returns-clause-value c =
     slice_get_read lists (length lists) c.args.cable c.index.result.now refl
     (omega (arith, c.self.invariant.all, c.ranges.cable.fits)) c.index.ensures in
     c.as_slice.ensures
-    ∙ (c.self.invariant.each c.args.cable c.index.result.now there ∙ ap (on_cable c.args.cable 0) c.self.view_is)
+    ∙ (c.self.invariant.cables c.args.cable c.index.result.now there ∙ ap (indices (has_key (Cable c.args.cable)) 0) c.self.view_is)
 
 pub returns-clause-few : goal.returns-clause-few
 returns-clause-few c =
-    subst (λ l. length l ≤ length c.args.self.now) (sym (returns-clause-value c)) (on_few c.args.cable 0 c.args.self.now)
+    subst (λ l. length l ≤ length c.args.self.now) (sym (returns-clause-value c))
+    (indices_few (has_key (Cable c.args.cable)) 0 c.args.self.now)
