@@ -8,7 +8,7 @@ ghost use Rattle.live_cables.specs.Finding.{seat_by as seat_by_in};
 ghost use Rattle.live_cables.specs.Steps.{IsSendable, Puts};
 
 use crate::holding::hold_from;
-use crate::ports::{Ports, seat_by};
+use crate::ports::Ports;
 use crate::putting::{put, send};
 use crate::resolver::Resolver;
 use aarp::Mapper;
@@ -19,11 +19,11 @@ use std::alloc::Global;
 
 /// The seat of a station's port.
 fn seat_of(ports: &Ports, station: u16, port: u8) -> Option<Seat>
-    ensures { result ≡ option_and_then (slice_get ports.now.seats.items)
-        (seat_by_in ports.now.seats.items station port) }
+    ensures { result ≡ option_and_then (slice_get ports.now.seats)
+        (seat_by_in ports.now.seats station port) }
 {
-    match seat_by(&ports.seats, station, port) {
-        Some(index) => ports.seats.get(index).copied(),
+    match ports.seats.index_by(station, port) {
+        Some(index) => ports.seats.get(index),
         None => None,
     }
 }

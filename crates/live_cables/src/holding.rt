@@ -5,7 +5,7 @@ ghost use Rattle.live_cables.specs.Finding.{is_first_for};
 ghost use Rattle.live_cables.specs.Steps.{Puts};
 
 use crate::answer::Answer;
-use crate::ports::{Ports, seat_by};
+use crate::ports::Ports;
 use crate::putting::{ask, put};
 use aarp::{Held, MAX_HELD, Mapper};
 use at_base::{Addr, Bytes, Error, Hw};
@@ -46,7 +46,7 @@ fn hold(
     ensures refused { IfErr result (λ e. (e ≡ Error.Full) ⊎ (e ≡ Error.Memory)) }
     ensures mappers { length mappers.new ≡ length mappers.old }
 {
-    let Some(index) = seat_by(&ports.seats, station, waiting.port) else {
+    let Some(index) = ports.seats.index_by(station, waiting.port) else {
         return Ok(());
     };
     let bytes = match Bytes::copy(alloc, cables.bytes(waiting.bytes)) {
@@ -123,7 +123,7 @@ pub fn learn(
     ensures refused { IfErr result (λ e. (e ≡ Error.Full) ⊎ (e ≡ Error.Memory)) }
     ensures mappers { length mappers.new ≡ length mappers.old }
 {
-    let Some(index) = seat_by(&ports.seats, station, answer.port) else {
+    let Some(index) = ports.seats.index_by(station, answer.port) else {
         return Ok(());
     };
     let Some(seat) = ports.seats.get(index) else {
@@ -135,7 +135,7 @@ pub fn learn(
     match mappers[index].learn(answer.source, answer.source_hw) {
         Ok(()) => release(
             cables,
-            *seat,
+            seat,
             &mut mappers[index],
             answer.source,
             answer.source_hw,

@@ -22,7 +22,7 @@ use crate::resolver::Resolver;
 use crate::taking::{answer_of, follow, take};
 use aarp::{Addresses, Mapper};
 use at_base::{Addr, Error, Range};
-use cable_model::{Cables, Entry, Seat};
+use cable_model::{Cables, Entry, Seat, Seats};
 use station::{Outputs, Station as Taker};
 use std::alloc::Global;
 use std::marker::Model;
@@ -55,7 +55,7 @@ impl Model for LiveCables {
       losing = c.losing.items;
     } };
 
-    ghost invariant = { λ c. (c.ports.seats.items ≡ c.cables.seats)
+    ghost invariant = { λ c. (c.ports.seats ≡ c.cables.seats)
         × (length c.ports.own.items ≡ length c.cables.seats)
         × (length c.mappers.items ≡ length c.cables.seats) };
 }
@@ -130,7 +130,7 @@ impl LiveCables {
         Ok(LiveCables {
             cables,
             ports: Ports {
-                seats: Vec::from_slice(alloc, seats)?,
+                seats: Seats::of(alloc, seats)?,
                 own,
                 ranges: Vec::from_slice(alloc, ranges)?,
             },

@@ -4,35 +4,16 @@ ghost use Rattle.std.specs.Prelude.{◌≡◌, slice_get};
 ghost use Rattle.std.specs.List.{list_any};
 ghost use Rattle.at_base.specs.Range.{is_between};
 ghost use Rattle.live_cables.specs.Finding.{hw_of, is_listed as is_listed_in, is_own as is_own_in};
-ghost use Rattle.live_cables.specs.Finding.{seat_by as seat_by_in, seat_on as seat_on_in};
 
 use at_base::{Addr, Range};
-use cable_model::{Found, Seat};
+use cable_model::{Found, Seats};
 
 /// The seats of stations, the settled address of each, and the ranges of the cables.
 #[derive(Drop)]
 pub struct Ports {
-    pub seats: Vec<Seat>,
+    pub seats: Seats,
     pub own: Vec<Option<Addr>>,
     pub ranges: Vec<Range>,
-}
-
-/// The index of a station's seat on a cable.
-pub fn seat_on(seats: &[Seat], cable: u8, station: u16) -> Option<usize>
-    ensures { result ≡ seat_on_in seats.now cable station }
-{
-    seats
-        .iter()
-        .position(|s| s.cable == cable && s.station == station)
-}
-
-/// The index of the seat of a station's port.
-pub fn seat_by(seats: &[Seat], station: u16, port: u8) -> Option<usize>
-    ensures { result ≡ seat_by_in seats.now station port }
-{
-    seats
-        .iter()
-        .position(|s| s.station == station && s.port == port)
 }
 
 /// Whether the settled address of a seat is this one.
@@ -46,7 +27,7 @@ pub fn is_own(own: &[Option<Addr>], seat: usize, addr: Addr) -> bool
 }
 
 /// The hardware address of a seat.
-pub fn hw_at(seats: &[Seat], seat: usize) -> Found
+pub fn hw_at(seats: &Seats, seat: usize) -> Found
     ensures { result ≡ hw_of (slice_get seats.now seat) }
 {
     match seats.get(seat) {

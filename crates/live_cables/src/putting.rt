@@ -97,7 +97,7 @@ pub fn ask(
     };
     let packet = request(seat.hw, own_at(&ports.own, index), addr);
     match Bytes::copy(alloc, &packet.write()) {
-        Ok(bytes) => put(cables, *seat, Hw::ALL, Kind::Aarp, bytes),
+        Ok(bytes) => put(cables, seat, Hw::ALL, Kind::Aarp, bytes),
         Err(_) => Err(Error::Memory),
     }
 }

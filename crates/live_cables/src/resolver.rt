@@ -3,7 +3,7 @@
 ghost use Rattle.std.specs.Prelude.{◌≡◌, slice_get};
 ghost use Rattle.live_cables.specs.Finding.{found_at, mapped};
 
-use crate::ports::{Ports, hw_at, is_listed, is_own, seat_on};
+use crate::ports::{Ports, hw_at, is_listed, is_own};
 use aarp::Mapper;
 use at_base::Addr;
 use cable_model::{Found, Resolve};
@@ -32,7 +32,7 @@ fn mapping_at(mappers: &[Mapper], seat: usize, addr: Addr) -> Found
 /// What is known at a seat of the station that has an address there.
 fn find_at(ports: &Ports, mappers: &[Mapper], seat: Option<usize>, addr: Addr) -> Found
     ensures { result
-        ≡ found_at ports.now.seats.items ports.now.own.items mappers.now seat addr }
+        ≡ found_at ports.now.seats ports.now.own.items mappers.now seat addr }
 {
     match seat {
         None => Found::Later,
@@ -50,13 +50,13 @@ impl Resolve for Resolver<'_> {
     ghost use Rattle.live_cables.specs.Finding.{found_at as known_at, is_listed as is_listed_in};
     ghost use Rattle.live_cables.specs.Finding.{seat_on as seat_on_in};
 
-    ghost finds = { λ r cable addr. known_at r.ports.now.seats.items r.ports.now.own.items
-        r.mappers.now (seat_on_in r.ports.now.seats.items cable r.station) addr };
+    ghost finds = { λ r cable addr. known_at r.ports.now.seats r.ports.now.own.items
+        r.mappers.now (seat_on_in r.ports.now.seats cable r.station) addr };
 
     ghost lists = { λ r net. is_listed_in r.ports.now.ranges.items net };
 
     fn find(&self, cable: u8, addr: Addr) -> Found {
-        let seat = seat_on(&self.ports.seats, cable, self.station);
+        let seat = self.ports.seats.index_on(cable, self.station);
         find_at(self.ports, self.mappers, seat, addr)
     }
 
