@@ -19,11 +19,13 @@ use at_base::{Addr, Error, Range};
 use std::alloc::Global;
 use std::marker::Model;
 
-/// A routing table as a vector of rows by rising range. It finds the row of a range by halving, and
-/// that of a network row by row.
+/// A routing table as a vector of rows by rising range. It looks for the row of a range
+/// after the one that was heard last, and then by halving; for that of a network row by row.
 #[derive(Debug, Drop)]
 pub struct PlainTable {
     rows: Vec<Row>,
+    // where the next range that is heard may stand: a hint, which is tested before it counts
+    near: usize,
 }
 
 impl Model for PlainTable {
@@ -81,12 +83,50 @@ fn place_in(rows: &[Row], start: u16) -> usize
     place_between(rows, start, 0, rows.len())
 }
 
-/// The row of a range.
-fn row_of(rows: &[Row], range: Range) -> Option<&Row>
+/// Whether the row at an index, if there is one, starts below the network.
+fn starts_below(rows: &[Row], index: usize, start: u16) -> bool
+    requires { IsRouteMap rows.now }
+    ensures { result ≡ true → index < before start rows.now }
+{
+    if index >= rows.len() {
+        return false;
+    }
+    rows[index].range.start() < start
+}
+
+/// Whether there is a row at an index, and it doesn't start below the network.
+fn starts_past(rows: &[Row], index: usize, start: u16) -> bool
+    ensures { result ≡ true → before start rows.now ≤ index }
+{
+    if index >= rows.len() {
+        return false;
+    }
+    rows[index].range.start() >= start
+}
+
+/// The number of rows that start below the network, which is often this one.
+fn place_near(rows: &[Row], start: u16, near: usize) -> usize
+    requires { IsRouteMap rows.now }
+    ensures { result ≡ before start rows.now }
+{
+    if !starts_past(rows, near, start) {
+        return place_in(rows, start);
+    }
+    if near == 0 {
+        return 0;
+    }
+    if starts_below(rows, near - 1, start) {
+        return near;
+    }
+    place_in(rows, start)
+}
+
+/// The row of a range, which often has this index.
+fn row_of(rows: &[Row], range: Range, near: usize) -> Option<&Row>
     requires { IsRouteMap rows.now }
     ensures { option_copied result ≡ row_at range rows.now }
 {
-    let place = place_in(rows, range.start());
+    let place = place_near(rows, range.start(), near);
     if place >= rows.len() {
         return None;
     }
@@ -223,12 +263,12 @@ fn put(rows: &mut Vec<Row>, row: Row)
     rows.insert(index, row).unwrap();
 }
 
-/// Puts the row in the place of the one of its range, if there is one.
-fn replace(rows: &mut Vec<Row>, row: Row)
+/// Puts the row in the place of the one of its range, if there is one, which often has this index.
+fn replace(rows: &mut Vec<Row>, row: Row, near: usize)
     requires { IsRouteMap rows.old.items }
     ensures { rows.new.items ≡ replaced row rows.old.items }
 {
-    let place = place_in(rows.as_slice(), row.range.start());
+    let place = place_near(rows.as_slice(), row.range.start(), near);
     if place >= rows.len() {
         return;
     }
@@ -243,12 +283,13 @@ impl RouteTable for PlainTable {
     fn empty(alloc: Global) -> Result<PlainTable, Error> {
         Ok(PlainTable {
             rows: Vec::new(alloc),
+            near: 0,
         })
     }
 
     fn copy(&self) -> Result<PlainTable, Error> {
         let rows = Vec::from_slice(*self.rows.allocator(), self.rows.as_slice())?;
-        Ok(PlainTable { rows })
+        Ok(PlainTable { rows, near: 0 })
     }
 
     fn len(&self) -> usize {
@@ -293,9 +334,11 @@ impl RouteTable for PlainTable {
         source: Addr,
         port: u8,
     ) -> Result<Change, Error> {
-        if let Some(row) = row_of(self.rows.as_slice(), range) {
+        let near = place_near(self.rows.as_slice(), range.start(), self.near);
+        self.near = near.wrapping_add(1);
+        if let Some(row) = row_of(self.rows.as_slice(), range, near) {
             let (row, change) = after_hearing(row, distance, source, port);
-            replace(&mut self.rows, row);
+            replace(&mut self.rows, row, near);
             return Ok(change);
         }
         if !is_new(self.rows.as_slice(), range, distance) {

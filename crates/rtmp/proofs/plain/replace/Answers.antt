@@ -6,16 +6,16 @@ use Rattle.rtmp.proofs.plain.replace.Goals as goal
 -- src/plain.rt:199:9
 pub returns-then-place-len : goal.returns-then-place-len
 returns-then-place-len c =
-    let place : c.place_in-place.result ≡ before c.args.row.range.start c.args.rows.now.items =
-    rw (c.as_slice.ensures.value, c.start.ensures.value) at c.place_in-place.ensures in
+    let place : c.place_near-place.result ≡ before c.args.row.range.start c.args.rows.now.items =
+    rw (c.as_slice.ensures.value, c.start.ensures.value) at c.place_near-place.ensures in
     none_at c.args.row c.args.row 0 c.args.rows.now.items c.requires.each c.requires.apart
     (λ less. absurd (omega (arith, less, place, c.len.ensures, c.if-place-len.true)))
 
 -- src/plain.rt:193:1
 pub returns-then-eq : goal.returns-then-eq
 returns-then-eq c =
-    let place : c.place_in-place.result ≡ before c.args.row.range.start c.args.rows.now.items =
-    rw (c.as_slice.ensures.value, c.start.ensures.value) at c.place_in-place.ensures in
+    let place : c.place_near-place.result ≡ before c.args.row.range.start c.args.rows.now.items =
+    rw (c.as_slice.ensures.value, c.start.ensures.value) at c.place_near-place.ensures in
     let same = rw (c.index.ensures, place) at (sym c.eq.ensures ∙ c.if-eq.true) in
     rw place (replace_at c.args.row c.index.result.now 0 c.args.rows.now.items c.requires.each c.requires.apart
     (omega (arith, place, c.len.ensures, c.if-place-len.false)) same)
@@ -23,7 +23,7 @@ returns-then-eq c =
 -- src/plain.rt:193:1
 pub returns-else-eq : goal.returns-else-eq
 returns-else-eq c =
-    let place : c.place_in-place.result ≡ before c.args.row.range.start c.args.rows.now.items =
-    rw (c.as_slice.ensures.value, c.start.ensures.value) at c.place_in-place.ensures in
+    let place : c.place_near-place.result ≡ before c.args.row.range.start c.args.rows.now.items =
+    rw (c.as_slice.ensures.value, c.start.ensures.value) at c.place_near-place.ensures in
     let other = rw (c.index.ensures, place) at (sym c.eq.ensures ∙ c.if-eq.false) in
     none_at c.args.row c.index.result.now 0 c.args.rows.now.items c.requires.each c.requires.apart (λ less. other)
