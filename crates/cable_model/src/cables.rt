@@ -44,7 +44,9 @@ pub struct Cables {
     seats: Seats,
     limit: u32,
     log: Log,
-    alloc: Global,
+    // what the station that takes a frame puts out: empty between two takings, with the room that
+    // was made for the first one
+    outputs: Outputs,
 }
 
 impl Model for Cables {
@@ -79,7 +81,7 @@ impl Cables {
             seats,
             limit,
             log: log::empty(alloc),
-            alloc,
+            outputs: Outputs::new(alloc)?,
         })
     }
 
@@ -273,18 +275,24 @@ impl Cables {
             Ok(()) => {}
             Err(stop) => return Err(stop),
         }
-        let mut outputs = match outputs_for(self.alloc) {
-            Ok(outputs) => outputs,
+        match make_ready(&mut self.outputs) {
+            Ok(()) => {}
             Err(stop) => return Err(stop),
-        };
+        }
         let heard = taking::heard_of(&self.log, self.seats.as_slice(), due);
-        match taker.receive(&heard, &mut outputs) {
+        match taker.receive(&heard, &mut self.outputs) {
             Ok(()) => {}
             Err(stop) => return Err(stop),
         }
         log::forget_waiting(&mut self.log);
         ending::took(&mut self.log, self.seats.as_slice(), stamp, station);
-        outcome::add_all(&mut self.log, &self.seats, resolver, station, &mut outputs);
+        outcome::add_all(
+            &mut self.log,
+            &self.seats,
+            resolver,
+            station,
+            &mut self.outputs,
+        );
         Ok(())
     }
 
@@ -316,12 +324,21 @@ impl Cables {
     }
 }
 
-/// No outputs, with room for all that a station puts out.
-fn outputs_for(alloc: Global) -> Result<Outputs, Error>
-    ensures ok { IfOk result (λ outputs. outputs.items ≡ []) }
+/// Takes all outputs out.
+fn empty(outputs: &mut Outputs)
+    ensures { outputs.new.items ≡ [] }
+{
+    if let Some(_output) = outputs.pop() {
+        empty(outputs);
+    }
+}
+
+/// No outputs, with room for all that a station puts out. Error: `Memory`.
+fn make_ready(outputs: &mut Outputs) -> Result<(), Error>
+    ensures ok { OnOk result (outputs.new.items ≡ []) }
     ensures refused { IsOkUnless result Error.Memory }
 {
-    let mut outputs = Outputs::new(alloc)?;
+    empty(outputs);
     outputs.room(257)?;
-    Ok(outputs)
+    Ok(())
 }

@@ -35,11 +35,11 @@ returns-in-Err-clause-not_pending g c =
     c.as_slice.ensures (sym c.in-Some.ensures.value)) in
     search rules
 
-pub invariant_of-self-in-Err-outputs_for : goal.invariant_of-self-in-Err-outputs_for
-invariant_of-self-in-Err-outputs_for g c = c.make_room.ensures.kept c.self.inside.seats c.self.invariant
+pub invariant_of-self-in-Err-make_ready : goal.invariant_of-self-in-Err-make_ready
+invariant_of-self-in-Err-make_ready g c = c.make_room.ensures.kept c.self.inside.seats c.self.invariant
 
-pub returns-in-Err-outputs_for-clause-not_pending : goal.returns-in-Err-outputs_for-clause-not_pending
-returns-in-Err-outputs_for-clause-not_pending g c =
+pub returns-in-Err-make_ready-clause-not_pending : goal.returns-in-Err-make_ready-clause-not_pending
+returns-in-Err-make_ready-clause-not_pending g c =
     let v : list_any (is_named c.args.stamp c.args.station) (pending_on c.args.self.now.seats (said c.args.self.now)) ≡ true =
     rw (← c.self.view_is)
     (subst (λ ss. list_any (is_named c.args.stamp c.args.station) (pending_on ss (said_in c.self.inside.log)) ≡ true)
@@ -82,7 +82,7 @@ pub add_all-requires-clause-room : goal.add_all-requires-clause-room
 add_all-requires-clause-room g c =
     let put = c.in-Ok-receive.ensures.ok in
     let os = c.receive.new.outputs.items in
-    let same : os ≡ put.added = put.grown ∙ ap (λ l. l ++ put.added) c.in-Ok-outputs_for.ensures.ok in
+    let same : os ≡ put.added = put.grown ∙ ap (λ l. l ++ put.added) c.in-Ok-make_ready.ensures.ok in
     let need = needs put.added in
     let lines = ap all_lines same in
     let long = ap length same in
@@ -108,7 +108,7 @@ invariant_of-self-2 g c =
     let s = c.self.inside.seats in
     let k = c.make_room.ensures.kept s c.self.invariant in
     let put = c.in-Ok-receive.ensures.ok in
-    let same = put.grown ∙ ap (λ l. l ++ put.added) c.in-Ok-outputs_for.ensures.ok in
+    let same = put.grown ∙ ap (λ l. l ++ put.added) c.in-Ok-make_ready.ensures.ok in
     let need = needs put.added in
     let all = ap all_lines same in
     let spare = ap all_spare same in
@@ -139,7 +139,7 @@ returns-clause-ok g c =
     let new = c.add_all.new.log in
     let due = c.in-Some.due in
     let put = c.in-Ok-receive.ensures.ok in
-    let same = put.grown ∙ ap (λ l. l ++ put.added) c.in-Ok-outputs_for.ensures.ok in
+    let same = put.grown ∙ ap (λ l. l ++ put.added) c.in-Ok-make_ready.ensures.ok in
     let is_due = subst (λ ss. IsDue ss (said_in old) due) c.as_slice.ensures c.in-Some.ensures.due in
     let named = and_parts (c.args.stamp == due.stamp) (c.args.station == (seat_at c.as_slice.result.now due.seat).station)
     c.in-Some.ensures.of_it in
