@@ -4,6 +4,7 @@
 mod lab;
 mod putting;
 mod relay;
+mod seated;
 mod sending;
 mod taking;
 
@@ -11,6 +12,7 @@ use putting::{
     frames_are_heard_by_whom_they_are_for, frames_are_lost, frames_are_refused_in_order,
     nobody_hears_the_example,
 };
+use seated::{late_stations_are_found, seats_are_found};
 use sending::{
     datagrams_wait, routers_get_a_frame, sendings_need_room, several_are_sent_to,
     targets_are_reached,
@@ -24,6 +26,13 @@ fn a_frame_is_put_and_lost(rt: HostRuntime) -> Result<(), Fail> {
     assert!(rt; frames_are_lost(rt.alloc())?);
     assert!(rt; frames_are_refused_in_order(rt.alloc())?);
     assert!(rt; nobody_hears_the_example(rt.alloc())?);
+    Ok(())
+}
+
+#[test]
+fn seats_have_their_places(rt: HostRuntime) -> Result<(), Fail> {
+    assert!(rt; seats_are_found(rt.alloc())?);
+    assert!(rt; late_stations_are_found(rt.alloc())?);
     Ok(())
 }
 
