@@ -1,5 +1,5 @@
-//! The program `atalk`: audits an image of an internet's tables, runs scripts over it, and plays an
-//! internet file whose tables an image holds.
+//! The program `atalk`: audits an image of an internet's tables, runs scripts over it, and plays
+//! internet files, whose last tables it writes as an image.
 #![tactic(auto)]
 
 mod arguments;

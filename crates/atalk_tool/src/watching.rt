@@ -23,7 +23,7 @@ pub struct Watching<'a, R> {
 }
 
 impl<'a, R: Eprint> Watching<'a, R> {
-    /// Says nothing yet.
+    /// A watch over a play, which has printed nothing.
     pub fn new(rt: &'a R, watched: bool) -> Watching<'a, R> {
         Watching {
             rt,

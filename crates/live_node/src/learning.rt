@@ -55,7 +55,7 @@ impl LiveNode {
         self.asked > 0 && !self.answered
     }
 
-    /// Is told of its cable, which counts where it waits for that.
+    /// Hears an answer about its cable, which counts only while it waits for one.
     fn hear_info(&mut self, info: &NetInfo)
         ensures { self.new ≡ informed self.old info.now }
     {
