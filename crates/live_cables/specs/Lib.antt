@@ -2,3 +2,4 @@ pub mod Playing
 pub mod Living
 pub mod Finding
 pub mod Steps
+pub mod Putting

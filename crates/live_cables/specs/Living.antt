@@ -1,14 +1,18 @@
 -- What live cables hold. This project's own.
-use Rattle.std.specs.Prelude.{◌≡◌, ℕ, Bool, false, IsTrue, List, ◌∷◌, ◌++◌, Option, slice_get}
+use Rattle.std.specs.Prelude.{◌≡◌, ℕ, Bool, false, IsTrue, List, ◌∷◌, ◌++◌, Option, length, slice_get}
 use Rattle.std.specs.Option.{unwrap_or}
-use Rattle.aarp.specs.Mapping.{Mappings}
+use Rattle.aarp.specs.Mapping.{Mappings, to_ask}
 use Rattle.at_base.specs.Range.{Span}
 use Rattle.at_base.specs.declared.address.Addr.{Addr}
 use Rattle.cable_model.specs.Logs.{Cabling, transcript}
-use Rattle.cable_model.specs.Outcomes.{heard_by}
+use Rattle.cable_model.specs.Outcomes.{IsTaken, heard_by}
 use Rattle.cable_model.specs.Pending.{Pair, pending}
 use Rattle.cable_model.specs.Transcript.{Entry, Took, count}
+use Rattle.live_cables.specs.Finding.{held_at as held_in}
 use Rattle.live_cables.specs.Playing.{IsPlayed, are_lost, is_took}
+use Rattle.live_cables.specs.Putting.{AreAsked, AreGiven, IsAnswer, IsFollowed, places_of, with_tick}
+use Rattle.live_cables.specs.Steps.{Loses, losses_since}
+use Rattle.live_cables.specs.declared.answer.Answer.{Answer}
 use Rattle.station.specs.Hearing.{Hearing}
 use Rattle.station.specs.declared.output.Output.{Output}
 use Rattle.std.specs.Prelude.{Contains}
@@ -60,3 +64,27 @@ pub record IsTakenBy (old new : Wires) (stamp station : ℕ) (Hears : Hearing �
   pub heard : IsHeardFrom old stamp station Hears
   pub rest : List Entry
   pub first : happened new ≡ happened old ++ Took stamp station ∷ rest
+
+-- A station put these outputs out, and what was put on cables that lose was lost.
+abbrev pub GivesOut : ℕ → List Output → Wires → Wires → Type 0
+GivesOut station outputs old new =
+    (mid : Cabling × List Mappings)
+    × AreGiven old.cabling.seats old.own old.ranges station outputs (old.cabling, old.maps) mid
+    × Loses (losses_since old.losing (length old.cabling.lines) mid.0) mid.0 new.cabling × (new.maps ≡ mid.1)
+
+-- A station took a frame, knowing of others what its mappings say, and put out what follows; what waits then was held, what the frame
+-- answered was learnt, and what was put on cables that lose was lost.
+abbrev pub TakesIn : ℕ → ℕ → ℕ → (Hearing → List Output → Type 0) → Wires → Wires → Type 0
+TakesIn stamp station ports Hears old new =
+    (taken : Cabling)
+    × IsTaken (places_of old.cabling.seats old.own old.maps old.ranges station) ports old.cabling taken stamp station Hears
+    × (answer : Option Answer) × IsAnswer old.cabling stamp station answer
+    × (mid : Cabling × List Mappings) × IsFollowed old.cabling.seats old.own station answer (taken, old.maps) mid
+    × Loses (losses_since old.losing (length old.cabling.lines) mid.0) mid.0 new.cabling × (new.maps ≡ mid.1)
+
+-- A tick passed for the mappings of a seat, whose station asked for addresses again, and what was put on cables that lose was lost.
+abbrev pub PassesFor : ℕ → Wires → Wires → Type 0
+PassesFor seat old new =
+    (asked : Cabling)
+    × AreAsked (slice_get old.cabling.seats seat) (slice_get old.own seat) (to_ask (held_in old.maps seat)) old.cabling asked
+    × Loses (losses_since old.losing (length old.cabling.lines) asked) asked new.cabling × (new.maps ≡ with_tick old.maps seat)

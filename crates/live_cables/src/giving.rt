@@ -5,6 +5,7 @@ ghost use Rattle.std.specs.Prelude.{option_and_then, slice_get};
 ghost use Rattle.std.specs.List.{AllByRecursion};
 ghost use Rattle.station.specs.Lawful.{IsNext};
 ghost use Rattle.live_cables.specs.Finding.{seat_by as seat_by_in};
+ghost use Rattle.live_cables.specs.Putting.{AreGiven, IsGiven, IsMade};
 ghost use Rattle.live_cables.specs.Steps.{IsSendable, Puts};
 
 use crate::holding::hold_from;
@@ -40,6 +41,8 @@ fn made(
     bytes: Bytes,
 ) -> Result<(), Error>
     requires { IsNext next }
+    ensures made { OnOk result (IsMade ports.now.seats ports.now.own.items ports.now.ranges.items seat
+        next bytes (cables.old, mappers.old) (cables.new, mappers.new)) }
     ensures puts { Puts cables.old cables.new }
     ensures refused { IfErr result (λ e. (e ≡ Error.Full) ⊎ (e ≡ Error.Memory)) }
     ensures mappers { length mappers.new ≡ length mappers.old }
@@ -67,6 +70,8 @@ fn give(
     output: Output,
 ) -> Result<(), Error>
     requires { IsSendable output }
+    ensures given { OnOk result (IsGiven ports.now.seats ports.now.own.items ports.now.ranges.items
+        station output (cables.old, mappers.old) (cables.new, mappers.new)) }
     ensures puts { Puts cables.old cables.new }
     ensures refused { IfErr result (λ e. (e ≡ Error.Full) ⊎ (e ≡ Error.Memory)) }
     ensures mappers { length mappers.new ≡ length mappers.old }
@@ -94,6 +99,8 @@ pub fn give_all(
     outputs: &mut Outputs,
 ) -> Result<(), Error>
     requires { AllByRecursion IsSendable outputs.old.items }
+    ensures given { OnOk result (AreGiven ports.now.seats ports.now.own.items ports.now.ranges.items
+        station outputs.old.items (cables.old, mappers.old) (cables.new, mappers.new)) }
     ensures puts { Puts cables.old cables.new }
     ensures refused { IfErr result (λ e. (e ≡ Error.Full) ⊎ (e ≡ Error.Memory)) }
     ensures mappers { length mappers.new ≡ length mappers.old }

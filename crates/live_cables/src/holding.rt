@@ -1,13 +1,16 @@
 //! Datagrams that wait for a hardware address.
 
-ghost use Rattle.std.specs.Prelude.{◌≡◌, ◌⊎◌, IfErr, length};
-ghost use Rattle.live_cables.specs.Finding.{is_first_for};
+ghost use Rattle.std.specs.Prelude.{◌≡◌, ◌⊎◌, IfErr, OnOk, drop, filter, length, not, slice_get};
+ghost use Rattle.aarp.specs.Mapping.{is_for};
+ghost use Rattle.cable_model.specs.Logs.{bytes_at};
+ghost use Rattle.live_cables.specs.Finding.{is_first_for, seat_by};
+ghost use Rattle.live_cables.specs.Putting.{AreHeld, ArePut, IsHeld, IsLearntBy, with_held};
 ghost use Rattle.live_cables.specs.Steps.{Puts};
 
 use crate::answer::Answer;
 use crate::ports::Ports;
 use crate::putting::{ask, put};
-use aarp::{Held, MAX_HELD, Mapper};
+use aarp::{Held, Mapper};
 use at_base::{Addr, Bytes, Error, Hw};
 use cable_model::{Cables, Seat, Waiting};
 use station::Kind;
@@ -17,6 +20,7 @@ use std::alloc::Global;
 /// 16 are held.
 fn hold_at(mappers: &mut [Mapper], seat: usize, next: Addr, bytes: Bytes) -> bool
     ensures first { result ≡ is_first_for mappers.old seat next }
+    ensures held { mappers.new ≡ with_held mappers.old seat next bytes }
     ensures mappers { length mappers.new ≡ length mappers.old }
 {
     if seat >= mappers.len() {
@@ -41,6 +45,9 @@ fn hold(
     station: u16,
     waiting: Waiting,
 ) -> Result<(), Error>
+    ensures held { OnOk result (IsHeld ports.now.seats ports.now.own.items
+        (seat_by ports.now.seats station waiting.port) waiting.next
+        (bytes_at cables.old.kept waiting.bytes) (cables.old, mappers.old) (cables.new, mappers.new)) }
     ensures puts { Puts cables.old cables.new }
     ensures waiting { cables.new.waiting ≡ cables.old.waiting }
     ensures refused { IfErr result (λ e. (e ≡ Error.Full) ⊎ (e ≡ Error.Memory)) }
@@ -70,6 +77,8 @@ pub fn hold_from(
     station: u16,
     from: usize,
 ) -> Result<(), Error>
+    ensures held { OnOk result (AreHeld ports.now.seats ports.now.own.items station
+        (drop from cables.old.waiting) (cables.old, mappers.old) (cables.new, mappers.new)) }
     ensures puts { Puts cables.old cables.new }
     ensures refused { IfErr result (λ e. (e ≡ Error.Full) ⊎ (e ≡ Error.Memory)) }
     ensures mappers { length mappers.new ≡ length mappers.old }
@@ -85,8 +94,8 @@ pub fn hold_from(
     hold_from(alloc, cables, ports, mappers, station, from + 1)
 }
 
-/// Puts what is held for an address on the cable of a seat, the oldest first. Errors: `Full`,
-/// `Memory`.
+/// Puts what is held for an address on the cable of a seat, the oldest first, and holds nothing for
+/// it any more. Errors: `Full`, `Memory`.
 fn release(
     cables: &mut Cables,
     seat: Seat,
@@ -94,20 +103,22 @@ fn release(
     addr: Addr,
     hw: Hw,
 ) -> Result<(), Error>
+    ensures put { OnOk result
+        (ArePut seat hw (filter (is_for addr) mapper.old.held) cables.old cables.new) }
+    ensures left { OnOk result (mapper.new ≡ record mapper.old {
+      held = filter (λ h. not (is_for addr h)) mapper.old.held;
+    }) }
     ensures puts { Puts cables.old cables.new }
     ensures refused { IfErr result (λ e. (e ≡ Error.Full) ⊎ (e ≡ Error.Memory)) }
 {
-    for _turn in 0..MAX_HELD {
-        let held = match mapper.release(addr) {
-            Some(held) => held,
-            None => return Ok(()),
-        };
-        match put(cables, seat, hw, Kind::Ddp, held.bytes) {
-            Ok(()) => {}
-            Err(error) => return Err(error),
-        }
+    let Some(held) = mapper.release(addr) else {
+        return Ok(());
+    };
+    match put(cables, seat, hw, Kind::Ddp, held.bytes) {
+        Ok(()) => {}
+        Err(error) => return Err(error),
     }
-    Ok(())
+    release(cables, seat, mapper, addr, hw)
 }
 
 /// Learns what a response says, and puts what was held for its sender on the cable. Errors: `Full`,
@@ -119,6 +130,9 @@ pub fn learn(
     station: u16,
     answer: Answer,
 ) -> Result<(), Error>
+    ensures learnt { OnOk result (IsLearntBy ports.now.seats
+        (seat_by ports.now.seats station answer.port) answer
+        (cables.old, mappers.old) (cables.new, mappers.new)) }
     ensures puts { Puts cables.old cables.new }
     ensures refused { IfErr result (λ e. (e ≡ Error.Full) ⊎ (e ≡ Error.Memory)) }
     ensures mappers { length mappers.new ≡ length mappers.old }
@@ -132,14 +146,9 @@ pub fn learn(
     if index >= mappers.len() {
         return Ok(());
     }
-    match mappers[index].learn(answer.source, answer.source_hw) {
-        Ok(()) => release(
-            cables,
-            seat,
-            &mut mappers[index],
-            answer.source,
-            answer.source_hw,
-        ),
+    let mapper = &mut mappers[index];
+    match mapper.learn(answer.source, answer.source_hw) {
+        Ok(()) => release(cables, seat, mapper, answer.source, answer.source_hw),
         Err(_) => Err(Error::Memory),
     }
 }

@@ -11,7 +11,8 @@ ghost use Rattle.cable_model.specs.Outcomes.{AreSeatsOf, IsLeast, is_named};
 ghost use Rattle.cable_model.specs.Pending.{pending as pending_on};
 ghost use Rattle.cable_model.specs.Transcript.{AreNumbered};
 ghost use Rattle.live_cables.specs.Finding.{held_at};
-ghost use Rattle.live_cables.specs.Living.{IsTakenBy, Plays, PlaysOn, happened};
+ghost use Rattle.live_cables.specs.Living.{GivesOut, IsTakenBy, PassesFor, Plays, PlaysOn};
+ghost use Rattle.live_cables.specs.Living.{TakesIn, happened};
 ghost use Rattle.station.specs.Lawful.{AreLawful};
 
 use crate::giving::give_all;
@@ -199,6 +200,8 @@ impl LiveCables {
     pub fn give(&mut self, station: u16, outputs: &mut Outputs) -> Result<(), Error>
         requires lawful { (n : ℕ) × AreLawful n outputs.old.items }
         ensures plays { Plays self.old self.new }
+        ensures given { OnOk result
+            (GivesOut station outputs.old.items self.old self.new) }
         ensures done { OnOk result (PlaysOn 0 self.old self.new) }
         ensures emptied { OnOk result (outputs.new.items ≡ []) }
         ensures refused { IfErr result (λ e. (e ≡ Error.Full) ⊎ (e ≡ Error.Memory)) }
@@ -228,6 +231,8 @@ impl LiveCables {
     pub fn take<S: Taker>(&mut self, stamp: u32, station: u16, taker: &mut S) -> Result<(), Error>
         requires { AreSeatsOf self.old.cabling.seats station (S.ports_of taker.old) }
         ensures plays { Plays self.old self.new }
+        ensures taken { OnOk result (TakesIn stamp station (S.ports_of taker.old)
+            (λ h added. S.hears taker.old h added taker.new) self.old self.new) }
         ensures done { OnOk result (PlaysOn 1 self.old self.new) }
         ensures heard { OnOk result (IsTakenBy self.old self.new stamp station
             (λ h added. S.hears taker.old h added taker.new)) }
@@ -274,6 +279,7 @@ impl LiveCables {
     /// Errors: `Full`, `Memory`. What was done so far then stays.
     pub fn pass(&mut self, seat: usize) -> Result<Addresses, Error>
         ensures plays { Plays self.old self.new }
+        ensures passed { OnOk result (PassesFor seat self.old self.new) }
         ensures done { OnOk result (PlaysOn 0 self.old self.new) }
         ensures given_up { IfOk result (λ addrs. addrs ≡ given_up_of (held_at self.old.maps seat)) }
         ensures refused { IfErr result (λ e. (e ≡ Error.Full) ⊎ (e ≡ Error.Memory)) }

@@ -1,8 +1,9 @@
 //! Ticks that pass for mappings.
 
-ghost use Rattle.std.specs.Prelude.{◌≡◌, ◌⊎◌, IfErr, length};
+ghost use Rattle.std.specs.Prelude.{◌≡◌, ◌⊎◌, IfErr, OnOk, length, slice_get};
 ghost use Rattle.aarp.specs.Mapping.{given_up as given_up_of, to_ask};
 ghost use Rattle.live_cables.specs.Finding.{held_at};
+ghost use Rattle.live_cables.specs.Putting.{AreAsked, with_tick};
 ghost use Rattle.live_cables.specs.Steps.{Puts};
 
 use crate::ports::Ports;
@@ -16,6 +17,7 @@ use std::alloc::Global;
 pub fn tick(mappers: &mut [Mapper], seat: usize) -> Asks
     ensures ask { result.ask ≡ to_ask (held_at mappers.old seat) }
     ensures given_up { result.given_up ≡ given_up_of (held_at mappers.old seat) }
+    ensures waits { mappers.new ≡ with_tick mappers.old seat }
     ensures mappers { length mappers.new ≡ length mappers.old }
 {
     if seat >= mappers.len() {
@@ -35,6 +37,8 @@ pub fn ask_all(
     seat: usize,
     addrs: &[Addr],
 ) -> Result<(), Error>
+    ensures asked { OnOk result (AreAsked (slice_get ports.now.seats seat)
+        (slice_get ports.now.own.items seat) addrs.now cables.old cables.new) }
     ensures puts { Puts cables.old cables.new }
     ensures refused { IfErr result (λ e. (e ≡ Error.Full) ⊎ (e ≡ Error.Memory)) }
 {

@@ -1,8 +1,10 @@
 //! Frames that a seat's station puts on its cable.
 
-ghost use Rattle.std.specs.Prelude.{◌≡◌, ◌⊎◌, IfErr, slice_get};
+ghost use Rattle.std.specs.Prelude.{◌≡◌, ◌⊎◌, ◌↔◌, IfErr, OnErr, OnOk, slice_get};
+ghost use Rattle.cable_model.specs.Outcomes.{Places};
 ghost use Rattle.live_cables.specs.Finding.{own_or_none, request_for};
 ghost use Rattle.station.specs.Lawful.{IsNext};
+ghost use Rattle.live_cables.specs.Putting.{IsAsked, IsPut, IsSent};
 ghost use Rattle.live_cables.specs.Steps.{Puts};
 
 use crate::ports::Ports;
@@ -17,7 +19,9 @@ const NOBODY: Hw = Hw([0; 6]);
 
 /// The error of a call that stops what is done. Those that say that nothing is to be done don't.
 pub fn stop(error: Error) -> Result<(), Error>
-    ensures { IfErr result (λ e. (e ≡ Error.Full) ⊎ (e ≡ Error.Memory)) }
+    ensures refused { IfErr result (λ e. (e ≡ Error.Full) ⊎ (e ≡ Error.Memory)) }
+    ensures full { (result ≡ Err Error.Full) ↔ (error ≡ Error.Full) }
+    ensures memory { (result ≡ Err Error.Memory) ↔ (error ≡ Error.Memory) }
 {
     match error {
         Error::Full => Err(Error::Full),
@@ -29,6 +33,8 @@ pub fn stop(error: Error) -> Result<(), Error>
 /// Puts a frame on the cable of a seat. What is too long for a frame isn't put. Errors: `Full`,
 /// `Memory`.
 pub fn put(cables: &mut Cables, seat: Seat, to: Hw, kind: Kind, bytes: Bytes) -> Result<(), Error>
+    ensures put { OnOk result (IsPut seat to kind bytes cables.old cables.new) }
+    ensures kept { OnErr result (cables.new ≡ cables.old) }
     ensures puts { Puts cables.old cables.new }
     ensures waiting { cables.new.waiting ≡ cables.old.waiting }
     ensures refused { IfErr result (λ e. (e ≡ Error.Full) ⊎ (e ≡ Error.Memory)) }
@@ -48,6 +54,9 @@ pub fn send<R: Resolve>(
     bytes: Bytes,
 ) -> Result<(), Error>
     requires { IsNext next }
+    ensures sent { let places : Places = record { finds = R.finds resolver.now; lists = R.lists resolver.now } in
+        OnOk result (IsSent places seat next bytes cables.old cables.new) }
+    ensures kept { OnErr result (cables.new ≡ cables.old) }
     ensures puts { Puts cables.old cables.new }
     ensures refused { IfErr result (λ e. (e ≡ Error.Full) ⊎ (e ≡ Error.Memory)) }
 {
@@ -88,6 +97,9 @@ pub fn ask(
     index: usize,
     addr: Addr,
 ) -> Result<(), Error>
+    ensures asked { OnOk result (IsAsked (slice_get ports.now.seats index)
+        (slice_get ports.now.own.items index) addr cables.old cables.new) }
+    ensures kept { OnErr result (cables.new ≡ cables.old) }
     ensures puts { Puts cables.old cables.new }
     ensures waiting { cables.new.waiting ≡ cables.old.waiting }
     ensures refused { IfErr result (λ e. (e ≡ Error.Full) ⊎ (e ≡ Error.Memory)) }

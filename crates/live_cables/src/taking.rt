@@ -3,8 +3,9 @@
 ghost use Rattle.std.specs.Prelude.{◌≡◌, ◌⊎◌, ◌↔◌, false, IfErr, OnErr, OnOk, length};
 ghost use Rattle.std.specs.List.{list_any};
 ghost use Rattle.cable_model.specs.Logs.{transcript as said};
-ghost use Rattle.cable_model.specs.Outcomes.{AreSeatsOf, is_named};
+ghost use Rattle.cable_model.specs.Outcomes.{AreSeatsOf, IsTaken, Places, is_named};
 ghost use Rattle.cable_model.specs.Pending.{pending as pending_on};
+ghost use Rattle.live_cables.specs.Putting.{IsAnswer, IsFollowed};
 ghost use Rattle.live_cables.specs.Steps.{Puts, Takes};
 
 use crate::answer::{Answer, answer_in};
@@ -26,6 +27,9 @@ pub fn take<S: Taker, R: Resolve>(
     taker: &mut S,
 ) -> Result<(), Error>
     requires { AreSeatsOf cables.old.seats station (S.ports_of taker.old) }
+    ensures taken { let places : Places = record { finds = R.finds resolver.now; lists = R.lists resolver.now } in
+        OnOk result (IsTaken places (S.ports_of taker.old) cables.old cables.new stamp station
+        (λ h added. S.hears taker.old h added taker.new)) }
     ensures ok { OnOk result (Takes cables.old cables.new stamp station
         (λ h added. S.hears taker.old h added taker.new)) }
     ensures ports_stay { S.ports_of taker.new ≡ S.ports_of taker.old }
@@ -40,7 +44,9 @@ pub fn take<S: Taker, R: Resolve>(
 }
 
 /// What a response says that a station is to take, if it is one.
-pub fn answer_of(cables: &Cables, stamp: u32, station: u16) -> Option<Answer> {
+pub fn answer_of(cables: &Cables, stamp: u32, station: u16) -> Option<Answer>
+    ensures { IsAnswer cables.now stamp station result }
+{
     match cables.heard(stamp, station) {
         Some(heard) => answer_in(&heard),
         None => None,
@@ -57,6 +63,8 @@ pub fn follow(
     station: u16,
     answer: Option<Answer>,
 ) -> Result<(), Error>
+    ensures followed { OnOk result (IsFollowed ports.now.seats ports.now.own.items station answer
+        (cables.old, mappers.old) (cables.new, mappers.new)) }
     ensures puts { Puts cables.old cables.new }
     ensures refused { IfErr result (λ e. (e ≡ Error.Full) ⊎ (e ≡ Error.Memory)) }
     ensures mappers { length mappers.new ≡ length mappers.old }

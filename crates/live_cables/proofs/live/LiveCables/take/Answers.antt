@@ -1,6 +1,7 @@
-use Rattle.std.proofs.Common.{[], inr, refl}
+use Rattle.std.proofs.Common.{[], inr, refl, sym, ◌∙◌}
 use Rattle.std.proofs.lemmas.Result.{on_ok_weaker}
 use Rattle.live_cables.proofs.Calls.{midst_taken, never_says, on_err, on_ok, plays_kept, plays_midst, plays_to, plays_done, taken_by}
+use Rattle.live_cables.proofs.Exact.{takes_in, whole}
 use Rattle.live_cables.proofs.Losses.{loses_none}
 use Rattle.live_cables.proofs.live.LiveCables.take.Goals as goal
 
@@ -63,3 +64,32 @@ pub returns-clause-not_pending : goal.returns-clause-not_pending
 returns-clause-not_pending g c =
     rw (← c.self.view_is)
     (never_says _ _ c.lose_from.ensures.refused (λ p. let said = c.in-Ok.ensures.not_pending.1 p in cc))
+
+pub returns-clause-taken : goal.returns-clause-taken
+returns-clause-taken g c =
+    rw (← c.self.view_is)
+    (on_ok c.lose_from.result _
+    (takes_in
+    (record {
+      cabling = c.self.inside.cables;
+      own = c.self.inside.ports.own.items;
+      maps = c.self.inside.mappers.items;
+      ranges = c.self.inside.ports.ranges.items;
+      losing = c.self.inside.losing.items;
+    })
+    (record {
+      cabling = c.lose_from.new.cables;
+      own = c.self.inside.ports.own.items;
+      maps = _;
+      ranges = c.self.inside.ports.ranges.items;
+      losing = c.self.inside.losing.items;
+    })
+    c.self.inside.ports.seats c.deref_mut.result.now c.transcript-from.result.now c.deref-2.result.now
+    (record {
+      seats_are = c.self.invariant.0;
+      maps_are = c.deref_mut.ensures.value;
+      lines_are = c.transcript-from.ensures.value;
+      losing_are = c.deref-2.ensures.value;
+    }) c.args.stamp c.args.station _ _ c.take.new.cables c.answer_of-answer.result (c.follow-followed.new.cables, c.follow-followed.new.mappers)
+    c.deref.result.now c.deref.ensures.value c.in-Ok.ensures.taken c.answer_of-answer.ensures c.in-Ok-followed.ensures.followed c.lose_from.ensures.loses
+    (whole c.follow-followed.new.mappers _ c.self.inside.mappers.len (sym (c.follow-followed.ensures.mappers ∙ c.deref_mut.ensures.len)))))
