@@ -9,3 +9,4 @@ pub mod Appended
 pub mod ReadBack
 pub mod Answering
 pub mod Grouping
+pub mod Halving

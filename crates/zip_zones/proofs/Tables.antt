@@ -24,7 +24,7 @@ known_ends k h =
     (e.0, e.1)
 
 -- ranges that are one start alike
-starts_alike : (a b : Span) → same_range a b ≡ true → a.start ≡ b.start
+pub starts_alike : (a b : Span) → same_range a b ≡ true → a.start ≡ b.start
 starts_alike a b h = eqb-true _ _ (and_parts (a.start == b.start) (a.end == b.end) h).0
 
 not_same : (a b : Span) → a.start < b.start → same_range a b ≡ false
@@ -34,7 +34,7 @@ not_same a b lt =
       | false ↦ λ t. refl
     ]) refl
 
-not_same_after : (a b : Span) → b.start < a.start → same_range a b ≡ false
+pub not_same_after : (a b : Span) → b.start < a.start → same_range a b ≡ false
 not_same_after a b lt =
     (elim (same_range a b) as (λ t. same_range a b ≡ t → t ≡ false) [
       | true ↦ λ t. absurd (omega (arith, starts_alike a b t))
@@ -44,7 +44,7 @@ not_same_after a b lt =
 -- ---- Where a range stands
 
 -- above it there is none
-none_above : (range : Span) (high : ℕ) (table : List Known) → range.start ≤ high → list_all is_known table ≡ true
+pub none_above : (range : Span) (high : ℕ) (table : List Known) → range.start ≤ high → list_all is_known table ≡ true
     → are_above high table ≡ true
     → known_for range table ≡ None
 none_above range high [] le each h = refl

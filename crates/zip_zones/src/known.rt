@@ -150,6 +150,22 @@ impl KnownZones {
         if self.is_complete() {
             return Ok(());
         }
+        // A list that was begun since the table was copied has no other owner.
+        if let Some(zones) = Arc::get_mut(&mut self.zones) {
+            zones.insert(Zone::new(name))?;
+            return Ok(());
+        }
+        self.take_shared(name)
+    }
+
+    /// Takes a name into a copy of the names, which have other owners. Error: `Memory`, which
+    /// changes nothing.
+    fn take_shared(&mut self, name: &Name) -> Result<(), Error>
+        ensures ok { OnOk result
+            (self.new ≡ record self.old { names = with_name self.old.names name.now }) }
+        ensures err { IsOkUnless result Error.Memory }
+        ensures kept { OnErr result (self.new ≡ self.old) }
+    {
         let zones = with(self.zones.as_ref(), name)?;
         self.zones = shared(self.alloc, zones)?;
         Ok(())

@@ -48,9 +48,13 @@ impl Model for ZoneTable {
 
 /// The list of a range.
 fn list_for(lists: &[KnownZones], range: Range) -> Option<&KnownZones>
+    requires { IsZoneMap lists.now }
     ensures { option_copied result ≡ known_for range lists.now }
 {
-    lists.iter().find(|known| known.range() == range)
+    match place_of(lists, range) {
+        Ok(place) => Some(&lists[place]),
+        Err(_) => None,
+    }
 }
 
 /// The list whose range holds the network.
@@ -60,11 +64,22 @@ fn list_of(lists: &[KnownZones], net: u16) -> Option<&KnownZones>
     lists.iter().find(|known| known.range().holds(net))
 }
 
-/// Whether another range has a network in common with this one.
-fn overlaps_other(lists: &[KnownZones], range: Range) -> bool
+/// Whether another range has a network in common with this one, list by list.
+fn search_others(lists: &[KnownZones], range: Range) -> bool
     ensures { result ≡ overlaps_another range lists.now }
 {
     lists.iter().any(|known| known.range().overlaps(&range) && known.range() != range)
+}
+
+/// Whether another range has a network in common with this one. None has where this one has a list.
+fn overlaps_other(lists: &[KnownZones], range: Range) -> bool
+    requires { IsZoneMap lists.now }
+    ensures { result ≡ overlaps_another range lists.now }
+{
+    match list_for(lists, range) {
+        Some(_) => false,
+        None => search_others(lists, range),
+    }
 }
 
 /// Takes out the list of a range.
@@ -132,24 +147,38 @@ fn place_of(lists: &[KnownZones], range: Range) -> Result<usize, usize>
     }
 }
 
-/// The number of lists that start below the network.
+/// The number of lists that start below the network, which is between these two.
+fn place_between(lists: &[KnownZones], start: u16, low: usize, high: usize) -> usize
+    requires map { IsZoneMap lists.now }
+    requires from { low ≤ before start lists.now }
+    requires to { before start lists.now ≤ high }
+    requires inside { high ≤ length lists.now }
+    ensures { result ≡ before start lists.now }
+{
+    if low >= high {
+        return low;
+    }
+    let middle = low + (high - low) / 2;
+    if lists[middle].range().start() < start {
+        place_between(lists, start, middle + 1, high)
+    } else {
+        place_between(lists, start, low, middle)
+    }
+}
+
+/// The number of lists that start below the network. The lists are halved.
 fn place_for(lists: &[KnownZones], start: u16) -> usize
+    requires { IsZoneMap lists.now }
     ensures place { result ≡ before start lists.now }
     ensures inside { result ≤ length lists.now }
 {
-    let mut index = 0;
-    for known in lists {
-        if known.range().start() >= start {
-            return index;
-        }
-        index += 1;
-    }
-    index
+    place_between(lists, start, 0, lists.len())
 }
 
 /// Whether there is room for a list of a range, of so many zones. Errors: `BadRange` where another
 /// range overlaps it, `Full`.
 fn check_room(lists: &[KnownZones], range: Range, zones: usize) -> Result<(), Error>
+    requires { IsZoneMap lists.now }
     ensures ok { OnOk result ((overlaps_another range lists.now ≡ false) × (zones ≤ 64)
         × (is_full_for range lists.now ≡ false)) }
     ensures range { (result ≡ Err Error.BadRange) ↔ (overlaps_another range lists.now ≡ true) }
