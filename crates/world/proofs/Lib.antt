@@ -4,3 +4,4 @@ pub mod Emptied
 pub mod Stations
 pub mod Losses
 pub mod Ticked
+mod Doing

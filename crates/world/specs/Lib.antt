@@ -5,3 +5,4 @@ pub mod Received
 pub mod Keeping
 pub mod Seen
 pub mod Frozen
+pub mod Doing

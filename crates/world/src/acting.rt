@@ -1,8 +1,10 @@
 //! What the nodes of a world do.
 
-ghost use Rattle.std.specs.Prelude.{◌≡◌, ◌⊎◌, ◌<◌, ◌≤◌, ℕ, [], length, IfErr, IfSome, OnErr};
-ghost use Rattle.std.specs.Prelude.{OnOk};
+ghost use Rattle.std.specs.Prelude.{◌≡◌, ◌⊎◌, ◌<◌, ◌≤◌, ◌++◌, ◌∷◌, ℕ, [], length, option_map};
+ghost use Rattle.std.specs.Prelude.{slice_get, IfErr, IfNone, IfSome, OnErr, OnOk, Some};
+ghost use Rattle.at_base.specs.ErrorNumber.{number_of};
 ghost use Rattle.station.specs.Lawful.{AreLawful};
+ghost use Rattle.world.specs.Doing.{IsActed, IsActedBy, IsDone, number_from, station_for};
 ghost use Rattle.world.specs.Going.{Goes, GoesOn};
 
 use at_base::Error;
@@ -17,7 +19,8 @@ use station::Outputs;
 /// Lets a node do what is planned, which puts out what it sends.
 fn act(node: &LiveNode, action: &Do, outputs: &mut Outputs) -> Result<(), Error>
     requires { outputs.old.items ≡ [] }
-    ensures { OnOk result (AreLawful 1 outputs.new.items) }
+    ensures acted { OnOk result (IsActed node.now action.now outputs.new.items) }
+    ensures lawful { OnOk result (AreLawful 1 outputs.new.items) }
 {
     match action {
         Do::Send {
@@ -43,7 +46,8 @@ fn act_by<T: RouteTable>(
     outputs: &mut Outputs,
 ) -> Result<(), Error>
     requires { outputs.old.items ≡ [] }
-    ensures { OnOk result (AreLawful 1 outputs.new.items) }
+    ensures acted { OnOk result (IsActedBy station.now action.now outputs.new.items) }
+    ensures lawful { OnOk result (AreLawful 1 outputs.new.items) }
 {
     match station {
         Member::Node(node) => act(node, action, outputs),
@@ -53,7 +57,10 @@ fn act_by<T: RouteTable>(
 
 /// Notes that an action, by its index from 0, was refused. Error: `Memory`.
 fn note(refused: &mut Vec<(u32, u8)>, index: u32, error: Error) -> Result<(), Error>
-    ensures { IfErr result (λ e. (e ≡ Error.Full) ⊎ (e ≡ Error.Memory)) }
+    ensures noted { OnOk result
+        (refused.new.items ≡ refused.old.items ++ (number_from index, number_of error) ∷ []) }
+    ensures stays { OnErr result (refused.new.items ≡ refused.old.items) }
+    ensures refused { IfErr result (λ e. (e ≡ Error.Full) ⊎ (e ≡ Error.Memory)) }
 {
     match error {
         Error::Memory => Err(Error::Memory),
@@ -65,7 +72,9 @@ fn note(refused: &mut Vec<(u32, u8)>, index: u32, error: Error) -> Result<(), Er
 }
 
 /// The index of the station of an action's node.
-fn station_of(plan: &Plan, action: &Action) -> usize {
+fn station_of(plan: &Plan, action: &Action) -> usize
+    ensures { result ≡ station_for plan.now action.now }
+{
     plan.routers().len() + (action.node as usize).saturating_sub(1)
 }
 
@@ -78,6 +87,8 @@ fn act_one<T: RouteTable>(
     index: u32,
 ) -> Result<(), Error>
     requires { length stations.now ≤ 400 }
+    ensures is_done { OnOk result (IsDone plan.now stations.now index
+        (wires.old, refused.old.items) (wires.new, refused.new.items)) }
     ensures goes { Goes wires.old wires.new }
     ensures done { OnOk result (GoesOn 0 wires.old wires.new) }
     ensures refused { IfErr result (λ e. (e ≡ Error.Full) ⊎ (e ≡ Error.Memory)) }
@@ -99,7 +110,12 @@ fn act_one<T: RouteTable>(
 
 /// Takes the next action off the schedule, if it is one of this tick.
 fn next_due(schedule: &mut Vec<u32>, actions: &[Action], now: u32) -> Option<u32>
-    ensures { IfSome result (λ index. length schedule.new.items < length schedule.old.items) }
+    ensures last { IfSome result
+        (λ index. schedule.old.items ≡ schedule.new.items ++ index ∷ []) }
+    ensures due { IfSome result
+        (λ index. option_map (λ a. a.at) (slice_get actions.now index) ≡ Some now) }
+    ensures none { IfNone result (schedule.new.items ≡ schedule.old.items) }
+    ensures fewer { IfSome result (λ index. length schedule.new.items < length schedule.old.items) }
 {
     let index = *schedule.last()?;
     let action = actions.get(index as usize)?;

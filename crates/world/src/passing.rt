@@ -1,7 +1,8 @@
 //! A tick that passes for the stations of a world.
 
-ghost use Rattle.std.specs.Prelude.{◌≡◌, ◌⊎◌, ◌≤◌, length, map, IfErr, OnOk};
+ghost use Rattle.std.specs.Prelude.{◌≡◌, ◌⊎◌, ◌≤◌, fold, length, map, IfErr, OnOk};
 ghost use Rattle.planned_stations.specs.Planning.{ports_of};
+ghost use Rattle.world.specs.Doing.{given_up as without, own_in};
 ghost use Rattle.world.specs.Going.{Goes, GoesOn};
 ghost use Rattle.world.specs.Received.{got};
 
@@ -15,7 +16,9 @@ use station::{Outputs, Station};
 use std::alloc::Global;
 
 /// The settled address of a station's port.
-fn own_of<T: RouteTable>(station: &Member<LiveRouter<T>, LiveNode>, port: u8) -> Option<Addr> {
+fn own_of<T: RouteTable>(station: &Member<LiveRouter<T>, LiveNode>, port: u8) -> Option<Addr>
+    ensures { result ≡ own_in station.now port }
+{
     match station {
         Member::Router(router) => router.router().own(port),
         Member::Node(node) => node.node().own(),
@@ -38,6 +41,7 @@ fn settle<T: RouteTable>(
 
 /// AARP has given an address up, which a router is told.
 fn give_up<T: RouteTable>(station: &mut Member<LiveRouter<T>, LiveNode>, addr: Addr)
+    ensures without { station.new ≡ without station.old addr }
     ensures ports { ports_of station.new ≡ ports_of station.old }
     ensures got { got station.new ≡ got station.old }
 {
@@ -49,6 +53,7 @@ fn give_up<T: RouteTable>(station: &mut Member<LiveRouter<T>, LiveNode>, addr: A
 
 /// AARP has given addresses up, which a router is told.
 fn give_up_all<T: RouteTable>(station: &mut Member<LiveRouter<T>, LiveNode>, addrs: &[Addr])
+    ensures without { station.new ≡ fold without station.old addrs.now }
     ensures ports { ports_of station.new ≡ ports_of station.old }
     ensures got { got station.new ≡ got station.old }
 {

@@ -1,0 +1,75 @@
+-- What one step of a tick does to a station, and what a node does as it was planned. This project's own.
+use Rattle.std.specs.Prelude.{◌≡◌, ◌⊎◌, ℕ, zero, suc, ◌+◌, ◌-◌, ◌%◌, false, fold, List, [], ◌∷◌, ◌++◌, Option, Some, None, Err, IfOk, length, min, slice_get, slice_set}
+use Rattle.at_base.specs.ErrorNumber.{number_of}
+use Rattle.at_base.specs.declared.address.Addr.{Addr}
+use Rattle.at_base.specs.declared.error.Error.{Error}
+use Rattle.end_node.specs.Asking.{asked_by, asking, request_bytes, zone_asked}
+use Rattle.end_node.specs.Sending.{header_to, sending}
+use Rattle.image_stations.specs.declared.member.Member.{Member}
+use Rattle.image_stations.specs.declared.member.Member.TheVariants.{Router, Node}
+use Rattle.internet_file.specs.Files.{Planned}
+use Rattle.internet_file.specs.declared.action.Action.{Action}
+use Rattle.internet_file.specs.declared.action.Do.{Do}
+use Rattle.internet_file.specs.declared.action.Do.TheVariants.{Send, Lookup}
+use Rattle.live_cables.specs.Living.{GivesOut, Wires}
+use Rattle.live_node.specs.Living.{LivingNode}
+use Rattle.live_router.specs.Living.{Living}
+use Rattle.router.specs.Holding.{own_at as address_at}
+use Rattle.rtmp.specs.Routes.{poisoned}
+use Rattle.aarp.specs.Choosing.{settled}
+use Rattle.station.specs.Making.{made}
+use Rattle.station.specs.declared.output.Output.{Output}
+
+-- the settled address of a station's port
+abbrev pub own_in : Member Living LivingNode → ℕ → Option Addr
+own_in (Router l) port = address_at l.router.ports port
+own_in (Node n) port = settled n.node.port
+
+-- the addresses of seats, where so many ports of a station, whose seats begin at an index, have the addresses that it settled
+abbrev pub settled_own : Member Living LivingNode → ℕ → ℕ → List (Option Addr) → List (Option Addr)
+settled_own m seat zero own = own
+settled_own m seat (suc port) own = slice_set (settled_own m seat port own) (seat + port) (own_in m port)
+
+-- the station after an address was given up: rows of a router that lead through it are bad
+abbrev pub given_up : Member Living LivingNode → Addr → Member Living LivingNode
+given_up (Router l) a = Router (record l { router = record l.router { routes = poisoned a l.router.routes } })
+given_up (Node n) a = Node n
+
+-- A node did this, and put out what follows.
+abbrev pub IsActed : LivingNode → Do → List Output → Type 0
+IsActed n (Send to socket source kind hex) outputs =
+    IfOk (sending n.node (header_to to socket source kind false) (length hex)) (λ way. outputs ≡ made way hex ∷ [])
+IsActed n (Lookup id object kind zone) outputs =
+    IfOk (asking n.node) (λ way. outputs
+    ≡ made way (request_bytes (id % 256) (asked_by way.header.source object kind (zone_asked n.node zone))) ∷ [])
+
+-- The same of a station: a router does nothing.
+abbrev pub IsActedBy : Member Living LivingNode → Do → List Output → Type 0
+IsActedBy (Node n) action outputs = IsActed n action outputs
+IsActedBy (Router l) action outputs = outputs ≡ []
+
+-- the station of an action's node
+abbrev pub station_for : Planned → Action → ℕ
+station_for plan action = length plan.routers + (action.node - 1)
+
+-- the number of an action, from 1, by its index from 0: as far as 32 bits go
+abbrev pub number_from : ℕ → ℕ
+number_from index = min (index + 1) 4294967295
+
+-- A station did what is planned, or refused it, which is noted with the action's number and that of the error.
+abbrev pub IsDoneBy : Member Living LivingNode → ℕ → Do → ℕ → Wires × List (ℕ × ℕ) → Wires × List (ℕ × ℕ) → Type 0
+IsDoneBy m station action index old new =
+    ((outputs : List Output) × IsActedBy m action outputs × GivesOut station outputs old.0 new.0 × (new.1 ≡ old.1))
+    ⊎ ((e : Error) × (new.0 ≡ old.0) × (new.1 ≡ old.1 ++ (number_from index, number_of e) ∷ []))
+
+-- The action of an index was done by its node; nothing happened where there is no such action or node.
+abbrev pub IsDone : Planned → List (Member Living LivingNode) → ℕ → Wires × List (ℕ × ℕ) → Wires × List (ℕ × ℕ) → Type 0
+IsDone plan stations index old new = of (slice_get plan.actions index)
+  where
+    by : Action → Option (Member Living LivingNode) → Type 0
+    by action None = (new.0 ≡ old.0) × (new.1 ≡ old.1)
+    by action (Some m) = IsDoneBy m (station_for plan action) action.action index old new
+
+    of : Option Action → Type 0
+    of None = (new.0 ≡ old.0) × (new.1 ≡ old.1)
+    of (Some action) = by action (slice_get stations (station_for plan action))
