@@ -2,7 +2,7 @@
 
 ghost use Rattle.std.specs.Prelude.{◌≡◌, ◌⊎◌, ◌≤◌, fold, length, map, IfErr, OnOk};
 ghost use Rattle.planned_stations.specs.Planning.{ports_of};
-ghost use Rattle.world.specs.Doing.{given_up as without, own_in};
+ghost use Rattle.world.specs.Doing.{given_up as without, own_in, settled_own};
 ghost use Rattle.world.specs.Going.{Goes, GoesOn};
 ghost use Rattle.world.specs.Received.{got};
 
@@ -32,7 +32,8 @@ fn settle<T: RouteTable>(
     seat: usize,
 )
     requires { seat ≤ 102000 }
-    ensures { wires.new ≡ record wires.old { own = wires.new.own } }
+    ensures own { wires.new.own ≡ settled_own station.now seat (ports_of station.now) wires.old.own }
+    ensures others { wires.new ≡ record wires.old { own = wires.new.own } }
 {
     for port in 0..station.ports() {
         wires.set_own(seat + port as usize, own_of(station, port));

@@ -1,7 +1,7 @@
 //! Worlds, and what is seen of them.
 
 ghost use Rattle.std.specs.Prelude.{◌≡◌, [], None, IfOk, IsOkUnless, OnErr, OnOk};
-ghost use Rattle.std.specs.Prelude.{option_copied};
+ghost use Rattle.std.specs.Prelude.{map, option_copied};
 ghost use Rattle.cable_model.specs.Logs.{bytes_at};
 ghost use Rattle.internet_file.specs.Sound.{IsSound};
 ghost use Rattle.live_cables.specs.Living.{happened};
@@ -113,12 +113,18 @@ fn wires_by(
     ranges: &[Range],
 ) -> Result<LiveCables, Error>
     requires { seats.now ≡ plan_seats plan.now }
-    ensures ok { IfOk result (λ wires. wires.cabling ≡ record {
-      seats = plan_seats plan.now;
-      limit = 4000000;
-      lines = [];
-      kept = [];
-      waiting = [];
+    ensures ok { IfOk result (λ wires. wires ≡ record {
+      cabling = record {
+        seats = plan_seats plan.now;
+        limit = 4000000;
+        lines = [];
+        kept = [];
+        waiting = [];
+      };
+      own = map (λ s. None) (plan_seats plan.now);
+      maps = map (λ s. record { known = []; held = [] }) (plan_seats plan.now);
+      ranges = ranges.now;
+      losing = [];
     }) }
     ensures refused { IsOkUnless result Error.Memory }
 {
@@ -128,12 +134,18 @@ fn wires_by(
 
 /// The cables of a plan, where nothing has happened yet. Error: `Memory`.
 fn wires_of(alloc: Global, plan: &Plan) -> Result<LiveCables, Error>
-    ensures ok { IfOk result (λ wires. wires.cabling ≡ record {
-      seats = plan_seats plan.now;
-      limit = 4000000;
-      lines = [];
-      kept = [];
-      waiting = [];
+    ensures ok { IfOk result (λ wires. wires ≡ record {
+      cabling = record {
+        seats = plan_seats plan.now;
+        limit = 4000000;
+        lines = [];
+        kept = [];
+        waiting = [];
+      };
+      own = map (λ s. None) (plan_seats plan.now);
+      maps = map (λ s. record { known = []; held = [] }) (plan_seats plan.now);
+      ranges = map (λ c. c.range) plan.now.cables;
+      losing = [];
     }) }
     ensures refused { IsOkUnless result Error.Memory }
 {

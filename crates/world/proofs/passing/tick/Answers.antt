@@ -3,8 +3,8 @@ use Rattle.world.proofs.Going.{goes_on_settled, goes_plays, goes_plays_on, goes_
 use Rattle.world.proofs.passing.tick.Goals as goal
 
 pub returns-clause-goes : goal.returns-clause-goes
-returns-clause-goes g c = goes_settled _ c.settle.new.wires _ c.settle.ensures (goes_plays _ _ c.give.ensures.plays)
+returns-clause-goes g c = goes_settled _ c.settle.new.wires _ c.settle.ensures.others (goes_plays _ _ c.give.ensures.plays)
 
 pub returns-clause-done : goal.returns-clause-done
 returns-clause-done g c =
-    on_ok_weaker c.give.result (λ d. goes_on_settled _ c.settle.new.wires _ c.settle.ensures 0 (goes_plays_on 0 _ _ d)) c.give.ensures.done
+    on_ok_weaker c.give.result (λ d. goes_on_settled _ c.settle.new.wires _ c.settle.ensures.others 0 (goes_plays_on 0 _ _ d)) c.give.ensures.done

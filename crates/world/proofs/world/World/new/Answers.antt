@@ -11,6 +11,6 @@ invariant_of-result g c = record {
   few = search rules;
   due = search rules;
   received =
-      subst (λ t. AreReceived t (map got c.in_ok-stations.stations.items)) (sym (ap transcript c.in_ok-wires.ensures.ok))
+      subst (λ t. AreReceived t (map got c.in_ok-stations.stations.items)) (sym (ap (λ w. transcript w.cabling) c.in_ok-wires.ensures.ok))
       c.in_ok-stations.ensures.received;
 }

@@ -1,4 +1,0 @@
-use Rattle.world.proofs.passing.settle.Goals as goal
-
-pub returns : goal.returns
-returns g c = c.loop-port.invariant
