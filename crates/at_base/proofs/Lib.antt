@@ -7,3 +7,4 @@ pub mod Readers
 mod Examples
 pub mod Packets
 pub mod Loops
+pub mod Halving

@@ -1,5 +1,5 @@
 -- Network addresses. (Inside AppleTalk, the chapter on DDP)
-use Rattle.std.specs.Prelude.{ℕ, Bool, ◌==◌, ◌&&◌}
+use Rattle.std.specs.Prelude.{Bool, ◌==◌, ◌&&◌}
 use Rattle.at_base.specs.declared.address.Addr.{Addr}
 
 -- the two are one address

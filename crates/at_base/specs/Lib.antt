@@ -10,3 +10,4 @@ pub mod Lawful
 pub mod Address
 pub mod Texts
 pub mod Packets
+pub mod Starts

@@ -1,6 +1,6 @@
 -- Packets as formats: what each reader of packets refuses, and fields that several protocols have. (Inside AppleTalk, the
 -- chapters on AARP, RTMP, NBP, ATP and ZIP)
-use Rattle.std.specs.Prelude.{ℕ, Bool, true, ◌==◌, List, length, Option, Some, None, nat_lt, if◌then◌else◌}
+use Rattle.std.specs.Prelude.{ℕ, true, ◌==◌, List, length, Option, Some, None, nat_lt, if◌then◌else◌}
 use Rattle.at_base.specs.declared.address.Addr.{Addr}
 use Rattle.at_base.specs.declared.error.Field.{Field}
 use Rattle.at_base.specs.declared.error.Field.TheVariants.{NameLength}

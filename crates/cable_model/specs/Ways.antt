@@ -49,6 +49,7 @@ lines_for (output.Kept port bytes) = 2
 lines_for (output.Dropped cause bytes) = 2
 lines_for (output.Wire port to bytes) = 3
 
+-- the most entries of all of these outputs
 abbrev pub all_lines : List Output → ℕ
 all_lines [] = 0
 all_lines (o ∷ os) = lines_for o + all_lines os
@@ -61,6 +62,7 @@ spare_for (output.Kept port bytes) = 1
 spare_for (output.Dropped cause bytes) = 1
 spare_for (output.Wire port to bytes) = 0
 
+-- how many of these outputs' bytes may be kept with no entry of their own
 abbrev pub all_spare : List Output → ℕ
 all_spare [] = 0
 all_spare (o ∷ os) = spare_for o + all_spare os

@@ -1,11 +1,12 @@
 -- Finite maps as rows by rising range: what filters, updates of rows and a new row leave of them.
 use Rattle.std.proofs.Common.{◌≡◌, ℕ, zero, suc, ◌+◌, ◌<◌, ◌≤◌, Bool, true, false, cond, not, ◌&&◌, ◌==◌, List, [], ◌∷◌, ◌++◌, length, map}
-use Rattle.std.proofs.Common.{find, Some, None, filter, take, drop, set, insert, get_or, refl, sym, ap, ◌∙◌, arith, nat_lt, nat_le}
+use Rattle.std.proofs.Common.{Some, None, filter, take, drop, set, insert, get_or, refl, sym, ap, ◌∙◌, arith, nat_lt, nat_le}
 use Rattle.std.specs.List.{list_all, list_any}
 use Rattle.std.proofs.lemmas.Bool.Decides.{nat_tests}
 use Rattle.std.proofs.lemmas.Bool.{and_parts, or_parts, ltb-true, ltb-false, lt-ltb, eqb-true, ne_eqb}
 use Rattle.at_base.specs.Range.{Span, overlaps, same_range, is_range}
 use Rattle.at_base.proofs.Ranges.{ends_of}
+use Rattle.at_base.proofs.Halving.{rise, rise_lower}
 use Rattle.at_base.specs.Address.{same_address}
 use Rattle.at_base.specs.declared.address.Addr.{Addr}
 use Rattle.rtmp.specs.declared.state.State.TheVariants.{Bad}
@@ -184,58 +185,15 @@ none_at row d low (r ∷ rows) each h other =
 
 -- ---- Which rows start below a network
 
--- each row starts above the network that all are above
-above_each : (low : ℕ) (rows : List Row) (k : ℕ) (d : Row) → list_all is_row rows ≡ true → are_above low rows ≡ true
-    → k < length rows → low < (get_or rows k d).range.start
-above_each low [] k d each h less = absurd (omega (arith, less))
-above_each low (r ∷ rows) zero d each h less =
-    ltb-true _ _ (and_parts (nat_lt low r.range.start) (are_above r.range.end rows) h).0
-above_each low (r ∷ rows) (suc k) d each h less =
+-- rows above a network rise by their starts
+pub rows_rise : (low : ℕ) (rows : List Row) → list_all is_row rows ≡ true → are_above low rows ≡ true
+    → rise (λ (r : Row). r.range.start) low rows ≡ true
+rows_rise low [] each h = refl
+rows_rise low (r ∷ rows) each h =
     let q = and_parts (nat_lt low r.range.start) (are_above r.range.end rows) h in
     let e = and_parts (is_row r) (list_all is_row rows) each in
-    let first = ltb-true _ _ q.0 in
-    let ends = (row_ends r e.0).1 in
-    let rest = above_each r.range.end rows k d e.1 q.1 (omega (arith, less)) in
-    omega (arith, first, ends, rest)
-
--- a row that starts below a network is one of the first that do
-pub before_over : (start low : ℕ) (rows : List Row) (k : ℕ) (d : Row) → list_all is_row rows ≡ true → are_above low rows ≡ true
-    → k < length rows → (get_or rows k d).range.start < start → k < before start rows
-before_over start low [] k d each h less below = absurd (omega (arith, less))
-before_over start low (r ∷ rows) zero d each h less below = rw (lt-ltb _ _ below) (omega arith)
-before_over start low (r ∷ rows) (suc k) d each h less below =
-    let q = and_parts (nat_lt low r.range.start) (are_above r.range.end rows) h in
-    let e = and_parts (is_row r) (list_all is_row rows) each in
-    let ends = (row_ends r e.0).1 in
-    let rest = above_each r.range.end rows k d e.1 q.1 (omega (arith, less)) in
-    let first : nat_lt r.range.start start ≡ true = lt-ltb _ _ (omega (arith, ends, rest, below)) in
-    let more = before_over start r.range.end rows k d e.1 q.1 (omega (arith, less)) below in
-    rw first (omega (arith, more))
-
--- and one that doesn't isn't
-pub before_under : (start : ℕ) (rows : List Row) (k : ℕ) (d : Row) → k < length rows
-    → start ≤ (get_or rows k d).range.start → before start rows ≤ k
-before_under start [] k d less over = absurd (omega (arith, less))
-before_under start (r ∷ rows) zero d less over =
-    (elim (nat_lt r.range.start start) as (λ b. nat_lt r.range.start start ≡ b → cond b (suc (before start rows)) 0 ≤ 0) [
-      | true ↦ λ t. let is = ltb-true _ _ t in absurd (omega (arith, is, over))
-      | false ↦ λ t. omega arith
-    ]) refl
-before_under start (r ∷ rows) (suc k) d less over =
-    let rest = before_under start rows k d (omega (arith, less)) over in
-    (elim (nat_lt r.range.start start) as (λ b. cond b (suc (before start rows)) 0 ≤ suc k) [
-      | true ↦ omega (arith, rest)
-      | false ↦ omega arith
-    ])
-
-pub before_fits : (start : ℕ) (rows : List Row) → before start rows ≤ length rows
-before_fits start [] = omega arith
-before_fits start (r ∷ rows) =
-    let rest = before_fits start rows in
-    (elim (nat_lt r.range.start start) as (λ b. cond b (suc (before start rows)) 0 ≤ suc (length rows)) [
-      | true ↦ omega (arith, rest)
-      | false ↦ omega arith
-    ])
+    let rest = rise_lower (λ (r : Row). r.range.start) r.range.start r.range.end rows (row_ends r e.0).1 (rows_rise r.range.end rows e.1 q.1) in
+    rw (q.0, rest) refl
 
 -- rows above a network have no range that starts there or below
 no_row_above : (range : Span) (low : ℕ) (rows : List Row) → range.start ≤ low → list_all is_row rows ≡ true → are_above low rows ≡ true

@@ -1,5 +1,6 @@
 -- Changes of the rows of a table, one by one. (own)
-use Rattle.std.specs.Prelude.{ℕ, suc, List, [], ◌∷◌, nat_lt, if◌then◌else◌}
+use Rattle.std.specs.Prelude.{ℕ, List}
+use Rattle.at_base.specs.Starts.{before_start}
 use Rattle.rtmp.specs.declared.row.Row.{Row}
 use Rattle.rtmp.specs.declared.update.Update.{Update}
 use Rattle.rtmp.specs.declared.update.Update.TheVariants.{Age, Poison}
@@ -12,5 +13,4 @@ updated (Poison next) r = poisoned_row next r
 
 -- how many rows there are before the first one that doesn't start below a network
 abbrev pub before : ℕ → List Row → ℕ
-before start [] = 0
-before start (r ∷ rows) = if nat_lt r.range.start start then suc (before start rows) else 0
+before start rows = before_start (λ r. r.range.start) start rows

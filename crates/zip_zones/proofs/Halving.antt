@@ -6,63 +6,22 @@ use Rattle.std.specs.List.{list_all}
 use Rattle.std.proofs.Math.Bool.{and-false}
 use Rattle.std.proofs.lemmas.Bool.{and_parts, eqb-true, ltb-true, lt-leb, lt-ltb}
 use Rattle.at_base.specs.Range.{Span, overlaps, same_range}
+use Rattle.at_base.proofs.Halving.{rise, rise_lower}
 use Rattle.zip_zones.specs.Zones.{Known, are_above, is_known, known_for, overlaps_another}
-use Rattle.zip_zones.specs.Places.{before}
 use Rattle.zip_zones.proofs.Tables.{known_ends, starts_alike}
 
 -- ---- Halving
 
--- each list starts above the network that all are above
-above_each : (low : ℕ) (table : List Known) (i : ℕ) (d : Known) → list_all is_known table ≡ true → are_above low table ≡ true
-    → i < length table → low < (get_or table i d).range.start
-above_each low [] i d each h less = absurd (omega (arith, less))
-above_each low (k ∷ table) zero d each h less = ltb-true _ _ (and_parts (nat_lt low k.range.start) (are_above k.range.end table) h).0
-above_each low (k ∷ table) (suc i) d each h less =
+-- lists above a network rise by their starts
+pub lists_rise : (low : ℕ) (table : List Known) → list_all is_known table ≡ true → are_above low table ≡ true
+    → rise (λ (k : Known). k.range.start) low table ≡ true
+lists_rise low [] each h = refl
+lists_rise low (k ∷ table) each h =
     let q = and_parts (nat_lt low k.range.start) (are_above k.range.end table) h in
     let e = and_parts (is_known k) (list_all is_known table) each in
-    let first = ltb-true _ _ q.0 in
-    let ends = (known_ends k e.0).1 in
-    let rest = above_each k.range.end table i d e.1 q.1 (omega (arith, less)) in
-    omega (arith, first, ends, rest)
-
--- a list that starts below a network is one of the first that do
-pub before_over : (start low : ℕ) (table : List Known) (i : ℕ) (d : Known) → list_all is_known table ≡ true
-    → are_above low table ≡ true → i < length table → (get_or table i d).range.start < start → i < before start table
-before_over start low [] i d each h less below = absurd (omega (arith, less))
-before_over start low (k ∷ table) zero d each h less below = rw (lt-ltb _ _ below) (omega arith)
-before_over start low (k ∷ table) (suc i) d each h less below =
-    let q = and_parts (nat_lt low k.range.start) (are_above k.range.end table) h in
-    let e = and_parts (is_known k) (list_all is_known table) each in
-    let ends = (known_ends k e.0).1 in
-    let rest = above_each k.range.end table i d e.1 q.1 (omega (arith, less)) in
-    let first : nat_lt k.range.start start ≡ true = lt-ltb _ _ (omega (arith, ends, rest, below)) in
-    let more = before_over start k.range.end table i d e.1 q.1 (omega (arith, less)) below in
-    rw first (omega (arith, more))
-
--- and one that doesn't isn't
-pub before_under : (start : ℕ) (table : List Known) (i : ℕ) (d : Known) → i < length table
-    → start ≤ (get_or table i d).range.start → before start table ≤ i
-before_under start [] i d less over = absurd (omega (arith, less))
-before_under start (k ∷ table) zero d less over =
-    (elim (nat_lt k.range.start start) as (λ b. nat_lt k.range.start start ≡ b → cond b (suc (before start table)) 0 ≤ 0) [
-      | true ↦ λ t. let is = ltb-true _ _ t in absurd (omega (arith, is, over))
-      | false ↦ λ t. omega arith
-    ]) refl
-before_under start (k ∷ table) (suc i) d less over =
-    let rest = before_under start table i d (omega (arith, less)) over in
-    (elim (nat_lt k.range.start start) as (λ b. cond b (suc (before start table)) 0 ≤ suc i) [
-      | true ↦ omega (arith, rest)
-      | false ↦ omega arith
-    ])
-
-pub before_fits : (start : ℕ) (table : List Known) → before start table ≤ length table
-before_fits start [] = omega arith
-before_fits start (k ∷ table) =
-    let rest = before_fits start table in
-    (elim (nat_lt k.range.start start) as (λ b. cond b (suc (before start table)) 0 ≤ suc (length table)) [
-      | true ↦ omega (arith, rest)
-      | false ↦ omega arith
-    ])
+    let rest = rise_lower (λ (k : Known). k.range.start) k.range.start k.range.end table (known_ends k e.0).1
+    (lists_rise k.range.end table e.1 q.1) in
+    rw (q.0, rest) refl
 
 -- ---- A range that has a list
 

@@ -1,12 +1,12 @@
 -- Where the list of a range stands in a zone table. (own)
-use Rattle.std.specs.Prelude.{◌≡◌, ℕ, suc, ◌<◌, ◌≤◌, List, [], ◌∷◌, length, Some, None, slice_get, slice_set, insert, nat_lt, if◌then◌else◌}
+use Rattle.std.specs.Prelude.{◌≡◌, ℕ, ◌<◌, ◌≤◌, List, length, Some, None, slice_get, slice_set, insert}
 use Rattle.at_base.specs.Range.{Span}
+use Rattle.at_base.specs.Starts.{before_start}
 use Rattle.zip_zones.specs.Zones.{Known, known_for, with_known}
 
 -- how many lists there are before the first one that doesn't start below a network
 abbrev pub before : ℕ → List Known → ℕ
-before start [] = 0
-before start (k ∷ table) = if nat_lt k.range.start start then suc (before start table) else 0
+before start table = before_start (λ k. k.range.start) start table
 
 -- The list of the range stands at an index: another one of the range takes its place.
 pub record IsAt (range : Span) (table : List Known) (i : ℕ) : Type 0 where

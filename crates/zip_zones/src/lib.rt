@@ -13,6 +13,7 @@ mod packet;
 mod page;
 mod question;
 mod replies;
+mod search;
 mod table;
 mod writer;
 mod zone;

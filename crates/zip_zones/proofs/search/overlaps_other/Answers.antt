@@ -1,7 +1,7 @@
 use Rattle.std.proofs.Common.{sym, ap, ◌∙◌}
 use Rattle.std.specs.Option.{option_copied}
 use Rattle.zip_zones.proofs.Halving.{found_apart}
-use Rattle.zip_zones.proofs.table.overlaps_other.Goals as goal
+use Rattle.zip_zones.proofs.search.overlaps_other.Goals as goal
 
 pub returns-in-Some : goal.returns-in-Some
 returns-in-Some c =

@@ -4,8 +4,8 @@ use Rattle.at_base.specs.Range.{same_range}
 use Rattle.zip_zones.specs.Zones.{Known}
 use Rattle.zip_zones.specs.Places.{before}
 use Rattle.zip_zones.proofs.Tables.{is_at, is_before}
-use Rattle.zip_zones.proofs.table.place_of.Goals.{else-place-lists-via-then-place-lists+else-eq, else-place-lists-via-else-place-lists}
-use Rattle.zip_zones.proofs.table.place_of.Goals as goal
+use Rattle.zip_zones.proofs.search.place_of.Goals.{else-place-lists-via-then-place-lists+else-eq, else-place-lists-via-else-place-lists}
+use Rattle.zip_zones.proofs.search.place_of.Goals as goal
 
 pub returns-then-eq-clause-found : goal.returns-then-eq-clause-found
 returns-then-eq-clause-found c =

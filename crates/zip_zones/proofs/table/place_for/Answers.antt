@@ -1,8 +1,0 @@
-use Rattle.zip_zones.proofs.Halving.{before_fits}
-use Rattle.zip_zones.proofs.table.place_for.Goals as goal
-
-pub place_between-requires-clause-to : goal.place_between-requires-clause-to
-place_between-requires-clause-to c = before_fits c.args.start c.args.lists.now
-
-pub returns-clause-inside : goal.returns-clause-inside
-returns-clause-inside c = rw c.place_between.ensures (before_fits c.args.start c.args.lists.now)
