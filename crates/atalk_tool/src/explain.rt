@@ -1,10 +1,9 @@
 //! What an answer means, for a person at a terminal. All of this runs after the answer was given,
 //! and writes to standard error alone; where it fails, it says nothing.
 
-use crate::arguments::Source;
-use crate::exit::Outcome;
 use advice::{explain_bytes, explain_kind, explain_no};
 use at_base::{Error, Part};
+use command_line::{Outcome, Source};
 use file_advice::explain_entry;
 use std::io;
 use std::io::ErrorKind;

@@ -2,18 +2,10 @@
 //! internet files, whose last tables it writes as an image.
 #![tactic(auto)]
 
-mod arguments;
-mod audit_file;
-mod exit;
 mod explain;
-mod input;
 mod performed;
-mod play_file;
 mod run;
-mod run_frozen;
 mod run_play;
-mod sources;
-mod status;
 mod watching;
 
 use run::{Terminals, run};
@@ -28,6 +20,3 @@ fn main(rt: HostRuntime) -> ExitCode {
     };
     ExitCode::from(run(&rt, terminals))
 }
-
-#[cfg(test)]
-mod tests;

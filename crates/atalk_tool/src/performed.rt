@@ -2,9 +2,8 @@
 
 ghost use Rattle.std.specs.Prelude.{◌≡◌};
 
-use crate::arguments::Source;
-use crate::exit::Outcome;
 use crate::explain::Evidence;
+use command_line::{Outcome, Source};
 use std::io;
 
 /// What came of a run, and what explains it.

@@ -4,16 +4,13 @@ ghost use Rattle.std.specs.Prelude.{◌≡◌, Bool};
 ghost use Rattle.clap.specs.Words.{kind_of};
 ghost use Rattle.atalk_tool.specs.Exits.{exit_at};
 
-use crate::arguments::{Job, Source, read_arguments};
-use crate::audit_file::audit_file;
-use crate::exit::{Outcome, exit_of};
 use crate::explain::{Evidence, explain, prompt};
-use crate::input;
 use crate::performed::Performed;
-use crate::run_frozen::run_frozen;
 use crate::run_play::{PlayJob, play_source};
 use at_base::Error;
 use clap::error::ErrorKind as ParseError;
+use command_line::{Job, Outcome, Source, exit_of, read_arguments};
+use commands::{audit_file, run_frozen};
 use frozen_trace::Output;
 use std::fs::File;
 use std::io;
@@ -47,10 +44,10 @@ fn audit_reader<'a, R: Print + AllocGlobal, S: Read + Drop>(
     source: Source<'a>,
     reader: S,
 ) -> Performed<'a> {
-    let mut input = input::Input::new(reader);
+    let mut input = commands::Input::new(reader);
     let mut output = Output::new(rt.alloc(), writer(rt));
     let answer = audit_file(rt.alloc(), &mut input, &mut output);
-    let input::Input { fault, kept, .. } = input;
+    let commands::Input { fault, kept, .. } = input;
     Performed {
         outcome: Outcome::Answered(answer),
         evidence: Evidence {
@@ -90,12 +87,12 @@ fn trace_readers<'a, R: Print + AllocGlobal, I: Read + Drop, S: Read + Drop>(
     image: I,
     script: S,
 ) -> Performed<'a> {
-    let mut image = input::Input::new(image);
-    let mut script = input::Input::new(script);
+    let mut image = commands::Input::new(image);
+    let mut script = commands::Input::new(script);
     let mut output = Output::new(rt.alloc(), writer(rt));
     let answer = run_frozen(rt.alloc(), &mut image, &mut script, &mut output);
     let by_script = script.fault.is_some() || matches!(answer, Err(Error::BadScript(_)));
-    let input::Input { fault, kept, .. } = image;
+    let commands::Input { fault, kept, .. } = image;
     let evidence = if by_script {
         Evidence {
             source: Some(sources.script),

@@ -1,13 +1,11 @@
 //! Plays of internet files, from their sources to where their lines and images go.
 
-use crate::arguments::Source;
-use crate::exit::Outcome;
 use crate::explain::{Evidence, prompt};
-use crate::input;
 use crate::performed::Performed;
-use crate::play_file::play_bytes;
 use crate::run::Terminals;
 use crate::watching::Watching;
+use command_line::{Outcome, Source};
+use commands::play_bytes;
 use frozen_trace::Output;
 use std::fs::File;
 use std::io;
@@ -30,7 +28,7 @@ fn play_reader<'a, R: Print + Eprint + AllocGlobal, S: Read + Drop, I: Write + D
     image: I,
     terminals: Terminals,
 ) -> Performed<'a> {
-    let mut input = input::Input::new(reader);
+    let mut input = commands::Input::new(reader);
     let mut output = Output::new(rt.alloc(), writer(rt));
     let mut image = Output::new(rt.alloc(), image);
     let mut watching = Watching::new(rt, terminals.errors);
@@ -42,7 +40,7 @@ fn play_reader<'a, R: Print + Eprint + AllocGlobal, S: Read + Drop, I: Write + D
         &mut watching,
     );
     watching.end();
-    let input::Input { fault, kept, .. } = input;
+    let commands::Input { fault, kept, .. } = input;
     Performed {
         outcome: Outcome::Answered(answer),
         evidence: Evidence {

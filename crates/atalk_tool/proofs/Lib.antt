@@ -1,4 +1,0 @@
-mod CommandLine
-pub mod Known
-mod Operands
-mod PlayLine

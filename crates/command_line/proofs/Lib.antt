@@ -1,0 +1,3 @@
+mod CommandLine
+mod Operands
+mod PlayLine

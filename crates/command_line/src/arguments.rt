@@ -1,0 +1,272 @@
+//! The command line: what its arguments ask for, and the help text.
+
+ghost use Rattle.std.specs.Prelude.{◌≡◌, ◌≢◌, ◌⊎◌, ◌≤◌, ◌∷◌};
+ghost use Rattle.std.specs.Prelude.{List, ℕ, [], None, false, codes, length, map};
+ghost use Rattle.std.specs.Prelude.{IfOk, IfErr, IsErrAnd, IsTrue, Some, option_map};
+ghost use Rattle.std.specs.Str.{bytes_eq};
+ghost use Rattle.clap.specs.Words.{app_of, first_of, found_of, kind_of, rows_of, rule_of};
+ghost use Rattle.clap.specs.Words.{subcommand_of, subcommand_rows_of};
+ghost use Rattle.clap.specs.declared.Command.TheViews.{out-Command as fields_of};
+ghost use Rattle.clap.specs.declared.error.ErrorKind.TheVariants.{DisplayHelp, DisplayVersion};
+ghost use Rattle.clap.specs.declared.error.ErrorKind.TheVariants.{OutOfMemory};
+ghost use Rattle.command_line.specs.Arguments.{Audits, IsMeant, IsMeantBy, Names, Plays, Traces};
+ghost use Rattle.command_line.specs.Arguments.{atalk_app, audit_app, images_app, is_operand};
+ghost use Rattle.command_line.specs.Arguments.{out_option, play_app, trace_app};
+ghost use Rattle.command_line.specs.Arguments.{operand as operand_rule};
+
+use clap::{Arg, ArgAction, ArgMatches, Command, Error};
+use std::alloc::{AllocError, Global};
+use std::convert::AsStr;
+
+/// Where an image, a script or an internet file is read from.
+#[derive(Clone, Copy, Debug, PartialEq, Eq)]
+pub enum Source<'a> {
+    StandardInput,
+    File(&'a str),
+}
+
+/// What the command line asks for.
+#[derive(Clone, Copy, Debug, PartialEq, Eq)]
+pub enum Job<'a> {
+    /// The audit of an image.
+    Audit(Source<'a>),
+    /// The run over an image, of a script.
+    Trace(Source<'a>, Source<'a>),
+    /// The play of an internet file, and the file that the image goes to, if one is wanted.
+    Play(Source<'a>, Option<&'a str>),
+}
+
+const ABOUT: &str =
+    "Plays AppleTalk internets, audits images of them, frozen at one moment, and runs \
+    scripts over these.";
+
+const AFTER_HELP: &str = "Without a command, atalk audits the image on standard input.
+
+Exit status:
+  0  yes: the tables keep every rule; or a run was made
+  1  no: the line printed names the first rule that is broken, and where
+  2  the input is refused, for the reason that its number gives; or a usage error
+  3  out of memory, or reading or writing failed
+
+A refusal prints `refused: N` on standard error:
+  11  more happens in a play than there is room for
+  12  the input is no image
+  13  the input is no internet file
+  14  out of memory
+  15  the input can't be opened or read
+  16  the answer can't be written
+  17  the script has a bad line
+Where standard error is a terminal, a no and a refusal are explained there.
+
+Examples:
+  atalk audit three-cables.image
+  atalk trace three-cables.image echo.script
+  atalk play two-routers.toml --image two-routers.image
+
+More: man atalk, man atalk-image, man atalk-script, man atalk-internet";
+
+const AUDIT: &str =
+    "Judges an image and prints one line: yes with a summary, or no with the first fault";
+
+const TRACE: &str = "Runs a script over an image that passes the audit, and prints what happens";
+
+const PLAY: &str =
+    "Plays an internet file to its last tick, and prints what its nodes received and \
+    the verdict on the tables";
+
+const IMAGE: &str = "The image; - is standard input";
+
+const SCRIPT: &str = "The script; - is standard input";
+
+const INTERNET: &str = "The internet file; - is standard input";
+
+const OUT: &str = "Where the image of the tables goes";
+
+/// An operand that has to be there.
+fn operand<'a>(alloc: Global, name: &'a str, help: &'a str) -> Arg<'a>
+    ensures rule { rule_of result ≡ operand_rule name.entry.now }
+    ensures local { result.global ≡ false }
+{
+    Arg::new(alloc, name)
+        .help(help)
+        .required(true)
+        .action(ArgAction::Set)
+}
+
+/// `atalk audit FILE`.
+fn audit_command<'a>(alloc: Global) -> Result<Command<'a>, AllocError>
+    ensures app { IfOk result (λ command. app_of command ≡ audit_app) }
+    ensures local { IfOk result (λ command. (fields_of command).has_globals ≡ false) }
+{
+    Command::new(alloc, "audit")
+        .about(AUDIT)
+        .after_help(AFTER_HELP)
+        .arg(operand(alloc, "FILE", IMAGE))
+}
+
+/// `atalk trace IMAGE SCRIPT`.
+fn trace_command<'a>(alloc: Global) -> Result<Command<'a>, AllocError>
+    ensures app { IfOk result (λ command. app_of command ≡ trace_app) }
+    ensures local { IfOk result (λ command. (fields_of command).has_globals ≡ false) }
+{
+    Command::new(alloc, "trace")
+        .about(TRACE)
+        .after_help(AFTER_HELP)
+        .arg(operand(alloc, "IMAGE", IMAGE))?
+        .arg(operand(alloc, "SCRIPT", SCRIPT))
+}
+
+/// `--image OUT`.
+fn image_option<'a>(alloc: Global) -> Arg<'a>
+    ensures rule { rule_of result ≡ out_option }
+    ensures local { result.global ≡ false }
+{
+    Arg::new(alloc, "OUT")
+        .long("image")
+        .help(OUT)
+        .action(ArgAction::Set)
+}
+
+/// `atalk play FILE`, with `--image OUT`.
+fn play_command<'a>(alloc: Global) -> Result<Command<'a>, AllocError>
+    ensures app { IfOk result (λ command. app_of command ≡ play_app) }
+    ensures local { IfOk result (λ command. (fields_of command).has_globals ≡ false) }
+{
+    Command::new(alloc, "play")
+        .about(PLAY)
+        .after_help(AFTER_HELP)
+        .arg(operand(alloc, "FILE", INTERNET))?
+        .arg(image_option(alloc))
+}
+
+/// `atalk`, with its commands for images.
+fn image_commands<'a>(alloc: Global) -> Result<Command<'a>, AllocError>
+    ensures { IfOk result (λ command. app_of command ≡ images_app) }
+{
+    Command::new(alloc, "atalk")
+        .version("1.0")
+        .about(ABOUT)
+        .after_help(AFTER_HELP)
+        .disable_help_subcommand(true)
+        .subcommand(audit_command(alloc)?)?
+        .subcommand(trace_command(alloc)?)
+}
+
+/// `atalk`, with its commands.
+fn atalk_command<'a>(alloc: Global) -> Result<Command<'a>, AllocError>
+    ensures { IfOk result (λ command. app_of command ≡ atalk_app) }
+{
+    image_commands(alloc)?.subcommand(play_command(alloc)?)
+}
+
+/// Reads the arguments, of which the first is the program's own name.
+pub fn read_arguments<'a, S: AsStr>(alloc: Global, arguments: &'a [S]) -> Result<Job<'a>, Error>
+    // No arguments ask for an audit of standard input, and that fails only where memory runs out.
+    ensures alone { length arguments.entry.now ≤ 1
+        → IfOk result (λ job. job ≡ Job.Audit Source.StandardInput) }
+    ensures alone_err { length arguments.entry.now ≤ 1
+        → IfErr result (λ e. kind_of e ≡ OutOfMemory) }
+    // The job is that of the command and its words, in the parse that clap's contracts define.
+    ensures meant { IfOk result
+        (IsMeant (subcommand_of atalk_app (map S.text arguments.entry.now))) }
+    // `audit FILE` asks for an audit of FILE, and fails only where memory runs out.
+    ensures audit { (name file : List ℕ)
+        → map S.text arguments.entry.now ≡ name ∷ codes "audit" ∷ file ∷ []
+        → IsTrue (is_operand file) → IfOk result (Audits (Some file)) }
+    ensures audit_err { (name file : List ℕ)
+        → map S.text arguments.entry.now ≡ name ∷ codes "audit" ∷ file ∷ []
+        → IsTrue (is_operand file) → IfErr result (λ e. kind_of e ≡ OutOfMemory) }
+    // `trace IMAGE SCRIPT` asks for a trace of them, and fails only where memory runs out.
+    ensures trace { (name image script : List ℕ)
+        → map S.text arguments.entry.now ≡ name ∷ codes "trace" ∷ image ∷ script ∷ []
+        → IsTrue (is_operand image) → IsTrue (is_operand script)
+        → IfOk result (Traces (Some image) (Some script)) }
+    ensures trace_err { (name image script : List ℕ)
+        → map S.text arguments.entry.now ≡ name ∷ codes "trace" ∷ image ∷ script ∷ []
+        → IsTrue (is_operand image) → IsTrue (is_operand script)
+        → IfErr result (λ e. kind_of e ≡ OutOfMemory) }
+    // `play FILE` asks for a play of FILE whose image goes nowhere, and `play FILE --image OUT` for
+    // one whose image goes to OUT; they fail only where memory runs out.
+    ensures play { (name file : List ℕ)
+        → map S.text arguments.entry.now ≡ name ∷ codes "play" ∷ file ∷ []
+        → IsTrue (is_operand file) → IfOk result (Plays (Some file) None) }
+    ensures play_err { (name file : List ℕ)
+        → map S.text arguments.entry.now ≡ name ∷ codes "play" ∷ file ∷ []
+        → IsTrue (is_operand file) → IfErr result (λ e. kind_of e ≡ OutOfMemory) }
+    ensures play_to { (name file out : List ℕ)
+        → map S.text arguments.entry.now
+        ≡ name ∷ codes "play" ∷ file ∷ codes "--image" ∷ out ∷ []
+        → IsTrue (is_operand file) → IsTrue (is_operand out)
+        → IfOk result (Plays (Some file) (Some out)) }
+    ensures play_to_err { (name file out : List ℕ)
+        → map S.text arguments.entry.now
+        ≡ name ∷ codes "play" ∷ file ∷ codes "--image" ∷ out ∷ []
+        → IsTrue (is_operand file) → IsTrue (is_operand out)
+        → IfErr result (λ e. kind_of e ≡ OutOfMemory) }
+    // Help and the version are answered as such.
+    ensures help { (name : List ℕ) → map S.text arguments.entry.now ≡ name ∷ codes "--help" ∷ []
+        → IsErrAnd result (λ e. (kind_of e ≡ DisplayHelp) ⊎ (kind_of e ≡ OutOfMemory)) }
+    ensures help_short { (name : List ℕ) → map S.text arguments.entry.now ≡ name ∷ codes "-h" ∷ []
+        → IsErrAnd result (λ e. (kind_of e ≡ DisplayHelp) ⊎ (kind_of e ≡ OutOfMemory)) }
+    ensures version { (name : List ℕ)
+        → map S.text arguments.entry.now ≡ name ∷ codes "--version" ∷ []
+        → IsErrAnd result (λ e. (kind_of e ≡ DisplayVersion) ⊎ (kind_of e ≡ OutOfMemory)) }
+    ensures version_short { (name : List ℕ)
+        → map S.text arguments.entry.now ≡ name ∷ codes "-V" ∷ []
+        → IsErrAnd result (λ e. (kind_of e ≡ DisplayVersion) ⊎ (kind_of e ≡ OutOfMemory)) }
+{
+    let matches = atalk_command(alloc)?.try_get_matches_from(arguments)?;
+    Ok(job_of(&matches))
+}
+
+/// The job that was matched: without a command, an audit of standard input.
+fn job_of<'a>(matches: &ArgMatches<'a>) -> Job<'a>
+    ensures none { subcommand_rows_of matches.now ≡ None → result ≡ Job.Audit Source.StandardInput }
+    ensures meant { IsMeant (subcommand_rows_of matches.now) result }
+{
+    match matches.subcommand() {
+        Some((name, operands)) => job_named(name, operands),
+        None => Job::Audit(Source::StandardInput),
+    }
+}
+
+/// The job of a command: a trace, a play, or else an audit.
+fn job_named<'a>(name: &str, operands: &ArgMatches<'a>) -> Job<'a>
+    ensures { IsMeantBy (bytes_eq name.now (codes "trace")) (bytes_eq name.now (codes "play"))
+        (rows_of (found_of operands.now)) result }
+{
+    if name == "trace" {
+        Job::Trace(source_in(operands, "IMAGE"), source_in(operands, "SCRIPT"))
+    } else if name == "play" {
+        Job::Play(source_in(operands, "FILE"), path_in(operands, "OUT"))
+    } else {
+        Job::Audit(source_in(operands, "FILE"))
+    }
+}
+
+/// The source that the operand of this name names.
+fn source_in<'a>(operands: &ArgMatches<'a>, name: &str) -> Source<'a>
+    ensures { Names (first_of name.now (rows_of (found_of operands.now))) result }
+{
+    source_of(operands.get_str(name).unwrap_or("-"))
+}
+
+/// The path that the option of this name has, if it is used.
+fn path_in<'a>(operands: &ArgMatches<'a>, name: &str) -> Option<&'a str>
+    ensures { option_map (λ path. path.now) result
+        ≡ first_of name.now (rows_of (found_of operands.now)) }
+{
+    operands.get_str(name)
+}
+
+/// The source of this name.
+fn source_of(text: &str) -> Source<'_>
+    ensures input { text.entry.now ≡ codes "-" → result ≡ Source.StandardInput }
+    ensures file { text.entry.now ≢ codes "-" → result ≡ Source.File text.entry }
+{
+    if text == "-" {
+        Source::StandardInput
+    } else {
+        Source::File(text)
+    }
+}

@@ -1,0 +1,11 @@
+use Rattle.std.proofs.Common.{◌≡◌, ◌≤◌, vec_items}
+use Rattle.std.specs.Io.KnownBytes.{Consumes}
+use Rattle.commands.proofs.input.Input.read_all.Given as goal
+
+abbrev pub invariant-loop-turn : goal.invariant-loop-turn
+invariant-loop-turn g l = record {
+  turns : l._turn ≤ l.self.reads;
+  sound : l.self.failed ≡ l.initial.self.failed;
+  taken : Consumes (g.R.Read.remaining l.initial.self.reader) (g.R.Read.remaining l.self.reader)
+      (vec_items l.bytes);
+}

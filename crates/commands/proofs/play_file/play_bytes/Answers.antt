@@ -1,0 +1,35 @@
+use Rattle.std.proofs.Common.{◌≡◌, ◌⊎◌, List, ℕ, Bool, Result, Ok, Err, IfErr, IsOkUnless, inl, inr}
+use Rattle.at_base.specs.declared.error.Error.{Error}
+use Rattle.at_base.specs.declared.error.Error.TheVariants.{Full, Memory, ReadFault, WriteFault}
+use Rattle.internet_file.specs.Files.{IsFile, IsFileRefused, Planned}
+use Rattle.commands.proofs.Known.{map_some}
+use Rattle.commands.proofs.play_file.play_bytes.Goals as goal
+
+-- the error is one by which a play of the text is refused
+abbrev IsRefused : List ℕ → Error → Type 0
+IsRefused text e =
+    (e ≡ ReadFault) ⊎ IsFileRefused text e
+    ⊎ (((plan : Planned) × IsFile text plan) × ((e ≡ Full) ⊎ (e ≡ Memory) ⊎ (e ≡ WriteFault)))
+
+-- what was played can't be written only where a writer fails
+handed : (text : List ℕ) (r : Result Bool Error) → ((plan : Planned) × IsFile text plan) → IsOkUnless r WriteFault
+    → IfErr r (IsRefused text)
+handed text (Ok answer) file refused = tt
+handed text (Err e) file refused = inr (inr (file, inr (inr refused)))
+
+-- what can't be played isn't written
+unplayed : (text : List ℕ) (e : Error) → (e ≡ ReadFault) ⊎ IsFileRefused text e
+    ⊎ (((plan : Planned) × IsFile text plan) × ((e ≡ Full) ⊎ (e ≡ Memory))) → IsRefused text e
+unplayed text e (inl unread) = inl unread
+unplayed text e (inr (inl first)) = inr (inl first)
+unplayed text e (inr (inr (file, inl full))) = inr (inr (file, inl full))
+unplayed text e (inr (inr (file, inr memory))) = inr (inr (file, inr (inl memory)))
+
+pub returns-in-Ok-clause-refused : goal.returns-in-Ok-clause-refused
+returns-in-Ok-clause-refused g c =
+    map_some _ _ (g.R.Read.remaining c.args.input.now.reader) c.in-Ok.ensures.played
+    (λ text p. handed text c.hand_over.result (p.1.world.plan, p.1.file) c.hand_over.ensures.refused)
+
+pub returns-in-Err-clause-refused : goal.returns-in-Err-clause-refused
+returns-in-Err-clause-refused g c =
+    map_some _ _ (g.R.Read.remaining c.args.input.now.reader) c.in-Err.ensures.refused (λ text p. unplayed text c.in-Err.error p)

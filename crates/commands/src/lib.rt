@@ -1,0 +1,15 @@
+//! The commands of `atalk`, from readers to writers: an audit, a trace and a play, each with its
+//! input read to the end.
+#![tactic(auto)]
+
+mod auditing;
+mod input;
+mod play_file;
+mod sources;
+mod tracing;
+
+pub use auditing::audit_file;
+pub use input::{Input, READS, append};
+pub use play_file::play_bytes;
+pub use sources::{Twice, discard, read_images, read_steps};
+pub use tracing::run_frozen;

@@ -1,0 +1,193 @@
+//! From an internet file to the lines of its play and the image.
+
+ghost use Rattle.std.specs.Prelude.{◌≡◌, ◌≢◌, ◌⊎◌, ◌++◌, ℕ, List, true, false};
+ghost use Rattle.std.specs.Prelude.{Err, IfOk, IfErr, IfSome, IsOkUnless, OnErr, OnOk};
+ghost use Rattle.std.specs.Io.KnownBytes.{Appends, IsAtEnd};
+ghost use Rattle.at_base.specs.Spelling.{Spells};
+ghost use Rattle.internet_file.specs.Files.{IsFile, IsFileRefused, Planned};
+ghost use Rattle.playing.specs.Plays.{IsPlay};
+ghost use Rattle.table_image.specs.Internet.{Internet};
+ghost use Rattle.table_image.specs.Spelling.{image_spelling};
+ghost use Rattle.commands.specs.declared.input.TheConstants.{READS};
+
+use crate::input::Input;
+use at_base::Error;
+use frozen_trace::Output;
+use playing::{Played, Progress, play_text};
+use std::alloc::Global;
+use std::io;
+use std::io::{Read, Write};
+
+/// Writes the bytes, and flushes.
+fn put<W: Write>(writer: &mut W, bytes: &[u8]) -> io::Result<()>
+    ensures { OnOk result (Appends (W.contents writer.old) (W.contents writer.new) bytes.now) }
+{
+    writer.write_all(bytes)?;
+    writer.flush()
+}
+
+/// Writes what is still to be written and then these bytes, and flushes. Error: `WriteFault`, only
+/// where the writer failed.
+fn write_bytes<W: Write>(output: &mut Output<W>, bytes: &[u8]) -> Result<(), Error>
+    ensures ok { OnOk result (Appends (W.contents output.old.writer) (W.contents output.new.writer)
+        (output.old.text.items ++ bytes.now)) }
+    ensures fault { OnErr result (output.new.failed ≡ true) }
+    ensures refused { IsOkUnless result Error.WriteFault }
+    ensures stays { OnOk result (output.new.failed ≡ output.old.failed) }
+{
+    output.flush()?;
+    match put(&mut output.writer, bytes) {
+        Ok(()) => Ok(()),
+        Err(_) => {
+            output.failed = true;
+            Err(Error::WriteFault)
+        }
+    }
+}
+
+/// Keeps the text of a file whose play is refused in the input.
+fn keep_text<R>(input: &mut Input<R>, text: Vec<u8>)
+    ensures reader { input.new.reader ≡ input.old.reader }
+    ensures reads { input.new.reads ≡ input.old.reads }
+    ensures stays { input.new.failed ≡ input.old.failed }
+{
+    input.kept = Some(text);
+}
+
+/// Reads the whole input, and plays the internet file that it is. A text that is refused stays in
+/// the input. Errors: `ReadFault`, `BadFile`, `Full`, `Memory`.
+fn read_and_play<R: Read, P: Progress>(
+    alloc: Global,
+    input: &mut Input<R>,
+    progress: &mut P,
+) -> Result<Played, Error>
+    ensures played { IfOk result (λ p. IfSome (R.remaining input.old.reader) (λ text.
+        (i : Internet) × IsPlay text p.lines.items p.yes i
+        × Spells image_spelling p.image.items i)) }
+    ensures refused { IfSome (R.remaining input.old.reader) (λ text. IfErr result (λ e.
+        (e ≡ Error.ReadFault) ⊎ IsFileRefused text e
+        ⊎ (((plan : Planned) × IsFile text plan) × ((e ≡ Error.Full) ⊎ (e ≡ Error.Memory))))) }
+    ensures read_fault { result ≡ Err Error.ReadFault
+        → (input.new.failed ≡ true) ⊎ (input.new.reads ≡ READS) }
+    ensures limit { result ≡ Err Error.ReadFault → input.new.failed ≡ false
+        → input.new.reads ≡ READS }
+    ensures not_written { IfErr result (λ e. e ≢ Error.WriteFault) }
+    ensures end { OnOk result (IsAtEnd (R.remaining input.new.reader)) }
+    ensures stays { OnOk result (input.new.failed ≡ input.old.failed) }
+{
+    let text = input.read_all(alloc)?;
+    match play_text(alloc, text.as_slice(), progress) {
+        Ok(played) => Ok(played),
+        Err(error) => {
+            keep_text(input, text);
+            Err(error)
+        }
+    }
+}
+
+/// Writes the lines of a play, and then the bytes of its image. Error: `WriteFault`.
+fn write_played<W: Write, I: Write>(
+    played: &Played,
+    output: &mut Output<W>,
+    image: &mut Output<I>,
+) -> Result<(), Error>
+    ensures lines { OnOk result (Appends (W.contents output.old.writer)
+        (W.contents output.new.writer) (output.old.text.items ++ played.now.lines.items)) }
+    ensures image { OnOk result (Appends (I.contents image.old.writer)
+        (I.contents image.new.writer) (image.old.text.items ++ played.now.image.items)) }
+    ensures fault { OnErr result ((output.new.failed ≡ true) ⊎ (image.new.failed ≡ true)) }
+    ensures refused { IsOkUnless result Error.WriteFault }
+    ensures stays { OnOk result (output.new.failed ≡ output.old.failed) }
+    ensures image_stays { OnOk result (image.new.failed ≡ image.old.failed) }
+{
+    match write_bytes(output, played.lines.as_slice()) {
+        Ok(()) => write_bytes(image, played.image.as_slice()),
+        Err(error) => Err(error),
+    }
+}
+
+/// Keeps the bytes of a play's image in the input, and says whether its verdict is a yes.
+fn keep<R>(input: &mut Input<R>, played: Played) -> bool
+    ensures yes { result ≡ played.yes }
+    ensures reader { input.new.reader ≡ input.old.reader }
+    ensures reads { input.new.reads ≡ input.old.reads }
+    ensures stays { input.new.failed ≡ input.old.failed }
+{
+    let Played { yes, image, .. } = played;
+    input.kept = Some(image);
+    yes
+}
+
+/// Writes the lines of a play and then the bytes of its image, which the input keeps. Returns
+/// whether the verdict is a yes. Error: `WriteFault`.
+fn hand_over<R, W: Write, I: Write>(
+    input: &mut Input<R>,
+    played: Played,
+    output: &mut Output<W>,
+    image: &mut Output<I>,
+) -> Result<bool, Error>
+    ensures yes { IfOk result (λ yes. yes ≡ played.yes) }
+    ensures lines { OnOk result (Appends (W.contents output.old.writer)
+        (W.contents output.new.writer) (output.old.text.items ++ played.lines.items)) }
+    ensures image { OnOk result (Appends (I.contents image.old.writer)
+        (I.contents image.new.writer) (image.old.text.items ++ played.image.items)) }
+    ensures fault { OnErr result ((output.new.failed ≡ true) ⊎ (image.new.failed ≡ true)) }
+    ensures refused { IsOkUnless result Error.WriteFault }
+    ensures reader { input.new.reader ≡ input.old.reader }
+    ensures reads_stay { input.new.failed ≡ input.old.failed }
+    ensures stays { OnOk result (output.new.failed ≡ output.old.failed) }
+    ensures image_stays { OnOk result (image.new.failed ≡ image.old.failed) }
+{
+    match write_played(&played, output, image) {
+        Ok(()) => Ok(keep(input, played)),
+        Err(error) => Err(error),
+    }
+}
+
+/// Reads the whole internet file, plays it, and writes the lines of its play; then the image's
+/// bytes, by a writer of their own. Returns whether the verdict is a yes, and leaves the image's
+/// bytes, or the text where the play is refused, in the input. Errors: `ReadFault`, `BadFile`, `Full`, `Memory`, `WriteFault`.
+pub fn play_bytes<R: Read, W: Write, I: Write, P: Progress>(
+    alloc: Global,
+    input: &mut Input<R>,
+    output: &mut Output<W>,
+    image: &mut Output<I>,
+    progress: &mut P,
+) -> Result<bool, Error>
+    // For a reader whose bytes are known: they are a file; what was written by the first writer is
+    // what is printed of its play, and by the second one the bytes of the image, each after what
+    // was still to be written.
+    ensures printed { IfOk result (λ yes. IfSome (R.remaining input.old.reader) (λ text.
+        (lines : List ℕ) × (bytes : List ℕ) × (i : Internet)
+        × IsPlay text lines yes i × Spells image_spelling bytes i
+        × Appends (W.contents output.old.writer) (W.contents output.new.writer)
+        (output.old.text.items ++ lines)
+        × Appends (I.contents image.old.writer) (I.contents image.new.writer)
+        (image.old.text.items ++ bytes))) }
+    // A text that is no file is refused by its first fault, unless it can't be read to its end, and
+    // one that is only where its play has no room, or where memory or a writer fails.
+    ensures refused { IfSome (R.remaining input.old.reader) (λ text. IfErr result (λ e.
+        (e ≡ Error.ReadFault) ⊎ IsFileRefused text e
+        ⊎ (((plan : Planned) × IsFile text plan)
+        × ((e ≡ Error.Full) ⊎ (e ≡ Error.Memory) ⊎ (e ≡ Error.WriteFault))))) }
+    ensures read_fault { result ≡ Err Error.ReadFault
+        → (input.new.failed ≡ true) ⊎ (input.new.reads ≡ READS) }
+    // Where no read failed, the number of reads was at its limit.
+    ensures limit { result ≡ Err Error.ReadFault → input.new.failed ≡ false
+        → input.new.reads ≡ READS }
+    ensures write_fault { result ≡ Err Error.WriteFault
+        → (output.new.failed ≡ true) ⊎ (image.new.failed ≡ true) }
+    // A refusal that isn't `WriteFault` has written nothing.
+    ensures nothing_written { IfErr result (λ e. e ≢ Error.WriteFault
+        → (output.new ≡ output.old) × (image.new ≡ image.old)) }
+    // An Ok means that the input was read to its end, and that nothing failed.
+    ensures end { OnOk result (IsAtEnd (R.remaining input.new.reader)) }
+    ensures reads_stay { OnOk result (input.new.failed ≡ input.old.failed) }
+    ensures writes_stay { OnOk result (output.new.failed ≡ output.old.failed) }
+    ensures image_stays { OnOk result (image.new.failed ≡ image.old.failed) }
+{
+    match read_and_play(alloc, input, progress) {
+        Ok(played) => hand_over(input, played, output, image),
+        Err(error) => Err(error),
+    }
+}

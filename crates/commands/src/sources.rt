@@ -1,0 +1,93 @@
+//! What a trace is made of: an image and a script, each read to its end.
+
+ghost use Rattle.std.specs.Prelude.{◌≡◌, ◌≢◌, ◌⊎◌, ℕ, List, true};
+ghost use Rattle.std.specs.Prelude.{IfOk, IfErr, IfSome, IsErrAnd, OnOk};
+ghost use Rattle.std.specs.Io.KnownBytes.{IsAtEnd};
+ghost use Rattle.at_base.specs.Spelling.{Spells};
+ghost use Rattle.script.specs.Scripts.{IsBadAt, IsScript};
+ghost use Rattle.script.specs.declared.step.Step.{Step as StepValue};
+ghost use Rattle.table_image.specs.Internet.{Internet};
+ghost use Rattle.table_image.specs.Reading.{IsFirstFlaw, Refuses, refusal};
+ghost use Rattle.table_image.specs.Spelling.{image_spelling};
+ghost use Rattle.table_image.specs.declared.flaw.Flaw.{Flaw};
+ghost use Rattle.commands.specs.declared.input.TheConstants.{READS};
+
+use crate::input::Input;
+use at_base::Error;
+use script::{Step, scripts_have_no_bad_line};
+use std::alloc::Global;
+use std::io::Read;
+use table_image::Image;
+
+/// An image, and the same again: the run takes one, and the lines take addresses from the other.
+#[derive(Drop)]
+pub struct Twice {
+    pub image: Image,
+    pub shown: Image,
+    ghost same: { shown ≡ image },
+}
+
+/// The image is needed no more.
+pub fn discard(_images: Twice) {}
+
+/// Reads the image that the bytes spell, twice. Errors: `BadImage`, `Memory`.
+fn read_twice(alloc: Global, bytes: &[u8]) -> Result<Twice, Error>
+    ensures found { IfOk result (λ t. Spells image_spelling bytes.now t.image) }
+    ensures only { (i : Internet) → Spells image_spelling bytes.now i
+        → IfErr result (λ e. e ≡ Error.Memory) }
+    ensures first { (f : Flaw) → IsFirstFlaw bytes.now f
+        → IsErrAnd result (λ e. e ≡ refusal bytes.now f) }
+    ensures refused { IfErr result (λ e. (e ≢ Error.WriteFault) × (e ≢ Error.ReadFault)) }
+{
+    let image = table_image::read(alloc, bytes)?;
+    let shown = table_image::read(alloc, bytes)?;
+    Ok(Twice { image, shown })
+}
+
+/// Reads the whole input, and the image that it spells, twice; leaves its bytes in the input.
+/// Errors: `ReadFault`, `BadImage`, `Memory`.
+pub fn read_images<R: Read>(alloc: Global, input: &mut Input<R>) -> Result<Twice, Error>
+    ensures found { IfOk result (λ t. IfSome (R.remaining input.old.reader)
+        (λ bytes. Spells image_spelling bytes t.image)) }
+    // Bytes that spell no image are refused by their first flaw, unless they can't be read to their
+    // end.
+    ensures flaw { IfSome (R.remaining input.old.reader) (λ bytes.
+        (f : Flaw) → IsFirstFlaw bytes f → IsErrAnd result (λ e.
+        (e ≡ refusal bytes f) ⊎ (e ≡ Error.ReadFault) ⊎ (e ≡ Error.Memory))) }
+    ensures only { IfSome (R.remaining input.old.reader) (λ bytes.
+        (i : Internet) → Spells image_spelling bytes i → IfErr result (λ e.
+        (e ≡ Error.Memory) ⊎ (e ≡ Error.ReadFault))) }
+    ensures refused { IfErr result (λ e. e ≢ Error.WriteFault) }
+    ensures read_fault { result ≡ Err Error.ReadFault
+        → (input.new.failed ≡ true) ⊎ (input.new.reads ≡ READS) }
+    ensures end { OnOk result (IsAtEnd (R.remaining input.new.reader)) }
+    ensures stays { OnOk result (input.new.failed ≡ input.old.failed) }
+{
+    let bytes = input.read_all(alloc)?;
+    let images = read_twice(alloc, bytes.as_slice());
+    input.kept = Some(bytes);
+    images
+}
+
+/// Reads the whole input, and the script that it is. Errors: `ReadFault`, `BadScript`, `Memory`.
+pub fn read_steps<R: Read>(alloc: Global, input: &mut Input<R>) -> Result<Vec<Step>, Error>
+    ensures found { IfOk result (λ steps. IfSome (R.remaining input.old.reader)
+        (λ text. IsScript text steps.items)) }
+    // A script with a bad line is refused by its first one, unless it can't be read to its end.
+    ensures bad_line { IfSome (R.remaining input.old.reader) (λ text.
+        (n : ℕ) → IsBadAt text n → IsErrAnd result (λ e.
+        (e ≡ Error.BadScript n) ⊎ (e ≡ Error.ReadFault) ⊎ (e ≡ Error.Memory))) }
+    ensures good { IfSome (R.remaining input.old.reader) (λ text.
+        (steps : List StepValue) → IsScript text steps → IfErr result (λ e.
+        (e ≡ Error.Memory) ⊎ (e ≡ Error.ReadFault))) }
+    ensures refused { IfErr result (λ e. e ≢ Error.WriteFault) }
+    ensures read_fault { result ≡ Err Error.ReadFault
+        → (input.new.failed ≡ true) ⊎ (input.new.reads ≡ READS) }
+    ensures end { OnOk result (IsAtEnd (R.remaining input.new.reader)) }
+    ensures stays { OnOk result (input.new.failed ≡ input.old.failed) }
+{
+    // For the prover alone: a script has no bad line.
+    scripts_have_no_bad_line();
+    let text = input.read_all(alloc)?;
+    script::read(alloc, text.as_slice())
+}

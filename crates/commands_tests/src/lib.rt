@@ -1,0 +1,6 @@
+//! Tests of commands through public calls. They stand in a crate of their own, since a crate's
+//! tests prove the crate a second time.
+#![tactic(auto)]
+
+#[cfg(test)]
+mod tests;

@@ -1,0 +1,311 @@
+//! What no clause says: that calls succeed, what comes of a read or a write that fails in
+//! mid-stream. Each test passes whichever single request for memory is
+//! refused: on `Memory` it calls again.
+
+mod fakes;
+mod plays;
+mod reading;
+mod tracing;
+
+use at_base::{Cause, Error};
+use commands::{Input, READS, append, audit_file};
+use fakes::{Frail, Holding, Pieces, Places, Restless};
+use frozen_trace::Output;
+use reading::{nearly_given_up, read_all};
+use std::alloc::Global;
+use std::io::{ErrorKind, Read};
+use std::test::Fail;
+
+#[test]
+fn a_read_that_fails_is_a_read_fault(rt: HostRuntime) -> Result<(), Fail> {
+    let bytes = [7u8; 276];
+    for fails_at in 1..5 {
+        let mut pieces = Pieces::new(bytes.as_slice(), 100);
+        pieces.fails_at = Some(fails_at);
+        let reading = read_all(rt.alloc(), pieces);
+        assert_eq!(rt; reading.answer.err(), Some(Error::ReadFault));
+        assert_eq!(rt; reading.reads, fails_at);
+        assert!(rt; reading.failed);
+    }
+    let reading = read_all(rt.alloc(), Pieces::new(bytes.as_slice(), 100));
+    assert_eq!(rt; reading.answer?.as_slice(), bytes.as_slice());
+    assert_eq!(rt; reading.reads, 4);
+    Ok(())
+}
+
+#[test]
+fn a_read_that_fails_in_another_way_is_not_tried_again(rt: HostRuntime) {
+    let kinds = [
+        ErrorKind::PermissionDenied,
+        ErrorKind::IsADirectory,
+        ErrorKind::WouldBlock,
+        ErrorKind::TimedOut,
+        ErrorKind::UnexpectedEof,
+    ];
+    let bytes = [7u8; 276];
+    for kind in kinds {
+        let mut pieces = Pieces::new(bytes.as_slice(), 100);
+        pieces.fails_at = Some(2);
+        pieces.kind = kind;
+        let reading = read_all(rt.alloc(), pieces);
+        assert_eq!(rt; reading.answer.err(), Some(Error::ReadFault));
+        assert_eq!(rt; reading.reads, 2);
+        assert!(rt; reading.failed);
+        assert_eq!(rt; reading.fault, Some(kind));
+    }
+}
+
+#[test]
+fn an_interrupted_read_is_tried_again(rt: HostRuntime) -> Result<(), Fail> {
+    let bytes = [7u8; 276];
+    for interrupted_at in 1..5 {
+        let mut pieces = Pieces::new(bytes.as_slice(), 100);
+        pieces.interrupted_at = Some(interrupted_at);
+        let reading = read_all(rt.alloc(), pieces);
+        assert_eq!(rt; reading.answer?.as_slice(), bytes.as_slice());
+        assert_eq!(rt; reading.reads, 5);
+        assert!(rt; !reading.failed);
+        assert_eq!(rt; reading.fault, None);
+    }
+    Ok(())
+}
+
+#[test]
+fn reads_without_end_are_given_up(rt: HostRuntime) {
+    assert_eq!(rt; READS, 16_777_216);
+    // As far on as the reads before would have led.
+    let mut input = nearly_given_up(Restless, 5);
+    let mut answer = input.read_all(rt.alloc()).err();
+    if answer == Some(Error::Memory) {
+        answer = input.read_all(rt.alloc()).err();
+    }
+    assert_eq!(rt; answer, Some(Error::ReadFault));
+    assert_eq!(rt; input.reads, READS);
+    assert!(rt; !input.failed);
+}
+
+#[test]
+fn the_last_permitted_read_counts(rt: HostRuntime) {
+    let bytes = [7u8; 3];
+    let pieces = Pieces::new(bytes.as_slice(), 3);
+    let mut failing = pieces;
+    failing.fails_at = Some(2);
+    // The second read finds the end, or fails; with one read the end isn't reached.
+    let cases = [
+        (pieces, 2, None, false),
+        (failing, 2, Some(Error::ReadFault), true),
+        (pieces, 1, Some(Error::ReadFault), false),
+    ];
+    for (pieces, left, want, failed) in cases {
+        let mut input = nearly_given_up(pieces, left);
+        let mut answer = input.read_all(rt.alloc()).err();
+        if answer == Some(Error::Memory) {
+            input = nearly_given_up(pieces, left);
+            answer = input.read_all(rt.alloc()).err();
+        }
+        assert_eq!(rt; answer, want);
+        assert_eq!(rt; input.failed, failed);
+        assert_eq!(rt; input.reads, READS);
+    }
+}
+
+/// Appends, and again where memory was refused.
+fn append_again(bytes: &mut Vec<u8>, piece: &[u8]) -> Result<(), Error> {
+    match append(bytes, piece) {
+        Ok(()) => Ok(()),
+        Err(_) => Ok(append(bytes, piece)?),
+    }
+}
+
+#[test]
+fn a_buffer_grows_by_a_quarter_and_seldom(rt: HostRuntime) -> Result<(), Fail> {
+    let piece = [7u8; 8192];
+    let mut bytes = Vec::new(rt.alloc());
+    let mut growths = 0u32;
+    for _turn in 0..200u32 {
+        let before = bytes.capacity();
+        append_again(&mut bytes, piece.as_slice())?;
+        if bytes.capacity() != before {
+            growths = growths.wrapping_add(1);
+        }
+    }
+    assert_eq!(rt; bytes.len(), 1_638_400);
+    // Four pieces, and from there on a quarter more each time: 1.25 to the 18th is above 50.
+    assert!(rt; growths < 26, "at {growths}");
+    assert!(rt; bytes.capacity() < 2_080_000);
+    Ok(())
+}
+
+#[test]
+fn a_long_input_comes_whole(rt: HostRuntime) -> Result<(), Fail> {
+    let end = 1_100_003;
+    let reading = read_all(rt.alloc(), Places { next: 0, end });
+    // 135 pieces and the end
+    assert_eq!(rt; reading.reads, 136);
+    let read = reading.answer?;
+    assert_eq!(rt; read.len(), 1_100_003);
+    // A quarter more at most, and a piece; doubled, it would be 2,097,152.
+    assert!(rt; read.capacity() < 1_400_000);
+    let mut place = 0u32;
+    for byte in &read {
+        assert_eq!(rt; u32::from(*byte), place % 256);
+        place = place.wrapping_add(1);
+    }
+    Ok(())
+}
+
+#[test]
+fn a_line_ends_with_an_end_of_line(rt: HostRuntime) -> Result<(), Fail> {
+    let mut room = [0u8; 8];
+    write_yes(rt.alloc(), room.as_mut_slice())?;
+    assert_eq!(rt; room.as_slice(), b"yes\n\0\0\0\0".as_slice());
+    Ok(())
+}
+
+/// Writes a line into the room.
+fn write_yes(alloc: Global, room: &mut [u8]) -> Result<(), Error> {
+    let mut output = Output::new(alloc, room);
+    output.write_line(b"yes")
+}
+
+#[test]
+fn a_write_that_fails_is_a_write_fault(rt: HostRuntime) {
+    // The text, the end of line and the flush, and then nothing fails.
+    for fails_at in 1..5 {
+        let mut output = Output::new(rt.alloc(), Frail { calls: 0, fails_at });
+        let answer = output.write_line(b"yes");
+        if fails_at < 4 {
+            assert_eq!(rt; answer, Err(Error::WriteFault));
+        } else {
+            assert_eq!(rt; answer, Ok(()));
+        }
+        assert_eq!(rt; output.failed, fails_at < 4);
+    }
+}
+
+/// Audits what the reader gives, and writes into the room.
+fn audit_once<R: Read + Drop>(alloc: Global, reader: R, room: &mut [u8]) -> Result<bool, Error> {
+    let mut input = Input::new(reader);
+    let mut output = Output::new(alloc, room);
+    audit_file(alloc, &mut input, &mut output)
+}
+
+/// As `audit_once`, and again where memory was refused.
+fn audit<R: Read + Copy>(alloc: Global, reader: R, room: &mut [u8]) -> Result<bool, Error> {
+    match audit_once(alloc, reader, room) {
+        Err(Error::Memory) => audit_once(alloc, reader, room),
+        answer => answer,
+    }
+}
+
+/// Whether the room has this text and nothing after it.
+fn holds(room: &[u8], text: &[u8]) -> bool {
+    match room.strip_prefix(text) {
+        Some(rest) => rest.iter().all(|byte| *byte == 0),
+        None => false,
+    }
+}
+
+/// An internet of nothing.
+const EMPTY: &[u8] = b"ATIM\x01\0\0\0";
+
+/// One cable, whose range ends before it starts.
+const BACKWARD: &[u8] = b"ATIM\x01\x01\0\x0a\0\x05\0\0\0";
+
+#[test]
+fn the_line_of_the_verdict_is_written(rt: HostRuntime) {
+    let mut room = [0u8; 80];
+    let yes = audit(rt.alloc(), Pieces::new(EMPTY, 3), room.as_mut_slice());
+    assert_eq!(rt; yes, Ok(true));
+    let line = b"yes: 0 cables, 0 routers, 0 nodes, 0 rows, greatest distance 0\n";
+    assert!(rt; holds(room.as_slice(), line.as_slice()));
+    let mut room = [0u8; 80];
+    let no = audit(rt.alloc(), Pieces::new(BACKWARD, 100), room.as_mut_slice());
+    assert_eq!(rt; no, Ok(false));
+    assert!(rt; holds(room.as_slice(), b"no: C1 cable 1\n"));
+}
+
+#[test]
+fn what_is_no_image_is_refused_and_nothing_written(rt: HostRuntime) {
+    let flawed = [
+        (b"".as_slice(), Error::BadImage(0, Cause::Cut)),
+        (
+            b"ATIN\x01\0\0\0".as_slice(),
+            Error::BadImage(0, Cause::Magic),
+        ),
+        (
+            b"ATIM\x02\0\0\0".as_slice(),
+            Error::BadImage(4, Cause::Version),
+        ),
+        (
+            b"ATIM\x01\0\0\0\0".as_slice(),
+            Error::BadImage(8, Cause::Trailing),
+        ),
+    ];
+    for (bytes, want) in flawed {
+        let mut room = [0u8; 80];
+        let answer = audit(rt.alloc(), Pieces::new(bytes, 3), room.as_mut_slice());
+        assert_eq!(rt; answer, Err(want));
+        assert!(rt; holds(room.as_slice(), b""));
+    }
+}
+
+#[test]
+fn a_line_is_flushed_after_its_end(rt: HostRuntime) {
+    let mut output = Output::new(rt.alloc(), Holding::new());
+    let written = output.write_line(b"yes");
+    assert!(rt; written.is_ok());
+    assert_eq!(rt; output.writer.flushed(), b"yes\n".as_slice());
+}
+
+#[test]
+fn an_earlier_failure_refuses_nothing(rt: HostRuntime) {
+    for _attempt in 0..2 {
+        let mut room = [0u8; 80];
+        let mut input = Input::new(Pieces::new(EMPTY, 3));
+        let mut output = Output::new(rt.alloc(), room.as_mut_slice());
+        input.failed = true;
+        output.failed = true;
+        let answer = audit_file(rt.alloc(), &mut input, &mut output);
+        assert!(rt; matches!(answer, Ok(true) | Err(Error::Memory)));
+    }
+}
+
+#[test]
+fn an_input_keeps_its_bytes(rt: HostRuntime) {
+    for bytes in [EMPTY, BACKWARD, b"ATIN".as_slice()] {
+        for _attempt in 0..2 {
+            let mut room = [0u8; 80];
+            let mut input = Input::new(Pieces::new(bytes, 3));
+            let mut output = Output::new(rt.alloc(), room.as_mut_slice());
+            if audit_file(rt.alloc(), &mut input, &mut output) != Err(Error::Memory) {
+                let kept = match &input.kept {
+                    Some(kept) => kept.as_slice(),
+                    None => b"".as_slice(),
+                };
+                assert_eq!(rt; kept, bytes);
+            }
+        }
+    }
+}
+
+#[test]
+fn nothing_is_written_of_an_input_whose_third_read_fails(rt: HostRuntime) {
+    let bytes = [7u8; 276];
+    let mut pieces = Pieces::new(bytes.as_slice(), 100);
+    pieces.fails_at = Some(3);
+    let mut room = [0u8; 80];
+    let answer = audit(rt.alloc(), pieces, room.as_mut_slice());
+    assert_eq!(rt; answer, Err(Error::ReadFault));
+    assert!(rt; holds(room.as_slice(), b""));
+}
+
+#[test]
+fn a_verdict_that_cannot_be_written_is_a_write_fault(rt: HostRuntime) {
+    // There is no room for a first byte, or not for the whole line.
+    for len in [0usize, 10] {
+        let mut room = [0u8; 10];
+        let answer = audit(rt.alloc(), Pieces::new(EMPTY, 100), &mut room[..len]);
+        assert_eq!(rt; answer, Err(Error::WriteFault));
+    }
+}

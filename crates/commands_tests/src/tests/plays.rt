@@ -1,0 +1,162 @@
+//! Plays: that lines and images go to their writers, and what comes of reads and writes that fail.
+
+use super::fakes::{Frail, Pieces};
+use super::{audit, holds};
+use at_base::{Error, Part};
+use command_line::status;
+use commands::{Input, play_bytes};
+use frozen_trace::Output;
+use playing::Silent;
+use std::alloc::Global;
+use std::io::Write;
+
+/// An internet of one cable and one node.
+const SMALL: &[u8] = b"ticks = 30
+[[cable]]
+range = [10, 19]
+zones = ['Red']
+[[node]]
+cable = 1
+hardware = '020000000005'
+try = ['10.7']
+zone = 'Red'
+";
+
+/// The same, where the node has no time to settle its address.
+const EARLY: &[u8] = b"ticks = 1
+[[cable]]
+range = [10, 19]
+zones = ['Red']
+[[node]]
+cable = 1
+hardware = '020000000005'
+try = ['10.7']
+zone = 'Red'
+";
+
+const YES: &[u8] = b"yes: 1 cables, 0 routers, 1 nodes, 0 rows, greatest distance 0\n";
+
+const NO: &[u8] = b"no: C2 node 1\n";
+
+/// The length of both images: 7 bytes of head and counts, 10 of the cable and 16 of the node.
+const IMAGE_LEN: usize = 33;
+
+/// Plays what the reader has, by these writers.
+fn play_once<W: Write + Drop, I: Write + Drop>(
+    alloc: Global,
+    text: Pieces<'_>,
+    lines: W,
+    image: I,
+) -> Result<bool, Error> {
+    let mut input = Input::new(text);
+    let mut output = Output::new(alloc, lines);
+    let mut image = Output::new(alloc, image);
+    play_bytes(alloc, &mut input, &mut output, &mut image, &mut Silent)
+}
+
+/// As `play_once`, into rooms, and again where memory was refused.
+fn play(
+    alloc: Global,
+    text: Pieces<'_>,
+    lines: &mut [u8],
+    image: &mut [u8],
+) -> Result<bool, Error> {
+    match play_once(alloc, text, &mut *lines, &mut *image) {
+        Err(Error::Memory) => play_once(alloc, text, lines, image),
+        answer => answer,
+    }
+}
+
+/// A text in pieces of 40 bytes.
+fn pieces(text: &[u8]) -> Pieces<'_> {
+    Pieces::new(text, 40)
+}
+
+#[test]
+fn lines_and_images_go_to_their_writers(rt: HostRuntime) {
+    let bad = Err(Error::BadFile(Part::Text, 0));
+    let rows = [
+        (SMALL, Ok(true), 0, YES),
+        (EARLY, Ok(false), 1, NO),
+        (b"[[cable".as_slice(), bad, 2, b"".as_slice()),
+    ];
+    for (text, answer, exit, want) in rows {
+        let mut lines = [0u8; 80];
+        let mut image = [0u8; IMAGE_LEN];
+        let given = play(
+            rt.alloc(),
+            pieces(text),
+            lines.as_mut_slice(),
+            image.as_mut_slice(),
+        );
+        assert_eq!(rt; given, answer);
+        assert_eq!(rt; status(&given), exit);
+        assert!(rt; holds(lines.as_slice(), want));
+        assert_eq!(rt; image.starts_with(b"ATIM".as_slice()), exit < 2);
+    }
+}
+
+#[test]
+fn play_audits_what_it_made(rt: HostRuntime) {
+    for (text, answer, want) in [(SMALL, Ok(true), YES), (EARLY, Ok(false), NO)] {
+        let mut lines = [0u8; 80];
+        let mut image = [0u8; IMAGE_LEN];
+        let _given = play(
+            rt.alloc(),
+            pieces(text),
+            lines.as_mut_slice(),
+            image.as_mut_slice(),
+        );
+        let mut room = [0u8; 80];
+        let audited = audit(rt.alloc(), pieces(image.as_slice()), room.as_mut_slice());
+        assert_eq!(rt; audited, answer);
+        assert!(rt; holds(room.as_slice(), want));
+    }
+}
+
+#[test]
+fn every_read_may_fail(rt: HostRuntime) {
+    // Four pieces and the end, and then nothing fails.
+    for fails_at in 1..7 {
+        let mut lines = [0u8; 80];
+        let mut image = [0u8; IMAGE_LEN];
+        let mut text = pieces(SMALL);
+        text.fails_at = Some(fails_at);
+        let given = play(rt.alloc(), text, lines.as_mut_slice(), image.as_mut_slice());
+        if fails_at < 6 {
+            assert_eq!(rt; given, Err(Error::ReadFault));
+            assert!(rt; holds(lines.as_slice(), b""));
+            assert!(rt; holds(image.as_slice(), b""));
+        } else {
+            assert_eq!(rt; given, Ok(true));
+            assert!(rt; holds(lines.as_slice(), YES));
+        }
+    }
+}
+
+/// Plays the small internet by writers of which each fails at a call, and again where memory was
+/// refused.
+fn play_frail(alloc: Global, lines_fail_at: u32, image_fails_at: u32) -> Result<bool, Error> {
+    let lines = Frail {
+        calls: 0,
+        fails_at: lines_fail_at,
+    };
+    let image = Frail {
+        calls: 0,
+        fails_at: image_fails_at,
+    };
+    match play_once(alloc, pieces(SMALL), lines, image) {
+        Err(Error::Memory) => play_once(alloc, pieces(SMALL), lines, image),
+        answer => answer,
+    }
+}
+
+#[test]
+fn every_write_may_fail(rt: HostRuntime) {
+    // A flush, the bytes and a flush, and then nothing fails.
+    for fails_at in 1..4 {
+        assert_eq!(rt; play_frail(rt.alloc(), fails_at, 9), Err(Error::WriteFault));
+        assert_eq!(rt; play_frail(rt.alloc(), 9, fails_at), Err(Error::WriteFault));
+    }
+    assert_eq!(rt; play_frail(rt.alloc(), 4, 4), Ok(true));
+}
