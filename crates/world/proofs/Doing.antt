@@ -1,12 +1,47 @@
 -- What a planned action does, by its node.
-use Rattle.std.proofs.Common.{◌≡◌, ℕ, List, Some, slice_get, sym, subst, ap, ◌∙◌}
+use Rattle.std.proofs.Common.{◌≡◌, ◌⊎◌, ◌++◌, ◌∷◌, ℕ, List, [], Result, Ok, Err, IfErr, IfOk, Some, slice_get, inl, inr, sym, subst, ap, ◌∙◌}
+use Rattle.std.specs.Prelude.{IsOkUnless, OnOk}
+use Rattle.std.proofs.lemmas.Result.{on_ok_weaker}
+use Rattle.at_base.specs.ErrorNumber.{number_of}
+use Rattle.at_base.specs.declared.error.Error.{Error}
+use Rattle.at_base.specs.declared.error.Error.TheVariants.{Memory}
 use Rattle.image_stations.specs.declared.member.Member.{Member}
 use Rattle.internet_file.specs.Files.{Planned}
 use Rattle.internet_file.specs.declared.action.Action.{Action}
-use Rattle.live_cables.specs.Living.{Wires}
+use Rattle.internet_file.specs.declared.action.Do.{Do}
+use Rattle.live_cables.specs.Living.{GivesOut, Wires}
 use Rattle.live_node.specs.Living.{LivingNode}
 use Rattle.live_router.specs.Living.{Living}
-use Rattle.world.specs.Doing.{IsDone, IsDoneBy, station_for}
+use Rattle.station.specs.declared.output.Output.{Output}
+use Rattle.station.specs.declared.way.Way.{Way}
+use Rattle.world.specs.Doing.{IsDone, IsDoneBy, acted_by, number_from, put_by, station_for}
+
+-- ---- Why an action isn't done
+
+pub refused_alone : {U : Type 0} (r : Result U Error) (s : Result Way Error) (data_by : Way → List ℕ) → IfErr s (λ e. r ≡ Err e)
+    → IfOk s (λ _. IsOkUnless r Memory) → IfErr r (λ e. (put_by data_by s ≡ Err e) ⊎ (e ≡ Memory))
+refused_alone (Ok u) s data_by refused only = tt
+refused_alone (Err e) (Ok way) data_by refused only = inr only
+refused_alone (Err e) (Err f) data_by refused only = let same : f ≡ e = cc in inl (ap Err same)
+
+-- ---- What an action did
+
+pub done_ok : (m : Member Living LivingNode) (station index : ℕ) (action : Do) (outputs : List Output) (old new : Wires × List (ℕ × ℕ))
+    → acted_by m action ≡ Ok outputs → GivesOut station outputs old.0 new.0 → new.1 ≡ old.1 → IsDoneBy m station action index old new
+done_ok m station index action outputs old new is given same = rw is (given, same)
+
+done_err : (m : Member Living LivingNode) (station index : ℕ) (action : Do) (e : Error) (old new : Wires × List (ℕ × ℕ))
+    → acted_by m action ≡ Err e → new.0 ≡ old.0 → new.1 ≡ old.1 ++ (number_from index, number_of e) ∷ []
+    → IsDoneBy m station action index old new
+done_err m station index action e old new is same noted = rw is (same, noted)
+
+-- that it was noted shows that memory didn't run out
+pub done_noted : {U : Type 0} (r : Result U Error) (m : Member Living LivingNode) (station index : ℕ) (action : Do) (e : Error)
+    (old new : Wires × List (ℕ × ℕ)) → (acted_by m action ≡ Err e) ⊎ (e ≡ Memory) → (e ≡ Memory → r ≡ Err Memory) → new.0 ≡ old.0
+    → OnOk r (new.1 ≡ old.1 ++ (number_from index, number_of e) ∷ []) → OnOk r (IsDoneBy m station action index old new)
+done_noted r m station index action e old new (inl is) memory same noted =
+    on_ok_weaker r (λ n. done_err m station index action e old new is same n) noted
+done_noted r m station index action e old new (inr is) memory same noted = rw (memory is) tt
 
 pub done_for : (plan : Planned) (stations : List (Member Living LivingNode)) (index station : ℕ) (action : Action)
     (m : Member Living LivingNode) (old new : Wires × List (ℕ × ℕ)) → slice_get plan.actions index ≡ Some action

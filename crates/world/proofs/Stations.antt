@@ -197,3 +197,8 @@ pub length_set : {X : Type 0} (xs : List X) (k : ℕ) (x : X) → length (slice_
 length_set [] k x = refl
 length_set (y ∷ xs) zero x = refl
 length_set (y ∷ xs) (suc k) x = ap suc (length_set xs k x)
+
+pub get_set : {X : Type 0} (xs : List X) (k : ℕ) (old x : X) → slice_get xs k ≡ Some old → slice_get (slice_set xs k x) k ≡ Some x
+get_set [] k old x at = cc
+get_set (y ∷ xs) zero old x at = refl
+get_set (y ∷ xs) (suc k) old x at = get_set xs k old x at

@@ -1,5 +1,5 @@
 -- What one step of a tick does to a station, and what a node does as it was planned. This project's own.
-use Rattle.std.specs.Prelude.{◌≡◌, ◌⊎◌, ℕ, zero, suc, ◌+◌, ◌-◌, ◌%◌, false, fold, List, [], ◌∷◌, ◌++◌, Option, Some, None, Err, IfOk, length, min, slice_get, slice_set}
+use Rattle.std.specs.Prelude.{◌≡◌, ℕ, zero, suc, ◌+◌, ◌-◌, ◌%◌, false, List, [], ◌∷◌, ◌++◌, Option, Some, None, Result, Ok, Err, length, min, slice_get, slice_set}
 use Rattle.at_base.specs.ErrorNumber.{number_of}
 use Rattle.at_base.specs.declared.address.Addr.{Addr}
 use Rattle.at_base.specs.declared.error.Error.{Error}
@@ -18,6 +18,7 @@ use Rattle.router.specs.Holding.{own_at as address_at}
 use Rattle.rtmp.specs.Routes.{poisoned}
 use Rattle.aarp.specs.Choosing.{settled}
 use Rattle.station.specs.Making.{made}
+use Rattle.station.specs.declared.way.Way.{Way}
 use Rattle.station.specs.declared.output.Output.{Output}
 
 -- the settled address of a station's port
@@ -35,18 +36,21 @@ abbrev pub given_up : Member Living LivingNode → Addr → Member Living Living
 given_up (Router l) a = Router (record l { router = record l.router { routes = poisoned a l.router.routes } })
 given_up (Node n) a = Node n
 
--- A node did this, and put out what follows.
-abbrev pub IsActed : LivingNode → Do → List Output → Type 0
-IsActed n (Send to socket source kind hex) outputs =
-    IfOk (sending n.node (header_to to socket source kind false) (length hex)) (λ way. outputs ≡ made way hex ∷ [])
-IsActed n (Lookup id object kind zone) outputs =
-    IfOk (asking n.node) (λ way. outputs
-    ≡ made way (request_bytes (id % 256) (asked_by way.header.source object kind (zone_asked n.node zone))) ∷ [])
+-- the one output by a way, or why there is no way
+abbrev pub put_by : (Way → List ℕ) → Result Way Error → Result (List Output) Error
+put_by data_by (Ok way) = Ok (made way (data_by way) ∷ [])
+put_by data_by (Err e) = Err e
 
--- The same of a station: a router does nothing.
-abbrev pub IsActedBy : Member Living LivingNode → Do → List Output → Type 0
-IsActedBy (Node n) action outputs = IsActed n action outputs
-IsActedBy (Router l) action outputs = outputs ≡ []
+-- what a node puts out that does this, or why it can't be done
+abbrev pub acted : LivingNode → Do → Result (List Output) Error
+acted n (Send to socket source kind hex) = put_by (λ way. hex) (sending n.node (header_to to socket source kind false) (length hex))
+acted n (Lookup id object kind zone) =
+    put_by (λ way. request_bytes (id % 256) (asked_by way.header.source object kind (zone_asked n.node zone))) (asking n.node)
+
+-- the same of a station: a router does nothing
+abbrev pub acted_by : Member Living LivingNode → Do → Result (List Output) Error
+acted_by (Node n) action = acted n action
+acted_by (Router l) action = Ok []
 
 -- the station of an action's node
 abbrev pub station_for : Planned → Action → ℕ
@@ -56,11 +60,13 @@ station_for plan action = length plan.routers + (action.node - 1)
 abbrev pub number_from : ℕ → ℕ
 number_from index = min (index + 1) 4294967295
 
--- A station did what is planned, or refused it, which is noted with the action's number and that of the error.
+-- A station did what is planned; or it can't be done, which is noted with the action's number and that of the error.
 abbrev pub IsDoneBy : Member Living LivingNode → ℕ → Do → ℕ → Wires × List (ℕ × ℕ) → Wires × List (ℕ × ℕ) → Type 0
-IsDoneBy m station action index old new =
-    ((outputs : List Output) × IsActedBy m action outputs × GivesOut station outputs old.0 new.0 × (new.1 ≡ old.1))
-    ⊎ ((e : Error) × (new.0 ≡ old.0) × (new.1 ≡ old.1 ++ (number_from index, number_of e) ∷ []))
+IsDoneBy m station action index old new = by (acted_by m action)
+  where
+    by : Result (List Output) Error → Type 0
+    by (Ok outputs) = GivesOut station outputs old.0 new.0 × (new.1 ≡ old.1)
+    by (Err e) = (new.0 ≡ old.0) × (new.1 ≡ old.1 ++ (number_from index, number_of e) ∷ [])
 
 -- The action of an index was done by its node; nothing happened where there is no such action or node.
 abbrev pub IsDone : Planned → List (Member Living LivingNode) → ℕ → Wires × List (ℕ × ℕ) → Wires × List (ℕ × ℕ) → Type 0

@@ -6,3 +6,7 @@ pub mod Keeping
 pub mod Seen
 pub mod Frozen
 pub mod Doing
+pub mod Passing
+pub mod Taking
+pub mod Acting
+pub mod Ticking

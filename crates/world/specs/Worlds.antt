@@ -21,7 +21,8 @@ use Rattle.planned_stations.specs.Seating.{plan_seats}
 use Rattle.world.specs.Losing.{loses_at}
 
 -- A plan; its stations, the routers and then the nodes; the cables; how many ticks have passed; the error by which a tick was
--- refused, if one was; and the actions that were refused, by their numbers from 1 and the numbers of the errors.
+-- refused, if one was; the actions that were refused, by their numbers from 1 and the numbers of the errors; and the indices of
+-- those that are still to come, the next one last.
 pub record Worldly : Type 0 where
   pub plan : Planned
   pub stations : List (Member Living LivingNode)
@@ -29,6 +30,7 @@ pub record Worldly : Type 0 where
   pub now : ℕ
   pub stopped : Option Error
   pub refused : List (ℕ × ℕ)
+  pub schedule : List ℕ
 
 -- A datagram that a station received is that of a frame which it took.
 pub record IsReceived (entries : List Entry) (station : ℕ) (d : Received) : Type 0 where

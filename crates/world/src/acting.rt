@@ -1,10 +1,11 @@
 //! What the nodes of a world do.
 
-ghost use Rattle.std.specs.Prelude.{◌≡◌, ◌⊎◌, ◌<◌, ◌≤◌, ◌++◌, ◌∷◌, ℕ, [], length, option_map};
-ghost use Rattle.std.specs.Prelude.{slice_get, IfErr, IfNone, IfSome, OnErr, OnOk, Some};
+ghost use Rattle.std.specs.Prelude.{◌≡◌, ◌⊎◌, ◌<◌, ◌≤◌, ◌++◌, ◌∷◌, ℕ, [], length};
+ghost use Rattle.std.specs.Prelude.{IfErr, IfNone, IfSome, OnErr, OnOk, Ok, Err, Some};
 ghost use Rattle.at_base.specs.ErrorNumber.{number_of};
 ghost use Rattle.station.specs.Lawful.{AreLawful};
-ghost use Rattle.world.specs.Doing.{IsActed, IsActedBy, IsDone, number_from, station_for};
+ghost use Rattle.world.specs.Acting.{AreDone, IsOver, tick_of};
+ghost use Rattle.world.specs.Doing.{IsDone, acted, acted_by, number_from, station_for};
 ghost use Rattle.world.specs.Going.{Goes, GoesOn};
 
 use at_base::Error;
@@ -19,7 +20,9 @@ use station::Outputs;
 /// Lets a node do what is planned, which puts out what it sends.
 fn act(node: &LiveNode, action: &Do, outputs: &mut Outputs) -> Result<(), Error>
     requires { outputs.old.items ≡ [] }
-    ensures acted { OnOk result (IsActed node.now action.now outputs.new.items) }
+    ensures acted { OnOk result (acted node.now action.now ≡ Ok outputs.new.items) }
+    ensures refused { IfErr result
+        (λ e. (acted node.now action.now ≡ Err e) ⊎ (e ≡ Error.Memory)) }
     ensures lawful { OnOk result (AreLawful 1 outputs.new.items) }
 {
     match action {
@@ -46,7 +49,9 @@ fn act_by<T: RouteTable>(
     outputs: &mut Outputs,
 ) -> Result<(), Error>
     requires { outputs.old.items ≡ [] }
-    ensures acted { OnOk result (IsActedBy station.now action.now outputs.new.items) }
+    ensures acted { OnOk result (acted_by station.now action.now ≡ Ok outputs.new.items) }
+    ensures refused { IfErr result
+        (λ e. (acted_by station.now action.now ≡ Err e) ⊎ (e ≡ Error.Memory)) }
     ensures lawful { OnOk result (AreLawful 1 outputs.new.items) }
 {
     match station {
@@ -59,6 +64,7 @@ fn act_by<T: RouteTable>(
 fn note(refused: &mut Vec<(u32, u8)>, index: u32, error: Error) -> Result<(), Error>
     ensures noted { OnOk result
         (refused.new.items ≡ refused.old.items ++ (number_from index, number_of error) ∷ []) }
+    ensures memory { error ≡ Error.Memory → result ≡ Err Error.Memory }
     ensures stays { OnErr result (refused.new.items ≡ refused.old.items) }
     ensures refused { IfErr result (λ e. (e ≡ Error.Full) ⊎ (e ≡ Error.Memory)) }
 {
@@ -112,9 +118,9 @@ fn act_one<T: RouteTable>(
 fn next_due(schedule: &mut Vec<u32>, actions: &[Action], now: u32) -> Option<u32>
     ensures last { IfSome result
         (λ index. schedule.old.items ≡ schedule.new.items ++ index ∷ []) }
-    ensures due { IfSome result
-        (λ index. option_map (λ a. a.at) (slice_get actions.now index) ≡ Some now) }
+    ensures due { IfSome result (λ index. tick_of actions.now index ≡ Some now) }
     ensures none { IfNone result (schedule.new.items ≡ schedule.old.items) }
+    ensures over { IfNone result (IsOver actions.now now schedule.old.items) }
     ensures fewer { IfSome result (λ index. length schedule.new.items < length schedule.old.items) }
 {
     let index = *schedule.last()?;
@@ -136,6 +142,9 @@ pub fn act_all<T: RouteTable>(
     now: u32,
 ) -> Result<(), Error>
     requires { length stations.now ≤ 400 }
+    ensures are_done { OnOk result ((actions : ℕ) × AreDone plan.now stations.now now actions
+        schedule.old.items schedule.new.items
+        (wires.old, refused.old.items) (wires.new, refused.new.items)) }
     ensures goes { Goes wires.old wires.new }
     ensures done { OnOk result (GoesOn 0 wires.old wires.new) }
     ensures refused { IfErr result (λ e. (e ≡ Error.Full) ⊎ (e ≡ Error.Memory)) }

@@ -1,9 +1,14 @@
 //! A tick that passes for the stations of a world.
 
-ghost use Rattle.std.specs.Prelude.{◌≡◌, ◌⊎◌, ◌≤◌, fold, length, map, IfErr, OnOk};
+ghost use Rattle.std.specs.Prelude.{◌≡◌, ◌⊎◌, ◌≤◌, ℕ, fold, length, map, slice_get};
+ghost use Rattle.std.specs.Prelude.{IfErr, OnOk, Some};
+ghost use Rattle.image_stations.specs.declared.member.Member.{Member as MemberValue};
+ghost use Rattle.live_node.specs.Living.{LivingNode};
+ghost use Rattle.live_router.specs.Living.{Living};
 ghost use Rattle.planned_stations.specs.Planning.{ports_of};
 ghost use Rattle.world.specs.Doing.{given_up as without, own_in, settled_own};
 ghost use Rattle.world.specs.Going.{Goes, GoesOn};
+ghost use Rattle.world.specs.Passing.{AreAged, HasPassed, HasTicked, HavePassed, IsAged};
 ghost use Rattle.world.specs.Received.{got};
 
 use at_base::{Addr, Error};
@@ -75,6 +80,7 @@ fn pass_seat<T: RouteTable>(
 ) -> Result<(), Error>
     ensures ports { ports_of station.new ≡ ports_of station.old }
     ensures got { got station.new ≡ got station.old }
+    ensures aged { OnOk result (IsAged seat station.old station.new wires.old wires.new) }
     ensures goes { Goes wires.old wires.new }
     ensures done { OnOk result (GoesOn 0 wires.old wires.new) }
     ensures refused { IfErr result (λ e. (e ≡ Error.Full) ⊎ (e ≡ Error.Memory)) }
@@ -99,6 +105,7 @@ fn pass_seats<T: RouteTable>(
     requires { seat ≤ 102000 }
     ensures ports { ports_of station.new ≡ ports_of station.old }
     ensures got { got station.new ≡ got station.old }
+    ensures aged { OnOk result (AreAged seat ports station.old station.new wires.old wires.new) }
     ensures goes { Goes wires.old wires.new }
     ensures done { OnOk result (GoesOn 0 wires.old wires.new) }
     ensures refused { IfErr result (λ e. (e ≡ Error.Full) ⊎ (e ≡ Error.Memory)) }
@@ -123,6 +130,8 @@ fn tick<T: RouteTable>(
     requires { seat ≤ 102000 }
     ensures ports { ports_of station.new ≡ ports_of station.old }
     ensures got { got station.new ≡ got station.old }
+    ensures ticked { OnOk result
+        (HasTicked number seat station.old station.new wires.old wires.new) }
     ensures goes { Goes wires.old wires.new }
     ensures done { OnOk result (GoesOn 0 wires.old wires.new) }
     ensures refused { IfErr result (λ e. (e ≡ Error.Full) ⊎ (e ≡ Error.Memory)) }
@@ -151,6 +160,8 @@ fn pass<T: RouteTable>(
     requires { seat ≤ 102000 }
     ensures ports { ports_of station.new ≡ ports_of station.old }
     ensures got { got station.new ≡ got station.old }
+    ensures passed { OnOk result
+        (HasPassed number seat station.old station.new wires.old wires.new) }
     ensures goes { Goes wires.old wires.new }
     ensures done { OnOk result (GoesOn 0 wires.old wires.new) }
     ensures refused { IfErr result (λ e. (e ≡ Error.Full) ⊎ (e ≡ Error.Memory)) }
@@ -165,7 +176,9 @@ fn pass<T: RouteTable>(
 
 /// The number of the ports of the station at an index.
 fn ports_at<T: RouteTable>(stations: &[Member<LiveRouter<T>, LiveNode>], index: usize) -> usize
-    ensures { result ≤ 255 }
+    ensures few { result ≤ 255 }
+    ensures value { (m : MemberValue Living LivingNode) → slice_get stations.now index ≡ Some m
+        → result ≡ ports_of m }
 {
     match stations.get(index) {
         Some(station) => station.ports() as usize,
@@ -182,6 +195,8 @@ pub fn pass_all<T: RouteTable>(
     requires { length stations.old.items ≤ 400 }
     ensures ports { map ports_of stations.new.items ≡ map ports_of stations.old.items }
     ensures got { map got stations.new.items ≡ map got stations.old.items }
+    ensures passed { OnOk result ((seats : ℕ) × HavePassed (length stations.old.items) seats
+        stations.old.items stations.new.items wires.old wires.new) }
     ensures goes { Goes wires.old wires.new }
     ensures done { OnOk result (GoesOn 0 wires.old wires.new) }
     ensures refused { IfErr result (λ e. (e ≡ Error.Full) ⊎ (e ≡ Error.Memory)) }

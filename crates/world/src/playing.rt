@@ -5,6 +5,7 @@ ghost use Rattle.live_cables.specs.Living.{happened};
 ghost use Rattle.planned_stations.specs.Planning.{AreSeated, ports_of};
 ghost use Rattle.world.specs.Going.{Ends, Goes, GoesOn};
 ghost use Rattle.world.specs.Received.{AreReceived, got};
+ghost use Rattle.world.specs.Ticking.{Begins, Plays};
 
 use crate::acting::act_all;
 use crate::passing::pass_all;
@@ -33,6 +34,9 @@ fn begin<T: RouteTable>(
     ensures got { map got stations.new.items ≡ map got stations.old.items }
     ensures goes { Goes wires.old wires.new }
     ensures done { OnOk result (GoesOn 0 wires.old wires.new) }
+    ensures begins { OnOk result (Begins plan.now now stations.old.items stations.new.items
+        wires.old wires.new refused.old.items refused.new.items
+        schedule.old.items schedule.new.items) }
     ensures refused { IfErr result (λ e. (e ≡ Error.Full) ⊎ (e ≡ Error.Memory)) }
 {
     match pass_all(*refused.allocator(), stations, wires) {
@@ -57,6 +61,9 @@ pub fn play<T: RouteTable>(
     ensures ports { map ports_of stations.new.items ≡ map ports_of stations.old.items }
     ensures goes { Goes wires.old wires.new }
     ensures done { OnOk result (Ends 10000 wires.old wires.new) }
+    ensures plays { OnOk result (Plays plan.now now stations.old.items stations.new.items
+        wires.old wires.new refused.old.items refused.new.items
+        schedule.old.items schedule.new.items) }
     ensures received { AreReceived (happened wires.old) (map got stations.old.items)
         → AreReceived (happened wires.new) (map got stations.new.items) }
     ensures refused { IfErr result (λ e. (e ≡ Error.Full) ⊎ (e ≡ Error.Memory)) }

@@ -1,6 +1,7 @@
 //! Frames that the stations of a world take.
 
-ghost use Rattle.std.specs.Prelude.{◌≡◌, ◌⊎◌, ◌↔◌, ◌<◌, [], false, length, map, IfErr, IfOk, OnOk};
+ghost use Rattle.std.specs.Prelude.{◌≡◌, ◌⊎◌, ◌↔◌, ◌<◌, ℕ, [], false, length, map, true};
+ghost use Rattle.std.specs.Prelude.{IfErr, IfOk, OnOk};
 ghost use Rattle.std.specs.List.{list_any};
 ghost use Rattle.cable_model.specs.Outcomes.{is_named};
 ghost use Rattle.cable_model.specs.Pending.{pending as pending_on};
@@ -9,6 +10,7 @@ ghost use Rattle.live_cables.specs.Living.{happened};
 ghost use Rattle.planned_stations.specs.Planning.{AreSeated, ports_of};
 ghost use Rattle.world.specs.Going.{Ends, Goes, GoesOn};
 ghost use Rattle.world.specs.Received.{AreReceived, got};
+ghost use Rattle.world.specs.Taking.{AreTaken, IsTaken, IsTaker};
 
 use at_base::Error;
 use image_stations::Member;
@@ -29,6 +31,8 @@ fn take<T: RouteTable>(
     ensures ports { map ports_of stations.new.items ≡ map ports_of stations.old.items }
     ensures goes { Goes wires.old wires.new }
     ensures done { OnOk result (GoesOn 1 wires.old wires.new) }
+    ensures taken { OnOk result (IsTaker stamp station stations.old.items stations.new.items
+        wires.old wires.new) }
     ensures received { AreReceived (happened wires.old) (map got stations.old.items)
         → AreReceived (happened wires.new) (map got stations.new.items) }
     ensures not_pending { (result ≡ Err Error.NotPending) ↔ (list_any (is_named stamp station)
@@ -50,6 +54,10 @@ fn take_first<T: RouteTable>(
     ensures ports { map ports_of stations.new.items ≡ map ports_of stations.old.items }
     ensures goes { Goes wires.old wires.new }
     ensures took { IfOk result (λ was_one. GoesOn (one was_one) wires.old wires.new) }
+    ensures taken { IfOk result (λ was_one. was_one ≡ true
+        → IsTaken stations.old.items stations.new.items wires.old wires.new) }
+    ensures stay { IfOk result (λ was_one. was_one ≡ false
+        → (stations.new.items ≡ stations.old.items) × (wires.new ≡ wires.old)) }
     ensures none { IfOk result (λ was_one. was_one ≡ false
         → pending_on wires.new.cabling.seats (happened wires.new) ≡ []) }
     ensures received { AreReceived (happened wires.old) (map got stations.old.items)
@@ -75,6 +83,8 @@ pub fn take_all<T: RouteTable>(
     ensures ports { map ports_of stations.new.items ≡ map ports_of stations.old.items }
     ensures goes { Goes wires.old wires.new }
     ensures done { OnOk result (Ends most wires.old wires.new) }
+    ensures taken { OnOk result ((n : ℕ) × AreTaken n stations.old.items stations.new.items
+        wires.old wires.new) }
     ensures received { AreReceived (happened wires.old) (map got stations.old.items)
         → AreReceived (happened wires.new) (map got stations.new.items) }
     ensures refused { IfErr result (λ e. (e ≡ Error.Full) ⊎ (e ≡ Error.Memory)) }

@@ -3,6 +3,7 @@
 ghost use Rattle.std.specs.Prelude.{◌≡◌, ◌≤◌, ◌+◌, ◌⊎◌, IfErr, IfSome, None, OnOk, Some};
 ghost use Rattle.cable_model.specs.Transcript.{AreNumbered};
 ghost use Rattle.live_cables.specs.Living.{happened};
+ghost use Rattle.world.specs.Ticking.{IsTick};
 ghost use Rattle.world.specs.Worlds.{Ticks, TicksOn};
 
 use crate::losing::losing_at;
@@ -28,6 +29,7 @@ impl<T: RouteTable> World<T> {
         ensures ticks { Ticks self.old.plan self.old.now self.old.wires self.new.wires }
         ensures ticks_on { OnOk result
             (TicksOn self.old.plan self.old.now self.old.wires self.new.wires) }
+        ensures plays { OnOk result (IsTick self.old self.new) }
         ensures refused { IfErr result (λ e. (e ≡ Error.Full) ⊎ (e ≡ Error.Memory)) }
     {
         let losing = match losing_at(self.alloc, &self.plan, self.passed) {
@@ -56,6 +58,7 @@ impl<T: RouteTable> World<T> {
         ensures ticks { Ticks self.old.plan self.new.now self.old.wires self.new.wires }
         ensures ticks_on { OnOk result
             (TicksOn self.old.plan self.new.now self.old.wires self.new.wires) }
+        ensures plays { OnOk result (IsTick self.old self.new) }
         ensures refused { IfErr result (λ e. (e ≡ Error.Full) ⊎ (e ≡ Error.Memory)) }
     {
         if self.passed >= self.plan.ticks() {
@@ -83,6 +86,7 @@ impl<T: RouteTable> World<T> {
         ensures ticks { Ticks self.old.plan self.new.now self.old.wires self.new.wires }
         ensures ticks_on { OnOk result
             (TicksOn self.old.plan self.new.now self.old.wires self.new.wires) }
+        ensures plays { OnOk result (IsTick self.old self.new) }
         ensures refused { IfErr result (λ e.
             (self.old.stopped ≡ Some e) ⊎ (e ≡ Error.Full) ⊎ (e ≡ Error.Memory)) }
     {

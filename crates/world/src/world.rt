@@ -64,6 +64,7 @@ impl<T: RouteTable> Model for World<T> {
       now = w.passed;
       stopped = w.stopped;
       refused = w.refused.items;
+      schedule = w.schedule.items;
     } };
 
     ghost invariant = { λ w. IsLaid (record {
@@ -73,6 +74,7 @@ impl<T: RouteTable> Model for World<T> {
       now = w.passed;
       stopped = w.stopped;
       refused = w.refused.items;
+      schedule = w.schedule.items;
     }) };
 }
 

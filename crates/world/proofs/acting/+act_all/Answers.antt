@@ -1,6 +1,7 @@
-use Rattle.std.proofs.Common.{arith}
+use Rattle.std.proofs.Common.{◌≡◌, Some, arith, refl, subst, suc}
 use Rattle.std.proofs.lemmas.Result.{on_ok_weaker}
 use Rattle.world.proofs.Going.{goes_none, goes_nowhere, goes_on_then, goes_then}
+use Rattle.world.specs.Acting.{IsOver, tick_of}
 use Rattle.world.proofs.acting.+act_all.Goals as goal
 
 pub returns-in-Ok-clause-goes : goal.returns-in-Ok-clause-goes
@@ -15,3 +16,12 @@ returns-in-None-clause-goes g t c = goes_nowhere _
 
 pub returns-in-None-clause-done : goal.returns-in-None-clause-done
 returns-in-None-clause-done g t c = goes_none _
+
+pub returns-in-Ok-clause-are_done : goal.returns-in-Ok-clause-are_done
+returns-in-Ok-clause-are_done g t c =
+    on_ok_weaker c.act_all.result
+    (λ d. (suc d.0, (c.next_due.new.schedule.items, c.in-Some.index, (c.act_one.new.wires, c.act_one.new.refused.items), c.in-Some.ensures.last, subst (λ l. tick_of l c.in-Some.index ≡ Some c.args.now) c.actions.ensures.value c.in-Some.ensures.due, c.in-Ok.ensures.is_done, d.1)))
+    c.act_all.ensures.are_done
+
+pub returns-in-None-clause-are_done : goal.returns-in-None-clause-are_done
+returns-in-None-clause-are_done g t c = (0, (c.in-None.ensures.none, refl, subst (λ l. IsOver l c.args.now c.args.schedule.now.items) c.actions.ensures.value c.in-None.ensures.over))

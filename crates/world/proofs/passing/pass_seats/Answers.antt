@@ -1,15 +1,18 @@
-use Rattle.std.proofs.Common.{◌∙◌, arith, refl}
+use Rattle.std.proofs.Common.{◌≡◌, ◌∙◌, ◌+◌, suc, arith, refl, subst}
 use Rattle.world.proofs.Going.{goes_none, goes_on_then, goes_then}
+use Rattle.world.specs.Passing.{AreAged}
 use Rattle.world.proofs.passing.pass_seats.Goals as goal
 
 pub loop-port-init : goal.loop-port-init
-loop-port-init g c = (refl, refl, goes_none _)
+loop-port-init g c = (refl, refl, goes_none _, (refl, refl))
 
 pub loop-port-preserved : goal.loop-port-preserved
-loop-port-preserved g c = (
+loop-port-preserved g c = let next : suc c.loop-port.port ≡ c.loop-port.port + 1 = omega arith in (
   c.pass_seat.ensures.ports ∙ c.loop-port.invariant.0,
   c.pass_seat.ensures.got ∙ c.loop-port.invariant.1,
   goes_on_then 0 _ _ _ c.loop-port.invariant.2 0 0 (omega arith) c.in-Ok.ensures.done,
+  subst (λ n. AreAged c.args.seat n c.args.station.now c.pass_seat.new.station c.args.wires.now c.pass_seat.new.wires) next
+      (c.loop-port.station, c.loop-port.wires, c.loop-port.invariant.3, c.in-Ok.ensures.aged),
 )
 
 pub returns-in-Err-clause-ports : goal.returns-in-Err-clause-ports

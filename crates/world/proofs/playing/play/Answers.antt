@@ -23,3 +23,14 @@ returns-clause-done g c =
 pub returns-clause-received : goal.returns-clause-received
 returns-clause-received g c =
     λ h. c.take_all.ensures.received (received_goes _ _ _ _ c.begin.ensures.goes c.begin.ensures.got h)
+
+pub returns-clause-plays : goal.returns-clause-plays
+returns-clause-plays g c =
+    on_ok_weaker c.take_all.result
+    (λ t. record {
+      passed = c.begin.new.stations.items;
+      acted = c.begin.new.wires;
+      begins = c.in-Ok.ensures.begins;
+      takings = t.0;
+      takes = t.1;
+    }) c.take_all.ensures.taken

@@ -33,3 +33,16 @@ returns-clause-received g c =
     take_received ms c.args.station c.args.wires.now c.take.new.self c.args.stamp taker c.take.new.taker c.take.result
     (slice_get_read ms (length ms) c.args.station taker refl c.requires.there c.index_mut-taker.ensures.value) c.take.ensures.heard
     c.take.ensures.stopped
+
+pub returns-clause-taken : goal.returns-clause-taken
+returns-clause-taken g c =
+    let ms = c.args.stations.now.items in
+    let taker = c.index_mut-taker.result.now in
+    on_ok_weaker c.take.result
+    (λ t. record {
+      m = taker;
+      after = c.take.new.taker;
+      there = slice_get_read ms (length ms) c.args.station taker refl c.requires.there c.index_mut-taker.ensures.value;
+      takes = t;
+      set = refl;
+    }) c.take.ensures.taken

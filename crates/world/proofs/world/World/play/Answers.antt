@@ -6,6 +6,7 @@ use Rattle.planned_stations.specs.Planning.{AreSeated, ports_of}
 use Rattle.world.proofs.Stations.{laid_after, laid_seated}
 use Rattle.world.proofs.Ticked.{due_ticks, ticks_ends, ticks_goes}
 use Rattle.world.specs.Received.{AreReceived, got}
+use Rattle.world.specs.Ticking.{IsTick, Plays}
 use Rattle.world.specs.Worlds.{Ticks, TicksOn, Worldly}
 use Rattle.world.proofs.world.World.play.Goals as goal
 
@@ -43,3 +44,25 @@ returns-clause-ticks_on g c =
     (on_ok_weaker c.play-played.result
     (λ d. ticks_ends old.plan old.passed old.wires new c.in-Ok.losing.items c.in-Ok.ensures.losing c.self.invariant.seats
     c.recall_numbered.ensures c.set_losing.new.self c.set_losing.ensures d) c.play-played.ensures.done)
+
+pub returns-clause-plays : goal.returns-clause-plays
+returns-clause-plays g c =
+    let old = c.self.inside in
+    let new : Worldly = record {
+      plan = old.plan;
+      stations = c.play-played.new.stations.items;
+      wires = c.play-played.new.wires;
+      now = old.passed;
+      stopped = old.stopped;
+      refused = c.play-played.new.refused.items;
+      schedule = c.play-played.new.schedule.items;
+    } in
+    subst (λ (w : Worldly). OnOk c.play-played.result (IsTick w new)) c.self.view_is
+    (on_ok_weaker c.play-played.result
+    (λ p. record {
+      losing = c.in-Ok.losing.items;
+      loses = c.in-Ok.ensures.losing;
+      plays =
+          subst (λ (w : Wires). Plays old.plan old.passed old.stations.items new.stations w new.wires old.refused.items new.refused
+          old.schedule.items new.schedule) c.set_losing.ensures p;
+    }) c.play-played.ensures.plays)

@@ -1,0 +1,26 @@
+-- Which of the planned actions are done in a tick. This project's own.
+use Rattle.std.specs.Prelude.{◌≡◌, ◌≢◌, ℕ, zero, suc, List, [], ◌∷◌, ◌++◌, Option, Some, option_map, slice_get}
+use Rattle.image_stations.specs.declared.member.Member.{Member}
+use Rattle.internet_file.specs.Files.{Planned}
+use Rattle.internet_file.specs.declared.action.Action.{Action}
+use Rattle.live_cables.specs.Living.{Wires}
+use Rattle.live_node.specs.Living.{LivingNode}
+use Rattle.live_router.specs.Living.{Living}
+use Rattle.world.specs.Doing.{IsDone}
+
+-- the tick of the action at an index
+abbrev pub tick_of : List Action → ℕ → Option ℕ
+tick_of actions index = option_map (λ a. a.at) (slice_get actions index)
+
+-- The last of a schedule, if there is one, isn't of this tick.
+abbrev pub IsOver : List Action → ℕ → List ℕ → Type 0
+IsOver actions now schedule = (rest : List ℕ) (index : ℕ) → schedule ≡ rest ++ index ∷ [] → tick_of actions index ≢ Some now
+
+-- So many actions of a schedule, those of this tick, were done, the last of it first; what is left of it has none of this tick at its
+-- end.
+abbrev pub AreDone : Planned → List (Member Living LivingNode) → ℕ → ℕ → List ℕ → List ℕ → Wires × List (ℕ × ℕ)
+    → Wires × List (ℕ × ℕ) → Type 0
+AreDone plan stations now zero schedule left old new = (left ≡ schedule) × (new ≡ old) × IsOver plan.actions now schedule
+AreDone plan stations now (suc n) schedule left old new =
+    (rest : List ℕ) × (index : ℕ) × (mid : Wires × List (ℕ × ℕ)) × (schedule ≡ rest ++ index ∷ [])
+    × (tick_of plan.actions index ≡ Some now) × IsDone plan stations index old mid × AreDone plan stations now n rest left mid new
