@@ -1,7 +1,7 @@
 //! What a router learns from replies that have whole lists.
 
 ghost use Rattle.std.specs.Prelude.{◌≡◌, ◌==◌, fold, length, if◌then◌else◌};
-ghost use Rattle.std.specs.Prelude.{IfOk, OnOk, IsOkUnless};
+ghost use Rattle.std.specs.Prelude.{IfOk, OnErr, OnOk, IsOkUnless};
 ghost use Rattle.std.specs.List.{list_any};
 ghost use Rattle.zip_zones.specs.Answers.{after_list, is_taken, names_for as names_in};
 ghost use Rattle.zip_zones.specs.Answers.{networks_named};
@@ -54,6 +54,7 @@ fn has_network(entries: &[Entry], net: u16) -> bool
 fn take_list(zones: &mut ZoneTable, range: Range, names: &[Name]) -> Result<(), Error>
     ensures ok { OnOk result (zones.new ≡ (if is_taken range (length names.now) zones.old
         then with_known (set_list range names.now) zones.old else zones.old)) }
+    ensures stays { OnErr result (zones.new ≡ zones.old) }
     ensures refused { IsOkUnless result Error.Memory }
 {
     match zones.set(range, names) {
@@ -71,6 +72,7 @@ fn learn_list<T: RouteTable>(
 ) -> Result<(), Error>
     ensures ok { OnOk result
         (zones.new ≡ after_list (T.rows routes.now) entries.now zones.old net) }
+    ensures stays { OnErr result (zones.new ≡ zones.old) }
     ensures refused { IsOkUnless result Error.Memory }
 {
     match range_of(routes, net) {

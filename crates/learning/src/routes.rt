@@ -1,6 +1,8 @@
 //! What a router learns from packets of routing data.
 
-ghost use Rattle.std.specs.Prelude.{◌≡◌, OnOk, IsOkUnless};
+ghost use Rattle.std.specs.Prelude.{◌≡◌, OnErr, OnOk, IsOkUnless};
+ghost use Rattle.rtmp.specs.Data.{tuples_of};
+ghost use Rattle.rtmp.specs.Routes.{IsHeardInPart};
 ghost use Rattle.learning.specs.Heard.{is_from_neighbour, routes_after};
 
 use at_base::{Error, Range};
@@ -29,6 +31,8 @@ pub fn learn_routes<T: RouteTable>(
 ) -> Result<(), Error>
     ensures ok { OnOk result
         (T.rows routes.new ≡ routes_after range port packet.now (T.rows routes.old)) }
+    ensures in_part { OnErr result (IsHeardInPart packet.now.router port
+        (tuples_of packet.now.written) (T.rows routes.old) (T.rows routes.new)) }
     ensures refused { IsOkUnless result Error.Memory }
 {
     if !is_neighbours(range, packet) {

@@ -1,6 +1,6 @@
 //! What a router learns from replies to its queries.
 
-ghost use Rattle.std.specs.Prelude.{◌≡◌, fold, if◌then◌else◌, OnOk, IsOkUnless};
+ghost use Rattle.std.specs.Prelude.{◌≡◌, fold, if◌then◌else◌, OnErr, OnOk, IsOkUnless};
 ghost use Rattle.zip_zones.specs.Answers.{after_name, after_reply, is_taken, range_heard};
 ghost use Rattle.zip_zones.specs.Zones.{heard};
 
@@ -24,6 +24,7 @@ pub(crate) fn range_of<T: RouteTable>(routes: &T, net: u16) -> Option<Range>
 fn take_name(zones: &mut ZoneTable, range: Range, total: u8, entry: &Entry) -> Result<(), Error>
     ensures ok { OnOk result (zones.new ≡ (if is_taken range total zones.old
         then heard range total entry.now.name zones.old else zones.old)) }
+    ensures stays { OnErr result (zones.new ≡ zones.old) }
     ensures refused { IsOkUnless result Error.Memory }
 {
     match zones.add(range, total, &entry.name) {
@@ -41,6 +42,7 @@ fn learn_name<T: RouteTable>(
 ) -> Result<(), Error>
     ensures ok { OnOk result
         (zones.new ≡ after_name (T.rows routes.now) total zones.old entry.now) }
+    ensures stays { OnErr result (zones.new ≡ zones.old) }
     ensures refused { IsOkUnless result Error.Memory }
 {
     match range_of(routes, entry.net) {

@@ -4,3 +4,4 @@ pub mod Shape
 pub mod InPlace
 pub mod Sent
 pub mod Spelled
+mod Parts

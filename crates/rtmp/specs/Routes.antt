@@ -1,6 +1,6 @@
 -- Routing tables: finite maps from ranges to rows, and what each message and each moment does to them.
 -- (Inside AppleTalk, the chapter on RTMP)
-use Rattle.std.specs.Prelude.{ℕ, ◌+◌, ◌≤◌, Bool, true, false, not, ◌&&◌, ◌||◌, ◌==◌, IsTrue, List, [], ◌∷◌, length, map, filter, fold, find}
+use Rattle.std.specs.Prelude.{◌≡◌, ℕ, ◌+◌, ◌++◌, ◌≤◌, Bool, true, false, not, ◌&&◌, ◌||◌, ◌==◌, IsTrue, List, [], ◌∷◌, length, map, filter, fold, find}
 use Rattle.std.specs.Prelude.{Option, Some, None, nat_le, nat_lt, if◌then◌else◌}
 use Rattle.std.specs.List.{list_all, list_any}
 use Rattle.at_base.specs.declared.address.Addr.{Addr}
@@ -114,6 +114,13 @@ heard_within range t s port rows =
 -- what a packet of routing data from router s does to a table, tuple by tuple
 abbrev pub heard_packet : Addr → ℕ → List Tuple → List Row → List Row
 heard_packet s port tuples rows = fold (λ table t. heard_within t.range t.distance s port table) rows tuples
+
+-- Only the first of these tuples were heard.
+pub record IsHeardInPart (s : Addr) (port : ℕ) (tuples : List Tuple) (rows now : List Row) : Type 0 where
+  pub heard : List Tuple
+  pub left : List Tuple
+  pub whole : tuples ≡ heard ++ left
+  pub is : now ≡ heard_packet s port heard rows
 
 -- the state that follows
 abbrev pub older : State → State

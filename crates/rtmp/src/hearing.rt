@@ -1,8 +1,8 @@
 //! What a packet of routing data does to a routing table.
 
-ghost use Rattle.std.specs.Prelude.{◌≡◌, OnOk, IsOkUnless};
+ghost use Rattle.std.specs.Prelude.{◌≡◌, OnErr, OnOk, IsOkUnless};
 ghost use Rattle.rtmp.specs.Data.{tuples_of};
-ghost use Rattle.rtmp.specs.Routes.{heard_packet, heard_within};
+ghost use Rattle.rtmp.specs.Routes.{IsHeardInPart, heard_packet, heard_within};
 
 use crate::data::DataPacket;
 use crate::table::RouteTable;
@@ -18,6 +18,7 @@ fn hear_tuple<T: RouteTable>(
 ) -> Result<(), Error>
     ensures ok { OnOk result (T.rows table.new
         ≡ heard_within tuple.now.range tuple.now.distance source port (T.rows table.old)) }
+    ensures stays { OnErr result (T.rows table.new ≡ T.rows table.old) }
     ensures refused { IsOkUnless result Error.Memory }
 {
     match table.hear(tuple.range, tuple.distance, source, port) {
@@ -37,6 +38,8 @@ pub fn hear_packet<T: RouteTable>(
 ) -> Result<(), Error>
     ensures ok { OnOk result (T.rows table.new
         ≡ heard_packet packet.now.router port (tuples_of packet.now.written) (T.rows table.old)) }
+    ensures in_part { OnErr result (IsHeardInPart packet.now.router port
+        (tuples_of packet.now.written) (T.rows table.old) (T.rows table.new)) }
     ensures refused { IsOkUnless result Error.Memory }
 {
     let source = packet.router();

@@ -18,5 +18,5 @@ pub use laws::slices_have_bytes;
 pub use output::{Cause, Next, Output};
 pub use outputs::Outputs;
 pub use port_plan::PortPlan;
-pub use station::{MAX_MADE, Station};
+pub use station::Station;
 pub use way::Way;

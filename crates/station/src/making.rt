@@ -1,9 +1,10 @@
 //! The datagrams that a station makes.
 
-ghost use Rattle.std.specs.Prelude.{◌≡◌, ◌≤◌, ◌+◌, ◌∷◌, [], ◌++◌, ℕ, length, option_to_list};
-ghost use Rattle.std.specs.Prelude.{IfSome, IsOkUnless, OnOk};
+ghost use Rattle.std.specs.Prelude.{◌≡◌, ◌≤◌, ◌+◌, ◌∷◌, [], ◌++◌, ℕ, List, length, option_to_list};
+ghost use Rattle.std.specs.Prelude.{IfSome, IsOkUnless, OnErr, OnOk};
 ghost use Rattle.station.specs.Made.{AreMade, AreShort, IsWayIn};
 ghost use Rattle.station.specs.Ways.{replying};
+ghost use Rattle.station.specs.declared.output.Output.{Output as OutputValue};
 
 use crate::output::Output;
 use crate::way::Way;
@@ -17,6 +18,7 @@ pub fn put(made: &mut Vec<Output>, way: &Option<Way>, payload: &[u8]) -> Result<
     ensures few { OnOk result (length made.new.items ≤ length made.old.items + 1) }
     ensures good { OnOk result ((n : ℕ) → IsWayIn n way.now → AreMade n made.old.items
         → AreMade n made.new.items) }
+    ensures stays { OnErr result (made.new.items ≡ made.old.items) }
     ensures refused { IsOkUnless result Error.Memory }
 {
     match way {
@@ -36,6 +38,8 @@ pub fn put_all(made: &mut Vec<Output>, way: &Option<Way>, payloads: &[Bytes]) ->
     ensures few { OnOk result (length made.new.items ≤ length made.old.items + length payloads.now) }
     ensures good { OnOk result ((n : ℕ) → IsWayIn n way.now → AreMade n made.old.items
         → AreMade n made.new.items) }
+    ensures in_part { OnErr result
+        ((added : List OutputValue) × (made.new.items ≡ made.old.items ++ added)) }
     ensures refused { IsOkUnless result Error.Memory }
 {
     match payloads {
@@ -59,6 +63,7 @@ pub fn put_one(
     ensures few { OnOk result (length made.new.items ≤ length made.old.items + 1) }
     ensures good { OnOk result ((n : ℕ) → IsWayIn n way.now → AreMade n made.old.items
         → AreMade n made.new.items) }
+    ensures stays { OnErr result (made.new.items ≡ made.old.items) }
     ensures refused { IsOkUnless result Error.Memory }
 {
     match payload {

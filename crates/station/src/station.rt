@@ -7,9 +7,6 @@ use crate::heard::Heard;
 use crate::outputs::Outputs;
 use at_base::Error;
 
-/// The most datagrams and AARP packets that a station makes in one call. This project's own.
-pub const MAX_MADE: usize = 256;
-
 /// A station: a router or a node, with ports on cables.
 ///
 /// This project's own.
