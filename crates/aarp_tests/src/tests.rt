@@ -9,7 +9,7 @@ mod readme;
 
 use aarp::*;
 use at_base::Hw;
-use choosing::Step::{Answers, Has, Hears, Probes, SettlesIn};
+use choosing::Step::{Answers, Has, Hears, MayHave, Probes, SettlesIn};
 use choosing::{chooses, copy_goes_on, first_probe};
 use mapping::Step::{Asks, Holds, Learns, Looks, Releases, Waits};
 use mapping::{maps, maps_when_16_wait, maps_when_full};
@@ -85,7 +85,17 @@ fn without_an_address_to_try_the_first_one_is_tried(rt: HostRuntime) -> Result<(
 
 #[test]
 fn after_node_253_comes_the_next_network(rt: HostRuntime) -> Result<(), Fail> {
-    let last = [Hears(taken(at(11, 253))), Probes(Some(at(10, 1)))];
+    let last = [
+        // nodes are 1 to 253, of the networks 10 and 11
+        MayHave(at(10, 0), false),
+        MayHave(at(10, 1), true),
+        MayHave(at(11, 253), true),
+        MayHave(at(11, 254), false),
+        MayHave(at(9, 1), false),
+        MayHave(at(12, 1), false),
+        Hears(taken(at(11, 253))),
+        Probes(Some(at(10, 1))),
+    ];
     assert!(rt; chooses(rt.alloc(), 11, &[at(11, 253)], &last)?);
     let first = [Hears(taken(at(10, 253))), Probes(Some(at(11, 1)))];
     assert!(rt; chooses(rt.alloc(), 11, &[at(10, 253)], &first)?);
@@ -120,8 +130,14 @@ fn another_station_s_probe_is_a_conflict(rt: HostRuntime) -> Result<(), Fail> {
         stays,
         Hears(taken(at(11, 7))),
         stays,
+        // a request takes no address, also where its sender has this one
+        Hears(packet(Function::Request, OTHER, at(10, 7), at(10, 7))),
+        stays,
         Hears(packet(Function::Probe, OTHER, at(10, 7), at(10, 7))),
         Probes(Some(at(10, 8))),
+        // whoever responds from it, with whichever hardware address, has it
+        Hears(packet(Function::Response, OWN, at(10, 8), at(10, 99))),
+        Probes(Some(at(10, 9))),
     ];
     assert!(rt; chooses(rt.alloc(), 19, &[at(10, 7)], &steps)?);
     Ok(())
@@ -238,10 +254,12 @@ fn the_17th_datagram_gives_the_oldest_one_back(rt: HostRuntime) -> Result<(), Fa
 
 #[test]
 fn an_address_is_asked_for_ten_times(rt: HostRuntime) -> Result<(), Fail> {
-    let (none, nine): (&[u8], &[u8]) = (&[], &[9]);
-    let asked = Asks(nine, none);
+    let (none, both): (&[u8], &[u8]) = (&[], &[9, 8]);
+    let asked = Asks(both, none);
     let steps = [
         Holds(9, 1, None),
+        Holds(8, 2, None),
+        Holds(8, 3, None),
         asked,
         asked,
         asked,
@@ -251,8 +269,10 @@ fn an_address_is_asked_for_ten_times(rt: HostRuntime) -> Result<(), Fail> {
         asked,
         asked,
         asked,
-        Asks(none, nine),
+        // each once, and that of the oldest datagram first
+        Asks(none, both),
         Releases(9, None),
+        Releases(8, None),
     ];
     assert!(rt; maps(rt.alloc(), &steps)?);
     Ok(())

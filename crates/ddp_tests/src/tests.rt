@@ -181,11 +181,16 @@ fn a_sum_is_written_where_the_header_says_so(rt: HostRuntime) -> Result<(), Fail
     Ok(())
 }
 
+/// 599 is 0257. The nine bytes of the header after its checksum sum to 23B8; 585 zeros turn that by
+/// 585 bits, 9 beyond whole rounds, to 7047; a last byte of 1 makes 7048 of it, which is turned to
+/// E090.
 #[test]
 fn the_longest_data_is_586_bytes(rt: HostRuntime) -> Result<(), Fail> {
-    let data = [0u8; 587];
+    let mut data = [0u8; 587];
+    data[586] = 1;
     let bytes = write_again(rt.alloc(), &ping_header(true), &data[1..])?;
     assert_eq!(rt; View::read(bytes.as_slice())?.length(), 599);
+    assert!(rt; bytes.as_slice().starts_with([0x02, 0x57, 0xE0, 0x90].as_slice()));
     let longer = write_again(rt.alloc(), &ping_header(true), &data);
     assert!(rt; matches!(longer, Err(Error::TooLong)));
     Ok(())
@@ -249,10 +254,12 @@ fn the_shortest_datagram_has_no_data(rt: HostRuntime) -> Result<(), Fail> {
     Ok(())
 }
 
+/// An input may be longer than the longest datagram is.
 #[test]
 fn padding_is_no_part_of_the_data(rt: HostRuntime) -> Result<(), Fail> {
-    let mut bytes = [0x55; 19];
+    let mut bytes = [0x55; 600];
     bytes[..18].copy_from_slice(&PING);
+    assert_eq!(rt; View::read(&bytes[..19])?.payload(), &PING[13..]);
     assert_eq!(rt; View::read(&bytes)?.payload(), &PING[13..]);
     Ok(())
 }

@@ -28,7 +28,10 @@ use reading::{
 use readme::is_way_to;
 use rows::{FAR, NEAR, THREE};
 use rtmp::*;
-use sending::{ON_PORT_0, ON_PORT_1, OWN_RANGE, PERIODS, ages_so, is_outlined, sends_each};
+use sending::{
+    LONG_ON_PORT_0, LONG_WAYS, ON_PORT_0, ON_PORT_1, OWN_RANGE, PERIODS, ages_so, is_outlined,
+    sends_each,
+};
 use std::test::*;
 use whole::{
     has_room_for_200, has_room_for_a_cable, is_copied, is_found, is_found_after_a_period,
@@ -38,6 +41,7 @@ use whole::{
 
 // ---- What is sent
 
+/// Of a row that is usable its own distance is told, however great it is.
 #[test]
 fn a_router_sends_its_cable_and_the_rows_of_its_other_ports(rt: HostRuntime) -> Result<(), Fail> {
     let sent = [
@@ -46,6 +50,8 @@ fn a_router_sends_its_cable_and_the_rows_of_its_other_ports(rt: HostRuntime) -> 
         (0, 0xFFFF, None),
     ];
     assert!(rt; sends_each(rt.alloc(), &THREE, &sent)?);
+    let far = [(0, 0, Some(LONG_ON_PORT_0.as_slice()))];
+    assert!(rt; sends_each(rt.alloc(), &LONG_WAYS, &far)?);
     Ok(())
 }
 

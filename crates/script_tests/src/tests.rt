@@ -133,7 +133,8 @@ fn a_request_is_cut_at_its_first_colon_and_its_last_at_sign(rt: HostRuntime) -> 
         (b"a:b@", [b"a", b"b", b""]),
         (b"x@y:z@w", [b"x@y", b"z", b"w"]),
         (b"a:@@", [b"a", b"@", b""]),
-        (b"a::@b", [b"a", b":", b"b"]),
+        // A name ends with its line, and not before a carriage return.
+        (b"a::@b\r", [b"a", b":", b"b\r"]),
         (
             b"the lab:Laser  Writer@Red Zone ",
             [b"the lab", b"Laser  Writer", b"Red Zone "],

@@ -30,7 +30,8 @@ use zip_zones::ZoneFunction;
 
 // ---- Zone tables
 
-/// Doubles in any case aren't counted, a further name is ignored, another total starts again.
+/// Doubles in any case aren't counted, a further name is ignored, another total starts again, and
+/// of no zones there is no name.
 #[test]
 fn names_of_a_range_come_one_by_one(rt: HostRuntime) -> Result<(), Fail> {
     assert!(rt; adds_each(rt.alloc())?);
@@ -181,7 +182,7 @@ fn what_a_node_asks_and_is_told_of_its_cable(rt: HostRuntime) -> Result<(), Fail
     assert!(rt; has_unused(&[5, 1, 2, 3, 4, 5, 0, 9], [1, 2, 3, 4, 5]));
     assert!(rt; asks_nothing(&QUERY) && asks_nothing(&CABLE_10_19));
     assert!(rt; is_info(&CABLE_10_19));
-    assert!(rt; is_invalid(&INVALID_ZONE));
+    assert!(rt; is_invalid(0xA0) && is_invalid(0xC0) && is_invalid(0xE0));
     assert!(rt; is_cut_everywhere(&GET_NET_INFO));
     assert!(rt; is_cut_everywhere(&CABLE_10_19));
     assert!(rt; is_cut_everywhere(&INVALID_ZONE));

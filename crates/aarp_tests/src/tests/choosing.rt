@@ -18,6 +18,8 @@ pub(crate) enum Step {
     Has(Option<Addr>),
     /// It answers the packet so.
     Answers(Packet, Option<Packet>),
+    /// A station of its range may have the address, or may not.
+    MayHave(Addr, bool),
 }
 
 /// A chooser for a port on a cable of the networks from 10 on.
@@ -62,6 +64,7 @@ fn does(chooser: &mut Chooser, step: &Step) -> bool {
         Step::SettlesIn(ticks) => ticks_to_settle(chooser) == *ticks,
         Step::Has(addr) => chooser.settled() == *addr,
         Step::Answers(packet, answer) => chooser.answer(packet) == *answer,
+        Step::MayHave(addr, may) => are_on(chooser.range(), &[*addr]) == *may,
     }
 }
 

@@ -1,6 +1,6 @@
 //! What happens to a responder in the tests.
 
-use crate::tests::calls::{CLIENT, OTHER, SERVER};
+use crate::tests::calls::{CLIENT, FAR_CLIENT, OTHER, SERVER};
 use crate::tests::responding::{Act, NONE};
 use at_base::Error;
 use atp::Todo;
@@ -47,6 +47,7 @@ pub(crate) const SCENARIOS: [(&str, &[Act<'static>]); 7] = [
             Act::Hears(CLIENT, 1, 0x60, 1, Ok(Todo::Ask)),
             Act::Hears(OTHER, 1, 0x60, 1, Ok(Todo::Ask)),
             Act::Hears(SERVER, 1, 0x60, 1, Ok(Todo::Ask)),
+            Act::Hears(FAR_CLIENT, 1, 0x60, 1, Ok(Todo::Ask)),
             Act::Responds(CLIENT, 1, 1, Ok(&[(0x90, 0)])),
             Act::Hears(OTHER, 1, 0x60, 1, Ok(Todo::Wait)),
             Act::Responds(OTHER, 1, 1, Ok(&[(0x90, 0)])),
@@ -55,6 +56,7 @@ pub(crate) const SCENARIOS: [(&str, &[Act<'static>]); 7] = [
             Act::Hears(CLIENT, 1, 0x60, 1, Ok(Todo::Again)),
             Act::Hears(OTHER, 1, 0x60, 1, Ok(Todo::Ask)),
             Act::Hears(SERVER, 1, 0x60, 1, Ok(Todo::Wait)),
+            Act::Hears(FAR_CLIENT, 1, 0x60, 1, Ok(Todo::Wait)),
             // a response is no request
             Act::Hears(SERVER, 9, 0xA0, 1, Ok(Todo::Nothing)),
             Act::Responds(SERVER, 9, 1, Err(NONE)),

@@ -1,6 +1,7 @@
-//! What happens to a requester in the tests.
+//! What happens to a requester in the tests. The control byte of its requests is 40; to be carried
+//! out once 65, with bit 20 and 5 for how long the answer is to be kept.
 
-use crate::tests::calls::{SAME_NODE, SAME_SOCKET};
+use crate::tests::calls::{FAR_SERVER, SAME_NODE, SAME_SOCKET};
 use crate::tests::requesting::Step;
 use at_base::Error;
 
@@ -12,7 +13,7 @@ pub(crate) const SCENARIOS: [(&str, u16, &[Step<'static>]); 12] = [
         &[
             Step::Begins(3, true, 1),
             Step::Due(Some(1)),
-            Step::Sends(1, 0x60, 7),
+            Step::Sends(1, 0x65, 7),
             Step::Due(None),
             Step::Hears(1, 0x80, 0, 10),
             Step::Hears(1, 0x90, 2, 12),
@@ -20,7 +21,7 @@ pub(crate) const SCENARIOS: [(&str, u16, &[Step<'static>]); 12] = [
             Step::Due(None),
             Step::Ticks(1),
             Step::Due(Some(1)),
-            Step::Sends(1, 0x60, 2),
+            Step::Sends(1, 0x65, 2),
             Step::Releases(1, 0x80, 1, 11),
             Step::Completes(1, &[10, 11, 12]),
             Step::Unknown(1),
@@ -75,9 +76,10 @@ pub(crate) const SCENARIOS: [(&str, u16, &[Step<'static>]); 12] = [
         1,
         &[
             Step::Begins(2, true, 1),
-            Step::Sends(1, 0x60, 3),
+            Step::Sends(1, 0x65, 3),
             Step::HearsFrom(SAME_NODE, 0x90, 0, 1),
             Step::HearsFrom(SAME_SOCKET, 0x90, 0, 1),
+            Step::HearsFrom(FAR_SERVER, 0x90, 0, 1),
             Step::Hears(2, 0x90, 0, 1),
             // a request and a release with the same number
             Step::Hears(1, 0x50, 0, 1),
@@ -87,7 +89,7 @@ pub(crate) const SCENARIOS: [(&str, u16, &[Step<'static>]); 12] = [
             Step::Due(None),
             Step::Waits(1),
             Step::Ticks(2),
-            Step::Sends(1, 0x60, 3),
+            Step::Sends(1, 0x65, 3),
         ],
     ),
     (
@@ -224,7 +226,7 @@ pub(crate) const BEFORE_A_COPY: [Step<'static>; 3] = [
 /// The other part comes, to the copy alone.
 pub(crate) const ON_THE_COPY: [Step<'static>; 5] = [
     Step::Due(Some(1)),
-    Step::Sends(2, 0x60, 2),
+    Step::Sends(2, 0x65, 2),
     Step::Releases(2, 0x90, 1, 11),
     Step::Completes(2, &[10, 11]),
     Step::Begins(1, false, 3),

@@ -25,6 +25,12 @@ pub(crate) const SAME_SOCKET: Peer = Peer {
     socket: 6,
 };
 
+/// The same node and socket of another network.
+pub(crate) const FAR_SERVER: Peer = Peer {
+    addr: Addr { net: 20, node: 1 },
+    socket: 6,
+};
+
 /// Who asks.
 pub(crate) const CLIENT: Peer = Peer {
     addr: Addr { net: 10, node: 7 },
@@ -37,8 +43,20 @@ pub(crate) const OTHER: Peer = Peer {
     socket: 129,
 };
 
-/// The user bytes of each packet here.
+/// The same node and socket of another network.
+pub(crate) const FAR_CLIENT: Peer = Peer {
+    addr: Addr { net: 20, node: 7 },
+    socket: 128,
+};
+
+/// The user bytes of each request here, and of what the responder sends.
 pub(crate) const USER: [u8; 4] = [8, 0, 0, 1];
+
+/// The user bytes of what the requester is answered.
+pub(crate) const ANSWER_USER: [u8; 4] = [1, 0, 0, 2];
+
+/// How long answers are to be kept: 8 minutes, which 4 to 7 mean.
+const RELEASE: u8 = 5;
 
 fn copied(alloc: Global, bytes: &[u8]) -> Result<Bytes, Error> {
     match Bytes::copy(alloc, bytes) {
@@ -65,7 +83,7 @@ pub(crate) fn ask(alloc: Global, parts: u8, once: bool, data: &[u8]) -> Result<A
         socket: SERVER.socket,
         parts,
         exactly_once: once,
-        release: 0,
+        release: RELEASE,
         user: USER,
         payload: copied(alloc, data)?,
         every: 2,
@@ -73,7 +91,7 @@ pub(crate) fn ask(alloc: Global, parts: u8, once: bool, data: &[u8]) -> Result<A
     })
 }
 
-/// Begins a transaction without data, for 1 to 8 parts.
+/// Begins a transaction with the data "hi", for 1 to 8 parts.
 pub(crate) fn begin_again(
     alloc: Global,
     requester: &mut Requester,
@@ -83,7 +101,7 @@ pub(crate) fn begin_again(
     if parts < 1 || 8 < parts {
         return Err(Error::TooLong);
     }
-    requester.begin(ask(alloc, parts, once, &[])?)
+    requester.begin(ask(alloc, parts, once, b"hi")?)
 }
 
 /// The bytes of the request that is due.

@@ -1,13 +1,13 @@
 //! What happens to a requester, step by step, and what is to come of each step.
 
-use crate::tests::calls::{SERVER, begin_again, requested, requester};
+use crate::tests::calls::{ANSWER_USER, SERVER, begin_again, requested, requester};
 use crate::tests::long::{begin_all, begin_with, goes_round};
 use at_base::{Error, What};
 use atp::{Outcome, Packet, Peer, Requester, Response};
 use std::alloc::Global;
 
 /// A step, and what is to come of it. Packets are told by their numbers, control bytes, and bitmaps
-/// or parts; a response has one byte of data.
+/// or parts; a request has the data "hi", and a response one byte.
 #[derive(Clone, Copy, Debug)]
 pub(crate) enum Step<'a> {
     /// A transaction for so many parts, to be carried out once or not, begins with this number.
@@ -49,7 +49,8 @@ fn hears(
     [id, control, part, byte]: [u8; 4],
     released: bool,
 ) -> Result<bool, Error> {
-    let bytes = [control, part, 0, id, 8, 0, 0, 1, byte];
+    let [a, b, c, d] = ANSWER_USER;
+    let bytes = [control, part, 0, id, a, b, c, d, byte];
     let packet = Packet::read(&bytes)?;
     let sent = match requester.heard(from, &packet) {
         Err(Error::Memory) => requester.heard(from, &packet)?,
@@ -61,11 +62,13 @@ fn hears(
     })
 }
 
-/// Whether the response has these parts of one byte each, in order.
+/// Whether the response has these parts of one byte each, in order, with their own user bytes.
 fn has_parts(response: &Response, bytes: &[u8]) -> bool {
     for (index, byte) in bytes.iter().enumerate() {
         let right = match response.get(index) {
-            Some(part) => part.payload.as_slice() == [*byte].as_slice(),
+            Some(part) => {
+                part.user == ANSWER_USER && part.payload.as_slice() == [*byte].as_slice()
+            }
             None => false,
         };
         if !right {
@@ -96,7 +99,7 @@ fn goes(alloc: Global, requester: &mut Requester, step: &Step<'_>) -> Result<boo
         Step::Due(id) => Ok(requester.due() == id),
         Step::Sends(id, control, bitmap) => {
             let sent = requested(requester, u16::from(id))?;
-            Ok(sent.as_slice() == [control, bitmap, 0, id, 8, 0, 0, 1].as_slice())
+            Ok(sent.as_slice() == [control, bitmap, 0, id, 8, 0, 0, 1, b'h', b'i'].as_slice())
         }
         Step::SendsNone(id) => {
             let refused = requester.request(id);

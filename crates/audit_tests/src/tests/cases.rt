@@ -69,7 +69,7 @@ pub(crate) const CABLE_ORDER: [Case; 8] = [
 ];
 
 /// Addresses that fit a cable, and hardware addresses of one station.
-pub(crate) const STATIONS: [Case; 18] = [
+pub(crate) const STATIONS: [Case; 19] = [
     // The last network of the cable, the one above it, the one below the first.
     (
         &[
@@ -87,7 +87,7 @@ pub(crate) const STATIONS: [Case; 18] = [
         "no: C2 router 1 port 1",
     ),
     (&[(at::NODE_1_NETWORK, 20)], "no: C2 node 1"),
-    // The nodes 0, 253 and 254; an odd first byte, an odd second one; of a port, of a node.
+    // The nodes 0, 253, 254 and 255; an odd first byte, an odd second one; of a port, of a node.
     (&[(at::ROUTER_1_PORT_1_NODE, 0)], "no: C2 router 1 port 1"),
     (
         &[
@@ -97,6 +97,7 @@ pub(crate) const STATIONS: [Case; 18] = [
         YES,
     ),
     (&[(at::ROUTER_1_PORT_1_NODE, 254)], "no: C2 router 1 port 1"),
+    (&[(at::ROUTER_1_PORT_1_NODE, 255)], "no: C2 router 1 port 1"),
     (
         &[(at::ROUTER_1_PORT_1_HARDWARE_1, 3)],
         "no: C2 router 1 port 1",
@@ -131,8 +132,11 @@ pub(crate) const STATIONS: [Case; 18] = [
     ),
 ];
 
+/// The first of the six bytes of that port's hardware address.
+const ROUTER_2_PORT_1_HARDWARE_1: usize = at::ROUTER_2_PORT_1_HARDWARE_6 - 5;
+
 /// Addresses and hardware addresses of two stations.
-pub(crate) const TWO_STATIONS: [Case; 13] = [
+pub(crate) const TWO_STATIONS: [Case; 17] = [
     // Of two routers, an address, a hardware address, all but one byte of one.
     (&[(at::ROUTER_2_PORT_1_NODE, 1)], "no: C2 router 2 port 1"),
     (
@@ -143,6 +147,34 @@ pub(crate) const TWO_STATIONS: [Case; 13] = [
         &[
             (at::ROUTER_2_PORT_1_HARDWARE_6, 2),
             (at::ROUTER_2_PORT_1_HARDWARE_2, 1),
+        ],
+        YES,
+    ),
+    (
+        &[
+            (at::ROUTER_2_PORT_1_HARDWARE_6, 2),
+            (ROUTER_2_PORT_1_HARDWARE_1, 4),
+        ],
+        YES,
+    ),
+    (
+        &[
+            (at::ROUTER_2_PORT_1_HARDWARE_6, 2),
+            (ROUTER_2_PORT_1_HARDWARE_1 + 2, 1),
+        ],
+        YES,
+    ),
+    (
+        &[
+            (at::ROUTER_2_PORT_1_HARDWARE_6, 2),
+            (ROUTER_2_PORT_1_HARDWARE_1 + 3, 1),
+        ],
+        YES,
+    ),
+    (
+        &[
+            (at::ROUTER_2_PORT_1_HARDWARE_6, 2),
+            (ROUTER_2_PORT_1_HARDWARE_1 + 4, 1),
         ],
         YES,
     ),
@@ -174,12 +206,14 @@ pub(crate) const TWO_STATIONS: [Case; 13] = [
 ];
 
 /// States and ranges of rows, and the rows of a router's own cables.
-pub(crate) const ROWS: [Case; 14] = [
-    // The rows with a distance are Suspect; one is Bad, Last; its start, its end is no cable's.
+pub(crate) const ROWS: [Case; 15] = [
+    // The rows with a distance are Suspect, a direct row is; one is Bad, Last; its start, its end
+    // is no cable's.
     (
         &[(at::ROUTER_1_ROW_3_STATE, 1), (at::ROUTER_2_ROW_1_STATE, 1)],
         YES,
     ),
+    (&[(at::ROUTER_2_ROW_3_STATE, 1)], YES),
     (&[(at::ROUTER_1_ROW_3_STATE, 2)], "no: C3 router 1 row 3"),
     (&[(at::ROUTER_1_ROW_3_STATE, 3)], "no: C3 router 1 row 3"),
     (&[(at::ROUTER_1_ROW_3_START, 31)], "no: C3 router 1 row 3"),

@@ -10,8 +10,9 @@ use cable_model::{Cables, Entry, Found, Kind, Resolve, Seat};
 use station::Next;
 use std::alloc::Global;
 
-/// Two routers, stations 0 and 1, and a node on the first and on the last cable.
-pub(crate) const SEATS: [Seat; 6] = [
+/// Two routers, stations 0 and 1, a node on the first cable and two on the last. The last one has
+/// the last group, 252, and a hardware address that would be that of a group 253.
+pub(crate) const SEATS: [Seat; 7] = [
     Seat {
         cable: 0,
         station: 0,
@@ -54,6 +55,13 @@ pub(crate) const SEATS: [Seat; 6] = [
         hw: Hw([2, 0, 0, 0, 0, 6]),
         group: Some(118),
     },
+    Seat {
+        cable: 2,
+        station: 4,
+        port: 0,
+        hw: Hw([9, 0, 7, 0, 0, 253]),
+        group: Some(252),
+    },
 ];
 
 /// A datagram from 10.7 to 30.5.
@@ -72,32 +80,46 @@ pub(crate) const TARGET_HW: Hw = Hw([2, 0, 0, 0, 0, 6]);
 
 pub(crate) const ROUTER_HW: Hw = Hw([2, 0, 0, 0, 0, 1]);
 
-/// What is known of each station, and whether each network has a cable.
+/// What is known of one station, which is looked for on its cable and by its address alone, and the
+/// network that a cable has.
 #[derive(Clone, Copy)]
 pub(crate) struct Place {
+    pub(crate) cable: u8,
+    pub(crate) addr: Addr,
     pub(crate) found: Found,
-    pub(crate) is_listed: bool,
+    pub(crate) listed: u16,
 }
 
 impl Resolve for Place {
-    ghost finds = { λ place cable addr. place.found };
+    ghost use Rattle.std.specs.Prelude.{◌==◌, ◌&&◌, if◌then◌else◌};
+    ghost use Rattle.at_base.specs.Address.{same_address};
+    ghost use Rattle.cable_model.specs.declared.resolve.Found.TheVariants.{Nobody};
 
-    ghost lists = { λ place net. place.is_listed };
+    ghost finds = { λ place cable addr.
+        if cable == place.cable && same_address addr place.addr then place.found else Nobody };
 
-    fn find(&self, _cable: u8, _addr: Addr) -> Found {
-        self.found
+    ghost lists = { λ place net. net == place.listed };
+
+    fn find(&self, cable: u8, addr: Addr) -> Found {
+        if cable == self.cable && addr == self.addr {
+            self.found
+        } else {
+            Found::Nobody
+        }
     }
 
-    fn listed(&self, _net: u16) -> bool {
-        self.is_listed
+    fn listed(&self, net: u16) -> bool {
+        net == self.listed
     }
 }
 
-/// A place where each station has the hardware address.
-pub(crate) fn at(hw: Hw) -> Place {
+/// A place where this is known of the station, and the target's network has a cable.
+pub(crate) fn knows(cable: u8, addr: Addr, found: Found) -> Place {
     Place {
-        found: Found::At(hw),
-        is_listed: true,
+        cable,
+        addr,
+        found,
+        listed: TARGET.net,
     }
 }
 

@@ -10,8 +10,13 @@ const RED: Hw = Hw([9, 0, 7, 0, 0, 56]);
 
 const NOBODY: Hw = Hw([9, 0, 7, 0, 0, 57]);
 
-/// A frame to all is for each station of the cable but its sender, one to a group for that group's
-/// nodes, and one to a station for it alone.
+/// The last group, 252, and the hardware address after it, which is a station's.
+const LAST: Hw = Hw([9, 0, 7, 0, 0, 252]);
+
+const NO_GROUP: Hw = Hw([9, 0, 7, 0, 0, 253]);
+
+/// A frame to all is for each station of the cable but its sender, the least one first; one to a
+/// group for that group's nodes; and one to a station for it alone, also where it is the sender.
 pub(crate) fn frames_are_heard_by_whom_they_are_for(alloc: Global) -> Result<bool, Error> {
     let cases = [
         (1, 0, Hw::ALL, 1, Some(1)),
@@ -23,6 +28,10 @@ pub(crate) fn frames_are_heard_by_whom_they_are_for(alloc: Global) -> Result<boo
         (0, 0, NOBODY, 0, None),
         (0, 2, ROUTER_HW, 1, Some(0)),
         (1, 1, ROUTER_HW, 0, None),
+        (2, 1, Hw::ALL, 2, Some(3)),
+        (2, 1, LAST, 1, Some(4)),
+        (2, 1, NO_GROUP, 1, Some(4)),
+        (2, 4, NO_GROUP, 1, Some(4)),
     ];
     for (cable, sender, to, count, hearer) in cases {
         let mut cables = cables_for(alloc, 800)?;

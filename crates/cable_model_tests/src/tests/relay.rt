@@ -3,16 +3,17 @@
 ghost use Rattle.std.specs.Prelude.{◌≡◌, ◌∷◌, [], IfOk, IsOkUnless, length, ◌≤◌};
 ghost use Rattle.station.specs.Lawful.{AreLawful, IsGood, IsNext, IsWhole, PutsOut};
 
-use crate::tests::lab::TARGET;
-use at_base::{Bytes, Error};
+use crate::tests::lab::{TARGET, TARGET_HW};
+use aarp::{Function, Packet};
+use at_base::{Addr, Bytes, Error, Hw};
 use cable_model::Cause;
 use ddp::View;
-use station::frames::read_datagram;
+use station::frames::{read_datagram, wire};
 use station::{Heard, Next, Output, Outputs, Station, slices_have_bytes};
 use std::alloc::Global;
 
 /// What a relay does with a datagram.
-#[derive(Clone, Copy, PartialEq, Eq)]
+#[derive(Clone, Copy)]
 pub(crate) enum Act {
     /// It passes it to its target on port 1.
     Pass,
@@ -22,6 +23,8 @@ pub(crate) enum Act {
     Drop,
     /// It makes the same for all on port 0, and for its target on port 1.
     Make,
+    /// It puts an AARP packet for the target's hardware address out on port 1.
+    Answer,
 }
 
 /// The station.
@@ -82,15 +85,35 @@ fn two(alloc: Global, view: &View<'_>) -> Result<Vec<Output>, Error>
     Ok(made)
 }
 
+/// A response from 20.1 to the target.
+const RESPONSE: Packet = Packet {
+    function: Function::Response,
+    source_hw: Hw([2, 0, 0, 0, 0, 2]),
+    source: Addr { net: 20, node: 1 },
+    target_hw: TARGET_HW,
+    target: TARGET,
+};
+
+/// The AARP packet is put out.
+fn answered(alloc: Global) -> Result<Vec<Output>, Error>
+    ensures lawful { IfOk result (λ made. AreLawful 2 made.items) }
+    ensures refused { IsOkUnless result Error.Memory }
+{
+    let output = wire(alloc, 1, &RESPONSE)?;
+    let mut made = Vec::new(alloc);
+    made.push(output)?;
+    Ok(made)
+}
+
 impl Relay {
     fn made(&self, view: &View<'_>) -> Result<Vec<Output>, Error>
         ensures lawful { IfOk result (λ made. AreLawful 2 made.items) }
         ensures refused { IsOkUnless result Error.Memory }
     {
-        if self.act == Act::Make {
-            two(self.alloc, view)
-        } else {
-            one(self.alloc, self.act, view)
+        match self.act {
+            Act::Make => two(self.alloc, view),
+            Act::Answer => answered(self.alloc),
+            act => one(self.alloc, act, view),
         }
     }
 }

@@ -3,7 +3,7 @@
 ghost use Rattle.station.specs.Lawful.{IsNext};
 
 use crate::tests::lab::{
-    PING, Place, ROUTER, ROUTER_HW, TARGET, TARGET_HW, at, cables_for, says, send,
+    PING, Place, ROUTER, ROUTER_HW, TARGET, TARGET_HW, cables_for, knows, says, send,
 };
 use at_base::{Error, Hw, What};
 use cable_model::{Entry, Found, How, Kind};
@@ -47,11 +47,8 @@ fn framed(cable: u8, sender: u16, to: Hw) -> Entry {
 /// the target.
 fn is_sent(alloc: Global, found: Found, entries: &[Entry]) -> Result<bool, Error> {
     let mut cables = cables_for(alloc, 3)?;
-    let place = Place {
-        found,
-        is_listed: true,
-    };
-    send(alloc, &mut cables, 2, 1, Next::Station(TARGET), place)?;
+    let there = knows(2, TARGET, found);
+    send(alloc, &mut cables, 2, 1, Next::Station(TARGET), there)?;
     Ok(says(&cables, entries))
 }
 
@@ -70,11 +67,8 @@ pub(crate) fn targets_are_reached(alloc: Global) -> Result<bool, Error> {
 /// Whether the node that sends the datagram to its router adds these.
 fn is_sent_on(alloc: Global, found: Found, entries: &[Entry]) -> Result<bool, Error> {
     let mut cables = cables_for(alloc, 3)?;
-    let place = Place {
-        found,
-        is_listed: true,
-    };
-    send(alloc, &mut cables, 0, 2, Next::Station(ROUTER), place)?;
+    let there = knows(0, ROUTER, found);
+    send(alloc, &mut cables, 0, 2, Next::Station(ROUTER), there)?;
     Ok(says(&cables, entries))
 }
 
@@ -91,10 +85,7 @@ pub(crate) fn routers_get_a_frame(alloc: Global) -> Result<bool, Error> {
 /// What is held waits, with its port and its bytes, until something else is sent.
 pub(crate) fn datagrams_wait(alloc: Global) -> Result<bool, Error> {
     let mut cables = cables_for(alloc, 6)?;
-    let later = Place {
-        found: Found::Later,
-        is_listed: true,
-    };
+    let later = knows(2, TARGET, Found::Later);
     send(alloc, &mut cables, 2, 1, Next::Station(TARGET), later)?;
     let waits = match cables.waiting() {
         [held] => held.port == 1
@@ -103,42 +94,35 @@ pub(crate) fn datagrams_wait(alloc: Global) -> Result<bool, Error> {
         _ => false,
     };
     let none = cables.pending_count() == 0;
-    send(
-        alloc,
-        &mut cables,
-        2,
-        1,
-        Next::Station(TARGET),
-        at(TARGET_HW),
-    )?;
+    let there = knows(2, TARGET, Found::At(TARGET_HW));
+    send(alloc, &mut cables, 2, 1, Next::Station(TARGET), there)?;
     Ok(waits && none && cables.waiting().is_empty() && cables.pending(0, 3))
 }
 
-/// Whether the last router that sends the datagram to several adds these, for the node there.
-fn are_sent(alloc: Global, next: Next, is_listed: bool, entries: &[Entry]) -> Result<bool, Error>
+/// Whether the last router that sends the datagram to several adds these, for the node there, where
+/// a cable has this network.
+fn are_sent(alloc: Global, next: Next, listed: u16, entries: &[Entry]) -> Result<bool, Error>
     requires { IsNext next }
 {
     let mut cables = cables_for(alloc, 3)?;
     let place = Place {
-        found: Found::Nobody,
-        is_listed,
+        listed,
+        ..knows(2, TARGET, Found::Nobody)
     };
     send(alloc, &mut cables, 2, 1, next, place)?;
     Ok(says(&cables, entries) && cables.first() == Some((0, 3)))
 }
 
-/// One to all reaches the cable of a listed network, and one to a group is a frame alone.
+/// One to all reaches the cable of its target's network, 30, where one has it, whatever has that of
+/// its source, 10; and one to a group is a frame alone.
 pub(crate) fn several_are_sent_to(alloc: Global) -> Result<bool, Error> {
     let frame = framed(2, 1, Hw::ALL);
     let blue = framed(2, 1, Hw([9, 0, 7, 0, 0, 118]));
+    let reaches = [SENT_FAR, reached(How::All), frame];
     Ok(
-        are_sent(
-            alloc,
-            Next::All,
-            true,
-            &[SENT_FAR, reached(How::All), frame],
-        )? && are_sent(alloc, Next::All, false, &[SENT_FAR, frame])?
-            && are_sent(alloc, Next::Group(118), true, &[SENT_FAR, blue])?,
+        are_sent(alloc, Next::All, 30, &reaches)?
+            && are_sent(alloc, Next::All, 10, &[SENT_FAR, frame])?
+            && are_sent(alloc, Next::Group(118), 30, &[SENT_FAR, blue])?,
     )
 }
 
@@ -152,7 +136,7 @@ fn refuses(alloc: Global, limit: u32, cable: u8, station: u16, want: Error) -> R
         cable,
         station,
         Next::Station(ROUTER),
-        at(ROUTER_HW),
+        knows(0, ROUTER, Found::At(ROUTER_HW)),
     );
     Ok(sent == Err(want) && cables.transcript().is_empty())
 }

@@ -3,7 +3,7 @@
 ghost use Rattle.std.specs.Prelude.{◌≡◌, IfOk};
 ghost use Rattle.cable_model.specs.Outcomes.{AreSeatsOf};
 
-use crate::tests::lab::{PING, Place, ROUTER_HW, TARGET, TARGET_HW, at, cables_for, put, says};
+use crate::tests::lab::{PING, Place, ROUTER_HW, TARGET, TARGET_HW, cables_for, knows, put, says};
 use crate::tests::relay::{Act, Relay};
 use at_base::{Error, Hw};
 use cable_model::{Cables, Cause, Entry, Found, How, Kind};
@@ -76,17 +76,27 @@ fn is_taken(alloc: Global, act: Act, place: Place, entries: &[Entry]) -> Result<
 
 /// What a router puts out follows the entry that it took the frame.
 pub(crate) fn outputs_follow(alloc: Global) -> Result<bool, Error> {
-    let place = at(TARGET_HW);
+    let there = knows(1, TARGET, Found::At(TARGET_HW));
     let passed = [FRAME, TOOK, reached(How::Station), framed(1, TARGET_HW, 1)];
     let dropped = Entry::Dropped {
         router: 0,
         cause: Cause::NoRoute,
         bytes: 1,
     };
+    // an AARP packet is no datagram, and so isn't sent
+    let answered = Entry::Put {
+        stamp: 1,
+        cable: 1,
+        sender: 0,
+        to: TARGET_HW,
+        kind: Kind::Aarp,
+        bytes: 1,
+    };
     Ok(
-        is_taken(alloc, Act::Pass, place, &passed)?
-            && is_taken(alloc, Act::Keep, place, &[FRAME, TOOK, reached(How::Own)])?
-            && is_taken(alloc, Act::Drop, place, &[FRAME, TOOK, dropped])?,
+        is_taken(alloc, Act::Pass, there, &passed)?
+            && is_taken(alloc, Act::Keep, there, &[FRAME, TOOK, reached(How::Own)])?
+            && is_taken(alloc, Act::Drop, there, &[FRAME, TOOK, dropped])?
+            && is_taken(alloc, Act::Answer, there, &[FRAME, TOOK, answered])?,
     )
 }
 
@@ -137,12 +147,10 @@ pub(crate) fn two_are_made(alloc: Global) -> Result<bool, Error> {
     let mut entries = [FRAME; 8];
     entries[1] = TOOK;
     entries[2..].copy_from_slice(&MADE);
-    let nobody = Place {
-        found: Found::Nobody,
-        is_listed: true,
-    };
+    let there = knows(1, TARGET, Found::At(TARGET_HW));
+    let nobody = knows(1, TARGET, Found::Nobody);
     Ok(
-        is_taken(alloc, Act::Make, at(TARGET_HW), &entries)?
+        is_taken(alloc, Act::Make, there, &entries)?
             && is_taken(
                 alloc,
                 Act::Pass,
@@ -160,7 +168,8 @@ fn fits(alloc: Global, limit: u32) -> Result<bool, Error> {
         alloc,
         act: Act::Drop,
     };
-    let taken = take(&mut cables, 0, &mut relay, at(TARGET_HW));
+    let there = knows(1, TARGET, Found::At(TARGET_HW));
+    let taken = take(&mut cables, 0, &mut relay, there);
     Ok(taken == Ok(()) && !cables.pending(0, 0))
 }
 
@@ -170,8 +179,9 @@ fn is_full(alloc: Global, limit: u32) -> Result<bool, Error> {
         alloc,
         act: Act::Drop,
     };
-    let taken = take(&mut cables, 0, &mut relay, at(TARGET_HW));
-    let other = take(&mut cables, 9, &mut relay, at(TARGET_HW)) == Err(Error::NotPending);
+    let there = knows(1, TARGET, Found::At(TARGET_HW));
+    let taken = take(&mut cables, 0, &mut relay, there);
+    let other = take(&mut cables, 9, &mut relay, there) == Err(Error::NotPending);
     Ok(taken == Err(Error::Full) && other && cables.pending(0, 0))
 }
 
@@ -187,10 +197,7 @@ pub(crate) fn passed_datagrams_wait(alloc: Global) -> Result<bool, Error> {
         alloc,
         act: Act::Pass,
     };
-    let later = Place {
-        found: Found::Later,
-        is_listed: true,
-    };
+    let later = knows(1, TARGET, Found::Later);
     take(&mut cables, 0, &mut relay, later)?;
     let waits = match cables.waiting() {
         [held] => held.port == 1 && held.next == TARGET && held.bytes == 1,

@@ -30,12 +30,13 @@ pub(crate) fn run_of(alloc: Global, limit: u32) -> Result<Frozen<PlainTable>, Er
     Frozen::start(alloc, image, limit)
 }
 
-/// A sending of 10.7's from socket 128, without a checksum.
+/// A sending of 10.7's from socket 128.
 pub(crate) fn sending(
     alloc: Global,
     target: Addr,
     socket: u8,
     kind: u8,
+    summed: bool,
     payload: &[u8],
 ) -> Result<Event, Error> {
     Ok(Event::Send {
@@ -45,14 +46,14 @@ pub(crate) fn sending(
         target_socket: socket,
         source_socket: 128,
         kind,
-        summed: false,
+        summed,
         payload: Bytes::copy(alloc, payload)?,
     })
 }
 
-/// The echo that 10.7 asks 30.5 for.
+/// The echo that 10.7 asks 30.5 for, without a checksum.
 fn echo(alloc: Global) -> Result<Event, Error> {
-    sending(alloc, PRINTER, 4, 4, &PING)
+    sending(alloc, PRINTER, 4, 4, false, &PING)
 }
 
 /// A run in which 10.7 has asked 30.5 for an echo.

@@ -38,12 +38,19 @@ pub(crate) fn names_are_looked_up_where_the_zone_is(alloc: Global) -> Result<boo
     Ok(asked && done && run.transcript().len() == 21 && reached(&run, 0) == 2)
 }
 
-/// A datagram to an address that no station has reaches its cable, and no frame is put for it.
+/// A datagram to an address that no station has goes to the router with its checksum and reaches
+/// its cable, and no further frame is put for it.
 pub(crate) fn nobody_is_absent(alloc: Global) -> Result<bool, Error> {
     let mut run = run_of(alloc, 1000)?;
-    run.event(&sending(alloc, Addr { net: 10, node: 9 }, 128, 128, &[])?)?;
+    let nobody = Addr { net: 10, node: 9 };
+    run.event(&sending(alloc, nobody, 128, 128, true, &[])?)?;
+    // The sums of the nine bytes, each rotated: 0, 14, 28, 64, DA, 1C2, 484, A08, 1510.
+    let asked = [
+        0x00, 0x0D, 0x15, 0x10, 0x00, 0x0A, 0x00, 0x0A, 0x09, 0x07, 0x80, 0x80, 0x80,
+    ];
+    let put = is_put(&run, 0, 0, &asked);
     let done = run.drain(100)?;
-    Ok(done && reached(&run, 0) == 1 && run.transcript().len() == 4)
+    Ok(put && done && reached(&run, 0) == 1 && run.transcript().len() == 4)
 }
 
 /// A frame is taken once.
@@ -72,11 +79,12 @@ fn taken_within(alloc: Global, limit: u32) -> Result<(bool, usize), Error> {
 }
 
 /// With room for 771 entries a taking is made; with less it is refused, and its frame is pending
-/// still.
+/// still. The sending before it needs room for 3.
 pub(crate) fn a_taking_needs_room(alloc: Global) -> Result<bool, Error> {
     let wide = taken_within(alloc, 773)?;
     let narrow = taken_within(alloc, 772)?;
-    Ok(!wide.0 && narrow.0 && narrow.1 == 1)
+    let least = taken_within(alloc, 3)?;
+    Ok(!wide.0 && narrow == (true, 1) && least == (true, 1))
 }
 
 /// Whether an event is refused for this reason in a run in which nothing has happened, and nothing
@@ -89,13 +97,13 @@ fn is_refused(alloc: Global, event: &Event, why: Error) -> Result<bool, Error> {
 
 /// Nobody on the cable alone has a single node's address.
 pub(crate) fn network_0_has_no_single_node(alloc: Global) -> Result<bool, Error> {
-    let event = sending(alloc, Addr { net: 0, node: 5 }, 4, 4, &[])?;
+    let event = sending(alloc, Addr { net: 0, node: 5 }, 4, 4, false, &[])?;
     is_refused(alloc, &event, Error::NoSuch(What::Station))
 }
 
 /// A datagram has at most 586 bytes of data.
 pub(crate) fn long_data_are_refused(alloc: Global) -> Result<bool, Error> {
-    let event = sending(alloc, PRINTER, 4, 4, &[0; 587])?;
+    let event = sending(alloc, PRINTER, 4, 4, false, &[0; 587])?;
     is_refused(alloc, &event, Error::TooLong)
 }
 
@@ -105,7 +113,8 @@ pub(crate) fn strangers_ask_nothing(alloc: Global) -> Result<bool, Error> {
     is_refused(alloc, &event, Error::NoSuch(What::Node))
 }
 
-/// The router's address on the next cable isn't one on the node's.
+/// The router's address on the next cable isn't one on the node's, which is told before that the
+/// data are too long.
 pub(crate) fn routers_are_on_the_cable(alloc: Global) -> Result<bool, Error> {
     let event = Event::Send {
         node: ASKER,
@@ -115,7 +124,7 @@ pub(crate) fn routers_are_on_the_cable(alloc: Global) -> Result<bool, Error> {
         source_socket: 128,
         kind: 4,
         summed: false,
-        payload: Bytes::copy(alloc, &[])?,
+        payload: Bytes::copy(alloc, &[0; 587])?,
     };
     is_refused(alloc, &event, Error::NoSuch(What::Router))
 }

@@ -100,6 +100,8 @@ pub(crate) const CABLES: [Place; 3] = [
             b"zones = ['a']\nrange.1 = 2\n",
             b"range = [1, 1]\nzones = ['a']\nname = 'a'\n",
             b"range = [1, 1]\nZones = ['a']\n",
+            // In another case it is another key.
+            b"range = [1, 1]\nzones = ['a']\nZones = ['a']\n",
             b"range = [1, 1]\nzones = ['a']\n'' = 1\n",
         ],
     },

@@ -178,8 +178,9 @@ pub(crate) const ORDERS: [Whole; 12] = [
 /// Files with as many entries as there may be, or one more.
 pub(crate) const LIMITS: [Whole; 12] = [
     (&[(1, TOP), (200, CABLE)], None),
+    // What is past the limit isn't looked at: the fault of the 202nd cable isn't told.
     (
-        &[(1, TOP), (201, CABLE), (1, BAD_ROUTER)],
+        &[(1, TOP), (201, CABLE), (1, BAD_CABLE), (1, BAD_ROUTER)],
         Some((Part::Cable, 201)),
     ),
     (

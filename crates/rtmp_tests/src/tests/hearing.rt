@@ -41,10 +41,13 @@ pub(crate) const AFTER_NEIGHBOUR: [Plain; 4] = [
     (40, 49, 3, 1, NEAR, State::Good),
 ];
 
-/// A new range at 14 and one at 15; then the first one at 15.
-pub(crate) const AT_THE_LIMIT: [Step; 3] = [
+/// A new range at 14 and one at 15; then the first one at 15, and again in its last state, from
+/// which it is bad anew.
+pub(crate) const AT_THE_LIMIT: [Step; 5] = [
     (Call::Hear(40, 49, 14, NEAR, 1), ADDED),
     (Call::Hear(50, 59, 15, NEAR, 1), IGNORED),
+    (Call::Hear(40, 49, 15, NEAR, 1), CHANGED),
+    (Call::Age, Answer::Nothing),
     (Call::Hear(40, 49, 15, NEAR, 1), CHANGED),
 ];
 

@@ -1,9 +1,9 @@
 //! Packets that a router sends.
 
 use super::again::{data_again, load_of};
-use super::rows::{Plain, THREE, many_again, table_of};
+use super::rows::{NEAR, Plain, THREE, many_again, table_of};
 use at_base::{Addr, Error, Range};
-use rtmp::{DataPacket, PlainTable, RouteTable};
+use rtmp::{DataPacket, PlainTable, RouteTable, State};
 use std::alloc::Global;
 
 /// The port, the number of the packet, and its bytes; `None` stands for no packet.
@@ -22,6 +22,19 @@ pub(crate) const ON_PORT_1: [u8; 16] = [
     0x00, 0x14, 0x08, 0x01, // network 20, a node of 8 bits, node 1
     0x00, 0x14, 0x80, 0x00, 0x1D, 0x82, // 20-29 at distance 0
     0x00, 0x0A, 0x80, 0x00, 0x13, 0x82, // 10-19 at distance 0
+];
+
+/// Ways that are long, to a good row and to a suspect one.
+pub(crate) const LONG_WAYS: [Plain; 2] = [
+    (30, 39, 15, 1, NEAR, State::Good),
+    (40, 49, 30, 1, NEAR, State::Suspect),
+];
+
+/// What a router with these rows sends on port 0.
+pub(crate) const LONG_ON_PORT_0: [u8; 22] = [
+    0x00, 0x0A, 0x08, 0x01, 0x00, 0x0A, 0x80, 0x00, 0x13, 0x82, // 10-19, then
+    0x00, 0x1E, 0x8F, 0x00, 0x27, 0x82, // 30-39 at distance 15
+    0x00, 0x28, 0x9E, 0x00, 0x31, 0x82, // 40-49 at distance 30
 ];
 
 /// What a router without rows sends on port 1.

@@ -148,10 +148,14 @@ pub(crate) const TWO_FAULTS: [Refused; 7] = [
 ];
 
 /// The offset of the byte that is changed, and the byte: what a field may just be.
-pub(crate) const THREE_LIMITS: [(usize, u8); 20] = [
+pub(crate) const THREE_LIMITS: [(usize, u8); 24] = [
     (FIRST_ROW_1 + ROW_DISTANCE, 31),
     (FIRST_ROW_1 + ROW_PORT, 1),
     (FIRST_PORT_1 + CABLE_INDEX, 2),
+    (FIRST_PORT_1 + NETWORK, 0xFF),
+    (FIRST_PORT_1 + NODE, 0),
+    (FIRST_PORT_1 + NODE, 0xFF), // whom a port may be is for the audit to say
+    (FIRST_PORT_1 + HARDWARE, 0xFF),
     (CABLE_1 + 3, 9), // a cable may end before it starts
     (FIRST_ROW_1, 0),
     (FIRST_ROW_1 + 1, 19), // which the next row is still above

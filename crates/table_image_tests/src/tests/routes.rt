@@ -2,34 +2,35 @@
 
 use super::again::read_again;
 use at_base::{Addr, Error, What};
-use example_images::three_cables;
-use example_images::three_cables::FIRST_ROW_1;
+use example_images::fields::ROW_STATE;
+use example_images::three_cables::{FIRST_ROW_1, FIRST_ROW_2, FIRST_ROW_3};
+use example_images::{put, three_cables};
 use rtmp::{Row, State};
 use std::alloc::Global;
 use table_image::Image;
 
-/// A good row: its range, distance, port and next router.
-type Wanted = (u16, u16, u8, u8, Addr);
+/// A row: its range, distance, port, next router and state.
+type Wanted = (u16, u16, u8, u8, Addr, State);
 
-/// The rows of the first of two routers.
+/// The rows of the first of two routers, where their states are 1, 2 and 3.
 const FIRST: [Wanted; 3] = [
-    (10, 19, 0, 0, Addr::NONE),
-    (20, 29, 0, 1, Addr::NONE),
-    (30, 39, 1, 1, Addr { net: 20, node: 2 }),
+    (10, 19, 0, 0, Addr::NONE, State::Suspect),
+    (20, 29, 0, 1, Addr::NONE, State::Bad),
+    (30, 39, 1, 1, Addr { net: 20, node: 2 }, State::Last),
 ];
 
 /// The rows of the second.
 const SECOND: [Wanted; 3] = [
-    (10, 19, 1, 0, Addr { net: 20, node: 1 }),
-    (20, 29, 0, 0, Addr::NONE),
-    (30, 39, 0, 1, Addr::NONE),
+    (10, 19, 1, 0, Addr { net: 20, node: 1 }, State::Good),
+    (20, 29, 0, 0, Addr::NONE, State::Good),
+    (30, 39, 0, 1, Addr::NONE, State::Good),
 ];
 
 fn is_row(row: &Row, want: &Wanted) -> bool {
-    let (start, end, distance, port, next) = *want;
+    let (start, end, distance, port, next, state) = *want;
     (row.range.start(), row.range.end()) == (start, end)
         && (row.distance, row.port, row.next) == (distance, port, next)
-        && row.state == State::Good
+        && row.state == state
 }
 
 fn are_rows(rows: &[Row], want: &[Wanted]) -> bool {
@@ -65,7 +66,11 @@ fn refuses(alloc: Global, image: &Image, router: u8, error: Error) -> bool {
 
 /// The rows of two routers; a third one doesn't exist.
 pub(crate) fn has_routes(alloc: Global) -> Result<bool, Error> {
-    let image = read_again(alloc, &three_cables::image())?;
+    let mut bytes = three_cables::image();
+    put(&mut bytes, FIRST_ROW_1 + ROW_STATE, &[1]);
+    put(&mut bytes, FIRST_ROW_2 + ROW_STATE, &[2]);
+    put(&mut bytes, FIRST_ROW_3 + ROW_STATE, &[3]);
+    let image = read_again(alloc, &bytes)?;
     Ok(
         has_rows(alloc, &image, 0, &FIRST)
             && has_rows(alloc, &image, 1, &SECOND)

@@ -24,5 +24,8 @@ pub(crate) static ZERO: [u8; 1] = [0x00];
 /// A byte that begins a length of 768.
 pub(crate) static BEGUN: [u8; 1] = [0x07];
 
-/// The two top bits, a hop count of 1 and a length of 770, of which three bytes are there.
-pub(crate) static CUT: [u8; 3] = [0xC7, 0x02, 0x05];
+/// The two top bits, a hop count of 1 and a length of 513, of which three bytes are there.
+pub(crate) static CUT: [u8; 3] = [0xC6, 0x01, 0x05];
+
+/// A length of 257, of which two bytes are there.
+pub(crate) static HALF: [u8; 2] = [0x01, 0x01];

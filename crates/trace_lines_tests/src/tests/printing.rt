@@ -33,22 +33,23 @@ pub(crate) fn prints(alloc: Global, steps: &[Step], want: &str) -> Result<bool, 
     Ok(text.as_slice() == want.as_bytes())
 }
 
-/// The eleventh frame is on the second cable, after ten on the first.
+/// The 257th frame is on the second cable, after 256 on the first: its stamp, 256, doesn't fit a
+/// byte.
 fn later_once(alloc: Global, image: &Image) -> Result<Vec<u8>, Error> {
     let mut lines = Lines::new(alloc, image)?;
     let mut text = Vec::new(alloc);
-    for stamp in 0..10 {
+    for stamp in 0..256 {
         lines.append(&mut text, &put(stamp, 0, 0, Hw::ALL), &[])?;
     }
-    lines.append(&mut text, &put(10, 1, 0, Hw::ALL), &[])?;
+    lines.append(&mut text, &put(256, 1, 0, Hw::ALL), &[])?;
     text.clear();
-    for stamp in 9..11 {
+    for stamp in 255..257 {
         lines.append(&mut text, &Entry::Took { stamp, station: 0 }, &[])?;
     }
     Ok(text)
 }
 
-/// The taking of a frame after ten others is printed with the taker's address on its cable.
+/// The taking of a frame after many others is printed with the taker's address on its cable.
 pub(crate) fn a_later_frame_is_taken(alloc: Global) -> Result<bool, Error> {
     let bytes = image();
     let image = match read(alloc, bytes.as_slice()) {
@@ -59,5 +60,5 @@ pub(crate) fn a_later_frame_is_taken(alloc: Global) -> Result<bool, Error> {
         Err(Error::Memory) => later_once(alloc, &image)?,
         other => other?,
     };
-    Ok(text.as_slice() == b"took 9 10.1\ntook 10 20.1\n".as_slice())
+    Ok(text.as_slice() == b"took 255 10.1\ntook 256 20.1\n".as_slice())
 }

@@ -1,7 +1,7 @@
 //! Entries and the bytes that they name. Stations: 0 is the router of 10.1 and 20.1, 1 that of 20.2
 //! and 30.1, 2 is node 10.7, and 3 is node 30.5. Cables are 0 to 2 here, and 1 to 3 in lines.
 
-use super::bytes::{BEGUN, CUT, DATAGRAM, DIGITS, HOPPED, PADDED, ZERO};
+use super::bytes::{BEGUN, CUT, DATAGRAM, DIGITS, HALF, HOPPED, PADDED, ZERO};
 use at_base::Hw;
 use cable_model::{Cause, Entry, How, Kind};
 
@@ -17,6 +17,9 @@ const ROUTER_20_2: Hw = Hw([0x02, 0x00, 0x00, 0x00, 0x00, 0x03]);
 const NODE_10_7: Hw = Hw([0x02, 0x00, 0x00, 0x00, 0x00, 0x05]);
 
 const NODE_30_5: Hw = Hw([0x02, 0x00, 0x00, 0x00, 0x00, 0x06]);
+
+/// Nobody's: it differs from that of 10.7 in its first byte alone.
+const LIKE_10_7: Hw = Hw([0x04, 0x00, 0x00, 0x00, 0x00, 0x05]);
 
 const GROUP_118: Hw = Hw([0x09, 0x00, 0x07, 0x00, 0x00, 0x76]);
 
@@ -74,7 +77,7 @@ pub(crate) fn on_its_way() -> [Step; 4] {
 }
 
 /// Frames to all, to groups, to stations of the cable, and to a station of another cable.
-pub(crate) fn for_whom() -> [Step; 8] {
+pub(crate) fn for_whom() -> [Step; 9] {
     [
         (put(0, 0, 0, Hw::ALL), &ZERO),
         (put(1, 1, 1, GROUP_118), &ZERO),
@@ -84,6 +87,7 @@ pub(crate) fn for_whom() -> [Step; 8] {
         (put(5, 1, 0, ROUTER_20_2), &ZERO),
         (put(6, 2, 1, NODE_30_5), &ZERO),
         (put(7, 0, 0, NODE_30_5), &ZERO),
+        (put(8, 0, 0, LIKE_10_7), &ZERO),
     ]
 }
 
@@ -147,6 +151,12 @@ pub(crate) fn digits() -> [Step; 1] {
 }
 
 /// Bytes that end before the length that they name does.
-pub(crate) fn short() -> [Step; 4] {
-    [sent(2, &[]), sent(2, &ZERO), sent(2, &BEGUN), sent(2, &CUT)]
+pub(crate) fn short() -> [Step; 5] {
+    [
+        sent(2, &[]),
+        sent(2, &ZERO),
+        sent(2, &BEGUN),
+        sent(2, &CUT),
+        sent(2, &HALF),
+    ]
 }

@@ -7,7 +7,8 @@ took 0 10.1
 reached cable 1 10.1 absent 000D0000000A000A0907808080
 ";
 
-// No station has the address of a group that there isn't, and 30.5 isn't on the first cable.
+// No station has the address of a group that there isn't, 30.5 isn't on the first cable, and an
+// address that ends as another does isn't the same.
 pub(crate) const FOR_WHOM: &'static str = "\
 put 0 cable 1 10.1 to all 00
 put 1 cable 2 20.2 to group 118 00
@@ -17,6 +18,7 @@ put 4 cable 1 10.1 to 10.7 00
 put 5 cable 2 20.1 to 20.2 00
 put 6 cable 3 30.1 to 30.5 00
 put 7 cable 1 10.1 to 0.0 00
+put 8 cable 1 10.1 to 0.0 00
 ";
 
 pub(crate) const REACHED: &'static str = "\
@@ -66,5 +68,6 @@ pub(crate) const SHORT: &'static str = "\
 sent 10.7 \n\
 sent 10.7 \n\
 sent 10.7 03
-sent 10.7 C30205
+sent 10.7 C20105
+sent 10.7 0101
 ";

@@ -99,14 +99,17 @@ pub(crate) fn is_info(bytes: &[u8]) -> bool {
     info.flags == 0x20 && range && group && zone
 }
 
-pub(crate) fn is_invalid(bytes: &[u8]) -> bool {
-    let info = match Packet::read(bytes) {
+/// Whether the default zone is read where these flags stand in place of A0.
+pub(crate) fn is_invalid(flags: u8) -> bool {
+    let mut bytes = INVALID_ZONE;
+    bytes[1] = flags;
+    let info = match Packet::read(&bytes) {
         Ok(Packet::NetInfoReply(info)) => info,
         _ => return false,
     };
     let range = info.start == 0x0102 && info.end == 0x0304;
     let default = matches!(info.default, Some(name) if name.as_slice() == b"Red".as_slice());
-    info.flags == 0xA0 && range && default && info.asked.as_slice().is_empty()
+    info.flags == flags && range && default && info.asked.as_slice().is_empty()
 }
 
 pub(crate) fn is_refused(bytes: &[u8], error: Error) -> bool {

@@ -35,11 +35,12 @@ fn three(alloc: Global) -> Result<ZoneTable, Error> {
 pub(crate) fn adds_each(alloc: Global) -> Result<bool, Error> {
     let mut zones = table(alloc)?;
     let cable = range(40, 49)?;
-    let steps: [(u8, &[u8], bool); 6] = [
+    let steps: [(u8, &[u8], bool); 7] = [
         (2, b"Zed", false),
         (2, b"ZED", false),
         (2, b"Ack", true),
         (2, b"Cee", true),
+        (0, b"Eff", true), // the list of no zones is complete, and takes no name
         (1, b"Bee", true),
         (1, b"Dee", true),
     ];
@@ -204,7 +205,7 @@ pub(crate) fn all_once(alloc: Global) -> Result<bool, Error> {
     Ok(are(all(&zones)?.as_slice(), &[b"BLUE", b"Green", b"Red"]))
 }
 
-/// A routing table: 10-19 direct, 20-29 and 30-39 heard, 40-49 heard and bad.
+/// A routing table: 10-19 direct, 20-29 and 30-39 suspect, 40-49 bad, 50-59 good.
 fn routes(alloc: Global) -> Result<PlainTable, Error> {
     let mut table = PlainTable::empty(alloc)?;
     let next = Addr { net: 10, node: 2 };
@@ -212,7 +213,10 @@ fn routes(alloc: Global) -> Result<PlainTable, Error> {
     for (start, end) in [(20, 29), (30, 39), (40, 49)] {
         let _change = table.hear(range(start, end)?, 1, next, 0)?;
     }
-    let _change = table.hear(range(40, 49)?, 31, next, 0)?;
+    table.age();
+    for (start, end, distance) in [(40, 49, 31), (50, 59, 1)] {
+        let _change = table.hear(range(start, end)?, distance, next, 0)?;
+    }
     Ok(table)
 }
 
@@ -228,5 +232,5 @@ pub(crate) fn due_is(alloc: Global) -> Result<bool, Error> {
         Err(Error::Memory) => zones.queries_due(&rows)?,
         answer => answer?,
     };
-    Ok(due.as_slice() == [10, 30].as_slice())
+    Ok(due.as_slice() == [10, 30, 50].as_slice())
 }
