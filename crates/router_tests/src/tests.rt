@@ -12,7 +12,7 @@ use forwarding::{
     datagrams_end_on_the_cables, datagrams_go_to_the_next_router, far_cables_are_heard_for,
     frames_to_several_are_not_passed_on, other_bytes_are_ignored,
 };
-use lab::{holds, stays_in_a_tick};
+use lab::{holds, ports_are_few, stays_in_a_tick};
 use names::{
     forward_requests_are_looked_up, requests_go_to_each_cable,
     requests_go_to_the_cable_they_came_on, requests_to_all_are_ignored,
@@ -23,13 +23,14 @@ use router::Hand;
 use std::test::*;
 use zones::{
     echoes_come_from_the_address_asked, lists_are_given, nodes_are_told_of_the_cable,
-    queries_are_answered, replies_go_to_nodes_with_a_route,
+    queries_are_answered, replies_go_to_nodes_with_a_route, zones_of_the_asker_are_given,
 };
 
 #[test]
 fn a_router_hands_on_by_its_rows(rt: HostRuntime) -> Result<(), Fail> {
     assert!(rt; holds(rt.alloc())?);
     assert!(rt; stays_in_a_tick(rt.alloc())?);
+    assert!(rt; ports_are_few(rt.alloc())?);
     Ok(())
 }
 
@@ -55,6 +56,7 @@ fn a_router_answers_about_zones(rt: HostRuntime) -> Result<(), Fail> {
     assert!(rt; queries_are_answered(rt.alloc())?);
     assert!(rt; nodes_are_told_of_the_cable(rt.alloc())?);
     assert!(rt; lists_are_given(rt.alloc())?);
+    assert!(rt; zones_of_the_asker_are_given(rt.alloc())?);
     Ok(())
 }
 

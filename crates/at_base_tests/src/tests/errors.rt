@@ -16,15 +16,15 @@ pub(crate) const ERRORS: [(Error, u8, &str); 18] = [
     (Error::NoRouter, 10, "no router"),
     (Error::Full, 11, "full"),
     (
-        Error::BadImage(7, Cause::Order),
+        Error::BadImage(71, Cause::Order),
         12,
-        "bad image at 7: Order",
+        "bad image at 71: Order",
     ),
-    (Error::BadFile(Part::Node, 3), 13, "bad file: Node 3"),
+    (Error::BadFile(Part::Node, 31), 13, "bad file: Node 31"),
     (Error::Memory, 14, "out of memory"),
     (Error::ReadFault, 15, "a read failed"),
     (Error::WriteFault, 16, "a write failed"),
-    (Error::BadScript(9), 17, "bad script at line 9"),
+    (Error::BadScript(26), 17, "bad script at line 26"),
     (
         Error::NotAudited(Fault {
             rule: 1,

@@ -1,6 +1,6 @@
 //! What the node 30.5 answers to echoes.
 
-use crate::tests::lab::{FAR_ROUTER, Want, answers};
+use crate::tests::lab::{FAR_ROUTER, Want, answers, is_silent_before_it_settles};
 use at_base::{Addr, Error};
 use station::{Link, Next};
 use std::alloc::Global;
@@ -17,6 +17,18 @@ const REPLY: [u8; 18] = [
     0x02, 0x70, 0x69, 0x6E, 0x67,
 ];
 
+/// A request whose sum comes to 0, FFB8 and 48 being added last, which is written as FFFF; and its
+/// reply.
+const ZERO_SUM: [u8; 20] = [
+    0x00, 0x14, 0xFF, 0xFF, 0x00, 0x1E, 0x00, 0x0A, 0x05, 0x07, 0x04, 0x80, 0x04, // its header
+    0x01, 0x48, 0x48, 0x48, 0x48, 0x48, 0x48,
+];
+
+const ZERO_SUM_REPLY: [u8; 20] = [
+    0x00, 0x14, 0x88, 0x7B, 0x00, 0x0A, 0x00, 0x1E, 0x07, 0x05, 0x80, 0x04, 0x04, // its header
+    0x02, 0x48, 0x48, 0x48, 0x48, 0x48, 0x48,
+];
+
 /// It goes to the router, with a checksum where the request has one; a wrong checksum is ignored.
 pub(crate) fn requests_of_other_cables_are_answered(alloc: Global) -> Result<bool, Error> {
     let by_router = Next::Station(FAR_ROUTER);
@@ -28,7 +40,8 @@ pub(crate) fn requests_of_other_cables_are_answered(alloc: Global) -> Result<boo
     Ok(
         answers(alloc, Link::Own, &REQUEST, &[Want::Made(by_router, &REPLY)])?
             && answers(alloc, Link::Own, &request, &[Want::Made(by_router, &reply)])?
-            && answers(alloc, Link::Own, &wrong, &[])?,
+            && answers(alloc, Link::Own, &wrong, &[])?
+            && answers(alloc, Link::Own, &ZERO_SUM, &[Want::Made(by_router, &ZERO_SUM_REPLY)])?,
     )
 }
 
@@ -47,7 +60,7 @@ pub(crate) fn requests_of_the_cable_are_answered_straight(alloc: Global) -> Resu
 }
 
 /// One to every node of the cable is answered from the node's own address, and one to those of
-/// another cable, or for another node, isn't.
+/// another cable, or for another node, isn't; nor is any by a node that has no address yet.
 pub(crate) fn requests_to_every_node_are_answered(alloc: Global) -> Result<bool, Error> {
     let (mut all, mut near, mut far, mut other) = (REQUEST, REQUEST, REQUEST, REQUEST);
     (all[5], all[8]) = (0x00, 0xFF);
@@ -61,6 +74,7 @@ pub(crate) fn requests_to_every_node_are_answered(alloc: Global) -> Result<bool,
             && answers(alloc, Link::All, &far, &[])?
             && answers(alloc, Link::All, &REQUEST, &[])?
             && answers(alloc, Link::Own, &other, &[])?
-            && answers(alloc, Link::Group(118), &REQUEST, &[])?,
+            && answers(alloc, Link::Group(118), &REQUEST, &[])?
+            && is_silent_before_it_settles(alloc, Link::All, &all)?,
     )
 }

@@ -39,7 +39,7 @@ pub(crate) fn near(alloc: Global, router: Option<Addr>) -> Result<EndNode, Error
     }
 }
 
-/// A node on the cable 10-19 that has no address yet.
+/// A node on the cable 10-19 that has no address yet, with one name.
 fn unsettled_once(alloc: Global, router: Option<Addr>) -> Result<EndNode, Error> {
     let plan = PortPlan {
         range: Range::new(10, 19)?,
@@ -47,8 +47,11 @@ fn unsettled_once(alloc: Global, router: Option<Addr>) -> Result<EndNode, Error>
         tries: &[Addr { net: 10, node: 7 }],
         own: None,
     };
+    let (object, kind) = (Text32::new(b"lab")?, Text32::new(b"LaserWriter")?);
     let names = Names::new(alloc)?;
-    EndNode::new(alloc, &plan, Name::new(b"Red")?, router, names)
+    let mut node = EndNode::new(alloc, &plan, Name::new(b"Red")?, router, names)?;
+    node.register(object, kind, 129)?;
+    Ok(node)
 }
 
 /// The same, without memory refused.
@@ -146,6 +149,16 @@ pub(crate) fn answers(
     wants: &[Want<'_>],
 ) -> Result<bool, Error> {
     hears(alloc, &mut far(alloc)?, link, Kind::Ddp, bytes, wants)
+}
+
+/// Whether a node with a router that only tries its address puts nothing out for a datagram.
+pub(crate) fn is_silent_before_it_settles(
+    alloc: Global,
+    link: Link,
+    bytes: &[u8],
+) -> Result<bool, Error> {
+    let mut node = unsettled(alloc, Some(NEAR_ROUTER))?;
+    hears(alloc, &mut node, link, Kind::Ddp, bytes, &[])
 }
 
 /// What a node was given, and that a tick puts nothing out.

@@ -2,7 +2,7 @@
 
 ghost use Rattle.std.specs.Prelude.{◌≤◌};
 
-use crate::tests::lab::{FAR_ROUTER, Want, answers, far};
+use crate::tests::lab::{FAR_ROUTER, Want, answers, far, is_silent_before_it_settles};
 use at_base::{Error, Field, Text32};
 use end_node::EndNode;
 use station::{Link, Next};
@@ -60,7 +60,8 @@ pub(crate) fn lookups_in_its_zone_are_answered(alloc: Global) -> Result<bool, Er
     )
 }
 
-/// For another zone, object or type nothing comes, nor for what isn't a lookup.
+/// For another zone, object or type nothing comes, nor for what isn't a lookup, nor from a node
+/// that has no address yet.
 pub(crate) fn other_lookups_are_ignored(alloc: Global) -> Result<bool, Error> {
     for (at, byte) in [
         (28, 0x64),
@@ -76,7 +77,10 @@ pub(crate) fn other_lookups_are_ignored(alloc: Global) -> Result<bool, Error> {
             return Ok(false);
         }
     }
-    answers(alloc, BLUE, &LOOKUP[..28], &[])
+    Ok(
+        answers(alloc, BLUE, &LOOKUP[..28], &[])?
+            && is_silent_before_it_settles(alloc, Link::Group(56), &star())?,
+    )
 }
 
 /// Registers a name, again where its memory was refused.

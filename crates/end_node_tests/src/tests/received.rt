@@ -68,7 +68,7 @@ pub(crate) fn its_own_are_kept(alloc: Global) -> Result<bool, Error> {
     let mut node = far(alloc)?;
     let (mut all, mut near) = (SENT, SENT);
     (all[5], all[8]) = (0x00, 0xFF);
-    (near[5], near[8]) = (0x27, 0xFF);
+    (near[5], near[8]) = (0x1E, 0xFF);
     let cases: [(Link, &[u8]); 3] = [(Link::Own, &SENT), (Link::All, &all), (Link::All, &near)];
     for (link, bytes) in cases {
         if !takes(alloc, &mut node, link, bytes)? || !are_sent(node.received()?.as_slice(), 1, 1) {

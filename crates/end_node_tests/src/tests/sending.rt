@@ -3,6 +3,7 @@
 use crate::tests::lab::{NEAR_ROUTER, Want, are, near, unsettled};
 use at_base::{Addr, Error, Text32, What};
 use end_node::EndNode;
+use station::ways::straight;
 use station::{Next, Outputs};
 use std::alloc::Global;
 
@@ -30,7 +31,8 @@ fn send(
     }
 }
 
-/// Straight to nodes of its range, to all of them for node 255, and else to the router.
+/// Straight to nodes of its range, to all of them for node 255, and else to the router. Node 255
+/// alone stands for all: what goes straight to node 0 goes to it.
 pub(crate) fn datagrams_go_by_their_way(alloc: Global) -> Result<bool, Error> {
     let node = near(alloc, Some(NEAR_ROUTER))?;
     let router = Next::Station(NEAR_ROUTER);
@@ -56,7 +58,8 @@ pub(crate) fn datagrams_go_by_their_way(alloc: Global) -> Result<bool, Error> {
     send(&node, addr(12, 9), true, &[1], &mut outputs)?;
     let mut bytes = SENT;
     (bytes[2], bytes[3]) = (0x27, 0x0E);
-    Ok(are(&outputs, &[Want::Made(Next::Station(addr(12, 9)), &bytes)]))
+    let sums = are(&outputs, &[Want::Made(Next::Station(addr(12, 9)), &bytes)]);
+    Ok(sums && straight(addr(12, 0)) == Next::Station(addr(12, 0)))
 }
 
 /// Whether the node refuses to send so many bytes there, and puts nothing out.

@@ -66,11 +66,16 @@ pub(crate) fn names_of(zones: &ZoneTable, net: u16) -> Result<Vec<Name>, Error> 
     }
 }
 
-/// Learns the routing data that the bytes are, which come in on port 0.
-pub(crate) fn hear(routes: &mut PlainTable, range: Range, bytes: &[u8]) -> Result<(), Error> {
+/// Learns the routing data that the bytes are, which come in on a port.
+pub(crate) fn hear(
+    routes: &mut PlainTable,
+    range: Range,
+    port: u8,
+    bytes: &[u8],
+) -> Result<(), Error> {
     let packet = DataPacket::read(bytes)?;
-    match learn_routes(routes, range, 0, &packet) {
-        Err(Error::Memory) => learn_routes(routes, range, 0, &packet),
+    match learn_routes(routes, range, port, &packet) {
+        Err(Error::Memory) => learn_routes(routes, range, port, &packet),
         answer => answer,
     }
 }

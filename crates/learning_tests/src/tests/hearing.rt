@@ -32,7 +32,7 @@ fn data(net: u8, start: u8, end: u8) -> [u8; 16] {
 /// How many rows a router on 10-19 has after this packet.
 fn count(alloc: Global, bytes: &[u8]) -> Result<usize, Error> {
     let mut table = routes(alloc, &[own()?])?;
-    hear(&mut table, Range::new(10, 19)?, bytes)?;
+    hear(&mut table, Range::new(10, 19)?, 0, bytes)?;
     Ok(table.len())
 }
 
@@ -50,12 +50,12 @@ pub(crate) fn heard_otherwise(
     Ok(None)
 }
 
-/// Whether a router without rows learns both ranges.
+/// Whether a router without rows learns both ranges, by the port on which they come.
 pub(crate) fn is_learned(alloc: Global) -> Result<bool, Error> {
     let mut table = routes(alloc, &[])?;
-    hear(&mut table, Range::new(10, 19)?, &data(10, 10, 19))?;
-    let first = row(10, 19, 0, NEAR, State::Good)?;
-    let second = row(20, 29, 0, NEAR, State::Good)?;
+    hear(&mut table, Range::new(10, 19)?, 3, &data(10, 10, 19))?;
+    let first = row(10, 19, 3, NEAR, State::Good)?;
+    let second = row(20, 29, 3, NEAR, State::Good)?;
     Ok(are(&table, &[first, second]))
 }
 
@@ -63,6 +63,6 @@ pub(crate) fn is_learned(alloc: Global) -> Result<bool, Error> {
 pub(crate) fn stays_direct(alloc: Global) -> Result<bool, Error> {
     let suspect = row(20, 29, 0, NEAR, State::Suspect)?;
     let mut table = routes(alloc, &[own()?, suspect])?;
-    hear(&mut table, Range::new(10, 19)?, &data(10, 10, 19))?;
+    hear(&mut table, Range::new(10, 19)?, 0, &data(10, 10, 19))?;
     Ok(are(&table, &[own()?, row(20, 29, 0, NEAR, State::Good)?]))
 }

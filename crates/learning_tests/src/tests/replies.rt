@@ -20,8 +20,9 @@ pub(crate) const LISTS: [(&[u8], &[&[u8]], &[&[u8]]); 2] = [
     ),
 ];
 
-/// Extended replies one after the other: the names of 20-29 then, and whether they are all.
-pub(crate) const INCOMPLETE: [(&[u8], &[&[u8]], bool); 4] = [
+/// Extended replies one after the other: the names of 20-29 then, and whether they are all. Where
+/// there are 0 in all, the list begins again and is complete without the name that comes.
+pub(crate) const INCOMPLETE: [(&[u8], &[&[u8]], bool); 5] = [
     (b"\x08\x02\x00\x14\x03Red", &[b"Red"], false),
     (b"\x08\x02\x00\x19\x03RED", &[b"Red"], false),
     (
@@ -30,6 +31,7 @@ pub(crate) const INCOMPLETE: [(&[u8], &[&[u8]], bool); 4] = [
         true,
     ),
     (b"\x08\x01\x00\x14\x05Green", &[b"Green"], true),
+    (b"\x08\x00\x00\x14\x05Green", &[], true),
 ];
 
 /// Replies for the direct range 10-19, and for 60-69.

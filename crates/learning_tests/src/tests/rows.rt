@@ -9,11 +9,23 @@ pub(crate) const NEAR: Addr = Addr { net: 10, node: 2 };
 /// A router on 60-69.
 pub(crate) const OTHER: Addr = Addr { net: 60, node: 3 };
 
+/// The distance of a row by a next router. The one on 60-69 says that it is 14 from the range,
+/// which is the most that is taken: its row is at 15.
+fn distance(next: Addr) -> u8 {
+    if next.is_none() {
+        0
+    } else if next == OTHER {
+        15
+    } else {
+        1
+    }
+}
+
 /// The row of a range by a port and a next router.
 pub(crate) fn row(start: u16, end: u16, port: u8, next: Addr, state: State) -> Result<Row, Error> {
     Ok(Row {
         range: Range::new(start, end)?,
-        distance: if next.is_none() { 0 } else { 1 },
+        distance: distance(next),
         port,
         next,
         state,

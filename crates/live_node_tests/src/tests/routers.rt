@@ -1,6 +1,7 @@
 //! Which router the node on 10-19 has.
 
-use crate::tests::lab::{hears, pass, settled, unsettled};
+use crate::tests::lab::{hears, pass, unsettled};
+use crate::tests::zones::ANSWER;
 use at_base::{Addr, Error};
 use live_node::LiveNode;
 use station::Link;
@@ -20,16 +21,19 @@ fn hears_of(alloc: Global, node: &mut LiveNode, bytes: &[u8]) -> Result<Option<A
 }
 
 /// The last router that was heard is the node's, whether the node has an address yet or not. What
-/// isn't a packet of routing data is ignored, and so is one for another socket.
+/// isn't a packet of routing data is ignored, and so is one for another socket, or with a wrong
+/// checksum.
 pub(crate) fn heard_routers_are_taken(alloc: Global) -> Result<bool, Error> {
-    let (mut other, mut wrong, mut socket) = (ROUTES, ROUTES, ROUTES);
+    let (mut other, mut wrong, mut socket, mut sum) = (ROUTES, ROUTES, ROUTES, ROUTES);
     other[16] = 0x02;
     wrong[22] = 0x81;
     socket[10] = 0x02;
+    sum[3] = 0x01;
     let mut node = unsettled(alloc)?;
-    let steps: [(&[u8], Option<Addr>); 6] = [
+    let steps: [(&[u8], Option<Addr>); 7] = [
         (&wrong, None),
         (&socket, None),
+        (&sum, None),
         (&ROUTES, ROUTER),
         (&other, Some(Addr { net: 10, node: 2 })),
         (&ROUTES, ROUTER),
@@ -43,19 +47,27 @@ pub(crate) fn heard_routers_are_taken(alloc: Global) -> Result<bool, Error> {
     Ok(true)
 }
 
-/// A router that was heard is the node's for 249 ticks, and is forgotten in the 250th.
+/// A router that was heard is the node's for 249 ticks, and is forgotten in the 250th, also where
+/// the node had no address in the first ten of them. Routing data begins them anew, and an answer
+/// about the cable, here to every node of it, doesn't.
 pub(crate) fn silent_routers_are_forgotten(alloc: Global) -> Result<bool, Error> {
-    let mut node = settled(alloc)?;
-    for _ in 0..2u8 {
-        hears_of(alloc, &mut node, &ROUTES)?;
-        pass(alloc, &mut node, 249)?;
-        if node.node().router() != ROUTER {
+    let mut answer = ANSWER;
+    (answer[5], answer[8]) = (0x00, 0xFF);
+    let mut node = unsettled(alloc)?;
+    let steps: [(&[u8], u16, Option<Addr>); 6] = [
+        (&ROUTES, 249, ROUTER),
+        (&answer, 1, None),
+        (&ROUTES, 249, ROUTER),
+        (&ROUTES, 249, ROUTER),
+        (&[], 1, None),
+        (&ROUTES, 0, ROUTER),
+    ];
+    for (bytes, ticks, router) in steps {
+        hears_of(alloc, &mut node, bytes)?;
+        pass(alloc, &mut node, ticks)?;
+        if node.node().router() != router {
             return Ok(false);
         }
     }
-    pass(alloc, &mut node, 1)?;
-    if node.node().router().is_some() {
-        return Ok(false);
-    }
-    Ok(hears_of(alloc, &mut node, &ROUTES)? == ROUTER)
+    Ok(true)
 }

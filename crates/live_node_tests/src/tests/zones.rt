@@ -7,7 +7,7 @@ use station::Link;
 use std::alloc::Global;
 
 /// 10.1 tells 10.7 that Red isn't a zone of 10-19, whose default zone is Blue.
-const ANSWER: [u8; 35] = [
+pub(crate) const ANSWER: [u8; 35] = [
     0x00, 0x23, 0x00, 0x00, 0x00, 0x0A, 0x00, 0x0A, 0x07, 0x01, 0x06, 0x06, 0x06, // its header
     0x06, 0x80, 0x00, 0x0A, 0x00, 0x13, 0x03, 0x52, 0x65, 0x64, // 10-19, Red
     0x06, 0x09, 0x00, 0x07, 0x00, 0x00, 0x76, // its group
@@ -30,17 +30,19 @@ fn is_content(alloc: Global, node: &mut LiveNode) -> Result<bool, Error> {
     Ok(true)
 }
 
-/// An answer before the node has asked is ignored; the first one after it names its zone; a later
-/// one is ignored.
+/// An answer before the node has asked is ignored, and so is one for another socket; the first one
+/// after it names its zone; a later one is ignored.
 pub(crate) fn the_first_answer_counts(alloc: Global) -> Result<bool, Error> {
-    let mut later = ANSWER;
+    let (mut later, mut socket) = (ANSWER, ANSWER);
+    socket[10] = 0x07;
     (later[31], later[32], later[33], later[34]) = (b'G', b'r', b'a', b'y');
     let mut node = settled(alloc)?;
     let early = is_in(alloc, &mut node, &ANSWER, b"Red")?;
     pass(alloc, &mut node, 1)?;
+    let other = is_in(alloc, &mut node, &socket, b"Red")?;
     let first = is_in(alloc, &mut node, &ANSWER, b"Blue")?;
     let second = is_in(alloc, &mut node, &later, b"Blue")?;
-    Ok(early && first && second && is_content(alloc, &mut node)?)
+    Ok(early && other && first && second && is_content(alloc, &mut node)?)
 }
 
 /// Where the zone asked for is one of the cable's, it stays, and the node asks no more.

@@ -1,6 +1,6 @@
 //! What the router answers about zones, and to echoes.
 
-use crate::tests::lab::{ASKER, Lab, Want, answers, hears, lab, sent};
+use crate::tests::lab::{ASKER, Lab, SECOND, Want, answers, hears, lab, sent};
 use at_base::{Addr, Error};
 use station::{Heard, Link, Next};
 use std::alloc::Global;
@@ -83,8 +83,28 @@ const LISTED: [u8; 30] = [
     0x03, 0x52, 0x65, 0x64, 0x04, 0x42, 0x6C, 0x75, 0x65,
 ];
 
+/// A page with the one zone Blue, the last, for 30.5.
+const BLUE_LISTED: [u8; 26] = [
+    0x00, 0x1A, 0x00, 0x00, 0x00, 0x1E, 0x00, 0x0A, 0x05, 0x01, 0x80, 0x06, 0x03, // its header
+    0x90, 0x00, 0x00, 0x01, 0x01, 0x00, 0x00, 0x01, // the last page, of 1 zone
+    0x04, 0x42, 0x6C, 0x75, 0x65,
+];
+
+/// 30.5 asks 10.1 for the zones of its cable, and for its zone: they are those of 30-39, where it
+/// is, and not of 10-19. A page with its zone isn't said to be the last.
+pub(crate) fn zones_of_the_asker_are_given(alloc: Global) -> Result<bool, Error> {
+    let (mut local, mut own, mut own_listed) = (LIST, LIST, BLUE_LISTED);
+    (local[7], local[9], local[17]) = (0x1E, 0x05, 0x09);
+    (own[7], own[9], own[17]) = (0x1E, 0x05, 0x07);
+    own_listed[17] = 0x00;
+    Ok(
+        answers(alloc, &local, &[Want::Made(1, SECOND, &BLUE_LISTED)])?
+            && answers(alloc, &own, &[Want::Made(1, SECOND, &own_listed)])?,
+    )
+}
+
 /// A list is given again where it is asked for again, also in a transaction that is carried out
-/// once, and after its release.
+/// once, and after its release. Another socket of the node with the same ID asks something else.
 pub(crate) fn lists_are_given(alloc: Global) -> Result<bool, Error> {
     let mut router = lab(alloc)?;
     let list = [Want::Made(0, ASKER, &LISTED)];
@@ -94,9 +114,14 @@ pub(crate) fn lists_are_given(alloc: Global) -> Result<bool, Error> {
     release[13] = 0xC0;
     let mut other = LIST;
     other[17] = 0x0A;
-    let steps: [(&[u8], &[Want<'_>]); 6] = [
+    // from socket 129, from the second zone on, which is Blue
+    let (mut second, mut from_second) = (once, BLUE_LISTED);
+    (second[11], second[20]) = (0x81, 0x02);
+    (from_second[5], from_second[8], from_second[10]) = (0x0A, 0x07, 0x81);
+    let steps: [(&[u8], &[Want<'_>]); 7] = [
         (&LIST, &list),
         (&once, &list),
+        (&second, &[Want::Made(0, ASKER, &from_second)]),
         (&once, &list),
         (&release, &[]),
         (&once, &list),
