@@ -143,8 +143,11 @@ fn headers_are_equal_where_each_field_is(rt: HostRuntime) -> Result<(), Fail> {
 
 #[test]
 fn a_datagram_takes_as_much_memory_as_it_is_long(rt: HostRuntime) -> Result<(), Fail> {
-    let bytes = write_again(rt.alloc(), &ping_header(true), &PING[13..])?;
-    assert_eq!(rt; bytes.into_vec().capacity(), 18);
+    let long = [7u8; 586];
+    for (payload, capacity) in [(&PING[13..], 18), (long.as_slice(), 599)] {
+        let bytes = write_again(rt.alloc(), &ping_header(true), payload)?;
+        assert_eq!(rt; bytes.into_vec().capacity(), capacity);
+    }
     Ok(())
 }
 
@@ -190,7 +193,11 @@ fn the_longest_data_is_586_bytes(rt: HostRuntime) -> Result<(), Fail> {
     data[586] = 1;
     let bytes = write_again(rt.alloc(), &ping_header(true), &data[1..])?;
     assert_eq!(rt; View::read(bytes.as_slice())?.length(), 599);
-    assert!(rt; bytes.as_slice().starts_with([0x02, 0x57, 0xE0, 0x90].as_slice()));
+    assert!(rt;
+        bytes
+            .as_slice()
+            .starts_with([0x02, 0x57, 0xE0, 0x90].as_slice())
+    );
     let longer = write_again(rt.alloc(), &ping_header(true), &data);
     assert!(rt; matches!(longer, Err(Error::TooLong)));
     Ok(())

@@ -21,6 +21,8 @@ heard_last s port (u ∷ heard) t rows = heard_last s port heard t (heard_within
 
 pub next_part : (s : Addr) (port : ℕ) (tuples : List Tuple) (t : Tuple) (left : List Tuple) (rows now new : List Row)
     → InPart s port tuples (t ∷ left) rows now → new ≡ heard_within t.range t.distance s port now → InPart s port tuples left rows new
-next_part s port tuples t left rows now new x is =
-    (x.0 ++ t ∷ [], x.1 ∙ sym (append_assoc x.0 (t ∷ []) left),
-    is ∙ ap (heard_within t.range t.distance s port) x.2 ∙ sym (heard_last s port x.0 t rows))
+next_part s port tuples t left rows now new x is = (
+  x.0 ++ t ∷ [],
+  x.1 ∙ sym (append_assoc x.0 (t ∷ []) left),
+  is ∙ ap (heard_within t.range t.distance s port) x.2 ∙ sym (heard_last s port x.0 t rows),
+)

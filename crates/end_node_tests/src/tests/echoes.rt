@@ -41,7 +41,12 @@ pub(crate) fn requests_of_other_cables_are_answered(alloc: Global) -> Result<boo
         answers(alloc, Link::Own, &REQUEST, &[Want::Made(by_router, &REPLY)])?
             && answers(alloc, Link::Own, &request, &[Want::Made(by_router, &reply)])?
             && answers(alloc, Link::Own, &wrong, &[])?
-            && answers(alloc, Link::Own, &ZERO_SUM, &[Want::Made(by_router, &ZERO_SUM_REPLY)])?,
+            && answers(
+                alloc,
+                Link::Own,
+                &ZERO_SUM,
+                &[Want::Made(by_router, &ZERO_SUM_REPLY)],
+            )?,
     )
 }
 

@@ -20,16 +20,21 @@ loop-step-preserved g c = let next : suc c.loop-step._step ≡ c.loop-step._step
   goes_on_then c.loop-step._step _ _ _ c.loop-step.invariant.1 1 (c.loop-step._step + 1) refl
       (subst (λ b. GoesOn (one b) c.loop-step.wires c.take_first.new.wires) c.in-Ok-true.field-0-test c.in-Ok-true.ensures.took),
   (λ h. c.take_first.ensures.received (c.loop-step.invariant.2 h)),
-  subst (λ n. AreTaken n c.args.stations.now.items c.take_first.new.stations.items c.args.wires.now c.take_first.new.wires) next
-      (c.loop-step.stations.items, c.loop-step.wires, c.loop-step.invariant.3,
-      c.in-Ok-true.ensures.taken c.in-Ok-true.field-0-test),
+  subst (λ n. AreTaken n c.args.stations.now.items c.take_first.new.stations.items c.args.wires.now c.take_first.new.wires) next (
+    c.loop-step.stations.items,
+    c.loop-step.wires,
+    c.loop-step.invariant.3,
+    c.in-Ok-true.ensures.taken c.in-Ok-true.field-0-test,
+  ),
 )
 
 pub returns-in-Ok-false-clause-taken : goal.returns-in-Ok-false-clause-taken
 returns-in-Ok-false-clause-taken g c =
-    let stay = c.in-Ok-false.ensures.stay c.in-Ok-false.field-0-test in
-    (c.loop-step._step, subst (λ w. AreTaken c.loop-step._step c.args.stations.now.items c.take_first.new.stations.items c.args.wires.now w) (sym stay.1)
-    (subst (λ l. AreTaken c.loop-step._step c.args.stations.now.items l c.args.wires.now c.loop-step.wires) (sym stay.0) c.loop-step.invariant.3))
+    let stay = c.in-Ok-false.ensures.stay c.in-Ok-false.field-0-test in (
+      c.loop-step._step,
+      subst (λ w. AreTaken c.loop-step._step c.args.stations.now.items c.take_first.new.stations.items c.args.wires.now w) (sym stay.1)
+          (subst (λ l. AreTaken c.loop-step._step c.args.stations.now.items l c.args.wires.now c.loop-step.wires) (sym stay.0) c.loop-step.invariant.3),
+    )
 
 pub returns-clause-taken : goal.returns-clause-taken
 returns-clause-taken g c = (c.loop-step._step, c.loop-step.invariant.3)
