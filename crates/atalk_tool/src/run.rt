@@ -2,7 +2,7 @@
 
 ghost use Rattle.std.specs.Prelude.{◌≡◌, Bool};
 ghost use Rattle.clap.specs.Words.{kind_of};
-ghost use Rattle.atalk_tool.specs.Exits.{exit_at};
+ghost use Rattle.command_line.specs.Exits.{exit_at};
 
 use crate::explain::{Evidence, explain, prompt};
 use crate::performed::Performed;

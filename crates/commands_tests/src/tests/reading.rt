@@ -1,7 +1,7 @@
 //! Inputs that are read once, again where memory was refused, or near the limit of reads.
 
 ghost use Rattle.std.specs.Prelude.{◌≤◌};
-ghost use Rattle.atalk_tool.specs.declared.input.TheConstants.{READS};
+ghost use Rattle.commands.specs.declared.input.TheConstants.{READS};
 
 use at_base::Error;
 use commands::{Input, READS};
