@@ -1,9 +1,7 @@
 //! The first router of three cables, and what it puts out. What takes memory is called again where
 //! it was refused.
 
-ghost use Rattle.std.specs.Prelude.{◌≡◌, IsTrue};
-ghost use Rattle.std.specs.List.{list_all};
-ghost use Rattle.station.specs.Ports.{is_planned};
+ghost use Rattle.std.specs.Prelude.{◌≡◌};
 
 use at_base::{Addr, Error, Hw, Name, Range};
 use router::{Hand, Router};
@@ -191,34 +189,4 @@ pub(crate) fn stays_in_a_tick(alloc: Global) -> Result<bool, Error> {
     let mut outputs = Outputs::new(alloc)?;
     router.tick(&mut outputs)?;
     Ok(outputs.is_empty() && outputs.pop().is_none())
-}
-
-/// Whether a router has these ports, and no address by the first one, where it has these plans.
-fn has_ports_once(alloc: Global, plans: &[PortPlan<'_>]) -> Result<bool, Error>
-    requires { IsTrue (list_all is_planned plans.now) }
-{
-    let routes = PlainTable::empty(alloc)?;
-    let router = Router::new(alloc, plans, routes, ZoneTable::new(alloc)?)?;
-    Ok(router.ports() as usize == plans.len() && router.own(0).is_none())
-}
-
-/// The same, without memory refused.
-fn has_ports(alloc: Global, plans: &[PortPlan<'_>]) -> Result<bool, Error>
-    requires { IsTrue (list_all is_planned plans.now) }
-{
-    match has_ports_once(alloc, plans) {
-        Err(Error::Memory) => has_ports_once(alloc, plans),
-        answer => answer,
-    }
-}
-
-/// A router has 16 ports at most, and no address by one that only tries its address.
-pub(crate) fn ports_are_few(alloc: Global) -> Result<bool, Error> {
-    let plan = PortPlan {
-        range: Range::new(10, 19)?,
-        hw: Hw([2, 0, 0, 0, 0, 1]),
-        tries: &[],
-        own: None,
-    };
-    Ok(has_ports(alloc, &[plan; 16])? && has_ports(alloc, &[plan; 17]) == Err(Error::Full))
 }

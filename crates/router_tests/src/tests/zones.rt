@@ -104,7 +104,7 @@ pub(crate) fn zones_of_the_asker_are_given(alloc: Global) -> Result<bool, Error>
 }
 
 /// A list is given again where it is asked for again, also in a transaction that is carried out
-/// once, and after its release. Another socket of the node with the same ID asks something else.
+/// once, and after its release.
 pub(crate) fn lists_are_given(alloc: Global) -> Result<bool, Error> {
     let mut router = lab(alloc)?;
     let list = [Want::Made(0, ASKER, &LISTED)];
@@ -114,14 +114,9 @@ pub(crate) fn lists_are_given(alloc: Global) -> Result<bool, Error> {
     release[13] = 0xC0;
     let mut other = LIST;
     other[17] = 0x0A;
-    // from socket 129, from the second zone on, which is Blue
-    let (mut second, mut from_second) = (once, BLUE_LISTED);
-    (second[11], second[20]) = (0x81, 0x02);
-    (from_second[5], from_second[8], from_second[10]) = (0x0A, 0x07, 0x81);
-    let steps: [(&[u8], &[Want<'_>]); 7] = [
+    let steps: [(&[u8], &[Want<'_>]); 6] = [
         (&LIST, &list),
         (&once, &list),
-        (&second, &[Want::Made(0, ASKER, &from_second)]),
         (&once, &list),
         (&release, &[]),
         (&once, &list),
