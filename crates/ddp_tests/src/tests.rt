@@ -143,11 +143,10 @@ fn headers_are_equal_where_each_field_is(rt: HostRuntime) -> Result<(), Fail> {
 
 #[test]
 fn a_datagram_takes_as_much_memory_as_it_is_long(rt: HostRuntime) -> Result<(), Fail> {
-    let long = [7u8; 586];
-    for (payload, capacity) in [(&PING[13..], 18), (long.as_slice(), 599)] {
-        let bytes = write_again(rt.alloc(), &ping_header(true), payload)?;
-        assert_eq!(rt; bytes.into_vec().capacity(), capacity);
-    }
+    let bytes = write_again(rt.alloc(), &ping_header(true), &PING[13..])?;
+    assert_eq!(rt; bytes.into_vec().capacity(), 18);
+    let bytes = write_again(rt.alloc(), &ping_header(true), [7; 586].as_slice())?;
+    assert_eq!(rt; bytes.into_vec().capacity(), 599);
     Ok(())
 }
 
