@@ -10,3 +10,4 @@ pub mod Passing
 pub mod Taking
 pub mod Acting
 pub mod Ticking
+pub mod Scheduling

@@ -6,6 +6,7 @@ mod beginning;
 mod losing;
 mod passing;
 mod playing;
+mod scheduling;
 mod seen;
 mod taking;
 mod ticking;

@@ -8,17 +8,19 @@ ghost use Rattle.live_cables.specs.Living.{happened};
 ghost use Rattle.world.specs.Frozen.{frozen as frozen_image};
 ghost use Rattle.planned_stations.specs.Beginning.{AreBegun};
 ghost use Rattle.planned_stations.specs.Seating.{plan_seats};
+ghost use Rattle.world.specs.Scheduling.{IsSchedule};
 ghost use Rattle.world.specs.Seen.{node_at, received_by, station_of as station_in, taken_out};
 ghost use Rattle.world.specs.Worlds.{IsWorld};
 
 use crate::beginning::stations_begun;
+use crate::scheduling::schedule_of;
 use crate::seen::{node_by, take_at};
 use at_base::{Error, Range};
 use cable_model::{Entry, Seat};
 use end_node::{Datagram, EndNode};
 use frozen_stations::image_of;
 use image_stations::Member;
-use internet_file::{Action, Plan};
+use internet_file::Plan;
 use live_cables::LiveCables;
 use live_node::LiveNode;
 use live_router::LiveRouter;
@@ -76,28 +78,6 @@ impl<T: RouteTable> Model for World<T> {
       refused = w.refused.items;
       schedule = w.schedule.items;
     }) };
-}
-
-/// The tick of the action at an index.
-fn tick_of(actions: &[Action], index: u32) -> u32 {
-    match actions.get(index as usize) {
-        Some(action) => action.at,
-        None => 0,
-    }
-}
-
-/// The indices of the actions, in the order of their ticks and then of the file, from the last to
-/// the first. Error: `Memory`.
-fn schedule_of(alloc: Global, actions: &[Action]) -> Result<Vec<u32>, Error>
-    ensures { IsOkUnless result Error.Memory }
-{
-    let Ok(len) = u32::try_from(actions.len()) else {
-        return Err(Error::Memory);
-    };
-    let mut indices: Vec<u32> = (0..len).collect(alloc)?;
-    indices.sort_unstable_by_key(|index| (tick_of(actions, *index), *index));
-    indices.reverse();
-    Ok(indices)
 }
 
 /// Recalls that a plan is sound. Does nothing.
@@ -163,6 +143,7 @@ impl<T: RouteTable> World<T> {
         ensures ok { IfOk result (λ w. (w.plan ≡ plan) × (w.now ≡ 0) × (w.stopped ≡ None)
             × (w.refused ≡ []) × (happened w.wires ≡ [])) }
         ensures begun { IfOk result (λ w. AreBegun plan w.stations) }
+        ensures scheduled { IfOk result (λ w. IsSchedule plan.actions w.schedule) }
         ensures limit { IfOk result (λ w. w.wires.cabling.limit ≡ 4000000) }
         ensures refused { IsOkUnless result Error.Memory }
     {
