@@ -2,7 +2,7 @@
 
 ghost use Rattle.std.specs.Prelude.{◌≡◌, ◌⊎◌, ◌<◌, ◌≤◌, ◌↔◌, ◌++◌, ◌∷◌, not, true, false, None, []};
 ghost use Rattle.std.specs.Prelude.{length, filter, map, position, is_some, IfOk, IfErr, IfNone};
-ghost use Rattle.std.specs.Prelude.{IfSome, IsOkUnless, OnErr, OnOk};
+ghost use Rattle.std.specs.Prelude.{IfSome, IsOk, IsOkUnless, OnErr, OnOk};
 ghost use Rattle.std.specs.Option.{option_copied};
 ghost use Rattle.atp.specs.InPlace.{packet_value};
 ghost use Rattle.atp.specs.Answers.{AreShort, is_answer, answer_packets, bytes_of_all};
@@ -189,6 +189,7 @@ impl Responder {
     /// No requests. Error: `Memory`, which an empty responder never needs.
     pub fn new(alloc: Global) -> Result<Responder, Error>
         ensures ok { IfOk result (λ responder. responder ≡ []) }
+        ensures made { IsOk result }
         ensures refused { IsOkUnless result Error.Memory }
     {
         Ok(Responder {

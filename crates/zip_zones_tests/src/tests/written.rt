@@ -24,9 +24,14 @@ fn extended(alloc: Global, net: u16, total: u8, names: &[Name]) -> Result<Bytes,
     }
 }
 
+/// Whether these are the bytes, in just as much memory as they need.
+fn is_exactly(made: Bytes, bytes: &[u8]) -> bool {
+    made.as_slice() == bytes && made.into_vec().capacity() == bytes.len()
+}
+
 /// Whether the query for these networks is this.
 pub(crate) fn is_query(alloc: Global, networks: &[u16], bytes: &[u8]) -> Result<bool, Error> {
-    Ok(query(alloc, networks)?.as_slice() == bytes)
+    Ok(is_exactly(query(alloc, networks)?, bytes))
 }
 
 /// The number of bytes of a query for so many networks.
@@ -37,7 +42,7 @@ pub(crate) fn query_len(alloc: Global, networks: &[u16]) -> Result<usize, Error>
 /// Whether the reply with Blue alone is this.
 pub(crate) fn is_blue(alloc: Global, net: u16, total: u8, bytes: &[u8]) -> Result<bool, Error> {
     let names = [Name::new(b"Blue")?];
-    Ok(extended(alloc, net, total, &names)?.as_slice() == bytes)
+    Ok(is_exactly(extended(alloc, net, total, &names)?, bytes))
 }
 
 /// Whether the reply with Red and Blue is this.
@@ -71,13 +76,13 @@ fn answer(alloc: Global, asked: &[u8], range: Range, names: &[Name]) -> Result<B
 /// Whether the answer to a node on 10-19, whose one zone is Red, is this.
 pub(crate) fn is_told_on_10(alloc: Global, asked: &[u8], bytes: &[u8]) -> Result<bool, Error> {
     let names = [Name::new(b"Red")?];
-    Ok(answer(alloc, asked, Range::new(10, 19)?, &names)?.as_slice() == bytes)
+    Ok(is_exactly(answer(alloc, asked, Range::new(10, 19)?, &names)?, bytes))
 }
 
 /// Whether the answer to a node on 20-29, whose zones are Red and Blue, is this.
 pub(crate) fn is_told_on_20(alloc: Global, asked: &[u8], bytes: &[u8]) -> Result<bool, Error> {
     let names = [Name::new(b"Red")?, Name::new(b"Blue")?];
-    Ok(answer(alloc, asked, Range::new(20, 29)?, &names)?.as_slice() == bytes)
+    Ok(is_exactly(answer(alloc, asked, Range::new(20, 29)?, &names)?, bytes))
 }
 
 /// The flags and the group of the answer to a node on 20-29, whose zones are Red and Blue.
@@ -101,7 +106,7 @@ fn question(alloc: Global, asked: &[u8]) -> Result<Bytes, Error> {
 
 /// Whether the question for a zone is this.
 pub(crate) fn is_question(alloc: Global, asked: &[u8], bytes: &[u8]) -> Result<bool, Error> {
-    Ok(question(alloc, asked)?.as_slice() == bytes)
+    Ok(is_exactly(question(alloc, asked)?, bytes))
 }
 
 /// Whether the question for a zone of 32 bytes that are no name is its head and these.
