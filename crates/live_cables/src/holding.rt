@@ -1,6 +1,7 @@
 //! Datagrams that wait for a hardware address.
 
-ghost use Rattle.std.specs.Prelude.{◌≡◌, ◌⊎◌, IfErr, OnOk, drop, filter, length, not, slice_get};
+ghost use Rattle.std.specs.Prelude.{◌≡◌, ◌<◌, ◌+◌, ◌⊎◌, IfErr, OnOk, drop};
+ghost use Rattle.std.specs.Prelude.{filter, length, not, slice_get};
 ghost use Rattle.aarp.specs.Mapping.{is_for};
 ghost use Rattle.cable_model.specs.Logs.{bytes_at};
 ghost use Rattle.live_cables.specs.Finding.{is_first_for, seat_by};
@@ -48,6 +49,7 @@ fn hold(
     ensures held { OnOk result (IsHeld ports.now.seats ports.now.own.items
         (seat_by ports.now.seats station waiting.port) waiting.next
         (bytes_at cables.old.kept waiting.bytes) (cables.old, mappers.old) (cables.new, mappers.new)) }
+    ensures full { (result ≡ Err Error.Full) → cables.old.limit < length cables.old.lines + 1 }
     ensures puts { Puts cables.old cables.new }
     ensures waiting { cables.new.waiting ≡ cables.old.waiting }
     ensures refused { IfErr result (λ e. (e ≡ Error.Full) ⊎ (e ≡ Error.Memory)) }

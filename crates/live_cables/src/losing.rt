@@ -1,8 +1,11 @@
 //! Frames that are lost, since they were put on cables that lose.
 
-ghost use Rattle.std.specs.Prelude.{◌≡◌, ◌⊎◌, ◌++◌, ◌∷◌, [], IfErr, IsOkUnless, IsTrue, OnOk};
-ghost use Rattle.std.specs.Prelude.{drop};
+ghost use Rattle.std.specs.Prelude.{◌≡◌, ◌<◌, ◌+◌, ◌⊎◌, ◌↔◌, ◌++◌, ◌∷◌, []};
+ghost use Rattle.std.specs.Prelude.{IfErr, IsOkUnless, IsTrue, OnOk, drop, length, true};
 ghost use Rattle.std.specs.List.{list_any};
+ghost use Rattle.cable_model.specs.Logs.{transcript as said};
+ghost use Rattle.cable_model.specs.Outcomes.{has_stamp};
+ghost use Rattle.cable_model.specs.Pending.{pending as pending_on};
 ghost use Rattle.live_cables.specs.Steps.{Loses, are_gone, line_losses, loses_by, losses_since};
 
 use at_base::Error;
@@ -49,6 +52,9 @@ fn add_stamps(stamps: &mut Vec<u32>, entries: &[Entry], losing: &[bool]) -> Resu
 fn lose(cables: &mut Cables, stamp: u32) -> Result<(), Error>
     ensures loses { Loses (stamp ∷ []) cables.old cables.new }
     ensures gone { OnOk result (IsTrue (are_gone (stamp ∷ []) cables.new)) }
+    ensures full { (result ≡ Err Error.Full)
+        ↔ ((list_any (has_stamp stamp) (pending_on cables.old.seats (said cables.old)) ≡ true)
+        × (cables.old.limit < length cables.old.lines + 1)) }
     ensures refused { IfErr result (λ e. (e ≡ Error.Full) ⊎ (e ≡ Error.Memory)) }
 {
     match cables.lose(stamp) {

@@ -1,7 +1,9 @@
 //! Frames that a seat's station puts on its cable.
 
-ghost use Rattle.std.specs.Prelude.{◌≡◌, ◌⊎◌, ◌↔◌, IfErr, OnErr, OnOk, slice_get};
+ghost use Rattle.std.specs.Prelude.{◌≡◌, ◌<◌, ◌≤◌, ◌+◌, ◌⊎◌, ◌↔◌, true, length};
+ghost use Rattle.std.specs.Prelude.{IfErr, OnErr, OnOk, slice_get};
 ghost use Rattle.cable_model.specs.Outcomes.{Places};
+ghost use Rattle.cable_model.specs.Outcomes.{is_seated};
 ghost use Rattle.live_cables.specs.Finding.{own_or_none, request_for};
 ghost use Rattle.station.specs.Lawful.{IsNext};
 ghost use Rattle.live_cables.specs.Putting.{IsAsked, IsPut, IsSent};
@@ -34,6 +36,9 @@ pub fn stop(error: Error) -> Result<(), Error>
 /// `Memory`.
 pub fn put(cables: &mut Cables, seat: Seat, to: Hw, kind: Kind, bytes: Bytes) -> Result<(), Error>
     ensures put { OnOk result (IsPut seat to kind bytes cables.old cables.new) }
+    ensures full { (result ≡ Err Error.Full)
+        ↔ ((is_seated cables.old.seats seat.cable seat.station ≡ true) × (length bytes ≤ 599)
+        × (cables.old.limit < length cables.old.lines + 1)) }
     ensures kept { OnErr result (cables.new ≡ cables.old) }
     ensures puts { Puts cables.old cables.new }
     ensures waiting { cables.new.waiting ≡ cables.old.waiting }
@@ -56,6 +61,9 @@ pub fn send<R: Resolve>(
     requires { IsNext next }
     ensures sent { let places : Places = record { finds = R.finds resolver.now; lists = R.lists resolver.now } in
         OnOk result (IsSent places seat next bytes cables.old cables.new) }
+    ensures full { (result ≡ Err Error.Full)
+        ↔ ((is_seated cables.old.seats seat.cable seat.station ≡ true)
+        × (cables.old.limit < length cables.old.lines + 3)) }
     ensures kept { OnErr result (cables.new ≡ cables.old) }
     ensures puts { Puts cables.old cables.new }
     ensures refused { IfErr result (λ e. (e ≡ Error.Full) ⊎ (e ≡ Error.Memory)) }
@@ -99,6 +107,7 @@ pub fn ask(
 ) -> Result<(), Error>
     ensures asked { OnOk result (IsAsked (slice_get ports.now.seats index)
         (slice_get ports.now.own.items index) addr cables.old cables.new) }
+    ensures full { (result ≡ Err Error.Full) → cables.old.limit < length cables.old.lines + 1 }
     ensures kept { OnErr result (cables.new ≡ cables.old) }
     ensures puts { Puts cables.old cables.new }
     ensures waiting { cables.new.waiting ≡ cables.old.waiting }

@@ -8,7 +8,7 @@ ghost use Rattle.aarp.specs.Choosing.{ticked};
 ghost use Rattle.live_router.specs.Ticking.{all_joined, joined, ports_ticked, routes_aged};
 ghost use Rattle.live_router.specs.Ticking.{settles as settles_now, zones_aged};
 ghost use Rattle.learning.specs.Forgetting.{without_gone};
-ghost use Rattle.rtmp.specs.Routes.{aged};
+ghost use Rattle.rtmp.specs.Routes.{aged, beside};
 
 use crate::tables::Tables;
 use aarp::Chooser;
@@ -41,6 +41,7 @@ fn any_settles(before: &[Chooser], after: &[Chooser]) -> bool
 /// room for its row. Error: `Memory`.
 fn join<T: RouteTable>(routes: &mut T, range: Range, port: u8) -> Result<(), Error>
     ensures ok { OnOk result (T.rows routes.new ≡ joined range port (T.rows routes.old)) }
+    ensures full { 200 ≤ length (beside range (T.rows routes.old)) → result ≡ Ok tt }
     ensures refused { IsOkUnless result Error.Memory }
 {
     match routes.direct(range, port) {
