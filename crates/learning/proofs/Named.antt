@@ -1,6 +1,6 @@
 -- The networks of entries, as a loop over the entries finds them.
 use Rattle.std.proofs.Common.{◌≡◌, ◌∙◌, ℕ, ◌+◌, ◌<◌, Bool, true, false, not, ◌||◌, ◌==◌, List, [], ◌∷◌, ◌++◌, length}
-use Rattle.std.proofs.Common.{filter, fold, take, drop, get_or, refl, sym, ap}
+use Rattle.std.proofs.Common.{filter, fold, take, drop, get_or, refl, sym, ap, subst}
 use Rattle.std.specs.List.{list_any}
 use Rattle.std.proofs.lemmas.List.{drop_more, take_more}
 use Rattle.std.proofs.lemmas.List.Elements.{filter_agree}
@@ -10,6 +10,7 @@ use Rattle.zip_zones.specs.declared.entry.Entry.{Entry}
 use Rattle.zip_zones.specs.Answers.{networks_named}
 use Rattle.zip_zones.specs.Zones.{Known}
 use Rattle.learning.proofs.Gone.{filter_twice}
+use Rattle.learning.proofs.Parts.{InPart, next_part}
 
 -- none of the entries is of the network
 abbrev is_new : List Entry → ℕ → Bool
@@ -84,25 +85,56 @@ pub left_first : (learn : List Known → ℕ → List Known) (entries : List Ent
     → Left learn entries 0 table (fold learn table (networks_named entries))
 left_first learn entries table = ap (fold learn table) (named_first entries)
 
+-- an entry whose network came before leaves as many
+same_left : (entries : List Entry) (i : ℕ) (e : Entry) → i < length entries → e ≡ get_or entries i e
+    → list_any (λ x. x.net == e.net) (take i entries) ≡ true
+    → named_after (take (i + 1) entries) (drop (i + 1) entries) ≡ named_after (take i entries) (drop i entries)
+same_left entries i e lt is came =
+    sym (ap (named_after (take i entries)) (next entries i e lt is)
+    ∙ named_again (take i entries) e (drop (i + 1) entries) came
+    ∙ ap (λ (seen : List Entry). named_after seen (drop (i + 1) entries)) (more entries i e lt is))
+
+-- one whose network is new leaves one less
+one_less : (entries : List Entry) (i : ℕ) (e : Entry) → i < length entries → e ≡ get_or entries i e
+    → list_any (λ x. x.net == e.net) (take i entries) ≡ false
+    → e.net ∷ named_after (take (i + 1) entries) (drop (i + 1) entries) ≡ named_after (take i entries) (drop i entries)
+one_less entries i e lt is came =
+    sym (ap (named_after (take i entries)) (next entries i e lt is)
+    ∙ named_new (take i entries) e (drop (i + 1) entries) came
+    ∙ ap (λ (seen : List Entry). e.net ∷ named_after seen (drop (i + 1) entries)) (more entries i e lt is))
+
 -- an entry whose network came before
 pub left_again : (learn : List Known → ℕ → List Known) (entries : List Entry) (i : ℕ) (e : Entry) (table whole : List Known)
     → i < length entries → e ≡ get_or entries i e → list_any (λ x. x.net == e.net) (take i entries) ≡ true
     → Left learn entries i table whole → Left learn entries (i + 1) table whole
-left_again learn entries i e table whole lt is came before =
-    let networks : named_after (take (i + 1) entries) (drop (i + 1) entries) ≡ named_after (take i entries) (drop i entries) =
-    sym (ap (named_after (take i entries)) (next entries i e lt is)
-    ∙ named_again (take i entries) e (drop (i + 1) entries) came
-    ∙ ap (λ (seen : List Entry). named_after seen (drop (i + 1) entries)) (more entries i e lt is)) in
-    ap (fold learn table) networks ∙ before
+left_again learn entries i e table whole lt is came before = ap (fold learn table) (same_left entries i e lt is came) ∙ before
 
 -- an entry whose network is new, and was learned
 pub left_new : (learn : List Known → ℕ → List Known) (entries : List Entry) (i : ℕ) (e : Entry) (table after whole : List Known)
     → i < length entries → e ≡ get_or entries i e → list_any (λ x. x.net == e.net) (take i entries) ≡ false
     → after ≡ learn table e.net → Left learn entries i table whole → Left learn entries (i + 1) after whole
 left_new learn entries i e table after whole lt is came learned before =
-    let networks : e.net ∷ named_after (take (i + 1) entries) (drop (i + 1) entries) ≡ named_after (take i entries) (drop i entries) =
-    sym (ap (named_after (take i entries)) (next entries i e lt is)
-    ∙ named_new (take i entries) e (drop (i + 1) entries) came
-    ∙ ap (λ (seen : List Entry). e.net ∷ named_after seen (drop (i + 1) entries)) (more entries i e lt is)) in
     ap (λ (known : List Known). fold learn known (named_after (take (i + 1) entries) (drop (i + 1) entries))) learned
-    ∙ ap (fold learn table) networks ∙ before
+    ∙ ap (fold learn table) (one_less entries i e lt is came) ∙ before
+
+-- ---- Lists of which only the first were learned
+
+-- at an index: those of the networks before it were learned
+abbrev pub PartOf : (List Known → ℕ → List Known) → List Entry → ℕ → List Known → List Known → Type 0
+PartOf learn entries i old now = InPart learn (networks_named entries) (named_after (take i entries) (drop i entries)) old now
+
+pub part_first : (learn : List Known → ℕ → List Known) (entries : List Entry) (old : List Known) → PartOf learn entries 0 old old
+part_first learn entries old = ([], sym (named_first entries), refl)
+
+pub part_again : (learn : List Known → ℕ → List Known) (entries : List Entry) (i : ℕ) (e : Entry) (old now : List Known)
+    → i < length entries → e ≡ get_or entries i e → list_any (λ x. x.net == e.net) (take i entries) ≡ true
+    → PartOf learn entries i old now → PartOf learn entries (i + 1) old now
+part_again learn entries i e old now lt is came part =
+    subst (λ left. InPart learn (networks_named entries) left old now) (sym (same_left entries i e lt is came)) part
+
+pub part_new : (learn : List Known → ℕ → List Known) (entries : List Entry) (i : ℕ) (e : Entry) (old now new : List Known)
+    → i < length entries → e ≡ get_or entries i e → list_any (λ x. x.net == e.net) (take i entries) ≡ false
+    → new ≡ learn now e.net → PartOf learn entries i old now → PartOf learn entries (i + 1) old new
+part_new learn entries i e old now new lt is came learned part =
+    next_part learn (networks_named entries) e.net (named_after (take (i + 1) entries) (drop (i + 1) entries)) old now new
+    (subst (λ left. InPart learn (networks_named entries) left old now) (sym (one_less entries i e lt is came)) part) learned

@@ -3,6 +3,7 @@
 ghost use Rattle.std.specs.Prelude.{◌≡◌, ◌==◌, fold, length, if◌then◌else◌};
 ghost use Rattle.std.specs.Prelude.{IfOk, OnErr, OnOk, IsOkUnless};
 ghost use Rattle.std.specs.List.{list_any};
+ghost use Rattle.learning.specs.Partly.{IsLearnedInPart};
 ghost use Rattle.zip_zones.specs.Answers.{after_list, is_taken, names_for as names_in};
 ghost use Rattle.zip_zones.specs.Answers.{networks_named};
 ghost use Rattle.zip_zones.specs.Zones.{set_list, with_known};
@@ -93,6 +94,8 @@ fn learn_each<T: RouteTable>(
 ) -> Result<(), Error>
     ensures ok { OnOk result (zones.new ≡ fold (after_list (T.rows routes.now) entries.now)
         zones.old (networks_named entries.now)) }
+    ensures in_part { OnErr result (IsLearnedInPart (after_list (T.rows routes.now) entries.now)
+        (networks_named entries.now) zones.old zones.new) }
     ensures refused { IsOkUnless result Error.Memory }
 {
     for (index, entry) in entries.iter().enumerate() {
@@ -111,6 +114,8 @@ pub(crate) fn learn_lists<T: RouteTable>(
 ) -> Result<(), Error>
     ensures ok { OnOk result (zones.new ≡ fold (after_list (T.rows routes.now) entries.entry)
         zones.old (networks_named entries.entry)) }
+    ensures in_part { OnErr result (IsLearnedInPart (after_list (T.rows routes.now) entries.entry)
+        (networks_named entries.entry) zones.old zones.new) }
     ensures refused { IsOkUnless result Error.Memory }
 {
     let alloc = allocator_of(zones)?;

@@ -1,6 +1,7 @@
 //! What a router learns from replies to its queries.
 
 ghost use Rattle.std.specs.Prelude.{◌≡◌, fold, if◌then◌else◌, OnErr, OnOk, IsOkUnless};
+ghost use Rattle.learning.specs.Partly.{IsLearnedInPart, IsReplyInPart};
 ghost use Rattle.zip_zones.specs.Answers.{after_name, after_reply, is_taken, range_heard};
 ghost use Rattle.zip_zones.specs.Zones.{heard};
 
@@ -60,6 +61,8 @@ fn learn_names<T: RouteTable>(
 ) -> Result<(), Error>
     ensures ok { OnOk result
         (zones.new ≡ fold (after_name (T.rows routes.now) total) zones.old entries.entry) }
+    ensures in_part { OnErr result (IsLearnedInPart (after_name (T.rows routes.now) total)
+        entries.entry zones.old zones.new) }
     ensures refused { IsOkUnless result Error.Memory }
 {
     for entry in entries {
@@ -76,13 +79,16 @@ fn learn_names<T: RouteTable>(
 /// for, or what overlaps another range of it, is left out.
 ///
 /// Inside AppleTalk, the chapter on ZIP; for which rows replies are taken, and what is left out, is
-/// this project's own. Error: `Memory`, after which only some of the names were taken.
+/// this project's own. Error: `Memory`, after which only the first of the names, or of the lists,
+/// were taken.
 pub fn learn_zones<T: RouteTable>(
     zones: &mut ZoneTable,
     routes: &T,
     packet: Packet<'_>,
 ) -> Result<(), Error>
     ensures ok { OnOk result (zones.new ≡ after_reply (T.rows routes.now) packet.entry zones.old) }
+    ensures in_part { OnErr result
+        (IsReplyInPart (T.rows routes.now) packet.entry zones.old zones.new) }
     ensures refused { IsOkUnless result Error.Memory }
 {
     match packet {

@@ -1,9 +1,11 @@
 use Rattle.std.proofs.Common.{◌≡◌, fold}
 use Rattle.zip_zones.specs.Answers.{after_name}
+use Rattle.learning.proofs.Parts.{InPart}
 use Rattle.learning.proofs.zones.learn_names.Given as goal
 
 -- what is left of the names gives the whole
 abbrev pub invariant-loop-entry : goal.invariant-loop-entry
 invariant-loop-entry g l =
-    fold (after_name (g.T.RouteTable.rows l.routes) l.total) l.zones l.entry-iterator
-    ≡ fold (after_name (g.T.RouteTable.rows l.routes) l.total) l.initial.zones l.fn.entries
+    let learn = after_name (g.T.RouteTable.rows l.routes) l.total in
+    (fold learn l.zones l.entry-iterator ≡ fold learn l.initial.zones l.fn.entries)
+    × InPart learn l.fn.entries l.entry-iterator l.initial.zones l.zones
