@@ -111,7 +111,9 @@ struct Counting {
 impl Progress for Counting {
     fn passed(&mut self, world: &World<PlainTable>) {
         self.ticks = self.ticks.saturating_add(1);
-        self.agrees = self.agrees && self.ticks <= world.plan().ticks();
+        // Each station asks for an address in the first tick.
+        let has_lived = !world.transcript().is_empty();
+        self.agrees = self.agrees && self.ticks <= world.plan().ticks() && has_lived;
     }
 }
 

@@ -5,3 +5,4 @@ pub mod Stations
 pub mod Losses
 pub mod Ticked
 mod Doing
+pub mod Kept

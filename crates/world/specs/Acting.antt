@@ -12,6 +12,10 @@ use Rattle.world.specs.Doing.{IsDone}
 abbrev pub tick_of : List Action → ℕ → Option ℕ
 tick_of actions index = option_map (λ a. a.at) (slice_get actions index)
 
+-- what stood in a list before stands first in it
+abbrev pub KeepsFirst : {X : Type 0} → List X → List X → Type 0
+KeepsFirst {X} old new = (more : List X) × (new ≡ old ++ more)
+
 -- The last of a schedule, if there is one, isn't of this tick.
 abbrev pub IsOver : List Action → ℕ → List ℕ → Type 0
 IsOver actions now schedule = (rest : List ℕ) (index : ℕ) → schedule ≡ rest ++ index ∷ [] → tick_of actions index ≢ Some now

@@ -4,7 +4,7 @@ ghost use Rattle.std.specs.Prelude.{◌≡◌, ◌⊎◌, ◌<◌, ◌≤◌, �
 ghost use Rattle.std.specs.Prelude.{IfErr, IfNone, IfSome, OnErr, OnOk, Ok, Err, Some};
 ghost use Rattle.at_base.specs.ErrorNumber.{number_of};
 ghost use Rattle.station.specs.Lawful.{AreLawful};
-ghost use Rattle.world.specs.Acting.{AreDone, IsOver, tick_of};
+ghost use Rattle.world.specs.Acting.{AreDone, IsOver, KeepsFirst, tick_of};
 ghost use Rattle.world.specs.Doing.{IsDone, acted, acted_by, number_from, station_for};
 ghost use Rattle.world.specs.Going.{Goes, GoesOn};
 
@@ -65,6 +65,7 @@ fn note(refused: &mut Vec<(u32, u8)>, index: u32, error: Error) -> Result<(), Er
     ensures noted { OnOk result
         (refused.new.items ≡ refused.old.items ++ (number_from index, number_of error) ∷ []) }
     ensures memory { error ≡ Error.Memory → result ≡ Err Error.Memory }
+    ensures keeps { KeepsFirst refused.old.items refused.new.items }
     ensures stays { OnErr result (refused.new.items ≡ refused.old.items) }
     ensures refused { IfErr result (λ e. (e ≡ Error.Full) ⊎ (e ≡ Error.Memory)) }
 {
@@ -95,6 +96,7 @@ fn act_one<T: RouteTable>(
     requires { length stations.now ≤ 400 }
     ensures is_done { OnOk result (IsDone plan.now stations.now index
         (wires.old, refused.old.items) (wires.new, refused.new.items)) }
+    ensures keeps { KeepsFirst refused.old.items refused.new.items }
     ensures goes { Goes wires.old wires.new }
     ensures done { OnOk result (GoesOn 0 wires.old wires.new) }
     ensures refused { IfErr result (λ e. (e ≡ Error.Full) ⊎ (e ≡ Error.Memory)) }
@@ -145,6 +147,7 @@ pub fn act_all<T: RouteTable>(
     ensures are_done { OnOk result ((actions : ℕ) × AreDone plan.now stations.now now actions
         schedule.old.items schedule.new.items
         (wires.old, refused.old.items) (wires.new, refused.new.items)) }
+    ensures keeps { KeepsFirst refused.old.items refused.new.items }
     ensures goes { Goes wires.old wires.new }
     ensures done { OnOk result (GoesOn 0 wires.old wires.new) }
     ensures refused { IfErr result (λ e. (e ≡ Error.Full) ⊎ (e ≡ Error.Memory)) }

@@ -3,6 +3,7 @@
 ghost use Rattle.std.specs.Prelude.{◌≡◌, ◌⊎◌, ◌≤◌, length, map, IfErr, OnOk};
 ghost use Rattle.live_cables.specs.Living.{happened};
 ghost use Rattle.planned_stations.specs.Planning.{AreSeated, ports_of};
+ghost use Rattle.world.specs.Acting.{KeepsFirst};
 ghost use Rattle.world.specs.Going.{Ends, Goes, GoesOn};
 ghost use Rattle.world.specs.Received.{AreReceived, got};
 ghost use Rattle.world.specs.Ticking.{Begins, Plays};
@@ -32,6 +33,7 @@ fn begin<T: RouteTable>(
     requires { length stations.old.items ≤ 400 }
     ensures ports { map ports_of stations.new.items ≡ map ports_of stations.old.items }
     ensures got { map got stations.new.items ≡ map got stations.old.items }
+    ensures keeps { KeepsFirst refused.old.items refused.new.items }
     ensures goes { Goes wires.old wires.new }
     ensures done { OnOk result (GoesOn 0 wires.old wires.new) }
     ensures begins { OnOk result (Begins plan.now now stations.old.items stations.new.items
@@ -59,6 +61,7 @@ pub fn play<T: RouteTable>(
     requires few { length stations.old.items ≤ 400 }
     requires seated { AreSeated wires.old.cabling.seats (map ports_of stations.old.items) }
     ensures ports { map ports_of stations.new.items ≡ map ports_of stations.old.items }
+    ensures keeps { KeepsFirst refused.old.items refused.new.items }
     ensures goes { Goes wires.old wires.new }
     ensures done { OnOk result (Ends 10000 wires.old wires.new) }
     ensures plays { OnOk result (Plays plan.now now stations.old.items stations.new.items

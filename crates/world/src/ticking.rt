@@ -3,6 +3,7 @@
 ghost use Rattle.std.specs.Prelude.{◌≡◌, ◌≤◌, ◌+◌, ◌⊎◌, IfErr, IfSome, None, OnOk, Some};
 ghost use Rattle.cable_model.specs.Transcript.{AreNumbered};
 ghost use Rattle.live_cables.specs.Living.{happened};
+ghost use Rattle.world.specs.Acting.{KeepsFirst};
 ghost use Rattle.world.specs.Ticking.{IsTick};
 ghost use Rattle.world.specs.Worlds.{Ticks, TicksOn};
 
@@ -30,6 +31,7 @@ impl<T: RouteTable> World<T> {
         ensures ticks_on { OnOk result
             (TicksOn self.old.plan self.old.now self.old.wires self.new.wires) }
         ensures plays { OnOk result (IsTick self.old self.new) }
+        ensures keeps { KeepsFirst self.old.refused self.new.refused }
         ensures refused { IfErr result (λ e. (e ≡ Error.Full) ⊎ (e ≡ Error.Memory)) }
     {
         let losing = match losing_at(self.alloc, &self.plan, self.passed) {
@@ -55,10 +57,12 @@ impl<T: RouteTable> World<T> {
         ensures now { OnOk result (self.new.now ≡ self.old.now + 1) }
         ensures stopped { self.new.stopped ≡ self.old.stopped }
         ensures over { self.old.plan.ticks ≤ self.old.now → result ≡ Err Error.Full }
+        ensures over_stays { self.old.plan.ticks ≤ self.old.now → self.new ≡ self.old }
         ensures ticks { Ticks self.old.plan self.new.now self.old.wires self.new.wires }
         ensures ticks_on { OnOk result
             (TicksOn self.old.plan self.new.now self.old.wires self.new.wires) }
         ensures plays { OnOk result (IsTick self.old self.new) }
+        ensures keeps { KeepsFirst self.old.refused self.new.refused }
         ensures refused { IfErr result (λ e. (e ≡ Error.Full) ⊎ (e ≡ Error.Memory)) }
     {
         if self.passed >= self.plan.ticks() {
@@ -79,6 +83,9 @@ impl<T: RouteTable> World<T> {
         ensures plan { self.new.plan ≡ self.old.plan }
         ensures over { self.old.stopped ≡ None → self.old.plan.ticks ≤ self.old.now
             → result ≡ Err Error.Full }
+        // After the last tick nothing else changes: what was refused before is still told.
+        ensures over_stays { self.old.stopped ≡ None → self.old.plan.ticks ≤ self.old.now
+            → self.new ≡ record self.old { stopped = Some Error.Full } }
         ensures again { IfSome self.old.stopped
             (λ e. (result ≡ Err e) × (self.new ≡ self.old)) }
         ensures stops { IfErr result (λ e. self.new.stopped ≡ Some e) }
@@ -87,6 +94,7 @@ impl<T: RouteTable> World<T> {
         ensures ticks_on { OnOk result
             (TicksOn self.old.plan self.new.now self.old.wires self.new.wires) }
         ensures plays { OnOk result (IsTick self.old self.new) }
+        ensures keeps { KeepsFirst self.old.refused self.new.refused }
         ensures refused { IfErr result (λ e.
             (self.old.stopped ≡ Some e) ⊎ (e ≡ Error.Full) ⊎ (e ≡ Error.Memory)) }
     {

@@ -1,6 +1,7 @@
 use Rattle.std.proofs.Common.{◌≡◌, Some, arith, refl, subst, suc}
 use Rattle.std.proofs.lemmas.Result.{on_ok_weaker}
 use Rattle.world.proofs.Going.{goes_none, goes_nowhere, goes_on_then, goes_then}
+use Rattle.world.proofs.Kept.{kept_on}
 use Rattle.world.specs.Acting.{IsOver, tick_of}
 use Rattle.world.proofs.acting.+act_all.Goals as goal
 
@@ -25,3 +26,7 @@ returns-in-Ok-clause-are_done g t c =
 
 pub returns-in-None-clause-are_done : goal.returns-in-None-clause-are_done
 returns-in-None-clause-are_done g t c = (0, (c.in-None.ensures.none, refl, subst (λ l. IsOver l c.args.now c.args.schedule.now.items) c.actions.ensures.value c.in-None.ensures.over))
+
+pub returns-in-Ok-clause-keeps : goal.returns-in-Ok-clause-keeps
+returns-in-Ok-clause-keeps g t c =
+    kept_on c.args.refused.now.items c.act_one.new.refused.items c.act_all.new.refused.items c.in-Ok.ensures.keeps c.act_all.ensures.keeps

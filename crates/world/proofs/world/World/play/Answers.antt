@@ -5,6 +5,7 @@ use Rattle.live_cables.specs.Living.{Wires, happened}
 use Rattle.planned_stations.specs.Planning.{AreSeated, ports_of}
 use Rattle.world.proofs.Stations.{laid_after, laid_seated}
 use Rattle.world.proofs.Ticked.{due_ticks, ticks_ends, ticks_goes}
+use Rattle.world.specs.Acting.{KeepsFirst}
 use Rattle.world.specs.Received.{AreReceived, got}
 use Rattle.world.specs.Ticking.{IsTick, Plays}
 use Rattle.world.specs.Worlds.{Ticks, TicksOn, Worldly}
@@ -66,3 +67,7 @@ returns-clause-plays g c =
           subst (λ (w : Wires). Plays old.plan old.passed old.stations.items new.stations w new.wires old.refused.items new.refused
           old.schedule.items new.schedule) c.set_losing.ensures p;
     }) c.play-played.ensures.plays)
+
+pub returns-clause-keeps : goal.returns-clause-keeps
+returns-clause-keeps g c =
+    subst (λ (w : Worldly). KeepsFirst w.refused c.play-played.new.refused.items) c.self.view_is c.play-played.ensures.keeps
