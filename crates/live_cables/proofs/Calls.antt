@@ -125,6 +125,7 @@ pub record Midst (losing : ℕ → Bool) (taken : ℕ) (old mid : Cabling) : Typ
   pub played : IsPlayed old.seats losing (transcript old) added
   pub takes : count is_took added ≡ taken
   pub seats : mid.seats ≡ old.seats
+  pub limit : mid.limit ≡ old.limit
 
 pub midst_put : (losing : ℕ → Bool) (old mid : Cabling) → Puts old mid → Midst losing 0 old mid
 midst_put losing old mid x = record {
@@ -133,6 +134,7 @@ midst_put losing old mid x = record {
   played = quiet_played old.seats losing (transcript old) x.added x.quiet;
   takes = quiet_takes x.added x.quiet;
   seats = x.seats;
+  limit = x.limit;
 }
 
 -- a frame was taken, and further entries end no pair
@@ -171,6 +173,7 @@ midst_taken losing old first mid stamp station Hears numbered x y =
           (named_is old stamp station Hears first x) quiet;
       takes = omega (arith, none);
       seats = y.seats ∙ x.seats;
+      limit = y.limit ∙ x.limit;
     }
 
 -- ---- The whole call
@@ -211,6 +214,7 @@ module _ (taken : ℕ) (old new : Wires) (mid : Cabling) (front : List Line) (lo
     grown = grown;
     played = ended_played old.cabling.seats (loses old) (happened old) m.added l.added m.played ends_with;
     seats = l.seats ∙ m.seats;
+    limit = l.limit ∙ m.limit;
     own = stays.own;
     ranges = stays.ranges;
     losing = stays.losing;
@@ -242,6 +246,7 @@ plays_midst taken old new stays m = record {
   grown = m.grown;
   played = m.played;
   seats = m.seats;
+  limit = m.limit;
   own = stays.own;
   ranges = stays.ranges;
   losing = stays.losing;
@@ -254,6 +259,7 @@ plays_kept old new stays e = record {
   grown = ap transcript e ∙ sym (append-nil (happened old));
   played = nothing_played old.cabling.seats (loses old) (happened old);
   seats = ap (λ c. c.seats) e;
+  limit = ap (λ c. c.limit) e;
   own = stays.own;
   ranges = stays.ranges;
   losing = stays.losing;

@@ -20,7 +20,7 @@ use Rattle.live_cables.specs.Steps.{Loses, are_gone, is_loss, line_losses}
 -- ---- Losses of frames
 
 pub loses_none : (ss : List ℕ) (c : Cabling) → Loses ss c c
-loses_none ss c = record { added = []; grown = sym (append-nil (transcript c)); losses = refl; seats = refl }
+loses_none ss c = record { added = []; grown = sym (append-nil (transcript c)); losses = refl; seats = refl; limit = refl }
 
 pub loses_one : (stamp : ℕ) (old new : Cabling) → Adds old new (Lost stamp ∷ []) → Loses (stamp ∷ []) old new
 loses_one stamp old new x = record {
@@ -28,6 +28,7 @@ loses_one stamp old new x = record {
   grown = x.added;
   losses = ap (λ b. (b || false) && true) (eq-eqb stamp stamp refl);
   seats = x.seats;
+  limit = x.limit;
 }
 
 -- a loss of one of these frames is a loss of one of more
@@ -65,6 +66,7 @@ loses_then s ss a b c x y = record {
       list_all-append (is_loss (s ∷ ss)) x.added y.added
       ∙ both _ _ (loss_of (s ∷ []) (s ∷ ss) (in_head s ss) x.added x.losses) (loss_of ss (s ∷ ss) (in_rest s ss) y.added y.losses);
   seats = y.seats ∙ x.seats;
+  limit = y.limit ∙ x.limit;
 }
 
 pub loses_first : (s : ℕ) (ss : List ℕ) (a b : Cabling) → Loses (s ∷ []) a b → Loses (s ∷ ss) a b
@@ -73,6 +75,7 @@ loses_first s ss a b x = record {
   grown = x.grown;
   losses = loss_of (s ∷ []) (s ∷ ss) (in_head s ss) x.added x.losses;
   seats = x.seats;
+  limit = x.limit;
 }
 
 -- ---- Nothing of a frame is pending after its loss

@@ -70,13 +70,13 @@ sending_quiet places c cable station to bytes =
 -- ---- Steps
 
 pub puts_none : (c : Cabling) → Puts c c
-puts_none c = record { added = []; grown = sym (append-nil (transcript c)); quiet = refl; seats = refl }
+puts_none c = record { added = []; grown = sym (append-nil (transcript c)); quiet = refl; seats = refl; limit = refl }
 
 pub puts_same : (old new : Cabling) → new ≡ old → Puts old new
 puts_same old new e = subst (Puts old) (sym e) (puts_none old)
 
 pub puts_adds : (old new : Cabling) (es : List Entry) → Adds old new es → are_quiet es ≡ true → Puts old new
-puts_adds old new es x quiet = record { added = es; grown = x.added; quiet = quiet; seats = x.seats }
+puts_adds old new es x quiet = record { added = es; grown = x.added; quiet = quiet; seats = x.seats; limit = x.limit }
 
 pub puts_then : (a b c : Cabling) → Puts a b → Puts b c → Puts a c
 puts_then a b c x y = record {
@@ -84,6 +84,7 @@ puts_then a b c x y = record {
   grown = y.grown ∙ (ap (λ l. l ++ y.added) x.grown ∙ append_assoc (transcript a) x.added y.added);
   quiet = quiet-append x.added y.added x.quiet y.quiet;
   seats = y.seats ∙ x.seats;
+  limit = y.limit ∙ x.limit;
 }
 
 pub puts_sends : (places : Places) (old new : Cabling) (cable station : ℕ) (to : Next) (bytes : List ℕ)
@@ -105,4 +106,5 @@ takes_of places ports old new stamp station Hears x = record {
   grown = x.entries.added;
   quiet = outputs_quiet places old.seats station (stamps (transcript old)) x.added;
   seats = x.entries.seats;
+  limit = x.entries.limit;
 }

@@ -34,12 +34,14 @@ loses w cable = unwrap_or (slice_get w.losing cable) false
 abbrev pub happened : Wires → List Entry
 happened w = transcript w.cabling
 
--- Further entries were played, of which so many are takings; the seats, the ranges, and which cables lose, stay.
+-- Further entries were played, of which so many are takings; the seats, the room, the ranges, and which cables lose,
+-- stay.
 pub record Plays (old new : Wires) : Type 0 where
   pub added : List Entry
   pub grown : happened new ≡ happened old ++ added
   pub played : IsPlayed old.cabling.seats (loses old) (happened old) added
   pub seats : new.cabling.seats ≡ old.cabling.seats
+  pub limit : new.cabling.limit ≡ old.cabling.limit
   pub own : new.own ≡ old.own
   pub ranges : new.ranges ≡ old.ranges
   pub losing : new.losing ≡ old.losing

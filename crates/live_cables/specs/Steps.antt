@@ -1,5 +1,5 @@
 -- The steps of one call on live cables. This project's own.
-use Rattle.std.specs.Prelude.{◌≡◌, ℕ, Bool, true, false, not, cond, drop, slice_get, Contains, IsTrue, List, [], ◌∷◌, ◌++◌}
+use Rattle.std.specs.Prelude.{◌≡◌, ◌<◌, ◌+◌, ℕ, Bool, true, false, not, cond, drop, length, slice_get, Contains, IsTrue, List, [], ◌∷◌, ◌++◌}
 use Rattle.std.specs.List.{list_all, list_any}
 use Rattle.std.specs.Option.{unwrap_or}
 use Rattle.cable_model.specs.Logs.{Cabling, transcript}
@@ -14,30 +14,36 @@ use Rattle.station.specs.Lawful.{IsNext}
 use Rattle.station.specs.declared.output.Output.{Output}
 use Rattle.station.specs.declared.output.Output.TheVariants.{Made}
 
+-- There is no room for so many more entries.
+abbrev pub HasNoRoom : ℕ → Cabling → Type 0
+HasNoRoom more c = c.limit < length c.lines + more
+
 -- the entry ends no pair
 abbrev pub is_quiet : Entry → Bool
 is_quiet (Took stamp station) = false
 is_quiet (Lost stamp) = false
 is_quiet _ = true
 
--- Entries were added that end no pair.
+-- Entries were added that end no pair; the seats and the room stay.
 pub record Puts (old new : Cabling) : Type 0 where
   pub added : List Entry
   pub grown : transcript new ≡ transcript old ++ added
   pub quiet : IsTrue (list_all is_quiet added)
   pub seats : new.seats ≡ old.seats
+  pub limit : new.limit ≡ old.limit
 
 -- the entry is the loss of one of these frames
 abbrev pub is_loss : List ℕ → Entry → Bool
 is_loss stamps (Lost stamp) = is_in stamps stamp
 is_loss stamps _ = false
 
--- Entries were added that are losses of these frames.
+-- Entries were added that are losses of these frames; the seats and the room stay.
 pub record Loses (stamps : List ℕ) (old new : Cabling) : Type 0 where
   pub added : List Entry
   pub grown : transcript new ≡ transcript old ++ added
   pub losses : IsTrue (list_all (is_loss stamps) added)
   pub seats : new.seats ≡ old.seats
+  pub limit : new.limit ≡ old.limit
 
 -- none of these frames is pending
 abbrev pub are_gone : List ℕ → Cabling → Bool
@@ -63,7 +69,8 @@ abbrev pub IsSendable : Output → Type 0
 IsSendable (Made port next bytes) = IsNext next
 IsSendable _ = Unit {0}
 
--- A station took a frame that was pending for it and put out what follows, and the further entries end no pair.
+-- A station took a frame that was pending for it and put out what follows, and the further entries end no pair;
+-- the seats and the room stay.
 pub record Takes (old new : Cabling) (stamp station : ℕ) (Hears : Hearing → List Output → Type 0) : Type 0 where
   pub pair : Pair
   pub was_pending : Contains (pending old.seats (transcript old)) pair
@@ -75,3 +82,4 @@ pub record Takes (old new : Cabling) (stamp station : ℕ) (Hears : Hearing → 
   pub grown : transcript new ≡ transcript old ++ Took stamp station ∷ rest
   pub quiet : IsTrue (list_all is_quiet rest)
   pub seats : new.seats ≡ old.seats
+  pub limit : new.limit ≡ old.limit

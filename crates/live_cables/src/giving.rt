@@ -6,7 +6,7 @@ ghost use Rattle.std.specs.List.{AllByRecursion};
 ghost use Rattle.station.specs.Lawful.{IsNext};
 ghost use Rattle.live_cables.specs.Finding.{seat_by as seat_by_in};
 ghost use Rattle.live_cables.specs.Putting.{AreGiven, IsGiven, IsMade};
-ghost use Rattle.live_cables.specs.Steps.{IsSendable, Puts};
+ghost use Rattle.live_cables.specs.Steps.{HasNoRoom, IsSendable, Puts};
 
 use crate::holding::hold_from;
 use crate::ports::Ports;
@@ -44,6 +44,7 @@ fn made(
     ensures made { OnOk result (IsMade ports.now.seats ports.now.own.items ports.now.ranges.items seat
         next bytes (cables.old, mappers.old) (cables.new, mappers.new)) }
     ensures puts { Puts cables.old cables.new }
+    ensures full { (result ≡ Err Error.Full) → HasNoRoom 3 cables.new }
     ensures refused { IfErr result (λ e. (e ≡ Error.Full) ⊎ (e ≡ Error.Memory)) }
     ensures mappers { length mappers.new ≡ length mappers.old }
 {
@@ -73,6 +74,7 @@ fn give(
     ensures given { OnOk result (IsGiven ports.now.seats ports.now.own.items ports.now.ranges.items
         station output (cables.old, mappers.old) (cables.new, mappers.new)) }
     ensures puts { Puts cables.old cables.new }
+    ensures full { (result ≡ Err Error.Full) → HasNoRoom 3 cables.new }
     ensures refused { IfErr result (λ e. (e ≡ Error.Full) ⊎ (e ≡ Error.Memory)) }
     ensures mappers { length mappers.new ≡ length mappers.old }
 {
@@ -102,6 +104,7 @@ pub fn give_all(
     ensures given { OnOk result (AreGiven ports.now.seats ports.now.own.items ports.now.ranges.items
         station outputs.old.items (cables.old, mappers.old) (cables.new, mappers.new)) }
     ensures puts { Puts cables.old cables.new }
+    ensures full { (result ≡ Err Error.Full) → HasNoRoom 3 cables.new }
     ensures refused { IfErr result (λ e. (e ≡ Error.Full) ⊎ (e ≡ Error.Memory)) }
     ensures mappers { length mappers.new ≡ length mappers.old }
     ensures emptied { OnOk result (outputs.new.items ≡ []) }

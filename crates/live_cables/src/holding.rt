@@ -1,12 +1,12 @@
 //! Datagrams that wait for a hardware address.
 
-ghost use Rattle.std.specs.Prelude.{◌≡◌, ◌<◌, ◌+◌, ◌⊎◌, IfErr, OnOk, drop};
+ghost use Rattle.std.specs.Prelude.{◌≡◌, ◌⊎◌, IfErr, OnErr, OnOk, drop};
 ghost use Rattle.std.specs.Prelude.{filter, length, not, slice_get};
 ghost use Rattle.aarp.specs.Mapping.{is_for};
 ghost use Rattle.cable_model.specs.Logs.{bytes_at};
 ghost use Rattle.live_cables.specs.Finding.{is_first_for, seat_by};
 ghost use Rattle.live_cables.specs.Putting.{AreHeld, ArePut, IsHeld, IsLearntBy, with_held};
-ghost use Rattle.live_cables.specs.Steps.{Puts};
+ghost use Rattle.live_cables.specs.Steps.{HasNoRoom, Puts};
 
 use crate::answer::Answer;
 use crate::ports::Ports;
@@ -49,7 +49,8 @@ fn hold(
     ensures held { OnOk result (IsHeld ports.now.seats ports.now.own.items
         (seat_by ports.now.seats station waiting.port) waiting.next
         (bytes_at cables.old.kept waiting.bytes) (cables.old, mappers.old) (cables.new, mappers.new)) }
-    ensures full { (result ≡ Err Error.Full) → cables.old.limit < length cables.old.lines + 1 }
+    ensures full { (result ≡ Err Error.Full) → HasNoRoom 1 cables.new }
+    ensures kept { OnErr result (cables.new ≡ cables.old) }
     ensures puts { Puts cables.old cables.new }
     ensures waiting { cables.new.waiting ≡ cables.old.waiting }
     ensures refused { IfErr result (λ e. (e ≡ Error.Full) ⊎ (e ≡ Error.Memory)) }
@@ -82,6 +83,7 @@ pub fn hold_from(
     ensures held { OnOk result (AreHeld ports.now.seats ports.now.own.items station
         (drop from cables.old.waiting) (cables.old, mappers.old) (cables.new, mappers.new)) }
     ensures puts { Puts cables.old cables.new }
+    ensures full { (result ≡ Err Error.Full) → HasNoRoom 1 cables.new }
     ensures refused { IfErr result (λ e. (e ≡ Error.Full) ⊎ (e ≡ Error.Memory)) }
     ensures mappers { length mappers.new ≡ length mappers.old }
 {
@@ -111,6 +113,7 @@ fn release(
       held = filter (λ h. not (is_for addr h)) mapper.old.held;
     }) }
     ensures puts { Puts cables.old cables.new }
+    ensures full { (result ≡ Err Error.Full) → HasNoRoom 1 cables.new }
     ensures refused { IfErr result (λ e. (e ≡ Error.Full) ⊎ (e ≡ Error.Memory)) }
 {
     let Some(held) = mapper.release(addr) else {
@@ -136,6 +139,7 @@ pub fn learn(
         (seat_by ports.now.seats station answer.port) answer
         (cables.old, mappers.old) (cables.new, mappers.new)) }
     ensures puts { Puts cables.old cables.new }
+    ensures full { (result ≡ Err Error.Full) → HasNoRoom 1 cables.new }
     ensures refused { IfErr result (λ e. (e ≡ Error.Full) ⊎ (e ≡ Error.Memory)) }
     ensures mappers { length mappers.new ≡ length mappers.old }
 {

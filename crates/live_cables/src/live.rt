@@ -13,6 +13,7 @@ ghost use Rattle.cable_model.specs.Transcript.{AreNumbered};
 ghost use Rattle.live_cables.specs.Finding.{held_at};
 ghost use Rattle.live_cables.specs.Living.{GivesOut, IsTakenBy, PassesFor, Plays, PlaysOn};
 ghost use Rattle.live_cables.specs.Living.{TakesIn, happened};
+ghost use Rattle.live_cables.specs.Steps.{HasNoRoom};
 ghost use Rattle.station.specs.Lawful.{AreLawful};
 
 use crate::giving::give_all;
@@ -204,6 +205,7 @@ impl LiveCables {
             (GivesOut station outputs.old.items self.old self.new) }
         ensures done { OnOk result (PlaysOn 0 self.old self.new) }
         ensures emptied { OnOk result (outputs.new.items ≡ []) }
+        ensures full { (result ≡ Err Error.Full) → HasNoRoom 3 self.new.cabling }
         ensures refused { IfErr result (λ e. (e ≡ Error.Full) ⊎ (e ≡ Error.Memory)) }
     {
         let from = self.cables.transcript().len();
@@ -242,6 +244,7 @@ impl LiveCables {
         ensures ports_stay { S.ports_of taker.new ≡ S.ports_of taker.old }
         ensures not_pending { (result ≡ Err Error.NotPending) ↔ (list_any (is_named stamp station)
             (pending_on self.old.cabling.seats (happened self.old)) ≡ false) }
+        ensures full { (result ≡ Err Error.Full) → HasNoRoom 771 self.new.cabling }
         ensures refused { IfErr result (λ e. (e ≡ Error.NotPending) ⊎ (e ≡ Error.Full)
             ⊎ (e ≡ Error.Memory)) }
     {
@@ -282,6 +285,7 @@ impl LiveCables {
         ensures passed { OnOk result (PassesFor seat self.old self.new) }
         ensures done { OnOk result (PlaysOn 0 self.old self.new) }
         ensures given_up { IfOk result (λ addrs. addrs ≡ given_up_of (held_at self.old.maps seat)) }
+        ensures full { (result ≡ Err Error.Full) → HasNoRoom 1 self.new.cabling }
         ensures refused { IfErr result (λ e. (e ≡ Error.Full) ⊎ (e ≡ Error.Memory)) }
     {
         let from = self.cables.transcript().len();

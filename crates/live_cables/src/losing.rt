@@ -1,12 +1,13 @@
 //! Frames that are lost, since they were put on cables that lose.
 
-ghost use Rattle.std.specs.Prelude.{◌≡◌, ◌<◌, ◌+◌, ◌⊎◌, ◌↔◌, ◌++◌, ◌∷◌, []};
-ghost use Rattle.std.specs.Prelude.{IfErr, IsOkUnless, IsTrue, OnOk, drop, length, true};
+ghost use Rattle.std.specs.Prelude.{◌≡◌, ◌⊎◌, ◌↔◌, ◌++◌, ◌∷◌, []};
+ghost use Rattle.std.specs.Prelude.{IfErr, IsOkUnless, IsTrue, OnErr, OnOk, drop, true};
 ghost use Rattle.std.specs.List.{list_any};
 ghost use Rattle.cable_model.specs.Logs.{transcript as said};
 ghost use Rattle.cable_model.specs.Outcomes.{has_stamp};
 ghost use Rattle.cable_model.specs.Pending.{pending as pending_on};
-ghost use Rattle.live_cables.specs.Steps.{Loses, are_gone, line_losses, loses_by, losses_since};
+ghost use Rattle.live_cables.specs.Steps.{HasNoRoom, Loses, are_gone, line_losses, loses_by};
+ghost use Rattle.live_cables.specs.Steps.{losses_since};
 
 use at_base::Error;
 use cable_model::{Cables, Entry};
@@ -54,7 +55,8 @@ fn lose(cables: &mut Cables, stamp: u32) -> Result<(), Error>
     ensures gone { OnOk result (IsTrue (are_gone (stamp ∷ []) cables.new)) }
     ensures full { (result ≡ Err Error.Full)
         ↔ ((list_any (has_stamp stamp) (pending_on cables.old.seats (said cables.old)) ≡ true)
-        × (cables.old.limit < length cables.old.lines + 1)) }
+        × HasNoRoom 1 cables.old) }
+    ensures kept { OnErr result (cables.new ≡ cables.old) }
     ensures refused { IfErr result (λ e. (e ≡ Error.Full) ⊎ (e ≡ Error.Memory)) }
 {
     match cables.lose(stamp) {
@@ -68,6 +70,7 @@ fn lose(cables: &mut Cables, stamp: u32) -> Result<(), Error>
 fn lose_all(cables: &mut Cables, stamps: &[u32]) -> Result<(), Error>
     ensures loses { Loses stamps.now cables.old cables.new }
     ensures gone { OnOk result (IsTrue (are_gone stamps.now cables.new)) }
+    ensures full { (result ≡ Err Error.Full) → HasNoRoom 1 cables.new }
     ensures refused { IfErr result (λ e. (e ≡ Error.Full) ⊎ (e ≡ Error.Memory)) }
 {
     match stamps {
@@ -93,6 +96,7 @@ pub fn lose_from(
     ensures loses { Loses (losses_since losing.now from cables.old) cables.old cables.new }
     ensures gone { OnOk result
         (IsTrue (are_gone (losses_since losing.now from cables.old) cables.new)) }
+    ensures full { (result ≡ Err Error.Full) → HasNoRoom 1 cables.new }
     ensures refused { IfErr result (λ e. (e ≡ Error.Full) ⊎ (e ≡ Error.Memory)) }
 {
     if !has_loss(losing) {

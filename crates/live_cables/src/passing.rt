@@ -4,7 +4,7 @@ ghost use Rattle.std.specs.Prelude.{◌≡◌, ◌⊎◌, IfErr, OnOk, length, s
 ghost use Rattle.aarp.specs.Mapping.{given_up as given_up_of, to_ask};
 ghost use Rattle.live_cables.specs.Finding.{held_at};
 ghost use Rattle.live_cables.specs.Putting.{AreAsked, with_tick};
-ghost use Rattle.live_cables.specs.Steps.{Puts};
+ghost use Rattle.live_cables.specs.Steps.{HasNoRoom, Puts};
 
 use crate::ports::Ports;
 use crate::putting::ask;
@@ -40,6 +40,7 @@ pub fn ask_all(
     ensures asked { OnOk result (AreAsked (slice_get ports.now.seats seat)
         (slice_get ports.now.own.items seat) addrs.now cables.old cables.new) }
     ensures puts { Puts cables.old cables.new }
+    ensures full { (result ≡ Err Error.Full) → HasNoRoom 1 cables.new }
     ensures refused { IfErr result (λ e. (e ≡ Error.Full) ⊎ (e ≡ Error.Memory)) }
 {
     match addrs {

@@ -6,7 +6,7 @@ ghost use Rattle.cable_model.specs.Logs.{transcript as said};
 ghost use Rattle.cable_model.specs.Outcomes.{AreSeatsOf, IsTaken, Places, is_named};
 ghost use Rattle.cable_model.specs.Pending.{pending as pending_on};
 ghost use Rattle.live_cables.specs.Putting.{IsAnswer, IsFollowed};
-ghost use Rattle.live_cables.specs.Steps.{Puts, Takes};
+ghost use Rattle.live_cables.specs.Steps.{HasNoRoom, Puts, Takes};
 
 use crate::answer::{Answer, answer_in};
 use crate::holding::{hold_from, learn};
@@ -35,6 +35,7 @@ pub fn take<S: Taker, R: Resolve>(
     ensures ports_stay { S.ports_of taker.new ≡ S.ports_of taker.old }
     ensures not_pending { (result ≡ Err Error.NotPending) ↔ (list_any (is_named stamp station)
         (pending_on cables.old.seats (said cables.old)) ≡ false) }
+    ensures full { (result ≡ Err Error.Full) → HasNoRoom 771 cables.new }
     ensures refused { IfErr result (λ e. (e ≡ Error.NotPending) ⊎ (e ≡ Error.Full)
         ⊎ (e ≡ Error.Memory)) }
     ensures kept { OnErr result (cables.new ≡ cables.old) }
@@ -66,6 +67,7 @@ pub fn follow(
     ensures followed { OnOk result (IsFollowed ports.now.seats ports.now.own.items station answer
         (cables.old, mappers.old) (cables.new, mappers.new)) }
     ensures puts { Puts cables.old cables.new }
+    ensures full { (result ≡ Err Error.Full) → HasNoRoom 1 cables.new }
     ensures refused { IfErr result (λ e. (e ≡ Error.Full) ⊎ (e ≡ Error.Memory)) }
     ensures mappers { length mappers.new ≡ length mappers.old }
 {
