@@ -42,7 +42,7 @@ fn each_answer_has_its_status(rt: HostRuntime) {
 }
 
 #[test]
-fn each_outcome_has_its_exit(rt: HostRuntime) {
+fn each_end_before_an_answer_has_its_exit(rt: HostRuntime) {
     let outcomes = [
         (Outcome::NoArguments(ErrorKind::OutOfMemory), 3, Some(14)),
         (Outcome::NoArguments(ErrorKind::InvalidData), 2, None),
@@ -64,24 +64,28 @@ fn each_outcome_has_its_exit(rt: HostRuntime) {
             3,
             Some(16),
         ),
-        (Outcome::Answered(Ok(true)), 0, None),
-        (Outcome::Answered(Ok(false)), 1, None),
-        (
-            Outcome::Answered(Err(Error::BadImage(0, Cause::Cut))),
-            2,
-            Some(12),
-        ),
-        (Outcome::Answered(Err(Error::Full)), 2, Some(11)),
-        (
-            Outcome::Answered(Err(Error::BadFile(Part::Cable, 1))),
-            2,
-            Some(13),
-        ),
-        (Outcome::Answered(Err(Error::Memory)), 3, Some(14)),
-        (Outcome::Answered(Err(Error::ReadFault)), 3, Some(15)),
-        (Outcome::Answered(Err(Error::WriteFault)), 3, Some(16)),
     ];
     for (outcome, status, refusal) in outcomes {
         assert_eq!(rt; exit_of(&outcome), Exit { status, refusal });
+    }
+}
+
+#[test]
+fn each_answer_has_its_exit(rt: HostRuntime) {
+    let answers = [
+        (Ok(true), 0, None),
+        (Ok(false), 1, None),
+        (Err(Error::BadImage(0, Cause::Cut)), 2, Some(12)),
+        (Err(Error::Full), 2, Some(11)),
+        (Err(Error::BadFile(Part::Cable, 1)), 2, Some(13)),
+        (Err(Error::Memory), 3, Some(14)),
+        (Err(Error::ReadFault), 3, Some(15)),
+        (Err(Error::WriteFault), 3, Some(16)),
+    ];
+    for (answer, status, refusal) in answers {
+        assert_eq!(rt;
+            exit_of(&Outcome::Answered(answer)),
+            Exit { status, refusal }
+        );
     }
 }
