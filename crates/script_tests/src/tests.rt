@@ -26,6 +26,21 @@ const SENT: Sent<'static> = Sent {
     payload: &[0x0A, 0xFF],
 };
 
+/// The least values and the greatest ones, where `SENT` and the test beside it have others.
+const LEAST: Sent<'static> = Sent {
+    node: Addr { net: 1, node: 0 },
+    via: None,
+    source_socket: 0,
+    target: Addr {
+        net: 65535,
+        node: 0,
+    },
+    target_socket: 255,
+    kind: 0,
+    summed: false,
+    payload: &[],
+};
+
 // ---- What nodes send
 
 #[test]
@@ -54,6 +69,7 @@ fn a_sending_is_read_field_by_field(rt: HostRuntime) -> Result<(), Fail> {
         payload: &[0x00],
     };
     assert!(rt; sends(alloc, b"send 65535.255 0.0 255 0.255 0 255 0 00", &greatest)?);
+    assert!(rt; sends(alloc, b"send 1.0 - 0 65535.0 255 0 0 -", &LEAST)?);
     Ok(())
 }
 
@@ -127,7 +143,7 @@ fn long_data_are_no_bad_line(rt: HostRuntime) -> Result<(), Fail> {
 #[test]
 fn a_request_is_cut_at_its_first_colon_and_its_last_at_sign(rt: HostRuntime) -> Result<(), Fail> {
     let by = Some(Addr { net: 10, node: 1 });
-    let cases: [(&[u8], [&[u8]; 3]); 8] = [
+    let cases: [(&[u8], [&[u8]; 3]); 9] = [
         (b"=:LaserWriter@blue", [b"=", b"LaserWriter", b"blue"]),
         (b"a:b:c@d@e", [b"a", b"b:c@d", b"e"]),
         (b"a:b@", [b"a", b"b", b""]),
@@ -140,20 +156,20 @@ fn a_request_is_cut_at_its_first_colon_and_its_last_at_sign(rt: HostRuntime) -> 
             [b"the lab", b"Laser  Writer", b"Red Zone "],
         ),
         (b" a:b@ ", [b" a", b"b", b" "]),
+        // Any byte may stand in a name.
+        (b"\xC5:\x80\x00@\xFF", [b"\xC5", b"\x80\x00", b"\xFF"]),
     ];
     for (name, parts) in cases {
         let line = joined(rt.alloc(), &[b"request 10.7 10.1 9 ", name])?;
         assert!(rt; asks(rt.alloc(), line.as_slice(), by, 9, parts)?);
     }
-    assert!(rt;
-        asks(
-            rt.alloc(),
-            b"request 10.7 - 255 a:b@c\n",
-            None,
-            255,
-            [b"a", b"b", b"c"]
-        )?
-    );
+    let lines: [(&[u8], u8); 2] = [
+        (b"request 10.7 - 255 a:b@c\n", 255),
+        (b"request 10.7 - 0 a:b@c", 0),
+    ];
+    for (line, id) in lines {
+        assert!(rt; asks(rt.alloc(), line, None, id, [b"a", b"b", b"c"])?);
+    }
     Ok(())
 }
 
@@ -219,6 +235,9 @@ fn lines_are_counted_and_some_are_skipped(rt: HostRuntime) -> Result<(), Fail> {
     for (text, wanted) in cases {
         assert_eq!(rt; outcome_of(rt.alloc(), &[text])?, wanted);
     }
+    let many = [b'\n'; 300];
+    let outcome = outcome_of(rt.alloc(), &[many.as_slice(), b"x".as_slice()])?;
+    assert_eq!(rt; outcome, Outcome::BadAt(301));
     Ok(())
 }
 
