@@ -176,7 +176,7 @@ pub(crate) const ORDERS: [Whole; 12] = [
 ];
 
 /// Files with as many entries as there may be, or one more.
-pub(crate) const LIMITS: [Whole; 12] = [
+pub(crate) const LIMITS: [Whole; 14] = [
     (&[(1, TOP), (200, CABLE)], None),
     // What is past the limit isn't looked at: the fault of the 202nd cable isn't told.
     (
@@ -235,6 +235,19 @@ pub(crate) const LIMITS: [Whole; 12] = [
             (1, b"type = 0\nhex = '"),
             (1174, b"7"),
             (1, b"'\n"),
+        ],
+        None,
+    ),
+    // The number of an entry needn't fit a byte.
+    (
+        &[(1, TOP), (1, CABLE), (300, LOSE), (1, BAD_LOSE)],
+        Some((Part::Lose, 301)),
+    ),
+    (
+        &[
+            (1, TOP),
+            (200, CABLE),
+            (1, b"[[lose]]\ncable = 200\nfirst = 1\nlast = 1\n"),
         ],
         None,
     ),
