@@ -8,7 +8,7 @@ mod steps;
 mod texts;
 
 use cables::transcripts_are_printed;
-use printing::{a_later_frame_is_taken, prints};
+use printing::{a_later_frame_is_taken, numbers_are_decimal, prints};
 use std::test::*;
 
 #[test]
@@ -40,5 +40,6 @@ fn bytes_are_in_digits(rt: HostRuntime) -> Result<(), Fail> {
     );
     assert!(rt; prints(rt.alloc(), &steps::digits(), texts::DIGITS)?);
     assert!(rt; prints(rt.alloc(), &steps::short(), texts::SHORT)?);
+    assert!(rt; numbers_are_decimal(rt.alloc())?);
     Ok(())
 }

@@ -1,12 +1,12 @@
 //! Entries printed over the image of three cables.
 
 use super::steps::{Step, put};
-use at_base::{Error, Hw};
+use at_base::{Addr, Error, Hw};
 use cable_model::Entry;
 use example_images::three_cables::image;
 use std::alloc::Global;
 use table_image::{Image, read};
-use trace_lines::Lines;
+use trace_lines::{Lines, put_address, put_decimal};
 
 /// The text of these entries.
 fn text_once(alloc: Global, image: &Image, steps: &[Step]) -> Result<Vec<u8>, Error> {
@@ -61,4 +61,31 @@ pub(crate) fn a_later_frame_is_taken(alloc: Global) -> Result<bool, Error> {
         other => other?,
     };
     Ok(text.as_slice() == b"took 255 10.1\ntook 256 20.1\n".as_slice())
+}
+
+/// The greatest address, no address, and numbers of each length.
+fn decimal_once(alloc: Global) -> Result<Vec<u8>, Error> {
+    let greatest = Addr {
+        net: 65535,
+        node: 255,
+    };
+    let mut text = Vec::new(alloc);
+    put_address(&mut text, greatest)?;
+    text.push(b' ')?;
+    put_address(&mut text, Addr::NONE)?;
+    for number in [9, 10, 99, 100, 999, 1000, 10203, 4294967295] {
+        text.push(b' ')?;
+        put_decimal(&mut text, number)?;
+    }
+    Ok(text)
+}
+
+/// Addresses and numbers are printed in decimal, each digit of them.
+pub(crate) fn numbers_are_decimal(alloc: Global) -> Result<bool, Error> {
+    let text = match decimal_once(alloc) {
+        Err(Error::Memory) => decimal_once(alloc)?,
+        other => other?,
+    };
+    let wanted = b"65535.255 0.0 9 10 99 100 999 1000 10203 4294967295";
+    Ok(text.as_slice() == wanted.as_slice())
 }

@@ -25,6 +25,17 @@ const GROUP_118: Hw = Hw([0x09, 0x00, 0x07, 0x00, 0x00, 0x76]);
 
 const GROUP_252: Hw = Hw([0x09, 0x00, 0x07, 0x00, 0x00, 0xFC]);
 
+const GROUP_0: Hw = Hw([0x09, 0x00, 0x07, 0x00, 0x00, 0x00]);
+
+/// Nobody's: each differs from that of group 0 in one byte.
+const LIKE_GROUP_0: [Hw; 5] = [
+    Hw([0x0B, 0x00, 0x07, 0x00, 0x00, 0x00]),
+    Hw([0x09, 0x01, 0x07, 0x00, 0x00, 0x00]),
+    Hw([0x09, 0x00, 0x06, 0x00, 0x00, 0x00]),
+    Hw([0x09, 0x00, 0x07, 0xFF, 0x00, 0x00]),
+    Hw([0x09, 0x00, 0x07, 0x00, 0x01, 0x00]),
+];
+
 const NO_GROUP: Hw = Hw([0x09, 0x00, 0x07, 0x00, 0x00, 0xFD]);
 
 /// A frame on a cable.
@@ -77,7 +88,7 @@ pub(crate) fn on_its_way() -> [Step; 4] {
 }
 
 /// Frames to all, to groups, to stations of the cable, and to a station of another cable.
-pub(crate) fn for_whom() -> [Step; 9] {
+pub(crate) fn for_whom() -> [Step; 15] {
     [
         (put(0, 0, 0, Hw::ALL), &ZERO),
         (put(1, 1, 1, GROUP_118), &ZERO),
@@ -88,6 +99,12 @@ pub(crate) fn for_whom() -> [Step; 9] {
         (put(6, 2, 1, NODE_30_5), &ZERO),
         (put(7, 0, 0, NODE_30_5), &ZERO),
         (put(8, 0, 0, LIKE_10_7), &ZERO),
+        (put(9, 0, 0, GROUP_0), &ZERO),
+        (put(10, 0, 0, LIKE_GROUP_0[0]), &ZERO),
+        (put(11, 0, 0, LIKE_GROUP_0[1]), &ZERO),
+        (put(12, 0, 0, LIKE_GROUP_0[2]), &ZERO),
+        (put(13, 0, 0, LIKE_GROUP_0[3]), &ZERO),
+        (put(14, 0, 0, LIKE_GROUP_0[4]), &ZERO),
     ]
 }
 

@@ -19,6 +19,12 @@ put 5 cable 2 20.1 to 20.2 00
 put 6 cable 3 30.1 to 30.5 00
 put 7 cable 1 10.1 to 0.0 00
 put 8 cable 1 10.1 to 0.0 00
+put 9 cable 1 10.1 to group 0 00
+put 10 cable 1 10.1 to 0.0 00
+put 11 cable 1 10.1 to 0.0 00
+put 12 cable 1 10.1 to 0.0 00
+put 13 cable 1 10.1 to 0.0 00
+put 14 cable 1 10.1 to 0.0 00
 ";
 
 pub(crate) const REACHED: &'static str = "\
