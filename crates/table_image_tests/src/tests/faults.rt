@@ -4,7 +4,7 @@
 use at_base::Cause;
 use example_images::fields::{
     CABLE_INDEX, CABLE_ZONES, CABLES, ENUMERATOR, HARDWARE, LIST_COMPLETE, LIST_ZONES, MAGIC,
-    NETWORK, NODE, ROW_DISTANCE, ROW_PORT, ROW_STATE, SOCKET, TEXT, VERSION,
+    NETWORK, NODE, ROW_DISTANCE, ROW_NEXT, ROW_PORT, ROW_STATE, SOCKET, TEXT, VERSION,
 };
 use example_images::three_cables::{
     CABLE_1, FIRST_LIST_1, FIRST_LIST_2, FIRST_LIST_3, FIRST_LISTS, FIRST_PORT_1, FIRST_PORTS,
@@ -148,7 +148,7 @@ pub(crate) const TWO_FAULTS: [Refused; 7] = [
 ];
 
 /// The offset of the byte that is changed, and the byte: what a field may just be.
-pub(crate) const THREE_LIMITS: [(usize, u8); 24] = [
+pub(crate) const THREE_LIMITS: [(usize, u8); 28] = [
     (FIRST_ROW_1 + ROW_DISTANCE, 31),
     (FIRST_ROW_1 + ROW_PORT, 1),
     (FIRST_PORT_1 + CABLE_INDEX, 2),
@@ -173,6 +173,10 @@ pub(crate) const THREE_LIMITS: [(usize, u8); 24] = [
     (NODE_1 + NETWORK, 0xFF),
     (NODE_1 + NODE, 0xFF),
     (NODE_1 + HARDWARE, 0xFF),
+    (FIRST_ROW_1 + ROW_NEXT, 0xFF), // so is who may be a next router, here of a direct row
+    (FIRST_ROW_1 + ROW_NEXT + 2, 0xFF),
+    (NODE_1_ROUTER + 1, 0xFF), // and who may be a node's
+    (NODE_1_ROUTER + 3, 0xFF),
 ];
 
 /// The same, of the two zones that the second router has for 20-29, which the first has too.
