@@ -10,13 +10,14 @@ mod zones;
 use requests::users_are_served;
 use routers::{heard_routers_are_taken, silent_routers_are_forgotten};
 use std::test::*;
-use ticks::{addresses_are_probed_for, addresses_given_are_kept};
-use zones::{answers_without_a_zone_end_it, the_first_answer_counts};
+use ticks::{addresses_are_probed_for, addresses_given_are_kept, taken_addresses_are_left};
+use zones::{answers_without_a_zone_end_it, any_answer_counts, the_first_answer_counts};
 
 #[test]
 fn a_node_chooses_its_address_and_asks_about_its_cable(rt: HostRuntime) -> Result<(), Fail> {
     assert!(rt; addresses_are_probed_for(rt.alloc())?);
     assert!(rt; addresses_given_are_kept(rt.alloc())?);
+    assert!(rt; taken_addresses_are_left(rt.alloc())?);
     Ok(())
 }
 
@@ -31,6 +32,7 @@ fn a_node_has_the_router_that_it_hears(rt: HostRuntime) -> Result<(), Fail> {
 fn a_node_is_told_its_zone(rt: HostRuntime) -> Result<(), Fail> {
     assert!(rt; the_first_answer_counts(rt.alloc())?);
     assert!(rt; answers_without_a_zone_end_it(rt.alloc())?);
+    assert!(rt; any_answer_counts(rt.alloc())?);
     Ok(())
 }
 

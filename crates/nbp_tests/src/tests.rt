@@ -6,7 +6,9 @@ mod packets;
 mod readme;
 
 use at_base::{Error, Field, Text32, What};
-use expansion::{asks_by_ports_of_the_range, asks_by_what_has_come, asks_each_cable};
+use expansion::{
+    asks_by_ports_of_the_range, asks_by_what_has_come, asks_each_cable, asks_many_cables,
+};
 use named::{
     answer_for, answers, copied, fill, finds, lab, load_two, no_names, register, rise_to, three,
 };
@@ -30,6 +32,10 @@ fn a_request_is_read_and_written(rt: HostRuntime) -> Result<(), Fail> {
     let bytes = written(rt.alloc(), Function::BroadcastRequest, 1, &tuple)?;
     assert_eq!(rt; bytes.as_slice(), REQUEST.as_slice());
     written_is_read();
+    // of the address, the socket and the enumerator each number is read
+    for (place, byte) in [(3, 0), (4, 0), (4, 255), (5, 0), (5, 255), (6, 9)] {
+        assert_eq!(rt; refusal_with(place, byte, 16), None);
+    }
     Ok(())
 }
 
@@ -157,6 +163,8 @@ fn a_pattern_without_a_wildcard_is_the_name(rt: HostRuntime) -> Result<(), Fail>
     assert!(rt; !matches(b"LaserWriter", b"LaserWrite"));
     assert!(rt; matches(b"", b""));
     assert!(rt; !matches(b"", b"a"));
+    assert!(rt; matches(&[b'a'; 32], &[b'A'; 32]));
+    assert!(rt; !matches(&[b'a'; 32], &[b'a'; 31]));
     Ok(())
 }
 
@@ -165,6 +173,7 @@ fn the_equals_sign_alone_matches_every_name(rt: HostRuntime) -> Result<(), Fail>
     assert!(rt; matches(b"=", b"LaserWriter"));
     assert!(rt; matches(b"=", b""));
     assert!(rt; matches(b"=", &[0xC5]));
+    assert!(rt; matches(b"=", &[b'a'; 32]));
     assert!(rt; matches(b"a=", b"A="));
     assert!(rt; !matches(b"a=", b"ab"));
     assert!(rt; !matches(b"==", b"a"));
@@ -182,6 +191,7 @@ fn a_wildcard_stands_for_any_bytes(rt: HostRuntime) -> Result<(), Fail> {
     assert!(rt; matches(&[0x4C, 0xC5], b"L"));
     assert!(rt; matches(&[0xC5, 0x72], b"LaserWriter"));
     assert!(rt; matches(&[0xC5, b'='], b"a="));
+    assert!(rt; matches(&[b'a', 0xC5], &[b'a'; 32]));
     assert!(rt; !matches(&[0xC5, b'='], b"ab"));
     Ok(())
 }
@@ -266,6 +276,8 @@ fn a_node_has_32_names(rt: HostRuntime) -> Result<(), Fail> {
     assert_eq!(rt; register(&mut names, b"=", b"t", 129), Err(Error::BadName));
     assert_eq!(rt; register(&mut names, b"Lab", b"LaserWriter", 129), taken);
     assert!(rt; rise_to(&names, 32));
+    // one that stands for them all is answered with all of them
+    assert_eq!(rt; answers(&names, b"=", b"=")?.len(), 32);
     Ok(())
 }
 
@@ -350,5 +362,6 @@ fn a_router_asks_each_cable_of_a_zone(rt: HostRuntime) -> Result<(), Fail> {
     assert!(rt; asks_each_cable(rt.alloc())?);
     assert!(rt; asks_by_ports_of_the_range(rt.alloc())?);
     assert!(rt; asks_by_what_has_come(rt.alloc())?);
+    assert!(rt; asks_many_cables(rt.alloc())?);
     Ok(())
 }

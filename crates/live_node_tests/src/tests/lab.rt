@@ -127,3 +127,27 @@ pub(crate) fn hears(
     }
     Ok(outputs.is_empty())
 }
+
+fn hear_packet_once(node: &mut LiveNode, bytes: &[u8], outputs: &mut Outputs) -> Result<(), Error> {
+    let heard = Heard {
+        port: 0,
+        link: Link::All,
+        kind: Kind::Aarp,
+        bytes,
+    };
+    node.receive(&heard, outputs)
+}
+
+/// Whether the node puts nothing out for an AARP packet.
+pub(crate) fn hears_packet(
+    alloc: Global,
+    node: &mut LiveNode,
+    bytes: &[u8],
+) -> Result<bool, Error> {
+    let mut outputs = Outputs::new(alloc)?;
+    match hear_packet_once(node, bytes, &mut outputs) {
+        Err(Error::Memory) => hear_packet_once(node, bytes, &mut outputs)?,
+        answer => answer?,
+    }
+    Ok(outputs.is_empty())
+}

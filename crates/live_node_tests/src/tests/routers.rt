@@ -20,7 +20,8 @@ fn hears_of(alloc: Global, node: &mut LiveNode, bytes: &[u8]) -> Result<Option<A
     Ok(node.node().router())
 }
 
-/// The last router that was heard is the node's, whether the node has an address yet or not. What
+/// The last router that was heard is the node's, whether the node has an address yet or not, and
+/// whatever cable it tells of. What
 /// isn't a packet of routing data is ignored, and so is one for another socket, or with a wrong
 /// checksum.
 pub(crate) fn heard_routers_are_taken(alloc: Global) -> Result<bool, Error> {
@@ -29,13 +30,16 @@ pub(crate) fn heard_routers_are_taken(alloc: Global) -> Result<bool, Error> {
     wrong[22] = 0x81;
     socket[10] = 0x02;
     sum[3] = 0x01;
+    let mut foreign = ROUTES;
+    (foreign[14], foreign[18], foreign[21]) = (0x14, 0x14, 0x1D);
     let mut node = unsettled(alloc)?;
-    let steps: [(&[u8], Option<Addr>); 7] = [
+    let steps: [(&[u8], Option<Addr>); 8] = [
         (&wrong, None),
         (&socket, None),
         (&sum, None),
         (&ROUTES, ROUTER),
         (&other, Some(Addr { net: 10, node: 2 })),
+        (&foreign, Some(Addr { net: 20, node: 1 })),
         (&ROUTES, ROUTER),
         (&wrong, ROUTER),
     ];
@@ -48,18 +52,22 @@ pub(crate) fn heard_routers_are_taken(alloc: Global) -> Result<bool, Error> {
 }
 
 /// A router that was heard is the node's for 249 ticks, and is forgotten in the 250th, also where
-/// the node had no address in the first ten of them. Routing data begins them anew, and an answer
-/// about the cable, here to every node of it, doesn't.
+/// the node had no address in the first ten of them. Routing data begins them anew, that of another
+/// router too, and an answer about the cable, here to every node of it, doesn't.
 pub(crate) fn silent_routers_are_forgotten(alloc: Global) -> Result<bool, Error> {
-    let mut answer = ANSWER;
+    let (mut answer, mut other) = (ANSWER, ROUTES);
     (answer[5], answer[8]) = (0x00, 0xFF);
+    other[16] = 0x02;
+    let second = Some(Addr { net: 10, node: 2 });
     let mut node = unsettled(alloc)?;
-    let steps: [(&[u8], u16, Option<Addr>); 6] = [
+    let steps: [(&[u8], u16, Option<Addr>); 8] = [
         (&ROUTES, 249, ROUTER),
         (&answer, 1, None),
         (&ROUTES, 249, ROUTER),
         (&ROUTES, 249, ROUTER),
+        (&other, 249, second),
         (&[], 1, None),
+        (&other, 0, second),
         (&ROUTES, 0, ROUTER),
     ];
     for (bytes, ticks, router) in steps {

@@ -56,3 +56,25 @@ pub(crate) fn answers_without_a_zone_end_it(alloc: Global) -> Result<bool, Error
     let later = is_in(alloc, &mut node, &ANSWER, b"Red")?;
     Ok(stays && later && is_content(alloc, &mut node)?)
 }
+
+/// An answer counts that goes to every node, or is about another zone than the one asked for, and
+/// one that comes long after the last question.
+pub(crate) fn any_answer_counts(alloc: Global) -> Result<bool, Error> {
+    let (mut all, mut other) = (ANSWER, ANSWER);
+    (all[5], all[8]) = (0x00, 0xFF);
+    other[20] = b'S';
+    let cases: [(Link, &[u8], u16); 3] = [
+        (Link::All, &all, 1),
+        (Link::Own, &other, 1),
+        (Link::Own, &ANSWER, 60),
+    ];
+    for (link, bytes, ticks) in cases {
+        let mut node = settled(alloc)?;
+        pass(alloc, &mut node, ticks)?;
+        let silent = hears(alloc, &mut node, link, bytes)?;
+        if !silent || node.node().zone().as_slice() != b"Blue".as_slice() {
+            return Ok(false);
+        }
+    }
+    Ok(true)
+}

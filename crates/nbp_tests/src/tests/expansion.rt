@@ -124,10 +124,32 @@ pub(crate) fn asks_by_ports_of_the_range(alloc: Global) -> Result<bool, Error> {
     Ok(asks(alloc, &table, &near, &steps)? && asks(alloc, &table, &[], &none)?)
 }
 
-/// A list that isn't complete is asked too.
+/// A list that isn't complete is asked too. The ranges rise, whether they are ports' or not, and
+/// whichever came last.
 pub(crate) fn asks_by_what_has_come(alloc: Global) -> Result<bool, Error> {
     let mut zones = three(alloc)?;
     add(&mut zones, Range::new(40, 49)?, 2, &Name::new(b"Blue")?)?;
-    let blue = [Ask::Lookup(1), Ask::Forward(30), Ask::Forward(40)];
+    add(&mut zones, Range::new(1, 9)?, 2, &Name::new(b"Blue")?)?;
+    let blue = [
+        Ask::Forward(1),
+        Ask::Lookup(1),
+        Ask::Forward(30),
+        Ask::Forward(40),
+    ];
     asks(alloc, &zones, &PORTS, &[(b"Blue", &blue)])
+}
+
+/// Each of 200 cables of a zone with the longest name is asked.
+pub(crate) fn asks_many_cables(alloc: Global) -> Result<bool, Error> {
+    let mut zones = table(alloc)?;
+    let longest = Name::new(&[b'B'; 32])?;
+    for start in 1..=200u16 {
+        set(&mut zones, Range::new(start, start)?, &[longest])?;
+    }
+    let made = asked(alloc, &[b'b'; 32], &zones, &[])?;
+    let last = match made.as_slice().get(199) {
+        Some(ask) => *ask == Ask::Forward(200),
+        None => false,
+    };
+    Ok(last && made.len() == 200)
 }

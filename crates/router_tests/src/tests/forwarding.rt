@@ -22,8 +22,8 @@ fn with(places: &[(usize, u8)]) -> [u8; 18] {
     bytes
 }
 
-/// One hop more is counted, and nothing else is changed: no padding is passed on, and a checksum
-/// isn't looked at.
+/// One hop more is counted, and nothing else is changed, not the two bits above the hops either: no
+/// padding is passed on, and a checksum isn't looked at.
 pub(crate) fn datagrams_go_to_the_next_router(alloc: Global) -> Result<bool, Error> {
     let mut padded = [0; 20];
     padded[..18].copy_from_slice(&PING);
@@ -32,8 +32,10 @@ pub(crate) fn datagrams_go_to_the_next_router(alloc: Global) -> Result<bool, Err
     let still_wrong = with(&[(0, 0x04), (2, 0x83), (3, 0xF3)]);
     let fourteen = with(&[(0, 0x38)]);
     let fifteen = with(&[(0, 0x3C)]);
-    let steps: [(&[u8], Want<'_>); 5] = [
+    let (high, high_once) = (with(&[(0, 0xC0)]), with(&[(0, 0xC4)]));
+    let steps: [(&[u8], Want<'_>); 6] = [
         (&PING, Want::Passed(1, SECOND, &once)),
+        (&high, Want::Passed(1, SECOND, &high_once)),
         (&padded, Want::Passed(1, SECOND, &once)),
         (&wrong, Want::Passed(1, SECOND, &still_wrong)),
         (&fourteen, Want::Passed(1, SECOND, &fifteen)),
@@ -113,6 +115,27 @@ pub(crate) fn far_cables_are_heard_for(alloc: Global) -> Result<bool, Error> {
         answers(alloc, &all, &every_node)?
             && answers(alloc, &late, &limit)?
             && answers(alloc, &any, &kept)?,
+    )
+}
+
+/// What is for the router on its far cable is kept after however many hops, without padding; where
+/// its checksum is wrong, it is kept or passed on too, and nothing is answered.
+pub(crate) fn far_addresses_are_the_routers(alloc: Global) -> Result<bool, Error> {
+    let mut back = with(&[(5, 0x0A), (7, 0x14), (8, 0x07), (9, 0x01)]);
+    (back[10], back[11], back[13]) = (0x80, 0x04, 0x02);
+    let late = with(&[(0, 0x3C), (5, 0x14), (8, 0x01)]);
+    let mut padded = [0; 20];
+    padded[..18].copy_from_slice(&late);
+    let wrong = with(&[(2, 0x83), (3, 0xF3), (5, 0x14), (8, 0x01)]);
+    let all = with(&[(2, 0x83), (3, 0xF3), (5, 0x14), (8, 0xFF)]);
+    let passed = with(&[(0, 0x04), (2, 0x83), (3, 0xF3), (5, 0x14), (8, 0xFF)]);
+    let kept = [Want::Kept(1, &late), Want::Made(0, ASKER, &back)];
+    let to_all = [Want::Passed(1, Next::All, &passed)];
+    Ok(
+        answers(alloc, &late, &kept)?
+            && answers(alloc, &padded, &kept)?
+            && answers(alloc, &wrong, &[Want::Kept(1, &wrong)])?
+            && answers(alloc, &all, &to_all)?,
     )
 }
 

@@ -87,6 +87,40 @@ pub(crate) fn lab(alloc: Global) -> Result<Lab, Error> {
     }
 }
 
+fn unsettled_once(alloc: Global) -> Result<Lab, Error> {
+    let (near, far) = (Range::new(10, 19)?, Range::new(20, 29)?);
+    let plans = [
+        PortPlan {
+            range: near,
+            hw: Hw([2, 0, 0, 0, 0, 1]),
+            tries: &[Addr { net: 10, node: 1 }],
+            own: None,
+        },
+        PortPlan {
+            range: far,
+            hw: Hw([2, 0, 0, 0, 0, 2]),
+            tries: &[],
+            own: Some(Addr { net: 20, node: 1 }),
+        },
+    ];
+    let rows = [
+        row(near, 0, 0, Addr::NONE),
+        row(far, 0, 1, Addr::NONE),
+        row(Range::new(30, 39)?, 1, 1, Addr { net: 20, node: 2 }),
+    ];
+    let mut routes = PlainTable::empty(alloc)?;
+    routes.load(&rows)?;
+    Router::new(alloc, &plans, routes, zones(alloc)?)
+}
+
+/// The first router where it has no address on the first cable yet, and tries 10.1.
+pub(crate) fn unsettled(alloc: Global) -> Result<Lab, Error> {
+    match unsettled_once(alloc) {
+        Err(Error::Memory) => unsettled_once(alloc),
+        answer => answer,
+    }
+}
+
 fn is(output: &Output, want: Want<'_>) -> bool {
     match (output, want) {
         (Output::Made { port, next, bytes }, Want::Made(by, to, data)) => {
@@ -181,6 +215,58 @@ pub(crate) fn holds(alloc: Global) -> Result<bool, Error> {
             && router.ports() == 2
             && router.routes().len() == 3,
     )
+}
+
+/// A router with 16 ports, of the same plan.
+fn with_16(alloc: Global) -> Result<Lab, Error> {
+    let range = Range::new(10, 19)?;
+    let a = PortPlan {
+        range,
+        hw: Hw([2, 0, 0, 0, 0, 1]),
+        tries: &[],
+        own: Some(Addr { net: 10, node: 1 }),
+    };
+    let plans = [a, a, a, a, a, a, a, a, a, a, a, a, a, a, a, a];
+    let mut routes = PlainTable::empty(alloc)?;
+    routes.direct(range, 0)?;
+    Router::new(alloc, &plans, routes, ZoneTable::new(alloc)?)
+}
+
+/// One more.
+fn with_17(alloc: Global) -> Result<Lab, Error> {
+    let range = Range::new(10, 19)?;
+    let a = PortPlan {
+        range,
+        hw: Hw([2, 0, 0, 0, 0, 1]),
+        tries: &[],
+        own: Some(Addr { net: 10, node: 1 }),
+    };
+    let plans = [a, a, a, a, a, a, a, a, a, a, a, a, a, a, a, a, a];
+    let mut routes = PlainTable::empty(alloc)?;
+    routes.direct(range, 0)?;
+    Router::new(alloc, &plans, routes, ZoneTable::new(alloc)?)
+}
+
+/// A router has 16 ports at most.
+pub(crate) fn has_16_ports(alloc: Global) -> Result<bool, Error> {
+    let most = match with_16(alloc) {
+        Err(Error::Memory) => with_16(alloc)?,
+        answer => answer?,
+    };
+    let over = match with_17(alloc) {
+        Err(Error::Memory) => with_17(alloc),
+        answer => answer,
+    };
+    Ok(most.ports() == 16 && matches!(over, Err(Error::Full)))
+}
+
+/// Lets 160 ticks pass, longer than the shortest release time.
+pub(crate) fn pass(alloc: Global, router: &mut Lab) -> Result<(), Error> {
+    let mut outputs = Outputs::new(alloc)?;
+    for _ in 0..160u8 {
+        router.tick(&mut outputs)?;
+    }
+    Ok(())
 }
 
 /// A tick puts nothing out, and outputs are taken from the oldest on.

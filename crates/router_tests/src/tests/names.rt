@@ -1,6 +1,6 @@
 //! What the router makes of requests for names.
 
-use crate::tests::lab::{SECOND, Want, answers, hears, lab, sent};
+use crate::tests::lab::{SECOND, Want, answers, hears, lab, sent, unsettled};
 use at_base::Error;
 use station::{Heard, Link, Next};
 use std::alloc::Global;
@@ -74,6 +74,15 @@ fn star(bytes: &[u8; 29]) -> [u8; 26] {
     other
 }
 
+/// The bytes with no zone.
+fn zoneless(bytes: &[u8; 29]) -> [u8; 25] {
+    let mut other = [0; 25];
+    other.copy_from_slice(&bytes[..25]);
+    other[1] = 0x19;
+    other[24] = 0;
+    other
+}
+
 /// Red is on both cables of the router, also on the one on which the request came. There is no zone
 /// Blud, and `*` is none.
 pub(crate) fn requests_go_to_the_cable_they_came_on(alloc: Global) -> Result<bool, Error> {
@@ -88,6 +97,41 @@ pub(crate) fn requests_go_to_the_cable_they_came_on(alloc: Global) -> Result<boo
             && answers(alloc, &unknown, &[])?
             && answers(alloc, &star(&REQUEST), &[])?,
     )
+}
+
+/// The ID and the tuple stay as they are, whoever sends the request; what follows the tuple is left
+/// out. The router asks nothing for no zone, and looks up none for it or for `*`.
+pub(crate) fn requests_keep_their_tuples(alloc: Global) -> Result<bool, Error> {
+    let (mut request, mut lookup, mut forward) = (REQUEST, LOOKUP, FORWARD);
+    request[9] = 0x09;
+    (request[14], request[19]) = (0xFE, 0x03);
+    (lookup[14], lookup[19]) = (0xFE, 0x03);
+    (forward[14], forward[19]) = (0xFE, 0x03);
+    let mut long = [0x05; 31];
+    long[..29].copy_from_slice(&request);
+    long[1] = 0x1F;
+    let both = [
+        Want::Made(1, BLUE, &lookup),
+        Want::Made(1, SECOND, &forward),
+    ];
+    let mut near = REQUEST;
+    near[13] = 0x41;
+    Ok(
+        answers(alloc, &request, &both)?
+            && answers(alloc, &long, &both)?
+            && answers(alloc, &zoneless(&REQUEST), &[])?
+            && answers(alloc, &zoneless(&near), &[])?
+            && answers(alloc, &star(&near), &[])?,
+    )
+}
+
+/// A port without an address looks nothing up, and the other one does.
+pub(crate) fn unsettled_ports_ask_nothing(alloc: Global) -> Result<bool, Error> {
+    let mut router = unsettled(alloc)?;
+    let (mut request, lookup) = (red(&REQUEST), red(&LOOKUP));
+    request[5] = 0x14;
+    let asked = [Want::Kept(1, &request), Want::Made(1, RED, &lookup)];
+    hears(alloc, &mut router, &sent(&request), &asked)
 }
 
 /// Requests to every node are heard by nodes alone; one that is passed to every node of the far

@@ -1,6 +1,6 @@
 //! What the router answers to AARP packets.
 
-use crate::tests::lab::{Want, hears, lab, sent};
+use crate::tests::lab::{Want, hears, lab, sent, unsettled};
 use at_base::{Error, Hw};
 use station::{Heard, Kind, Link};
 use std::alloc::Global;
@@ -19,7 +19,7 @@ const RESPONSE: [u8; 28] = [
     0x02, 0x00, 0x00, 0x00, 0x00, 0x07, 0x00, 0x00, 0x0A, 0x07, // to 10.7
 ];
 
-/// A port answers for its own address alone.
+/// A port answers for its own address alone, once it is settled.
 pub(crate) fn ports_answer_for_their_addresses(alloc: Global) -> Result<bool, Error> {
     let mut router = lab(alloc)?;
     let asker = Hw([2, 0, 0, 0, 0, 7]);
@@ -53,5 +53,10 @@ pub(crate) fn ports_answer_for_their_addresses(alloc: Global) -> Result<bool, Er
             return Ok(false);
         }
     }
-    Ok(true)
+    let heard = Heard {
+        link: Link::All,
+        kind: Kind::Aarp,
+        ..sent(&REQUEST)
+    };
+    hears(alloc, &mut unsettled(alloc)?, &heard, &[])
 }

@@ -1,6 +1,6 @@
 //! What the router answers about zones, and to echoes.
 
-use crate::tests::lab::{ASKER, Lab, SECOND, Want, answers, hears, lab, sent};
+use crate::tests::lab::{ASKER, Lab, SECOND, Want, answers, hears, lab, pass, sent, unsettled};
 use at_base::{Addr, Error};
 use station::{Heard, Link, Next};
 use std::alloc::Global;
@@ -70,6 +70,54 @@ pub(crate) fn nodes_are_told_of_the_cable(alloc: Global) -> Result<bool, Error> 
     hears(alloc, &mut router, &far, &[Want::Made(0, Next::All, &want)])
 }
 
+/// Red is one of two zones of 20-29; a node without a network of it is told by all of it, of which
+/// 10.7 is one.
+const FAR_TOLD: [u8; 30] = [
+    0x00, 0x1E, 0x00, 0x00, 0x00, 0x00, 0x00, 0x14, 0xFF, 0x01, 0x06, 0x06, 0x06, // its header
+    0x06, 0x00, 0x00, 0x14, 0x00, 0x1D, 0x03, 0x72, 0x65, 0x64, 0x06, 0x09, 0x00, 0x07, 0x00, 0x00,
+    0x38,
+];
+
+/// Whether the router puts these out for a datagram that comes on this port.
+fn hears_on(
+    alloc: Global,
+    router: &mut Lab,
+    port: u8,
+    link: Link,
+    bytes: &[u8],
+    wants: &[Want<'_>],
+) -> Result<bool, Error> {
+    let heard = Heard {
+        port,
+        link,
+        ..sent(bytes)
+    };
+    hears(alloc, router, &heard, wants)
+}
+
+/// A node is told of the cable on which its question ended, from the port there. Node 0 and the
+/// router's own addresses are told nothing, nor is anyone by a port without an address.
+pub(crate) fn nodes_are_told_of_where_they_asked(alloc: Global) -> Result<bool, Error> {
+    let mut router = lab(alloc)?;
+    let (mut asked, mut far, mut near) = (INFO, INFO, FAR_TOLD);
+    (asked[5], asked[8]) = (0x14, 0x01);
+    far[7] = 0x14;
+    (near[5], near[8]) = (0x14, 0x07);
+    let (mut nobody, mut own) = (INFO, INFO);
+    (nobody[9], own[9]) = (0x00, 0x01);
+    let there = Next::Station(Addr { net: 20, node: 7 });
+    let over = [Want::Kept(1, &asked), Want::Made(1, Next::All, &FAR_TOLD)];
+    let by_all = [Want::Made(1, there, &near)];
+    let mut tries = unsettled(alloc)?;
+    Ok(
+        hears_on(alloc, &mut router, 0, Link::Own, &asked, &over)?
+            && hears_on(alloc, &mut router, 1, Link::All, &far, &by_all)?
+            && hears_on(alloc, &mut router, 0, Link::All, &nobody, &[])?
+            && hears_on(alloc, &mut router, 0, Link::All, &own, &[])?
+            && hears_on(alloc, &mut tries, 0, Link::All, &INFO, &[])?,
+    )
+}
+
 /// A transaction that asks for the list of all zones, from the first on.
 const LIST: [u8; 21] = [
     0x00, 0x15, 0x00, 0x00, 0x00, 0x0A, 0x00, 0x0A, 0x01, 0x07, 0x06, 0x80, 0x03, // its header
@@ -130,6 +178,40 @@ pub(crate) fn lists_are_given(alloc: Global) -> Result<bool, Error> {
     Ok(true)
 }
 
+/// Whether the router, after 160 ticks, puts these out for a datagram.
+fn gives(alloc: Global, router: &mut Lab, bytes: &[u8], wants: &[Want<'_>]) -> Result<bool, Error> {
+    pass(alloc, router)?;
+    hears(alloc, router, &sent(bytes), wants)
+}
+
+/// The list of a transaction that is carried out once is kept by who asked, and given again to each
+/// request of the same ID, whatever it asks for, in whatever tick. That of another socket is its
+/// own, and so is its release.
+pub(crate) fn lists_are_kept_by_who_asked(alloc: Global) -> Result<bool, Error> {
+    let mut router = lab(alloc)?;
+    let (mut once, mut blue) = (LIST, BLUE_LISTED);
+    once[13] = 0x60;
+    (blue[5], blue[8]) = (0x0A, 0x07);
+    let (mut second, mut other, mut others) = (once, once, blue);
+    (second[20], other[20]) = (0x02, 0x02);
+    (other[11], others[10]) = (0x81, 0x81);
+    let (mut release, mut others_release) = (LIST, LIST);
+    (release[13], others_release[13], others_release[11]) = (0xC0, 0xC0, 0x81);
+    let list = [Want::Made(0, ASKER, &LISTED)];
+    let from_second = [Want::Made(0, ASKER, &blue)];
+    let for_other = [Want::Made(0, ASKER, &others)];
+    Ok(
+        gives(alloc, &mut router, &once, &list)?
+            && gives(alloc, &mut router, &other, &for_other)?
+            && gives(alloc, &mut router, &second, &list)?
+            && gives(alloc, &mut router, &others_release, &[])?
+            && gives(alloc, &mut router, &second, &list)?
+            && gives(alloc, &mut router, &release, &[])?
+            && gives(alloc, &mut router, &second, &from_second)?
+            && gives(alloc, &mut router, &once, &from_second)?,
+    )
+}
+
 // ---- Echoes
 
 /// An echo request from 10.7 to 10.1.
@@ -165,6 +247,59 @@ pub(crate) fn echoes_come_from_the_address_asked(alloc: Global) -> Result<bool, 
     Ok(near && over && sum && answers(alloc, &wrong, &[])?)
 }
 
+/// A request to network 0, after 15 hops, with padding, or to every node of whatever network in a
+/// frame to all is answered from the port on which it came; the far port's address is no other.
+pub(crate) fn echoes_end_at_the_router(alloc: Global) -> Result<bool, Error> {
+    let mut router = lab(alloc)?;
+    let (mut here, mut late, mut all, mut far, mut back) = (PING, PING, PING, PING, PONG);
+    here[5] = 0x00;
+    late[0] = 0x3C;
+    all[8] = 0xFF;
+    far[5] = 0x14;
+    back[7] = 0x14;
+    let mut padded = [0x05; 20];
+    padded[..18].copy_from_slice(&PING);
+    let pong = [Want::Made(0, ASKER, &PONG)];
+    let from_far = [Want::Made(0, ASKER, &back)];
+    let kept = [Want::Kept(0, &PING), Want::Made(0, ASKER, &PONG)];
+    Ok(
+        hears_on(alloc, &mut router, 0, Link::Own, &here, &pong)?
+            && hears_on(alloc, &mut router, 0, Link::Own, &late, &pong)?
+            && hears_on(alloc, &mut router, 0, Link::Own, &padded, &pong)?
+            && hears_on(alloc, &mut router, 0, Link::All, &all, &pong)?
+            && hears_on(alloc, &mut router, 1, Link::Own, &far, &from_far)?
+            && hears_on(alloc, &mut router, 1, Link::Own, &PING, &kept)?,
+    )
+}
+
+/// What 10.1 sends to the far port, with the reply.
+fn tried(alloc: Global, router: &mut Lab) -> Result<bool, Error> {
+    let (mut bytes, mut back) = (PING, PONG);
+    (bytes[5], bytes[9]) = (0x14, 0x01);
+    (back[7], back[8]) = (0x14, 0x01);
+    let next = Next::Station(Addr { net: 10, node: 1 });
+    let wants = [Want::Kept(1, &bytes), Want::Made(0, next, &back)];
+    hears(alloc, router, &sent(&bytes), &wants)
+}
+
+/// The address that a port only tries isn't the router's: what is for it is passed to it, and it is
+/// replied to. Nothing comes from it.
+pub(crate) fn tried_addresses_are_no_ports(alloc: Global) -> Result<bool, Error> {
+    let mut router = unsettled(alloc)?;
+    let (mut passed, mut all, mut any) = (PING, PING, PING);
+    passed[0] = 0x04;
+    (all[8], any[8]) = (0xFF, 0x00);
+    let next = Next::Station(Addr { net: 10, node: 1 });
+    let to_it = [Want::Passed(0, next, &passed)];
+    let kept = [Want::Kept(0, &any)];
+    Ok(
+        hears_on(alloc, &mut router, 0, Link::Own, &PING, &to_it)?
+            && hears_on(alloc, &mut router, 0, Link::All, &all, &[])?
+            && hears_on(alloc, &mut router, 0, Link::Own, &any, &kept)?
+            && tried(alloc, &mut router)?,
+    )
+}
+
 /// Who asked, and where the reply goes then.
 type Asker = (u16, u8, Option<Next>);
 
@@ -189,9 +324,11 @@ pub(crate) fn replies_go_to_nodes_with_a_route(alloc: Global) -> Result<bool, Er
     let mut router = lab(alloc)?;
     let second = Next::Station(Addr { net: 20, node: 2 });
     let near = Next::Station(Addr { net: 20, node: 9 });
-    let askers: [Asker; 9] = [
+    let askers: [Asker; 11] = [
         (20, 9, Some(near)),
         (30, 5, Some(second)),
+        (30, 255, Some(second)),
+        (20, 255, Some(Next::All)),
         (10, 255, Some(Next::All)),
         (0, 7, None),
         (10, 0, None),
