@@ -1,6 +1,6 @@
 //! The lines of a transcript's entries.
 
-ghost use Rattle.std.specs.Prelude.{◌≡◌, ◌++◌, ◌∷◌, List, ℕ, [], IfOk, OnOk};
+ghost use Rattle.std.specs.Prelude.{◌≡◌, ◌++◌, ◌∷◌, List, ℕ, [], IfOk, OnErr, OnOk};
 ghost use Rattle.cable_model.specs.Logs.{entry_at};
 ghost use Rattle.trace_lines.specs.Lines.{cable_of, line, IsNamed};
 ghost use Rattle.trace_lines.specs.Said.{entry_with};
@@ -47,8 +47,9 @@ fn put_line(
 
 /// Appends the cable on which an entry put a frame, if it did.
 fn note_cable(cables: &mut Vec<u8>, entry: &Entry) -> Result<(), AllocError>
-    ensures { OnOk result ((kept : List (List ℕ)) → cables.new.items
+    ensures ok { OnOk result ((kept : List (List ℕ)) → cables.new.items
         ≡ cables.old.items ++ cable_of (entry_at kept entry.now)) }
+    ensures stays { OnErr result (cables.new.items ≡ cables.old.items) }
 {
     match *entry {
         Entry::Put { cable, .. } => {
@@ -99,6 +100,7 @@ impl<'a> Lines<'a> {
           internet = self.old.internet;
           cables = self.old.cables ++ cable_of (entry_at kept entry.now);
         }) }
+        ensures stays { OnErr result (self.new ≡ self.old) }
     {
         put_line(text, &self.stations, self.cables.as_slice(), entry, bytes)?;
         note_cable(&mut self.cables, entry)
