@@ -46,6 +46,7 @@ impl<W: Write> Output<W> {
         ensures fault { OnErr result (self.new.failed ≡ true) }
         ensures refused { IsOkUnless result Error.WriteFault }
         ensures stays { OnOk result (self.new.failed ≡ self.old.failed) }
+        ensures text { self.new.text ≡ self.old.text }
     {
         match put_line(&mut self.writer, text) {
             Ok(()) => Ok(()),

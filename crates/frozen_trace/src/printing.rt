@@ -140,6 +140,7 @@ fn print_refusal<W: Write>(
 /// Prints that a step is refused, unless memory ran out: then that is the error.
 pub fn refuse<W: Write>(alloc: Global, output: &mut Output<W>, error: &Error) -> Result<(), Error>
     ensures own { OnOk result (error.now ≢ Error.Memory) }
+    ensures silent { error.now ≡ Error.Memory → output.new ≡ output.old }
     ensures gone { OnOk result (Goes (W.contents output.old.writer) output.old.text.items
         (refused_line error.now) (W.contents output.new.writer) output.new.text.items) }
     ensures refused { IfErr result (λ e.
