@@ -1,7 +1,8 @@
 //! From an input to the line of its verdict.
 
 ghost use Rattle.std.specs.Prelude.{◌≡◌, ◌≢◌, ◌⊎◌, ◌∷◌, ◌++◌};
-ghost use Rattle.std.specs.Prelude.{true, false, [], IfOk, IfErr, IfSome, IsErrAnd, OnOk};
+ghost use Rattle.std.specs.Prelude.{true, false, [], IfOk, IfErr, IfSome, IsErrAnd};
+ghost use Rattle.std.specs.Prelude.{IsSome, IsSomeAnd, OnOk};
 ghost use Rattle.std.specs.Io.KnownBytes.{Appends, IsAtEnd};
 ghost use Rattle.at_base.specs.Spelling.{Spells};
 ghost use Rattle.table_image.specs.Internet.{Internet};
@@ -57,6 +58,12 @@ pub fn audit_file<R: Read, W: Write>(
     ensures end { OnOk result (IsAtEnd (R.remaining input.new.reader)) }
     ensures reads_stay { OnOk result (input.new.failed ≡ input.old.failed) }
     ensures writes_stay { OnOk result (output.new.failed ≡ output.old.failed) }
+    // A read that failed has left its reason.
+    ensures reason { input.old.failed ≡ false → input.new.failed ≡ true → IsSome input.new.fault }
+    // What was read to its end is kept, whatever the answer.
+    ensures kept { result ≢ Err Error.ReadFault → result ≢ Err Error.Memory
+        → IsSomeAnd input.new.kept (λ v.
+        IfSome (R.remaining input.old.reader) (λ bytes. v.items ≡ bytes)) }
 {
     let bytes = input.read_all(alloc)?;
     let answer = audit_bytes(alloc, bytes.as_slice());

@@ -1,8 +1,8 @@
 //! Reading an input to its end, in a bounded number of reads.
 
 ghost use Rattle.std.specs.Prelude.{◌≡◌, ◌≢◌, ◌<◌, ◌≤◌, ◌⊎◌, ◌++◌};
-ghost use Rattle.std.specs.Prelude.{true, false, length, take};
-ghost use Rattle.std.specs.Prelude.{IfOk, IfErr, IfSome, OnOk, OnErr, IsOkUnless};
+ghost use Rattle.std.specs.Prelude.{None, true, false, length, take};
+ghost use Rattle.std.specs.Prelude.{IfOk, IfErr, IfSome, IsSome, OnOk, OnErr, IsOkUnless};
 ghost use Rattle.std.specs.Io.{ReadsAtMost};
 ghost use Rattle.std.specs.Io.KnownBytes.{Consumes, IsAtEnd};
 ghost use Rattle.commands.specs.declared.input.TheConstants.{READS};
@@ -37,6 +37,8 @@ impl<R: Read> Input<R> {
         ensures reader { result.reader ≡ reader }
         ensures unread { result.reads ≡ 0 }
         ensures sound { result.failed ≡ false }
+        ensures reason { result.fault ≡ None }
+        ensures empty { result.kept ≡ None }
     {
         Input {
             reader,
@@ -61,6 +63,11 @@ impl<R: Read> Input<R> {
         ensures refused { IfErr result (λ e. (e ≡ Error.ReadFault) ⊎ (e ≡ Error.Memory)) }
         // Only a read that failed sets `failed`.
         ensures stays { result ≢ Err Error.ReadFault → self.new.failed ≡ self.old.failed }
+        // A read that failed has left its reason.
+        ensures reason { self.old.failed ≡ false → self.new.failed ≡ true → IsSome self.new.fault }
+        ensures reason_stays { result ≢ Err Error.ReadFault → self.new.fault ≡ self.old.fault }
+        ensures kept { self.new.kept ≡ self.old.kept }
+        ensures counted { self.old.reads ≤ self.new.reads }
     {
         let mut bytes = Vec::new(alloc);
         let mut buffer = [0; PIECE];
@@ -85,6 +92,10 @@ impl<R: Read> Input<R> {
         ensures stays { OnOk result (self.new.failed ≡ self.old.failed) }
         ensures fault { OnErr result ((self.new.failed ≡ true) ⊎ (self.new.reads ≡ READS)) }
         ensures refused { IsOkUnless result Error.ReadFault }
+        ensures reason { self.old.failed ≡ false → self.new.failed ≡ true → IsSome self.new.fault }
+        ensures reason_stays { OnOk result (self.new.fault ≡ self.old.fault) }
+        ensures kept { self.new.kept ≡ self.old.kept }
+        ensures counted { self.old.reads ≤ self.new.reads }
     {
         for _turn in self.reads..READS {
             self.reads += 1;

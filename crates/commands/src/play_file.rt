@@ -1,7 +1,8 @@
 //! From an internet file to the lines of its play and the image.
 
-ghost use Rattle.std.specs.Prelude.{◌≡◌, ◌≢◌, ◌⊎◌, ◌++◌, ℕ, List, true, false};
-ghost use Rattle.std.specs.Prelude.{Err, IfOk, IfErr, IfSome, IsOkUnless, OnErr, OnOk};
+ghost use Rattle.std.specs.Prelude.{◌≡◌, ◌≢◌, ◌⊎◌, ◌++◌, ℕ, Bool, List, [], Some, true, false};
+ghost use Rattle.std.specs.Prelude.{Err, IfOk, IfErr, IfSome, IsOkUnless};
+ghost use Rattle.std.specs.Prelude.{IsSome, IsSomeAnd, OnErr, OnOk};
 ghost use Rattle.std.specs.Io.KnownBytes.{Appends, IsAtEnd};
 ghost use Rattle.at_base.specs.Spelling.{Spells};
 ghost use Rattle.internet_file.specs.Files.{IsFile, IsFileRefused, Planned};
@@ -31,6 +32,7 @@ fn put<W: Write>(writer: &mut W, bytes: &[u8]) -> io::Result<()>
 fn write_bytes<W: Write>(output: &mut Output<W>, bytes: &[u8]) -> Result<(), Error>
     ensures ok { OnOk result (Appends (W.contents output.old.writer) (W.contents output.new.writer)
         (output.old.text.items ++ bytes.now)) }
+    ensures empty { OnOk result (output.new.text.items ≡ []) }
     ensures fault { OnErr result (output.new.failed ≡ true) }
     ensures refused { IsOkUnless result Error.WriteFault }
     ensures stays { OnOk result (output.new.failed ≡ output.old.failed) }
@@ -47,9 +49,11 @@ fn write_bytes<W: Write>(output: &mut Output<W>, bytes: &[u8]) -> Result<(), Err
 
 /// Keeps the text of a file whose play is refused in the input.
 fn keep_text<R>(input: &mut Input<R>, text: Vec<u8>)
+    ensures kept { input.new.kept ≡ Some text }
     ensures reader { input.new.reader ≡ input.old.reader }
     ensures reads { input.new.reads ≡ input.old.reads }
     ensures stays { input.new.failed ≡ input.old.failed }
+    ensures reason_stays { input.new.fault ≡ input.old.fault }
 {
     input.kept = Some(text);
 }
@@ -74,6 +78,11 @@ fn read_and_play<R: Read, P: Progress>(
     ensures not_written { IfErr result (λ e. e ≢ Error.WriteFault) }
     ensures end { OnOk result (IsAtEnd (R.remaining input.new.reader)) }
     ensures stays { OnOk result (input.new.failed ≡ input.old.failed) }
+    ensures reason { input.old.failed ≡ false → input.new.failed ≡ true → IsSome input.new.fault }
+    // A text that was read to its end is kept where its play is refused.
+    ensures kept { IfErr result (λ e. e ≢ Error.ReadFault → e ≢ Error.Memory
+        → IsSomeAnd input.new.kept (λ v.
+        IfSome (R.remaining input.old.reader) (λ text. v.items ≡ text))) }
 {
     let text = input.read_all(alloc)?;
     match play_text(alloc, text.as_slice(), progress) {
@@ -99,6 +108,10 @@ fn write_played<W: Write, I: Write>(
     ensures refused { IsOkUnless result Error.WriteFault }
     ensures stays { OnOk result (output.new.failed ≡ output.old.failed) }
     ensures image_stays { OnOk result (image.new.failed ≡ image.old.failed) }
+    // The image isn't touched before all lines are written.
+    ensures order { (image.new ≡ image.old)
+        ⊎ Appends (W.contents output.old.writer) (W.contents output.new.writer)
+        (output.old.text.items ++ played.now.lines.items) }
 {
     match write_bytes(output, played.lines.as_slice()) {
         Ok(()) => write_bytes(image, played.image.as_slice()),
@@ -109,9 +122,11 @@ fn write_played<W: Write, I: Write>(
 /// Keeps the bytes of a play's image in the input, and says whether its verdict is a yes.
 fn keep<R>(input: &mut Input<R>, played: Played) -> bool
     ensures yes { result ≡ played.yes }
+    ensures kept { input.new.kept ≡ Some played.image }
     ensures reader { input.new.reader ≡ input.old.reader }
     ensures reads { input.new.reads ≡ input.old.reads }
     ensures stays { input.new.failed ≡ input.old.failed }
+    ensures reason_stays { input.new.fault ≡ input.old.fault }
 {
     let Played { yes, image, .. } = played;
     input.kept = Some(image);
@@ -135,8 +150,18 @@ fn hand_over<R, W: Write, I: Write>(
     ensures refused { IsOkUnless result Error.WriteFault }
     ensures reader { input.new.reader ≡ input.old.reader }
     ensures reads_stay { input.new.failed ≡ input.old.failed }
+    ensures reason_stays { input.new.fault ≡ input.old.fault }
     ensures stays { OnOk result (output.new.failed ≡ output.old.failed) }
     ensures image_stays { OnOk result (image.new.failed ≡ image.old.failed) }
+    // The image isn't touched before all lines are written.
+    ensures order { (image.new ≡ image.old)
+        ⊎ Appends (W.contents output.old.writer) (W.contents output.new.writer)
+        (output.old.text.items ++ played.lines.items) }
+    ensures kept { OnOk result (input.new.kept ≡ Some played.image) }
+    ensures kept_image { OnOk result (IsSomeAnd input.new.kept (λ bytes.
+        Appends (I.contents image.old.writer) (I.contents image.new.writer)
+        (image.old.text.items ++ bytes.items))) }
+    ensures input_stays { OnErr result (input.new ≡ input.old) }
 {
     match write_played(&played, output, image) {
         Ok(()) => Ok(keep(input, played)),
@@ -185,6 +210,23 @@ pub fn play_bytes<R: Read, W: Write, I: Write, P: Progress>(
     ensures reads_stay { OnOk result (input.new.failed ≡ input.old.failed) }
     ensures writes_stay { OnOk result (output.new.failed ≡ output.old.failed) }
     ensures image_stays { OnOk result (image.new.failed ≡ image.old.failed) }
+    // A read that failed has left its reason.
+    ensures reason { input.old.failed ≡ false → input.new.failed ≡ true → IsSome input.new.fault }
+    // The image isn't touched before all lines of the play are written.
+    ensures order { (image.new ≡ image.old)
+        ⊎ IfSome (R.remaining input.old.reader) (λ text.
+        (lines : List ℕ) × (yes : Bool) × (i : Internet) × IsPlay text lines yes i
+        × Appends (W.contents output.old.writer) (W.contents output.new.writer)
+        (output.old.text.items ++ lines)) }
+    // The bytes of the image that were written are kept.
+    ensures kept { OnOk result (IsSomeAnd input.new.kept (λ bytes.
+        Appends (I.contents image.old.writer) (I.contents image.new.writer)
+        (image.old.text.items ++ bytes.items))) }
+    // A text that was read to its end is kept where its play is refused.
+    ensures kept_text { IfErr result (λ e.
+        e ≢ Error.ReadFault → e ≢ Error.Memory → e ≢ Error.WriteFault
+        → IsSomeAnd input.new.kept (λ v.
+        IfSome (R.remaining input.old.reader) (λ text. v.items ≡ text))) }
 {
     match read_and_play(alloc, input, progress) {
         Ok(played) => hand_over(input, played, output, image),

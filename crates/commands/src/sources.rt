@@ -1,7 +1,7 @@
 //! What a trace is made of: an image and a script, each read to its end.
 
-ghost use Rattle.std.specs.Prelude.{◌≡◌, ◌≢◌, ◌⊎◌, ℕ, List, true};
-ghost use Rattle.std.specs.Prelude.{IfOk, IfErr, IfSome, IsErrAnd, OnOk};
+ghost use Rattle.std.specs.Prelude.{◌≡◌, ◌≢◌, ◌⊎◌, ℕ, List, true, false};
+ghost use Rattle.std.specs.Prelude.{IfOk, IfErr, IfSome, IsErrAnd, IsSome, IsSomeAnd, OnOk};
 ghost use Rattle.std.specs.Io.KnownBytes.{IsAtEnd};
 ghost use Rattle.at_base.specs.Spelling.{Spells};
 ghost use Rattle.script.specs.Scripts.{IsBadAt, IsScript};
@@ -62,6 +62,11 @@ pub fn read_images<R: Read>(alloc: Global, input: &mut Input<R>) -> Result<Twice
         → (input.new.failed ≡ true) ⊎ (input.new.reads ≡ READS) }
     ensures end { OnOk result (IsAtEnd (R.remaining input.new.reader)) }
     ensures stays { OnOk result (input.new.failed ≡ input.old.failed) }
+    ensures reason { input.old.failed ≡ false → input.new.failed ≡ true → IsSome input.new.fault }
+    // What was read to its end is kept, whatever the answer.
+    ensures kept { result ≢ Err Error.ReadFault → result ≢ Err Error.Memory
+        → IsSomeAnd input.new.kept (λ v.
+        IfSome (R.remaining input.old.reader) (λ bytes. v.items ≡ bytes)) }
 {
     let bytes = input.read_all(alloc)?;
     let images = read_twice(alloc, bytes.as_slice());
@@ -85,6 +90,7 @@ pub fn read_steps<R: Read>(alloc: Global, input: &mut Input<R>) -> Result<Vec<St
         → (input.new.failed ≡ true) ⊎ (input.new.reads ≡ READS) }
     ensures end { OnOk result (IsAtEnd (R.remaining input.new.reader)) }
     ensures stays { OnOk result (input.new.failed ≡ input.old.failed) }
+    ensures reason { input.old.failed ≡ false → input.new.failed ≡ true → IsSome input.new.fault }
 {
     // For the prover alone: a script has no bad line.
     scripts_have_no_bad_line();

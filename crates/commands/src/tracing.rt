@@ -1,7 +1,7 @@
 //! From an image and a script to the lines of the trace.
 
 ghost use Rattle.std.specs.Prelude.{◌≡◌, ◌≢◌, ◌⊎◌, ◌++◌, ℕ, List, true, false};
-ghost use Rattle.std.specs.Prelude.{IfOk, IfErr, IfSome, IsErrAnd, OnOk};
+ghost use Rattle.std.specs.Prelude.{IfOk, IfErr, IfSome, IsErrAnd, IsSome, IsSomeAnd, OnOk};
 ghost use Rattle.std.specs.Io.KnownBytes.{Appends, IsAtEnd};
 ghost use Rattle.at_base.specs.Spelling.{Spells};
 ghost use Rattle.frozen_trace.specs.Traces.{IsPrinted};
@@ -72,6 +72,15 @@ pub fn run_frozen<I: Read, S: Read, W: Write>(
     ensures image_reads_stay { OnOk result (image.new.failed ≡ image.old.failed) }
     ensures script_reads_stay { OnOk result (script.new.failed ≡ script.old.failed) }
     ensures writes_stay { OnOk result (output.new.failed ≡ output.old.failed) }
+    // A read that failed has left its reason.
+    ensures image_reason { image.old.failed ≡ false → image.new.failed ≡ true
+        → IsSome image.new.fault }
+    ensures script_reason { script.old.failed ≡ false → script.new.failed ≡ true
+        → IsSome script.new.fault }
+    // An image that was read to its end is kept, whatever the answer.
+    ensures kept { result ≢ Err Error.ReadFault → result ≢ Err Error.Memory
+        → IsSomeAnd image.new.kept (λ v.
+        IfSome (I.remaining image.old.reader) (λ bytes. v.items ≡ bytes)) }
 {
     let images = read_images(alloc, image)?;
     match read_steps(alloc, script) {

@@ -5,6 +5,11 @@ use Rattle.internet_file.specs.Files.{IsFile, IsFileRefused, Planned}
 use Rattle.commands.proofs.Known.{map_some}
 use Rattle.commands.proofs.play_file.play_bytes.Goals as goal
 
+-- what follows from either
+either : {A B C : Type 0} → A ⊎ B → (A → C) → (B → C) → C
+either (inl a) f g = f a
+either (inr b) f g = g b
+
 -- the error is one by which a play of the text is refused
 abbrev IsRefused : List ℕ → Error → Type 0
 IsRefused text e =
@@ -33,3 +38,10 @@ returns-in-Ok-clause-refused g c =
 pub returns-in-Err-clause-refused : goal.returns-in-Err-clause-refused
 returns-in-Err-clause-refused g c =
     map_some _ _ (g.R.Read.remaining c.args.input.now.reader) c.in-Err.ensures.refused (λ text p. unplayed text c.in-Err.error p)
+
+-- what was written before the image was touched are the lines of the play
+pub returns-in-Ok-clause-order : goal.returns-in-Ok-clause-order
+returns-in-Ok-clause-order g c =
+    either c.hand_over.ensures.order inl
+    (λ wrote. inr (map_some _ _ (g.R.Read.remaining c.args.input.now.reader) c.in-Ok.ensures.played
+    (λ text p. (c.in-Ok.played.lines.items, c.in-Ok.played.yes, p.0, p.1, wrote))))

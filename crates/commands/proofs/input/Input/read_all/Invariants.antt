@@ -6,6 +6,9 @@ abbrev pub invariant-loop-turn : goal.invariant-loop-turn
 invariant-loop-turn g l = record {
   turns : l._turn ≤ l.self.reads;
   sound : l.self.failed ≡ l.initial.self.failed;
+  reason : l.self.fault ≡ l.initial.self.fault;
+  held : l.self.kept ≡ l.initial.self.kept;
+  counted : l.initial.self.reads ≤ l.self.reads;
   taken : Consumes (g.R.Read.remaining l.initial.self.reader) (g.R.Read.remaining l.self.reader)
       (vec_items l.bytes);
 }
