@@ -9,8 +9,8 @@ mod sending;
 mod taking;
 
 use putting::{
-    frames_are_heard_by_whom_they_are_for, frames_are_lost, frames_are_refused_in_order,
-    nobody_hears_the_example,
+    frames_are_heard_by_whom_they_are_for, frames_are_heard_on_ports, frames_are_lost,
+    frames_are_refused_in_order, nobody_hears_the_example, the_least_station_is_first,
 };
 use seated::{late_stations_are_found, seats_are_found};
 use sending::{
@@ -23,6 +23,8 @@ use taking::{outputs_follow, passed_datagrams_wait, takings_need_room, two_are_m
 #[test]
 fn a_frame_is_put_and_lost(rt: HostRuntime) -> Result<(), Fail> {
     assert!(rt; frames_are_heard_by_whom_they_are_for(rt.alloc())?);
+    assert!(rt; the_least_station_is_first(rt.alloc())?);
+    assert!(rt; frames_are_heard_on_ports(rt.alloc())?);
     assert!(rt; frames_are_lost(rt.alloc())?);
     assert!(rt; frames_are_refused_in_order(rt.alloc())?);
     assert!(rt; nobody_hears_the_example(rt.alloc())?);

@@ -34,6 +34,35 @@ fn a_request_comes_back_as_a_reply(rt: HostRuntime) -> Result<(), Fail> {
     Ok(())
 }
 
+/// The hops, the checksum, both nodes and the socket that it comes from may be any.
+#[test]
+fn requests_of_any_header_are_answered(rt: HostRuntime) -> Result<(), Fail> {
+    let want = [0x02, 0x70, 0x69, 0x6E, 0x67];
+    for (at, byte) in [(0, 0x3C), (3, 0x01), (8, 0xFF), (9, 0x00), (11, 0x04)] {
+        let mut bytes = PING;
+        bytes[at] = byte;
+        let data = reply_again(rt.alloc(), &bytes)?;
+        assert!(rt;
+            matches!(&data, Some(data) if data.as_slice() == want.as_slice()),
+            "at {at} {byte}"
+        );
+    }
+    Ok(())
+}
+
+/// The longest request has 586 bytes of data, and so has its reply.
+#[test]
+fn the_longest_request_is_answered(rt: HostRuntime) -> Result<(), Fail> {
+    let mut bytes = [0x05; 599];
+    bytes[..18].copy_from_slice(&PING);
+    (bytes[0], bytes[1]) = (0x02, 0x57);
+    let mut want = [0x05; 586];
+    want[..5].copy_from_slice(&[0x02, 0x70, 0x69, 0x6E, 0x67]);
+    let data = reply_again(rt.alloc(), &bytes)?;
+    assert!(rt; matches!(&data, Some(data) if data.as_slice() == want.as_slice()));
+    Ok(())
+}
+
 #[test]
 fn a_request_of_one_byte_is_answered(rt: HostRuntime) -> Result<(), Fail> {
     let mut bytes = PING;

@@ -10,9 +10,10 @@ use cable_model::{Cables, Entry, Found, Kind, Resolve, Seat};
 use station::Next;
 use std::alloc::Global;
 
-/// Two routers, stations 0 and 1, a node on the first cable and two on the last. The last one has
-/// the last group, 252, and a hardware address that would be that of a group 253.
-pub(crate) const SEATS: [Seat; 7] = [
+/// Two routers, stations 0 and 1, a node on the first cable and two on the last, and one more
+/// station on the second. The node 4 has the last group, 252, and a hardware address that would be
+/// that of a group 253.
+pub(crate) const SEATS: [Seat; 8] = [
     Seat {
         cable: 0,
         station: 0,
@@ -62,16 +63,26 @@ pub(crate) const SEATS: [Seat; 7] = [
         hw: Hw([9, 0, 7, 0, 0, 253]),
         group: Some(252),
     },
+    Seat {
+        cable: 1,
+        station: 5,
+        port: 0,
+        hw: Hw([2, 0, 0, 0, 0, 7]),
+        group: None,
+    },
 ];
 
-/// A datagram from 10.7 to 30.5.
+/// A datagram from 10.7 to 4638.5.
 pub(crate) const PING: [u8; 18] = [
-    0x00, 0x12, 0x00, 0x00, 0x00, 0x1E, 0x00, 0x0A, 0x05, 0x07, 0x04, 0x80, 0x04, 0x01, 0x70, 0x69,
+    0x00, 0x12, 0x00, 0x00, 0x12, 0x1E, 0x00, 0x0A, 0x05, 0x07, 0x04, 0x80, 0x04, 0x01, 0x70, 0x69,
     0x6E, 0x67,
 ];
 
 /// The target of the datagram, and the first router.
-pub(crate) const TARGET: Addr = Addr { net: 30, node: 5 };
+pub(crate) const TARGET: Addr = Addr {
+    net: 0x121E,
+    node: 5,
+};
 
 pub(crate) const ROUTER: Addr = Addr { net: 10, node: 1 };
 

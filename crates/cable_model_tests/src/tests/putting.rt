@@ -1,8 +1,9 @@
 //! Frames that are put on cables, who hears them, and those that are lost.
 
-use crate::tests::lab::{PING, ROUTER_HW, cables_for, lose, put};
+use crate::tests::lab::{PING, ROUTER_HW, SEATS, cables_for, lose, put};
 use at_base::{Bytes, Error, Hw, What};
-use cable_model::{Cables, Kind};
+use cable_model::{Cables, Kind, Seat};
+use station::Link;
 use std::alloc::Global;
 
 /// The group of Red, and that of a zone without nodes.
@@ -19,7 +20,7 @@ const NO_GROUP: Hw = Hw([9, 0, 7, 0, 0, 253]);
 /// group for that group's nodes; and one to a station for it alone, also where it is the sender.
 pub(crate) fn frames_are_heard_by_whom_they_are_for(alloc: Global) -> Result<bool, Error> {
     let cases = [
-        (1, 0, Hw::ALL, 1, Some(1)),
+        (1, 0, Hw::ALL, 2, Some(1)),
         (0, 2, Hw::ALL, 1, Some(0)),
         (0, 0, Hw::ALL, 1, Some(2)),
         (0, 0, RED, 1, Some(2)),
@@ -47,6 +48,62 @@ pub(crate) fn frames_are_heard_by_whom_they_are_for(alloc: Global) -> Result<boo
     Ok(true)
 }
 
+/// Cables with these seats.
+fn cables_of(alloc: Global, seats: &[Seat]) -> Result<Cables, Error> {
+    match Cables::new(alloc, seats, 800) {
+        Err(Error::Memory) => Cables::new(alloc, seats, 800),
+        answer => answer,
+    }
+}
+
+/// Of the stations that a frame is for the least is the first, wherever its seat stands; each that
+/// has the hardware address hears a frame to it. What is lost leaves older frames as they are.
+pub(crate) fn the_least_station_is_first(alloc: Global) -> Result<bool, Error> {
+    let twin = Seat {
+        hw: SEATS[5].hw,
+        ..SEATS[6]
+    };
+    let mut cables = cables_of(alloc, &[twin, SEATS[5], SEATS[3]])?;
+    put(alloc, &mut cables, 2, 1, Hw::ALL, &PING)?;
+    put(alloc, &mut cables, 2, 1, SEATS[5].hw, &PING)?;
+    let least = cables.first() == Some((0, 3)) && cables.pending_count() == 4;
+    let both = cables.pending(1, 3) && cables.pending(1, 4);
+    let lost = lose(&mut cables, 1) == Ok(()) && cables.pending_count() == 2;
+    Ok(least && both && lost && cables.first() == Some((0, 3)))
+}
+
+/// Whether the station hears this on this port, in the first frame.
+fn hears(cables: &Cables, station: u16, port: u8, link: Link) -> bool {
+    match cables.heard(0, station) {
+        Some(heard) => heard.port == port
+            && heard.link == link
+            && heard.kind == Kind::Ddp
+            && heard.bytes == PING.as_slice(),
+        None => false,
+    }
+}
+
+/// A frame is heard on the hearer's own port, and with whom it is for. The bytes of other numbers
+/// are none.
+pub(crate) fn frames_are_heard_on_ports(alloc: Global) -> Result<bool, Error> {
+    let cases = [
+        (1, 1, SEATS[1].hw, 0, 1, Link::Own),
+        (1, 1, Hw::ALL, 0, 1, Link::All),
+        (2, 3, Hw::ALL, 1, 1, Link::All),
+        (0, 0, RED, 2, 0, Link::Group(56)),
+        (0, 2, ROUTER_HW, 0, 0, Link::Own),
+    ];
+    for (cable, sender, to, hearer, port, link) in cases {
+        let mut cables = cables_for(alloc, 800)?;
+        put(alloc, &mut cables, cable, sender, to, &PING)?;
+        let nobody = cables.heard(0, sender).is_none() && cables.heard(1, hearer).is_none();
+        if !nobody || !hears(&cables, hearer, port, link) || !cables.bytes(1).is_empty() {
+            return Ok(false);
+        }
+    }
+    Ok(true)
+}
+
 /// The oldest frame is the first, and what is lost is no more.
 pub(crate) fn frames_are_lost(alloc: Global) -> Result<bool, Error> {
     let mut cables = cables_for(alloc, 3)?;
@@ -54,11 +111,11 @@ pub(crate) fn frames_are_lost(alloc: Global) -> Result<bool, Error> {
     let second = put(alloc, &mut cables, 1, 0, Hw::ALL, &PING)?;
     let begins = first == 0 && second == 1 && cables.first() == Some((0, 0));
     let both = cables.pending(0, 0) && cables.pending(1, 1) && !cables.pending(0, 1);
-    let two = cables.pending_count() == 2;
+    let three = cables.pending_count() == 3;
     let lost = lose(&mut cables, 0) == Ok(()) && cables.first() == Some((1, 1));
     let again = lose(&mut cables, 0) == Err(Error::NotPending);
     let full = lose(&mut cables, 1) == Err(Error::Full);
-    Ok(begins && both && two && lost && again && full && cables.pending(1, 1))
+    Ok(begins && both && three && lost && again && full && cables.pending(1, 1))
 }
 
 /// Whether a frame with these bytes is refused, where there is room for so many entries.

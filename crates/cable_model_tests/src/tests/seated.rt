@@ -16,7 +16,7 @@ fn made(alloc: Global, seats: &[Seat]) -> Result<Seats, Error> {
 /// Whether each cable has its seats, and one that no station is on has none.
 fn cables_have_theirs(seats: &Seats) -> bool {
     matches!(seats.on(0), [0, 4])
-        && matches!(seats.on(1), [1, 2])
+        && matches!(seats.on(1), [1, 2, 7])
         && matches!(seats.on(2), [3, 5, 6])
         && matches!(seats.on(3), [])
         && seats.has_cable(2)
@@ -31,14 +31,15 @@ fn stations_have_theirs(seats: &Seats) -> bool {
         && seats.index_by(3, 0) == Some(5)
         && seats.index_by(3, 1) == None
         && seats.index_by(4, 0) == Some(6)
-        && seats.index_by(5, 0) == None
+        && seats.index_by(5, 0) == Some(7)
+        && seats.index_by(6, 0) == None
 }
 
 /// Whether the seats are those that were given.
 fn are_given(seats: &Seats) -> bool {
-    seats.len() == 7
+    seats.len() == 8
         && seats.get(6) == Some(SEATS[6])
-        && seats.get(7) == None
+        && seats.get(8) == None
         && seats.seat_on(0, 2) == Some(SEATS[4])
         && seats.seat_by(0, 1) == Some(SEATS[1])
         && seats.seat_by(0, 2) == None

@@ -113,16 +113,16 @@ fn are_sent(alloc: Global, next: Next, listed: u16, entries: &[Entry]) -> Result
     Ok(says(&cables, entries) && cables.first() == Some((0, 3)))
 }
 
-/// One to all reaches the cable of its target's network, 30, where one has it, whatever has that of
+/// One to all reaches the cable of its target's network where one has it, whatever has that of
 /// its source, 10; and one to a group is a frame alone.
 pub(crate) fn several_are_sent_to(alloc: Global) -> Result<bool, Error> {
     let frame = framed(2, 1, Hw::ALL);
     let blue = framed(2, 1, Hw([9, 0, 7, 0, 0, 118]));
     let reaches = [SENT_FAR, reached(How::All), frame];
     Ok(
-        are_sent(alloc, Next::All, 30, &reaches)?
+        are_sent(alloc, Next::All, TARGET.net, &reaches)?
             && are_sent(alloc, Next::All, 10, &[SENT_FAR, frame])?
-            && are_sent(alloc, Next::Group(118), 30, &[SENT_FAR, blue])?,
+            && are_sent(alloc, Next::Group(118), TARGET.net, &[SENT_FAR, blue])?,
     )
 }
 

@@ -190,9 +190,10 @@ pub(crate) fn takings_need_room(alloc: Global) -> Result<bool, Error> {
     Ok(fits(alloc, 772)? && is_full(alloc, 771)?)
 }
 
-/// What is passed to a station of which nothing is known yet waits, with its port.
+/// What is passed to a station of which nothing is known yet waits, with its port, until another
+/// frame is taken. Who else is to take that frame, still is.
 pub(crate) fn passed_datagrams_wait(alloc: Global) -> Result<bool, Error> {
-    let mut cables = pending(alloc, 772)?;
+    let mut cables = pending(alloc, 780)?;
     let mut relay = Relay {
         alloc,
         act: Act::Pass,
@@ -203,5 +204,10 @@ pub(crate) fn passed_datagrams_wait(alloc: Global) -> Result<bool, Error> {
         [held] => held.port == 1 && held.next == TARGET && held.bytes == 1,
         _ => false,
     };
-    Ok(waits && says(&cables, &[FRAME, TOOK, reached(How::Held)]))
+    let held = says(&cables, &[FRAME, TOOK, reached(How::Held)]);
+    put(alloc, &mut cables, 1, 1, Hw::ALL, &PING)?;
+    let nobody = knows(1, TARGET, Found::Nobody);
+    take(&mut cables, 1, &mut relay, nobody)?;
+    let others = cables.pending(1, 5) && cables.pending_count() == 1;
+    Ok(waits && held && others && cables.waiting().is_empty())
 }

@@ -1,8 +1,8 @@
 //! What the node 30.5 answers to echoes.
 
-use crate::tests::lab::{FAR_ROUTER, Want, answers, is_silent_before_it_settles};
+use crate::tests::lab::{FAR_ROUTER, Want, answers, hears, is_silent_before_it_settles, near};
 use at_base::{Addr, Error};
-use station::{Link, Next};
+use station::{Kind, Link, Next};
 use std::alloc::Global;
 
 /// An echo request from 10.7 to 30.5.
@@ -50,18 +50,40 @@ pub(crate) fn requests_of_other_cables_are_answered(alloc: Global) -> Result<boo
     )
 }
 
-/// A node of the cable is answered straight, and one of network 0 isn't, since its router isn't
-/// known.
+/// A node of the cable is answered straight, the node itself too, and every node of it in a frame
+/// to all; node 0 is answered by the router. One of network 0 isn't answered, since its router
+/// isn't known.
 pub(crate) fn requests_of_the_cable_are_answered_straight(alloc: Global) -> Result<bool, Error> {
-    let (mut request, mut reply, mut nowhere) = (REQUEST, REPLY, REQUEST);
-    request[7] = 0x27;
-    reply[5] = 0x27;
+    let mut nowhere = REQUEST;
     nowhere[7] = 0x00;
-    let straight = Next::Station(Addr { net: 39, node: 7 });
-    Ok(
-        answers(alloc, Link::Own, &request, &[Want::Made(straight, &reply)])?
-            && answers(alloc, Link::Own, &nowhere, &[])?,
-    )
+    let cases = [
+        (39u8, 7u8, Next::Station(Addr { net: 39, node: 7 })),
+        (30, 5, Next::Station(Addr { net: 30, node: 5 })),
+        (30, 255, Next::All),
+        (39, 0, Next::Station(FAR_ROUTER)),
+        (40, 255, Next::Station(FAR_ROUTER)),
+    ];
+    for (net, node, next) in cases {
+        let (mut request, mut reply) = (REQUEST, REPLY);
+        (request[7], request[9]) = (net, node);
+        (reply[5], reply[8]) = (net, node);
+        if !answers(alloc, Link::Own, &request, &[Want::Made(next, &reply)])? {
+            return Ok(false);
+        }
+    }
+    answers(alloc, Link::Own, &nowhere, &[])
+}
+
+/// A node without a router answers nodes of its cable, and no others.
+pub(crate) fn nodes_without_a_router_answer(alloc: Global) -> Result<bool, Error> {
+    let (mut request, mut reply, mut far) = (REQUEST, REPLY, REQUEST);
+    (request[5], request[7], request[8], request[9]) = (0x0A, 0x13, 0x07, 0x09);
+    (reply[5], reply[7], reply[8], reply[9]) = (0x13, 0x0A, 0x09, 0x07);
+    (far[5], far[7], far[8], far[9]) = (0x0A, 0x1E, 0x07, 0x05);
+    let straight = [Want::Made(Next::Station(Addr { net: 19, node: 9 }), &reply)];
+    let mut node = near(alloc, None)?;
+    let answered = hears(alloc, &mut node, Link::Own, Kind::Ddp, &request, &straight)?;
+    Ok(answered && hears(alloc, &mut node, Link::Own, Kind::Ddp, &far, &[])?)
 }
 
 /// One to every node of the cable is answered from the node's own address, and one to those of

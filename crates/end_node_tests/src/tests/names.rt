@@ -2,10 +2,10 @@
 
 ghost use Rattle.std.specs.Prelude.{◌≤◌};
 
-use crate::tests::lab::{FAR_ROUTER, Want, answers, far, is_silent_before_it_settles};
-use at_base::{Error, Field, Text32};
+use crate::tests::lab::{FAR_ROUTER, Want, answers, far, hears, is_silent_before_it_settles};
+use at_base::{Addr, Error, Field, Text32};
 use end_node::EndNode;
-use station::{Link, Next};
+use station::{Kind, Link, Next};
 use std::alloc::Global;
 
 /// A lookup by the router 30.1 for all names of the zone `blue`, of which 10.7 asked.
@@ -21,6 +21,21 @@ const REPLY: [u8; 41] = [
     0x31, 0x01, 0x00, 0x1E, 0x05, 0x81, 0x01, 0x03, 0x6C, 0x61, 0x62, // lab
     0x0B, 0x4C, 0x61, 0x73, 0x65, 0x72, 0x57, 0x72, 0x69, 0x74, 0x65, 0x72, // LaserWriter
     0x04, 0x42, 0x6C, 0x75, 0x65, // Blue
+];
+
+/// The second reply where the node has AFPServer too, at socket 130.
+const SECOND_REPLY: [u8; 39] = [
+    0x00, 0x27, 0x00, 0x00, 0x00, 0x0A, 0x00, 0x1E, 0x07, 0x05, 0xFD, 0x02, 0x02, // its header
+    0x31, 0x01, 0x00, 0x1E, 0x05, 0x82, 0x02, 0x03, 0x6C, 0x61, 0x62, // lab
+    0x09, 0x41, 0x46, 0x50, 0x53, 0x65, 0x72, 0x76, 0x65, 0x72, // AFPServer
+    0x04, 0x42, 0x6C, 0x75, 0x65, // Blue
+];
+
+/// A lookup for all types of the object LAB, of any zone.
+const LAB_LOOKUP: [u8; 28] = [
+    0x00, 0x1C, 0x00, 0x00, 0x00, 0x00, 0x00, 0x1E, 0xFF, 0x01, 0x02, 0x02, 0x02, // its header
+    0x21, 0x01, 0x00, 0x0A, 0x07, 0xFD, 0x00, 0x03, 0x4C, 0x41, 0x42, 0x01, 0x3D, // LAB:=
+    0x01, 0x2A,
 ];
 
 const BLUE: Link = Link::Group(118);
@@ -80,6 +95,32 @@ pub(crate) fn other_lookups_are_ignored(alloc: Global) -> Result<bool, Error> {
     Ok(
         answers(alloc, BLUE, &LOOKUP[..28], &[])?
             && is_silent_before_it_settles(alloc, Link::Group(56), &star())?,
+    )
+}
+
+/// A lookup is answered to who asked first: straight where that is on the cable. Nobody of
+/// network 0 is answered. Each name has a reply of its own.
+pub(crate) fn each_name_is_answered_for(alloc: Global) -> Result<bool, Error> {
+    let (mut near, mut near_reply) = (LOOKUP, REPLY);
+    (near[16], near[17]) = (0x27, 0x09);
+    (near_reply[5], near_reply[8]) = (0x27, 0x09);
+    let there = Next::Station(Addr { net: 39, node: 9 });
+    let mut nobody = LOOKUP;
+    nobody[16] = 0x00;
+    let one = [Want::Made(Next::Station(FAR_ROUTER), &REPLY)];
+    let two = [
+        Want::Made(Next::Station(FAR_ROUTER), &REPLY),
+        Want::Made(Next::Station(FAR_ROUTER), &SECOND_REPLY),
+    ];
+    let mut node = far(alloc)?;
+    let single = answers(alloc, BLUE, &near, &[Want::Made(there, &near_reply)])?
+        && answers(alloc, BLUE, &nobody, &[])?
+        && answers(alloc, BLUE, &LAB_LOOKUP, &one)?;
+    Ok(
+        single
+            && register(&mut node, b"lab", b"AFPServer", 130)? == 2
+            && hears(alloc, &mut node, BLUE, Kind::Ddp, &LAB_LOOKUP, &two)?
+            && hears(alloc, &mut node, BLUE, Kind::Ddp, &LOOKUP, &two)?,
     )
 }
 

@@ -78,6 +78,38 @@ pub(crate) fn its_own_are_kept(alloc: Global) -> Result<bool, Error> {
     Ok(true)
 }
 
+/// Whether the one datagram has the byte 1 as its data.
+fn is_one(datagrams: &[Datagram]) -> bool {
+    match datagrams {
+        [datagram] => datagram.payload.as_slice() == [1].as_slice(),
+        _ => false,
+    }
+}
+
+/// A service of the node takes only what is of its type and for its socket. Padding isn't kept.
+pub(crate) fn other_types_and_sockets_are_kept(alloc: Global) -> Result<bool, Error> {
+    let mut node = far(alloc)?;
+    for (socket, kind) in [
+        (0x01, 0x02),
+        (0x02, 0x01),
+        (0x04, 0x09),
+        (0x06, 0x03),
+        (0x48, 0x01),
+        (0x48, 0x02),
+        (0x48, 0x03),
+        (0x48, 0x04),
+        (0x48, 0x06),
+    ] {
+        let mut bytes = [0x05; 16];
+        bytes[..14].copy_from_slice(&SENT);
+        (bytes[10], bytes[12]) = (socket, kind);
+        if !takes(alloc, &mut node, Link::Own, &bytes)? || !is_one(node.received()?.as_slice()) {
+            return Ok(false);
+        }
+    }
+    Ok(true)
+}
+
 /// What is for another node or cable, in a frame to a group, or for a service of the node isn't
 /// kept.
 pub(crate) fn others_are_not_kept(alloc: Global) -> Result<bool, Error> {
@@ -89,7 +121,14 @@ pub(crate) fn others_are_not_kept(alloc: Global) -> Result<bool, Error> {
     let (mut rtmp, mut zip) = (SENT, SENT);
     (rtmp[10], rtmp[12]) = (0x01, 0x01);
     (zip[10], zip[12]) = (0x06, 0x06);
-    let cases: [(Link, &[u8]); 9] = [
+    let (mut echo, mut names, mut lists) = (SENT, SENT, SENT);
+    (echo[10], echo[12], echo[13]) = (0x04, 0x04, 0x02);
+    (names[10], names[12]) = (0x02, 0x02);
+    (lists[10], lists[12]) = (0xFC, 0x03);
+    let cases: [(Link, &[u8]); 12] = [
+        (Link::Own, &echo),
+        (Link::Own, &names),
+        (Link::Own, &lists),
         (Link::Own, &other),
         (Link::Own, &wrong),
         (Link::All, &far),

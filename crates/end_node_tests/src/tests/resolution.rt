@@ -1,6 +1,6 @@
 //! What the node 10.7 answers to AARP packets.
 
-use crate::tests::lab::{NEAR_ROUTER, Want, hears, near};
+use crate::tests::lab::{NEAR_ROUTER, Want, hears, near, unsettled};
 use at_base::{Error, Hw};
 use station::{Kind, Link};
 use std::alloc::Global;
@@ -19,7 +19,7 @@ const RESPONSE: [u8; 28] = [
     0x02, 0x00, 0x00, 0x00, 0x00, 0x01, 0x00, 0x00, 0x0A, 0x01, // to 10.1
 ];
 
-/// A node answers for its own address alone.
+/// A node answers for its own address alone, once it is settled.
 pub(crate) fn nodes_answer_for_their_addresses(alloc: Global) -> Result<bool, Error> {
     let mut node = near(alloc, Some(NEAR_ROUTER))?;
     let asker = Hw([2, 0, 0, 0, 0, 1]);
@@ -41,5 +41,6 @@ pub(crate) fn nodes_answer_for_their_addresses(alloc: Global) -> Result<bool, Er
             return Ok(false);
         }
     }
-    Ok(true)
+    let mut tries = unsettled(alloc, None)?;
+    hears(alloc, &mut tries, Link::All, Kind::Aarp, &REQUEST, &[])
 }

@@ -154,6 +154,40 @@ pub(crate) fn lookups_go_to_the_router(alloc: Global) -> Result<bool, Error> {
     Ok(true)
 }
 
+/// The request for all types of the object lab in the zone `blue`.
+const LAB_LOOKUP: [u8; 31] = [
+    0x00, 0x1F, 0x00, 0x00, 0x00, 0x0A, 0x00, 0x0A, 0x01, 0x07, 0x02, 0xFD, 0x02, // its header
+    0x11, 0x01, 0x00, 0x0A, 0x07, 0xFD, 0x00, 0x03, 0x6C, 0x61, 0x62, 0x01, 0x3D, // lab:=
+    0x04, 0x62, 0x6C, 0x75, 0x65,
+];
+
+fn lab_once(node: &EndNode, outputs: &mut Outputs) -> Result<(), Error> {
+    let (object, any, zone) = (
+        Text32::new(b"lab")?,
+        Text32::new(b"=")?,
+        Text32::new(b"blue")?,
+    );
+    node.lookup(1, &object, &any, &zone, outputs)
+}
+
+/// The object stands before the type; and a node without a router sends to its own cable.
+pub(crate) fn objects_stand_first(alloc: Global) -> Result<bool, Error> {
+    let node = near(alloc, Some(NEAR_ROUTER))?;
+    let mut outputs = Outputs::new(alloc)?;
+    match lab_once(&node, &mut outputs) {
+        Err(Error::Memory) => lab_once(&node, &mut outputs)?,
+        answer => answer?,
+    }
+    let asked = are(
+        &outputs,
+        &[Want::Made(Next::Station(NEAR_ROUTER), &LAB_LOOKUP)],
+    );
+    let alone = near(alloc, None)?;
+    let mut straight = Outputs::new(alloc)?;
+    send(&alone, addr(12, 9), false, &[1], &mut straight)?;
+    Ok(asked && are(&straight, &[Want::Made(Next::Station(addr(12, 9)), &SENT)]))
+}
+
 /// Whether the node can't ask for names.
 fn cannot_ask(alloc: Global, node: &EndNode, want: Error) -> Result<bool, Error> {
     let mut outputs = Outputs::new(alloc)?;
