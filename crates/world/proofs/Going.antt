@@ -19,6 +19,7 @@ goes_none w = record {
     added = [];
     grown = sym (append-nil (happened w));
     seats = refl;
+    limit = refl;
     losing = refl;
     played = λ n. nothing_played w.cabling.seats (loses w) (happened w);
   };
@@ -34,6 +35,7 @@ goes_plays old new x = record {
   added = x.added;
   grown = x.grown;
   seats = x.seats;
+  limit = x.limit;
   losing = x.losing;
   played = λ n. x.played;
 }
@@ -67,6 +69,7 @@ module _ (taken : ℕ) (a b c : Wires) (x : GoesOn taken a b) where
       added = x.goes.added ++ y.added;
       grown = joined ∙ append_assoc (happened a) x.goes.added y.added;
       seats = y.seats ∙ x.goes.seats;
+      limit = y.limit ∙ x.goes.limit;
       losing = y.losing ∙ x.goes.losing;
       played =
           λ n. played_then a.cabling.seats (loses a) (happened a) x.goes.added y.added (subst (AreNumbered 0) joined n)
@@ -105,7 +108,7 @@ module _ (old mid new : Wires) (settled : mid ≡ record old { own = mid.own }) 
   goes_settled x = by (subst (λ w. Goes w new) settled x)
     where
       by : Goes (record old { own = mid.own }) new → Goes old new
-      by y = record { added = y.added; grown = y.grown; seats = y.seats; losing = y.losing; played = y.played }
+      by y = record { added = y.added; grown = y.grown; seats = y.seats; limit = y.limit; losing = y.losing; played = y.played }
 
   pub goes_on_settled : (taken : ℕ) → GoesOn taken mid new → GoesOn taken old new
   goes_on_settled taken x = by (subst (λ w. GoesOn taken w new) settled x)
@@ -116,6 +119,7 @@ module _ (old mid new : Wires) (settled : mid ≡ record old { own = mid.own }) 
           added = y.goes.added;
           grown = y.goes.grown;
           seats = y.goes.seats;
+          limit = y.goes.limit;
           losing = y.goes.losing;
           played = y.goes.played;
         };

@@ -149,11 +149,13 @@ laid_seated w h =
 
 -- so it is where neither the seats nor the numbers of ports change, and what happened is as it is to be
 pub laid_after : (old new : Worldly) → IsLaid old → new.plan ≡ old.plan → map ports_of new.stations ≡ map ports_of old.stations
-    → new.wires.cabling.seats ≡ old.wires.cabling.seats → new.now ≤ old.plan.ticks
+    → new.wires.cabling.seats ≡ old.wires.cabling.seats → new.wires.cabling.limit ≡ old.wires.cabling.limit
+    → new.now ≤ old.plan.ticks
     → AreDue (plan_seats old.plan) [] (happened new.wires) → AreReceived (happened new.wires) (map got new.stations) → IsLaid new
-laid_after old new h plan ports seats few due received = record {
+laid_after old new h plan ports seats limit few due received = record {
   sound = subst IsSound (sym plan) h.sound;
   seats = seats ∙ (h.seats ∙ ap plan_seats (sym plan));
+  limit = limit ∙ h.limit;
   ports = ports ∙ (h.ports ∙ ap planned_ports (sym plan));
   few = subst (λ (p : Planned). new.now ≤ p.ticks) (sym plan) few;
   due = subst (λ (p : Planned). AreDue (plan_seats p) [] (happened new.wires)) (sym plan) due;
@@ -169,6 +171,7 @@ laid_lives w h = record {
   received = λ k n at. h.received k n.node.received (map_at got w.stations k (member.Node n) at);
   whole = laid_whole w h;
   few = h.few;
+  limit = h.limit;
 }
 
 -- ---- What was received is taken out

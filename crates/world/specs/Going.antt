@@ -5,12 +5,13 @@ use Rattle.cable_model.specs.Transcript.{AreNumbered, Entry, count}
 use Rattle.live_cables.specs.Living.{Wires, happened, loses}
 use Rattle.live_cables.specs.Playing.{IsPlayed, are_lost, is_took}
 
--- Further entries were played. The seats, and which cables lose, stay; addresses may settle meanwhile. That frames are numbered
+-- Further entries were played. The seats, the room, and which cables lose, stay; addresses may settle meanwhile. That frames are numbered
 -- from 0, which cables see to at any moment, is a premise, so that steps can be put together before it is recalled.
 pub record Goes (old new : Wires) : Type 0 where
   pub added : List Entry
   pub grown : happened new ≡ happened old ++ added
   pub seats : new.cabling.seats ≡ old.cabling.seats
+  pub limit : new.cabling.limit ≡ old.cabling.limit
   pub losing : new.losing ≡ old.losing
   pub played : AreNumbered 0 (happened new) → IsPlayed old.cabling.seats (loses old) (happened old) added
 

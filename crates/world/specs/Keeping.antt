@@ -8,11 +8,12 @@ use Rattle.planned_stations.specs.Seating.{plan_seats}
 use Rattle.world.specs.Received.{AreReceived, got}
 use Rattle.world.specs.Worlds.{Worldly}
 
--- The plan is sound, and the stations and the seats are those that are planned. Each frame that was taken was pending for its
+-- The plan is sound, the stations and the seats are those that are planned, and there is room for 4,000,000 entries. Each frame that was taken was pending for its
 -- station, and each datagram that a station received is that of a frame that it took.
 pub record IsLaid (w : Worldly) : Type 0 where
   pub sound : IsSound w.plan
   pub seats : w.wires.cabling.seats ≡ plan_seats w.plan
+  pub limit : w.wires.cabling.limit ≡ 4000000
   pub ports : map ports_of w.stations ≡ planned_ports w.plan
   pub few : w.now ≤ w.plan.ticks
   pub due : AreDue (plan_seats w.plan) [] (happened w.wires)

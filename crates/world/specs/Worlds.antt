@@ -55,6 +55,8 @@ pub record IsWorld (w : Worldly) : Type 0 where
   -- as many stations as are planned
   pub whole : length w.stations ≡ length w.plan.routers + length w.plan.nodes
   pub few : w.now ≤ w.plan.ticks
+  -- room for this many entries
+  pub limit : w.wires.cabling.limit ≡ 4000000
 
 -- In the tick of this number entries were added: each frame that was taken was pending for its station; no frame was taken that
 -- was put in this tick on a cable that loses then, and no other frame was lost.

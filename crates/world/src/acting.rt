@@ -1,8 +1,9 @@
 //! What the nodes of a world do.
 
 ghost use Rattle.std.specs.Prelude.{◌≡◌, ◌⊎◌, ◌<◌, ◌≤◌, ◌++◌, ◌∷◌, ℕ, [], length};
-ghost use Rattle.std.specs.Prelude.{IfErr, IfNone, IfSome, OnErr, OnOk, Ok, Err, Some};
+ghost use Rattle.std.specs.Prelude.{IfErr, IfNone, IfSome, IsOkUnless, OnErr, OnOk, Ok, Err, Some};
 ghost use Rattle.at_base.specs.ErrorNumber.{number_of};
+ghost use Rattle.live_cables.specs.Steps.{HasNoRoom};
 ghost use Rattle.station.specs.Lawful.{AreLawful};
 ghost use Rattle.world.specs.Acting.{AreDone, IsOver, KeepsFirst, tick_of};
 ghost use Rattle.world.specs.Doing.{IsDone, acted, acted_by, number_from, station_for};
@@ -67,7 +68,7 @@ fn note(refused: &mut Vec<(u32, u8)>, index: u32, error: Error) -> Result<(), Er
     ensures memory { error ≡ Error.Memory → result ≡ Err Error.Memory }
     ensures keeps { KeepsFirst refused.old.items refused.new.items }
     ensures stays { OnErr result (refused.new.items ≡ refused.old.items) }
-    ensures refused { IfErr result (λ e. (e ≡ Error.Full) ⊎ (e ≡ Error.Memory)) }
+    ensures refused { IsOkUnless result Error.Memory }
 {
     match error {
         Error::Memory => Err(Error::Memory),
@@ -99,6 +100,7 @@ fn act_one<T: RouteTable>(
     ensures keeps { KeepsFirst refused.old.items refused.new.items }
     ensures goes { Goes wires.old wires.new }
     ensures done { OnOk result (GoesOn 0 wires.old wires.new) }
+    ensures full { (result ≡ Err Error.Full) → HasNoRoom 3 wires.new.cabling }
     ensures refused { IfErr result (λ e. (e ≡ Error.Full) ⊎ (e ≡ Error.Memory)) }
 {
     let Some(action) = plan.actions().get(index as usize) else {
@@ -150,6 +152,7 @@ pub fn act_all<T: RouteTable>(
     ensures keeps { KeepsFirst refused.old.items refused.new.items }
     ensures goes { Goes wires.old wires.new }
     ensures done { OnOk result (GoesOn 0 wires.old wires.new) }
+    ensures full { (result ≡ Err Error.Full) → HasNoRoom 3 wires.new.cabling }
     ensures refused { IfErr result (λ e. (e ≡ Error.Full) ⊎ (e ≡ Error.Memory)) }
 {
     match next_due(schedule, plan.actions(), now) {

@@ -3,6 +3,7 @@
 ghost use Rattle.std.specs.Prelude.{◌≡◌, ◌⊎◌, ◌≤◌, ℕ, fold, length, map, slice_get};
 ghost use Rattle.std.specs.Prelude.{IfErr, OnOk, Some};
 ghost use Rattle.image_stations.specs.declared.member.Member.{Member as MemberValue};
+ghost use Rattle.live_cables.specs.Steps.{HasNoRoom};
 ghost use Rattle.live_node.specs.Living.{LivingNode};
 ghost use Rattle.live_router.specs.Living.{Living};
 ghost use Rattle.planned_stations.specs.Planning.{ports_of};
@@ -83,6 +84,7 @@ fn pass_seat<T: RouteTable>(
     ensures aged { OnOk result (IsAged seat station.old station.new wires.old wires.new) }
     ensures goes { Goes wires.old wires.new }
     ensures done { OnOk result (GoesOn 0 wires.old wires.new) }
+    ensures full { (result ≡ Err Error.Full) → HasNoRoom 3 wires.new.cabling }
     ensures refused { IfErr result (λ e. (e ≡ Error.Full) ⊎ (e ≡ Error.Memory)) }
 {
     match wires.pass(seat) {
@@ -108,6 +110,7 @@ fn pass_seats<T: RouteTable>(
     ensures aged { OnOk result (AreAged seat ports station.old station.new wires.old wires.new) }
     ensures goes { Goes wires.old wires.new }
     ensures done { OnOk result (GoesOn 0 wires.old wires.new) }
+    ensures full { (result ≡ Err Error.Full) → HasNoRoom 3 wires.new.cabling }
     ensures refused { IfErr result (λ e. (e ≡ Error.Full) ⊎ (e ≡ Error.Memory)) }
 {
     for port in 0..ports {
@@ -134,6 +137,7 @@ fn tick<T: RouteTable>(
         (HasTicked number seat station.old station.new wires.old wires.new) }
     ensures goes { Goes wires.old wires.new }
     ensures done { OnOk result (GoesOn 0 wires.old wires.new) }
+    ensures full { (result ≡ Err Error.Full) → HasNoRoom 3 wires.new.cabling }
     ensures refused { IfErr result (λ e. (e ≡ Error.Full) ⊎ (e ≡ Error.Memory)) }
 {
     let mut outputs = match Outputs::new(alloc) {
@@ -164,6 +168,7 @@ fn pass<T: RouteTable>(
         (HasPassed number seat station.old station.new wires.old wires.new) }
     ensures goes { Goes wires.old wires.new }
     ensures done { OnOk result (GoesOn 0 wires.old wires.new) }
+    ensures full { (result ≡ Err Error.Full) → HasNoRoom 3 wires.new.cabling }
     ensures refused { IfErr result (λ e. (e ≡ Error.Full) ⊎ (e ≡ Error.Memory)) }
 {
     match tick(alloc, station, wires, number, seat) {
@@ -199,6 +204,7 @@ pub fn pass_all<T: RouteTable>(
         stations.old.items stations.new.items wires.old wires.new) }
     ensures goes { Goes wires.old wires.new }
     ensures done { OnOk result (GoesOn 0 wires.old wires.new) }
+    ensures full { (result ≡ Err Error.Full) → HasNoRoom 3 wires.new.cabling }
     ensures refused { IfErr result (λ e. (e ≡ Error.Full) ⊎ (e ≡ Error.Memory)) }
 {
     let mut seat = 0;

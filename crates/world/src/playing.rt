@@ -2,6 +2,7 @@
 
 ghost use Rattle.std.specs.Prelude.{◌≡◌, ◌⊎◌, ◌≤◌, length, map, IfErr, OnOk};
 ghost use Rattle.live_cables.specs.Living.{happened};
+ghost use Rattle.live_cables.specs.Steps.{HasNoRoom};
 ghost use Rattle.planned_stations.specs.Planning.{AreSeated, ports_of};
 ghost use Rattle.world.specs.Acting.{KeepsFirst};
 ghost use Rattle.world.specs.Going.{Ends, Goes, GoesOn};
@@ -39,6 +40,7 @@ fn begin<T: RouteTable>(
     ensures begins { OnOk result (Begins plan.now now stations.old.items stations.new.items
         wires.old wires.new refused.old.items refused.new.items
         schedule.old.items schedule.new.items) }
+    ensures full { (result ≡ Err Error.Full) → HasNoRoom 3 wires.new.cabling }
     ensures refused { IfErr result (λ e. (e ≡ Error.Full) ⊎ (e ≡ Error.Memory)) }
 {
     match pass_all(*refused.allocator(), stations, wires) {
@@ -69,6 +71,7 @@ pub fn play<T: RouteTable>(
         schedule.old.items schedule.new.items) }
     ensures received { AreReceived (happened wires.old) (map got stations.old.items)
         → AreReceived (happened wires.new) (map got stations.new.items) }
+    ensures full { (result ≡ Err Error.Full) → HasNoRoom 771 wires.new.cabling }
     ensures refused { IfErr result (λ e. (e ≡ Error.Full) ⊎ (e ≡ Error.Memory)) }
 {
     match begin(plan, stations, wires, refused, schedule, now) {

@@ -7,6 +7,7 @@ ghost use Rattle.cable_model.specs.Outcomes.{is_named};
 ghost use Rattle.cable_model.specs.Pending.{pending as pending_on};
 ghost use Rattle.cable_model.specs.Transcript.{one};
 ghost use Rattle.live_cables.specs.Living.{happened};
+ghost use Rattle.live_cables.specs.Steps.{HasNoRoom};
 ghost use Rattle.planned_stations.specs.Planning.{AreSeated, ports_of};
 ghost use Rattle.world.specs.Going.{Ends, Goes, GoesOn};
 ghost use Rattle.world.specs.Received.{AreReceived, got};
@@ -37,6 +38,7 @@ fn take<T: RouteTable>(
         → AreReceived (happened wires.new) (map got stations.new.items) }
     ensures not_pending { (result ≡ Err Error.NotPending) ↔ (list_any (is_named stamp station)
         (pending_on wires.old.cabling.seats (happened wires.old)) ≡ false) }
+    ensures full { (result ≡ Err Error.Full) → HasNoRoom 771 wires.new.cabling }
     ensures refused { IfErr result (λ e. (e ≡ Error.NotPending) ⊎ (e ≡ Error.Full)
         ⊎ (e ≡ Error.Memory)) }
 {
@@ -62,6 +64,7 @@ fn take_first<T: RouteTable>(
         → pending_on wires.new.cabling.seats (happened wires.new) ≡ []) }
     ensures received { AreReceived (happened wires.old) (map got stations.old.items)
         → AreReceived (happened wires.new) (map got stations.new.items) }
+    ensures full { (result ≡ Err Error.Full) → HasNoRoom 771 wires.new.cabling }
     ensures refused { IfErr result (λ e. (e ≡ Error.Full) ⊎ (e ≡ Error.Memory)) }
 {
     match wires.first() {
@@ -87,6 +90,7 @@ pub fn take_all<T: RouteTable>(
         wires.old wires.new) }
     ensures received { AreReceived (happened wires.old) (map got stations.old.items)
         → AreReceived (happened wires.new) (map got stations.new.items) }
+    ensures full { (result ≡ Err Error.Full) → HasNoRoom 771 wires.new.cabling }
     ensures refused { IfErr result (λ e. (e ≡ Error.Full) ⊎ (e ≡ Error.Memory)) }
 {
     for _step in 0..most {

@@ -1,8 +1,9 @@
 //! A tick of a world.
 
-ghost use Rattle.std.specs.Prelude.{◌≡◌, ◌≤◌, ◌+◌, ◌⊎◌, IfErr, IfSome, None, OnOk, Some};
+ghost use Rattle.std.specs.Prelude.{◌≡◌, ◌<◌, ◌≤◌, ◌+◌, ◌⊎◌, IfErr, IfSome, None, OnOk, Some};
 ghost use Rattle.cable_model.specs.Transcript.{AreNumbered};
 ghost use Rattle.live_cables.specs.Living.{happened};
+ghost use Rattle.live_cables.specs.Steps.{HasNoRoom};
 ghost use Rattle.world.specs.Acting.{KeepsFirst};
 ghost use Rattle.world.specs.Ticking.{IsTick};
 ghost use Rattle.world.specs.Worlds.{Ticks, TicksOn};
@@ -32,6 +33,7 @@ impl<T: RouteTable> World<T> {
             (TicksOn self.old.plan self.old.now self.old.wires self.new.wires) }
         ensures plays { OnOk result (IsTick self.old self.new) }
         ensures keeps { KeepsFirst self.old.refused self.new.refused }
+        ensures full { (result ≡ Err Error.Full) → HasNoRoom 771 self.new.wires.cabling }
         ensures refused { IfErr result (λ e. (e ≡ Error.Full) ⊎ (e ≡ Error.Memory)) }
     {
         let losing = match losing_at(self.alloc, &self.plan, self.passed) {
@@ -55,6 +57,7 @@ impl<T: RouteTable> World<T> {
     fn pass(&mut self) -> Result<(), Error>
         ensures plan { self.new.plan ≡ self.old.plan }
         ensures now { OnOk result (self.new.now ≡ self.old.now + 1) }
+        ensures began { self.old.now < self.old.plan.ticks → self.new.now ≡ self.old.now + 1 }
         ensures stopped { self.new.stopped ≡ self.old.stopped }
         ensures over { self.old.plan.ticks ≤ self.old.now → result ≡ Err Error.Full }
         ensures over_stays { self.old.plan.ticks ≤ self.old.now → self.new ≡ self.old }
@@ -63,6 +66,8 @@ impl<T: RouteTable> World<T> {
             (TicksOn self.old.plan self.new.now self.old.wires self.new.wires) }
         ensures plays { OnOk result (IsTick self.old self.new) }
         ensures keeps { KeepsFirst self.old.refused self.new.refused }
+        ensures full { (result ≡ Err Error.Full)
+            → (self.old.plan.ticks ≤ self.old.now) ⊎ HasNoRoom 771 self.new.wires.cabling }
         ensures refused { IfErr result (λ e. (e ≡ Error.Full) ⊎ (e ≡ Error.Memory)) }
     {
         if self.passed >= self.plan.ticks() {
@@ -80,6 +85,9 @@ impl<T: RouteTable> World<T> {
     /// What was done before it stays, and each later tick is refused by the same error.
     pub fn tick(&mut self) -> Result<(), Error>
         ensures now { OnOk result (self.new.now ≡ self.old.now + 1) }
+        // A tick that is refused on its way counts too.
+        ensures began { self.old.stopped ≡ None → self.old.now < self.old.plan.ticks
+            → self.new.now ≡ self.old.now + 1 }
         ensures plan { self.new.plan ≡ self.old.plan }
         ensures over { self.old.stopped ≡ None → self.old.plan.ticks ≤ self.old.now
             → result ≡ Err Error.Full }
@@ -95,6 +103,9 @@ impl<T: RouteTable> World<T> {
             (TicksOn self.old.plan self.new.now self.old.wires self.new.wires) }
         ensures plays { OnOk result (IsTick self.old self.new) }
         ensures keeps { KeepsFirst self.old.refused self.new.refused }
+        // A tick that isn't the one after the last is full only where the transcript has no room.
+        ensures full { self.old.stopped ≡ None → (result ≡ Err Error.Full)
+            → (self.old.plan.ticks ≤ self.old.now) ⊎ HasNoRoom 771 self.new.wires.cabling }
         ensures refused { IfErr result (λ e.
             (self.old.stopped ≡ Some e) ⊎ (e ≡ Error.Full) ⊎ (e ≡ Error.Memory)) }
     {

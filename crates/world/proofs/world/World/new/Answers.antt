@@ -7,6 +7,7 @@ pub invariant_of-result : goal.invariant_of-result
 invariant_of-result g c = record {
   sound = search rules;
   seats = search rules;
+  limit = search rules;
   ports = search rules;
   few = search rules;
   due = search rules;

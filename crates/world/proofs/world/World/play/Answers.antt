@@ -21,7 +21,8 @@ invariant_of-self g c =
     let old = c.self.inside in
     let new = c.play-played.new.wires in
     laid_after _ _ c.self.invariant refl c.play-played.ensures.ports
-    (c.play-played.ensures.goes.seats ∙ ap (λ (w : Wires). w.cabling.seats) c.set_losing.ensures) c.self.invariant.few
+    (c.play-played.ensures.goes.seats ∙ ap (λ (w : Wires). w.cabling.seats) c.set_losing.ensures)
+    (c.play-played.ensures.goes.limit ∙ ap (λ (w : Wires). w.cabling.limit) c.set_losing.ensures) c.self.invariant.few
     (due_ticks old.plan old.passed old.wires new
     (ticks_goes old.plan old.passed old.wires new c.in-Ok.losing.items c.in-Ok.ensures.losing c.self.invariant.seats
     c.recall_numbered.ensures c.set_losing.new.self c.set_losing.ensures c.play-played.ensures.goes)

@@ -14,7 +14,7 @@ invariant_of-self g c =
     (either_way c.take_at.result (map ports_of c.take_at.new.stations.items ≡ map ports_of old)
     (on_ok_weaker c.take_at.result (λ is. ap (map ports_of) is ∙ ports_emptied old c.station_of-station.result) c.take_at.ensures.left)
     (on_err_weaker c.take_at.result (λ is. ap (map ports_of) is) c.take_at.ensures.stay))
-    refl c.self.invariant.few c.self.invariant.due
+    refl refl c.self.invariant.few c.self.invariant.due
     (either_way c.take_at.result (AreReceived (happened c.self.inside.wires) (map got c.take_at.new.stations.items))
     (on_ok_weaker c.take_at.result
     (λ is. subst (λ l. AreReceived (happened c.self.inside.wires) (map got l)) (sym is)

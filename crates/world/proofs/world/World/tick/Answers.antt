@@ -1,0 +1,11 @@
+use Rattle.std.proofs.Common.{◌≤◌, ◌⊎◌, subst, sym}
+use Rattle.live_cables.specs.Steps.{HasNoRoom}
+use Rattle.world.specs.Worlds.{Worldly}
+use Rattle.world.proofs.world.World.tick.Goals as goal
+
+-- what stopped it is noted, and the cables stay as the tick left them
+pub returns-in-Err-clause-full : goal.returns-in-Err-clause-full
+returns-in-Err-clause-full g c =
+    λ stopped is.
+    subst (λ (w : Worldly). (c.args.self.now.plan.ticks ≤ c.args.self.now.now) ⊎ HasNoRoom 771 w.wires.cabling) (sym c.self-2.view_is)
+    (c.in-Err.ensures.full is)
