@@ -217,49 +217,6 @@ pub(crate) fn holds(alloc: Global) -> Result<bool, Error> {
     )
 }
 
-/// A router with 16 ports, of the same plan.
-fn with_16(alloc: Global) -> Result<Lab, Error> {
-    let range = Range::new(10, 19)?;
-    let a = PortPlan {
-        range,
-        hw: Hw([2, 0, 0, 0, 0, 1]),
-        tries: &[],
-        own: Some(Addr { net: 10, node: 1 }),
-    };
-    let plans = [a, a, a, a, a, a, a, a, a, a, a, a, a, a, a, a];
-    let mut routes = PlainTable::empty(alloc)?;
-    routes.direct(range, 0)?;
-    Router::new(alloc, &plans, routes, ZoneTable::new(alloc)?)
-}
-
-/// One more.
-fn with_17(alloc: Global) -> Result<Lab, Error> {
-    let range = Range::new(10, 19)?;
-    let a = PortPlan {
-        range,
-        hw: Hw([2, 0, 0, 0, 0, 1]),
-        tries: &[],
-        own: Some(Addr { net: 10, node: 1 }),
-    };
-    let plans = [a, a, a, a, a, a, a, a, a, a, a, a, a, a, a, a, a];
-    let mut routes = PlainTable::empty(alloc)?;
-    routes.direct(range, 0)?;
-    Router::new(alloc, &plans, routes, ZoneTable::new(alloc)?)
-}
-
-/// A router has 16 ports at most.
-pub(crate) fn has_16_ports(alloc: Global) -> Result<bool, Error> {
-    let most = match with_16(alloc) {
-        Err(Error::Memory) => with_16(alloc)?,
-        answer => answer?,
-    };
-    let over = match with_17(alloc) {
-        Err(Error::Memory) => with_17(alloc),
-        answer => answer,
-    };
-    Ok(most.ports() == 16 && matches!(over, Err(Error::Full)))
-}
-
 /// Lets 160 ticks pass, longer than the shortest release time.
 pub(crate) fn pass(alloc: Global, router: &mut Lab) -> Result<(), Error> {
     let mut outputs = Outputs::new(alloc)?;
