@@ -1,9 +1,9 @@
--- An internet file is refused neither as one that can't be read nor as one that can't be written.
+-- An internet file is refused neither as one that can't be read or written nor as one that is full.
 use Rattle.std.proofs.Common.{◌≡◌, ◌≢◌, ℕ, Bool, true, false, cond, List, Option, Some, None, Result, Ok, Err, IfErr, codes}
 use Rattle.std.proofs.Common.{length, nat_le, take, refl, subst, sym, inl, inr}
 use Rattle.toml.specs.Data.{Data, Members}
 use Rattle.at_base.specs.declared.error.Error.{Error}
-use Rattle.at_base.specs.declared.error.Error.TheVariants.{BadFile, ReadFault, WriteFault}
+use Rattle.at_base.specs.declared.error.Error.TheVariants.{BadFile, Full, ReadFault, WriteFault}
 use Rattle.at_base.specs.declared.error.Part.{Part}
 use Rattle.at_base.specs.declared.error.Part.TheVariants.{Text, Top, Cable as CablePart, Router as RouterPart, Node as NodePart}
 use Rattle.at_base.specs.declared.error.Part.TheVariants.{Lose, Action as ActionPart}
@@ -15,15 +15,15 @@ use Rattle.internet_file.specs.Files.{routers_in, ticks_of}
 use Rattle.internet_file.specs.Stations.{node_of, router_of}
 use Rattle.internet_file.specs.Values.{number}
 
--- the error is neither of these
+-- the error is none of these
 abbrev pub IsOther : Error → Type 0
-IsOther e = (e ≢ ReadFault) × (e ≢ WriteFault)
+IsOther e = (e ≢ ReadFault) × (e ≢ WriteFault) × (e ≢ Full)
 
 abbrev IsBad : {T : Type 0} → Result T Error → Type 0
 IsBad r = IfErr r IsOther
 
 bad_entry : (p : Part) (k : ℕ) → IsOther (BadFile p k)
-bad_entry p k = (λ same. absurd cc, λ same. absurd cc)
+bad_entry p k = (λ same. absurd cc, λ same. absurd cc, λ same. absurd cc)
 
 after_bad : {T U : Type 0} (r : Result T Error) (f : T → Result U Error) → IsBad r → ((x : T) → IsBad (f x)) → IsBad (after r f)
 after_bad (Ok x) f first rest = rest x
@@ -66,4 +66,4 @@ pub other_fault : (text : List ℕ) (e : Error) → IsFileRefused text e → IsO
 other_fault text e (inl (is, none)) = subst IsOther (sym is) (bad_entry Text 0)
 other_fault text e (inr (inl (ms, whole, is))) =
     subst (λ (r : Result Planned Error). IfErr r IsOther) is (file_bad ms)
-other_fault text e (inr (inr is)) = subst IsOther (sym is) (λ same. absurd cc, λ same. absurd cc)
+other_fault text e (inr (inr is)) = subst IsOther (sym is) (λ same. absurd cc, λ same. absurd cc, λ same. absurd cc)

@@ -1,11 +1,11 @@
 //! A play from its text to its end.
 
-ghost use Rattle.std.specs.Prelude.{◌≡◌, ◌≢◌, ◌⊎◌, ◌+◌, ◌++◌, None, IfErr, IfOk, IsOkUnless, OnOk};
-ghost use Rattle.std.specs.Prelude.{length};
+ghost use Rattle.std.specs.Prelude.{◌≡◌, ◌≢◌, ◌<◌, ◌⊎◌, ◌+◌, ◌++◌, None, IfErr, IfOk, OnOk};
+ghost use Rattle.std.specs.Prelude.{IsOkUnless, length};
 ghost use Rattle.at_base.specs.Spelling.{Spells};
 ghost use Rattle.internet_file.specs.Files.{IsFile, IsFileRefused, Planned};
 ghost use Rattle.play_lines.specs.Lines.{refused_lines};
-ghost use Rattle.playing.specs.Lives.{Lives};
+ghost use Rattle.playing.specs.Lives.{Fills, Lives};
 ghost use Rattle.playing.specs.Plays.{IsPlay, all_received};
 ghost use Rattle.table_image.specs.Internet.{Internet};
 ghost use Rattle.table_image.specs.Spelling.{image_spelling};
@@ -57,9 +57,14 @@ fn play_tick(world: &mut World<PlainTable>) -> Result<(), Error>
     ensures now { OnOk result (world.new.now ≡ world.old.now + 1) }
     ensures going { OnOk result (world.new.stopped ≡ None) }
     ensures lived { OnOk result (Lives world.old → Lives world.new) }
+    ensures full { (result ≡ Err Error.Full) → Lives world.old
+        → world.old.now < world.old.plan.ticks → Fills world.old.plan }
     ensures refused { IfErr result (λ e. (e ≡ Error.Full) ⊎ (e ≡ Error.Memory)) }
 {
-    world.tick()
+    let ticked = world.tick();
+    // For the prover alone: what the world keeps.
+    recall_lived(world);
+    ticked
 }
 
 /// Lets all ticks of the plan pass. Errors: `Full`, `Memory`.
@@ -70,6 +75,7 @@ fn play_ticks<P: Progress>(world: &mut World<PlainTable>, progress: &mut P) -> R
     ensures whole { OnOk result (world.new.now ≡ world.old.plan.ticks) }
     ensures going { OnOk result (world.new.stopped ≡ None) }
     ensures lived { OnOk result (Lives world.old → Lives world.new) }
+    ensures full { (result ≡ Err Error.Full) → Lives world.old → Fills world.old.plan }
     ensures refused { IfErr result (λ e. (e ≡ Error.Full) ⊎ (e ≡ Error.Memory)) }
 {
     for _tick in 0..world.plan().ticks() {
@@ -102,6 +108,7 @@ fn play_plan<P: Progress>(
     ensures whole { IfOk result (λ w. w.now ≡ w.plan.ticks) }
     ensures going { IfOk result (λ w. w.stopped ≡ None) }
     ensures lived { IfOk result (λ w. Lives w) }
+    ensures full { (result ≡ Err Error.Full) → Fills plan }
     ensures refused { IfErr result (λ e. (e ≡ Error.Full) ⊎ (e ≡ Error.Memory)) }
 {
     let mut world = match begin(alloc, plan) {
@@ -144,6 +151,9 @@ pub fn play_text<P: Progress>(alloc: Global, text: &[u8], progress: &mut P) -> R
     // A text that is no file is refused by its first fault, and one that is by nothing but these.
     ensures refused { IfErr result (λ e. IsFileRefused text.now e
         ⊎ (((plan : Planned) × IsFile text.now plan) × ((e ≡ Error.Full) ⊎ (e ≡ Error.Memory)))) }
+    // A play is full only where a tick of it has no room.
+    ensures full { (result ≡ Err Error.Full)
+        → ((plan : Planned) × IsFile text.now plan × Fills plan) }
     ensures others { IfErr result (λ e. (e ≢ Error.ReadFault) × (e ≢ Error.WriteFault)) }
 {
     let plan = match read_plan(alloc, text) {

@@ -11,6 +11,7 @@ use std::alloc::Global;
 pub fn read_plan(alloc: Global, text: &[u8]) -> Result<Plan, Error>
     ensures plan { IfOk result (λ plan. IsFile text.now plan) }
     ensures refused { IfErr result (λ e. IsFileRefused text.now e) }
+    ensures not_full { IfErr result (λ e. e ≢ Error.Full) }
     ensures others { IfErr result (λ e. (e ≢ Error.ReadFault) × (e ≢ Error.WriteFault)) }
 {
     read(alloc, text)

@@ -1,9 +1,10 @@
-use Rattle.std.proofs.Common.{◌≡◌, ◌+◌, Result, Ok, Err, OnOk}
+use Rattle.std.proofs.Common.{◌≡◌, ◌<◌, ◌≤◌, ◌⊎◌, ◌+◌, Result, Ok, Err, OnOk, arith, inl, inr, refl, subst}
 use Rattle.at_base.specs.declared.error.Error.{Error}
-use Rattle.playing.specs.Lives.{Lives}
+use Rattle.live_cables.specs.Steps.{HasNoRoom}
+use Rattle.playing.specs.Lives.{Fills, Lives}
 use Rattle.playing.specs.Lives.Lives.{Passed}
 use Rattle.world.specs.Ticking.{IsTick}
-use Rattle.world.specs.Worlds.{TicksOn, Worldly}
+use Rattle.world.specs.Worlds.{Ticks, TicksOn, Worldly}
 use Rattle.playing.proofs.playing.play_tick.Goals as goal
 
 passed : {U : Type 0} (r : Result U Error) (old new : Worldly) → new.plan ≡ old.plan → OnOk r (new.now ≡ old.now + 1)
@@ -14,5 +15,25 @@ passed (Err e) old new plan now ticks does = tt
 -- src/playing.rt:53:1
 pub returns-clause-lived : goal.returns-clause-lived
 returns-clause-lived c =
-    passed c.tick.result c.args.world.now c.tick.new.self c.tick.ensures.plan c.tick.ensures.now c.tick.ensures.ticks_on
-    c.tick.ensures.plays
+    passed c.tick-ticked.result c.args.world.now c.tick-ticked.new.self c.tick-ticked.ensures.plan c.tick-ticked.ensures.now c.tick-ticked.ensures.ticks_on
+    c.tick-ticked.ensures.plays
+
+pub returns-clause-full : goal.returns-clause-full
+returns-clause-full c =
+    λ is lives early. by lives early (c.tick-ticked.ensures.full c.requires.unstopped is)
+  where
+    by : Lives c.args.world.now → c.args.world.now.now < c.args.world.now.plan.ticks
+        → (c.args.world.now.plan.ticks ≤ c.args.world.now.now) ⊎ HasNoRoom 771 c.tick-ticked.new.self.wires.cabling
+        → Fills c.args.world.now.plan
+    by lives early (inl over) = absurd (omega (arith, early, over))
+    by lives early (inr none) = record {
+      before = c.args.world.now;
+      of = refl;
+      lived = lives;
+      early = early;
+      wires = c.tick-ticked.new.self.wires;
+      ticks = subst (λ n. Ticks c.args.world.now.plan n c.args.world.now.wires c.tick-ticked.new.self.wires)
+          (c.tick-ticked.ensures.began c.requires.unstopped early) c.tick-ticked.ensures.ticks;
+      limit = c.recall_lived.ensures.limit;
+      full = none;
+    }
