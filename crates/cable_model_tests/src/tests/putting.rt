@@ -48,10 +48,35 @@ pub(crate) fn frames_are_heard_by_whom_they_are_for(alloc: Global) -> Result<boo
     Ok(true)
 }
 
-/// Cables with these seats.
-fn cables_of(alloc: Global, seats: &[Seat]) -> Result<Cables, Error> {
-    match Cables::new(alloc, seats, 800) {
-        Err(Error::Memory) => Cables::new(alloc, seats, 800),
+/// Two stations with one hardware address, the greater one first, and a router.
+const TWINS: [Seat; 3] = [
+    Seat {
+        cable: 2,
+        station: 4,
+        port: 0,
+        hw: Hw([2, 0, 0, 0, 0, 6]),
+        group: Some(252),
+    },
+    Seat {
+        cable: 2,
+        station: 3,
+        port: 0,
+        hw: Hw([2, 0, 0, 0, 0, 6]),
+        group: Some(118),
+    },
+    Seat {
+        cable: 2,
+        station: 1,
+        port: 1,
+        hw: Hw([2, 0, 0, 0, 0, 4]),
+        group: None,
+    },
+];
+
+/// Cables with these three seats.
+fn twins(alloc: Global) -> Result<Cables, Error> {
+    match Cables::new(alloc, &TWINS, 800) {
+        Err(Error::Memory) => Cables::new(alloc, &TWINS, 800),
         answer => answer,
     }
 }
@@ -59,13 +84,9 @@ fn cables_of(alloc: Global, seats: &[Seat]) -> Result<Cables, Error> {
 /// Of the stations that a frame is for the least is the first, wherever its seat stands; each that
 /// has the hardware address hears a frame to it. What is lost leaves older frames as they are.
 pub(crate) fn the_least_station_is_first(alloc: Global) -> Result<bool, Error> {
-    let twin = Seat {
-        hw: SEATS[5].hw,
-        ..SEATS[6]
-    };
-    let mut cables = cables_of(alloc, &[twin, SEATS[5], SEATS[3]])?;
+    let mut cables = twins(alloc)?;
     put(alloc, &mut cables, 2, 1, Hw::ALL, &PING)?;
-    put(alloc, &mut cables, 2, 1, SEATS[5].hw, &PING)?;
+    put(alloc, &mut cables, 2, 1, TWINS[0].hw, &PING)?;
     let least = cables.first() == Some((0, 3)) && cables.pending_count() == 4;
     let both = cables.pending(1, 3) && cables.pending(1, 4);
     let lost = lose(&mut cables, 1) == Ok(()) && cables.pending_count() == 2;
