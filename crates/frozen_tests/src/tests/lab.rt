@@ -4,7 +4,8 @@
 
 use at_base::{Addr, Bytes, Error, Text32};
 use cable_model::Entry;
-use example_images::three_cables::image;
+use example_images::put;
+use example_images::three_cables::{NODE_1, NODE_1_NAMES, NODE_1_ROUTER, image};
 use frozen::{Event, Frozen};
 use nbp::Tuple;
 use rtmp::PlainTable;
@@ -17,17 +18,50 @@ pub(crate) const ASKER: Addr = Addr { net: 10, node: 7 };
 /// The first router, on the first cable.
 pub(crate) const FIRST: Addr = Addr { net: 10, node: 1 };
 
+/// The same router, on the second cable.
+pub(crate) const SECOND: Addr = Addr { net: 20, node: 1 };
+
 /// The node on the last cable.
 pub(crate) const PRINTER: Addr = Addr { net: 30, node: 5 };
 
 /// What an echo asks to send back.
 pub(crate) const PING: [u8; 5] = [0x01, 0x70, 0x69, 0x6E, 0x67];
 
+/// The image with its first node moved between the two routers, as 20.7 with the router 20.1.
+pub(crate) fn between() -> [u8; 276] {
+    let mut bytes = image();
+    put(&mut bytes, NODE_1, &[0x01, 0x00, 0x14]);
+    put(&mut bytes, NODE_1_ROUTER + 1, &[0x00, 0x14]);
+    bytes
+}
+
+/// The image with a first node that has no router.
+pub(crate) fn without_router() -> [u8; 273] {
+    let whole = image();
+    let mut bytes = [0; 273];
+    for at in 0..NODE_1_ROUTER {
+        bytes[at] = whole[at];
+    }
+    for at in NODE_1_NAMES..276 {
+        bytes[at - 3] = whole[at];
+    }
+    bytes
+}
+
+/// A run over the image of these bytes, with room for so many entries.
+pub(crate) fn run_over(
+    alloc: Global,
+    bytes: &[u8],
+    limit: u32,
+) -> Result<Frozen<PlainTable>, Error> {
+    let image = read(alloc, bytes)?;
+    Frozen::start(alloc, image, limit)
+}
+
 /// A run with room for so many entries.
 pub(crate) fn run_of(alloc: Global, limit: u32) -> Result<Frozen<PlainTable>, Error> {
     let bytes = image();
-    let image = read(alloc, bytes.as_slice())?;
-    Frozen::start(alloc, image, limit)
+    run_over(alloc, bytes.as_slice(), limit)
 }
 
 /// A sending of 10.7's from socket 128.
@@ -51,8 +85,35 @@ pub(crate) fn sending(
     })
 }
 
+/// A sending of so many bytes of 0, by a router, to a socket where nobody answers.
+pub(crate) fn sending_by(
+    alloc: Global,
+    node: Addr,
+    via: Option<Addr>,
+    target: Addr,
+    length: usize,
+) -> Result<Event, Error> {
+    let mut payload = Vec::new(alloc);
+    payload.resize(length, 0)?;
+    Ok(Event::Send {
+        node,
+        via,
+        target,
+        target_socket: 128,
+        source_socket: 128,
+        kind: 128,
+        summed: false,
+        payload: Bytes::from_vec(payload),
+    })
+}
+
+/// The taking of a frame by the station with this address.
+pub(crate) fn taking(stamp: u32, station: Addr) -> Event {
+    Event::Take { stamp, station }
+}
+
 /// The echo that 10.7 asks 30.5 for, without a checksum.
-fn echo(alloc: Global) -> Result<Event, Error> {
+pub(crate) fn echo(alloc: Global) -> Result<Event, Error> {
     sending(alloc, PRINTER, 4, 4, false, &PING)
 }
 
@@ -64,22 +125,33 @@ pub(crate) fn sent_in(alloc: Global, limit: u32) -> Result<Frozen<PlainTable>, E
     Ok(run)
 }
 
-/// A node's request for all names of a zone.
-pub(crate) fn names_from(node: Addr, zone: &[u8]) -> Result<Event, Error> {
-    let any = Text32::new(b"=")?;
+/// A node's request for the names of an object, a type and a zone. What else the name has isn't
+/// used.
+pub(crate) fn asking(
+    node: Addr,
+    via: Option<Addr>,
+    id: u8,
+    texts: [&[u8]; 3],
+) -> Result<Event, Error> {
+    let [object, kind, zone] = texts;
     Ok(Event::Request {
         node,
-        via: None,
-        id: 1,
+        via,
+        id,
         name: Tuple {
-            at: Addr::NONE,
-            socket: 0,
-            enumerator: 0,
-            object: any,
-            kind: any,
+            at: Addr { net: 1, node: 2 },
+            socket: 3,
+            enumerator: 4,
+            object: Text32::new(object)?,
+            kind: Text32::new(kind)?,
             zone: Text32::new(zone)?,
         },
     })
+}
+
+/// A node's request for all names of a zone.
+pub(crate) fn names_from(node: Addr, zone: &[u8]) -> Result<Event, Error> {
+    asking(node, None, 1, [b"=", b"=", zone])
 }
 
 /// How often a datagram has reached a cable, counted from 0.

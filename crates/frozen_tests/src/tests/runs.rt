@@ -1,7 +1,12 @@
 //! What happens in runs.
 
-use super::lab::{ASKER, FIRST, PRINTER, is_put, names_from, reached, run_of, sending, sent_in};
+use super::lab::{
+    ASKER, FIRST, PRINTER, SECOND, asking, between, echo, is_put, names_from, reached, run_of,
+    run_over, sending, sending_by, sent_in, taking,
+};
 use at_base::{Addr, Bytes, Error, What};
+use cable_model::Entry;
+use example_images::put;
 use frozen::Event;
 use std::alloc::Global;
 
@@ -136,4 +141,94 @@ pub(crate) fn strangers_take_nothing(alloc: Global) -> Result<bool, Error> {
         station: Addr { net: 10, node: 9 },
     };
     is_refused(alloc, &event, Error::NoSuch(What::Station))
+}
+
+/// The first node, where it is between the two routers.
+const BETWEEN: Addr = Addr { net: 20, node: 7 };
+
+/// The second router, on the second cable.
+const THIRD: Addr = Addr { net: 20, node: 2 };
+
+/// How many entries come of a sending from between the routers to 30.5 by one of them.
+fn entries_by(alloc: Global, via: Option<Addr>) -> Result<usize, Error> {
+    let bytes = between();
+    let mut run = run_over(alloc, bytes.as_slice(), 1000)?;
+    run.event(&sending_by(alloc, BETWEEN, via, PRINTER, 0)?)?;
+    run.drain(100)?;
+    Ok(run.transcript().len())
+}
+
+/// The router that is named carries a datagram to the last cable itself; the node's own one, named
+/// or not, hands it to that one.
+pub(crate) fn the_router_that_is_named_is_asked(alloc: Global) -> Result<bool, Error> {
+    let by_other = entries_by(alloc, Some(THIRD))?;
+    let by_own = entries_by(alloc, Some(SECOND))?;
+    Ok(by_other == 6 && by_own == 8 && entries_by(alloc, None)? == 8)
+}
+
+/// A request goes to the router that is named, and the empty zone is the node's own.
+pub(crate) fn the_own_zone_needs_no_name(alloc: Global) -> Result<bool, Error> {
+    let bytes = between();
+    let mut run = run_over(alloc, bytes.as_slice(), 1000)?;
+    run.event(&asking(BETWEEN, Some(THIRD), 0, [b"=", b"a", b""])?)?;
+    let request = [
+        0x00, 0x1C, 0x00, 0x00, 0x00, 0x14, 0x00, 0x14, 0x02, 0x07, 0x02, 0xFD, 0x02, 0x11, 0x00,
+        0x00, 0x14, 0x07, 0xFD, 0x00, 0x01, 0x3D, 0x01, 0x61, 0x03, 0x52, 0x65, 0x64,
+    ];
+    Ok(is_put(&run, 0, 1, &request))
+}
+
+/// A request of the last node for lab:LaserWriter in its zone, with the ID 200: its lookups are
+/// made by rising range, each from the router's address there.
+pub(crate) fn lookups_rise_by_range(alloc: Global) -> Result<bool, Error> {
+    let mut run = run_of(alloc, 1000)?;
+    run.event(&asking(PRINTER, None, 200, [b"lab", b"LaserWriter", b"*"])?)?;
+    let mut request = [
+        0x00, 0x29, 0x00, 0x00, 0x00, 0x1E, 0x00, 0x1E, 0x01, 0x05, 0x02, 0xFD, 0x02, 0x11, 0xC8,
+        0x00, 0x1E, 0x05, 0xFD, 0x00, 0x03, 0x6C, 0x61, 0x62, 0x0B, 0x4C, 0x61, 0x73, 0x65, 0x72,
+        0x57, 0x72, 0x69, 0x74, 0x65, 0x72, 0x04, 0x42, 0x6C, 0x75, 0x65,
+    ];
+    let asked = is_put(&run, 0, 2, &request);
+    run.event(&taking(0, Addr { net: 30, node: 1 }))?;
+    let head = [0x00, 0x00, 0x00, 0x14, 0xFF, 0x02, 0x02, 0x02, 0x02, 0x21];
+    put(&mut request, 4, &head);
+    let first = is_put(&run, 1, 1, &request);
+    put(&mut request, 6, &[0x00, 0x1E, 0xFF, 0x01]);
+    Ok(asked && first && is_put(&run, 2, 2, &request))
+}
+
+/// The events up to the first that is refused happen. A router has both of its addresses.
+pub(crate) fn a_run_ends_at_a_refusal(alloc: Global) -> Result<bool, Error> {
+    let mut events = Vec::new(alloc);
+    events.push(echo(alloc)?)?;
+    events.push(taking(0, SECOND))?;
+    events.push(taking(0, FIRST))?;
+    events.push(taking(1, THIRD))?;
+    let mut run = run_of(alloc, 1000)?;
+    let stopped = run.run(events.as_slice());
+    let entries = run.transcript().len();
+    run.event(&taking(1, THIRD))?;
+    let further = run.transcript().len();
+    Ok(stopped == Err((2, Error::NotPending)) && entries == 4 && further == 7)
+}
+
+/// A frame for all is taken by each of the other stations, the first one first. What is drained is
+/// told, also where no turn is left.
+pub(crate) fn a_drain_has_so_many_turns(alloc: Global) -> Result<bool, Error> {
+    let bytes = between();
+    let mut run = run_over(alloc, bytes.as_slice(), 1000)?;
+    let every = Addr { net: 0, node: 255 };
+    run.event(&sending_by(alloc, BETWEEN, Some(FIRST), every, 0)?)?;
+    let pending = run.pending_count();
+    let turns = [run.drain(0)?, run.drain(1)?, run.drain(1)?];
+    let in_turn = match run.transcript() {
+        [
+            _,
+            _,
+            Entry::Took { station: a, .. },
+            Entry::Took { station: b, .. },
+        ] => { (*a, *b) == (0, 1) }
+        _ => false,
+    };
+    Ok(pending == 2 && turns == [false, false, true] && in_turn)
 }
