@@ -63,6 +63,8 @@ impl<W: Write> Output<W> {
         ensures ok { OnOk result (Appends (W.contents self.old.writer)
             (W.contents self.new.writer) self.old.text.items) }
         ensures empty { OnOk result (self.new.text.items ≡ []) }
+        // What can't be written is still to be written.
+        ensures left { OnErr result (self.new.text ≡ self.old.text) }
         ensures fault { OnErr result (self.new.failed ≡ true) }
         ensures refused { IsOkUnless result Error.WriteFault }
         ensures stays { OnOk result (self.new.failed ≡ self.old.failed) }
@@ -85,6 +87,7 @@ impl<W: Write> Output<W> {
         ensures little { OnOk result (length self.new.text.items < 65536) }
         ensures gone { OnOk result (Goes (W.contents self.old.writer) self.old.text.items []
             (W.contents self.new.writer) self.new.text.items) }
+        ensures left { OnErr result (self.new.text ≡ self.old.text) }
         ensures fault { OnErr result (self.new.failed ≡ true) }
         ensures refused { IsOkUnless result Error.WriteFault }
         ensures stays { OnOk result (self.new.failed ≡ self.old.failed) }

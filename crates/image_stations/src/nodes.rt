@@ -1,7 +1,8 @@
 //! Nodes that hold what an image says of them.
 
-ghost use Rattle.std.specs.Prelude.{◌≡◌, ◌<◌, ◌++◌, [], length, map, slice_get, Some};
+ghost use Rattle.std.specs.Prelude.{◌≡◌, ◌<◌, ◌++◌, ℕ, [], length, map, slice_get, None, Some};
 ghost use Rattle.std.specs.Prelude.{IfOk, IsOkUnless, IsTrue, OnOk};
+ghost use Rattle.atp.specs.Requesting.{known};
 ghost use Rattle.audit.specs.Rules.{Passes};
 ghost use Rattle.image_stations.specs.Holders.{HoldsNode, choice_on, named};
 ghost use Rattle.image_stations.specs.Plans.{is_seated};
@@ -62,6 +63,8 @@ fn node_by(alloc: Global, image: &Image, node: &Node) -> Result<EndNode, Error>
     ensures router { IfOk result (λ made. made.router ≡ node.now.router) }
     ensures named { IfOk result (λ made. made.names ≡ map named node.now.names) }
     ensures fresh { IfOk result (λ made. made.received ≡ []) }
+    ensures first { IfOk result (λ made. made.asks.next ≡ 1) }
+    ensures none { IfOk result (λ made. (id : ℕ) → known id made.asks.slots ≡ None) }
     ensures refused { IsOkUnless result Error.Memory }
 {
     let plan = plan_of(image, node.cable, node.address, node.hardware);
@@ -84,6 +87,9 @@ pub fn node_of(alloc: Global, image: &Image, index: u8) -> Result<EndNode, Error
     requires passes { Passes image.now }
     requires there { index < length image.now.nodes }
     ensures ok { IfOk result (λ node. HoldsNode image.now index node × (node.received ≡ [])) }
+    // It asks for nothing yet.
+    ensures first { IfOk result (λ node. node.asks.next ≡ 1) }
+    ensures none { IfOk result (λ node. (id : ℕ) → known id node.asks.slots ≡ None) }
     ensures refused { IsOkUnless result Error.Memory }
 {
     node_by(alloc, image, tables_of(image, index))

@@ -3,3 +3,4 @@ pub mod Forgetting
 pub mod Queries
 pub mod Examples
 pub mod Partly
+pub mod LeftOut

@@ -1,11 +1,11 @@
 //! What a router learns from replies that have whole lists.
 
 ghost use Rattle.std.specs.Prelude.{◌≡◌, ◌==◌, fold, length, if◌then◌else◌};
-ghost use Rattle.std.specs.Prelude.{IfOk, OnErr, OnOk, IsOkUnless};
+ghost use Rattle.std.specs.Prelude.{false, None, IfOk, OnErr, OnOk, IsOk, IsOkUnless};
 ghost use Rattle.std.specs.List.{list_any};
 ghost use Rattle.learning.specs.Partly.{IsLearnedInPart};
 ghost use Rattle.zip_zones.specs.Answers.{after_list, is_taken, names_for as names_in};
-ghost use Rattle.zip_zones.specs.Answers.{networks_named};
+ghost use Rattle.zip_zones.specs.Answers.{networks_named, range_heard};
 ghost use Rattle.zip_zones.specs.Zones.{set_list, with_known};
 
 use crate::zones::range_of;
@@ -55,6 +55,8 @@ fn has_network(entries: &[Entry], net: u16) -> bool
 fn take_list(zones: &mut ZoneTable, range: Range, names: &[Name]) -> Result<(), Error>
     ensures ok { OnOk result (zones.new ≡ (if is_taken range (length names.now) zones.old
         then with_known (set_list range names.now) zones.old else zones.old)) }
+    // What is left out needs no memory.
+    ensures left_out { is_taken range (length names.now) zones.old ≡ false → IsOk result }
     ensures stays { OnErr result (zones.new ≡ zones.old) }
     ensures refused { IsOkUnless result Error.Memory }
 {
@@ -73,6 +75,7 @@ fn learn_list<T: RouteTable>(
 ) -> Result<(), Error>
     ensures ok { OnOk result
         (zones.new ≡ after_list (T.rows routes.now) entries.now zones.old net) }
+    ensures left_out { range_heard (T.rows routes.now) net ≡ None → IsOk result }
     ensures stays { OnErr result (zones.new ≡ zones.old) }
     ensures refused { IsOkUnless result Error.Memory }
 {

@@ -1,6 +1,8 @@
 //! What a router learns from replies to its queries.
 
-ghost use Rattle.std.specs.Prelude.{◌≡◌, fold, if◌then◌else◌, OnErr, OnOk, IsOkUnless};
+ghost use Rattle.std.specs.Prelude.{◌≡◌, false, true, fold, if◌then◌else◌};
+ghost use Rattle.std.specs.Prelude.{OnErr, OnOk, IsOk, IsOkUnless};
+ghost use Rattle.learning.specs.LeftOut.{is_left_out, is_reply};
 ghost use Rattle.learning.specs.Partly.{IsLearnedInPart, IsReplyInPart};
 ghost use Rattle.zip_zones.specs.Answers.{after_name, after_reply, is_taken, range_heard};
 ghost use Rattle.zip_zones.specs.Zones.{heard};
@@ -25,6 +27,8 @@ pub(crate) fn range_of<T: RouteTable>(routes: &T, net: u16) -> Option<Range>
 fn take_name(zones: &mut ZoneTable, range: Range, total: u8, entry: &Entry) -> Result<(), Error>
     ensures ok { OnOk result (zones.new ≡ (if is_taken range total zones.old
         then heard range total entry.now.name zones.old else zones.old)) }
+    // What is left out needs no memory.
+    ensures left_out { is_taken range total zones.old ≡ false → IsOk result }
     ensures stays { OnErr result (zones.new ≡ zones.old) }
     ensures refused { IsOkUnless result Error.Memory }
 {
@@ -43,6 +47,8 @@ fn learn_name<T: RouteTable>(
 ) -> Result<(), Error>
     ensures ok { OnOk result
         (zones.new ≡ after_name (T.rows routes.now) total zones.old entry.now) }
+    ensures left_out { is_left_out (T.rows routes.now) total zones.old entry.now ≡ true
+        → IsOk result }
     ensures stays { OnErr result (zones.new ≡ zones.old) }
     ensures refused { IsOkUnless result Error.Memory }
 {
@@ -87,6 +93,8 @@ pub fn learn_zones<T: RouteTable>(
     packet: Packet<'_>,
 ) -> Result<(), Error>
     ensures ok { OnOk result (zones.new ≡ after_reply (T.rows routes.now) packet.entry zones.old) }
+    // What is no reply needs no memory.
+    ensures ignored { is_reply packet.entry ≡ false → IsOk result }
     ensures in_part { OnErr result
         (IsReplyInPart (T.rows routes.now) packet.entry zones.old zones.new) }
     ensures refused { IsOkUnless result Error.Memory }

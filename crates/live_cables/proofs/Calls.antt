@@ -20,7 +20,7 @@ use Rattle.cable_model.proofs.Counting.{contained_at, count-append}
 use Rattle.live_cables.proofs.Pending.{both, has_any}
 use Rattle.live_cables.proofs.Played.{due_append, losses-append, nothing_played, played_then}
 use Rattle.live_cables.proofs.Quiet.{are_quiet, quiet-append}
-use Rattle.live_cables.specs.Living.{IsTakenBy, Plays, PlaysOn, Wires, happened, loses}
+use Rattle.live_cables.specs.Living.{IsTakenBy, Plays, PlaysOn, Stays, Wires, happened, loses}
 use Rattle.live_cables.specs.Playing.{AreDue, IsDueThen, IsPlayed, is_in, is_took, losses, may_be}
 use Rattle.live_cables.specs.Steps.{IsSendable, Loses, Puts, Takes, are_gone, is_loss, losses_since}
 use Rattle.station.specs.Hearing.{Hearing}
@@ -184,12 +184,6 @@ dropped t a n e = subst (λ k. drop k (t ++ a) ≡ a) (sym e) (at t)
     at : (t : List Entry) → drop (length t) (t ++ a) ≡ a
     at [] = refl
     at (x ∷ t) = at t
-
--- what stays of live cables in a call
-pub record Stays (old new : Wires) : Type 0 where
-  pub own : new.own ≡ old.own
-  pub ranges : new.ranges ≡ old.ranges
-  pub losing : new.losing ≡ old.losing
 
 module _ (taken : ℕ) (old new : Wires) (mid : Cabling) (front : List Line) (losing : List Bool) (stays : Stays old new)
     (m : Midst (loses old) taken old.cabling mid) (front_is : front ≡ old.cabling.lines) (losing_is : losing ≡ old.losing)

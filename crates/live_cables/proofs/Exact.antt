@@ -7,7 +7,7 @@ use Rattle.cable_model.specs.Outcomes.{IsTaken}
 use Rattle.cable_model.specs.declared.entry.Entry.{Entry as Line}
 use Rattle.cable_model.specs.declared.seat.Seat.{Seat}
 use Rattle.live_cables.specs.Finding.{held_at}
-use Rattle.live_cables.specs.Living.{GivesOut, PassesFor, TakesIn, Wires}
+use Rattle.live_cables.specs.Living.{GivesOut, PassesFor, Stays, TakesIn, Wires}
 use Rattle.live_cables.specs.Putting.{AreAsked, AreGiven, IsAnswer, IsFollowed, places_of, with_tick}
 use Rattle.live_cables.specs.Steps.{Loses, losses_since}
 use Rattle.live_cables.specs.declared.answer.Answer.{Answer}
@@ -35,22 +35,24 @@ module _ (old new : Wires) (seats : List Seat) (maps : List Mappings) (lines : L
 
   pub gives_out : (station : ℕ) (outputs : List Output) (mid : Cabling × List Mappings)
       → AreGiven seats old.own old.ranges station outputs (old.cabling, maps) mid
-      → Loses (losses_since losing (length lines) mid.0) mid.0 new.cabling → new.maps ≡ mid.1 → GivesOut station outputs old new
-  gives_out station outputs mid given loses after = (
+      → Loses (losses_since losing (length lines) mid.0) mid.0 new.cabling → new.maps ≡ mid.1 → Stays old new
+      → GivesOut station outputs old new
+  gives_out station outputs mid given loses after stays = (
     mid,
     subst (λ m. AreGiven old.cabling.seats old.own old.ranges station outputs (old.cabling, m) mid) now.maps_are
         (subst (λ s. AreGiven s old.own old.ranges station outputs (old.cabling, maps) mid) now.seats_are given),
     loses_now mid.0 loses,
     after,
+    stays,
   )
 
   pub takes_in : (stamp station ports : ℕ) (Hears : Hearing → List Output → Type 0) (taken : Cabling) (answer : Option Answer)
       (mid : Cabling × List Mappings) (seen : List Mappings) → seen ≡ old.maps
       → IsTaken (places_of seats old.own seen old.ranges station) ports old.cabling taken stamp station Hears
       → IsAnswer old.cabling stamp station answer → IsFollowed seats old.own station answer (taken, maps) mid
-      → Loses (losses_since losing (length lines) mid.0) mid.0 new.cabling → new.maps ≡ mid.1
+      → Loses (losses_since losing (length lines) mid.0) mid.0 new.cabling → new.maps ≡ mid.1 → Stays old new
       → TakesIn stamp station ports Hears old new
-  takes_in stamp station ports Hears taken answer mid seen same takes is_answer followed loses after = (
+  takes_in stamp station ports Hears taken answer mid seen same takes is_answer followed loses after stays = (
     taken,
     subst (λ m. IsTaken (places_of old.cabling.seats old.own m old.ranges station) ports old.cabling taken stamp station Hears)
         same
@@ -63,13 +65,14 @@ module _ (old new : Wires) (seats : List Seat) (maps : List Mappings) (lines : L
         (subst (λ s. IsFollowed s old.own station answer (taken, maps) mid) now.seats_are followed),
     loses_now mid.0 loses,
     after,
+    stays,
   )
 
   pub passes_for : (seat : ℕ) (asked : Cabling)
       → AreAsked (slice_get seats seat) (slice_get old.own seat) (to_ask (held_at maps seat)) old.cabling asked
-      → Loses (losses_since losing (length lines) asked) asked new.cabling → new.maps ≡ with_tick maps seat
+      → Loses (losses_since losing (length lines) asked) asked new.cabling → new.maps ≡ with_tick maps seat → Stays old new
       → PassesFor seat old new
-  passes_for seat asked asks loses after = (
+  passes_for seat asked asks loses after stays = (
     asked,
     subst (λ m. AreAsked (slice_get old.cabling.seats seat) (slice_get old.own seat) (to_ask (held_at m seat)) old.cabling asked)
         now.maps_are
@@ -77,4 +80,5 @@ module _ (old new : Wires) (seats : List Seat) (maps : List Mappings) (lines : L
         now.seats_are asks),
     loses_now asked loses,
     after ∙ ap (λ m. with_tick m seat) now.maps_are,
+    stays,
   )

@@ -34,6 +34,12 @@ loses w cable = unwrap_or (slice_get w.losing cable) false
 abbrev pub happened : Wires → List Entry
 happened w = transcript w.cabling
 
+-- The addresses of the seats, the ranges, and which cables lose, stay.
+pub record Stays (old new : Wires) : Type 0 where
+  pub own : new.own ≡ old.own
+  pub ranges : new.ranges ≡ old.ranges
+  pub losing : new.losing ≡ old.losing
+
 -- Further entries were played, of which so many are takings; the seats, the room, the ranges, and which cables lose,
 -- stay.
 pub record Plays (old new : Wires) : Type 0 where
@@ -73,6 +79,7 @@ GivesOut station outputs old new =
     (mid : Cabling × List Mappings)
     × AreGiven old.cabling.seats old.own old.ranges station outputs (old.cabling, old.maps) mid
     × Loses (losses_since old.losing (length old.cabling.lines) mid.0) mid.0 new.cabling × (new.maps ≡ mid.1)
+    × Stays old new
 
 -- A station took a frame, knowing of others what its mappings say, and put out what follows; what waits then was held, what the frame
 -- answered was learnt, and what was put on cables that lose was lost.
@@ -83,6 +90,7 @@ TakesIn stamp station ports Hears old new =
     × (answer : Option Answer) × IsAnswer old.cabling stamp station answer
     × (mid : Cabling × List Mappings) × IsFollowed old.cabling.seats old.own station answer (taken, old.maps) mid
     × Loses (losses_since old.losing (length old.cabling.lines) mid.0) mid.0 new.cabling × (new.maps ≡ mid.1)
+    × Stays old new
 
 -- A tick passed for the mappings of a seat, whose station asked for addresses again, and what was put on cables that lose was lost.
 abbrev pub PassesFor : ℕ → Wires → Wires → Type 0
@@ -90,3 +98,4 @@ PassesFor seat old new =
     (asked : Cabling)
     × AreAsked (slice_get old.cabling.seats seat) (slice_get old.own seat) (to_ask (held_in old.maps seat)) old.cabling asked
     × Loses (losses_since old.losing (length old.cabling.lines) asked) asked new.cabling × (new.maps ≡ with_tick old.maps seat)
+    × Stays old new

@@ -1,7 +1,7 @@
 //! The queries for zone lists that a router sends.
 
 ghost use Rattle.std.specs.Prelude.{◌≡◌, ◌<◌, ◌≤◌, ◌+◌, ◌++◌, ◌∷◌, [], ℕ, length};
-ghost use Rattle.std.specs.Prelude.{IfOk, IfSome, IsOkUnless, OnOk, Some};
+ghost use Rattle.std.specs.Prelude.{IfOk, IfSome, IsOk, IsOkUnless, None, OnOk, Some};
 ghost use Rattle.at_base.specs.Spelling.{bytes_of};
 ghost use Rattle.live_router.specs.Ticking.{all_queries, query_from};
 ghost use Rattle.router.specs.Holding.{own_at as address_at};
@@ -65,6 +65,8 @@ fn put_query_from(made: &mut Vec<Output>, me: Addr, query: &Query) -> Result<(),
 fn put_query(made: &mut Vec<Output>, ports: &[Chooser], query: &Query) -> Result<(), Error>
     ensures put { OnOk result (made.new.items ≡ made.old.items
         ++ query_from (address_at ports.now query.now.port) query.now) }
+    // What isn't sent needs no memory.
+    ensures unsettled { address_at ports.now query.now.port ≡ None → IsOk result }
     ensures few { OnOk result (length made.new.items ≤ length made.old.items + 1) }
     ensures good { OnOk result ((n : ℕ) → length ports.now ≤ n → AreMade n made.old.items
         → AreMade n made.new.items) }

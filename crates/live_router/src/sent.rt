@@ -1,7 +1,7 @@
 //! The routing data that a router sends by its ports.
 
 ghost use Rattle.std.specs.Prelude.{◌≡◌, ◌<◌, ◌≤◌, ◌+◌, ◌++◌, ℕ, length, map, option_to_list};
-ghost use Rattle.std.specs.Prelude.{IsOkUnless, OnOk};
+ghost use Rattle.std.specs.Prelude.{IsOk, IsOkUnless, None, OnOk};
 ghost use Rattle.aarp.specs.Choosing.{settled};
 ghost use Rattle.at_base.specs.Spelling.{bytes_of};
 ghost use Rattle.live_router.specs.Ticking.{data_by, data_from, data_way as way_of_data};
@@ -98,6 +98,8 @@ fn put_data<T: RouteTable>(
 ) -> Result<(), Error>
     ensures put { OnOk result (made.new.items ≡ made.old.items
         ++ data_by port chooser.now.range (settled chooser.now) (T.rows routes.now)) }
+    // What isn't sent needs no memory.
+    ensures unsettled { settled chooser.now ≡ None → IsOk result }
     ensures good { OnOk result ((n : ℕ) → port < n → AreMade n made.old.items
         → AreMade n made.new.items) }
     ensures refused { IsOkUnless result Error.Memory }

@@ -67,6 +67,7 @@ pub record IsNodeBegun (cables : List Cable) (n : Node) (l : LivingNode) : Type 
     answered = false;
   }
   pub none : (id : ℕ) → known id l.node.asks.slots ≡ None
+  pub first : l.node.asks.next ≡ 1
 
 -- each of the nodes begins, as planned
 abbrev pub AreNodesBegun : List Cable → List Node → List LivingNode → Type 0

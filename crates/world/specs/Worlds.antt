@@ -1,5 +1,5 @@
 -- What a live world holds, and what it keeps. This project's own.
-use Rattle.std.specs.Prelude.{◌≡◌, ◌⊎◌, ℕ, ◌+◌, ◌≤◌, IsTrue, List, [], ◌++◌, Option, Some, Contains, length, slice_get}
+use Rattle.std.specs.Prelude.{◌≡◌, ◌⊎◌, ℕ, ◌+◌, ◌≤◌, IsTrue, List, [], ◌++◌, Option, None, Some, Contains, length, map, slice_get}
 use Rattle.std.specs.List.{All}
 use Rattle.at_base.specs.declared.error.Error.{Error}
 use Rattle.cable_model.specs.Outcomes.{AreSeatsOf}
@@ -31,6 +31,23 @@ pub record Worldly : Type 0 where
   pub stopped : Option Error
   pub refused : List (ℕ × ℕ)
   pub schedule : List ℕ
+
+-- the cables of a plan, where nothing has happened yet: each has its range, no seat has an address or knows of others, and nothing
+-- is lost
+abbrev pub wires_begun : Planned → Wires
+wires_begun plan = record {
+  cabling = record {
+    seats = plan_seats plan;
+    limit = 4000000;
+    lines = [];
+    kept = [];
+    waiting = [];
+  };
+  own = map (λ s. None) (plan_seats plan);
+  maps = map (λ s. record { known = []; held = [] }) (plan_seats plan);
+  ranges = map (λ c. c.range) plan.cables;
+  losing = [];
+}
 
 -- A datagram that a station received is that of a frame which it took.
 pub record IsReceived (entries : List Entry) (station : ℕ) (d : Received) : Type 0 where

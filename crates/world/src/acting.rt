@@ -97,6 +97,7 @@ fn act_one<T: RouteTable>(
     requires { length stations.now ≤ 400 }
     ensures is_done { OnOk result (IsDone plan.now stations.now index
         (wires.old, refused.old.items) (wires.new, refused.new.items)) }
+    ensures stays { OnErr result (refused.new.items ≡ refused.old.items) }
     ensures keeps { KeepsFirst refused.old.items refused.new.items }
     ensures goes { Goes wires.old wires.new }
     ensures done { OnOk result (GoesOn 0 wires.old wires.new) }

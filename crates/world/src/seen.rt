@@ -1,7 +1,7 @@
 //! What is seen of a world's nodes.
 
-ghost use Rattle.std.specs.Prelude.{◌≡◌, ◌<◌, length, slice_get, Some, IfOk, IsOkUnless};
-ghost use Rattle.std.specs.Prelude.{option_copied, OnErr, OnOk};
+ghost use Rattle.std.specs.Prelude.{◌≡◌, ◌<◌, length, slice_get, None, Some, IfOk, IsOk};
+ghost use Rattle.std.specs.Prelude.{option_copied, IsOkUnless, OnErr, OnOk};
 ghost use Rattle.world.specs.Seen.{emptied as emptied_of, emptied_at, node_of as node_in};
 ghost use Rattle.world.specs.Seen.{received_by};
 
@@ -44,6 +44,7 @@ fn take_of<T: RouteTable>(
     ensures taken { IfOk result
         (λ datagrams. datagrams.items ≡ received_by (node_in (Some station.old))) }
     ensures left { OnOk result (station.new ≡ emptied_of station.old) }
+    ensures nobody { node_in (Some station.old) ≡ None → IsOk result }
     ensures refused { IsOkUnless result Error.Memory }
     ensures stay { OnErr result (station.new ≡ station.old) }
 {
@@ -63,6 +64,7 @@ fn take_in<T: RouteTable>(
     ensures taken { IfOk result (λ datagrams.
         datagrams.items ≡ received_by (node_in (slice_get stations.old.items index))) }
     ensures left { OnOk result (stations.new.items ≡ emptied_at stations.old.items index) }
+    ensures nobody { node_in (slice_get stations.old.items index) ≡ None → IsOk result }
     ensures refused { IsOkUnless result Error.Memory }
     ensures stay { OnErr result (stations.new.items ≡ stations.old.items) }
 {
@@ -79,6 +81,7 @@ pub fn take_at<T: RouteTable>(
     ensures taken { IfOk result (λ datagrams.
         datagrams.items ≡ received_by (node_in (slice_get stations.old.items index))) }
     ensures left { OnOk result (stations.new.items ≡ emptied_at stations.old.items index) }
+    ensures nobody { node_in (slice_get stations.old.items index) ≡ None → IsOk result }
     ensures refused { IsOkUnless result Error.Memory }
     ensures stay { OnErr result (stations.new.items ≡ stations.old.items) }
 {

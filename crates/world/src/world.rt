@@ -1,6 +1,6 @@
 //! Worlds, and what is seen of them.
 
-ghost use Rattle.std.specs.Prelude.{◌≡◌, [], None, IfOk, IsOkUnless, OnErr, OnOk};
+ghost use Rattle.std.specs.Prelude.{◌≡◌, [], None, IfOk, IsOk, IsOkUnless, OnErr, OnOk};
 ghost use Rattle.std.specs.Prelude.{map, option_copied};
 ghost use Rattle.cable_model.specs.Logs.{bytes_at};
 ghost use Rattle.internet_file.specs.Sound.{IsSound};
@@ -10,7 +10,7 @@ ghost use Rattle.planned_stations.specs.Beginning.{AreBegun};
 ghost use Rattle.planned_stations.specs.Seating.{plan_seats};
 ghost use Rattle.world.specs.Scheduling.{IsSchedule};
 ghost use Rattle.world.specs.Seen.{node_at, received_by, station_of as station_in, taken_out};
-ghost use Rattle.world.specs.Worlds.{IsWorld};
+ghost use Rattle.world.specs.Worlds.{IsWorld, wires_begun};
 
 use crate::beginning::stations_begun;
 use crate::scheduling::schedule_of;
@@ -94,20 +94,9 @@ fn wires_by(
     seats: &[Seat],
     ranges: &[Range],
 ) -> Result<LiveCables, Error>
-    requires { seats.now ≡ plan_seats plan.now }
-    ensures ok { IfOk result (λ wires. wires ≡ record {
-      cabling = record {
-        seats = plan_seats plan.now;
-        limit = 4000000;
-        lines = [];
-        kept = [];
-        waiting = [];
-      };
-      own = map (λ s. None) (plan_seats plan.now);
-      maps = map (λ s. record { known = []; held = [] }) (plan_seats plan.now);
-      ranges = ranges.now;
-      losing = [];
-    }) }
+    requires seats { seats.now ≡ plan_seats plan.now }
+    requires ranges { ranges.now ≡ map (λ c. c.range) plan.now.cables }
+    ensures ok { IfOk result (λ wires. wires ≡ wires_begun plan.now) }
     ensures refused { IsOkUnless result Error.Memory }
 {
     recall_sound(plan);
@@ -116,19 +105,7 @@ fn wires_by(
 
 /// The cables of a plan, where nothing has happened yet. Error: `Memory`.
 fn wires_of(alloc: Global, plan: &Plan) -> Result<LiveCables, Error>
-    ensures ok { IfOk result (λ wires. wires ≡ record {
-      cabling = record {
-        seats = plan_seats plan.now;
-        limit = 4000000;
-        lines = [];
-        kept = [];
-        waiting = [];
-      };
-      own = map (λ s. None) (plan_seats plan.now);
-      maps = map (λ s. record { known = []; held = [] }) (plan_seats plan.now);
-      ranges = map (λ c. c.range) plan.now.cables;
-      losing = [];
-    }) }
+    ensures ok { IfOk result (λ wires. wires ≡ wires_begun plan.now) }
     ensures refused { IsOkUnless result Error.Memory }
 {
     let seats = seats_of(alloc, plan)?;
@@ -142,6 +119,7 @@ impl<T: RouteTable> World<T> {
     pub fn new(alloc: Global, plan: Plan) -> Result<World<T>, Error>
         ensures ok { IfOk result (λ w. (w.plan ≡ plan) × (w.now ≡ 0) × (w.stopped ≡ None)
             × (w.refused ≡ []) × (happened w.wires ≡ [])) }
+        ensures wires { IfOk result (λ w. w.wires ≡ wires_begun plan) }
         ensures begun { IfOk result (λ w. AreBegun plan w.stations) }
         ensures scheduled { IfOk result (λ w. IsSchedule plan.actions w.schedule) }
         ensures limit { IfOk result (λ w. w.wires.cabling.limit ≡ 4000000) }
@@ -212,6 +190,7 @@ impl<T: RouteTable> World<T> {
         ensures taken { IfOk result
             (λ datagrams. datagrams.items ≡ received_by (node_at self.old number)) }
         ensures left { OnOk result (self.new ≡ taken_out self.old number) }
+        ensures nobody { node_at self.old number ≡ None → IsOk result }
         ensures refused { IsOkUnless result Error.Memory }
         ensures stay { OnErr result (self.new ≡ self.old) }
     {

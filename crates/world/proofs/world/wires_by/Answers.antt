@@ -4,4 +4,4 @@ use Rattle.planned_stations.proofs.Seated.{plan_one}
 use Rattle.world.proofs.world.wires_by.Goals as goal
 
 pub new-requires : goal.new-requires
-new-requires c = subst HasOneSeat (sym c.requires) (plan_one c.args.plan.now c.recall_sound.ensures)
+new-requires c = subst HasOneSeat (sym c.requires.seats) (plan_one c.args.plan.now c.recall_sound.ensures)

@@ -53,4 +53,5 @@ returns-clause-given c =
       lines_are = c.transcript-from.ensures.value;
       losing_are = c.deref.ensures.value;
     }) c.args.station _ (c.give_all.new.cables, c.give_all.new.mappers) c.in-Ok.ensures.given c.lose_from.ensures.loses
-    (whole c.give_all.new.mappers _ c.self.inside.mappers.len search)))
+    (whole c.give_all.new.mappers _ c.self.inside.mappers.len search)
+    (record { own = refl; ranges = refl; losing = refl })))

@@ -61,4 +61,5 @@ returns-clause-passed c =
     }) c.args.seat c.ask_all.new.cables
     (subst (λ l. AreAsked (slice_get c.self.inside.ports.seats c.args.seat) (slice_get c.self.inside.ports.own.items c.args.seat) l
     c.self.inside.cables c.ask_all.new.cables) (c.as_slice.ensures.value ∙ c.tick-asks.ensures.ask) c.in-Ok.ensures.asked)
-    c.lose_from.ensures.loses ((whole c.tick-asks.new.mappers _ c.self.inside.mappers.len search) ∙ c.tick-asks.ensures.waits))
+    c.lose_from.ensures.loses ((whole c.tick-asks.new.mappers _ c.self.inside.mappers.len search) ∙ c.tick-asks.ensures.waits)
+    (record { own = refl; ranges = refl; losing = refl }))
