@@ -60,6 +60,9 @@ pub fn audit_file<R: Read, W: Write>(
     ensures writes_stay { OnOk result (output.new.failed ≡ output.old.failed) }
     // A read that failed has left its reason.
     ensures reason { input.old.failed ≡ false → input.new.failed ≡ true → IsSome input.new.fault }
+    // A read that failed is told.
+    ensures told { input.old.failed ≡ false → input.new.failed ≡ true
+        → result ≡ Err Error.ReadFault }
     // What was read to its end is kept, whatever the answer.
     ensures kept { result ≢ Err Error.ReadFault → result ≢ Err Error.Memory
         → IsSomeAnd input.new.kept (λ v.

@@ -66,6 +66,8 @@ impl<R: Read> Input<R> {
         // A read that failed has left its reason.
         ensures reason { self.old.failed ≡ false → self.new.failed ≡ true → IsSome self.new.fault }
         ensures reason_stays { result ≢ Err Error.ReadFault → self.new.fault ≡ self.old.fault }
+        // An input that is given up has no reason: none of its reads failed.
+        ensures no_reason { self.new.failed ≡ false → self.new.fault ≡ self.old.fault }
         ensures kept { self.new.kept ≡ self.old.kept }
         ensures counted { self.old.reads ≤ self.new.reads }
     {
@@ -94,6 +96,7 @@ impl<R: Read> Input<R> {
         ensures refused { IsOkUnless result Error.ReadFault }
         ensures reason { self.old.failed ≡ false → self.new.failed ≡ true → IsSome self.new.fault }
         ensures reason_stays { OnOk result (self.new.fault ≡ self.old.fault) }
+        ensures no_reason { self.new.failed ≡ false → self.new.fault ≡ self.old.fault }
         ensures kept { self.new.kept ≡ self.old.kept }
         ensures counted { self.old.reads ≤ self.new.reads }
     {

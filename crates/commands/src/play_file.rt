@@ -79,6 +79,9 @@ fn read_and_play<R: Read, P: Progress>(
     ensures end { OnOk result (IsAtEnd (R.remaining input.new.reader)) }
     ensures stays { OnOk result (input.new.failed ≡ input.old.failed) }
     ensures reason { input.old.failed ≡ false → input.new.failed ≡ true → IsSome input.new.fault }
+    // A read that failed is told.
+    ensures told { input.old.failed ≡ false → input.new.failed ≡ true
+        → result ≡ Err Error.ReadFault }
     // A text that was read to its end is kept where its play is refused.
     ensures kept { IfErr result (λ e. e ≢ Error.ReadFault → e ≢ Error.Memory
         → IsSomeAnd input.new.kept (λ v.
@@ -105,6 +108,9 @@ fn write_played<W: Write, I: Write>(
     ensures image { OnOk result (Appends (I.contents image.old.writer)
         (I.contents image.new.writer) (image.old.text.items ++ played.now.image.items)) }
     ensures fault { OnErr result ((output.new.failed ≡ true) ⊎ (image.new.failed ≡ true)) }
+    // Which of the writers failed is told apart.
+    ensures blamed { OnErr result ((image.new ≡ image.old)
+        ⊎ (output.new.failed ≡ output.old.failed)) }
     ensures refused { IsOkUnless result Error.WriteFault }
     ensures stays { OnOk result (output.new.failed ≡ output.old.failed) }
     ensures image_stays { OnOk result (image.new.failed ≡ image.old.failed) }
@@ -147,6 +153,9 @@ fn hand_over<R, W: Write, I: Write>(
     ensures image { OnOk result (Appends (I.contents image.old.writer)
         (I.contents image.new.writer) (image.old.text.items ++ played.image.items)) }
     ensures fault { OnErr result ((output.new.failed ≡ true) ⊎ (image.new.failed ≡ true)) }
+    // Which of the writers failed is told apart.
+    ensures blamed { OnErr result ((image.new ≡ image.old)
+        ⊎ (output.new.failed ≡ output.old.failed)) }
     ensures refused { IsOkUnless result Error.WriteFault }
     ensures reader { input.new.reader ≡ input.old.reader }
     ensures reads_stay { input.new.failed ≡ input.old.failed }
@@ -202,6 +211,9 @@ pub fn play_bytes<R: Read, W: Write, I: Write, P: Progress>(
         → input.new.reads ≡ READS }
     ensures write_fault { result ≡ Err Error.WriteFault
         → (output.new.failed ≡ true) ⊎ (image.new.failed ≡ true) }
+    // Where the image can't be written, the writer of the lines hasn't failed.
+    ensures blamed { OnErr result ((image.new ≡ image.old)
+        ⊎ (output.new.failed ≡ output.old.failed)) }
     // A refusal that isn't `WriteFault` has written nothing.
     ensures nothing_written { IfErr result (λ e. e ≢ Error.WriteFault
         → (output.new ≡ output.old) × (image.new ≡ image.old)) }
@@ -212,6 +224,9 @@ pub fn play_bytes<R: Read, W: Write, I: Write, P: Progress>(
     ensures image_stays { OnOk result (image.new.failed ≡ image.old.failed) }
     // A read that failed has left its reason.
     ensures reason { input.old.failed ≡ false → input.new.failed ≡ true → IsSome input.new.fault }
+    // A read that failed is told.
+    ensures told { input.old.failed ≡ false → input.new.failed ≡ true
+        → result ≡ Err Error.ReadFault }
     // The image isn't touched before all lines of the play are written.
     ensures order { (image.new ≡ image.old)
         ⊎ IfSome (R.remaining input.old.reader) (λ text.

@@ -63,6 +63,9 @@ pub fn read_images<R: Read>(alloc: Global, input: &mut Input<R>) -> Result<Twice
     ensures end { OnOk result (IsAtEnd (R.remaining input.new.reader)) }
     ensures stays { OnOk result (input.new.failed ≡ input.old.failed) }
     ensures reason { input.old.failed ≡ false → input.new.failed ≡ true → IsSome input.new.fault }
+    // A read that failed is told.
+    ensures told { input.old.failed ≡ false → input.new.failed ≡ true
+        → result ≡ Err Error.ReadFault }
     // What was read to its end is kept, whatever the answer.
     ensures kept { result ≢ Err Error.ReadFault → result ≢ Err Error.Memory
         → IsSomeAnd input.new.kept (λ v.
@@ -91,6 +94,9 @@ pub fn read_steps<R: Read>(alloc: Global, input: &mut Input<R>) -> Result<Vec<St
     ensures end { OnOk result (IsAtEnd (R.remaining input.new.reader)) }
     ensures stays { OnOk result (input.new.failed ≡ input.old.failed) }
     ensures reason { input.old.failed ≡ false → input.new.failed ≡ true → IsSome input.new.fault }
+    // A read that failed is told.
+    ensures told { input.old.failed ≡ false → input.new.failed ≡ true
+        → result ≡ Err Error.ReadFault }
 {
     // For the prover alone: a script has no bad line.
     scripts_have_no_bad_line();

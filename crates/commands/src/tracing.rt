@@ -46,6 +46,9 @@ pub fn run_frozen<I: Read, S: Read, W: Write>(
     ensures flaw { IfSome (I.remaining image.old.reader) (λ bytes.
         (f : Flaw) → IsFirstFlaw bytes f → IsErrAnd result (λ e.
         (e ≡ refusal bytes f) ⊎ (e ≡ Error.ReadFault) ⊎ (e ≡ Error.Memory))) }
+    // The script isn't touched then.
+    ensures image_first { IfSome (I.remaining image.old.reader) (λ bytes.
+        (f : Flaw) → IsFirstFlaw bytes f → script.new ≡ script.old) }
     // Then a script with a bad line is refused by its first one.
     ensures bad_line { IfSome (I.remaining image.old.reader) (λ bytes.
         IfSome (S.remaining script.old.reader) (λ text.
@@ -77,6 +80,11 @@ pub fn run_frozen<I: Read, S: Read, W: Write>(
         → IsSome image.new.fault }
     ensures script_reason { script.old.failed ≡ false → script.new.failed ≡ true
         → IsSome script.new.fault }
+    // A read that failed is told.
+    ensures image_told { image.old.failed ≡ false → image.new.failed ≡ true
+        → result ≡ Err Error.ReadFault }
+    ensures script_told { script.old.failed ≡ false → script.new.failed ≡ true
+        → result ≡ Err Error.ReadFault }
     // An image that was read to its end is kept, whatever the answer.
     ensures kept { result ≢ Err Error.ReadFault → result ≢ Err Error.Memory
         → IsSomeAnd image.new.kept (λ v.
