@@ -91,8 +91,13 @@ fn trace_readers<'a, R: Print + AllocGlobal, I: Read + Drop, S: Read + Drop>(
     let mut script = commands::Input::new(script);
     let mut output = Output::new(rt.alloc(), writer(rt));
     let answer = run_frozen(rt.alloc(), &mut image, &mut script, &mut output);
-    let by_script = script.fault.is_some() || matches!(answer, Err(Error::BadScript(_)));
     let commands::Input { fault, kept, .. } = image;
+    let by_script = match answer {
+        Err(Error::BadScript(_)) => true,
+        // An image that was read to its end is kept.
+        Err(Error::ReadFault) => kept.is_some(),
+        _ => false,
+    };
     let evidence = if by_script {
         Evidence {
             source: Some(sources.script),
