@@ -15,7 +15,7 @@ use audit::{
     each_step, loops_have_no_walk, nodes_are_served, one_walk_home, seats_are_unique,
     the_example_passes, unlisted_is_nowhere, words_exclude,
 };
-use example_images::three_cables::image;
+use example_images::three_cables::{FIRST_PORT_1, FIRST_PORTS, FIRST_ROWS, image};
 use example_images::three_cables_bytes as at;
 use images::{
     BOTH, CABLES, SECOND, YES, change, changed, check_each, line_of_bytes, line_of_cable,
@@ -228,6 +228,28 @@ fn a_missing_cable_comes_after_the_rows(rt: HostRuntime) -> Result<(), Fail> {
         ([0, 0, 0].as_slice(), bad, "no: C3 router 1 cable 1"),
     ] {
         let parts = [CABLES.as_slice(), first, second, [0].as_slice()];
+        let line = line_of_parts(rt.alloc(), parts.as_slice())?;
+        assert_eq!(rt; line.as_str(), want);
+    }
+    Ok(())
+}
+
+#[test]
+fn a_router_has_one_port_on_a_cable(rt: HostRuntime) -> Result<(), Fail> {
+    // The first router with a third port, on its first cable, and on the last one.
+    let bytes = image();
+    for (cable, net, want) in [
+        (0, 10, "no: C2 router 1 port 3"),
+        (2, 30, "no: C4 router 1 row 3"),
+    ] {
+        let third = [cable, 0, net, 9, 2, 0, 0, 0, 0, 9];
+        let parts = [
+            &bytes[..FIRST_PORTS],
+            [3].as_slice(),
+            &bytes[FIRST_PORT_1..FIRST_ROWS],
+            third.as_slice(),
+            &bytes[FIRST_ROWS..],
+        ];
         let line = line_of_parts(rt.alloc(), parts.as_slice())?;
         assert_eq!(rt; line.as_str(), want);
     }

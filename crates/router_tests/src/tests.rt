@@ -12,7 +12,7 @@ use forwarding::{
     datagrams_end_on_the_cables, datagrams_go_to_the_next_router, far_addresses_are_the_routers,
     far_cables_are_heard_for, frames_to_several_are_not_passed_on, other_bytes_are_ignored,
 };
-use lab::{holds, stays_in_a_tick};
+use lab::{has_16_ports, holds, stays_in_a_tick};
 use names::{
     forward_requests_are_looked_up, requests_go_to_each_cable,
     requests_go_to_the_cable_they_came_on, requests_keep_their_tuples, requests_to_all_are_ignored,
@@ -32,6 +32,7 @@ use zones::{
 #[test]
 fn a_router_hands_on_by_its_rows(rt: HostRuntime) -> Result<(), Fail> {
     assert!(rt; holds(rt.alloc())?);
+    assert!(rt; has_16_ports(rt.alloc())?);
     assert!(rt; stays_in_a_tick(rt.alloc())?);
     Ok(())
 }

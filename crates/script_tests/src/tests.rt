@@ -235,9 +235,9 @@ fn lines_are_counted_and_some_are_skipped(rt: HostRuntime) -> Result<(), Fail> {
     for (text, wanted) in cases {
         assert_eq!(rt; outcome_of(rt.alloc(), &[text])?, wanted);
     }
-    let many = [b'\n'; 300];
+    let many = [b'\n'; 65_600];
     let outcome = outcome_of(rt.alloc(), &[many.as_slice(), b"x".as_slice()])?;
-    assert_eq!(rt; outcome, Outcome::BadAt(301));
+    assert_eq!(rt; outcome, Outcome::BadAt(65_601));
     Ok(())
 }
 

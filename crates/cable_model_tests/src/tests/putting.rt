@@ -11,6 +11,9 @@ const RED: Hw = Hw([9, 0, 7, 0, 0, 56]);
 
 const NOBODY: Hw = Hw([9, 0, 7, 0, 0, 57]);
 
+/// The first group, 0.
+const FIRST_GROUP: Hw = Hw([9, 0, 7, 0, 0, 0]);
+
 /// The last group, 252, and the hardware address after it, which is a station's.
 const LAST: Hw = Hw([9, 0, 7, 0, 0, 252]);
 
@@ -48,14 +51,15 @@ pub(crate) fn frames_are_heard_by_whom_they_are_for(alloc: Global) -> Result<boo
     Ok(true)
 }
 
-/// Two stations with one hardware address, the greater one first, and a router.
+/// Two stations with one hardware address, the greater one first, which has the first group; and a
+/// router.
 const TWINS: [Seat; 3] = [
     Seat {
         cable: 2,
         station: 4,
         port: 0,
         hw: Hw([2, 0, 0, 0, 0, 6]),
-        group: Some(252),
+        group: Some(0),
     },
     Seat {
         cable: 2,
@@ -82,14 +86,16 @@ fn twins(alloc: Global) -> Result<Cables, Error> {
 }
 
 /// Of the stations that a frame is for the least is the first, wherever its seat stands; each that
-/// has the hardware address hears a frame to it. What is lost leaves older frames as they are.
+/// has the hardware address hears a frame to it. Group 0 is one. What is lost leaves other frames as
+/// they are.
 pub(crate) fn the_least_station_is_first(alloc: Global) -> Result<bool, Error> {
     let mut cables = twins(alloc)?;
     put(alloc, &mut cables, 2, 1, Hw::ALL, &PING)?;
     put(alloc, &mut cables, 2, 1, TWINS[0].hw, &PING)?;
-    let least = cables.first() == Some((0, 3)) && cables.pending_count() == 4;
-    let both = cables.pending(1, 3) && cables.pending(1, 4);
-    let lost = lose(&mut cables, 1) == Ok(()) && cables.pending_count() == 2;
+    put(alloc, &mut cables, 2, 1, FIRST_GROUP, &PING)?;
+    let least = cables.first() == Some((0, 3)) && cables.pending_count() == 5;
+    let both = cables.pending(1, 3) && cables.pending(1, 4) && cables.pending(2, 4);
+    let lost = lose(&mut cables, 1) == Ok(()) && cables.pending_count() == 3;
     Ok(least && both && lost && cables.first() == Some((0, 3)))
 }
 

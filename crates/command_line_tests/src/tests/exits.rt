@@ -59,6 +59,7 @@ fn each_end_before_an_answer_has_its_exit(rt: HostRuntime) {
         (Outcome::NoJob(ParseError::UnknownArgument, false), 2, None),
         (Outcome::NotOpened(ErrorKind::NotFound), 3, Some(15)),
         (Outcome::NotOpened(ErrorKind::OutOfMemory), 3, Some(15)),
+        (Outcome::NotCreated(ErrorKind::OutOfMemory), 3, Some(16)),
         (
             Outcome::NotCreated(ErrorKind::PermissionDenied),
             3,

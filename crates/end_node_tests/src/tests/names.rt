@@ -59,11 +59,12 @@ fn zoneless() -> [u8; 25] {
 }
 
 /// A lookup for the node's zone, in any case, and one that names none are answered to who asked
-/// first, with a checksum where the lookup has one.
+/// first, with a checksum where the lookup has one. In a frame to a group it may be for any node.
 pub(crate) fn lookups_in_its_zone_are_answered(alloc: Global) -> Result<bool, Error> {
     let reply = [Want::Made(Next::Station(FAR_ROUTER), &REPLY)];
-    let (mut lookup, mut summed) = (LOOKUP, REPLY);
+    let (mut lookup, mut summed, mut other) = (LOOKUP, REPLY, LOOKUP);
     (lookup[2], lookup[3]) = (0x9B, 0x15);
+    (other[5], other[8]) = (0x1E, 0x09);
     (summed[2], summed[3]) = (0x07, 0x85);
     let sums = [Want::Made(Next::Station(FAR_ROUTER), &summed)];
     Ok(
@@ -71,6 +72,7 @@ pub(crate) fn lookups_in_its_zone_are_answered(alloc: Global) -> Result<bool, Er
             && answers(alloc, BLUE, &lookup, &sums)?
             && answers(alloc, BLUE, &star(), &reply)?
             && answers(alloc, BLUE, &zoneless(), &reply)?
+            && answers(alloc, BLUE, &other, &reply)?
             && answers(alloc, Link::All, &LOOKUP, &reply)?,
     )
 }

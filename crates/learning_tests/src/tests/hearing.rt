@@ -20,10 +20,9 @@ pub(crate) const PACKETS: [(u8, u8, u8, bool); 9] = [
     (0, 10, 19, false),
 ];
 
-/// The packet of router 2 of a network, with these first range and 20-29 after it, each at
-/// distance 0.
-fn data(net: u8, start: u8, end: u8) -> [u8; 16] {
-    let first = [0, net, 8, 2, 0, start, 0x80, 0, end, 0x82];
+/// The packet of a router, with these first range and 20-29 after it, each at distance 0.
+fn data(net: u8, node: u8, start: u8, end: u8) -> [u8; 16] {
+    let first = [0, net, 8, node, 0, start, 0x80, 0, end, 0x82];
     let mut bytes = [0, 0, 0, 0, 0, 0, 0, 0, 0, 0, 0, 20, 0x80, 0, 29, 0x82];
     bytes[..10].copy_from_slice(&first);
     bytes
@@ -42,7 +41,7 @@ pub(crate) fn heard_otherwise(
     packets: &[(u8, u8, u8, bool)],
 ) -> Result<Option<usize>, Error> {
     for (index, (net, start, end, heard)) in packets.iter().enumerate() {
-        let rows = count(alloc, &data(*net, *start, *end))?;
+        let rows = count(alloc, &data(*net, 253, *start, *end))?;
         if rows != (if *heard { 2 } else { 1 }) {
             return Ok(Some(index));
         }
@@ -53,7 +52,7 @@ pub(crate) fn heard_otherwise(
 /// Whether a router without rows learns both ranges, by the port on which they come.
 pub(crate) fn is_learned(alloc: Global) -> Result<bool, Error> {
     let mut table = routes(alloc, &[])?;
-    hear(&mut table, Range::new(10, 19)?, 3, &data(10, 10, 19))?;
+    hear(&mut table, Range::new(10, 19)?, 3, &data(10, 2, 10, 19))?;
     let first = row(10, 19, 3, NEAR, State::Good)?;
     let second = row(20, 29, 3, NEAR, State::Good)?;
     Ok(are(&table, &[first, second]))
@@ -63,6 +62,6 @@ pub(crate) fn is_learned(alloc: Global) -> Result<bool, Error> {
 pub(crate) fn stays_direct(alloc: Global) -> Result<bool, Error> {
     let suspect = row(20, 29, 0, NEAR, State::Suspect)?;
     let mut table = routes(alloc, &[own()?, suspect])?;
-    hear(&mut table, Range::new(10, 19)?, 0, &data(10, 10, 19))?;
+    hear(&mut table, Range::new(10, 19)?, 0, &data(10, 2, 10, 19))?;
     Ok(are(&table, &[own()?, row(20, 29, 0, NEAR, State::Good)?]))
 }

@@ -21,21 +21,22 @@ fn hears_of(alloc: Global, node: &mut LiveNode, bytes: &[u8]) -> Result<Option<A
 }
 
 /// The last router that was heard is the node's, whether the node has an address yet or not, and
-/// whatever cable it tells of. What
-/// isn't a packet of routing data is ignored, and so is one for another socket, or with a wrong
-/// checksum.
+/// whatever cable it tells of. What isn't a packet of routing data is ignored, and so is one for
+/// another socket, of another type, or with a wrong checksum.
 pub(crate) fn heard_routers_are_taken(alloc: Global) -> Result<bool, Error> {
     let (mut other, mut wrong, mut socket, mut sum) = (ROUTES, ROUTES, ROUTES, ROUTES);
     other[16] = 0x02;
     wrong[22] = 0x81;
     socket[10] = 0x02;
     sum[3] = 0x01;
-    let mut foreign = ROUTES;
+    let (mut foreign, mut kind) = (ROUTES, ROUTES);
+    kind[12] = 0x09;
     (foreign[14], foreign[18], foreign[21]) = (0x14, 0x14, 0x1D);
     let mut node = unsettled(alloc)?;
-    let steps: [(&[u8], Option<Addr>); 8] = [
+    let steps: [(&[u8], Option<Addr>); 9] = [
         (&wrong, None),
         (&socket, None),
+        (&kind, None),
         (&sum, None),
         (&ROUTES, ROUTER),
         (&other, Some(Addr { net: 10, node: 2 })),

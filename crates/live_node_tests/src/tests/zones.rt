@@ -30,16 +30,17 @@ fn is_content(alloc: Global, node: &mut LiveNode) -> Result<bool, Error> {
     Ok(true)
 }
 
-/// An answer before the node has asked is ignored, and so is one for another socket; the first one
-/// after it names its zone; a later one is ignored.
+/// An answer before the node has asked is ignored, and so is one for another socket or of another
+/// type; the first one after it names its zone; a later one is ignored.
 pub(crate) fn the_first_answer_counts(alloc: Global) -> Result<bool, Error> {
-    let (mut later, mut socket) = (ANSWER, ANSWER);
-    socket[10] = 0x07;
+    let (mut later, mut socket, mut kind) = (ANSWER, ANSWER, ANSWER);
+    (socket[10], kind[12]) = (0x07, 0x09);
     (later[31], later[32], later[33], later[34]) = (b'G', b'r', b'a', b'y');
     let mut node = settled(alloc)?;
     let early = is_in(alloc, &mut node, &ANSWER, b"Red")?;
     pass(alloc, &mut node, 1)?;
-    let other = is_in(alloc, &mut node, &socket, b"Red")?;
+    let other = is_in(alloc, &mut node, &socket, b"Red")?
+        && is_in(alloc, &mut node, &kind, b"Red")?;
     let first = is_in(alloc, &mut node, &ANSWER, b"Blue")?;
     let second = is_in(alloc, &mut node, &later, b"Blue")?;
     Ok(early && other && first && second && is_content(alloc, &mut node)?)
@@ -57,15 +58,17 @@ pub(crate) fn answers_without_a_zone_end_it(alloc: Global) -> Result<bool, Error
     Ok(stays && later && is_content(alloc, &mut node)?)
 }
 
-/// An answer counts that goes to every node, or is about another zone than the one asked for, and
-/// one that comes long after the last question.
+/// An answer counts that goes to every node, or is about another zone than the one asked for or
+/// about another range, and one that comes long after the last question.
 pub(crate) fn any_answer_counts(alloc: Global) -> Result<bool, Error> {
-    let (mut all, mut other) = (ANSWER, ANSWER);
+    let (mut all, mut other, mut range) = (ANSWER, ANSWER, ANSWER);
     (all[5], all[8]) = (0x00, 0xFF);
+    range[16] = 0x0B;
     other[20] = b'S';
-    let cases: [(Link, &[u8], u16); 3] = [
+    let cases: [(Link, &[u8], u16); 4] = [
         (Link::All, &all, 1),
         (Link::Own, &other, 1),
+        (Link::Own, &range, 1),
         (Link::Own, &ANSWER, 60),
     ];
     for (link, bytes, ticks) in cases {

@@ -1,7 +1,9 @@
 //! The first router of three cables, and what it puts out. What takes memory is called again where
 //! it was refused.
 
-ghost use Rattle.std.specs.Prelude.{◌≡◌};
+ghost use Rattle.std.specs.Prelude.{◌≡◌, IsTrue};
+ghost use Rattle.std.specs.List.{list_all};
+ghost use Rattle.station.specs.Ports.{is_planned};
 
 use at_base::{Addr, Error, Hw, Name, Range};
 use router::{Hand, Router};
@@ -232,4 +234,62 @@ pub(crate) fn stays_in_a_tick(alloc: Global) -> Result<bool, Error> {
     let mut outputs = Outputs::new(alloc)?;
     router.tick(&mut outputs)?;
     Ok(outputs.is_empty() && outputs.pop().is_none())
+}
+
+/// A port that has no address on its cable yet.
+fn unsettled_plan(range: Range) -> PortPlan<'static>
+    ensures planned { IsTrue (is_planned result) }
+{
+    PortPlan {
+        range,
+        hw: Hw([2, 0, 0, 0, 0, 1]),
+        tries: &[],
+        own: None,
+    }
+}
+
+fn with_ports(alloc: Global, plans: &[PortPlan<'_>]) -> Result<Lab, Error>
+    requires planned { IsTrue (list_all is_planned plans.now) }
+{
+    let routes = PlainTable::empty(alloc)?;
+    Router::new(alloc, plans, routes, ZoneTable::new(alloc)?)
+}
+
+/// Whether a router has 16 ports where 17 are refused.
+fn ends_at_16_ports(alloc: Global) -> Result<bool, Error> {
+    let range = Range::new(10, 19)?;
+    let plans = [
+        unsettled_plan(range),
+        unsettled_plan(range),
+        unsettled_plan(range),
+        unsettled_plan(range),
+        unsettled_plan(range),
+        unsettled_plan(range),
+        unsettled_plan(range),
+        unsettled_plan(range),
+        unsettled_plan(range),
+        unsettled_plan(range),
+        unsettled_plan(range),
+        unsettled_plan(range),
+        unsettled_plan(range),
+        unsettled_plan(range),
+        unsettled_plan(range),
+        unsettled_plan(range),
+        unsettled_plan(range),
+    ];
+    let [_first, others @ ..] = &plans;
+    let router = with_ports(alloc, others)?;
+    match with_ports(alloc, &plans) {
+        Ok(_) => Ok(false),
+        Err(Error::Full) => Ok(router.ports() == 16),
+        Err(error) => Err(error),
+    }
+}
+
+/// A router may have 16 ports, and no more.
+pub(crate) fn has_16_ports(alloc: Global) -> Result<bool, Error> {
+    match ends_at_16_ports(alloc) {
+        Err(Error::Memory) => ends_at_16_ports(alloc),
+        answer => answer,
+    }
 }

@@ -152,7 +152,7 @@ pub(crate) fn zones_of_the_asker_are_given(alloc: Global) -> Result<bool, Error>
 }
 
 /// A list is given again where it is asked for again, also in a transaction that is carried out
-/// once, and after its release.
+/// once, and after its release; and to who asks every node of the cable.
 pub(crate) fn lists_are_given(alloc: Global) -> Result<bool, Error> {
     let mut router = lab(alloc)?;
     let list = [Want::Made(0, ASKER, &LISTED)];
@@ -175,7 +175,9 @@ pub(crate) fn lists_are_given(alloc: Global) -> Result<bool, Error> {
             return Ok(false);
         }
     }
-    Ok(true)
+    let mut all = LIST;
+    all[8] = 0xFF;
+    hears_on(alloc, &mut router, 0, Link::All, &all, &list)
 }
 
 /// Whether the router, after 160 ticks, puts these out for a datagram.
@@ -252,6 +254,8 @@ pub(crate) fn echoes_come_from_the_address_asked(alloc: Global) -> Result<bool, 
 pub(crate) fn echoes_end_at_the_router(alloc: Global) -> Result<bool, Error> {
     let mut router = lab(alloc)?;
     let (mut here, mut late, mut all, mut far, mut back) = (PING, PING, PING, PING, PONG);
+    let mut foreign = PING;
+    (foreign[5], foreign[8]) = (0x32, 0xFF);
     here[5] = 0x00;
     late[0] = 0x3C;
     all[8] = 0xFF;
@@ -267,6 +271,7 @@ pub(crate) fn echoes_end_at_the_router(alloc: Global) -> Result<bool, Error> {
             && hears_on(alloc, &mut router, 0, Link::Own, &late, &pong)?
             && hears_on(alloc, &mut router, 0, Link::Own, &padded, &pong)?
             && hears_on(alloc, &mut router, 0, Link::All, &all, &pong)?
+            && hears_on(alloc, &mut router, 0, Link::All, &foreign, &pong)?
             && hears_on(alloc, &mut router, 1, Link::Own, &far, &from_far)?
             && hears_on(alloc, &mut router, 1, Link::Own, &PING, &kept)?,
     )

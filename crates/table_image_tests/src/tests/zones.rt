@@ -147,6 +147,13 @@ pub(crate) fn has_zone_tables(alloc: Global) -> Result<bool, Error> {
     )
 }
 
+/// A complete list of 64 names, all of one zone, has room for it.
+fn has_a_full_list(alloc: Global) -> Result<bool, Error> {
+    let full: Names<'_> = &[b"A".as_slice(); 64];
+    let image = image_again(alloc, &[(1, 1, true, full)])?;
+    has_zones(alloc, &image, 0, &[(1, 1, true, &[b"A"])])
+}
+
 /// A list that is left out may overlap others.
 pub(crate) fn has_what_is_told(alloc: Global) -> Result<bool, Error> {
     let doubles: Names<'_> = &[b"Red", b"rED", b"Blue"];
@@ -173,7 +180,7 @@ pub(crate) fn has_what_is_told(alloc: Global) -> Result<bool, Error> {
             return Ok(false);
         }
     }
-    Ok(true)
+    has_a_full_list(alloc)
 }
 
 /// A range that isn't valid counts where its list is left out too, and ranges come before room.
