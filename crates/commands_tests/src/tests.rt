@@ -258,6 +258,24 @@ fn a_line_is_flushed_after_its_end(rt: HostRuntime) {
     assert_eq!(rt; output.writer.flushed(), b"yes\n".as_slice());
 }
 
+/// Text that was still to be written, and whether it came through.
+fn passes_on(alloc: Global) -> Result<bool, Error> {
+    let mut output = Output::new(alloc, Holding::new());
+    output.text.extend_from_slice(b"took 0 1\n")?;
+    output.flush()?;
+    Ok(output.writer.flushed() == b"took 0 1\n".as_slice() && output.text.is_empty())
+}
+
+#[test]
+fn text_is_flushed_after_it_is_written(rt: HostRuntime) -> Result<(), Fail> {
+    let passed = match passes_on(rt.alloc()) {
+        Err(Error::Memory) => passes_on(rt.alloc()),
+        answer => answer,
+    };
+    assert!(rt; passed?);
+    Ok(())
+}
+
 #[test]
 fn an_earlier_failure_refuses_nothing(rt: HostRuntime) {
     for _attempt in 0..2 {

@@ -106,7 +106,7 @@ impl Write for Frail {
 /// Holds what it is given back until it is flushed, as a buffered device does.
 #[derive(Drop)]
 pub struct Holding {
-    held: [u8; 16],
+    held: [u8; 64],
     len: usize,
     flushed: usize,
 }
@@ -114,7 +114,7 @@ pub struct Holding {
 impl Holding {
     pub fn new() -> Holding {
         Holding {
-            held: [0; 16],
+            held: [0; 64],
             len: 0,
             flushed: 0,
         }

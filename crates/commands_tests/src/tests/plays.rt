@@ -1,6 +1,6 @@
 //! Plays: that lines and images go to their writers, and what comes of reads and writes that fail.
 
-use super::fakes::{Frail, Pieces};
+use super::fakes::{Frail, Holding, Pieces};
 use super::{audit, holds};
 use at_base::{Error, Part};
 use command_line::status;
@@ -93,6 +93,20 @@ fn lines_and_images_go_to_their_writers(rt: HostRuntime) {
         assert_eq!(rt; status(&given), exit);
         assert!(rt; holds(lines.as_slice(), want));
         assert_eq!(rt; image.starts_with(b"ATIM".as_slice()), exit < 2);
+    }
+}
+
+#[test]
+fn lines_and_images_are_flushed_after_their_ends(rt: HostRuntime) {
+    for _attempt in 0..2 {
+        let mut input = Input::new(pieces(EARLY));
+        let mut output = Output::new(rt.alloc(), Holding::new());
+        let mut image = Output::new(rt.alloc(), Holding::new());
+        let answer = play_bytes(rt.alloc(), &mut input, &mut output, &mut image, &mut Silent);
+        if answer.is_ok() {
+            assert_eq!(rt; output.writer.flushed(), NO);
+            assert_eq!(rt; image.writer.flushed().len(), IMAGE_LEN);
+        }
     }
 }
 
