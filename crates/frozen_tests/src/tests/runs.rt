@@ -166,16 +166,26 @@ pub(crate) fn the_router_that_is_named_is_asked(alloc: Global) -> Result<bool, E
     Ok(by_other == 6 && by_own == 8 && entries_by(alloc, None)? == 8)
 }
 
-/// A request goes to the router that is named, and the empty zone is the node's own.
+/// The request of the node between the routers for the ID 0, up to its zone.
+const ASKED: [u8; 24] = [
+    0x00, 0x1C, 0x00, 0x00, 0x00, 0x14, 0x00, 0x14, 0x02, 0x07, 0x02, 0xFD, 0x02, 0x11, 0x00, 0x00,
+    0x14, 0x07, 0xFD, 0x00, 0x01, 0x3D, 0x01, 0x61,
+];
+
+/// A request goes to the router that is named, and the empty zone is the node's own. `*` is too, and
+/// a name that begins with it isn't.
 pub(crate) fn the_own_zone_needs_no_name(alloc: Global) -> Result<bool, Error> {
     let bytes = between();
     let mut run = run_over(alloc, bytes.as_slice(), 1000)?;
     run.event(&asking(BETWEEN, Some(THIRD), 0, [b"=", b"a", b""])?)?;
-    let request = [
-        0x00, 0x1C, 0x00, 0x00, 0x00, 0x14, 0x00, 0x14, 0x02, 0x07, 0x02, 0xFD, 0x02, 0x11, 0x00,
-        0x00, 0x14, 0x07, 0xFD, 0x00, 0x01, 0x3D, 0x01, 0x61, 0x03, 0x52, 0x65, 0x64,
-    ];
-    Ok(is_put(&run, 0, 1, &request))
+    run.event(&asking(BETWEEN, Some(THIRD), 0, [b"=", b"a", b"*"])?)?;
+    run.event(&asking(BETWEEN, Some(THIRD), 0, [b"=", b"a", b"*ed"])?)?;
+    let mut request = [0; 28];
+    put(&mut request, 0, &ASKED);
+    put(&mut request, 24, &[0x03, 0x52, 0x65, 0x64]);
+    let own = is_put(&run, 0, 1, &request) && is_put(&run, 1, 1, &request);
+    put(&mut request, 25, b"*");
+    Ok(own && is_put(&run, 2, 1, &request))
 }
 
 /// A request of the last node for lab:LaserWriter in its zone, with the ID 200: its lookups are
