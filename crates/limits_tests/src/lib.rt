@@ -1,0 +1,5 @@
+//! Tests of playing through its public call.
+#![tactic(auto)]
+
+#[cfg(test)]
+mod tests;
