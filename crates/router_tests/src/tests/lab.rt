@@ -255,8 +255,25 @@ fn with_ports(alloc: Global, plans: &[PortPlan<'_>]) -> Result<Lab, Error>
     Router::new(alloc, plans, routes, ZoneTable::new(alloc)?)
 }
 
-/// Whether a router has 16 ports where 17 are refused.
-fn ends_at_16_ports(alloc: Global) -> Result<bool, Error> {
+/// Whether a router may have all of these ports but the first, and not all of them.
+fn is_one_too_many(alloc: Global, plans: &[PortPlan<'_>]) -> Result<bool, Error>
+    requires planned { IsTrue (list_all is_planned plans.now) }
+{
+    match plans {
+        [] => Ok(false),
+        [_first, others @ ..] => {
+            let ports = with_ports(alloc, others)?.ports();
+            match with_ports(alloc, plans) {
+                Ok(_) => Ok(false),
+                Err(Error::Full) => Ok(ports == 16),
+                Err(error) => Err(error),
+            }
+        }
+    }
+}
+
+/// A router may have 16 ports, and no more.
+pub(crate) fn has_16_ports(alloc: Global) -> Result<bool, Error> {
     let range = Range::new(10, 19)?;
     let plans = [
         unsettled_plan(range),
@@ -277,19 +294,8 @@ fn ends_at_16_ports(alloc: Global) -> Result<bool, Error> {
         unsettled_plan(range),
         unsettled_plan(range),
     ];
-    let [_first, others @ ..] = &plans;
-    let router = with_ports(alloc, others)?;
-    match with_ports(alloc, &plans) {
-        Ok(_) => Ok(false),
-        Err(Error::Full) => Ok(router.ports() == 16),
-        Err(error) => Err(error),
-    }
-}
-
-/// A router may have 16 ports, and no more.
-pub(crate) fn has_16_ports(alloc: Global) -> Result<bool, Error> {
-    match ends_at_16_ports(alloc) {
-        Err(Error::Memory) => ends_at_16_ports(alloc),
+    match is_one_too_many(alloc, &plans) {
+        Err(Error::Memory) => is_one_too_many(alloc, &plans),
         answer => answer,
     }
 }
