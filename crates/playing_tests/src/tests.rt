@@ -1,17 +1,21 @@
 //! Plays worked out by hand. What needs memory is called again where it was refused.
 
 mod files;
+mod rows;
+mod tables;
 
 use at_base::Error;
 use audit::audit_bytes;
 use example_images::three_cables;
-use files::{CABLE, HEAD, ROWS, Row, STATIONS, ZONES};
+use files::{CABLE, STATIONS};
 use internet_file::read;
 use playing::{Played, Progress, Silent, play_text};
+use rows::{ROWS, Row};
 use rtmp::PlainTable;
 use std::alloc::Global;
 use std::test::*;
 use table_image::write;
+use tables::{Told, row_of, tells};
 use world::World;
 
 /// The text of a file.
@@ -66,6 +70,21 @@ fn is_example(alloc: Global) -> Result<bool, Error> {
 #[test]
 fn the_image_is_that_of_the_example(rt: HostRuntime) -> Result<(), Fail> {
     assert!(rt; is_example(rt.alloc())?);
+    Ok(())
+}
+
+/// Whether the image of the play of a row's file tells this.
+fn is_told(alloc: Global, row: &Row, told: Told) -> Result<bool, Error> {
+    let text = text_of(alloc, row)?;
+    let played = play(alloc, text.as_slice())?;
+    tells(alloc, played.image.as_slice(), told)
+}
+
+#[test]
+fn the_image_has_what_stations_hold(rt: HostRuntime) -> Result<(), Fail> {
+    for told in [Told::Unsettled, Told::Settled, Told::TwoNames, Told::Learnt] {
+        assert!(rt; is_told(rt.alloc(), &ROWS[row_of(told)], told)?);
+    }
     Ok(())
 }
 
