@@ -68,28 +68,51 @@ fn ask(node: &mut EndNode, start: u16, outputs: &mut Outputs) -> Result<u16, Err
     }
 }
 
+/// Whether two requests wait for their answers, the second one for the zones from 258 on.
+fn asks_twice(node: &mut EndNode, outputs: &mut Outputs) -> Result<bool, Error> {
+    let first = ask(node, 1, outputs)?;
+    let second = ask(node, 0x0102, outputs)?;
+    let waits = stage_at(node, first)? == Stage::Waits && stage_at(node, second)? == Stage::Waits;
+    let none = stage_at(node, 3) == Err(Error::NoSuch(What::Transaction));
+    Ok(first == 1 && second == 2 && waits && none)
+}
+
 /// Each request is one datagram to the router, with the next ID.
 pub(crate) fn requests_go_to_the_router(alloc: Global) -> Result<bool, Error> {
-    let mut node = near(alloc, Some(NEAR_ROUTER))?;
-    let mut outputs = Outputs::new(alloc)?;
-    let first = ask(&mut node, 1, &mut outputs)?;
-    let second = ask(&mut node, 0x0102, &mut outputs)?;
     let router = Next::Station(NEAR_ROUTER);
     let mut next = REQUEST;
     (next[16], next[19], next[20]) = (0x02, 0x01, 0x02);
     let wants = [Want::Made(router, &REQUEST), Want::Made(router, &next)];
-    let waits = stage_at(&mut node, first)? == Stage::Waits
-        && stage_at(&mut node, second)? == Stage::Waits;
-    let none = stage_at(&mut node, 3) == Err(Error::NoSuch(What::Transaction));
-    Ok(first == 1 && second == 2 && waits && none && are(&outputs, &wants))
+    let mut node = near(alloc, Some(NEAR_ROUTER))?;
+    let mut outputs = Outputs::new(alloc)?;
+    Ok(asks_twice(&mut node, &mut outputs)? && are(&outputs, &wants))
+}
+
+/// The ID of a request that the node makes.
+fn asked(alloc: Global, node: &mut EndNode) -> Result<u16, Error> {
+    let mut outputs = Outputs::new(alloc)?;
+    ask(node, 1, &mut outputs)
+}
+
+/// Whether the transaction waits on after these bytes.
+fn waits_on(alloc: Global, node: &mut EndNode, id: u16, bytes: &[u8]) -> Result<bool, Error> {
+    let quiet = hears(alloc, node, Link::Own, Kind::Ddp, bytes, &[])?;
+    Ok(quiet && stage_at(node, id)? == Stage::Waits)
+}
+
+/// Whether the answer ends the transaction, and the node has received so many other datagrams.
+fn is_answered(alloc: Global, node: &mut EndNode, id: u16, others: usize) -> Result<bool, Error> {
+    let quiet = hears(alloc, node, Link::Own, Kind::Ddp, &ANSWER, &[])?;
+    let listed = stage_at(node, id)? == Stage::Listed;
+    let closed = stage_at(node, id) == Err(Error::NoSuch(What::Transaction));
+    Ok(quiet && listed && closed && node.received()?.len() == others)
 }
 
 /// An answer from the socket that was asked ends a transaction, and no other one does. A node
 /// doesn't receive it.
 pub(crate) fn answers_end_a_transaction(alloc: Global) -> Result<bool, Error> {
     let mut node = near(alloc, Some(NEAR_ROUTER))?;
-    let mut outputs = Outputs::new(alloc)?;
-    let id = ask(&mut node, 1, &mut outputs)?;
+    let id = asked(alloc, &mut node)?;
     // from 10.2, from socket 7, to socket 253, of type 4, for 10.8, with a wrong checksum, of
     // transaction 2, part 1
     for (at, byte) in [
@@ -104,30 +127,45 @@ pub(crate) fn answers_end_a_transaction(alloc: Global) -> Result<bool, Error> {
     ] {
         let mut bytes = ANSWER;
         bytes[at] = byte;
-        if !hears(alloc, &mut node, Link::Own, Kind::Ddp, &bytes, &[])?
-            || stage_at(&mut node, id)? != Stage::Waits
-        {
+        if !waits_on(alloc, &mut node, id, &bytes)? {
             return Ok(false);
         }
     }
-    let quiet = hears(alloc, &mut node, Link::Own, Kind::Ddp, &ANSWER, &[])?;
-    let listed = stage_at(&mut node, id)? == Stage::Listed;
-    let closed = stage_at(&mut node, id) == Err(Error::NoSuch(What::Transaction));
     // what went to socket 253 and what was of type 4 was received
-    Ok(quiet && listed && closed && node.received()?.len() == 2)
+    is_answered(alloc, &mut node, id, 2)
+}
+
+/// Whether the node makes 32 requests, and no more.
+fn asks_32_times(node: &mut EndNode, outputs: &mut Outputs) -> Result<bool, Error> {
+    for index in 0..32u16 {
+        if ask(node, 1, outputs)? != index + 1 {
+            return Ok(false);
+        }
+    }
+    Ok(ask(node, 1, outputs) == Err(Error::Full))
+}
+
+/// Whether the node can't ask, and puts nothing out.
+fn cannot_ask(alloc: Global, node: &mut EndNode, want: Error) -> Result<bool, Error> {
+    let mut outputs = Outputs::new(alloc)?;
+    Ok(ask(node, 1, &mut outputs) == Err(want) && outputs.is_empty())
+}
+
+/// A node without a router, or without an address, can't.
+fn others_cannot_ask(alloc: Global) -> Result<bool, Error> {
+    if !cannot_ask(alloc, &mut near(alloc, None)?, Error::NoRouter)? {
+        return Ok(false);
+    }
+    let missing = Error::NoSuch(What::Station);
+    cannot_ask(alloc, &mut unsettled(alloc, None)?, missing)
 }
 
 /// 32 transactions are open at most, and of its errors the first is reported.
 pub(crate) fn requests_are_refused(alloc: Global) -> Result<bool, Error> {
+    if !others_cannot_ask(alloc)? {
+        return Ok(false);
+    }
     let mut node = near(alloc, Some(NEAR_ROUTER))?;
     let mut outputs = Outputs::new(alloc)?;
-    for index in 0..32u16 {
-        if ask(&mut node, 1, &mut outputs)? != index + 1 {
-            return Ok(false);
-        }
-    }
-    let full = ask(&mut node, 1, &mut outputs) == Err(Error::Full);
-    let alone = ask(&mut near(alloc, None)?, 1, &mut outputs) == Err(Error::NoRouter);
-    let absent = ask(&mut unsettled(alloc, None)?, 1, &mut outputs);
-    Ok(full && alone && absent == Err(Error::NoSuch(What::Station)) && outputs.len() == 32)
+    Ok(asks_32_times(&mut node, &mut outputs)? && outputs.len() == 32)
 }

@@ -38,28 +38,32 @@ fn takes(alloc: Global, node: &mut EndNode, link: Link, bytes: &[u8]) -> Result<
     hears(alloc, node, link, Kind::Ddp, bytes, &[])
 }
 
+/// Whether the node puts nothing out for so many datagrams, with the bytes from 0 on.
+fn takes_each(alloc: Global, node: &mut EndNode, count: u8) -> Result<bool, Error> {
+    for byte in 0..count {
+        let mut bytes = SENT;
+        bytes[13] = byte;
+        if !takes(alloc, node, Link::Own, &bytes)? {
+            return Ok(false);
+        }
+    }
+    Ok(true)
+}
+
+/// Whether the node has received so many datagrams, with the bytes from one on.
+fn has_received(node: &mut EndNode, from: u8, len: usize) -> Result<bool, Error> {
+    Ok(are_sent(node.received()?.as_slice(), from, len))
+}
+
 /// The last 64 are kept, and taken once, oldest first.
 pub(crate) fn the_last_are_kept(alloc: Global) -> Result<bool, Error> {
     let mut node = far(alloc)?;
-    for byte in 0..64u8 {
-        let mut bytes = SENT;
-        bytes[13] = byte;
-        if !takes(alloc, &mut node, Link::Own, &bytes)? {
+    for (count, from, len) in [(64u8, 0u8, 64), (66, 2, 64), (0, 0, 0)] {
+        if !takes_each(alloc, &mut node, count)? || !has_received(&mut node, from, len)? {
             return Ok(false);
         }
     }
-    if !are_sent(node.received()?.as_slice(), 0, 64) {
-        return Ok(false);
-    }
-    for byte in 0..66u8 {
-        let mut bytes = SENT;
-        bytes[13] = byte;
-        if !takes(alloc, &mut node, Link::Own, &bytes)? {
-            return Ok(false);
-        }
-    }
-    let last = are_sent(node.received()?.as_slice(), 2, 64);
-    Ok(last && node.received()?.is_empty())
+    Ok(true)
 }
 
 /// What is the node's own: for its address in a frame to itself, and for all of its cable in one
@@ -71,7 +75,7 @@ pub(crate) fn its_own_are_kept(alloc: Global) -> Result<bool, Error> {
     (near[5], near[8]) = (0x1E, 0xFF);
     let cases: [(Link, &[u8]); 3] = [(Link::Own, &SENT), (Link::All, &all), (Link::All, &near)];
     for (link, bytes) in cases {
-        if !takes(alloc, &mut node, link, bytes)? || !are_sent(node.received()?.as_slice(), 1, 1) {
+        if !takes(alloc, &mut node, link, bytes)? || !has_received(&mut node, 1, 1)? {
             return Ok(false);
         }
     }
@@ -84,6 +88,11 @@ fn is_one(datagrams: &[Datagram]) -> bool {
         [datagram] => datagram.payload.as_slice() == [1].as_slice(),
         _ => false,
     }
+}
+
+/// Whether the node has received such a datagram alone.
+fn has_one(node: &mut EndNode) -> Result<bool, Error> {
+    Ok(is_one(node.received()?.as_slice()))
 }
 
 /// A service of the node takes only what is of its type and for its socket. Padding isn't kept.
@@ -103,7 +112,7 @@ pub(crate) fn other_types_and_sockets_are_kept(alloc: Global) -> Result<bool, Er
         let mut bytes = [0x05; 16];
         bytes[..14].copy_from_slice(&SENT);
         (bytes[10], bytes[12]) = (socket, kind);
-        if !takes(alloc, &mut node, Link::Own, &bytes)? || !is_one(node.received()?.as_slice()) {
+        if !takes(alloc, &mut node, Link::Own, &bytes)? || !has_one(&mut node)? {
             return Ok(false);
         }
     }
@@ -140,7 +149,7 @@ pub(crate) fn others_are_not_kept(alloc: Global) -> Result<bool, Error> {
         (Link::Own, &SENT[..13]),
     ];
     for (link, bytes) in cases {
-        if !takes(alloc, &mut node, link, bytes)? || !node.received()?.is_empty() {
+        if !takes(alloc, &mut node, link, bytes)? || !has_received(&mut node, 0, 0)? {
             return Ok(false);
         }
     }

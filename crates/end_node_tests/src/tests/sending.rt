@@ -31,6 +31,27 @@ fn send(
     }
 }
 
+/// Whether the node sends a byte there as this.
+fn sends(
+    alloc: Global,
+    node: &EndNode,
+    target: Addr,
+    summed: bool,
+    want: Want<'_>,
+) -> Result<bool, Error> {
+    let mut outputs = Outputs::new(alloc)?;
+    send(node, target, summed, &[1], &mut outputs)?;
+    Ok(are(&outputs, &[want]))
+}
+
+/// Whether the node sends a byte there by this way.
+fn goes_by(alloc: Global, node: &EndNode, target: Addr, next: Next) -> Result<bool, Error> {
+    let mut bytes = SENT;
+    let [high, low] = target.net.to_be_bytes();
+    (bytes[4], bytes[5], bytes[8]) = (high, low, target.node);
+    sends(alloc, node, target, false, Want::Made(next, &bytes))
+}
+
 /// Straight to nodes of its range, to all of them for node 255, and else to the router. Node 255
 /// alone stands for all: what goes straight to node 0 goes to it.
 pub(crate) fn datagrams_go_by_their_way(alloc: Global) -> Result<bool, Error> {
@@ -45,21 +66,14 @@ pub(crate) fn datagrams_go_by_their_way(alloc: Global) -> Result<bool, Error> {
         (addr(0, 255), Next::All),
     ];
     for (target, next) in cases {
-        let mut outputs = Outputs::new(alloc)?;
-        send(&node, target, false, &[1], &mut outputs)?;
-        let mut bytes = SENT;
-        let [high, low] = target.net.to_be_bytes();
-        (bytes[4], bytes[5], bytes[8]) = (high, low, target.node);
-        if !are(&outputs, &[Want::Made(next, &bytes)]) {
+        if !goes_by(alloc, &node, target, next)? {
             return Ok(false);
         }
     }
-    let mut outputs = Outputs::new(alloc)?;
-    send(&node, addr(12, 9), true, &[1], &mut outputs)?;
-    let mut bytes = SENT;
+    let (mut bytes, there) = (SENT, Next::Station(addr(12, 9)));
     (bytes[2], bytes[3]) = (0x27, 0x0E);
-    let sums = are(&outputs, &[Want::Made(Next::Station(addr(12, 9)), &bytes)]);
-    Ok(sums && straight(addr(12, 0)) == Next::Station(addr(12, 0)))
+    let is_straight = straight(addr(12, 0)) == Next::Station(addr(12, 0));
+    Ok(is_straight && sends(alloc, &node, addr(12, 9), true, Want::Made(there, &bytes))?)
 }
 
 /// Whether the node refuses to send so many bytes there, and puts nothing out.
@@ -104,12 +118,16 @@ fn long_ones_are_refused(alloc: Global, long: &[u8]) -> Result<bool, Error> {
     refuses(alloc, &absent, addr(12, 9), long, missing)
 }
 
+/// Whether the node sends the data in one datagram.
+fn sends_in_one(alloc: Global, node: &EndNode, data: &[u8]) -> Result<bool, Error> {
+    let mut outputs = Outputs::new(alloc)?;
+    send(node, addr(30, 5), false, data, &mut outputs)?;
+    Ok(outputs.len() == 1)
+}
+
 /// Whether the longest datagram is sent.
 fn longest_is_sent(alloc: Global, longest: &[u8]) -> Result<bool, Error> {
-    let node = near(alloc, Some(NEAR_ROUTER))?;
-    let mut outputs = Outputs::new(alloc)?;
-    send(&node, addr(30, 5), false, longest, &mut outputs)?;
-    Ok(outputs.len() == 1)
+    sends_in_one(alloc, &near(alloc, Some(NEAR_ROUTER))?, longest)
 }
 
 /// 586 bytes are sent, and 587 aren't.
@@ -140,14 +158,19 @@ fn lookup(node: &EndNode, zone: &[u8], outputs: &mut Outputs) -> Result<(), Erro
     }
 }
 
+/// Whether the node's request for names of the zone is this, to its router.
+fn asks(alloc: Global, node: &EndNode, zone: &[u8], bytes: &[u8]) -> Result<bool, Error> {
+    let mut outputs = Outputs::new(alloc)?;
+    lookup(node, zone, &mut outputs)?;
+    Ok(are(&outputs, &[Want::Made(Next::Station(NEAR_ROUTER), bytes)]))
+}
+
 /// A node asks its router, which is to be told the node's zone where it names none.
 pub(crate) fn lookups_go_to_the_router(alloc: Global) -> Result<bool, Error> {
     let node = near(alloc, Some(NEAR_ROUTER))?;
     let cases: [(&[u8], &[u8]); 3] = [(b"blue", &LOOKUP), (b"*", &OWN_LOOKUP), (b"", &OWN_LOOKUP)];
     for (zone, bytes) in cases {
-        let mut outputs = Outputs::new(alloc)?;
-        lookup(&node, zone, &mut outputs)?;
-        if !are(&outputs, &[Want::Made(Next::Station(NEAR_ROUTER), bytes)]) {
+        if !asks(alloc, &node, zone, bytes)? {
             return Ok(false);
         }
     }
@@ -170,22 +193,30 @@ fn lab_once(node: &EndNode, outputs: &mut Outputs) -> Result<(), Error> {
     node.lookup(1, &object, &any, &zone, outputs)
 }
 
-/// The object stands before the type; and a node without a router sends to its own cable.
-pub(crate) fn objects_stand_first(alloc: Global) -> Result<bool, Error> {
-    let node = near(alloc, Some(NEAR_ROUTER))?;
+/// Whether the node's request for labs is as it should be.
+fn asks_for_labs(alloc: Global, node: &EndNode) -> Result<bool, Error> {
     let mut outputs = Outputs::new(alloc)?;
-    match lab_once(&node, &mut outputs) {
-        Err(Error::Memory) => lab_once(&node, &mut outputs)?,
+    match lab_once(node, &mut outputs) {
+        Err(Error::Memory) => lab_once(node, &mut outputs)?,
         answer => answer?,
     }
-    let asked = are(
-        &outputs,
-        &[Want::Made(Next::Station(NEAR_ROUTER), &LAB_LOOKUP)],
-    );
-    let alone = near(alloc, None)?;
-    let mut straight = Outputs::new(alloc)?;
-    send(&alone, addr(12, 9), false, &[1], &mut straight)?;
-    Ok(asked && are(&straight, &[Want::Made(Next::Station(addr(12, 9)), &SENT)]))
+    let asked = [Want::Made(Next::Station(NEAR_ROUTER), &LAB_LOOKUP)];
+    Ok(are(&outputs, &asked))
+}
+
+/// Whether a node without a router sends to its own cable.
+fn sends_without_a_router(alloc: Global) -> Result<bool, Error> {
+    let there = addr(12, 9);
+    let want = Want::Made(Next::Station(there), &SENT);
+    sends(alloc, &near(alloc, None)?, there, false, want)
+}
+
+/// The object stands before the type; and a node without a router sends to its own cable.
+pub(crate) fn objects_stand_first(alloc: Global) -> Result<bool, Error> {
+    if !sends_without_a_router(alloc)? {
+        return Ok(false);
+    }
+    asks_for_labs(alloc, &near(alloc, Some(NEAR_ROUTER))?)
 }
 
 /// Whether the node can't ask for names.
