@@ -19,14 +19,14 @@ use names::{
     unsettled_ports_ask_nothing,
 };
 use readme::handed;
-use resolution::ports_answer_for_their_addresses;
+use resolution::{ports_answer_for_their_addresses, ports_keep_silent_before};
 use router::Hand;
 use std::test::*;
 use zones::{
     echoes_come_from_the_address_asked, echoes_end_at_the_router, lists_are_given,
     lists_are_kept_by_who_asked, nodes_are_told_of_the_cable, nodes_are_told_of_where_they_asked,
     queries_are_answered, replies_go_to_nodes_with_a_route, tried_addresses_are_no_ports,
-    zones_of_the_asker_are_given,
+    unsettled_ports_tell_nothing, zones_of_the_asker_are_given,
 };
 
 #[test]
@@ -62,6 +62,7 @@ fn a_router_answers_about_zones(rt: HostRuntime) -> Result<(), Fail> {
     assert!(rt; queries_are_answered(rt.alloc())?);
     assert!(rt; nodes_are_told_of_the_cable(rt.alloc())?);
     assert!(rt; nodes_are_told_of_where_they_asked(rt.alloc())?);
+    assert!(rt; unsettled_ports_tell_nothing(rt.alloc())?);
     assert!(rt; lists_are_given(rt.alloc())?);
     assert!(rt; lists_are_kept_by_who_asked(rt.alloc())?);
     assert!(rt; zones_of_the_asker_are_given(rt.alloc())?);
@@ -82,6 +83,7 @@ fn a_router_asks_each_cable_for_names(rt: HostRuntime) -> Result<(), Fail> {
 #[test]
 fn a_port_answers_for_its_address(rt: HostRuntime) -> Result<(), Fail> {
     assert!(rt; ports_answer_for_their_addresses(rt.alloc())?);
+    assert!(rt; ports_keep_silent_before(rt.alloc())?);
     Ok(())
 }
 

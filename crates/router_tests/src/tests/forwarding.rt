@@ -51,25 +51,29 @@ pub(crate) fn datagrams_go_to_the_next_router(alloc: Global) -> Result<bool, Err
 
 /// Frames to several stations aren't passed on, to whatever network.
 pub(crate) fn frames_to_several_are_not_passed_on(alloc: Global) -> Result<bool, Error> {
-    let mut router = lab(alloc)?;
     let every_node = with(&[(8, 0xFF)]);
     let own = with(&[(5, 0x0A), (8, 0x01)]);
-    for link in [Link::All, Link::Group(56), Link::Group(118)] {
-        for bytes in [&PING, &own] {
-            let heard = Heard {
-                link,
-                ..sent(bytes)
-            };
-            if !hears(alloc, &mut router, &heard, &[])? {
-                return Ok(false);
-            }
+    let (red, blue) = (Link::Group(56), Link::Group(118));
+    let steps: [(Link, &[u8]); 7] = [
+        (Link::All, &PING),
+        (Link::All, &own),
+        (red, &PING),
+        (red, &own),
+        (blue, &PING),
+        (blue, &own),
+        (red, &every_node),
+    ];
+    let mut router = lab(alloc)?;
+    for (link, bytes) in steps {
+        let heard = Heard {
+            link,
+            ..sent(bytes)
+        };
+        if !hears(alloc, &mut router, &heard, &[])? {
+            return Ok(false);
         }
     }
-    let heard = Heard {
-        link: Link::Group(56),
-        ..sent(&every_node)
-    };
-    hears(alloc, &mut router, &heard, &[])
+    Ok(true)
 }
 
 /// Networks without a row, and nodes of a cable that the router is on. A datagram on the way to
@@ -141,27 +145,33 @@ pub(crate) fn far_addresses_are_the_routers(alloc: Global) -> Result<bool, Error
 
 /// What can't be read, and what is of no type and socket that the router serves.
 pub(crate) fn other_bytes_are_ignored(alloc: Global) -> Result<bool, Error> {
-    let mut router = lab(alloc)?;
     let own = with(&[(5, 0x0A), (8, 0x01)]);
-    let mut steps = [own; 5];
-    steps[0][1] = 12;
-    steps[1][1] = 19;
-    steps[2][12] = 5;
-    steps[3][10] = 5;
-    steps[4][13] = 2;
-    for bytes in &steps {
-        if !hears(alloc, &mut router, &sent(bytes), &[])? {
-            return Ok(false);
-        }
-    }
+    let (mut short, mut long, mut kind, mut socket, mut function) = (own, own, own, own, own);
+    short[1] = 12;
+    long[1] = 19;
+    kind[12] = 5;
+    socket[10] = 5;
+    function[13] = 2;
     let aarp = Heard {
         kind: Kind::Aarp,
         ..sent(&PING)
     };
-    Ok(
-        hears(alloc, &mut router, &aarp, &[])?
-            && hears(alloc, &mut router, &sent(&[]), &[])?
-            && hears(alloc, &mut router, &sent(&PING[..12]), &[])?
-            && hears(alloc, &mut router, &sent(&PING[..17]), &[])?,
-    )
+    let steps = [
+        sent(&short),
+        sent(&long),
+        sent(&kind),
+        sent(&socket),
+        sent(&function),
+        aarp,
+        sent(&[]),
+        sent(&PING[..12]),
+        sent(&PING[..17]),
+    ];
+    let mut router = lab(alloc)?;
+    for heard in &steps {
+        if !hears(alloc, &mut router, heard, &[])? {
+            return Ok(false);
+        }
+    }
+    Ok(true)
 }

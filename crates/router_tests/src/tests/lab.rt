@@ -48,15 +48,24 @@ fn row(range: Range, distance: u8, port: u8, next: Addr) -> Row
 /// The zone lists of the three cables.
 fn zones(alloc: Global) -> Result<ZoneTable, Error> {
     let (red, blue) = (Name::new(b"Red")?, Name::new(b"Blue")?);
+    let (near, far, last) = (
+        Range::new(10, 19)?,
+        Range::new(20, 29)?,
+        Range::new(30, 39)?,
+    );
     let mut zones = ZoneTable::new(alloc)?;
-    zones.set(Range::new(10, 19)?, &[red])?;
-    zones.set(Range::new(20, 29)?, &[red, blue])?;
-    zones.set(Range::new(30, 39)?, &[blue])?;
+    zones.set(near, &[red])?;
+    zones.set(far, &[red, blue])?;
+    zones.set(last, &[blue])?;
     Ok(zones)
 }
 
 fn made(alloc: Global) -> Result<Lab, Error> {
-    let (near, far) = (Range::new(10, 19)?, Range::new(20, 29)?);
+    let (near, far, last) = (
+        Range::new(10, 19)?,
+        Range::new(20, 29)?,
+        Range::new(30, 39)?,
+    );
     let plans = [
         PortPlan {
             range: near,
@@ -74,7 +83,7 @@ fn made(alloc: Global) -> Result<Lab, Error> {
     let rows = [
         row(near, 0, 0, Addr::NONE),
         row(far, 0, 1, Addr::NONE),
-        row(Range::new(30, 39)?, 1, 1, Addr { net: 20, node: 2 }),
+        row(last, 1, 1, Addr { net: 20, node: 2 }),
     ];
     let mut routes = PlainTable::empty(alloc)?;
     routes.load(&rows)?;
@@ -90,7 +99,11 @@ pub(crate) fn lab(alloc: Global) -> Result<Lab, Error> {
 }
 
 fn unsettled_once(alloc: Global) -> Result<Lab, Error> {
-    let (near, far) = (Range::new(10, 19)?, Range::new(20, 29)?);
+    let (near, far, last) = (
+        Range::new(10, 19)?,
+        Range::new(20, 29)?,
+        Range::new(30, 39)?,
+    );
     let plans = [
         PortPlan {
             range: near,
@@ -108,7 +121,7 @@ fn unsettled_once(alloc: Global) -> Result<Lab, Error> {
     let rows = [
         row(near, 0, 0, Addr::NONE),
         row(far, 0, 1, Addr::NONE),
-        row(Range::new(30, 39)?, 1, 1, Addr { net: 20, node: 2 }),
+        row(last, 1, 1, Addr { net: 20, node: 2 }),
     ];
     let mut routes = PlainTable::empty(alloc)?;
     routes.load(&rows)?;
@@ -184,6 +197,42 @@ pub(crate) fn sent(bytes: &[u8]) -> Heard<'_> {
         link: Link::Own,
         kind: Kind::Ddp,
         bytes,
+    }
+}
+
+/// Whether the router puts these out for a datagram that comes on this port.
+pub(crate) fn hears_on(
+    alloc: Global,
+    router: &mut Lab,
+    port: u8,
+    link: Link,
+    bytes: &[u8],
+    wants: &[Want<'_>],
+) -> Result<bool, Error> {
+    let heard = Heard {
+        port,
+        link,
+        ..sent(bytes)
+    };
+    hears(alloc, router, &heard, wants)
+}
+
+/// Whether the router puts these out, at most two, for a datagram that comes on this port.
+pub(crate) fn puts_out(
+    alloc: Global,
+    router: &mut Lab,
+    port: u8,
+    link: Link,
+    bytes: &[u8],
+    first: Option<Want<'_>>,
+    second: Option<Want<'_>>,
+) -> Result<bool, Error> {
+    match (first, second) {
+        (Some(first), Some(second)) => {
+            hears_on(alloc, router, port, link, bytes, &[first, second])
+        }
+        (Some(first), None) => hears_on(alloc, router, port, link, bytes, &[first]),
+        _ => hears_on(alloc, router, port, link, bytes, &[]),
     }
 }
 

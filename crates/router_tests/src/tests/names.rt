@@ -1,8 +1,8 @@
 //! What the router makes of requests for names.
 
-use crate::tests::lab::{SECOND, Want, answers, hears, lab, sent, unsettled};
+use crate::tests::lab::{SECOND, Want, answers, hears, lab, puts_out, sent, unsettled};
 use at_base::Error;
-use station::{Heard, Link, Next};
+use station::{Link, Next};
 use std::alloc::Global;
 
 /// A broadcast request of 10.7 for all names of the zone `blue`.
@@ -137,26 +137,27 @@ pub(crate) fn unsettled_ports_ask_nothing(alloc: Global) -> Result<bool, Error> 
 /// Requests to every node are heard by nodes alone; one that is passed to every node of the far
 /// cable is no more.
 pub(crate) fn requests_to_all_are_ignored(alloc: Global) -> Result<bool, Error> {
-    let mut router = lab(alloc)?;
     let mut all = REQUEST;
     (all[5], all[8]) = (0x00, 0xFF);
-    let mut forward = all;
+    let (mut forward, mut far) = (all, REQUEST);
     forward[13] = 0x41;
-    for bytes in [&REQUEST, &all, &forward] {
-        let heard = Heard {
-            link: Link::All,
-            ..sent(bytes)
-        };
-        if !hears(alloc, &mut router, &heard, &[])? {
-            return Ok(false);
-        }
-    }
-    let mut far = REQUEST;
     (far[5], far[8]) = (0x14, 0xFF);
     let mut passed = far;
     passed[0] = 0x04;
-    let to_all = [Want::Passed(1, Next::All, &passed)];
-    hears(alloc, &mut router, &sent(&far), &to_all)
+    let to_all = Want::Passed(1, Next::All, &passed);
+    let steps: [(Link, &[u8], Option<Want<'_>>); 4] = [
+        (Link::All, &REQUEST, None),
+        (Link::All, &all, None),
+        (Link::All, &forward, None),
+        (Link::Own, &far, Some(to_all)),
+    ];
+    let mut router = lab(alloc)?;
+    for (link, bytes, want) in steps {
+        if !puts_out(alloc, &mut router, 0, link, bytes, want, None)? {
+            return Ok(false);
+        }
+    }
+    Ok(true)
 }
 
 /// A forward request to a cable of the router is looked up there; lookups and replies to it are

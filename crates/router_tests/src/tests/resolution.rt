@@ -19,9 +19,18 @@ const RESPONSE: [u8; 28] = [
     0x02, 0x00, 0x00, 0x00, 0x00, 0x07, 0x00, 0x00, 0x0A, 0x07, // to 10.7
 ];
 
-/// A port answers for its own address alone, once it is settled.
+/// An AARP packet that comes on a port in a frame to all.
+fn heard_on(port: u8, bytes: &[u8]) -> Heard<'_> {
+    Heard {
+        port,
+        link: Link::All,
+        kind: Kind::Aarp,
+        ..sent(bytes)
+    }
+}
+
+/// A port answers for its own address alone.
 pub(crate) fn ports_answer_for_their_addresses(alloc: Global) -> Result<bool, Error> {
-    let mut router = lab(alloc)?;
     let asker = Hw([2, 0, 0, 0, 0, 7]);
     let mut probe = REQUEST;
     probe[7] = 3;
@@ -42,21 +51,17 @@ pub(crate) fn ports_answer_for_their_addresses(alloc: Global) -> Result<bool, Er
         (0, &wrong, &[]),
         (0, &REQUEST[..27], &[]),
     ];
+    let mut router = lab(alloc)?;
     for (port, bytes, wants) in steps {
-        let heard = Heard {
-            port,
-            link: Link::All,
-            kind: Kind::Aarp,
-            ..sent(bytes)
-        };
-        if !hears(alloc, &mut router, &heard, wants)? {
+        if !hears(alloc, &mut router, &heard_on(port, bytes), wants)? {
             return Ok(false);
         }
     }
-    let heard = Heard {
-        link: Link::All,
-        kind: Kind::Aarp,
-        ..sent(&REQUEST)
-    };
-    hears(alloc, &mut unsettled(alloc)?, &heard, &[])
+    Ok(true)
+}
+
+/// A port that tries the address doesn't answer for it yet.
+pub(crate) fn ports_keep_silent_before(alloc: Global) -> Result<bool, Error> {
+    let mut router = unsettled(alloc)?;
+    hears(alloc, &mut router, &heard_on(0, &REQUEST), &[])
 }

@@ -1,8 +1,10 @@
 //! What the router answers about zones, and to echoes.
 
-use crate::tests::lab::{ASKER, Lab, SECOND, Want, answers, hears, lab, pass, sent, unsettled};
+use crate::tests::lab::{
+    ASKER, Lab, SECOND, Want, answers, hears, hears_on, lab, pass, puts_out, sent, unsettled,
+};
 use at_base::{Addr, Error};
-use station::{Heard, Link, Next};
+use station::{Link, Next};
 use std::alloc::Global;
 
 /// A query for the networks 30 and 20, from 10.7 to 10.1.
@@ -46,28 +48,22 @@ const TOLD: [u8; 30] = [
     0x38,
 ];
 
-/// A node that has no network of the cable yet is told by all.
+/// A node that has no network of the cable yet, FF00.7, is told by all, at 0.255.
 pub(crate) fn nodes_are_told_of_the_cable(alloc: Global) -> Result<bool, Error> {
+    let (mut far, mut want) = (INFO, TOLD);
+    (far[6], far[7]) = (0xFF, 0x00);
+    (want[5], want[8]) = (0x00, 0xFF);
+    let steps: [(&[u8], Want<'_>); 2] = [
+        (&INFO, Want::Made(0, ASKER, &TOLD)),
+        (&far, Want::Made(0, Next::All, &want)),
+    ];
     let mut router = lab(alloc)?;
-    let told = [Want::Made(0, ASKER, &TOLD)];
-    let all = Heard {
-        link: Link::All,
-        ..sent(&INFO)
-    };
-    if !hears(alloc, &mut router, &all, &told)? {
-        return Ok(false);
+    for (bytes, told) in steps {
+        if !hears_on(alloc, &mut router, 0, Link::All, bytes, &[told])? {
+            return Ok(false);
+        }
     }
-    // from FF00.7, and so to 0.255
-    let (mut bytes, mut want) = (INFO, TOLD);
-    bytes[6] = 0xFF;
-    bytes[7] = 0x00;
-    want[5] = 0x00;
-    want[8] = 0xFF;
-    let far = Heard {
-        link: Link::All,
-        ..sent(&bytes)
-    };
-    hears(alloc, &mut router, &far, &[Want::Made(0, Next::All, &want)])
+    Ok(true)
 }
 
 /// Red is one of two zones of 20-29; a node without a network of it is told by all of it, of which
@@ -78,27 +74,9 @@ const FAR_TOLD: [u8; 30] = [
     0x38,
 ];
 
-/// Whether the router puts these out for a datagram that comes on this port.
-fn hears_on(
-    alloc: Global,
-    router: &mut Lab,
-    port: u8,
-    link: Link,
-    bytes: &[u8],
-    wants: &[Want<'_>],
-) -> Result<bool, Error> {
-    let heard = Heard {
-        port,
-        link,
-        ..sent(bytes)
-    };
-    hears(alloc, router, &heard, wants)
-}
-
 /// A node is told of the cable on which its question ended, from the port there. Node 0 and the
-/// router's own addresses are told nothing, nor is anyone by a port without an address.
+/// router's own addresses are told nothing.
 pub(crate) fn nodes_are_told_of_where_they_asked(alloc: Global) -> Result<bool, Error> {
-    let mut router = lab(alloc)?;
     let (mut asked, mut far, mut near) = (INFO, INFO, FAR_TOLD);
     (asked[5], asked[8]) = (0x14, 0x01);
     far[7] = 0x14;
@@ -106,16 +84,27 @@ pub(crate) fn nodes_are_told_of_where_they_asked(alloc: Global) -> Result<bool, 
     let (mut nobody, mut own) = (INFO, INFO);
     (nobody[9], own[9]) = (0x00, 0x01);
     let there = Next::Station(Addr { net: 20, node: 7 });
-    let over = [Want::Kept(1, &asked), Want::Made(1, Next::All, &FAR_TOLD)];
-    let by_all = [Want::Made(1, there, &near)];
-    let mut tries = unsettled(alloc)?;
-    Ok(
-        hears_on(alloc, &mut router, 0, Link::Own, &asked, &over)?
-            && hears_on(alloc, &mut router, 1, Link::All, &far, &by_all)?
-            && hears_on(alloc, &mut router, 0, Link::All, &nobody, &[])?
-            && hears_on(alloc, &mut router, 0, Link::All, &own, &[])?
-            && hears_on(alloc, &mut tries, 0, Link::All, &INFO, &[])?,
-    )
+    let (kept, over) = (Want::Kept(1, &asked), Want::Made(1, Next::All, &FAR_TOLD));
+    let by_all = Want::Made(1, there, &near);
+    let steps: [(u8, Link, &[u8], Option<Want<'_>>, Option<Want<'_>>); 4] = [
+        (0, Link::Own, &asked, Some(kept), Some(over)),
+        (1, Link::All, &far, Some(by_all), None),
+        (0, Link::All, &nobody, None, None),
+        (0, Link::All, &own, None, None),
+    ];
+    let mut router = lab(alloc)?;
+    for (port, link, bytes, first, second) in steps {
+        if !puts_out(alloc, &mut router, port, link, bytes, first, second)? {
+            return Ok(false);
+        }
+    }
+    Ok(true)
+}
+
+/// Nor is anyone told anything by a port without an address.
+pub(crate) fn unsettled_ports_tell_nothing(alloc: Global) -> Result<bool, Error> {
+    let mut router = unsettled(alloc)?;
+    hears_on(alloc, &mut router, 0, Link::All, &INFO, &[])
 }
 
 /// A transaction that asks for the list of all zones, from the first on.
@@ -154,43 +143,45 @@ pub(crate) fn zones_of_the_asker_are_given(alloc: Global) -> Result<bool, Error>
 /// A list is given again where it is asked for again, also in a transaction that is carried out
 /// once, and after its release; and to who asks every node of the cable.
 pub(crate) fn lists_are_given(alloc: Global) -> Result<bool, Error> {
-    let mut router = lab(alloc)?;
     let list = [Want::Made(0, ASKER, &LISTED)];
-    let mut once = LIST;
+    let (mut once, mut release, mut other, mut all) = (LIST, LIST, LIST, LIST);
     once[13] = 0x60;
-    let mut release = LIST;
     release[13] = 0xC0;
-    let mut other = LIST;
     other[17] = 0x0A;
-    let steps: [(&[u8], &[Want<'_>]); 6] = [
-        (&LIST, &list),
-        (&once, &list),
-        (&once, &list),
-        (&release, &[]),
-        (&once, &list),
-        (&other, &[]),
+    all[8] = 0xFF;
+    let steps: [(Link, &[u8], &[Want<'_>]); 7] = [
+        (Link::Own, &LIST, &list),
+        (Link::Own, &once, &list),
+        (Link::Own, &once, &list),
+        (Link::Own, &release, &[]),
+        (Link::Own, &once, &list),
+        (Link::Own, &other, &[]),
+        (Link::All, &all, &list),
     ];
-    for (bytes, wants) in steps {
-        if !hears(alloc, &mut router, &sent(bytes), wants)? {
+    let mut router = lab(alloc)?;
+    for (link, bytes, wants) in steps {
+        if !hears_on(alloc, &mut router, 0, link, bytes, wants)? {
             return Ok(false);
         }
     }
-    let mut all = LIST;
-    all[8] = 0xFF;
-    hears_on(alloc, &mut router, 0, Link::All, &all, &list)
+    Ok(true)
 }
 
-/// Whether the router, after 160 ticks, puts these out for a datagram.
-fn gives(alloc: Global, router: &mut Lab, bytes: &[u8], wants: &[Want<'_>]) -> Result<bool, Error> {
+/// Whether the router, after 160 ticks, puts this out for a datagram.
+fn gives(
+    alloc: Global,
+    router: &mut Lab,
+    bytes: &[u8],
+    want: Option<Want<'_>>,
+) -> Result<bool, Error> {
     pass(alloc, router)?;
-    hears(alloc, router, &sent(bytes), wants)
+    puts_out(alloc, router, 0, Link::Own, bytes, want, None)
 }
 
 /// The list of a transaction that is carried out once is kept by who asked, and given again to each
 /// request of the same ID, whatever it asks for, in whatever tick. That of another socket is its
 /// own, and so is its release.
 pub(crate) fn lists_are_kept_by_who_asked(alloc: Global) -> Result<bool, Error> {
-    let mut router = lab(alloc)?;
     let (mut once, mut blue) = (LIST, BLUE_LISTED);
     once[13] = 0x60;
     (blue[5], blue[8]) = (0x0A, 0x07);
@@ -199,19 +190,26 @@ pub(crate) fn lists_are_kept_by_who_asked(alloc: Global) -> Result<bool, Error> 
     (other[11], others[10]) = (0x81, 0x81);
     let (mut release, mut others_release) = (LIST, LIST);
     (release[13], others_release[13], others_release[11]) = (0xC0, 0xC0, 0x81);
-    let list = [Want::Made(0, ASKER, &LISTED)];
-    let from_second = [Want::Made(0, ASKER, &blue)];
-    let for_other = [Want::Made(0, ASKER, &others)];
-    Ok(
-        gives(alloc, &mut router, &once, &list)?
-            && gives(alloc, &mut router, &other, &for_other)?
-            && gives(alloc, &mut router, &second, &list)?
-            && gives(alloc, &mut router, &others_release, &[])?
-            && gives(alloc, &mut router, &second, &list)?
-            && gives(alloc, &mut router, &release, &[])?
-            && gives(alloc, &mut router, &second, &from_second)?
-            && gives(alloc, &mut router, &once, &from_second)?,
-    )
+    let list = Some(Want::Made(0, ASKER, &LISTED));
+    let from_second = Some(Want::Made(0, ASKER, &blue));
+    let for_other = Some(Want::Made(0, ASKER, &others));
+    let steps: [(&[u8], Option<Want<'_>>); 8] = [
+        (&once, list),
+        (&other, for_other),
+        (&second, list),
+        (&others_release, None),
+        (&second, list),
+        (&release, None),
+        (&second, from_second),
+        (&once, from_second),
+    ];
+    let mut router = lab(alloc)?;
+    for (bytes, want) in steps {
+        if !gives(alloc, &mut router, bytes, want)? {
+            return Ok(false);
+        }
+    }
+    Ok(true)
 }
 
 // ---- Echoes
@@ -252,7 +250,6 @@ pub(crate) fn echoes_come_from_the_address_asked(alloc: Global) -> Result<bool, 
 /// A request to network 0, after 15 hops, with padding, or to every node of whatever network in a
 /// frame to all is answered from the port on which it came; the far port's address is no other.
 pub(crate) fn echoes_end_at_the_router(alloc: Global) -> Result<bool, Error> {
-    let mut router = lab(alloc)?;
     let (mut here, mut late, mut all, mut far, mut back) = (PING, PING, PING, PING, PONG);
     let mut foreign = PING;
     (foreign[5], foreign[8]) = (0x32, 0xFF);
@@ -263,46 +260,54 @@ pub(crate) fn echoes_end_at_the_router(alloc: Global) -> Result<bool, Error> {
     back[7] = 0x14;
     let mut padded = [0x05; 20];
     padded[..18].copy_from_slice(&PING);
-    let pong = [Want::Made(0, ASKER, &PONG)];
-    let from_far = [Want::Made(0, ASKER, &back)];
-    let kept = [Want::Kept(0, &PING), Want::Made(0, ASKER, &PONG)];
-    Ok(
-        hears_on(alloc, &mut router, 0, Link::Own, &here, &pong)?
-            && hears_on(alloc, &mut router, 0, Link::Own, &late, &pong)?
-            && hears_on(alloc, &mut router, 0, Link::Own, &padded, &pong)?
-            && hears_on(alloc, &mut router, 0, Link::All, &all, &pong)?
-            && hears_on(alloc, &mut router, 0, Link::All, &foreign, &pong)?
-            && hears_on(alloc, &mut router, 1, Link::Own, &far, &from_far)?
-            && hears_on(alloc, &mut router, 1, Link::Own, &PING, &kept)?,
-    )
-}
-
-/// What 10.1 sends to the far port, with the reply.
-fn tried(alloc: Global, router: &mut Lab) -> Result<bool, Error> {
-    let (mut bytes, mut back) = (PING, PONG);
-    (bytes[5], bytes[9]) = (0x14, 0x01);
-    (back[7], back[8]) = (0x14, 0x01);
-    let next = Next::Station(Addr { net: 10, node: 1 });
-    let wants = [Want::Kept(1, &bytes), Want::Made(0, next, &back)];
-    hears(alloc, router, &sent(&bytes), &wants)
+    let pong = Some(Want::Made(0, ASKER, &PONG));
+    let from_far = Some(Want::Made(0, ASKER, &back));
+    let kept = Some(Want::Kept(0, &PING));
+    let steps: [(u8, Link, &[u8], Option<Want<'_>>, Option<Want<'_>>); 7] = [
+        (0, Link::Own, &here, pong, None),
+        (0, Link::Own, &late, pong, None),
+        (0, Link::Own, &padded, pong, None),
+        (0, Link::All, &all, pong, None),
+        (0, Link::All, &foreign, pong, None),
+        (1, Link::Own, &far, from_far, None),
+        (1, Link::Own, &PING, kept, pong),
+    ];
+    let mut router = lab(alloc)?;
+    for (port, link, bytes, first, second) in steps {
+        if !puts_out(alloc, &mut router, port, link, bytes, first, second)? {
+            return Ok(false);
+        }
+    }
+    Ok(true)
 }
 
 /// The address that a port only tries isn't the router's: what is for it is passed to it, and it is
 /// replied to. Nothing comes from it.
 pub(crate) fn tried_addresses_are_no_ports(alloc: Global) -> Result<bool, Error> {
-    let mut router = unsettled(alloc)?;
     let (mut passed, mut all, mut any) = (PING, PING, PING);
     passed[0] = 0x04;
     (all[8], any[8]) = (0xFF, 0x00);
     let next = Next::Station(Addr { net: 10, node: 1 });
-    let to_it = [Want::Passed(0, next, &passed)];
-    let kept = [Want::Kept(0, &any)];
-    Ok(
-        hears_on(alloc, &mut router, 0, Link::Own, &PING, &to_it)?
-            && hears_on(alloc, &mut router, 0, Link::All, &all, &[])?
-            && hears_on(alloc, &mut router, 0, Link::Own, &any, &kept)?
-            && tried(alloc, &mut router)?,
-    )
+    let to_it = Some(Want::Passed(0, next, &passed));
+    let kept = Some(Want::Kept(0, &any));
+    // What 10.1 sends to the far port, with the reply.
+    let (mut over, mut back) = (PING, PONG);
+    (over[5], over[9]) = (0x14, 0x01);
+    (back[7], back[8]) = (0x14, 0x01);
+    let (ended, replied) = (Some(Want::Kept(1, &over)), Some(Want::Made(0, next, &back)));
+    let steps: [(Link, &[u8], Option<Want<'_>>, Option<Want<'_>>); 4] = [
+        (Link::Own, &PING, to_it, None),
+        (Link::All, &all, None, None),
+        (Link::Own, &any, kept, None),
+        (Link::Own, &over, ended, replied),
+    ];
+    let mut router = unsettled(alloc)?;
+    for (link, bytes, first, second) in steps {
+        if !puts_out(alloc, &mut router, 0, link, bytes, first, second)? {
+            return Ok(false);
+        }
+    }
+    Ok(true)
 }
 
 /// Who asked, and where the reply goes then.
