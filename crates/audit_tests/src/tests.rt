@@ -5,6 +5,7 @@ mod cases;
 mod images;
 mod lines;
 mod nodes;
+mod ports;
 mod readme;
 mod stations;
 mod verdicts;
@@ -15,14 +16,15 @@ use audit::{
     each_step, loops_have_no_walk, nodes_are_served, one_walk_home, seats_are_unique,
     the_example_passes, unlisted_is_nowhere, words_exclude,
 };
-use example_images::three_cables::{FIRST_PORT_1, FIRST_PORTS, FIRST_ROWS, image};
+use example_images::three_cables::image;
 use example_images::three_cables_bytes as at;
 use images::{
-    BOTH, CABLES, SECOND, YES, change, changed, check_each, line_of_bytes, line_of_cable,
-    line_of_parts, with_row,
+    BOTH, SECOND, YES, change, changed, check_each, line_of_bytes, line_of_cable, line_of_two,
+    with_row,
 };
 use lines::line_again;
 use nodes::line_of_nodes;
+use ports::line_of_third;
 use readme::report;
 use stations::{line_of_rows, line_of_stations};
 use std::alloc::Global;
@@ -216,10 +218,7 @@ fn rules_are_tried_in_their_order(rt: HostRuntime) -> Result<(), Fail> {
 
 #[test]
 fn a_missing_cable_comes_after_the_rows(rt: HostRuntime) -> Result<(), Fail> {
-    let good = with_row(2, 0);
-    let bad = with_row(3, 2);
-    let good = good.as_slice();
-    let bad = bad.as_slice();
+    let (good, bad): (&[u8], &[u8]) = (&with_row(2, 0), &with_row(3, 2));
     for (first, second, want) in [
         (BOTH.as_slice(), good, "no: C3 router 2 cable 2"),
         (good, BOTH.as_slice(), "no: C3 router 1 cable 2"),
@@ -227,8 +226,7 @@ fn a_missing_cable_comes_after_the_rows(rt: HostRuntime) -> Result<(), Fail> {
         (bad, good, "no: C3 router 1 row 1"),
         ([0, 0, 0].as_slice(), bad, "no: C3 router 1 cable 1"),
     ] {
-        let parts = [CABLES.as_slice(), first, second, [0].as_slice()];
-        let line = line_of_parts(rt.alloc(), parts.as_slice())?;
+        let line = line_of_two(rt.alloc(), first, second)?;
         assert_eq!(rt; line.as_str(), want);
     }
     Ok(())
@@ -236,21 +234,11 @@ fn a_missing_cable_comes_after_the_rows(rt: HostRuntime) -> Result<(), Fail> {
 
 #[test]
 fn a_router_has_one_port_on_a_cable(rt: HostRuntime) -> Result<(), Fail> {
-    // The first router with a third port, on its first cable, and on the last one.
-    let bytes = image();
     for (cable, net, want) in [
         (0, 10, "no: C2 router 1 port 3"),
         (2, 30, "no: C4 router 1 row 3"),
     ] {
-        let third = [cable, 0, net, 9, 2, 0, 0, 0, 0, 9];
-        let parts = [
-            &bytes[..FIRST_PORTS],
-            [3].as_slice(),
-            &bytes[FIRST_PORT_1..FIRST_ROWS],
-            third.as_slice(),
-            &bytes[FIRST_ROWS..],
-        ];
-        let line = line_of_parts(rt.alloc(), parts.as_slice())?;
+        let line = line_of_third(rt.alloc(), cable, net)?;
         assert_eq!(rt; line.as_str(), want);
     }
     Ok(())
@@ -260,9 +248,7 @@ fn a_router_has_one_port_on_a_cable(rt: HostRuntime) -> Result<(), Fail> {
 fn any_router_may_miss_any_cable(rt: HostRuntime) -> Result<(), Fail> {
     // Three routers, each with rows for those of the cables 1 to 3 that are listed.
     let all = [1, 2, 3].as_slice();
-    let no_1 = [2, 3].as_slice();
-    let no_2 = [1, 3].as_slice();
-    let no_3 = [1, 2].as_slice();
+    let (no_1, no_2, no_3) = ([2, 3].as_slice(), [1, 3].as_slice(), [1, 2].as_slice());
     for (first, second, third, want) in [
         (all, all, no_1, "no: C3 router 3 cable 1"),
         (all, all, no_2, "no: C3 router 3 cable 2"),
@@ -286,8 +272,7 @@ fn the_greatest_distance_is_that_of_any_router(rt: HostRuntime) -> Result<(), Fa
         (BOTH.as_slice(), SECOND.as_slice()),
         (SECOND.as_slice(), BOTH.as_slice()),
     ] {
-        let parts = [CABLES.as_slice(), first, second, [0].as_slice()];
-        let line = line_of_parts(rt.alloc(), parts.as_slice())?;
+        let line = line_of_two(rt.alloc(), first, second)?;
         assert_eq!(rt; line.as_str(), want);
     }
     Ok(())

@@ -79,7 +79,7 @@ pub(crate) fn line_of_cable(alloc: Global, zones: &[u8]) -> Result<String, Error
 }
 
 /// The cables 10-19 and 20-29, and how many routers follow.
-pub(crate) const CABLES: [u8; 21] = [
+const CABLES: [u8; 21] = [
     0x41, 0x54, 0x49, 0x4D, 1, 2, 0, 10, 0, 19, 1, 1, b'Z', 0, 20, 0, 29, 1, 1, b'Z', 2,
 ];
 
@@ -96,6 +96,12 @@ pub(crate) const SECOND: [u8; 49] = [
     1, 1, 0, 20, 2, 2, 0, 0, 0, 0, 3, 2, 0, 10, 0, 19, 1, 0, 0, 20, 1, 0, 0, 20, 0, 29, 0, 0, 0, 0,
     0, 0, 2, 0, 10, 0, 19, 1, 1, 1, b'Z', 0, 20, 0, 29, 1, 1, 1, b'Z',
 ];
+
+/// The verdict line of the two cables with these two routers.
+pub(crate) fn line_of_two(alloc: Global, first: &[u8], second: &[u8]) -> Result<String, Error> {
+    let parts = [CABLES.as_slice(), first, second, [0].as_slice()];
+    line_of_parts(alloc, parts.as_slice())
+}
 
 /// A router on the first, and its one row is for that, in this state.
 pub(crate) fn with_row(node: u8, state: u8) -> [u8; 23] {

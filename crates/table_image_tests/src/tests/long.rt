@@ -77,15 +77,23 @@ fn row() -> Row {
     }
 }
 
-fn router(alloc: Global, ports: u8, rows: u8, lists: u8, zones: u8) -> Result<Router, Error> {
-    let mut zone_lists = Vec::new(alloc);
+fn zone_lists(alloc: Global, lists: u8, zones: u8) -> Result<Listed<ZoneList>, Error> {
+    let mut made = Vec::new(alloc);
     for _ in 0..lists {
-        zone_lists.push(zone_list(alloc, zones)?)?;
+        made.push(zone_list(alloc, zones)?)?;
     }
+    Ok(Listed::from_vec(made))
+}
+
+/// How many ports, rows and zone lists a router has, and zones each of these lists.
+type Parts = (u8, u8, u8, u8);
+
+fn router(alloc: Global, parts: Parts) -> Result<Router, Error> {
+    let (ports, rows, lists, zones) = parts;
     Ok(Router {
         ports: copies(alloc, port(), ports)?,
         rows: copies(alloc, row(), rows)?,
-        lists: Listed::from_vec(zone_lists),
+        lists: zone_lists(alloc, lists, zones)?,
     })
 }
 
@@ -106,6 +114,30 @@ fn node(alloc: Global, names: u8) -> Result<Node, Error> {
     })
 }
 
+fn all_cables(alloc: Global, count: u8, zones: u8) -> Result<Vec<Cable>, Error> {
+    let mut cables = Vec::new(alloc);
+    for _ in 0..count {
+        cables.push(cable(alloc, zones)?)?;
+    }
+    Ok(cables)
+}
+
+fn all_routers(alloc: Global, count: u8, parts: Parts) -> Result<Vec<Router>, Error> {
+    let mut routers = Vec::new(alloc);
+    for _ in 0..count {
+        routers.push(router(alloc, parts)?)?;
+    }
+    Ok(routers)
+}
+
+fn all_nodes(alloc: Global, count: u8, names: u8) -> Result<Vec<Node>, Error> {
+    let mut nodes = Vec::new(alloc);
+    for _ in 0..count {
+        nodes.push(node(alloc, names)?)?;
+    }
+    Ok(nodes)
+}
+
 /// What `Image::make` answers to a cable, a router and a node, of which one list is too long.
 fn with_too_long(alloc: Global, list: TooLong) -> Result<Image, Error> {
     let (mut cables, mut zones, mut routers, mut nodes, mut names) = (1, 1, 1, 1, 1);
@@ -121,19 +153,11 @@ fn with_too_long(alloc: Global, list: TooLong) -> Result<Image, Error> {
         TooLong::Nodes => nodes = 201,
         TooLong::Names => names = 33,
     }
-    let mut all_cables = Vec::new(alloc);
-    for _ in 0..cables {
-        all_cables.push(cable(alloc, zones)?)?;
-    }
-    let mut all_routers = Vec::new(alloc);
-    for _ in 0..routers {
-        all_routers.push(router(alloc, ports, rows, lists, listed)?)?;
-    }
-    let mut all_nodes = Vec::new(alloc);
-    for _ in 0..nodes {
-        all_nodes.push(node(alloc, names)?)?;
-    }
-    Image::make(all_cables, all_routers, all_nodes)
+    Image::make(
+        all_cables(alloc, cables, zones)?,
+        all_routers(alloc, routers, (ports, rows, lists, listed))?,
+        all_nodes(alloc, nodes, names)?,
+    )
 }
 
 /// What `Image::make` answers to parts with such a list, called again where memory was refused.

@@ -217,10 +217,15 @@ fn red_cable(alloc: Global) -> Result<Cable, Error> {
     })
 }
 
-fn made(alloc: Global) -> Result<Image, Error> {
+/// That cable alone.
+fn cables(alloc: Global) -> Result<Vec<Cable>, Error> {
     let mut cables = Vec::new(alloc);
     cables.push(red_cable(alloc)?)?;
-    Image::make(cables, Vec::new(alloc), Vec::new(alloc))
+    Ok(cables)
+}
+
+fn made(alloc: Global) -> Result<Image, Error> {
+    Image::make(cables(alloc)?, Vec::new(alloc), Vec::new(alloc))
 }
 
 /// An internet of that cable alone, made again where memory was refused.
@@ -232,17 +237,18 @@ pub(crate) fn made_again(alloc: Global) -> Result<Image, Error> {
 }
 
 /// A router on no cable, with a row by a port that it doesn't have.
-fn made_with_a_lost_port(alloc: Global) -> Result<Image, Error> {
-    let mut cables = Vec::new(alloc);
-    cables.push(red_cable(alloc)?)?;
-    let router = Router {
+fn with_a_lost_port(alloc: Global) -> Result<Vec<Router>, Error> {
+    let mut routers = Vec::new(alloc);
+    routers.push(Router {
         ports: Listed::from_vec(Vec::new(alloc)),
         rows: Listed::one(row(10, 19, 0, 0, Addr::NONE, State::Good)),
         lists: Listed::from_vec(Vec::new(alloc)),
-    };
-    let mut routers = Vec::new(alloc);
-    routers.push(router)?;
-    Image::make(cables, routers, Vec::new(alloc))
+    })?;
+    Ok(routers)
+}
+
+fn made_with_a_lost_port(alloc: Global) -> Result<Image, Error> {
+    Image::make(cables(alloc)?, with_a_lost_port(alloc)?, Vec::new(alloc))
 }
 
 /// What such a router is refused for.

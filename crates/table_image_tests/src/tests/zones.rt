@@ -101,19 +101,29 @@ fn zone_list(alloc: Global, list: &WantedList<'_>) -> Result<ZoneList, Error> {
     })
 }
 
-/// An image of one router with these lists.
-fn image_of(alloc: Global, lists: &[WantedList<'_>]) -> Result<Image, Error> {
-    let mut zone_lists = Vec::new(alloc);
+fn zone_lists(alloc: Global, lists: &[WantedList<'_>]) -> Result<Listed<ZoneList>, Error> {
+    let mut made = Vec::new(alloc);
     for list in lists {
-        zone_lists.push(zone_list(alloc, list)?)?;
+        made.push(zone_list(alloc, list)?)?;
     }
+    Ok(Listed::from_vec(made))
+}
+
+/// A router with these lists.
+fn routers(alloc: Global, lists: &[WantedList<'_>]) -> Result<Vec<Router>, Error> {
+    let lists = zone_lists(alloc, lists)?;
     let mut routers = Vec::new(alloc);
     routers.push(Router {
         ports: Listed::from_vec(Vec::new(alloc)),
         rows: Listed::from_vec(Vec::new(alloc)),
-        lists: Listed::from_vec(zone_lists),
+        lists,
     })?;
-    Image::make(Vec::new(alloc), routers, Vec::new(alloc))
+    Ok(routers)
+}
+
+/// An image of such a router.
+fn image_of(alloc: Global, lists: &[WantedList<'_>]) -> Result<Image, Error> {
+    Image::make(Vec::new(alloc), routers(alloc, lists)?, Vec::new(alloc))
 }
 
 fn image_again(alloc: Global, lists: &[WantedList<'_>]) -> Result<Image, Error> {
@@ -225,13 +235,18 @@ fn add_again(table: &mut ZoneTable, range: Range, total: u8, name: &Name) -> Res
     }
 }
 
+/// The zone table of a router with these lists.
+fn table_of(alloc: Global, lists: &[WantedList<'_>]) -> Result<ZoneTable, Error> {
+    zones_again(alloc, &image_again(alloc, lists)?, 0)
+}
+
 /// A list of two names that isn't complete waits for a third one, of three in all. So a name of
 /// three makes it complete, and one of four would begin it again.
 pub(crate) fn waits_for_one_zone(alloc: Global) -> Result<bool, Error> {
-    let image = image_again(alloc, &[(10, 19, false, BOTH)])?;
-    let mut table = zones_again(alloc, &image, 0)?;
-    let before = table.complete(10);
-    add_again(&mut table, Range::new(10, 19)?, 3, &Name::new(b"Green")?)?;
+    let (range, green) = (Range::new(10, 19)?, Name::new(b"Green")?);
     let want: [WantedList<'_>; 1] = [(10, 19, true, &[b"Red", b"Blue", b"Green"])];
+    let mut table = table_of(alloc, &[(10, 19, false, BOTH)])?;
+    let before = table.complete(10);
+    add_again(&mut table, range, 3, &green)?;
     Ok(!before && are_lists(&table, &want)?)
 }
