@@ -8,15 +8,21 @@ use zip_zones::{Packet, ZoneTable, answer_query};
 
 /// 10-19 with Red, 20-29 with Red and Blue, 30-39 with Blue, and of 40-49 one of two zones.
 fn lists(alloc: Global) -> Result<ZoneTable, Error> {
+    let (red, blue) = (Name::new(b"Red")?, Name::new(b"Blue")?);
+    let (none, grey) = (again::range(50, 59)?, again::range(40, 49)?);
     let mut table = again::table(alloc)?;
-    let red = Name::new(b"Red")?;
-    let blue = Name::new(b"Blue")?;
-    again::set(&mut table, again::range(10, 19)?, &[red])?;
-    again::set(&mut table, again::range(20, 29)?, &[red, blue])?;
-    again::set(&mut table, again::range(30, 39)?, &[blue])?;
-    again::add(&mut table, again::range(40, 49)?, 2, &red)?;
-    again::set(&mut table, again::range(50, 59)?, &[])?;
+    set(&mut table, 10, &[red])?;
+    set(&mut table, 20, &[red, blue])?;
+    set(&mut table, 30, &[blue])?;
+    again::add(&mut table, grey, 2, &red)?;
+    again::set(&mut table, none, &[])?;
     Ok(table)
+}
+
+/// Sets the list of the ten networks from one on.
+fn set(table: &mut ZoneTable, start: u16, names: &[Name]) -> Result<(), Error> {
+    let range = again::range(start, start.saturating_add(9))?;
+    again::set(table, range, names)
 }
 
 fn once(alloc: Global, table: &ZoneTable, query: &[u8]) -> Result<Vec<Bytes>, Error> {
@@ -63,11 +69,17 @@ fn long_names() -> Result<[Name; 64], Error> {
     Ok(names)
 }
 
-/// The numbers of bytes of the replies about 64 zones with names of 32 bytes.
-pub(crate) fn are_split(alloc: Global) -> Result<bool, Error> {
+/// The replies about 64 zones with names of 32 bytes.
+fn long_replies(alloc: Global) -> Result<Vec<Bytes>, Error> {
+    let (names, range) = (long_names()?, again::range(1, 9)?);
     let mut table = again::table(alloc)?;
-    again::set(&mut table, again::range(1, 9)?, &long_names()?)?;
-    let made = replies(alloc, &table, &[1, 1, 0, 5])?;
+    again::set(&mut table, range, &names)?;
+    replies(alloc, &table, &[1, 1, 0, 5])
+}
+
+/// Whether each of the four has as many bytes as there is room for.
+pub(crate) fn are_split(alloc: Global) -> Result<bool, Error> {
+    let made = long_replies(alloc)?;
     for bytes in made.as_slice() {
         if bytes.len() != 562 || bytes.as_slice().get(..4) != Some([8, 64, 0, 5].as_slice()) {
             return Ok(false);

@@ -72,8 +72,17 @@ fn answer(
     }
 }
 
-/// Whether a router that knows Red of 10-19, and Blue and Red of 20-29, gives this answer to a node
-/// on a cable with these zones.
+/// Red of 10-19, and Blue and Red of 20-29.
+fn two_cables(alloc: Global) -> Result<ZoneTable, Error> {
+    let (near, far) = (again::range(10, 19)?, again::range(20, 29)?);
+    let (red, blue) = (Name::new(b"Red")?, Name::new(b"Blue")?);
+    let mut table = again::table(alloc)?;
+    again::set(&mut table, near, &[red])?;
+    again::set(&mut table, far, &[blue, red])?;
+    Ok(table)
+}
+
+/// Whether a router that knows these gives this answer to a node on a cable with these zones.
 pub(crate) fn is_answer(
     alloc: Global,
     request: (ZoneFunction, u16),
@@ -81,14 +90,6 @@ pub(crate) fn is_answer(
     user: [u8; 4],
     bytes: &[u8],
 ) -> Result<bool, Error> {
-    let mut table = again::table(alloc)?;
-    let red = Name::new(b"Red")?;
-    again::set(&mut table, again::range(10, 19)?, &[red])?;
-    again::set(
-        &mut table,
-        again::range(20, 29)?,
-        &[Name::new(b"Blue")?, red],
-    )?;
-    let page = answer(&table, alloc, request.0, request.1, local)?;
+    let page = answer(&two_cables(alloc)?, alloc, request.0, request.1, local)?;
     Ok(page.user() == user && page.bytes.as_slice() == bytes)
 }
