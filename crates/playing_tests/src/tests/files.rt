@@ -160,7 +160,8 @@ zone = "Blue"
 
 /// A fourth cable, beyond the third, which loses all from tick 101 on. The second node sends an
 /// echo to its far side in time. The first node asks its router for all zones, too early, before
-/// the router has heard of the fourth cable, and after that: the same request, carried out once.
+/// the router has heard of the fourth cable, and twice after that: the same request, carried out
+/// once.
 pub(crate) const FOURTH_CABLE: &[u8] = br#"[[cable]]
 range = [40, 49]
 zones = ["Green"]
@@ -170,7 +171,7 @@ port = [{cable = 3, hardware = "020000000008", try = ["30.2", "30.9"]},
 [[lose]]
 cable = 3
 first = 101
-last = 300
+last = 320
 [[action]]
 at = 5
 node = 1
@@ -199,7 +200,16 @@ source = 128
 type = 4
 hex = "0170696E67"
 [[action]]
-at = 200
+at = 160
+node = 1
+do = "send"
+to = "10.1"
+socket = 6
+source = 128
+type = 3
+hex = "6001000108000001"
+[[action]]
+at = 315
 node = 1
 do = "send"
 to = "10.1"

@@ -45,10 +45,12 @@ node 3 received 30.5 128 4 0270696E67
 yes: 3 cables, 2 routers, 3 nodes, 6 rows, greatest distance 1
 ";
 
-// The last page of two zones, Red and Blue; an answer is kept for 150 ticks, so the second time it
-// has three. The second router last heard of the fourth cable in tick 100: it calls it suspect in
-// tick 200, and in tick 300 bad, which it says at once.
+// The last page of two zones, Red and Blue. The router knows Green from tick 150 on; but an answer is
+// kept until it wasn't asked for in 150 ticks, so only the third time it has three zones. The second
+// router last heard of the fourth cable in tick 100: it calls it suspect in tick 200, and in tick 300
+// bad, which it says at once.
 const LOST: &[u8] = b"action 1 refused 8
+node 1 received 10.1 128 3 90000001010000020352656404426C7565
 node 1 received 10.1 128 3 90000001010000020352656404426C7565
 node 1 received 10.1 128 3 90000001010000030352656404426C756505477265656E
 node 2 received 40.1 128 4 0270696E67
@@ -132,7 +134,7 @@ pub(crate) const ROWS: [Row; 18] = [
         lines: THREE_NODES,
     },
     Row {
-        head: b"ticks = 300\n",
+        head: b"ticks = 320\n",
         zones: ZONES,
         tail: FOURTH_CABLE,
         answer: Ok(false),
