@@ -154,6 +154,11 @@ pub(crate) fn names_from(node: Addr, zone: &[u8]) -> Result<Event, Error> {
     asking(node, None, 1, [b"=", b"=", zone])
 }
 
+/// Lets an event happen.
+pub(crate) fn does(run: &mut Frozen<PlainTable>, event: Event) -> Result<(), Error> {
+    run.event(&event)
+}
+
 /// How often a datagram has reached a cable, counted from 0.
 pub(crate) fn reached(run: &Frozen<PlainTable>, cable: u8) -> usize {
     let mut count = 0;

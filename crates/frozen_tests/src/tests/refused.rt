@@ -1,7 +1,7 @@
 //! Events that are refused, and in which order their errors come.
 
 use super::lab::{
-    ASKER, FIRST, PRINTER, SECOND, asking, run_of, run_over, sending_by, sent_in, taking,
+    ASKER, FIRST, PRINTER, SECOND, asking, does, run_of, run_over, sending_by, sent_in, taking,
     without_router,
 };
 use at_base::{Addr, Error, Fault, Place, What};
@@ -91,7 +91,6 @@ pub(crate) fn requests_have_their_refusals(alloc: Global) -> Result<bool, Error>
 
 /// And of a taking, where a run has no more room.
 pub(crate) fn takings_have_their_refusals(alloc: Global) -> Result<bool, Error> {
-    let mut run = sent_in(alloc, 3)?;
     let nobody = Addr { net: 10, node: 9 };
     let takings = [
         (0, nobody, STATION),
@@ -99,8 +98,9 @@ pub(crate) fn takings_have_their_refusals(alloc: Global) -> Result<bool, Error> 
         (0, PRINTER, Error::NotPending),
         (0, SECOND, Error::Full),
     ];
+    let mut run = sent_in(alloc, 3)?;
     for (stamp, station, why) in takings {
-        if run.event(&taking(stamp, station)) != Err(why) {
+        if does(&mut run, taking(stamp, station)) != Err(why) {
             return Ok(false);
         }
     }
