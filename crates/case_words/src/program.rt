@@ -1,0 +1,46 @@
+//! A program of cases: it goes through the files that its arguments name.
+
+use crate::case_file::{Bench, compare};
+use std::rt::{Env, Files};
+use std::{env, fs, io};
+
+/// The text of a file, read once more where memory was refused.
+fn text_of<R: Files + AllocGlobal>(rt: &R, name: &str) -> Result<String, io::Error> {
+    match fs::read_to_string(rt, name) {
+        Ok(text) => Ok(text),
+        Err(_) => fs::read_to_string(rt, name),
+    }
+}
+
+/// Goes through the cases of a file, and prints how many lines were compared and how many differ.
+fn run_file<B: Bench, R: Files + Print + AllocGlobal>(rt: &R, name: &str) -> Result<(), io::Error> {
+    let text = text_of(rt, name)?;
+    let counts = compare::<B, R>(rt, rt.alloc(), name, text.as_str())?;
+    let (compared, differ) = (counts.compared, counts.differ);
+    println!(rt; "{name}: {compared} lines compared, {differ} differ")
+}
+
+fn names_once<R: Env + AllocGlobal>(rt: &R) -> Result<Vec<String>, io::Error> {
+    let mut names = Vec::new(rt.alloc());
+    for name in env::args(rt)?.skip(1) {
+        names.push(name)?;
+    }
+    Ok(names)
+}
+
+/// The arguments, asked for once more where memory was refused.
+fn names<R: Env + AllocGlobal>(rt: &R) -> Result<Vec<String>, io::Error> {
+    match names_once(rt) {
+        Ok(names) => Ok(names),
+        Err(_) => names_once(rt),
+    }
+}
+
+/// Goes through the case files that the arguments name, in their order.
+pub fn run<B: Bench, R: Env + Files + Print + AllocGlobal>(rt: &R) -> Result<(), io::Error> {
+    let names = names(rt)?;
+    for name in names.iter() {
+        run_file::<B, R>(rt, name.as_str())?;
+    }
+    Ok(())
+}

@@ -1,0 +1,28 @@
+//! What the commands of a case are done with.
+
+use case_words::{Answer, Bench, Stop, Words, put_line, put_text};
+use std::alloc::Global;
+
+/// Cases hold nothing from command to command.
+#[derive(Drop)]
+pub(crate) struct Cases {
+    alloc: Global,
+}
+
+impl Bench for Cases {
+    fn new(alloc: Global) -> Cases {
+        Cases { alloc }
+    }
+
+    fn act(&mut self, mut words: Words<'_>, text: &mut String) -> Answer {
+        match words.word() {
+            "bytes" => put_line(text, words.bytes(self.alloc)?.as_slice())?,
+            "text" => {
+                put_text(text, words.text(self.alloc)?.as_slice())?;
+                writeln!(text)?;
+            }
+            _ => return Err(Stop::Unclear),
+        }
+        Ok(())
+    }
+}

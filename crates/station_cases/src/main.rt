@@ -1,0 +1,11 @@
+//! Cases of stations.
+#![tactic(auto)]
+
+mod bench;
+
+use bench::Cases;
+use std::io;
+
+fn main(rt: HostRuntime) -> Result<(), io::Error> {
+    case_words::run::<Cases, HostRuntime>(&rt)
+}
