@@ -1,28 +1,60 @@
 //! What the commands of a case are done with.
 
-use case_words::{Answer, Bench, Stop, Words, put_line, put_text};
+use crate::{answers, equal, verdicts};
+use case_words::{Answer, Bench, Stop, Words};
 use std::alloc::Global;
 
-/// Cases hold nothing from command to command.
+/// The bytes of a case, and the lines of the parts that it says.
 #[derive(Drop)]
-pub(crate) struct Cases {
+pub(crate) struct Images {
     alloc: Global,
+    bytes: Vec<u8>,
+    parts: String,
 }
 
-impl Bench for Cases {
-    fn new(alloc: Global) -> Cases {
-        Cases { alloc }
+impl Images {
+    /// Appends bytes.
+    fn add_bytes(&mut self, mut words: Words<'_>) -> Answer {
+        let more = words.bytes(self.alloc)?;
+        self.bytes.extend_from_slice(more.as_slice())?;
+        Ok(())
     }
 
-    fn act(&mut self, mut words: Words<'_>, text: &mut String) -> Answer {
-        match words.word() {
-            "bytes" => put_line(text, words.bytes(self.alloc)?.as_slice())?,
-            "text" => {
-                put_text(text, words.text(self.alloc)?.as_slice())?;
-                writeln!(text)?;
-            }
-            _ => return Err(Stop::Unclear),
-        }
+    /// Appends the line of a part; there is room for all of it, or nothing is appended.
+    fn add_part(&mut self, mut line: Words<'_>) -> Answer {
+        let line = line.rest();
+        self.parts.reserve(line.len().saturating_add(1))?;
+        self.parts.push_str(line)?;
+        self.parts.push('\n')?;
         Ok(())
+    }
+}
+
+impl Bench for Images {
+    fn new(alloc: Global) -> Images {
+        Images {
+            alloc,
+            bytes: Vec::new(alloc),
+            parts: String::new(alloc),
+        }
+    }
+
+    fn act(&mut self, words: Words<'_>, text: &mut String) -> Answer {
+        let mut rest = words;
+        let (bytes, parts) = (&self.bytes, self.parts.as_str());
+        match rest.word() {
+            "bytes" => self.add_bytes(rest),
+            "cable" | "router" | "port" | "row" | "list" | "node" | "name" => self.add_part(words),
+            "read" => answers::image(self.alloc, bytes, rest, text),
+            "made" => answers::made(self.alloc, parts, rest, text),
+            "audit" => verdicts::audited(self.alloc, bytes, rest, text),
+            "equal" => equal::answer(self.alloc, parts, rest, text),
+            "verdict" => verdicts::verdict(self.alloc, rest, text),
+            "verdicts" => verdicts::equal_verdicts(self.alloc, rest, text),
+            "rules" => verdicts::rules(text),
+            "limits" => answers::limits(text),
+            "listed" => answers::listed(self.alloc, rest, text),
+            _ => Err(Stop::Unclear),
+        }
     }
 }

@@ -1,0 +1,72 @@
+//! Bytes with changes.
+
+use case_words::{Answer, Stop, Words};
+use std::alloc::Global;
+
+/// Puts bytes in place of others, from a place on.
+fn replace(bytes: &mut Vec<u8>, place: usize, new: &[u8]) -> Answer {
+    for (index, byte) in new.iter().enumerate() {
+        match bytes.get_mut(place.saturating_add(index)) {
+            Some(old) => *old = *byte,
+            None => return Err(Stop::Unclear),
+        }
+    }
+    Ok(())
+}
+
+/// The bytes without so many from a place on, and others there.
+fn spliced(
+    alloc: Global,
+    bytes: &[u8],
+    place: usize,
+    out: usize,
+    new: &[u8],
+) -> Result<Vec<u8>, Stop> {
+    let mut made = Vec::with_capacity(alloc, 512)?;
+    for byte in bytes.iter().take(place) {
+        made.push(*byte)?;
+    }
+    made.extend_from_slice(new)?;
+    for byte in bytes.iter().skip(place.saturating_add(out)) {
+        made.push(*byte)?;
+    }
+    Ok(made)
+}
+
+/// Makes one change.
+fn change(alloc: Global, bytes: &mut Vec<u8>, words: &mut Words<'_>) -> Answer {
+    let kind = words.word();
+    let place: usize = words.number()?;
+    match kind {
+        "with" => replace(bytes, place, words.hex(alloc)?.as_slice())?,
+        "first" => bytes.truncate(place),
+        "without" => {
+            let out = words.number()?;
+            *bytes = spliced(alloc, bytes.as_slice(), place, out, &[])?;
+        }
+        "insert" => {
+            let new = words.hex(alloc)?;
+            *bytes = spliced(alloc, bytes.as_slice(), place, 0, new.as_slice())?;
+        }
+        _ => return Err(Stop::Unclear),
+    }
+    Ok(())
+}
+
+/// The bytes with the changes that the words say, one after the other: `with PLACE HEX` puts bytes
+/// in place of others, `insert PLACE HEX` between others, `without PLACE COUNT` takes bytes out, and
+/// `first COUNT` keeps the first ones alone.
+pub(crate) fn edited(
+    alloc: Global,
+    bytes: &Vec<u8>,
+    mut words: Words<'_>,
+) -> Result<Vec<u8>, Stop> {
+    let mut copy = bytes.clone()?;
+    for _ in 0..u64::MAX {
+        if words.is_empty() {
+            break;
+        }
+        change(alloc, &mut copy, &mut words)?;
+    }
+    Ok(copy)
+}
