@@ -1,0 +1,186 @@
+//! Cables, and frames on them.
+
+ghost use Rattle.std.specs.Prelude.{IfOk};
+ghost use Rattle.station.specs.Lawful.{IsNext};
+
+use crate::entries::{kind, kind_word, put_entries};
+use crate::seats::{EIGHT, TWINS};
+use at_base::{Addr, Bytes, Error, Hw};
+use cable_model::{Cables, Found, Resolve};
+use case_words::{Answer, Stop, Words, put_line, yes_or_no};
+use station::Next;
+use std::alloc::Global;
+
+/// What is known of one station, which is looked for on its cable and by its address alone, and the
+/// network that a cable has.
+#[derive(Clone, Copy)]
+pub(crate) struct Known {
+    cable: u8,
+    addr: Addr,
+    found: Found,
+    listed: u16,
+}
+
+impl Resolve for Known {
+    ghost use Rattle.std.specs.Prelude.{◌==◌, ◌&&◌, if◌then◌else◌};
+    ghost use Rattle.at_base.specs.Address.{same_address};
+    ghost use Rattle.cable_model.specs.declared.resolve.Found.TheVariants.{Nobody};
+
+    ghost finds = { λ known cable addr.
+        if cable == known.cable && same_address addr known.addr then known.found else Nobody };
+
+    ghost lists = { λ known net. net == known.listed };
+
+    fn find(&self, cable: u8, addr: Addr) -> Found {
+        if cable == self.cable && addr == self.addr {
+            self.found
+        } else {
+            Found::Nobody
+        }
+    }
+
+    fn listed(&self, net: u16) -> bool {
+        net == self.listed
+    }
+}
+
+fn found(words: &mut Words<'_>) -> Result<Found, Stop> {
+    match words.word() {
+        "at" => Ok(Found::At(words.hw()?)),
+        "nobody" => Ok(Found::Nobody),
+        "later" => Ok(Found::Later),
+        _ => Err(Stop::Unclear),
+    }
+}
+
+/// What is known, as `cable 2 30.5 at 020000000006 listed 30`.
+pub(crate) fn resolver(words: &mut Words<'_>) -> Result<Known, Stop> {
+    let cable = words.named("cable")?;
+    let addr = words.addr()?;
+    let found = found(words)?;
+    Ok(Known {
+        cable,
+        addr,
+        found,
+        listed: words.named("listed")?,
+    })
+}
+
+/// Whom a frame is for next, as `station 30.5`, `all` or `group 56`.
+pub(crate) fn next(words: &mut Words<'_>) -> Result<Next, Stop>
+    ensures { IfOk result IsNext }
+{
+    match words.word() {
+        "station" => Ok(Next::Station(words.addr()?)),
+        "all" => Ok(Next::All),
+        "group" => {
+            let group: u8 = words.number()?;
+            if group < 253 {
+                Ok(Next::Group(group))
+            } else {
+                Err(Stop::Unclear)
+            }
+        }
+        _ => Err(Stop::Unclear),
+    }
+}
+
+/// Cables of the eight seats, or of the twins, with room for so many entries.
+pub(crate) fn begun(alloc: Global, mut words: Words<'_>) -> Result<Cables, Stop> {
+    let seats = words.word();
+    let limit = words.named("limit")?;
+    Ok(match seats {
+        "eight" => Cables::new(alloc, &EIGHT, limit)?,
+        "twins" => Cables::new(alloc, &TWINS, limit)?,
+        _ => return Err(Stop::Unclear),
+    })
+}
+
+/// Puts a frame on a cable, and appends its stamp.
+fn put(alloc: Global, cables: &mut Cables, mut words: Words<'_>, text: &mut String) -> Answer {
+    let cable = words.named("cable")?;
+    let station = words.named("station")?;
+    words.expect("to")?;
+    let to = words.hw()?;
+    let kind = kind(&mut words)?;
+    let bytes = Bytes::from_vec(words.bytes(alloc)?);
+    let stamp = cables.put(cable, station, to, kind, bytes)?;
+    writeln!(text, "stamp {stamp}")?;
+    Ok(())
+}
+
+/// A station sends a datagram on a cable.
+fn send(alloc: Global, cables: &mut Cables, mut words: Words<'_>) -> Answer {
+    let cable = words.named("cable")?;
+    let station = words.named("station")?;
+    words.expect("next")?;
+    let next = next(&mut words)?;
+    words.expect("knows")?;
+    let known = resolver(&mut words)?;
+    let bytes = Bytes::from_vec(words.bytes(alloc)?);
+    cables.send(station, cable, next, bytes, &known)?;
+    Ok(())
+}
+
+/// Appends what a station hears of a frame that it is to take.
+fn put_heard(cables: &Cables, mut words: Words<'_>, text: &mut String) -> Answer {
+    let stamp = words.number()?;
+    match cables.heard(stamp, words.named("station")?) {
+        Some(heard) => {
+            let (port, link, kind) = (heard.port, heard.link, kind_word(heard.kind));
+            write!(text, "port {port} {link:?} {kind} ")?;
+            put_line(text, heard.bytes)?;
+        }
+        None => writeln!(text, "nothing")?,
+    }
+    Ok(())
+}
+
+/// Appends what waits for a hardware address.
+pub(crate) fn put_waiting(cables: &Cables, text: &mut String) -> Answer {
+    for held in cables.waiting() {
+        let (port, next, bytes) = (held.port, held.next, held.bytes);
+        write!(text, "waits on port {port} for {next}: ")?;
+        put_line(text, cables.bytes(bytes))?;
+    }
+    Ok(())
+}
+
+/// Appends the pair to be taken first, and how many there are.
+fn put_first(cables: &Cables, text: &mut String) -> Answer {
+    let count = cables.pending_count();
+    match cables.first() {
+        Some((stamp, station)) => writeln!(text, "{count} pending, first {stamp} by {station}")?,
+        None => writeln!(text, "{count} pending")?,
+    }
+    Ok(())
+}
+
+fn put_pending(cables: &Cables, mut words: Words<'_>, text: &mut String) -> Answer {
+    let stamp = words.number()?;
+    let pending = yes_or_no(cables.pending(stamp, words.named("station")?));
+    writeln!(text, "{pending}")?;
+    Ok(())
+}
+
+/// Does what the words say.
+pub(crate) fn act(
+    alloc: Global,
+    cables: &mut Cables,
+    mut words: Words<'_>,
+    text: &mut String,
+) -> Answer {
+    match words.word() {
+        "put" => put(alloc, cables, words, text)?,
+        "send" => send(alloc, cables, words)?,
+        "lose" => cables.lose(words.number()?)?,
+        "first" => put_first(cables, text)?,
+        "pending" => put_pending(cables, words, text)?,
+        "heard" => put_heard(cables, words, text)?,
+        "waiting" => put_waiting(cables, text)?,
+        "bytes" => put_line(text, cables.bytes(words.number()?))?,
+        "entries" => put_entries(text, cables.transcript())?,
+        _ => return Err(Stop::Unclear),
+    }
+    Ok(())
+}

@@ -1,0 +1,147 @@
+//! A station with two ports that does one thing with each datagram that it hears.
+
+ghost use Rattle.std.specs.Prelude.{◌≡◌, ◌∷◌, [], IfOk, IsOkUnless, length, ◌≤◌};
+ghost use Rattle.station.specs.Lawful.{AreLawful, IsGood, IsNext, IsWhole, PutsOut};
+
+use crate::taking::{TARGET, TARGET_HW};
+use aarp::{Function, Packet};
+use at_base::{Addr, Bytes, Error, Hw};
+use cable_model::Cause;
+use ddp::View;
+use station::frames::{read_datagram, wire};
+use station::{Heard, Next, Output, Outputs, Station, slices_have_bytes};
+use std::alloc::Global;
+
+/// What a relay does with a datagram.
+#[derive(Clone, Copy)]
+pub(crate) enum Act {
+    /// It passes it to its target on port 1.
+    Pass,
+    /// It keeps it, as for port 1.
+    Keep,
+    /// It drops it, since it has no route.
+    Drop,
+    /// It makes the same for all on port 0, and for its target on port 1.
+    Make,
+    /// It puts an AARP packet for the target's hardware address out on port 1.
+    Answer,
+}
+
+/// The station.
+#[derive(Drop)]
+pub(crate) struct Relay {
+    pub(crate) alloc: Global,
+    pub(crate) act: Act,
+}
+
+/// The datagram without padding.
+fn copied(alloc: Global, view: &View<'_>) -> Result<Bytes, Error>
+    ensures whole { IfOk result (λ bytes. IsWhole bytes) }
+    ensures refused { IsOkUnless result Error.Memory }
+{
+    slices_have_bytes(view.as_bytes());
+    Bytes::copy(alloc, view.as_bytes())
+}
+
+/// It is passed on, kept or dropped.
+fn one(alloc: Global, act: Act, view: &View<'_>) -> Result<Vec<Output>, Error>
+    ensures lawful { IfOk result (λ made. AreLawful 2 made.items) }
+    ensures refused { IsOkUnless result Error.Memory }
+{
+    let bytes = copied(alloc, view)?;
+    let output = match act {
+        Act::Keep => Output::Kept { port: 1, bytes },
+        Act::Drop => Output::Dropped {
+            cause: Cause::NoRoute,
+            bytes,
+        },
+        _ => Output::Passed {
+            port: 1,
+            next: Next::Station(TARGET),
+            bytes,
+        },
+    };
+    let mut made = Vec::new(alloc);
+    made.push(output)?;
+    Ok(made)
+}
+
+/// Two are made.
+fn two(alloc: Global, view: &View<'_>) -> Result<Vec<Output>, Error>
+    ensures lawful { IfOk result (λ made. AreLawful 2 made.items) }
+    ensures refused { IsOkUnless result Error.Memory }
+{
+    let mut made = Vec::new(alloc);
+    made.push(Output::Made {
+        port: 0,
+        next: Next::All,
+        bytes: copied(alloc, view)?,
+    })?;
+    made.push(Output::Made {
+        port: 1,
+        next: Next::Station(TARGET),
+        bytes: copied(alloc, view)?,
+    })?;
+    Ok(made)
+}
+
+/// A response from 20.1 to the target.
+const RESPONSE: Packet = Packet {
+    function: Function::Response,
+    source_hw: Hw([2, 0, 0, 0, 0, 2]),
+    source: Addr { net: 20, node: 1 },
+    target_hw: TARGET_HW,
+    target: TARGET,
+};
+
+/// The AARP packet is put out.
+fn answered(alloc: Global) -> Result<Vec<Output>, Error>
+    ensures lawful { IfOk result (λ made. AreLawful 2 made.items) }
+    ensures refused { IsOkUnless result Error.Memory }
+{
+    let output = wire(alloc, 1, &RESPONSE)?;
+    let mut made = Vec::new(alloc);
+    made.push(output)?;
+    Ok(made)
+}
+
+impl Relay {
+    fn made(&self, view: &View<'_>) -> Result<Vec<Output>, Error>
+        ensures lawful { IfOk result (λ made. AreLawful 2 made.items) }
+        ensures refused { IsOkUnless result Error.Memory }
+    {
+        match self.act {
+            Act::Make => two(self.alloc, view),
+            Act::Answer => answered(self.alloc),
+            act => one(self.alloc, act, view),
+        }
+    }
+}
+
+impl Station for Relay {
+    ghost ports_of = { λ relay. 2 };
+
+    ghost hears = { λ old heard added new. new ≡ old };
+
+    ghost ticks = { λ old added new. new ≡ old };
+
+    fn ports(&self) -> u8 {
+        2
+    }
+
+    fn receive(&mut self, heard: &Heard<'_>, outputs: &mut Outputs) -> Result<(), Error> {
+        match read_datagram(heard.bytes) {
+            Some(view) => {
+                let made = self.made(&view)?;
+                outputs.room(made.len())?;
+                outputs.append(made);
+                Ok(())
+            }
+            None => Ok(()),
+        }
+    }
+
+    fn tick(&mut self, _outputs: &mut Outputs) -> Result<(), Error> {
+        Ok(())
+    }
+}

@@ -1,0 +1,79 @@
+//! Frames that a station with two ports takes, which does one thing with each datagram.
+
+ghost use Rattle.std.specs.Prelude.{◌≡◌, IfOk};
+ghost use Rattle.cable_model.specs.Outcomes.{AreSeatsOf};
+
+use crate::cables::{Known, put_waiting, resolver};
+use crate::entries::put_entries;
+use crate::relay::{Act, Relay};
+use crate::seats::EIGHT;
+use at_base::{Addr, Bytes, Error, Hw};
+use cable_model::{Cables, Kind};
+use case_words::{Answer, Stop, Words};
+use std::alloc::Global;
+
+/// The address that the station passes datagrams to, and its hardware address.
+pub(crate) const TARGET: Addr = Addr {
+    net: 0x121E,
+    node: 5,
+};
+
+pub(crate) const TARGET_HW: Hw = Hw([2, 0, 0, 0, 0, 6]);
+
+/// The station's hardware address on the first cable.
+const ROUTER_HW: Hw = Hw([2, 0, 0, 0, 0, 1]);
+
+fn act(words: &mut Words<'_>) -> Result<Act, Stop> {
+    Ok(match words.word() {
+        "passes" => Act::Pass,
+        "keeps" => Act::Keep,
+        "drops" => Act::Drop,
+        "makes" => Act::Make,
+        "answers" => Act::Answer,
+        _ => return Err(Stop::Unclear),
+    })
+}
+
+/// Cables on which station 2 put a frame for station 0, with room for so many entries.
+fn pending(alloc: Global, limit: u32, bytes: Bytes) -> Result<Cables, Error>
+    ensures { IfOk result (λ cables. AreSeatsOf cables.seats 0 2) }
+{
+    let mut cables = Cables::new(alloc, &EIGHT, limit)?;
+    cables.put(0, 2, ROUTER_HW, Kind::Ddp, bytes)?;
+    Ok(cables)
+}
+
+/// Station 0 takes the first frame, and once more; the outcome of both.
+fn take_twice(cables: &mut Cables, relay: &mut Relay, known: &Known, text: &mut String) -> Answer
+    requires { AreSeatsOf cables.old.seats 0 2 }
+{
+    let first = cables.take(0, 0, relay, known);
+    match first {
+        Err(Error::Memory) => return Err(Stop::Refused(Error::Memory)),
+        Err(error) => writeln!(text, "{error}")?,
+        Ok(()) => writeln!(text, "taken")?,
+    }
+    match cables.take(9, 0, relay, known) {
+        Ok(()) => writeln!(text, "taken")?,
+        Err(error) => writeln!(text, "{error}")?,
+    }
+    Ok(())
+}
+
+/// Station 0 passes, keeps, drops, makes or answers the frame that station 2 put: `takes limit 772
+/// passes knows cable 1 4638.5 later listed 4638 BYTES`. Then a frame that nobody put is refused.
+pub(crate) fn answer(alloc: Global, mut words: Words<'_>, text: &mut String) -> Answer {
+    let limit = words.named("limit")?;
+    let act = act(&mut words)?;
+    words.expect("knows")?;
+    let known = resolver(&mut words)?;
+    let bytes = Bytes::from_vec(words.bytes(alloc)?);
+    let mut cables = pending(alloc, limit, bytes)?;
+    let mut relay = Relay { alloc, act };
+    take_twice(&mut cables, &mut relay, &known, text)?;
+    put_entries(text, cables.transcript())?;
+    put_waiting(&cables, text)?;
+    let count = cables.pending_count();
+    writeln!(text, "{count} pending")?;
+    Ok(())
+}
