@@ -106,10 +106,16 @@ pub(crate) fn act(alloc: Global, mut words: Words<'_>, text: &mut String) -> Ans
     match words.word() {
         "byte" => byte(alloc, words, text),
         "number" => number(alloc, words, text),
-        "address" => address(words.bytes(alloc)?.as_slice(), text),
-        "hardware" => hardware(words.bytes(alloc)?.as_slice(), text),
         "run" => run(alloc, false, words, text),
         "text" => run(alloc, true, words, text),
+        "address" => {
+            words.expect("of")?;
+            address(words.bytes(alloc)?.as_slice(), text)
+        }
+        "hardware" => {
+            words.expect("of")?;
+            hardware(words.bytes(alloc)?.as_slice(), text)
+        }
         _ => Err(Stop::Unclear),
     }
 }
