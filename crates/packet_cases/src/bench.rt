@@ -109,6 +109,12 @@ impl Packets {
         put_read(self.alloc, protocol, self.bytes.as_slice(), text)
     }
 
+    /// Adds bytes to those that were read.
+    fn add_bytes(&mut self, bytes: Vec<u8>) -> Answer {
+        self.bytes.extend_from_slice(bytes.as_slice())?;
+        Ok(())
+    }
+
     /// Reads the bytes with changes.
     fn read_changed(&self, words: Words<'_>, text: &mut String) -> Answer {
         let bytes = changed(&self.bytes, words)?;
@@ -160,6 +166,8 @@ impl Packets {
     fn act_on(&mut self, word: &str, mut words: Words<'_>, text: &mut String) -> Answer {
         let bytes = self.bytes.as_slice();
         match word {
+            "more" => self.add_bytes(words.bytes(self.alloc)?),
+            "read" => put_read(self.alloc, self.protocol, bytes, text),
             "with" => self.read_changed(words, text),
             "cuts" => put_cuts(self.alloc, self.protocol, bytes, text),
             "whole" => datagrams::put_whole(bytes, text),

@@ -3,71 +3,65 @@
 use at_base::Bytes;
 use std::alloc::AllocError;
 
-/// How wide the line is already, and whether a count ends it.
+/// Where a line of bytes begins in the text, and whether a count ends it.
 #[derive(Clone, Copy)]
-struct Place {
-    width: usize,
+struct Line {
+    start: usize,
     counted: bool,
 }
 
-/// Begins a new line where this one is full, or puts a space.
-fn put_gap(text: &mut String, width: usize, apart: bool) -> Result<usize, AllocError> {
+/// Begins a new line where this one has more than 90 columns, or puts a space between two words.
+fn put_gap(text: &mut String, line: Line, apart: bool) -> Result<Line, AllocError> {
+    let width = text.len().saturating_sub(line.start);
+    let mut start = line.start;
     if width > 90 {
         writeln!(text)?;
-        return Ok(0);
-    }
-    if apart {
+        start = text.len();
+    } else if apart && width > 0 {
         write!(text, " ")?;
-        return Ok(width.saturating_add(1));
     }
-    Ok(width)
-}
-
-/// Appends a byte that comes fewer than eight times.
-fn put_few(text: &mut String, place: Place, byte: u8, count: usize) -> Result<Place, AllocError> {
-    let mut width = put_gap(text, place.width, place.counted)?;
-    for _ in 0..count {
-        write!(text, "{byte:02X}")?;
-        width = width.saturating_add(2);
-    }
-    Ok(Place {
-        width,
-        counted: false,
+    Ok(Line {
+        start,
+        counted: apart,
     })
 }
 
 /// Appends a byte that comes so many times in a row: eight times and more as `00*8`.
-fn put_run(text: &mut String, place: Place, byte: u8, count: usize) -> Result<Place, AllocError> {
-    if count < 8 {
-        return put_few(text, place, byte, count);
+fn put_run(text: &mut String, line: Line, byte: u8, count: usize) -> Result<Line, AllocError> {
+    if count >= 8 {
+        let line = put_gap(text, line, true)?;
+        write!(text, "{byte:02X}*{count}")?;
+        return Ok(line);
     }
-    let width = put_gap(text, place.width, place.width > 0)?;
-    write!(text, "{byte:02X}*{count}")?;
-    Ok(Place {
-        width: width.saturating_add(6),
-        counted: true,
+    let line = put_gap(text, line, line.counted)?;
+    for _ in 0..count {
+        write!(text, "{byte:02X}")?;
+    }
+    Ok(Line {
+        start: line.start,
+        counted: false,
     })
 }
 
 /// Appends bytes as a case has them, `-` for none, and ends the line.
 pub(crate) fn put_bytes(text: &mut String, bytes: &[u8]) -> Result<(), AllocError> {
     if bytes.is_empty() {
-        return writeln!(text, "-");
+        write!(text, "-")?;
     }
-    let mut place = Place {
-        width: 0,
+    let mut line = Line {
+        start: text.len(),
         counted: false,
     };
     let (mut last, mut count) = (0, 0usize);
     for byte in bytes {
         if *byte != last && count > 0 {
-            place = put_run(text, place, last, count)?;
+            line = put_run(text, line, last, count)?;
             count = 0;
         }
         last = *byte;
         count = count.saturating_add(1);
     }
-    put_run(text, place, last, count)?;
+    put_run(text, line, last, count)?;
     writeln!(text)
 }
 

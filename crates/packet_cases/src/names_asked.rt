@@ -1,6 +1,7 @@
 //! NBP packets.
 
 use crate::hex_lines::put_written;
+use at_base::Text32;
 use case_words::{Answer, Stop, Words, put_text};
 use nbp::{Function, Packet, Tuple, TupleView};
 use std::alloc::{AllocError, Global};
@@ -65,17 +66,26 @@ pub(crate) fn put_first(bytes: &[u8], text: &mut String) -> Answer {
     Ok(())
 }
 
+/// A number after the word that names it, which may be left out.
+fn number(words: &mut Words<'_>, name: &str) -> Result<u8, Stop> {
+    let _ = words.passes(name);
+    words.number()
+}
+
+/// A text after the word that names it, which may be left out.
+fn part(alloc: Global, words: &mut Words<'_>, name: &str) -> Result<Text32, Stop> {
+    let _ = words.passes(name);
+    words.text32(alloc)
+}
+
 /// A tuple, as `10.7 socket 253 enumerator 0 object "=" type "=" zone "blue"`.
 fn tuple(alloc: Global, words: &mut Words<'_>) -> Result<Tuple, Stop> {
     let at = words.addr()?;
-    let socket = words.named("socket")?;
-    let enumerator = words.named("enumerator")?;
-    words.expect("object")?;
-    let object = words.text32(alloc)?;
-    words.expect("type")?;
-    let kind = words.text32(alloc)?;
-    words.expect("zone")?;
-    let zone = words.text32(alloc)?;
+    let socket = number(words, "socket")?;
+    let enumerator = number(words, "enumerator")?;
+    let object = part(alloc, words, "object")?;
+    let kind = part(alloc, words, "type")?;
+    let zone = part(alloc, words, "zone")?;
     Ok(Tuple {
         at,
         socket,
@@ -89,7 +99,7 @@ fn tuple(alloc: Global, words: &mut Words<'_>) -> Result<Tuple, Stop> {
 /// Writes a packet of one tuple.
 pub(crate) fn write(alloc: Global, mut words: Words<'_>, text: &mut String) -> Answer {
     let function = function(&mut words)?;
-    let id = words.named("ID")?;
+    let id = number(&mut words, "ID")?;
     let tuple = tuple(alloc, &mut words)?;
     put_written(text, nbp::write(alloc, function, id, &tuple)?)?;
     Ok(())
