@@ -1,6 +1,6 @@
 //! Ranges of networks, addresses and hardware addresses.
 
-use at_base::{Addr, Hw, Range, every_station_has_one_address};
+use at_base::{Addr, Hw};
 use case_words::{Answer, Stop, Words, put_hw, yes_or_no};
 
 /// Appends a range, or what it has in common with another one.
@@ -45,7 +45,6 @@ pub(crate) fn address(mut words: Words<'_>, text: &mut String) -> Answer {
 /// Appends the hardware address of every station, or whether two are equal.
 pub(crate) fn hardware(mut words: Words<'_>, text: &mut String) -> Answer {
     if words.passes("all") {
-        every_station_has_one_address();
         put_hw(text, Hw::ALL)?;
         writeln!(text)?;
         return Ok(());

@@ -92,7 +92,6 @@ fn act_on_values(alloc: Global, word: &str, words: Words<'_>, text: &mut String)
         "faults" => errors::faults(words, text),
         "field" => fields::act(alloc, words, text),
         "number" => constants::number(words, text),
-        "limit" => constants::limit(words, text),
         "headers" => datagrams::headers(words, text),
         "packets" => aarp_packets::compare(words, text),
         "tuples" => routing_data::compare(words, text),
@@ -107,12 +106,6 @@ impl Packets {
         self.bytes = words.bytes(self.alloc)?;
         self.protocol = protocol;
         put_read(self.alloc, protocol, self.bytes.as_slice(), text)
-    }
-
-    /// Adds bytes to those that were read.
-    fn add_bytes(&mut self, bytes: Vec<u8>) -> Answer {
-        self.bytes.extend_from_slice(bytes.as_slice())?;
-        Ok(())
     }
 
     /// Reads the bytes with changes.
@@ -166,7 +159,11 @@ impl Packets {
     fn act_on(&mut self, word: &str, mut words: Words<'_>, text: &mut String) -> Answer {
         let bytes = self.bytes.as_slice();
         match word {
-            "more" => self.add_bytes(words.bytes(self.alloc)?),
+            "more" => {
+                let more = words.bytes(self.alloc)?;
+                self.bytes.extend_from_slice(more.as_slice())?;
+                Ok(())
+            }
             "read" => put_read(self.alloc, self.protocol, bytes, text),
             "with" => self.read_changed(words, text),
             "cuts" => put_cuts(self.alloc, self.protocol, bytes, text),

@@ -3,7 +3,7 @@
 use case_words::{Answer, Stop, Words};
 use ddp::{kind, socket};
 
-/// The number of a DDP type or a socket.
+/// The number of a DDP type, a socket or a first byte of an echo.
 fn number_of(name: &str) -> Option<u8> {
     Some(match name {
         "type RTMP data" => kind::RTMP_DATA,
@@ -22,7 +22,7 @@ fn number_of(name: &str) -> Option<u8> {
     })
 }
 
-/// A length in bytes, or a limit.
+/// A length in bytes, or another limit.
 fn limit_of(name: &str) -> Option<usize> {
     Some(match name {
         "DDP header" => ddp::HEADER_LEN,
@@ -38,18 +38,14 @@ fn limit_of(name: &str) -> Option<usize> {
     })
 }
 
-/// Appends a number by its name.
+/// Appends a number or a limit by its name.
 pub(crate) fn number(mut words: Words<'_>, text: &mut String) -> Answer {
-    match number_of(words.rest()) {
-        Some(number) => writeln!(text, "{number}")?,
-        None => return Err(Stop::Unclear),
-    }
-    Ok(())
-}
-
-/// Appends a limit by its name.
-pub(crate) fn limit(mut words: Words<'_>, text: &mut String) -> Answer {
-    match limit_of(words.rest()) {
+    let name = words.rest();
+    let limit = match number_of(name) {
+        Some(number) => Some(usize::from(number)),
+        None => limit_of(name),
+    };
+    match limit {
         Some(limit) => writeln!(text, "{limit}")?,
         None => return Err(Stop::Unclear),
     }
