@@ -157,7 +157,7 @@ def written_zip(chance: Chance) -> list[str]:
 WRITERS = [written_datagram, written_aarp, written_atp, written_nbp, written_zip]
 
 
-def told(asked: bytes, start: int, end_: int, zones: list[bytes]) -> bytes:
+def net_info(asked: bytes, start: int, end_: int, zones: list[bytes]) -> bytes:
     """The reply to GetNetInfo on a cable with these zones."""
     found = [zone for zone in zones if zone.lower() == asked.lower()] if is_zone_name(asked) else []
     zone = found[0] if found else zones[0]
@@ -182,12 +182,12 @@ def page(start: int, zones: list[bytes]) -> list[str]:
 def zones_case(chance: Chance, number: int) -> list[str]:
     """What is written of the zones of a cable."""
     zones = [chance.name() for _ in range(chance.choice([1, 1, 2, 3, 6, 30]))]
-    lines = [f"# Zones by chance, {number}: what a node is told of their cable, extended replies and pages."]
+    lines = [f"# Zones by chance, {number}: replies to GetNetInfo, extended replies and pages."]
     lines += [f"zones {quoted(zone)}" for zone in zones]
     start, end_ = chance.range()
     for _ in range(3):
         asked = chance.choice([chance.choice(zones).swapcase(), chance.choice(zones), chance.text(0)])
-        lines += [f"write GetNetInfo-reply {start}-{end_} zone {quoted(asked)}", *written(told(asked, start, end_, zones))]
+        lines += [f"write GetNetInfo-reply {start}-{end_} zone {quoted(asked)}", *written(net_info(asked, start, end_, zones))]
     network, total = chance.network(), chance.byte()
     reply = bytes([8, total]) + b"".join(network.to_bytes(2, "big") + counted(zone) for zone in zones)
     fits = written(reply) if len(reply) <= 586 else wanted(["too long"])
@@ -198,7 +198,7 @@ def zones_case(chance: Chance, number: int) -> list[str]:
 
 
 def matches(pattern: bytes, name: bytes) -> bool:
-    """`=` matches every name; the first byte C5 stands for any bytes; the case of ASCII letters is ignored."""
+    """`=` matches every name; the first byte C5 matches any bytes; the case of ASCII letters is ignored."""
     if pattern == b"=":
         return True
     before, wildcard, after = pattern.lower().partition(b"\xC5")

@@ -1,4 +1,4 @@
-//! What a node asks of its cable, and what it is told.
+//! What a node asks about its cable, and the replies.
 
 use crate::hex_lines::put_written;
 use crate::names_asked::put_named;
@@ -7,7 +7,7 @@ use case_words::{Answer, Stop, Words, put_hw};
 use std::alloc::{AllocError, Global};
 use zip_zones::{NetInfo, answer_net_info, reply_net_info, write_extended, write_get_net_info};
 
-/// Appends what a node is told.
+/// Appends a reply to GetNetInfo.
 pub(crate) fn put_info(text: &mut String, info: &NetInfo) -> Result<(), AllocError> {
     let (flags, start, end) = (info.flags, info.start, info.end);
     writeln!(
@@ -31,14 +31,14 @@ fn asked(alloc: Global, words: &mut Words<'_>) -> Result<(Range, Text32), Stop> 
     Ok((range, words.text32(alloc)?))
 }
 
-/// Writes what a node asks.
+/// Writes GetNetInfo.
 pub(crate) fn write_question(alloc: Global, mut words: Words<'_>, text: &mut String) -> Answer {
     let zone = words.text32(alloc)?;
     put_written(text, write_get_net_info(alloc, &zone)?)?;
     Ok(())
 }
 
-/// Writes what a node is told of a cable with these zones, if anything.
+/// Writes the reply for a cable with these zones, if there is one.
 pub(crate) fn write_reply(
     alloc: Global,
     mut words: Words<'_>,
@@ -53,7 +53,7 @@ pub(crate) fn write_reply(
     Ok(())
 }
 
-/// Writes what a node is told of a cable that has zones.
+/// Writes the reply for a cable that has zones.
 pub(crate) fn write_answer(
     alloc: Global,
     mut words: Words<'_>,

@@ -15,8 +15,8 @@ fn put_at(bytes: &mut Vec<u8>, place: usize, others: &[u8]) -> Answer {
     Ok(())
 }
 
-/// Does one change: `cut 12` leaves the first 12 bytes, `then FFFF` adds bytes at the end, and `7 04`
-/// puts other bytes at a place.
+/// Does one change: `cut 12` leaves the first 12 bytes, `then FFFF` adds bytes at the end, and
+/// `7 04` puts other bytes at a place.
 fn change(bytes: &mut Vec<u8>, words: &mut Words<'_>) -> Answer {
     let alloc = *bytes.allocator();
     if words.passes("cut") {

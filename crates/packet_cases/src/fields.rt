@@ -86,7 +86,7 @@ fn hardware(bytes: &[u8], text: &mut String) -> Answer {
     Ok(())
 }
 
-/// So many bytes, or as many as the first byte says, with least so many.
+/// A number of bytes; or a text after its length, which is at least that number.
 fn run(alloc: Global, counted: bool, mut words: Words<'_>, text: &mut String) -> Answer {
     let len: u8 = words.number()?;
     words.expect("of")?;

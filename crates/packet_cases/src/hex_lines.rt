@@ -26,7 +26,7 @@ fn put_gap(text: &mut String, line: Line, apart: bool) -> Result<Line, AllocErro
     })
 }
 
-/// Appends a byte that comes so many times in a row: eight times and more as `00*8`.
+/// Appends a byte that comes `count` times in a row: from eight times on as `00*8`.
 fn put_run(text: &mut String, line: Line, byte: u8, count: usize) -> Result<Line, AllocError> {
     if count >= 8 {
         let line = put_gap(text, line, true)?;

@@ -78,7 +78,7 @@ pub(crate) fn copy(alloc: Global, mut words: Words<'_>, text: &mut String) -> An
     Ok(())
 }
 
-/// Appends bytes that were made of a vector with room for so many.
+/// Appends the bytes of a vector with a given room.
 pub(crate) fn vector(alloc: Global, mut words: Words<'_>, text: &mut String) -> Answer {
     let room: u16 = words.named("room")?;
     let bytes = words.bytes(alloc)?;

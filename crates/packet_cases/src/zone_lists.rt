@@ -21,7 +21,7 @@ pub(crate) fn names(alloc: Global, words: &mut Words<'_>) -> Result<Vec<Name>, S
     Ok(names)
 }
 
-/// So many times a zone, as `16 of "Red"`.
+/// A zone several times, as `16 of "Red"`.
 pub(crate) fn copies(alloc: Global, words: &mut Words<'_>) -> Result<Vec<Name>, Stop> {
     let mut names = Vec::new(alloc);
     let count: u8 = words.number()?;
@@ -44,7 +44,7 @@ fn lists_of(alloc: Global, lists: &mut Option<ZoneTable>) -> Result<&mut ZoneTab
     }
 }
 
-/// Gives a range all of its zones, or one of so many.
+/// Gives a range all of its zones, or one of them and their number.
 pub(crate) fn list(
     alloc: Global,
     lists: &mut Option<ZoneTable>,
