@@ -1,7 +1,22 @@
 //! Cases of packets: what reading bytes gives, and which bytes are written.
 #![tactic(auto)]
 
+mod aarp_packets;
+mod addresses;
 mod bench;
+mod cable_info;
+mod constants;
+mod datagrams;
+mod edits;
+mod errors;
+mod fields;
+mod hex_lines;
+mod names_asked;
+mod routing_data;
+mod texts;
+mod transactions;
+mod zone_lists;
+mod zone_packets;
 
 use bench::Packets;
 use std::io;
