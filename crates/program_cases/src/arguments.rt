@@ -1,0 +1,66 @@
+//! What the arguments of `atalk` ask for.
+
+use at_base::Error;
+use case_words::{Answer, Stop, Words, put_text};
+use clap::error::ErrorKind;
+use command_line::{Job, Source, read_arguments};
+use std::alloc::{AllocError, Global};
+
+fn put_source(text: &mut String, source: Source<'_>) -> Result<(), AllocError> {
+    match source {
+        Source::StandardInput => write!(text, " standard input"),
+        Source::File(name) => {
+            write!(text, " file ")?;
+            put_text(text, name.as_bytes())
+        }
+    }
+}
+
+fn put_job(text: &mut String, job: Job<'_>) -> Result<(), AllocError> {
+    match job {
+        Job::Audit(image) => {
+            write!(text, "audit")?;
+            put_source(text, image)?;
+        }
+        Job::Trace(image, script) => {
+            write!(text, "trace")?;
+            put_source(text, image)?;
+            put_source(text, script)?;
+        }
+        Job::Play(file, to) => {
+            write!(text, "play")?;
+            put_source(text, file)?;
+            if let Some(to) = to {
+                write!(text, " image to ")?;
+                put_text(text, to.as_bytes())?;
+            }
+        }
+    }
+    writeln!(text)
+}
+
+/// The words as arguments, where `""` is an empty one.
+fn list<'a>(alloc: Global, mut words: Words<'a>) -> Result<Vec<&'a str>, Stop> {
+    let mut list = Vec::new(alloc);
+    for _ in 0..u64::MAX {
+        if words.is_empty() {
+            break;
+        }
+        let word = words.word();
+        list.push(if word == "\"\"" { "" } else { word })?;
+    }
+    Ok(list)
+}
+
+/// Appends what the arguments ask for, or what is wrong with them.
+pub(crate) fn answer(alloc: Global, words: Words<'_>, text: &mut String) -> Answer {
+    let list = list(alloc, words)?;
+    match read_arguments(alloc, list.as_slice()) {
+        Ok(job) => put_job(text, job)?,
+        Err(error) => match error.kind() {
+            ErrorKind::OutOfMemory => return Err(Error::Memory.into()),
+            kind => writeln!(text, "{kind:?}")?,
+        },
+    }
+    Ok(())
+}

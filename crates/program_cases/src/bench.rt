@@ -1,0 +1,104 @@
+//! What the commands of a case are done with.
+
+use crate::{arguments, commands_run as run, exits, plans, worlds};
+use case_words::{Answer, Bench, Stop, Words};
+use rtmp::PlainTable;
+use std::alloc::Global;
+use world::World;
+
+/// The text of an internet file, the bytes of an image, and a world once a command begins it.
+#[derive(Drop)]
+pub(crate) struct Program {
+    alloc: Global,
+    text: Vec<u8>,
+    image: Vec<u8>,
+    world: Option<World<PlainTable>>,
+}
+
+/// The text, with what the words add to it.
+fn longer(alloc: Global, text: &Vec<u8>, mut words: Words<'_>) -> Result<Vec<u8>, Stop> {
+    let mut whole = text.clone()?;
+    if !words.is_empty() {
+        whole.extend_from_slice(words.text(alloc)?.as_slice())?;
+    }
+    Ok(whole)
+}
+
+impl Program {
+    /// Appends a line to the text; there is room for all of it, or nothing is appended.
+    fn add_line(&mut self, mut words: Words<'_>) -> Answer {
+        let line = words.rest().as_bytes();
+        self.text.reserve(line.len().saturating_add(1))?;
+        self.text.extend_from_slice(line)?;
+        self.text.push(b'\n')?;
+        Ok(())
+    }
+
+    /// Appends bytes to the text.
+    fn add_text(&mut self, mut words: Words<'_>) -> Answer {
+        let more = words.text(self.alloc)?;
+        self.text.extend_from_slice(more.as_slice())?;
+        Ok(())
+    }
+
+    /// Appends bytes to the image.
+    fn add_bytes(&mut self, mut words: Words<'_>) -> Answer {
+        let more = words.bytes(self.alloc)?;
+        self.image.extend_from_slice(more.as_slice())?;
+        Ok(())
+    }
+
+    /// Answers a question about the text, with what the words add to it.
+    fn ask_text(&self, question: &str, words: Words<'_>, text: &mut String) -> Answer {
+        let whole = longer(self.alloc, &self.text, words)?;
+        let bytes = whole.as_slice();
+        match question {
+            "read" => plans::read_it(self.alloc, bytes, text),
+            "plan" => plans::plan(self.alloc, bytes, text),
+            "play" => run::play(self.alloc, bytes, text),
+            "frozen" => run::frozen(self.alloc, bytes, text),
+            _ => run::play_files(self.alloc, bytes, text),
+        }
+    }
+
+    fn on_world(&mut self, words: Words<'_>, text: &mut String) -> Answer {
+        match &mut self.world {
+            Some(world) => worlds::act(self.alloc, world, words, text),
+            None => Err(Stop::Unclear),
+        }
+    }
+
+    fn begin_world(&mut self, words: Words<'_>) -> Answer {
+        let whole = longer(self.alloc, &self.text, words)?;
+        self.world = Some(worlds::begun(self.alloc, whole.as_slice())?);
+        Ok(())
+    }
+}
+
+impl Bench for Program {
+    fn new(alloc: Global) -> Program {
+        Program {
+            alloc,
+            text: Vec::new(alloc),
+            image: Vec::new(alloc),
+            world: None,
+        }
+    }
+
+    fn act(&mut self, mut words: Words<'_>, text: &mut String) -> Answer {
+        let first = words.word();
+        match first {
+            "|" => self.add_line(words),
+            "text" => self.add_text(words),
+            "bytes" => self.add_bytes(words),
+            "read" | "plan" | "play" | "frozen" | "files" => self.ask_text(first, words, text),
+            "audit" => run::audit(self.alloc, self.image.as_slice(), text),
+            "trace" => run::trace(self.alloc, self.image.as_slice(), words, text),
+            "begin" => self.begin_world(words),
+            "world" => self.on_world(words, text),
+            "arguments" => arguments::answer(self.alloc, words, text),
+            "exit" => exits::answer(words, text),
+            _ => Err(Stop::Unclear),
+        }
+    }
+}

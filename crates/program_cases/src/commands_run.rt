@@ -1,0 +1,86 @@
+//! What the three commands write.
+
+use at_base::Error;
+use case_words::{Answer, Words, put_line};
+use command_line::status;
+use commands::{Input, audit_file, play_bytes, run_frozen};
+use frozen_trace::Output;
+use playing::{Silent, play_text};
+use std::alloc::{AllocError, Global};
+
+/// Room for what a command writes in a case.
+const ROOM: usize = 200_000;
+
+/// Appends text that has no bytes above 127.
+fn put_ascii(text: &mut String, bytes: &[u8]) -> Result<(), AllocError> {
+    for byte in bytes {
+        text.push(*byte as char)?;
+    }
+    Ok(())
+}
+
+/// Appends the status of the answer.
+fn put_status(text: &mut String, answer: &Result<bool, Error>) -> Answer {
+    let status = status(answer);
+    writeln!(text, "status {status}")?;
+    Ok(())
+}
+
+/// Appends the lines of the play of a file.
+pub(crate) fn play(alloc: Global, bytes: &[u8], text: &mut String) -> Answer {
+    let played = play_text(alloc, bytes, &mut Silent)?;
+    put_ascii(text, played.lines.as_slice())?;
+    Ok(())
+}
+
+/// Appends the image of the play of a file.
+pub(crate) fn frozen(alloc: Global, bytes: &[u8], text: &mut String) -> Answer {
+    let played = play_text(alloc, bytes, &mut Silent)?;
+    put_line(text, played.image.as_slice())?;
+    Ok(())
+}
+
+/// Appends what `atalk audit` writes of the image, and its status.
+pub(crate) fn audit(alloc: Global, image: &[u8], text: &mut String) -> Answer {
+    let mut input = Input::new(image);
+    let mut output = Output::new(alloc, Vec::with_capacity(alloc, ROOM)?);
+    let answer = audit_file(alloc, &mut input, &mut output);
+    if answer == Err(Error::Memory) {
+        return Err(Error::Memory.into());
+    }
+    put_ascii(text, output.writer.as_slice())?;
+    put_status(text, &answer)
+}
+
+/// Appends what `atalk trace` writes of the image and a script, and its status.
+pub(crate) fn trace(
+    alloc: Global,
+    image: &[u8],
+    mut words: Words<'_>,
+    text: &mut String,
+) -> Answer {
+    let script = words.text(alloc)?;
+    let mut image = Input::new(image);
+    let mut script = Input::new(script.as_slice());
+    let mut output = Output::new(alloc, Vec::with_capacity(alloc, ROOM)?);
+    let answer = run_frozen(alloc, &mut image, &mut script, &mut output);
+    if answer == Err(Error::Memory) {
+        return Err(Error::Memory.into());
+    }
+    put_ascii(text, output.writer.as_slice())?;
+    put_status(text, &answer)
+}
+
+/// Appends what `atalk play --image` writes of the file, its image, and its status.
+pub(crate) fn play_files(alloc: Global, bytes: &[u8], text: &mut String) -> Answer {
+    let mut input = Input::new(bytes);
+    let mut output = Output::new(alloc, Vec::with_capacity(alloc, ROOM)?);
+    let mut image = Output::new(alloc, Vec::with_capacity(alloc, ROOM)?);
+    let answer = play_bytes(alloc, &mut input, &mut output, &mut image, &mut Silent);
+    if answer == Err(Error::Memory) {
+        return Err(Error::Memory.into());
+    }
+    put_ascii(text, output.writer.as_slice())?;
+    put_line(text, image.writer.as_slice())?;
+    put_status(text, &answer)
+}

@@ -1,0 +1,85 @@
+//! How each outcome of the program ends.
+
+use at_base::{Cause, Error, Fault, Field, Part, Place, What};
+use case_words::{Answer, Stop, Words};
+use clap::error::ErrorKind as ParseError;
+use command_line::{Outcome, exit_of};
+use std::io::ErrorKind;
+
+/// An error by its number; those with fields have some.
+fn error(number: u8) -> Result<Error, Stop> {
+    Ok(match number {
+        1 => Error::Truncated,
+        2 => Error::BadLength,
+        3 => Error::BadChecksum,
+        4 => Error::BadField(Field::Taken),
+        5 => Error::BadRange,
+        6 => Error::BadName,
+        7 => Error::TooLong,
+        8 => Error::NoSuch(What::Name),
+        9 => Error::NotPending,
+        10 => Error::NoRouter,
+        11 => Error::Full,
+        12 => Error::BadImage(4, Cause::Version),
+        13 => Error::BadFile(Part::Cable, 1),
+        14 => Error::Memory,
+        15 => Error::ReadFault,
+        16 => Error::WriteFault,
+        17 => Error::BadScript(1),
+        18 => Error::NotAudited(Fault {
+            rule: 1,
+            place: Place::Cable(1),
+        }),
+        _ => return Err(Stop::Unclear),
+    })
+}
+
+fn parse_error(words: &mut Words<'_>) -> Result<ParseError, Stop> {
+    Ok(match words.word() {
+        "help" => ParseError::DisplayHelp,
+        "version" => ParseError::DisplayVersion,
+        "unknown" => ParseError::UnknownArgument,
+        "missing" => ParseError::MissingRequiredArgument,
+        "subcommand" => ParseError::InvalidSubcommand,
+        "memory" => ParseError::OutOfMemory,
+        _ => return Err(Stop::Unclear),
+    })
+}
+
+fn io_error(words: &mut Words<'_>) -> Result<ErrorKind, Stop> {
+    Ok(match words.word() {
+        "memory" => ErrorKind::OutOfMemory,
+        "data" => ErrorKind::InvalidData,
+        "missing" => ErrorKind::NotFound,
+        "denied" => ErrorKind::PermissionDenied,
+        _ => return Err(Stop::Unclear),
+    })
+}
+
+fn outcome(words: &mut Words<'_>) -> Result<Outcome, Stop> {
+    Ok(match words.word() {
+        "no-arguments" => Outcome::NoArguments(io_error(words)?),
+        "no-job" => {
+            let reason = parse_error(words)?;
+            words.expect("printed")?;
+            Outcome::NoJob(reason, words.yes_or_no()?)
+        }
+        "not-opened" => Outcome::NotOpened(io_error(words)?),
+        "not-created" => Outcome::NotCreated(io_error(words)?),
+        "yes" => Outcome::Answered(Ok(true)),
+        "no" => Outcome::Answered(Ok(false)),
+        "error" => Outcome::Answered(Err(error(words.number()?)?)),
+        _ => return Err(Stop::Unclear),
+    })
+}
+
+/// Appends the status of an outcome, and the number of the refusal, if there is one.
+pub(crate) fn answer(mut words: Words<'_>, text: &mut String) -> Answer {
+    let exit = exit_of(&outcome(&mut words)?);
+    let status = exit.status;
+    match exit.refusal {
+        Some(number) => writeln!(text, "status {status}, refused: {number}")?,
+        None => writeln!(text, "status {status}")?,
+    }
+    Ok(())
+}

@@ -1,0 +1,167 @@
+//! Worlds, tick by tick.
+
+use at_base::Addr;
+use cable_model::{Entry, Kind};
+use case_words::{Answer, Stop, Words, put_hw, put_line, put_text};
+use end_node::{Datagram, EndNode};
+use internet_file::read;
+use rtmp::PlainTable;
+use std::alloc::{AllocError, Global};
+use table_image::write;
+use world::World;
+
+type Live = World<PlainTable>;
+
+/// The world of a file.
+pub(crate) fn begun(alloc: Global, bytes: &[u8]) -> Result<Live, Stop> {
+    Ok(World::new(alloc, read(alloc, bytes)?)?)
+}
+
+fn put_bytes(text: &mut String, world: &Live, number: u32) -> Result<(), AllocError> {
+    text.push(' ')?;
+    put_line(text, world.bytes(number))
+}
+
+fn kind_word(kind: Kind) -> &'static str {
+    match kind {
+        Kind::Ddp => "ddp",
+        Kind::Aarp => "aarp",
+    }
+}
+
+/// Appends an entry in words, with its bytes. Cables and stations count from 0.
+fn put_entry(text: &mut String, world: &Live, entry: &Entry) -> Result<(), AllocError> {
+    match *entry {
+        Entry::Sent { station, bytes } => {
+            write!(text, "sent station {station}")?;
+            put_bytes(text, world, bytes)
+        }
+        Entry::Put {
+            stamp,
+            cable,
+            sender,
+            to,
+            kind,
+            bytes,
+        } => {
+            write!(text, "put {stamp} cable {cable} station {sender} to ")?;
+            put_hw(text, to)?;
+            let kind = kind_word(kind);
+            write!(text, " {kind}")?;
+            put_bytes(text, world, bytes)
+        }
+        Entry::Took { stamp, station } => writeln!(text, "took {stamp} station {station}"),
+        Entry::Reached {
+            cable,
+            station,
+            how,
+            bytes,
+        } => {
+            write!(text, "reached cable {cable} station {station} {how:?}")?;
+            put_bytes(text, world, bytes)
+        }
+        Entry::Dropped {
+            router,
+            cause,
+            bytes,
+        } => {
+            write!(text, "dropped station {router} {cause:?}")?;
+            put_bytes(text, world, bytes)
+        }
+        Entry::Lost { stamp } => writeln!(text, "lost {stamp}"),
+    }
+}
+
+/// Appends the entries from a place on.
+fn put_entries(text: &mut String, world: &Live, from: usize) -> Answer {
+    for entry in world.transcript().iter().skip(from) {
+        put_entry(text, world, entry)?;
+    }
+    Ok(())
+}
+
+/// Appends how many entries there are, and how many of them are takings and losses.
+fn put_counts(text: &mut String, world: &Live) -> Answer {
+    let (mut taken, mut lost) = (0u32, 0u32);
+    for entry in world.transcript() {
+        match entry {
+            Entry::Took { .. } => taken = taken.saturating_add(1),
+            Entry::Lost { .. } => lost = lost.saturating_add(1),
+            _ => {}
+        }
+    }
+    let entries = world.transcript().len();
+    writeln!(text, "{entries} entries, {taken} taken, {lost} lost")?;
+    Ok(())
+}
+
+fn put_address(text: &mut String, name: &str, addr: Option<Addr>) -> Result<(), AllocError> {
+    match addr {
+        Some(addr) => write!(text, "{name} {addr}"),
+        None => write!(text, "{name} none"),
+    }
+}
+
+/// Appends what a node holds.
+fn put_node(text: &mut String, node: Option<&EndNode>) -> Answer {
+    match node {
+        Some(node) => {
+            put_address(text, "address", node.own())?;
+            put_address(text, ", router", node.router())?;
+            write!(text, ", zone ")?;
+            put_text(text, node.zone().as_slice())?;
+            let names = node.names().entries().len();
+            writeln!(text, ", {names} names")?;
+        }
+        None => writeln!(text, "no such node")?,
+    }
+    Ok(())
+}
+
+fn put_received(text: &mut String, received: &[Datagram]) -> Answer {
+    for datagram in received {
+        let (source, from) = (datagram.source, datagram.source_socket);
+        let (socket, kind) = (datagram.target_socket, datagram.kind);
+        write!(text, "{source} {from} to {socket} type {kind} ")?;
+        put_line(text, datagram.payload.as_slice())?;
+    }
+    Ok(())
+}
+
+fn put_refused(text: &mut String, world: &Live) -> Answer {
+    for (action, number) in world.refused() {
+        writeln!(text, "action {action} refused {number}")?;
+    }
+    Ok(())
+}
+
+/// So many ticks pass.
+fn tick(world: &mut Live, count: u32) -> Answer {
+    for _ in 0..count {
+        world.tick()?;
+    }
+    Ok(())
+}
+
+/// Does what the words say.
+pub(crate) fn act(
+    alloc: Global,
+    world: &mut Live,
+    mut words: Words<'_>,
+    text: &mut String,
+) -> Answer {
+    match words.word() {
+        "tick" => tick(world, 1),
+        "ticks" => tick(world, words.number()?),
+        "entries" => put_entries(text, world, words.number()?),
+        "counts" => put_counts(text, world),
+        "node" => put_node(text, world.node(words.number()?)),
+        "received" => put_received(text, world.received(words.number()?)?.as_slice()),
+        "refused" => put_refused(text, world),
+        "frozen" => {
+            put_line(text, write(alloc, &world.freeze()?)?.as_slice())?;
+            Ok(())
+        }
+        _ => Err(Stop::Unclear),
+    }
+}
