@@ -1,0 +1,118 @@
+//! Rows of routing tables in words, as `30-39 distance 1 port 1 next 20.2 good`.
+
+use at_base::{Addr, Range};
+use case_words::{Stop, Words};
+use rtmp::{RouteTable, Row, State};
+use std::alloc::AllocError;
+
+/// The state of a row.
+pub(crate) fn state(words: &mut Words<'_>) -> Result<State, Stop> {
+    Ok(match words.word() {
+        "good" => State::Good,
+        "suspect" => State::Suspect,
+        "bad" => State::Bad,
+        "last" => State::Last,
+        _ => return Err(Stop::Unclear),
+    })
+}
+
+fn state_word(state: State) -> &'static str {
+    match state {
+        State::Good => "good",
+        State::Suspect => "suspect",
+        State::Bad => "bad",
+        State::Last => "last",
+    }
+}
+
+/// An address after the word `next`.
+fn next(words: &mut Words<'_>) -> Result<Addr, Stop> {
+    words.expect("next")?;
+    words.addr()
+}
+
+/// A row.
+pub(crate) fn row(words: &mut Words<'_>) -> Result<Row, Stop> {
+    Ok(Row {
+        range: words.range()?,
+        distance: words.named("distance")?,
+        port: words.named("port")?,
+        next: next(words)?,
+        state: state(words)?,
+    })
+}
+
+/// The row, with a range so many networks above its own.
+fn above(row: &Row, by: u16) -> Result<Row, Stop> {
+    let start = row.range.start().saturating_add(by);
+    let end = row.range.end().saturating_add(by);
+    Ok(Row {
+        range: Range::new(start, end)?,
+        distance: row.distance,
+        port: row.port,
+        next: row.next,
+        state: row.state,
+    })
+}
+
+/// Appends so many rows, each range so many networks above the one before: as `200 by 100 from` and
+/// the first row.
+pub(crate) fn put_many(rows: &mut Vec<Row>, mut words: Words<'_>) -> Result<(), Stop> {
+    let count: u16 = words.number()?;
+    let step: u16 = words.named("by")?;
+    words.expect("from")?;
+    let first = row(&mut words)?;
+    rows.reserve(count as usize)?;
+    for index in 0..count {
+        rows.push(above(&first, index.saturating_mul(step))?)?;
+    }
+    Ok(())
+}
+
+/// Appends the line of a row.
+fn put_row(text: &mut String, row: &Row) -> Result<(), AllocError> {
+    let (range, distance, port, next) = (row.range, row.distance, row.port, row.next);
+    let state = state_word(row.state);
+    writeln!(
+        text,
+        "{range} distance {distance} port {port} next {next} {state}"
+    )
+}
+
+/// Appends the line of a row, or of none.
+pub(crate) fn put_found(text: &mut String, found: Option<Row>) -> Result<(), AllocError> {
+    match found {
+        Some(row) => put_row(text, &row),
+        None => writeln!(text, "none"),
+    }
+}
+
+/// Appends the lines of a table's rows; those of an empty one are `none`.
+pub(crate) fn put_rows<T: RouteTable>(text: &mut String, table: &T) -> Result<(), AllocError> {
+    if table.len() == 0 {
+        return put_found(text, table.row(0));
+    }
+    for index in 0..table.len() {
+        put_found(text, table.row(index))?;
+    }
+    Ok(())
+}
+
+/// Appends how many rows a table has, where another has not as many, and the rows of it that the
+/// other hasn't at the same index.
+pub(crate) fn put_changes<T: RouteTable>(
+    text: &mut String,
+    table: &T,
+    other: &T,
+) -> Result<(), AllocError> {
+    let (len, was) = (table.len(), other.len());
+    if len != was {
+        writeln!(text, "{len} rows, not {was}")?;
+    }
+    for index in 0..len.max(was) {
+        if table.row(index) != other.row(index) {
+            put_found(text, table.row(index))?;
+        }
+    }
+    Ok(())
+}
