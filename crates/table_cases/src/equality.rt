@@ -1,8 +1,8 @@
 //! Which values of a list are equal.
 
-use crate::rows::{row, state};
+use crate::rows::state;
 use case_words::{Answer, Stop, Words};
-use rtmp::{Change, Tuple};
+use rtmp::{Change, Row, Tuple};
 use std::alloc::{AllocError, Global};
 
 fn change(words: &mut Words<'_>) -> Result<Change, Stop> {
@@ -35,10 +35,16 @@ fn put_equal<T: PartialEq>(text: &mut String, values: &[T]) -> Result<(), AllocE
     Ok(())
 }
 
-/// Appends which of the values are equal, by their indices.
-pub(crate) fn compare(alloc: Global, mut words: Words<'_>, text: &mut String) -> Answer {
+/// Appends which of the values are equal, by their indices: of these rows, or of a list of tuples,
+/// states or changes.
+pub(crate) fn compare(
+    alloc: Global,
+    rows: &[Row],
+    mut words: Words<'_>,
+    text: &mut String,
+) -> Answer {
     match words.word() {
-        "rows" => put_equal(text, words.list(alloc, row)?.as_slice())?,
+        "rows" => put_equal(text, rows)?,
         "tuples" => put_equal(text, words.list(alloc, tuple)?.as_slice())?,
         "states" => put_equal(text, words.list(alloc, state)?.as_slice())?,
         "changes" => put_equal(text, words.list(alloc, change)?.as_slice())?,

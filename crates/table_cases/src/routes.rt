@@ -156,7 +156,7 @@ impl Routes {
             "at" => put_found(text, self.table.row(after.number()?))?,
             "for" => put_found(text, self.table.row_for(after.number()?))?,
             "send" => put_sent(text, &sent(alloc, &self.table, after)?)?,
-            "compare" => compare(alloc, after, text)?,
+            "compare" => compare(alloc, self.given.as_slice(), after, text)?,
             _ => self.change(alloc, words, text)?,
         }
         Ok(())

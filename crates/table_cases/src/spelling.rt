@@ -5,7 +5,7 @@ use std::alloc::AllocError;
 use std::fmt::Display;
 
 /// The most bytes of a line.
-const LINE: usize = 54;
+const LINE: usize = 42;
 
 /// Appends a space and the bytes, where there are some.
 fn put_group(text: &mut String, bytes: &[u8]) -> Result<(), AllocError> {

@@ -18,9 +18,9 @@ fn put_packet(text: &mut String, bytes: &[u8]) -> Result<(), AllocError> {
     match bytes {
         [first, second, rest @ ..] => {
             put_hex(text, &[*first, *second])?;
-            put_groups(text, rest, 54)
+            put_groups(text, rest, 42)
         }
-        short => put_groups(text, short, 54),
+        short => put_groups(text, short, 42),
     }
 }
 
@@ -94,7 +94,7 @@ fn put_page(text: &mut String, page: &Page) -> Result<(), AllocError> {
     let count = page.count;
     write!(text, "{last}, {count} names: ")?;
     put_hex(text, &page.user())?;
-    put_groups(text, page.bytes.as_slice(), 54)
+    put_groups(text, page.bytes.as_slice(), 42)
 }
 
 /// Appends the page of names that begins at an index.
