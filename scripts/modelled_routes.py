@@ -1,6 +1,5 @@
 """Routing tables as docs/BEHAVIOUR.md has them, and pseudo-random calls with what they answer."""
 import dataclasses
-import itertools
 import struct
 
 from case_sheets import Sheet, groups
@@ -27,7 +26,8 @@ class Row:
 
 
 def shown(span: Span, row: Row) -> str:
-    return f"{span[0]}-{span[1]} distance {row.distance} port {row.port} next {row.next} {row.state}"
+    way = f"distance {row.distance} port {row.port} next {row.next}"
+    return f"{span[0]}-{span[1]} {way} {row.state}"
 
 
 def overlap(one: Span, other: Span) -> bool:
@@ -95,7 +95,8 @@ class Routes:
 
     def age(self) -> list[Span]:
         """A period passes. The ranges whose rows go."""
-        gone = [span for span, row in self.rows.items() if row.state == "last" and not row.is_direct]
+        others = {span: row for span, row in self.rows.items() if not row.is_direct}
+        gone = [span for span, row in others.items() if row.state == "last"]
         for span in gone:
             del self.rows[span]
         for span, row in self.rows.items():
@@ -171,7 +172,8 @@ class RouteCases:
 
     def direct(self) -> None:
         span, port = self.span(), self.port()
-        self.sheet.say(f"route direct {span[0]}-{span[1]} port {port}", *self.table.direct(span, port))
+        command = f"route direct {span[0]}-{span[1]} port {port}"
+        self.sheet.say(command, *self.table.direct(span, port))
 
     def load(self) -> None:
         given = [(self.span(), self.row()) for _ in range(self.chance.randrange(7))]
@@ -220,10 +222,8 @@ class RouteCases:
     def changes(self) -> None:
         """What differs from the copy."""
         rows, others = self.table.listed(), self.other.listed()
-        wanted = [f"{len(rows)} rows, not {len(others)}"] if len(rows) != len(others) else []
-        for row, other in itertools.zip_longest(rows, others):
-            if row != other:
-                wanted.append(shown(*row) if row else "none")
+        wanted = [f"now {shown(*pair)}" for pair in rows if pair not in others]
+        wanted += [f"was {shown(*pair)}" for pair in others if pair not in rows]
         self.sheet.say("route changes", *wanted)
 
     def rows(self) -> None:
@@ -231,8 +231,8 @@ class RouteCases:
 
     def call(self) -> None:
         """A call, and then the rows or another reading."""
-        calls = [self.hear] * 16 + [self.packet] * 4 + [self.age] * 4
-        self.chance.choice([*calls, self.direct, self.direct, self.poison, self.poison, self.load])()
+        calls = [self.hear] * 16 + [self.packet, self.age] * 4 + [self.direct, self.poison] * 2
+        self.chance.choice([*calls, self.load])()
         self.chance.choice([self.rows, self.read, self.read])()
 
 

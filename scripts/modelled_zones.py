@@ -1,4 +1,4 @@
-"""Zone tables as docs/BEHAVIOUR.md has them, what a router answers from one, and pseudo-random calls."""
+"""Zone tables as docs/BEHAVIOUR.md has them, what a router answers, and pseudo-random calls."""
 import dataclasses
 import struct
 from collections.abc import Callable, Sequence
@@ -217,7 +217,8 @@ class ZoneCases:
 
     def set(self) -> None:
         span, names = self.known_span(), self.names(4)
-        self.sheet.say(f"zone set {shown(span)} {listed_words(names)}", *self.table.set(span, names))
+        command = f"zone set {shown(span)} {listed_words(names)}"
+        self.sheet.say(command, *self.table.set(span, names))
 
     def add(self) -> None:
         span, total = self.known_span(), self.chance.choice([0, 1, 2, 2, 3, 3, 4, 64, 65])
@@ -299,7 +300,7 @@ class ZoneCases:
 
     def call(self) -> None:
         """A call that may change the table, and a reading."""
-        changes: list[Callable[[], None]] = [self.set, self.set, self.add, self.add, self.add, self.add]
+        changes: list[Callable[[], None]] = [self.set] * 2 + [self.add] * 4
         self.chance.choice([*changes, self.append, self.remove, self.copy, self.swap])()
         readings = [self.lists, self.lists, self.read, self.read_all, self.query, self.told]
         self.chance.choice([*readings, self.paged, self.expanded])()

@@ -1,19 +1,27 @@
 #!/usr/bin/env python3
-"""Writes the case files whose answers come of plain models: pseudo-random calls of what stations remember.
+"""Writes the case files that plain models answer: pseudo-random calls of what stations remember.
 
 usage: scripts/table_cases.py [FOLDER]          crates/table_cases/data, if none is given
 
-The models follow docs/BEHAVIOUR.md and docs/FORMATS.md, and none of the code. The same calls come of each run.
+The models follow docs/BEHAVIOUR.md and docs/FORMATS.md, and none of the code. Each run makes the same
+calls.
 """
 import pathlib
 import sys
 
+import modelled_addresses
+import modelled_learning
+import modelled_names
 import modelled_routes
 import modelled_zones
 
 FILES = {
     "model-routes.case": lambda: modelled_routes.routes(1),
     "model-zones.case": lambda: modelled_zones.zones(2),
+    "model-learning.case": lambda: modelled_learning.learning(3),
+    "model-names.case": lambda: modelled_names.names(4),
+    "model-choosers.case": lambda: modelled_addresses.choosers(5),
+    "model-mappers.case": lambda: modelled_addresses.mappers(6),
 }
 
 

@@ -98,21 +98,39 @@ pub(crate) fn put_rows<T: RouteTable>(text: &mut String, table: &T) -> Result<()
     Ok(())
 }
 
-/// Appends how many rows a table has, where another has not as many, and the rows of it that the
-/// other hasn't at the same index.
+/// Whether a table has the row.
+fn has<T: RouteTable>(table: &T, row: Option<Row>) -> bool {
+    for index in 0..table.len() {
+        if table.row(index) == row {
+            return true;
+        }
+    }
+    false
+}
+
+/// Appends the rows of a table that another hasn't, after a word.
+fn put_missing<T: RouteTable>(
+    text: &mut String,
+    word: &str,
+    table: &T,
+    other: &T,
+) -> Result<(), AllocError> {
+    for index in 0..table.len() {
+        let row = table.row(index);
+        if !has(other, row) {
+            write!(text, "{word} ")?;
+            put_found(text, row)?;
+        }
+    }
+    Ok(())
+}
+
+/// Appends the rows that a table has and another hasn't, and then those that only the other has.
 pub(crate) fn put_changes<T: RouteTable>(
     text: &mut String,
     table: &T,
     other: &T,
 ) -> Result<(), AllocError> {
-    let (len, was) = (table.len(), other.len());
-    if len != was {
-        writeln!(text, "{len} rows, not {was}")?;
-    }
-    for index in 0..len.max(was) {
-        if table.row(index) != other.row(index) {
-            put_found(text, table.row(index))?;
-        }
-    }
-    Ok(())
+    put_missing(text, "now", table, other)?;
+    put_missing(text, "was", other, table)
 }
