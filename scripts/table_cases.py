@@ -13,6 +13,7 @@ import modelled_addresses
 import modelled_learning
 import modelled_names
 import modelled_routes
+import modelled_transactions
 import modelled_zones
 
 FILES = {
@@ -22,6 +23,7 @@ FILES = {
     "model-names.case": lambda: modelled_names.names(4),
     "model-choosers.case": lambda: modelled_addresses.choosers(5),
     "model-mappers.case": lambda: modelled_addresses.mappers(6),
+    "model-transactions.case": lambda: modelled_transactions.transactions(7),
 }
 
 
