@@ -24,7 +24,7 @@ class Sheet:
 
 
 def quoted(text: bytes) -> str:
-    """A text in quotation marks; other bytes than printable ones, and these two, as \\ and two digits."""
+    """A text in quotation marks; a byte that isn't printable is a backslash and two digits."""
     plain = (chr(b) if 0x20 <= b <= 0x7E and b not in b'"\\' else f"\\{b:02X}" for b in text)
     return '"' + "".join(plain) + '"'
 

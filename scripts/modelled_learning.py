@@ -29,8 +29,8 @@ class LearningCases:
         said = [(self.span(), self.chance.choice([0, 1, 5, 14, 15, 31])) for _ in range(count)]
         said.insert(0, (own, 0))
         words = " ".join(as_bytes(*each).hex().upper() for each in said)
-        command = f"learn routes port {port} on {cable[0]}-{cable[1]} {address(router).hex().upper()}"
-        self.sheet.say(f"{command} {words}")
+        command = f"learn routes port {port} on {cable[0]}-{cable[1]}"
+        self.sheet.say(f"{command} {address(router).hex().upper()} {words}")
         if cable[0] <= int(router.split(".")[0]) <= cable[1] and own == cable:
             for span, distance in said:
                 self.routes.table.hear(span, distance, router, port)
@@ -41,8 +41,10 @@ class LearningCases:
         return found[0] if found and not found[1].is_direct else None
 
     def entries(self, nets: list[int]) -> list[Entry]:
-        count = self.chance.randrange(1, 6)
-        return [(self.chance.choice(nets), self.chance.choice(self.zones.zones)) for _ in range(count)]
+        """Names of some of the networks, as many as a line of the file has room for."""
+        zones = [zone for zone in self.zones.zones if len(zone) <= 12]
+        count = self.chance.randrange(1, 5)
+        return [(self.chance.choice(nets), self.chance.choice(zones)) for _ in range(count)]
 
     def nets(self) -> list[int]:
         """Some networks, most of them of usable rows."""
@@ -83,16 +85,20 @@ class LearningCases:
             self.zones.table.lists.pop(span, None)
 
     def queries(self) -> None:
-        rows = [(span, self.routes.table.rows[span]) for span in self.zones.table.due(self.routes.table)]
-        self.sheet.say("zone due", *([str(span[0]) for span, _ in rows] or ["none"]))
-        asked = [f"{span[0]} from {row.next} by port {row.port}" for span, row in rows if not row.is_direct]
+        spans = self.zones.table.due(self.routes.table)
+        self.sheet.say("zone due", *([str(span[0]) for span in spans] or ["none"]))
+        asked = []
+        for span in spans:
+            row = self.routes.table.rows[span]
+            if not row.is_direct:
+                asked.append(f"{span[0]} from {row.next} by port {row.port}")
         self.sheet.say("learn queries", *(asked or ["none"]))
 
     def call(self) -> None:
         """Something that is heard or forgotten, and then what is known."""
         heard = [self.routing_data] * 4 + [self.extended_reply] * 4 + [self.reply] * 3
-        rarely = [self.forget, self.other_packet, self.zones.set, self.zones.add, self.routes.poison]
-        self.chance.choice(heard + rarely)()
+        rarely = [self.forget, self.other_packet, self.zones.set, self.zones.add]
+        self.chance.choice([*heard, *rarely, self.routes.poison])()
         self.chance.choice([self.routes.rows, self.zones.lists, self.zones.lists, self.queries])()
 
 

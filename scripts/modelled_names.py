@@ -2,9 +2,11 @@
 from case_sheets import Sheet, folded, quoted
 from modelled_routes import TITLE
 
-TEXTS = [b"lab", b"LAB", b"LaserWriter", b"laserwriter", b"Lab 2", b"aba", b"abba", b"\xe1", b"\xc1"]
+TEXTS = [b"lab", b"LAB", b"LaserWriter", b"laserwriter", b"Lab 2", b"aba", b"abba"]
+TEXTS += [b"\xe1", b"\xc1"]
 NO_NAMES = [b"", b"=", b"\xc5", b"L\xc5", b"a\xc5b"]
-PATTERNS = [b"=", b"L\xc5", b"\xc5R", b"ab\xc5ba", b"\xc5", b"a\xc5\xc5", b"=\xc5", b"\xc5 2", b"", b"=="]
+PATTERNS = [b"=", b"L\xc5", b"\xc5R", b"ab\xc5ba", b"\xc5", b"a\xc5\xc5", b"=\xc5", b"\xc5 2"]
+PATTERNS += [b"", b"=="]
 Pair = tuple[bytes, bytes]
 
 

@@ -186,10 +186,10 @@ class RequesterCases:
         self.requester, self.other = self.other, self.requester
 
     def call(self, begins: int) -> None:
-        calls = [self.hear] * 8 + [self.request] * 3 + [self.tick] * 2 + [self.result] * 2
-        self.chance.choice(calls + [self.due] * 2 + [self.begin] * begins)()
-        if self.chance.random() < 0.05:
-            self.chance.choice([self.copy, self.swap])()
+        calls = [self.hear] * 8 + [self.request] * 3 + [self.tick, self.result, self.due] * 2
+        self.chance.choice(calls + [self.begin] * begins)()
+        if self.chance.random() < 0.04:
+            self.chance.choice([self.copy, self.copy, self.swap])()
 
 
 @dataclasses.dataclass
@@ -284,7 +284,7 @@ class ResponderCases:
         self.responder, self.other = Responder(), Responder()
 
     def key(self) -> tuple[str, int]:
-        if self.responder.requests and self.chance.random() < 0.6:
+        if self.responder.requests and self.chance.random() < 20 / (20 + self.numbers):
             return self.chance.choice(list(self.responder.requests))
         return self.chance.choice(SOCKETS), self.chance.randrange(self.numbers)
 
@@ -347,8 +347,8 @@ class ResponderCases:
     def call(self, hears: int) -> None:
         calls = [self.hear] * hears + [self.respond] * 3 + [self.parts] * 2 + [self.reply] * 2
         self.chance.choice([*calls, self.tick, self.forget])()
-        if self.chance.random() < 0.04:
-            self.chance.choice([self.copy, self.swap])()
+        if self.chance.random() < 0.02:
+            self.chance.choice([self.copy, self.copy, self.swap])()
 
 
 def transactions(seed: int) -> str:

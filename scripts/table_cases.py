@@ -3,8 +3,8 @@
 
 usage: scripts/table_cases.py [FOLDER]          crates/table_cases/data, if none is given
 
-The models follow docs/BEHAVIOUR.md and docs/FORMATS.md, and none of the code. Each run makes the same
-calls.
+The models follow docs/BEHAVIOUR.md and docs/FORMATS.md, and none of the code. Each run
+makes the same calls.
 """
 import pathlib
 import sys

@@ -30,8 +30,8 @@ fn decided(alloc: Global, range: Range, addr: Addr, hw: Hw) -> Result<Chooser, S
     Ok(Chooser::decided(alloc, range, addr, hw))
 }
 
-/// The choice on a cable, of a hardware address, after `has` its address or after `tries` those that
-/// it tries.
+/// The choice on a cable, of a hardware address: after `has` its address, or after `tries` those
+/// that it tries.
 fn chooser(alloc: Global, mut words: Words<'_>) -> Result<Chooser, Stop> {
     let range = words.range()?;
     let hw = words.hw()?;
