@@ -28,7 +28,7 @@ def entry(net: int, name: bytes) -> bytes:
 
 
 def fitting(texts: Sequence[bytes], room: int) -> int:
-    """How many of the texts, from the first one on, fit into so many bytes."""
+    """How many of the texts, from the first one on, fit into this room."""
     count = 0
     while count < len(texts) and len(texts[count]) <= room:
         room -= len(texts[count])
@@ -88,7 +88,7 @@ class Zones:
         return refusal
 
     def append(self, span: Span, least: int, names: Sequence[bytes]) -> list[str]:
-        """A list above all others, of at least so many zones."""
+        """A list above all others, with a least number of zones."""
         if span[0] <= max((other[1] for other in self.lists), default=0):
             return ["bad range"]
         if least > 64 or len(names) > 64 or len(self.lists) >= 200:
@@ -156,14 +156,14 @@ def answer(zones: Zones, function: int, start: int, local: Sequence[bytes]) -> s
 
 
 def info(asked: bytes, span: Span, names: Sequence[bytes]) -> str:
-    """What a node that asks for a zone is told of a cable."""
+    """The answer to a node that asks for a zone."""
     if not names:
         return "none"
     found = next((name for name in names if folded(name) == folded(asked)), None)
     flags = (0 if found else 0x80) | (0x20 if len(names) == 1 else 0)
     address = bytes([9, 0, 7, 0, 0, group(found or names[0])])
-    told = struct.pack(">HH", *span) + after_length(asked) + after_length(address)
-    return f"06{flags:02X}" + groups(told + (b"" if found else after_length(names[0])))
+    body = struct.pack(">HH", *span) + after_length(asked) + after_length(address)
+    return f"06{flags:02X}" + groups(body + (b"" if found else after_length(names[0])))
 
 
 def expand(zones: Zones, zone: bytes, ports: Sequence[Span]) -> list[str]:
@@ -277,8 +277,8 @@ class ZoneCases:
         words = " ".join(f"{net:04X}" for net in nets)
         self.sheet.say(f"zone query 01 {len(nets):02X} {words}", *self.table.replies(nets))
 
-    def told(self) -> None:
-        """What a node is told of its cable."""
+    def asked(self) -> None:
+        """A question about a cable."""
         asked = self.chance.choice([*self.zones, b"", b"*", b"=", b"\xc5", b"Re"])
         span, names = self.span(), each_once(self.names(3))
         command = f"zone info {quoted(asked)} on {shown(span)} of {listed_words(names)}"
@@ -302,7 +302,7 @@ class ZoneCases:
         """A call that may change the table, and a reading."""
         changes: list[Callable[[], None]] = [self.set] * 2 + [self.add] * 4
         self.chance.choice([*changes, self.append, self.remove, self.copy, self.swap])()
-        readings = [self.lists, self.lists, self.read, self.read_all, self.query, self.told]
+        readings = [self.lists, self.lists, self.read, self.read_all, self.query, self.asked]
         self.chance.choice([*readings, self.paged, self.expanded])()
 
 

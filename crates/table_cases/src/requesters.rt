@@ -68,7 +68,7 @@ fn put_result(text: &mut String, requester: &mut Requester, id: u16) -> Answer {
 }
 
 /// Begins a transaction, lets its first part come as the last one, without data, and closes it. Its
-/// number. No memory is taken where the request has no data.
+/// ID. No memory is taken where the request has no data.
 fn pass_one(alloc: Global, requester: &mut Requester, ask: &Ask) -> Result<u16, Stop>
     requires { IsAsk ask.now }
 {
@@ -86,8 +86,8 @@ fn pass_one(alloc: Global, requester: &mut Requester, ask: &Ask) -> Result<u16, 
     }
 }
 
-/// Passes so many transactions, one after the other, and appends the first number and the last, and
-/// where a number doesn't follow on the one before.
+/// Passes a number of transactions, one after the other, and appends the first ID and the last, and
+/// where an ID doesn't follow on the one before.
 fn pass(
     alloc: Global,
     requester: &mut Requester,
@@ -109,7 +109,7 @@ fn pass(
     Ok(())
 }
 
-/// Lets so many ticks pass.
+/// Lets a number of ticks pass.
 fn tick(requester: &mut Requester, count: u32) {
     for _ in 0..count {
         requester.tick();

@@ -112,7 +112,7 @@ fn forget(responder: &mut Responder, mut words: Words<'_>) -> Answer {
     Ok(())
 }
 
-/// Lets so many ticks pass.
+/// Lets a number of ticks pass.
 fn tick(responder: &mut Responder, count: u32) {
     for _ in 0..count {
         responder.tick();

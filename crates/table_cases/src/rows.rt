@@ -42,7 +42,7 @@ pub(crate) fn row(words: &mut Words<'_>) -> Result<Row, Stop> {
     })
 }
 
-/// The row, with a range so many networks above its own.
+/// The row, with a range that begins some networks above its own.
 fn above(row: &Row, by: u16) -> Result<Row, Stop> {
     let start = row.range.start().saturating_add(by);
     let end = row.range.end().saturating_add(by);
@@ -55,8 +55,8 @@ fn above(row: &Row, by: u16) -> Result<Row, Stop> {
     })
 }
 
-/// Appends so many rows, each range so many networks above the one before: as `200 by 100 from` and
-/// the first row.
+/// Appends rows with rising ranges, as `200 by 100 from` and the first row: 200 rows, each 100
+/// networks above the one before.
 pub(crate) fn put_many(rows: &mut Vec<Row>, mut words: Words<'_>) -> Result<(), Stop> {
     let count: u16 = words.number()?;
     let step: u16 = words.named("by")?;

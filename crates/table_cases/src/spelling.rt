@@ -16,7 +16,7 @@ fn put_group(text: &mut String, bytes: &[u8]) -> Result<(), AllocError> {
     put_hex(text, bytes)
 }
 
-/// Appends the bytes in groups of so many, and begins a new line with `..` where one is full.
+/// Appends the bytes in groups of a size, and begins a new line with `..` where one is full.
 pub(crate) fn put_groups(text: &mut String, bytes: &[u8], size: usize) -> Result<(), AllocError> {
     for (index, line) in bytes.chunks(LINE).enumerate() {
         if index > 0 {

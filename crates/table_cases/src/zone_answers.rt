@@ -48,7 +48,13 @@ fn put_room(text: &mut String, bytes: Bytes) -> Result<(), AllocError> {
 }
 
 /// Appends the answer to a node on a cable with at least one zone.
-fn told(alloc: Global, asked: &Text32, range: Range, names: &[Name], text: &mut String) -> Answer {
+fn answered(
+    alloc: Global,
+    asked: &Text32,
+    range: Range,
+    names: &[Name],
+    text: &mut String,
+) -> Answer {
     if names.is_empty() {
         return Err(Stop::Unclear);
     }
@@ -73,7 +79,7 @@ fn replied(
     Ok(())
 }
 
-/// Appends what a node that asks for a zone is told of a cable with these zones.
+/// Appends the answer to a node that asks for a zone, on a cable with these zones.
 fn info(alloc: Global, mut words: Words<'_>, text: &mut String) -> Answer {
     let is_exact = words.passes("exactly");
     let asked = words.text32(alloc)?;
@@ -82,7 +88,7 @@ fn info(alloc: Global, mut words: Words<'_>, text: &mut String) -> Answer {
     words.expect("of")?;
     let names = names(alloc, &mut words)?;
     if is_exact {
-        told(alloc, &asked, range, names.as_slice(), text)
+        answered(alloc, &asked, range, names.as_slice(), text)
     } else {
         replied(alloc, &asked, range, names.as_slice(), text)
     }

@@ -22,7 +22,7 @@ fn set(alloc: Global, table: &mut ZoneTable, mut words: Words<'_>) -> Answer {
     Ok(())
 }
 
-/// Adds a name to the list of a range, which has so many.
+/// Adds a name to the list of a range, as one of a total.
 fn add(alloc: Global, table: &mut ZoneTable, mut words: Words<'_>) -> Answer {
     let range = words.range()?;
     let total = words.named("of")?;
@@ -31,7 +31,7 @@ fn add(alloc: Global, table: &mut ZoneTable, mut words: Words<'_>) -> Answer {
     Ok(())
 }
 
-/// Puts a list of at least so many zones after all others.
+/// Puts a list after all others, with a least number of zones.
 fn append(alloc: Global, table: &mut ZoneTable, mut words: Words<'_>) -> Answer {
     let range = words.range()?;
     let least = words.named("least")?;
