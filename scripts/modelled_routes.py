@@ -249,7 +249,7 @@ def small_tables(sheet: Sheet) -> None:
 
 def full_tables(sheet: Sheet) -> None:
     """Tables of about 200 rows, in which new ranges find no room."""
-    for number in range(4):
+    for number in range(2):
         sheet.case(f"A table that is nearly full, number {number + 1}.", "tables")
         cases = RouteCases(sheet, 30)
         count = sheet.chance.choice([195, 198, 199, 200])
@@ -258,10 +258,10 @@ def full_tables(sheet: Sheet) -> None:
         sheet.say("route load")
         cases.table.load([((5001 + 100 * k, 5010 + 100 * k), first) for k in range(count)])
         cases.copy()
-        for _ in range(15):
+        for _ in range(8):
             sheet.chance.choice([cases.hear, cases.hear, cases.packet])()
             cases.changes()
-        for _ in range(10):
+        for _ in range(6):
             sheet.chance.choice([cases.direct, cases.hear])()
             cases.read()
 
