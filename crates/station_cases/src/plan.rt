@@ -29,7 +29,7 @@ pub(crate) struct Plan {
     names: Option<Names>,
 }
 
-/// Addresses up to the end of the line, with semicolons between them.
+/// The addresses up to the end of the line.
 fn addrs(alloc: Global, mut words: Words<'_>) -> Result<Vec<Addr>, Stop> {
     let mut addrs = Vec::new(alloc);
     for _ in 0..u64::MAX {
@@ -37,7 +37,6 @@ fn addrs(alloc: Global, mut words: Words<'_>) -> Result<Vec<Addr>, Stop> {
             break;
         }
         addrs.push(words.addr()?)?;
-        let _ = words.passes(";");
     }
     Ok(addrs)
 }
@@ -55,7 +54,7 @@ fn names(alloc: Global, mut words: Words<'_>) -> Result<Vec<Name>, Stop> {
     Ok(names)
 }
 
-/// A port, as `10-19 hardware 020000000001 own 10.1` or `10-19 hardware 020000000001 tries 10.1; 10.2`.
+/// A port, as `10-19 hardware 020000000001 own 10.1` or `10-19 hardware 020000000001 tries 10.1 10.2`.
 fn port(alloc: Global, mut words: Words<'_>) -> Result<PlannedPort, Stop> {
     let range = words.range()?;
     words.expect("hardware")?;
