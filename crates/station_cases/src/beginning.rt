@@ -47,11 +47,18 @@ fn are_near(rows: &[Row]) -> bool
     rows.iter().all(|row| row.distance <= 31)
 }
 
+/// Whether the port of each row is below a number.
+fn are_below(rows: &[Row], number: usize) -> bool
+    ensures { result ≡ list_all (λ r. nat_lt r.port number) rows.now }
+{
+    rows.iter().all(|row| (row.port as usize) < number)
+}
+
 /// Whether each row is by one of the ports.
 fn are_seated(rows: &[Row], plans: &[PortPlan<'_>]) -> bool
     ensures { result ≡ list_all (λ r. nat_lt r.port (length plans.now)) rows.now }
 {
-    rows.iter().all(|row| (row.port as usize) < plans.len())
+    are_below(rows, plans.len())
 }
 
 fn plans_of<'a>(alloc: Global, ports: &'a [PlannedPort]) -> Result<Vec<PortPlan<'a>>, Stop> {
@@ -79,7 +86,13 @@ fn router_by<T: RouteTable>(
     rows: &[Row],
     zones: ZoneTable,
 ) -> Result<Router<T>, Stop> {
-    if !are_sound(plans) || !are_near(rows) || !are_seated(rows, plans) {
+    if !are_sound(plans) {
+        return Err(Stop::Unclear);
+    }
+    if !are_near(rows) {
+        return Err(Stop::Unclear);
+    }
+    if !are_seated(rows, plans) {
         return Err(Stop::Unclear);
     }
     let routes: T = table_of(alloc, rows)?;

@@ -40,14 +40,21 @@ pub(crate) struct Stations {
     bytes: Vec<u8>,
 }
 
+/// The live station that is planned, of this kind.
+fn live_subject_of(alloc: Global, plan: &Plan, kind: &str) -> Result<Subject, Stop> {
+    match kind {
+        "router" => Ok(Subject::LiveRouter(live_router_of(alloc, plan)?)),
+        "node" => Ok(Subject::LiveNode(live_node_of(alloc, plan)?)),
+        _ => Err(Stop::Unclear),
+    }
+}
+
 /// The station that is planned, of this kind.
 fn subject_of(alloc: Global, plan: &Plan, mut words: Words<'_>) -> Result<Subject, Stop> {
-    let is_live = words.passes("live");
-    match (words.word(), is_live) {
-        ("router", false) => Ok(Subject::Router(router_of(alloc, plan)?)),
-        ("router", true) => Ok(Subject::LiveRouter(live_router_of(alloc, plan)?)),
-        ("node", false) => Ok(Subject::Node(node_of(alloc, plan)?)),
-        ("node", true) => Ok(Subject::LiveNode(live_node_of(alloc, plan)?)),
+    match words.word() {
+        "live" => live_subject_of(alloc, plan, words.word()),
+        "router" => Ok(Subject::Router(router_of(alloc, plan)?)),
+        "node" => Ok(Subject::Node(node_of(alloc, plan)?)),
         _ => Err(Stop::Unclear),
     }
 }

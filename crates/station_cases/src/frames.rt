@@ -84,15 +84,20 @@ fn header(words: &mut Words<'_>) -> Result<Header, Stop> {
     })
 }
 
+fn put_at(bytes: &mut Vec<u8>, index: usize, value: u8) {
+    if let Some(byte) = bytes.get_mut(index) {
+        *byte = value;
+    }
+}
+
 /// Puts the hop count of a datagram, and its checksum where one is given, into its header.
 fn amend(bytes: &mut Vec<u8>, hops: u8, sum: &[u8]) {
     if let Some(byte) = bytes.get_mut(0) {
         *byte |= (hops & 0x0F) << 2;
     }
-    for (index, value) in sum.iter().enumerate().take(2) {
-        if let Some(byte) = bytes.get_mut(2usize.saturating_add(index)) {
-            *byte = *value;
-        }
+    if let [high, low] = sum {
+        put_at(bytes, 2, *high);
+        put_at(bytes, 3, *low);
     }
 }
 

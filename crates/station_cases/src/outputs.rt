@@ -26,6 +26,15 @@ pub(crate) fn put_next(text: &mut String, next: Next) -> Result<(), AllocError> 
     }
 }
 
+/// So many of the bytes, or all where there are fewer, and what is left of them.
+fn cut(bytes: &[u8], size: usize) -> (&[u8], &[u8]) {
+    if size <= bytes.len() {
+        bytes.split_at(size)
+    } else {
+        (bytes, &[])
+    }
+}
+
 /// Appends bytes in groups of these sizes. What is left of the bytes.
 fn put_groups<'a>(
     text: &mut String,
@@ -34,7 +43,7 @@ fn put_groups<'a>(
 ) -> Result<&'a [u8], AllocError> {
     let mut rest = bytes;
     for size in sizes {
-        let (group, after) = rest.split_at((*size).min(rest.len()));
+        let (group, after) = cut(rest, *size);
         text.push(' ')?;
         put_hex(text, group)?;
         rest = after;

@@ -90,7 +90,7 @@ impl PlannedPort {
 
 /// The range after another one, of as many networks.
 fn range_after(range: Range) -> Result<Range, Stop> {
-    let step = (range.end() - range.start()).saturating_add(1);
+    let step = range.end().saturating_sub(range.start()).saturating_add(1);
     let (start, end) = (range.start(), range.end());
     Ok(Range::new(start.saturating_add(step), end.saturating_add(step))?)
 }
