@@ -267,7 +267,7 @@ def query_lines(router: Router, ended: int, d: Datagram) -> list[str]:
 
 
 def info_lines(router: Router, ended: int, d: Datagram) -> list[str]:
-    """What a node is told of the cable on which its question ended, by that cable alone."""
+    """What a node learns of the cable on which its question ended, by that cable alone."""
     port, zone = router.ports[ended], d.data[7:7 + d.data[6]]
     names = names_at(router, port.start)
     is_near = port.start <= d.source[0] <= port.end

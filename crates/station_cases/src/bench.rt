@@ -136,7 +136,7 @@ impl Stations {
         Ok(())
     }
 
-    /// Lets so many ticks pass, and appends what is put out with the number of its tick.
+    /// Lets ticks pass, and appends what is put out with the number of its tick.
     fn ticks(&mut self, count: u32, text: &mut String) -> Answer {
         for _ in 0..count {
             self.ticks = self.ticks.saturating_add(1);
@@ -148,7 +148,7 @@ impl Stations {
         Ok(())
     }
 
-    /// Lets so many ticks pass, and appends how much is put out.
+    /// Lets ticks pass, and appends how much is put out.
     fn pass(&mut self, count: u32, text: &mut String) -> Answer {
         let mut sum = 0usize;
         for _ in 0..count {

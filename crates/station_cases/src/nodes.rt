@@ -28,7 +28,7 @@ pub(crate) struct Pattern {
 
 /// A node as its users see it.
 pub(crate) trait User: Drop {
-    /// The node as it stands.
+    /// The node as it is now.
     fn held(&self) -> &EndNode;
 
     /// Sends a datagram.

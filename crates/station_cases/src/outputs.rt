@@ -12,7 +12,7 @@ const HEADER: [usize; 9] = [2, 2, 2, 2, 1, 1, 1, 1, 1];
 /// protocol address of the source and of the target.
 const PACKET: [usize; 9] = [2, 2, 1, 1, 2, 6, 4, 6, 4];
 
-/// The most bytes of data that stand on the line of their header, and on a line of their own.
+/// The most bytes of data on the line of their header, and on a line of their own.
 const BESIDE: usize = 24;
 
 const A_LINE: usize = 48;

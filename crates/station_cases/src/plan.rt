@@ -95,7 +95,7 @@ fn range_after(range: Range) -> Result<Range, Stop> {
     Ok(Range::new(start.saturating_add(step), end.saturating_add(step))?)
 }
 
-/// Rows, as `10-19 distance 0 port 0 next 0.0 good`, or so many of them, each of the range after the one before.
+/// Rows, as `10-19 distance 0 port 0 next 0.0 good`, or a number of them, each of the range after the one before.
 fn rows(alloc: Global, mut words: Words<'_>) -> Result<Vec<Row>, Stop> {
     let mut rows = Vec::new(alloc);
     let mut next = row(&mut words)?;
