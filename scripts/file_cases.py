@@ -86,7 +86,7 @@ def other_value(chance, key):
 def change(chance, file):
     """Changes one value, takes a key or an entry out, or adds one; says the command that does it to the text."""
     old = file.text()
-    name, keys = chance.choice(file.entries)
+    name, keys = chance.choice([entry for entry in file.entries if entry[1]])
     kind = chance.random()
     if kind < 0.75:
         pair = chance.choice(keys)
@@ -103,7 +103,6 @@ def change(chance, file):
 def bars(text):
     for line in text.splitlines():
         print(f"| {line}" if line else "|")
-
 
 
 def main():
