@@ -1,28 +1,66 @@
 //! What the commands of a case are done with.
 
-use case_words::{Answer, Bench, Stop, Words, put_line, put_text};
+use crate::choosers::Choosing;
+use crate::mappers::Mapping;
+use crate::names::Naming;
+use crate::requesters::Requesting;
+use crate::responders::Responding;
+use crate::tables::Tables;
+use case_words::{Answer, Bench, Stop, Words};
 use std::alloc::Global;
 
-/// Cases hold nothing from command to command.
+/// What a case is about. Its first command says what.
+#[derive(Drop)]
+enum Subject {
+    Nothing,
+    Tables(Tables),
+    Names(Naming),
+    Chooser(Choosing),
+    Mapper(Mapping),
+    Requester(Requesting),
+    Responder(Responding),
+}
+
+/// The subject of a case.
 #[derive(Drop)]
 pub(crate) struct Cases {
     alloc: Global,
+    subject: Subject,
+}
+
+/// What the first command of a case makes.
+fn subject_of(alloc: Global, mut words: Words<'_>) -> Result<Subject, Stop> {
+    Ok(match words.word() {
+        "tables" => Subject::Tables(Tables::new(alloc)?),
+        "names" => Subject::Names(Naming::new(alloc)?),
+        "chooser" => Subject::Chooser(Choosing::new(alloc, words)?),
+        "mapper" => Subject::Mapper(Mapping::new(alloc)?),
+        "requester" => Subject::Requester(Requesting::new(alloc, words)?),
+        "responder" => Subject::Responder(Responding::new(alloc)?),
+        _ => return Err(Stop::Unclear),
+    })
 }
 
 impl Bench for Cases {
     fn new(alloc: Global) -> Cases {
-        Cases { alloc }
+        Cases {
+            alloc,
+            subject: Subject::Nothing,
+        }
     }
 
-    fn act(&mut self, mut words: Words<'_>, text: &mut String) -> Answer {
-        match words.word() {
-            "bytes" => put_line(text, words.bytes(self.alloc)?.as_slice())?,
-            "text" => {
-                put_text(text, words.text(self.alloc)?.as_slice())?;
-                writeln!(text)?;
+    fn act(&mut self, words: Words<'_>, text: &mut String) -> Answer {
+        match &mut self.subject {
+            Subject::Nothing => {
+                self.subject = subject_of(self.alloc, words)?;
+                Ok(())
             }
-            _ => return Err(Stop::Unclear),
+            Subject::Tables(tables) => tables.act(words, text),
+            Subject::Names(naming) => naming.act(words, text),
+            Subject::Chooser(choosing) => choosing.act(words, text),
+            Subject::Mapper(mapping) => mapping.act(words, text),
+            Subject::Requester(requesting) => requesting.act(words, text),
+            Subject::Responder(responding) => responding.act(words, text),
         }
-        Ok(())
     }
 }

@@ -1,7 +1,23 @@
-//! Cases of tables.
+//! Cases of what stations remember: routes, zones, names, addresses, transactions.
 #![tactic(auto)]
 
+mod aarp_packets;
+mod asks;
 mod bench;
+mod choosers;
+mod equality;
+mod learned;
+mod mappers;
+mod names;
+mod requesters;
+mod responders;
+mod routes;
+mod rows;
+mod spelling;
+mod tables;
+mod zone_answers;
+mod zone_words;
+mod zones;
 
 use bench::Cases;
 use std::io;

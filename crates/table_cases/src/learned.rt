@@ -1,0 +1,66 @@
+//! What a router learns and forgets.
+
+use case_words::{Answer, Stop, Words};
+use learning::{Query, forget, learn_routes, learn_zones, queries};
+use rtmp::{DataPacket, PlainTable};
+use std::alloc::{AllocError, Global};
+use zip_zones::{Packet, ZoneTable};
+
+/// Learns from routing data that comes in on a port.
+fn hear_routes(alloc: Global, routes: &mut PlainTable, mut words: Words<'_>) -> Answer {
+    let port = words.named("port")?;
+    words.expect("on")?;
+    let range = words.range()?;
+    let bytes = words.bytes(alloc)?;
+    learn_routes(routes, range, port, &DataPacket::read(bytes.as_slice())?)?;
+    Ok(())
+}
+
+/// Learns from a packet of ZIP.
+fn hear_zones(
+    alloc: Global,
+    routes: &PlainTable,
+    zones: &mut ZoneTable,
+    mut words: Words<'_>,
+) -> Answer {
+    let bytes = words.bytes(alloc)?;
+    learn_zones(zones, routes, Packet::read(bytes.as_slice())?)?;
+    Ok(())
+}
+
+fn put_query(text: &mut String, query: &Query) -> Result<(), AllocError> {
+    let (start, next, port) = (query.start, query.next, query.port);
+    writeln!(text, "{start} from {next} by port {port}")
+}
+
+/// Appends what the router asks for, and whom.
+fn put_queries(alloc: Global, routes: &PlainTable, zones: &ZoneTable, text: &mut String) -> Answer {
+    let queries = queries(alloc, routes, zones)?;
+    if queries.is_empty() {
+        writeln!(text, "none")?;
+    }
+    for query in queries.iter() {
+        put_query(text, query)?;
+    }
+    Ok(())
+}
+
+/// Does what changes both tables, or reads both.
+pub(crate) fn act(
+    alloc: Global,
+    routes: &mut PlainTable,
+    zones: &mut ZoneTable,
+    mut words: Words<'_>,
+    text: &mut String,
+) -> Answer {
+    match words.word() {
+        "routes" => hear_routes(alloc, routes, words),
+        "zones" => hear_zones(alloc, routes, zones, words),
+        "forget" => {
+            forget(routes, zones);
+            Ok(())
+        }
+        "queries" => put_queries(alloc, routes, zones, text),
+        _ => Err(Stop::Unclear),
+    }
+}

@@ -1,0 +1,115 @@
+//! The hardware addresses that a port knows, and the datagrams that wait for one.
+
+use crate::spelling::put_data;
+use aarp::{Addresses, Asks, Held, Mapper};
+use at_base::{Addr, Bytes, Error, Hw};
+use case_words::{Answer, Stop, Words, put_hw, yes_or_no};
+use std::alloc::{AllocError, Global};
+
+/// What a port knows and holds.
+#[derive(Drop)]
+pub(crate) struct Mapping {
+    alloc: Global,
+    mapper: Mapper,
+}
+
+fn put_mapping(text: &mut String, hw: Option<Hw>) -> Result<(), AllocError> {
+    match hw {
+        Some(hw) => put_hw(text, hw)?,
+        None => write!(text, "none")?,
+    }
+    writeln!(text)
+}
+
+/// Appends a datagram that comes out, or none.
+fn put_out(text: &mut String, held: &Option<Held>) -> Result<(), AllocError> {
+    match held {
+        Some(held) => {
+            let (next, asked) = (held.next, held.asked);
+            write!(text, "for {next} asked {asked}:")?;
+            put_data(text, held.bytes.as_slice())
+        }
+        None => writeln!(text, "none"),
+    }
+}
+
+/// Appends the addresses after a word. One that the list says it hasn't is left out.
+fn put_addresses(text: &mut String, word: &str, addresses: &Addresses) -> Result<(), AllocError> {
+    if addresses.is_empty() && addresses.len() == 0 {
+        return Ok(());
+    }
+    write!(text, "{word}")?;
+    for addr in addresses.as_slice() {
+        let addr = *addr;
+        if addresses.contains(addr) {
+            write!(text, " {addr}")?;
+        }
+    }
+    writeln!(text)
+}
+
+/// Appends what a tick asks for and gives up.
+fn put_asks(text: &mut String, asks: &Asks) -> Result<(), AllocError> {
+    if asks.ask.is_empty() && asks.given_up.is_empty() {
+        return writeln!(text, "none");
+    }
+    put_addresses(text, "ask", &asks.ask)?;
+    put_addresses(text, "give up", &asks.given_up)
+}
+
+fn learn(mapper: &mut Mapper, mut words: Words<'_>) -> Answer {
+    let addr = words.addr()?;
+    mapper.learn(addr, words.hw()?)?;
+    Ok(())
+}
+
+/// Learns one hardware address for a node of each network, as `1-256 node 1 020000000006`. What is
+/// learnt twice is learnt as well as once.
+fn learn_each(mapper: &mut Mapper, mut words: Words<'_>) -> Answer {
+    let (first, last) = words.bounds()?;
+    let node = words.named("node")?;
+    let hw = words.hw()?;
+    for net in first..=last {
+        mapper.learn(Addr { net, node }, hw)?;
+    }
+    Ok(())
+}
+
+/// The datagram that is held next.
+fn held(alloc: Global, mut words: Words<'_>) -> Result<Held, Stop> {
+    Ok(Held {
+        next: words.addr()?,
+        asked: 0,
+        bytes: Bytes::from_vec(words.bytes(alloc)?),
+    })
+}
+
+fn put_holds(text: &mut String, mapper: &Mapper, addr: Addr) -> Result<(), AllocError> {
+    let holds = yes_or_no(mapper.holds(addr));
+    writeln!(text, "{holds}")
+}
+
+impl Mapping {
+    /// A port that knows and holds nothing.
+    pub(crate) fn new(alloc: Global) -> Result<Mapping, Error> {
+        Ok(Mapping {
+            alloc,
+            mapper: Mapper::new(alloc)?,
+        })
+    }
+
+    /// Does what the words say.
+    pub(crate) fn act(&mut self, mut words: Words<'_>, text: &mut String) -> Answer {
+        match words.word() {
+            "learn" => learn(&mut self.mapper, words)?,
+            "learn-each" => learn_each(&mut self.mapper, words)?,
+            "look" => put_mapping(text, self.mapper.look(words.addr()?))?,
+            "hold" => put_out(text, &self.mapper.hold(held(self.alloc, words)?))?,
+            "holds" => put_holds(text, &self.mapper, words.addr()?)?,
+            "release" => put_out(text, &self.mapper.release(words.addr()?))?,
+            "tick" => put_asks(text, &self.mapper.tick())?,
+            _ => return Err(Stop::Unclear),
+        }
+        Ok(())
+    }
+}
