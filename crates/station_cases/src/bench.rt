@@ -1,28 +1,206 @@
 //! What the commands of a case are done with.
 
-use case_words::{Answer, Bench, Stop, Words, put_line, put_text};
+use crate::asking::ask_user;
+use crate::beginning::{live_node_of, live_router_of, node_of, router_of};
+use crate::frames::{Frame, frame_of};
+use crate::outputs::put_next;
+use crate::passing::{hear, let_pass};
+use crate::plan::Plan;
+use crate::routers::ask_router;
+use case_words::{Answer, Bench, Stop, Words};
+use end_node::EndNode;
+use live_node::LiveNode;
+use live_router::LiveRouter;
+use router::Router;
+use rtmp::PlainTable;
+use station::ways::straight;
 use std::alloc::Global;
 
-/// Cases hold nothing from command to command.
+/// What the station of a case is.
 #[derive(Drop)]
-pub(crate) struct Cases {
-    alloc: Global,
+enum Subject {
+    Nothing,
+    Router(Router<PlainTable>),
+    LiveRouter(LiveRouter<PlainTable>),
+    Node(EndNode),
+    LiveNode(LiveNode),
 }
 
-impl Bench for Cases {
-    fn new(alloc: Global) -> Cases {
-        Cases { alloc }
+/// Room for the lines of what a station puts out: 256 datagrams of 599 bytes, in hexadecimal digits.
+const ROOM: usize = 400_000;
+
+/// What the station of a case is to be, the station itself, the ticks that it has lived through, and bytes that the
+/// next frame begins with.
+#[derive(Drop)]
+pub(crate) struct Stations {
+    alloc: Global,
+    plan: Plan,
+    subject: Subject,
+    ticks: u32,
+    bytes: Vec<u8>,
+}
+
+/// The live station that is planned, of this kind.
+fn live_subject_of(alloc: Global, plan: &Plan, kind: &str) -> Result<Subject, Stop> {
+    match kind {
+        "router" => Ok(Subject::LiveRouter(live_router_of(alloc, plan)?)),
+        "node" => Ok(Subject::LiveNode(live_node_of(alloc, plan)?)),
+        _ => Err(Stop::Unclear),
+    }
+}
+
+/// The station that is planned, of this kind.
+fn subject_of(alloc: Global, plan: &Plan, mut words: Words<'_>) -> Result<Subject, Stop> {
+    match words.word() {
+        "live" => live_subject_of(alloc, plan, words.word()),
+        "router" => Ok(Subject::Router(router_of(alloc, plan)?)),
+        "node" => Ok(Subject::Node(node_of(alloc, plan)?)),
+        _ => Err(Stop::Unclear),
+    }
+}
+
+impl Subject {
+    fn hear(&mut self, alloc: Global, frame: &Frame, text: &mut String) -> Answer {
+        match self {
+            Subject::Nothing => Err(Stop::Unclear),
+            Subject::Router(router) => hear(alloc, router, frame, text),
+            Subject::LiveRouter(live) => hear(alloc, live, frame, text),
+            Subject::Node(node) => hear(alloc, node, frame, text),
+            Subject::LiveNode(live) => hear(alloc, live, frame, text),
+        }
+    }
+
+    /// Lets a tick pass, whose number precedes what is put out where there is one.
+    fn tick(
+        &mut self,
+        alloc: Global,
+        number: Option<u32>,
+        text: &mut String,
+    ) -> Result<usize, Stop> {
+        match self {
+            Subject::Nothing => Err(Stop::Unclear),
+            Subject::Router(router) => let_pass(alloc, router, number, text),
+            Subject::LiveRouter(live) => let_pass(alloc, live, number, text),
+            Subject::Node(node) => let_pass(alloc, node, number, text),
+            Subject::LiveNode(live) => let_pass(alloc, live, number, text),
+        }
+    }
+
+    /// What the words ask of the station: of what it holds, or as its user.
+    fn ask(&mut self, alloc: Global, words: Words<'_>, text: &mut String) -> Answer {
+        match self {
+            Subject::Nothing => Err(Stop::Unclear),
+            Subject::Router(router) => ask_router(router, words, text),
+            Subject::LiveRouter(live) => ask_live_router(live, words, text),
+            Subject::Node(node) => ask_user(alloc, node, words, text),
+            Subject::LiveNode(live) => ask_user(alloc, live, words, text),
+        }
+    }
+}
+
+fn ask_live_router(
+    live: &mut LiveRouter<PlainTable>,
+    mut words: Words<'_>,
+    text: &mut String,
+) -> Answer {
+    if words.passes("give-up") {
+        live.give_up(words.addr()?);
+        return Ok(());
+    }
+    ask_router(live.router(), words, text)
+}
+
+impl Stations {
+    fn begin(&mut self, words: Words<'_>) -> Answer {
+        self.subject = subject_of(self.alloc, &self.plan, words)?;
+        self.ticks = 0;
+        Ok(())
+    }
+
+    fn hear(&mut self, words: Words<'_>, text: &mut String) -> Answer {
+        let frame = frame_of(self.alloc, self.bytes.as_slice(), words)?;
+        self.subject.hear(self.alloc, &frame, text)?;
+        self.bytes.clear();
+        if text.as_str().is_empty() {
+            writeln!(text, "nothing")?;
+        }
+        Ok(())
+    }
+
+    fn tick(&mut self, text: &mut String) -> Answer {
+        let _ = self.subject.tick(self.alloc, None, text)?;
+        self.ticks = self.ticks.saturating_add(1);
+        if text.as_str().is_empty() {
+            writeln!(text, "nothing")?;
+        }
+        Ok(())
+    }
+
+    /// Lets ticks pass, and appends what is put out with the number of its tick.
+    fn ticks(&mut self, count: u32, text: &mut String) -> Answer {
+        for _ in 0..count {
+            self.ticks = self.ticks.saturating_add(1);
+            let _ = self.subject.tick(self.alloc, Some(self.ticks), text)?;
+        }
+        if text.as_str().is_empty() {
+            writeln!(text, "nothing")?;
+        }
+        Ok(())
+    }
+
+    /// Lets ticks pass, and appends how much is put out.
+    fn pass(&mut self, count: u32, text: &mut String) -> Answer {
+        let mut sum = 0usize;
+        for _ in 0..count {
+            let many = self.subject.tick(self.alloc, None, text)?;
+            sum = sum.saturating_add(many);
+            text.clear();
+        }
+        self.ticks = self.ticks.saturating_add(count);
+        writeln!(text, "{sum} put out")?;
+        Ok(())
+    }
+
+    fn keep(&mut self, words: &mut Words<'_>) -> Answer {
+        let bytes = words.bytes(self.alloc)?;
+        self.bytes.extend_from_slice(bytes.as_slice())?;
+        Ok(())
+    }
+}
+
+/// To whom a datagram for a target goes on the target's cable.
+fn put_straight(words: &mut Words<'_>, text: &mut String) -> Answer {
+    put_next(text, straight(words.addr()?))?;
+    writeln!(text)?;
+    Ok(())
+}
+
+impl Bench for Stations {
+    fn new(alloc: Global) -> Stations {
+        Stations {
+            alloc,
+            plan: Plan::new(alloc),
+            subject: Subject::Nothing,
+            ticks: 0,
+            bytes: Vec::new(alloc),
+        }
     }
 
     fn act(&mut self, mut words: Words<'_>, text: &mut String) -> Answer {
+        text.reserve(ROOM)?;
+        let line = words;
         match words.word() {
-            "bytes" => put_line(text, words.bytes(self.alloc)?.as_slice())?,
-            "text" => {
-                put_text(text, words.text(self.alloc)?.as_slice())?;
-                writeln!(text)?;
+            "port" | "row" | "list" | "zone" | "router" | "name" | "unname" => {
+                self.plan.act(self.alloc, line, text)
             }
-            _ => return Err(Stop::Unclear),
+            "begin" => self.begin(words),
+            "bytes" => self.keep(&mut words),
+            "hears" => self.hear(words, text),
+            "tick" => self.tick(text),
+            "ticks" => self.ticks(words.number()?, text),
+            "pass" => self.pass(words.number()?, text),
+            "straight" => put_straight(&mut words, text),
+            _ => self.subject.ask(self.alloc, line, text),
         }
-        Ok(())
     }
 }

@@ -1,11 +1,21 @@
-//! Cases of stations.
+//! Cases of stations: what routers and nodes put out for frames, in ticks and for their users, and what they hold
+//! then.
 #![tactic(auto)]
 
+mod asking;
+mod beginning;
 mod bench;
+mod frames;
+mod nodes;
+mod outputs;
+mod passing;
+mod plan;
+mod routers;
+mod texts;
 
-use bench::Cases;
+use bench::Stations;
 use std::io;
 
 fn main(rt: HostRuntime) -> Result<(), io::Error> {
-    case_words::run::<Cases, HostRuntime>(&rt)
+    case_words::run::<Stations, HostRuntime>(&rt)
 }

@@ -1,0 +1,131 @@
+//! What the users of a node ask of it: of one whose tables stay, or of a live one.
+
+ghost use Rattle.std.specs.Prelude.{◌≤◌};
+
+use at_base::{Addr, Error, Text32};
+use atp::Outcome;
+use end_node::{Datagram, EndNode};
+use live_node::LiveNode;
+use station::Outputs;
+
+/// What is sent: a datagram from a socket to another.
+#[derive(Clone, Copy)]
+pub(crate) struct Sending {
+    pub(crate) target: Addr,
+    pub(crate) target_socket: u8,
+    pub(crate) source_socket: u8,
+    pub(crate) kind: u8,
+    pub(crate) summed: bool,
+}
+
+/// A name that is looked for.
+#[derive(Clone, Copy)]
+pub(crate) struct Pattern {
+    pub(crate) object: Text32,
+    pub(crate) kind: Text32,
+    pub(crate) zone: Text32,
+}
+
+/// A node as its users see it.
+pub(crate) trait User: Drop {
+    /// The node as it is now.
+    fn held(&self) -> &EndNode;
+
+    /// Sends a datagram.
+    fn sends(&self, what: &Sending, payload: &[u8], outputs: &mut Outputs) -> Result<(), Error>;
+
+    /// Asks for names.
+    fn looks_up(&self, id: u8, name: &Pattern, outputs: &mut Outputs) -> Result<(), Error>;
+
+    /// Registers a name for a socket.
+    fn registers(&mut self, object: Text32, kind: Text32, socket: u8) -> Result<u8, Error>
+        requires low { 1 ≤ socket }
+        requires high { socket ≤ 254 };
+
+    /// Asks for the zones from an index on.
+    fn asks_for_zones(&mut self, start: u16, outputs: &mut Outputs) -> Result<u16, Error>;
+
+    /// What became of a request for zones.
+    fn zones_of(&mut self, id: u16) -> Result<Outcome, Error>;
+
+    /// Takes what was received.
+    fn takes_received(&mut self) -> Result<Vec<Datagram>, Error>;
+}
+
+impl User for EndNode {
+    fn held(&self) -> &EndNode {
+        self
+    }
+
+    fn sends(&self, what: &Sending, payload: &[u8], outputs: &mut Outputs) -> Result<(), Error> {
+        let (target_socket, source_socket) = (what.target_socket, what.source_socket);
+        self.send(
+            what.target,
+            target_socket,
+            source_socket,
+            what.kind,
+            what.summed,
+            payload,
+            outputs,
+        )
+    }
+
+    fn looks_up(&self, id: u8, name: &Pattern, outputs: &mut Outputs) -> Result<(), Error> {
+        self.lookup(id, &name.object, &name.kind, &name.zone, outputs)
+    }
+
+    fn registers(&mut self, object: Text32, kind: Text32, socket: u8) -> Result<u8, Error> {
+        self.register(object, kind, socket)
+    }
+
+    fn asks_for_zones(&mut self, start: u16, outputs: &mut Outputs) -> Result<u16, Error> {
+        self.ask_zone_list(start, outputs)
+    }
+
+    fn zones_of(&mut self, id: u16) -> Result<Outcome, Error> {
+        self.zone_list(id)
+    }
+
+    fn takes_received(&mut self) -> Result<Vec<Datagram>, Error> {
+        self.received()
+    }
+}
+
+impl User for LiveNode {
+    fn held(&self) -> &EndNode {
+        self.node()
+    }
+
+    fn sends(&self, what: &Sending, payload: &[u8], outputs: &mut Outputs) -> Result<(), Error> {
+        let (target_socket, source_socket) = (what.target_socket, what.source_socket);
+        self.send(
+            what.target,
+            target_socket,
+            source_socket,
+            what.kind,
+            what.summed,
+            payload,
+            outputs,
+        )
+    }
+
+    fn looks_up(&self, id: u8, name: &Pattern, outputs: &mut Outputs) -> Result<(), Error> {
+        self.lookup(id, &name.object, &name.kind, &name.zone, outputs)
+    }
+
+    fn registers(&mut self, object: Text32, kind: Text32, socket: u8) -> Result<u8, Error> {
+        self.register(object, kind, socket)
+    }
+
+    fn asks_for_zones(&mut self, start: u16, outputs: &mut Outputs) -> Result<u16, Error> {
+        self.ask_zone_list(start, outputs)
+    }
+
+    fn zones_of(&mut self, id: u16) -> Result<Outcome, Error> {
+        self.zone_list(id)
+    }
+
+    fn takes_received(&mut self) -> Result<Vec<Datagram>, Error> {
+        self.received()
+    }
+}
