@@ -118,12 +118,7 @@ impl Routes {
     }
 
     /// Does what changes a table.
-    pub(crate) fn change(
-        &mut self,
-        alloc: Global,
-        mut words: Words<'_>,
-        text: &mut String,
-    ) -> Answer {
+    fn change(&mut self, alloc: Global, mut words: Words<'_>, text: &mut String) -> Answer {
         match words.word() {
             "row" => self.given.push(row(&mut words)?)?,
             "rows" => put_many(&mut self.given, words)?,
