@@ -49,6 +49,19 @@ fn rows_are_printed(rt: HostRuntime) -> Result<(), Fail> {
     Ok(())
 }
 
+/// A value that another thread may have.
+fn is_send<T: Send>(_value: &T) {}
+
+#[test]
+fn another_thread_may_have_an_image(rt: HostRuntime) -> Result<(), Fail> {
+    let image = match read(rt.alloc(), &IMAGE) {
+        Err(Error::Memory) => read(rt.alloc(), &IMAGE)?,
+        answer => answer?,
+    };
+    is_send(&image);
+    Ok(())
+}
+
 #[test]
 fn laws_of_images_are_called() {
     table_image::one_spelling();
