@@ -1,13 +1,30 @@
-# `make audit` builds the program and audits an example; `make test` is the gate.
+# `make audit` builds the program and audits an example; `make test` is the gate; `make help` has the rest.
 PREFIX = /usr/local
 
-.PHONY: audit test install clean
+.PHONY: audit test try check help install clean
 
 audit:
 	@scripts/build
 
 test:
 	rt ci
+
+try:
+	@scripts/try
+
+check:
+	@test -d 'crates/$(CRATE)' || { echo 'usage: make check CRATE=name' >&2; exit 2; }
+	cd 'crates/$(CRATE)' && rt check
+
+help:
+	@echo 'make audit             a first verdict, then the proofs of the program, then its verdict'
+	@echo 'make test              the gate: all proofs, cases and tests'
+	@echo 'make try               the cases and tests without proofs'
+	@echo 'make check CRATE=name  the proofs of one crate'
+	@echo 'make atalk             the proved program, as ./atalk'
+	@echo 'make install           the program and its manual pages, below PREFIX'
+	@echo 'make clean             what was built goes'
+	@echo 'scripts/affected NAME  what is proved again after an edit of a crate'
 
 atalk:
 	@scripts/build -q

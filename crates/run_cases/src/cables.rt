@@ -4,7 +4,7 @@ ghost use Rattle.std.specs.Prelude.{IfOk};
 ghost use Rattle.station.specs.Lawful.{IsNext};
 
 use crate::entries::{kind, kind_word, put_entries};
-use crate::seats::{EIGHT, TWINS};
+use crate::seats::{EIGHT, THREE, TWINS};
 use at_base::{Addr, Bytes, Error, Hw};
 use cable_model::{Cables, Found, Resolve};
 use case_words::{Answer, Stop, Words, put_line, yes_or_no};
@@ -85,13 +85,14 @@ pub(crate) fn next(words: &mut Words<'_>) -> Result<Next, Stop>
     }
 }
 
-/// Cables of the eight seats, or of the twins, with room for so many entries.
+/// Cables of the seats that a word names, with room for so many entries.
 pub(crate) fn begun(alloc: Global, mut words: Words<'_>) -> Result<Cables, Stop> {
     let seats = words.word();
     let limit = words.named("limit")?;
     Ok(match seats {
         "eight" => Cables::new(alloc, &EIGHT, limit)?,
         "twins" => Cables::new(alloc, &TWINS, limit)?,
+        "three" => Cables::new(alloc, &THREE, limit)?,
         _ => return Err(Stop::Unclear),
     })
 }

@@ -91,6 +91,52 @@ pub(crate) const TWINS: [Seat; 3] = [
     },
 ];
 
+/// The seats of the three-cable internet: its two routers, stations 0 and 1, and its two nodes.
+pub(crate) const THREE: [Seat; 6] = [
+    Seat {
+        cable: 0,
+        station: 0,
+        port: 0,
+        hw: Hw([2, 0, 0, 0, 0, 1]),
+        group: None,
+    },
+    Seat {
+        cable: 1,
+        station: 0,
+        port: 1,
+        hw: Hw([2, 0, 0, 0, 0, 2]),
+        group: None,
+    },
+    Seat {
+        cable: 1,
+        station: 1,
+        port: 0,
+        hw: Hw([2, 0, 0, 0, 0, 3]),
+        group: None,
+    },
+    Seat {
+        cable: 2,
+        station: 1,
+        port: 1,
+        hw: Hw([2, 0, 0, 0, 0, 4]),
+        group: None,
+    },
+    Seat {
+        cable: 0,
+        station: 2,
+        port: 0,
+        hw: Hw([2, 0, 0, 0, 0, 5]),
+        group: Some(56),
+    },
+    Seat {
+        cable: 2,
+        station: 3,
+        port: 0,
+        hw: Hw([2, 0, 0, 0, 0, 6]),
+        group: Some(118),
+    },
+];
+
 fn put_seat(text: &mut String, seat: &Seat) -> Result<(), AllocError> {
     let (cable, station, port) = (seat.cable, seat.station, seat.port);
     write!(text, "cable {cable} station {station} port {port} ")?;
@@ -140,6 +186,7 @@ fn seats_of(alloc: Global, words: &mut Words<'_>) -> Result<Seats, Stop> {
     Ok(match words.word() {
         "eight" => Seats::of(alloc, &EIGHT)?,
         "twins" => Seats::of(alloc, &TWINS)?,
+        "three" => Seats::of(alloc, &THREE)?,
         "late" => Seats::of(alloc, &[EIGHT[5], EIGHT[0]])?,
         _ => return Err(Stop::Unclear),
     })

@@ -99,14 +99,14 @@ pub(crate) fn put_rows<T: RouteTable>(text: &mut String, table: &T) -> Result<()
 }
 
 /// Whether a table has the row, which is often at this index or beside it.
-fn has<T: RouteTable>(table: &T, index: usize, row: Option<Row>) -> bool {
+fn has<T: RouteTable>(table: &T, index: usize, row: &Option<Row>) -> bool {
     for near in index.saturating_sub(1)..index.saturating_add(2) {
-        if table.row(near) == row {
+        if table.row(near) == *row {
             return true;
         }
     }
     for other in 0..table.len() {
-        if table.row(other) == row {
+        if table.row(other) == *row {
             return true;
         }
     }
@@ -122,7 +122,7 @@ fn put_missing<T: RouteTable>(
 ) -> Result<(), AllocError> {
     for index in 0..table.len() {
         let row = table.row(index);
-        if !has(other, index, row) {
+        if !has(other, index, &row) {
             write!(text, "{word} ")?;
             put_found(text, row)?;
         }
