@@ -1,4 +1,4 @@
-//! Tests of commands through public calls. They stand in a crate of their own, since a crate's
+//! Tests of commands through public calls. They have a crate of their own, since a crate's
 //! tests prove the crate a second time.
 #![tactic(auto)]
 

@@ -1,13 +1,15 @@
-//! What no clause says: that calls succeed, what comes of a read or a write that fails in
-//! mid-stream. Each test passes whichever single request for memory is
-//! refused: on `Memory` it calls again.
+//! What comes of readers that fail, are interrupted or give a few bytes at a time, and of writers that
+//! fail or hold bytes back; and who is told of each tick. Each test passes whichever single request for
+//! memory is refused: on `Memory` it calls again. What the program writes of images, scripts and
+//! internet files is compared by the cases of `program_cases`.
 
 mod fakes;
 mod plays;
+mod progress;
 mod reading;
 mod tracing;
 
-use at_base::{Cause, Error};
+use at_base::Error;
 use commands::{Input, READS, append, audit_file};
 use fakes::{Frail, Holding, Pieces, Places, Restless};
 use frozen_trace::Output;
@@ -155,20 +157,6 @@ fn a_long_input_comes_whole(rt: HostRuntime) -> Result<(), Fail> {
 }
 
 #[test]
-fn a_line_ends_with_an_end_of_line(rt: HostRuntime) -> Result<(), Fail> {
-    let mut room = [0u8; 8];
-    write_yes(rt.alloc(), room.as_mut_slice())?;
-    assert_eq!(rt; room.as_slice(), b"yes\n\0\0\0\0".as_slice());
-    Ok(())
-}
-
-/// Writes a line into the room.
-fn write_yes(alloc: Global, room: &mut [u8]) -> Result<(), Error> {
-    let mut output = Output::new(alloc, room);
-    output.write_line(b"yes")
-}
-
-#[test]
 fn a_write_that_fails_is_a_write_fault(rt: HostRuntime) {
     // The text, the end of line and the flush, and then nothing fails.
     for fails_at in 1..5 {
@@ -213,41 +201,12 @@ const EMPTY: &[u8] = b"ATIM\x01\0\0\0";
 const BACKWARD: &[u8] = b"ATIM\x01\x01\0\x0a\0\x05\0\0\0";
 
 #[test]
-fn the_line_of_the_verdict_is_written(rt: HostRuntime) {
+fn an_image_may_come_in_pieces(rt: HostRuntime) {
     let mut room = [0u8; 80];
     let yes = audit(rt.alloc(), Pieces::new(EMPTY, 3), room.as_mut_slice());
     assert_eq!(rt; yes, Ok(true));
     let line = b"yes: 0 cables, 0 routers, 0 nodes, 0 rows, greatest distance 0\n";
     assert!(rt; holds(room.as_slice(), line.as_slice()));
-    let mut room = [0u8; 80];
-    let no = audit(rt.alloc(), Pieces::new(BACKWARD, 100), room.as_mut_slice());
-    assert_eq!(rt; no, Ok(false));
-    assert!(rt; holds(room.as_slice(), b"no: C1 cable 1\n"));
-}
-
-#[test]
-fn what_is_no_image_is_refused_and_nothing_written(rt: HostRuntime) {
-    let flawed = [
-        (b"".as_slice(), Error::BadImage(0, Cause::Cut)),
-        (
-            b"ATIN\x01\0\0\0".as_slice(),
-            Error::BadImage(0, Cause::Magic),
-        ),
-        (
-            b"ATIM\x02\0\0\0".as_slice(),
-            Error::BadImage(4, Cause::Version),
-        ),
-        (
-            b"ATIM\x01\0\0\0\0".as_slice(),
-            Error::BadImage(8, Cause::Trailing),
-        ),
-    ];
-    for (bytes, want) in flawed {
-        let mut room = [0u8; 80];
-        let answer = audit(rt.alloc(), Pieces::new(bytes, 3), room.as_mut_slice());
-        assert_eq!(rt; answer, Err(want));
-        assert!(rt; holds(room.as_slice(), b""));
-    }
 }
 
 #[test]

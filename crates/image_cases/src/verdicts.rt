@@ -75,22 +75,26 @@ pub(crate) fn equal_verdicts(alloc: Global, mut words: Words<'_>, text: &mut Str
     Ok(())
 }
 
-/// Appends the rules with their numbers, and the greatest distance that they allow.
+const RULES: [Rule; 9] = [
+    Rule::CablesInOrder,
+    Rule::StationsAddressed,
+    Rule::RowsCoverCables,
+    Rule::DirectRowsDirect,
+    Rule::DistancesFit,
+    Rule::NextRoutersExist,
+    Rule::DistancesFall,
+    Rule::ZoneListsAgree,
+    Rule::NodesServed,
+];
+
+/// Appends the rules with their numbers, the pairs of rules that are equal, and the greatest distance
+/// that they allow.
 pub(crate) fn rules(text: &mut String) -> Answer {
-    for rule in [
-        Rule::CablesInOrder,
-        Rule::StationsAddressed,
-        Rule::RowsCoverCables,
-        Rule::DirectRowsDirect,
-        Rule::DistancesFit,
-        Rule::NextRoutersExist,
-        Rule::DistancesFall,
-        Rule::ZoneListsAgree,
-        Rule::NodesServed,
-    ] {
+    for rule in &RULES {
         let number = rule.number();
         writeln!(text, "C{number} {rule:?}")?;
     }
+    put_equal(text, &RULES)?;
     writeln!(text, "greatest distance {MAX_DISTANCE}")?;
     Ok(())
 }

@@ -55,10 +55,16 @@ impl Program {
         match question {
             "read" => plans::read_it(self.alloc, bytes, text),
             "plan" => plans::plan(self.alloc, bytes, text),
-            "play" => run::play(self.alloc, bytes, text),
             "frozen" => run::frozen(self.alloc, bytes, text),
             _ => run::play_files(self.alloc, bytes, text),
         }
+    }
+
+    /// Plays the text, with what the words add to it. The image is the one that the play makes from then on.
+    fn play(&mut self, words: Words<'_>, text: &mut String) -> Answer {
+        let whole = longer(self.alloc, &self.text, words)?;
+        self.image = run::play(self.alloc, whole.as_slice(), text)?;
+        Ok(())
     }
 
     fn on_world(&mut self, words: Words<'_>, text: &mut String) -> Answer {
@@ -91,13 +97,15 @@ impl Bench for Program {
             "|" => self.add_line(words),
             "text" => self.add_text(words),
             "bytes" => self.add_bytes(words),
-            "read" | "plan" | "play" | "frozen" | "files" => self.ask_text(first, words, text),
+            "read" | "plan" | "frozen" | "files" => self.ask_text(first, words, text),
+            "play" => self.play(words, text),
             "audit" => run::audit(self.alloc, self.image.as_slice(), text),
             "trace" => run::trace(self.alloc, self.image.as_slice(), words, text),
             "begin" => self.begin_world(words),
             "world" => self.on_world(words, text),
             "arguments" => arguments::answer(self.alloc, words, text),
             "exit" => exits::answer(words, text),
+            "status" => exits::status_of(words, text),
             _ => Err(Stop::Unclear),
         }
     }

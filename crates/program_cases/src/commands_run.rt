@@ -1,7 +1,7 @@
 //! What the three commands write.
 
 use at_base::Error;
-use case_words::{Answer, Words, put_line};
+use case_words::{Answer, Stop, Words, put_line};
 use command_line::status;
 use commands::{Input, audit_file, play_bytes, run_frozen};
 use frozen_trace::Output;
@@ -19,18 +19,21 @@ fn put_ascii(text: &mut String, bytes: &[u8]) -> Result<(), AllocError> {
     Ok(())
 }
 
-/// Appends the status of the answer.
+/// Appends the status of the answer, and the refusal, if it is one.
 fn put_status(text: &mut String, answer: &Result<bool, Error>) -> Answer {
     let status = status(answer);
-    writeln!(text, "status {status}")?;
+    match answer {
+        Ok(_) => writeln!(text, "status {status}")?,
+        Err(error) => writeln!(text, "status {status}, {error}")?,
+    }
     Ok(())
 }
 
-/// Appends the lines of the play of a file.
-pub(crate) fn play(alloc: Global, bytes: &[u8], text: &mut String) -> Answer {
+/// Appends the lines of the play of a file, and gives the image that it makes.
+pub(crate) fn play(alloc: Global, bytes: &[u8], text: &mut String) -> Result<Vec<u8>, Stop> {
     let played = play_text(alloc, bytes, &mut Silent)?;
     put_ascii(text, played.lines.as_slice())?;
-    Ok(())
+    Ok(played.image)
 }
 
 /// Appends the image of the play of a file.

@@ -3,7 +3,7 @@
 use at_base::{Cause, Error, Fault, Field, Part, Place, What};
 use case_words::{Answer, Stop, Words};
 use clap::error::ErrorKind as ParseError;
-use command_line::{Outcome, exit_of};
+use command_line::{Outcome, exit_of, status};
 use std::io::ErrorKind;
 
 /// An error by its number; those with fields have some.
@@ -56,6 +56,16 @@ fn io_error(words: &mut Words<'_>) -> Result<ErrorKind, Stop> {
     })
 }
 
+/// What a command answered: yes, no, or an error.
+fn given(word: &str, words: &mut Words<'_>) -> Result<Result<bool, Error>, Stop> {
+    Ok(match word {
+        "yes" => Ok(true),
+        "no" => Ok(false),
+        "error" => Err(error(words.number()?)?),
+        _ => return Err(Stop::Unclear),
+    })
+}
+
 fn outcome(words: &mut Words<'_>) -> Result<Outcome, Stop> {
     Ok(match words.word() {
         "no-arguments" => Outcome::NoArguments(io_error(words)?),
@@ -66,10 +76,7 @@ fn outcome(words: &mut Words<'_>) -> Result<Outcome, Stop> {
         }
         "not-opened" => Outcome::NotOpened(io_error(words)?),
         "not-created" => Outcome::NotCreated(io_error(words)?),
-        "yes" => Outcome::Answered(Ok(true)),
-        "no" => Outcome::Answered(Ok(false)),
-        "error" => Outcome::Answered(Err(error(words.number()?)?)),
-        _ => return Err(Stop::Unclear),
+        word => Outcome::Answered(given(word, words)?),
     })
 }
 
@@ -81,5 +88,13 @@ pub(crate) fn answer(mut words: Words<'_>, text: &mut String) -> Answer {
         Some(number) => writeln!(text, "status {status}, refused: {number}")?,
         None => writeln!(text, "status {status}")?,
     }
+    Ok(())
+}
+
+/// Appends the status of what a command answered.
+pub(crate) fn status_of(mut words: Words<'_>, text: &mut String) -> Answer {
+    let word = words.word();
+    let status = status(&given(word, &mut words)?);
+    writeln!(text, "status {status}")?;
     Ok(())
 }

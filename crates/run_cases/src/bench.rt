@@ -99,6 +99,7 @@ impl Bench for Runs {
             "decimal" => entries::decimal(self.alloc, rest, text),
             "seats" => seats::answer(self.alloc, rest, text),
             "takes" => taking::answer(self.alloc, rest, text),
+            "takes-both" => taking::answer_both(self.alloc, rest, text),
             "cables" => self.on_cables(rest, text),
             "script" => scripts::answer(self.alloc, rest, text),
             "start" => self.start(rest),

@@ -148,7 +148,7 @@ pub(crate) fn put_waiting(cables: &Cables, text: &mut String) -> Answer {
 }
 
 /// Appends the pair to be taken first, and how many there are.
-fn put_first(cables: &Cables, text: &mut String) -> Answer {
+pub(crate) fn put_first(cables: &Cables, text: &mut String) -> Answer {
     let count = cables.pending_count();
     match cables.first() {
         Some((stamp, station)) => writeln!(text, "{count} pending, first {stamp} by {station}")?,

@@ -3,7 +3,7 @@
 ghost use Rattle.std.specs.Prelude.{◌≡◌, IfOk};
 ghost use Rattle.cable_model.specs.Outcomes.{AreSeatsOf};
 
-use crate::cables::{Known, put_waiting, resolver};
+use crate::cables::{Known, put_first, put_waiting, resolver};
 use crate::entries::put_entries;
 use crate::relay::{Act, Relay};
 use crate::seats::{EIGHT, THREE};
@@ -57,25 +57,35 @@ fn pending(mut cables: Cables, is_lost: bool, bytes: Bytes) -> Result<Cables, St
     Ok(cables)
 }
 
-/// Station 0 takes the first frame, and once more; the outcome of both.
-fn take_twice(cables: &mut Cables, relay: &mut Relay, known: &Known, text: &mut String) -> Answer
+/// Station 0 takes a frame; the outcome.
+fn take(
+    cables: &mut Cables,
+    stamp: u32,
+    relay: &mut Relay,
+    known: &Known,
+    text: &mut String,
+) -> Answer
     requires { AreSeatsOf cables.old.seats 0 2 }
+    ensures { cables.new.seats ≡ cables.old.seats }
 {
-    let first = cables.take(0, 0, relay, known);
-    match first {
+    match cables.take(stamp, 0, relay, known) {
         Err(Error::Memory) => return Err(Stop::Refused(Error::Memory)),
         Err(error) => writeln!(text, "{error}")?,
         Ok(()) => writeln!(text, "taken")?,
     }
-    match cables.take(9, 0, relay, known) {
-        Ok(()) => writeln!(text, "taken")?,
-        Err(error) => writeln!(text, "{error}")?,
-    }
     Ok(())
 }
 
+/// Appends the entries, what waits, and which frames are pending.
+fn put_all(cables: &Cables, text: &mut String) -> Answer {
+    put_entries(text, cables.transcript())?;
+    put_waiting(cables, text)?;
+    put_first(cables, text)
+}
+
 /// Station 0 passes, keeps, drops, makes or answers the frame that station 2 put: `takes eight limit
-/// 772 passes knows cable 1 4638.5 later listed 4638 BYTES`. Then a frame that nobody put is refused.
+/// 772 passes knows cable 1 4638.5 later listed 4638 BYTES`. It takes it once more, and then a frame
+/// that nobody put.
 pub(crate) fn answer(alloc: Global, mut words: Words<'_>, text: &mut String) -> Answer {
     let seats = words.word();
     let is_lost = words.passes("lost");
@@ -86,10 +96,37 @@ pub(crate) fn answer(alloc: Global, mut words: Words<'_>, text: &mut String) -> 
     let bytes = Bytes::from_vec(words.bytes(alloc)?);
     let mut cables = pending(seated(alloc, seats, limit)?, is_lost, bytes)?;
     let mut relay = Relay { alloc, act };
-    take_twice(&mut cables, &mut relay, &known, text)?;
-    put_entries(text, cables.transcript())?;
+    take(&mut cables, 0, &mut relay, &known, text)?;
+    take(&mut cables, 0, &mut relay, &known, text)?;
+    take(&mut cables, 9, &mut relay, &known, text)?;
+    put_all(&cables, text)
+}
+
+/// Cables on which station 2 put the bytes for station 0, and station 1 the same for all on the second
+/// cable.
+fn two_pending(alloc: Global, limit: u32, bytes: &[u8]) -> Result<Cables, Stop>
+    ensures { IfOk result (λ cables. AreSeatsOf cables.seats 0 2) }
+{
+    let copy = Bytes::copy(alloc, bytes)?;
+    let mut cables = pending(seated(alloc, "eight", limit)?, false, copy)?;
+    cables.put(1, 1, Hw::ALL, Kind::Ddp, Bytes::copy(alloc, bytes)?)?;
+    Ok(cables)
+}
+
+/// Station 0 takes both of these frames, with what is known then: `takes-both limit 780 passes knows
+/// cable 1 4638.5 later listed 4638 then cable 1 4638.5 nobody listed 4638 BYTES`.
+pub(crate) fn answer_both(alloc: Global, mut words: Words<'_>, text: &mut String) -> Answer {
+    let limit = words.named("limit")?;
+    let act = act(&mut words)?;
+    words.expect("knows")?;
+    let first = resolver(&mut words)?;
+    words.expect("then")?;
+    let second = resolver(&mut words)?;
+    let bytes = words.bytes(alloc)?;
+    let mut cables = two_pending(alloc, limit, bytes.as_slice())?;
+    let mut relay = Relay { alloc, act };
+    take(&mut cables, 0, &mut relay, &first, text)?;
     put_waiting(&cables, text)?;
-    let count = cables.pending_count();
-    writeln!(text, "{count} pending")?;
-    Ok(())
+    take(&mut cables, 1, &mut relay, &second, text)?;
+    put_all(&cables, text)
 }

@@ -1,9 +1,8 @@
-//! Plays: that lines and images go to their writers, and what comes of reads and writes that fail.
+//! Plays: when lines and images come through, and what comes of reads and writes that fail.
 
 use super::fakes::{Frail, Holding, Pieces};
-use super::{audit, holds};
-use at_base::{Error, Part};
-use command_line::status;
+use super::holds;
+use at_base::Error;
 use commands::{Input, play_bytes};
 use frozen_trace::Output;
 use playing::Silent;
@@ -11,7 +10,7 @@ use std::alloc::Global;
 use std::io::Write;
 
 /// An internet of one cable and one node.
-const SMALL: &[u8] = b"ticks = 30
+pub(crate) const SMALL: &[u8] = b"ticks = 30
 [[cable]]
 range = [10, 19]
 zones = ['Red']
@@ -23,7 +22,7 @@ zone = 'Red'
 ";
 
 /// The same, where the node has no time to settle its address.
-const EARLY: &[u8] = b"ticks = 1
+pub(crate) const EARLY: &[u8] = b"ticks = 1
 [[cable]]
 range = [10, 19]
 zones = ['Red']
@@ -73,30 +72,6 @@ fn pieces(text: &[u8]) -> Pieces<'_> {
 }
 
 #[test]
-fn lines_and_images_go_to_their_writers(rt: HostRuntime) {
-    let bad = Err(Error::BadFile(Part::Text, 0));
-    let rows = [
-        (SMALL, Ok(true), 0, YES),
-        (EARLY, Ok(false), 1, NO),
-        (b"[[cable".as_slice(), bad, 2, b"".as_slice()),
-    ];
-    for (text, answer, exit, want) in rows {
-        let mut lines = [0u8; 80];
-        let mut image = [0u8; IMAGE_LEN];
-        let given = play(
-            rt.alloc(),
-            pieces(text),
-            lines.as_mut_slice(),
-            image.as_mut_slice(),
-        );
-        assert_eq!(rt; given, answer);
-        assert_eq!(rt; status(&given), exit);
-        assert!(rt; holds(lines.as_slice(), want));
-        assert_eq!(rt; image.starts_with(b"ATIM".as_slice()), exit < 2);
-    }
-}
-
-#[test]
 fn lines_and_images_are_flushed_after_their_ends(rt: HostRuntime) {
     for _attempt in 0..2 {
         let mut input = Input::new(pieces(EARLY));
@@ -107,24 +82,6 @@ fn lines_and_images_are_flushed_after_their_ends(rt: HostRuntime) {
             assert_eq!(rt; output.writer.flushed(), NO);
             assert_eq!(rt; image.writer.flushed().len(), IMAGE_LEN);
         }
-    }
-}
-
-#[test]
-fn play_audits_what_it_made(rt: HostRuntime) {
-    for (text, answer, want) in [(SMALL, Ok(true), YES), (EARLY, Ok(false), NO)] {
-        let mut lines = [0u8; 80];
-        let mut image = [0u8; IMAGE_LEN];
-        let _given = play(
-            rt.alloc(),
-            pieces(text),
-            lines.as_mut_slice(),
-            image.as_mut_slice(),
-        );
-        let mut room = [0u8; 80];
-        let audited = audit(rt.alloc(), pieces(image.as_slice()), room.as_mut_slice());
-        assert_eq!(rt; audited, answer);
-        assert!(rt; holds(room.as_slice(), want));
     }
 }
 

@@ -1,0 +1,48 @@
+//! Who is told of each tick of a play.
+
+use super::plays::{EARLY, SMALL};
+use playing::{Progress, play_text};
+use rtmp::PlainTable;
+use std::alloc::Global;
+use world::World;
+
+/// Counts the ticks, and whether the world's clock agrees.
+#[derive(Drop)]
+struct Counting {
+    ticks: u32,
+    agrees: bool,
+}
+
+impl Progress for Counting {
+    fn passed(&mut self, world: &World<PlainTable>) {
+        self.ticks = self.ticks.saturating_add(1);
+        // The node asks for an address in the first tick.
+        let has_lived = !world.transcript().is_empty();
+        self.agrees = self.agrees && self.ticks <= world.plan().ticks() && has_lived;
+    }
+}
+
+/// How many ticks the play of a text passes, if memory isn't refused.
+fn ticks_of(alloc: Global, text: &[u8]) -> Option<u32> {
+    let mut counting = Counting {
+        ticks: 0,
+        agrees: true,
+    };
+    let played = play_text(alloc, text, &mut counting);
+    if played.is_ok() && counting.agrees {
+        Some(counting.ticks)
+    } else {
+        None
+    }
+}
+
+#[test]
+fn each_tick_is_told(rt: HostRuntime) {
+    for (text, want) in [(SMALL, 30), (EARLY, 1)] {
+        let ticks = match ticks_of(rt.alloc(), text) {
+            None => ticks_of(rt.alloc(), text),
+            ticks => ticks,
+        };
+        assert_eq!(rt; ticks, Some(want));
+    }
+}

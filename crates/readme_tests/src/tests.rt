@@ -1,0 +1,22 @@
+//! The examples of READMEs, word for word, each on a few values, and calls of laws. A law is a
+//! function that does nothing: what its contract says is the law. Each test passes whichever single
+//! request for memory is refused: on `Memory` it calls again.
+
+mod of_aarp;
+mod of_at_base;
+mod of_atp;
+mod of_audit;
+mod of_cable_model;
+mod of_ddp;
+mod of_echo;
+mod of_end_node;
+mod of_internet_file;
+mod of_learning;
+mod of_nbp;
+mod of_router;
+mod of_rtmp;
+mod of_script;
+mod of_table_image;
+mod of_trace_lines;
+mod of_zip_zones;
+mod three_cables;

@@ -1,0 +1,50 @@
+//! The example of the README of `cable_model`, and its law.
+
+use at_base::{Bytes, Error, Hw};
+use cable_model::{Cables, Kind};
+use std::alloc::Global;
+use std::test::*;
+
+/// A station puts a frame on cable 0, which is lost. The result is how many are still to hear it.
+fn put_and_lose(cables: &mut Cables, station: u16, to: Hw, bytes: Bytes) -> Result<usize, Error> {
+    let stamp = cables.put(0, station, to, Kind::Ddp, bytes)?;
+    cables.lose(stamp)?;
+    Ok(cables.pending_count())
+}
+
+/// The seat of a station on the cable, by its number.
+fn seat(station: u16, hw: Hw) -> cable_model::Seat {
+    cable_model::Seat {
+        cable: 0,
+        station,
+        port: 0,
+        hw,
+        group: None,
+    }
+}
+
+/// How many are still to hear what a station put for all, with another station on its cable.
+fn left(alloc: Global) -> Result<usize, Error> {
+    let seats = [
+        seat(0, Hw([2, 0, 0, 0, 0, 1])),
+        seat(2, Hw([2, 0, 0, 0, 0, 5])),
+    ];
+    let mut cables = Cables::new(alloc, &seats, 2)?;
+    let bytes = Bytes::copy(alloc, b"ping")?;
+    put_and_lose(&mut cables, 2, Hw::ALL, bytes)
+}
+
+#[test]
+fn nobody_hears_what_is_lost(rt: HostRuntime) -> Result<(), Fail> {
+    let count = match left(rt.alloc()) {
+        Err(Error::Memory) => left(rt.alloc())?,
+        answer => answer?,
+    };
+    assert_eq!(rt; count, 0);
+    Ok(())
+}
+
+#[test]
+fn laws_of_cables_are_called() {
+    cable_model::taking_ends_one_pair();
+}

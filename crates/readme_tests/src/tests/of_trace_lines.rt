@@ -1,0 +1,56 @@
+//! The example of the README of `trace_lines`.
+
+use super::three_cables::IMAGE;
+use at_base::{Bytes, Error, Hw};
+use cable_model::{Cables, Entry};
+use std::alloc::{AllocError, Global};
+use std::test::*;
+use table_image::Image;
+use trace_lines::Lines;
+
+/// The lines of all that happened on these cables.
+fn trace(alloc: Global, image: &Image, cables: &Cables) -> Result<Vec<u8>, AllocError> {
+    let mut lines = Lines::new(alloc, image)?;
+    let mut text = Vec::new(alloc);
+    for entry in cables.transcript() {
+        let bytes = match *entry {
+            Entry::Sent { bytes, .. }
+            | Entry::Put { bytes, .. }
+            | Entry::Reached { bytes, .. }
+            | Entry::Dropped { bytes, .. } => cables.bytes(bytes),
+            Entry::Took { .. } | Entry::Lost { .. } => &[],
+        };
+        lines.append(&mut text, entry, bytes)?;
+    }
+    Ok(text)
+}
+
+/// Node 10.7, on the first cable.
+const SEAT: cable_model::Seat = cable_model::Seat {
+    cable: 0,
+    station: 2,
+    port: 0,
+    hw: Hw([0x02, 0x00, 0x00, 0x00, 0x00, 0x05]),
+    group: None,
+};
+
+/// The lines of a frame from the node to itself, which is lost.
+fn lines_of_a_loss(alloc: Global) -> Result<Vec<u8>, Error> {
+    let image = table_image::read(alloc, IMAGE.as_slice())?;
+    let mut cables = Cables::new(alloc, &[SEAT], 2)?;
+    let bytes = Bytes::copy(alloc, &[0x0A, 0xF0])?;
+    cables.put(0, 2, SEAT.hw, cable_model::Kind::Aarp, bytes)?;
+    cables.lose(0)?;
+    Ok(trace(alloc, &image, &cables)?)
+}
+
+#[test]
+fn a_lost_frame_is_printed(rt: HostRuntime) -> Result<(), Fail> {
+    let text = match lines_of_a_loss(rt.alloc()) {
+        Err(Error::Memory) => lines_of_a_loss(rt.alloc())?,
+        answer => answer?,
+    };
+    let want = b"put 0 cable 1 10.7 to 10.7 0AF0\nlost 0\n";
+    assert_eq!(rt; text.as_slice(), want.as_slice());
+    Ok(())
+}
