@@ -12,24 +12,27 @@ fn put_and_lose(cables: &mut Cables, station: u16, to: Hw, bytes: Bytes) -> Resu
     Ok(cables.pending_count())
 }
 
-/// The seat of a station on the cable, by its number.
-fn seat(station: u16, hw: Hw) -> cable_model::Seat {
+/// A router and a node on the cable.
+const SEATS: [cable_model::Seat; 2] = [
     cable_model::Seat {
         cable: 0,
-        station,
+        station: 0,
         port: 0,
-        hw,
+        hw: Hw([2, 0, 0, 0, 0, 1]),
         group: None,
-    }
-}
+    },
+    cable_model::Seat {
+        cable: 0,
+        station: 2,
+        port: 0,
+        hw: Hw([2, 0, 0, 0, 0, 5]),
+        group: None,
+    },
+];
 
-/// How many are still to hear what a station put for all, with another station on its cable.
+/// How many are still to hear what the node put for all.
 fn left(alloc: Global) -> Result<usize, Error> {
-    let seats = [
-        seat(0, Hw([2, 0, 0, 0, 0, 1])),
-        seat(2, Hw([2, 0, 0, 0, 0, 5])),
-    ];
-    let mut cables = Cables::new(alloc, &seats, 2)?;
+    let mut cables = Cables::new(alloc, &SEATS, 2)?;
     let bytes = Bytes::copy(alloc, b"ping")?;
     put_and_lose(&mut cables, 2, Hw::ALL, bytes)
 }

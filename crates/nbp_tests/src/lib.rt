@@ -1,5 +1,0 @@
-//! Tests of nbp through its public calls.
-#![tactic(auto)]
-
-#[cfg(test)]
-mod tests;
