@@ -6,7 +6,7 @@ ghost use Rattle.aarp.specs.Choosing.{is_on};
 ghost use Rattle.station.specs.Ports.{is_planned};
 
 use crate::plan::{Plan, PlannedPort};
-use at_base::{Addr, Name, Range};
+use at_base::{Addr, Error, Name, Range};
 use case_words::Stop;
 use end_node::EndNode;
 use live_node::LiveNode;
@@ -64,7 +64,9 @@ fn are_seated(rows: &[Row], plans: &[PortPlan<'_>]) -> bool
 fn plans_of<'a>(alloc: Global, ports: &'a [PlannedPort]) -> Result<Vec<PortPlan<'a>>, Stop> {
     let mut plans = Vec::new(alloc);
     for port in ports {
-        plans.push(port.plan())?;
+        if plans.push(port.plan()).is_err() {
+            return Err(Stop::Refused(Error::Memory));
+        }
     }
     Ok(plans)
 }
@@ -127,14 +129,6 @@ pub(crate) fn live_router_of<T: RouteTable>(
     live_router_by(alloc, plans.as_slice(), zones)
 }
 
-/// The plan of a node's one port, and the node's zone.
-fn node_plan(plan: &Plan) -> Result<(PortPlan<'_>, Name), Stop> {
-    match (plan.ports.as_slice(), plan.zone) {
-        ([port], Some(zone)) => Ok((port.plan(), zone)),
-        _ => Err(Stop::Unclear),
-    }
-}
-
 fn node_by(
     alloc: Global,
     port: &PortPlan<'_>,
@@ -150,9 +144,11 @@ fn node_by(
 
 /// The node that is planned.
 pub(crate) fn node_of(alloc: Global, plan: &Plan) -> Result<EndNode, Stop> {
-    let (port, zone) = node_plan(plan)?;
     let names = plan.names(alloc)?;
-    node_by(alloc, &port, zone, plan.router, names)
+    match (plan.ports.as_slice(), plan.zone) {
+        ([port], Some(zone)) => node_by(alloc, &port.plan(), zone, plan.router, names),
+        _ => Err(Stop::Unclear),
+    }
 }
 
 fn live_node_by(
@@ -169,7 +165,9 @@ fn live_node_by(
 
 /// The live node that is planned; its router is the one that it hears.
 pub(crate) fn live_node_of(alloc: Global, plan: &Plan) -> Result<LiveNode, Stop> {
-    let (port, zone) = node_plan(plan)?;
     let names = plan.names(alloc)?;
-    live_node_by(alloc, &port, zone, names)
+    match (plan.ports.as_slice(), plan.zone) {
+        ([port], Some(zone)) => live_node_by(alloc, &port.plan(), zone, names),
+        _ => Err(Stop::Unclear),
+    }
 }

@@ -89,7 +89,7 @@ impl PlannedPort {
 }
 
 /// The range after another one, of as many networks.
-fn range_after(range: Range) -> Result<Range, Stop> {
+fn range_after(range: &Range) -> Result<Range, Stop> {
     let step = range.end().saturating_sub(range.start()).saturating_add(1);
     let (start, end) = (range.start(), range.end());
     Ok(Range::new(start.saturating_add(step), end.saturating_add(step))?)
@@ -98,16 +98,17 @@ fn range_after(range: Range) -> Result<Range, Stop> {
 /// Rows, as `10-19 distance 0 port 0 next 0.0 good`, or a number of them, each of the range after the one before.
 fn rows(alloc: Global, mut words: Words<'_>) -> Result<Vec<Row>, Stop> {
     let mut rows = Vec::new(alloc);
-    let mut next = row(&mut words)?;
-    rows.push(next)?;
+    let first = row(&mut words)?;
+    let mut range = first.range;
+    rows.push(first)?;
     let times: u16 = if words.passes("times") {
         words.number()?
     } else {
         1
     };
     for _ in 1..times {
-        next.range = range_after(next.range)?;
-        rows.push(next)?;
+        range = range_after(&range)?;
+        rows.push(Row { range, ..first })?;
     }
     Ok(rows)
 }
