@@ -88,27 +88,39 @@ impl PlannedPort {
     }
 }
 
-/// The range after another one, of as many networks.
-fn range_after(range: &Range) -> Result<Range, Stop> {
-    let step = range.end().saturating_sub(range.start()).saturating_add(1);
+/// The range of as many networks that is so many ranges after this one.
+fn range_after(range: &Range, count: u16) -> Result<Range, Stop> {
     let (start, end) = (range.start(), range.end());
+    let step = end
+        .saturating_sub(start)
+        .saturating_add(1)
+        .saturating_mul(count);
     Ok(Range::new(start.saturating_add(step), end.saturating_add(step))?)
+}
+
+/// The same row for another range.
+fn row_of(row: &Row, range: Range) -> Row {
+    Row {
+        range,
+        distance: row.distance,
+        port: row.port,
+        next: row.next,
+        state: row.state,
+    }
 }
 
 /// Rows, as `10-19 distance 0 port 0 next 0.0 good`, or a number of them, each of the range after the one before.
 fn rows(alloc: Global, mut words: Words<'_>) -> Result<Vec<Row>, Stop> {
     let mut rows = Vec::new(alloc);
     let first = row(&mut words)?;
-    let mut range = first.range;
-    rows.push(first)?;
     let times: u16 = if words.passes("times") {
         words.number()?
     } else {
         1
     };
-    for _ in 1..times {
-        range = range_after(&range)?;
-        rows.push(Row { range, ..first })?;
+    for count in 0..times.max(1) {
+        let range = range_after(&first.range, count)?;
+        rows.push(row_of(&first, range))?;
     }
     Ok(rows)
 }
