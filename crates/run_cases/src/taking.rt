@@ -6,7 +6,7 @@ ghost use Rattle.cable_model.specs.Outcomes.{AreSeatsOf};
 use crate::cables::{Known, put_first, put_waiting, resolver};
 use crate::entries::put_entries;
 use crate::relay::{Act, Relay};
-use crate::seats::{EIGHT, THREE};
+use crate::seats::EIGHT;
 use at_base::{Addr, Bytes, Error, Hw};
 use cable_model::{Cables, Kind};
 use case_words::{Answer, Stop, Words};
@@ -34,26 +34,27 @@ fn act(words: &mut Words<'_>) -> Result<Act, Stop> {
     })
 }
 
-/// Cables of the seats that a word names, with room for so many entries.
-fn seated(alloc: Global, seats: &str, limit: u32) -> Result<Cables, Stop>
+/// Cables of the eight seats, with room for so many entries.
+fn seated(alloc: Global, limit: u32) -> Result<Cables, Error>
     ensures { IfOk result (λ cables. AreSeatsOf cables.seats 0 2) }
 {
-    match seats {
-        "eight" => Ok(Cables::new(alloc, &EIGHT, limit)?),
-        "three" => Ok(Cables::new(alloc, &THREE, limit)?),
-        _ => Err(Stop::Unclear),
-    }
+    let cables = Cables::new(alloc, &EIGHT, limit)?;
+    Ok(cables)
 }
 
-/// Cables on which station 2 put a frame for station 0, which is lost where that is said.
-fn pending(mut cables: Cables, is_lost: bool, bytes: Bytes) -> Result<Cables, Stop>
-    requires { AreSeatsOf cables.entry.seats 0 2 }
+/// A station puts a frame on a cable.
+fn put(cables: &mut Cables, cable: u8, station: u16, to: Hw, bytes: Bytes) -> Result<u32, Error>
+    ensures { cables.new.seats ≡ cables.old.seats }
+{
+    cables.put(cable, station, to, Kind::Ddp, bytes)
+}
+
+/// Cables on which station 2 put a frame for station 0.
+fn pending(alloc: Global, limit: u32, bytes: Bytes) -> Result<Cables, Error>
     ensures { IfOk result (λ cables. AreSeatsOf cables.seats 0 2) }
 {
-    cables.put(0, 2, ROUTER_HW, Kind::Ddp, bytes)?;
-    if is_lost {
-        cables.lose(0)?;
-    }
+    let mut cables = seated(alloc, limit)?;
+    put(&mut cables, 0, 2, ROUTER_HW, bytes)?;
     Ok(cables)
 }
 
@@ -83,18 +84,16 @@ fn put_all(cables: &Cables, text: &mut String) -> Answer {
     put_first(cables, text)
 }
 
-/// Station 0 passes, keeps, drops, makes or answers the frame that station 2 put: `takes eight limit
-/// 772 passes knows cable 1 4638.5 later listed 4638 BYTES`. It takes it once more, and then a frame
-/// that nobody put.
+/// Station 0 passes, keeps, drops, makes or answers the frame that station 2 put: `takes limit 772
+/// passes knows cable 1 4638.5 later listed 4638 BYTES`. It takes it once more, and then a frame that
+/// nobody put.
 pub(crate) fn answer(alloc: Global, mut words: Words<'_>, text: &mut String) -> Answer {
-    let seats = words.word();
-    let is_lost = words.passes("lost");
     let limit = words.named("limit")?;
     let act = act(&mut words)?;
     words.expect("knows")?;
     let known = resolver(&mut words)?;
     let bytes = Bytes::from_vec(words.bytes(alloc)?);
-    let mut cables = pending(seated(alloc, seats, limit)?, is_lost, bytes)?;
+    let mut cables = pending(alloc, limit, bytes)?;
     let mut relay = Relay { alloc, act };
     take(&mut cables, 0, &mut relay, &known, text)?;
     take(&mut cables, 0, &mut relay, &known, text)?;
@@ -104,12 +103,13 @@ pub(crate) fn answer(alloc: Global, mut words: Words<'_>, text: &mut String) -> 
 
 /// Cables on which station 2 put the bytes for station 0, and station 1 the same for all on the second
 /// cable.
-fn two_pending(alloc: Global, limit: u32, bytes: &[u8]) -> Result<Cables, Stop>
+fn two_pending(alloc: Global, limit: u32, bytes: &[u8]) -> Result<Cables, Error>
     ensures { IfOk result (λ cables. AreSeatsOf cables.seats 0 2) }
 {
-    let copy = Bytes::copy(alloc, bytes)?;
-    let mut cables = pending(seated(alloc, "eight", limit)?, false, copy)?;
-    cables.put(1, 1, Hw::ALL, Kind::Ddp, Bytes::copy(alloc, bytes)?)?;
+    let first = Bytes::copy(alloc, bytes)?;
+    let second = Bytes::copy(alloc, bytes)?;
+    let mut cables = pending(alloc, limit, first)?;
+    put(&mut cables, 1, 1, Hw::ALL, second)?;
     Ok(cables)
 }
 
