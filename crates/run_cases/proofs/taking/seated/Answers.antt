@@ -1,5 +1,5 @@
 use Rattle.std.proofs.Common.{refl, ap}
-use Rattle.run_cases.proofs.Seats.{seats_of}
+use Rattle.run_cases.proofs.FirstTwo.{seats_of}
 use Rattle.run_cases.proofs.taking.seated.Goals as goal
 
 pub returns : goal.returns
