@@ -8,6 +8,7 @@ pub mod FirstFault
 pub mod Reading
 pub mod Lawful
 pub mod Address
+pub mod Multicast
 pub mod Texts
 pub mod Packets
 pub mod Starts

@@ -11,7 +11,7 @@ use at_base::Error;
 use clap::error::ErrorKind as ParseError;
 use command_line::{Job, Outcome, Source, exit_of, read_arguments};
 use commands::{audit_file, run_frozen};
-use frozen_trace::Output;
+use text::Output;
 use std::fs::File;
 use std::io;
 use std::io::{Read, writer};

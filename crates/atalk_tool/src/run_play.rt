@@ -6,7 +6,7 @@ use crate::run::Terminals;
 use crate::watching::Watching;
 use command_line::{Outcome, Source};
 use commands::play_bytes;
-use frozen_trace::Output;
+use text::Output;
 use std::fs::File;
 use std::io;
 use std::io::{Read, Write, writer};

@@ -10,7 +10,7 @@ use Rattle.at_base.specs.declared.error.Place.TheVariants as place
 use Rattle.table_image.specs.Internet.{Internet}
 use Rattle.audit.specs.Places.{index_of}
 use Rattle.audit.specs.Routing.{owner, router_of}
-use Rattle.audit.specs.Seats.{Seat, port_seat, router_seats, node_seats}
+use Rattle.table_image.specs.Seats.{Seat, port_seat, router_seats, node_seats}
 use Rattle.at_base.specs.Address.{same_address}
 use Rattle.table_image.specs.declared.port.Port.{Port}
 use Rattle.table_image.specs.declared.router.Router.{Router}

@@ -1,7 +1,7 @@
 -- Where the seats of an internet stand: each is a port of a router or a node, and its place says which.
 use Rattle.std.proofs.Common.{◌≡◌, ℕ, zero, suc, ◌+◌, inl, inr, List, [], ◌∷◌, length, map, refl, ap, arith}
 use Rattle.table_image.specs.Internet.{Internet}
-use Rattle.audit.specs.Seats.{Seat, port_seat, router_seats, node_seats, seats}
+use Rattle.table_image.specs.Seats.{Seat, port_seat, router_seats, node_seats, seats}
 use Rattle.table_image.specs.declared.port.Port.{Port}
 use Rattle.table_image.specs.declared.router.Router.{Router}
 use Rattle.table_image.specs.declared.node.Node.{Node}

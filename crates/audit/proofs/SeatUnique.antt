@@ -12,7 +12,7 @@ use Rattle.at_base.specs.declared.address.Hw.{Hw}
 use Rattle.at_base.specs.declared.error.Place.TheVariants as place
 use Rattle.table_image.specs.Internet.{Internet}
 use Rattle.audit.specs.Places.{on}
-use Rattle.audit.specs.Seats.{Seat, seats}
+use Rattle.table_image.specs.Seats.{Seat, seats}
 use Rattle.at_base.specs.Address.{same_address}
 use Rattle.at_base.specs.Range.{is_between}
 use Rattle.table_image.specs.declared.cable.Cable.{Cable}

@@ -5,7 +5,7 @@ use Rattle.std.proofs.lemmas.Bool.Decides.{nat_tests}
 use Rattle.std.proofs.lemmas.Bool.{or_parts, and_parts, not-false, ltb-true}
 use Rattle.at_base.specs.declared.address.Addr.{Addr}
 use Rattle.table_image.specs.Internet.{Internet}
-use Rattle.audit.specs.Seats.{Seat, seat_at}
+use Rattle.table_image.specs.Seats.{Seat, seat_at}
 use Rattle.audit.specs.Routing.{router_of, owner}
 use Rattle.at_base.specs.Range.{is_between}
 use Rattle.table_image.specs.Rows.{is_direct}

@@ -8,7 +8,7 @@ use Rattle.at_base.specs.declared.address.Addr.{Addr}
 use Rattle.at_base.specs.declared.error.Place.TheVariants as place
 use Rattle.table_image.specs.Internet.{Internet}
 use Rattle.audit.specs.Places.{on}
-use Rattle.audit.specs.Seats.{seats}
+use Rattle.table_image.specs.Seats.{seats}
 use Rattle.at_base.specs.Address.{same_address}
 use Rattle.audit.specs.Routing.{Here, On, Nowhere, home, row_for, owner, hand, hand_to, hand_over, hand_by, hand_at, distance, distance_in}
 use Rattle.at_base.specs.Range.{is_between}

@@ -1,5 +1,4 @@
 pub mod Places
-pub mod Seats
 pub mod Routing
 pub mod Firsts
 pub mod ZoneLists

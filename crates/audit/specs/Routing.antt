@@ -6,7 +6,7 @@ use Rattle.rtmp.specs.States.{is_usable}
 use Rattle.table_image.specs.Rows.{is_direct}
 use Rattle.table_image.specs.Internet.{Internet}
 use Rattle.audit.specs.Places.{index_of}
-use Rattle.audit.specs.Seats.{Seat, seat_at}
+use Rattle.table_image.specs.Seats.{Seat, seat_at}
 use Rattle.table_image.specs.declared.port.Port.{Port}
 use Rattle.table_image.specs.declared.row.Row.{Row}
 use Rattle.table_image.specs.declared.router.Router.{Router}

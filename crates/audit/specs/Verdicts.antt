@@ -1,5 +1,5 @@
 -- Verdicts: which are right, and how they read. This project's own.
-use Rattle.std.specs.Prelude.{◌≡◌, ℕ, ◌<◌, ◌≤◌, ◌⊎◌, true, false, List, [], ◌∷◌, ◌++◌, length, map, max, sum_by, codes}
+use Rattle.std.specs.Prelude.{◌≡◌, ℕ, ◌<◌, ◌≤◌, ◌⊎◌, Bool, true, false, List, [], ◌∷◌, ◌++◌, length, map, max, sum_by, codes}
 use Rattle.std.specs.Fmt.{decimal}
 use Rattle.at_base.specs.declared.error.Place.{Place}
 use Rattle.at_base.specs.declared.error.Place.TheVariants.{Cable, Port, Node, Row, Missing, List as ZonesOf}
@@ -36,6 +36,11 @@ pub record IsFirst (i : Internet) (f : Fault) : Type 0 where
   pub broken : breaks i f.rule f.place ≡ true
   pub before : (p : Place) → IsBefore p f.place → breaks i f.rule p ≡ false
   pub earlier : (rule : ℕ) → rule < f.rule → (p : Place) → breaks i rule p ≡ false
+
+-- each rule is kept
+abbrev pub is_yes : Verdict → Bool
+is_yes (Yes summary) = true
+is_yes (No fault) = false
 
 -- the greatest of a list of numbers, and 0 of none
 abbrev pub greatest_of : List ℕ → ℕ

@@ -2,7 +2,7 @@
 use Rattle.std.specs.Prelude.{◌≡◌, ◌≢◌, ℕ, ◌+◌, ◌≤◌, ◌<◌, ◌%◌, ◌==◌, true, false, List, [], ◌∷◌, length, Some, slice_get, slice_index}
 use Rattle.at_base.specs.declared.address.Addr.{Addr}
 use Rattle.table_image.specs.Internet.{Internet}
-use Rattle.audit.specs.Seats.{Seat, seats}
+use Rattle.table_image.specs.Seats.{Seat, seats}
 use Rattle.at_base.specs.Address.{same_address}
 use Rattle.at_base.specs.Range.{is_between}
 use Rattle.table_image.specs.declared.cable.Cable.{Cable}

@@ -12,7 +12,7 @@ ghost use Rattle.audit.specs.Rules.{Keeps, Passes};
 ghost use Rattle.audit.specs.Served.{IsServed};
 ghost use Rattle.table_image.specs.declared.node.Node.{Node};
 ghost use Rattle.audit.specs.Walks.{IsWalk, WalksHome, Steps, HasPort, SeatsAreUnique};
-ghost use Rattle.audit.specs.Seats.{Seat, seats};
+ghost use Rattle.table_image.specs.Seats.{Seat, seats};
 ghost use Rattle.audit.specs.Walks.{AreDifferent, IsAddressed};
 ghost use Rattle.audit.specs.ZoneLists.{ZonesAgree};
 

@@ -1,6 +1,7 @@
 //! Verdicts, and the line that the program prints for one.
 
 ghost use Rattle.std.specs.Prelude.{◌≡◌, IfOk, IsOkUnless, string_bytes};
+ghost use Rattle.audit.specs.Verdicts as spec;
 ghost use Rattle.audit.specs.Verdicts.{verdict_line};
 
 use at_base::{Error, Fault};
@@ -53,6 +54,13 @@ impl fmt::Display for Verdict {
 }
 
 impl Verdict {
+    /// Whether each rule is kept.
+    pub fn is_yes(&self) -> bool
+        ensures { result ≡ spec.is_yes self.now }
+    {
+        matches!(self, Verdict::Yes(_))
+    }
+
     /// The line of the verdict, without an end of line: at most 100 bytes. It is allocated by one
     /// request. Error: `Memory`.
     pub fn line(&self, alloc: Global) -> Result<String, Error>

@@ -12,7 +12,8 @@ use Rattle.cable_model.proofs.Counting.{each-append, each_all, each_map}
 use Rattle.cable_model.specs.Books.{IsBook, IsDue, dues, pair_at, said}
 use Rattle.cable_model.specs.Logs.{bytes_at, entry_at}
 use Rattle.cable_model.specs.Outcomes.{is_for_as, link_of}
-use Rattle.cable_model.specs.Pending.{ends, is_all, is_for, is_group, is_heard, listens, pairs_of, pending}
+use Rattle.cable_model.specs.Pending.{ends, is_for, is_heard, listens, pairs_of, pending}
+use Rattle.at_base.specs.Multicast.{is_all, is_group}
 use Rattle.cable_model.specs.Transcript.{Entry, Frame, Put}
 use Rattle.cable_model.specs.declared.entry.Entry.TheVariants as line
 use Rattle.cable_model.specs.declared.log.Log.{Log}

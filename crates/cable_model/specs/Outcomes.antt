@@ -5,6 +5,7 @@ use Rattle.std.specs.List.{list_any}
 use Rattle.at_base.specs.Address.{same_address}
 use Rattle.at_base.specs.Text.{same_bytes}
 use Rattle.at_base.specs.declared.address.Addr.{Addr}
+use Rattle.at_base.specs.Multicast.{all_hw, group_hw}
 use Rattle.at_base.specs.declared.address.Hw.{Hw}
 use Rattle.ddp.specs.Bodies.{body, target}
 use Rattle.station.specs.Hearing.{Hearing}
@@ -23,7 +24,8 @@ use Rattle.cable_model.specs.declared.resolve.Found.TheVariants.{At, Nobody, Lat
 use Rattle.cable_model.specs.declared.seat.Seat.{Seat}
 use Rattle.cable_model.specs.declared.waiting.Waiting.{Waiting}
 use Rattle.cable_model.specs.Logs.{Adds, Cabling, bytes_at, transcript}
-use Rattle.cable_model.specs.Pending.{Pair, is_all, is_group, listens, pending}
+use Rattle.cable_model.specs.Pending.{Pair, listens, pending}
+use Rattle.at_base.specs.Multicast.{is_all, is_group}
 use Rattle.cable_model.specs.Transcript.{Entry, Sent, Put, Took, Reached, Dropped, stamps}
 
 -- Where stations are: what is known of the station that has an address on a cable, and whether a network is some cable's.
@@ -36,14 +38,6 @@ pub record Sender : Type 0 where
   pub stamp : ℕ
   pub cable : ℕ
   pub station : ℕ
-
--- the hardware address of all stations
-abbrev pub all_hw : Hw
-all_hw = record { 0 = 9 ∷ 0 ∷ 7 ∷ 255 ∷ 255 ∷ 255 ∷ [] }
-
--- the hardware address of a group
-abbrev pub group_hw : ℕ → Hw
-group_hw group = record { 0 = 9 ∷ 0 ∷ 7 ∷ 0 ∷ 0 ∷ group ∷ [] }
 
 -- the frame that a sender puts there
 abbrev pub framed : Sender → Hw → Kind → List ℕ → Entry

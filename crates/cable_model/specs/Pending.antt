@@ -2,18 +2,11 @@
 use Rattle.std.specs.Prelude.{ℕ, Bool, false, not, ◌&&◌, ◌==◌, if◌then◌else◌, List, [], ◌∷◌, ◌++◌, Option, Some, None, map, filter}
 use Rattle.std.specs.Prelude.{nat_lt, take, slice_index}
 use Rattle.std.specs.List.{list_any}
+use Rattle.at_base.specs.Multicast.{is_all, is_group}
 use Rattle.at_base.specs.Text.{same_bytes}
 use Rattle.at_base.specs.declared.address.Hw.{Hw}
 use Rattle.cable_model.specs.declared.seat.Seat.{Seat}
 use Rattle.cable_model.specs.Transcript.{Frame, Entry, Put, Took, Lost}
-
--- the hardware address of every station of a cable
-abbrev pub is_all : Hw → Bool
-is_all to = same_bytes to.0 (9 ∷ 0 ∷ 7 ∷ 255 ∷ 255 ∷ 255 ∷ [])
-
--- the hardware address of a group
-abbrev pub is_group : Hw → Bool
-is_group to = same_bytes (take 5 to.0) (9 ∷ 0 ∷ 7 ∷ 0 ∷ 0 ∷ []) && nat_lt (slice_index to.0 5) 253
 
 -- the station listens to the group: a node whose zone has it
 abbrev pub listens : ℕ → Option ℕ → Bool

@@ -1,7 +1,8 @@
 -- How a datagram goes onto a cable, once it is known where stations are. This project's own.
 use Rattle.std.specs.Prelude.{Bool, true, false, ℕ, ◌+◌, cond, List, [], ◌∷◌}
 use Rattle.at_base.specs.Address.{same_address}
-use Rattle.cable_model.specs.Outcomes.{Held, Places, Sender, all_hw, framed, group_hw, held_by, to_other, to_target}
+use Rattle.cable_model.specs.Outcomes.{Held, Places, Sender, framed, held_by, to_other, to_target}
+use Rattle.at_base.specs.Multicast.{all_hw, group_hw}
 use Rattle.cable_model.specs.Transcript.{Entry, Reached}
 use Rattle.cable_model.specs.declared.entry.How.TheVariants as how
 use Rattle.cable_model.specs.declared.exit.Exit.{Exit}

@@ -19,13 +19,12 @@ pub fn same_hw(a: &Hw, b: &Hw) -> bool
 pub fn link_of(to: &Hw) -> Link
     ensures { result ≡ link_in to.now }
 {
-    let [a, b, c, d, e, last] = to.0;
-    if same_hw(to, &Hw::ALL) {
-        Link::All
-    } else if a == 9 && b == 0 && c == 7 && d == 0 && e == 0 && last < 253 {
-        Link::Group(last)
-    } else {
-        Link::Own
+    if to.is_all() {
+        return Link::All;
+    }
+    match to.group() {
+        Some(group) => Link::Group(group),
+        None => Link::Own,
     }
 }
 

@@ -160,7 +160,7 @@ pub fn leave(log: &mut Log, seats: &Seats, exit: Exit, way: Way, bytes: u32)
         Way::Other(addr, found) => to_other(log, seats, exit, addr, found, bytes),
         Way::All(listed) => to_all(log, seats, exit, listed, bytes),
         Way::Group(group) => {
-            let to = Hw([9, 0, 7, 0, 0, group]);
+            let to = Hw::zone(group);
             put(log, seats, exit.cable, exit.station, to, Kind::Ddp, bytes);
         }
     }

@@ -9,16 +9,14 @@ ghost use Rattle.table_image.specs.Internet.{Internet};
 ghost use Rattle.table_image.specs.Spelling.{image_spelling};
 ghost use Rattle.table_image.specs.Reading.{IsFirstFlaw, refusal};
 ghost use Rattle.table_image.specs.declared.flaw.Flaw.{Flaw};
-ghost use Rattle.audit.specs.Verdicts.{Judges, verdict_line};
+ghost use Rattle.audit.specs.Verdicts.{Judges, is_yes, verdict_line};
 ghost use Rattle.audit.specs.declared.verdict.Verdict.{Verdict};
-ghost use Rattle.playing.specs.Answer.{is_yes};
 ghost use Rattle.commands.specs.declared.input.TheConstants.{READS};
 
 use crate::input::Input;
 use at_base::Error;
 use audit::audit_bytes;
-use frozen_trace::Output;
-use playing::says_yes;
+use text::Output;
 use std::alloc::Global;
 use std::io::{Read, Write};
 
@@ -74,5 +72,5 @@ pub fn audit_file<R: Read, W: Write>(
     let verdict = answer?;
     let line = verdict.line(alloc)?;
     output.write_line(line.as_bytes())?;
-    Ok(says_yes(&verdict))
+    Ok(verdict.is_yes())
 }

@@ -13,7 +13,7 @@ ghost use Rattle.commands.specs.declared.input.TheConstants.{READS};
 
 use crate::input::Input;
 use at_base::Error;
-use frozen_trace::Output;
+use text::Output;
 use playing::{Played, Progress, play_text};
 use std::alloc::Global;
 use std::io;

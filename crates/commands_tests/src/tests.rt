@@ -12,7 +12,7 @@ mod tracing;
 use at_base::Error;
 use commands::{Input, READS, append, audit_file};
 use fakes::{Frail, Holding, Pieces, Places, Restless};
-use frozen_trace::Output;
+use text::Output;
 use reading::{nearly_given_up, read_all};
 use std::alloc::Global;
 use std::io::{ErrorKind, Read};

@@ -10,8 +10,8 @@ use crate::key::Key;
 use crate::must::Must;
 use at_base::{Addr, Range, is_entity};
 use nbp::matches;
-use script::address;
-use script::hex::nibble;
+use text::address;
+use text::hex::nibble;
 use toml::{Table, Value};
 
 /// Where a fault of an entry is, and what it is.

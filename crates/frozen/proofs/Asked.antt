@@ -16,7 +16,7 @@ use Rattle.ddp.specs.Datagram.{Datagram, datagram, datagram_of}
 use Rattle.ddp.specs.declared.header.Header.{Header}
 use Rattle.end_node.specs.Asking.{request_bytes}
 use Rattle.frozen.specs.Orders.{ask_data, data_at, data_by, node_at}
-use Rattle.legal_answers.proofs.Datagrams.{begins_whole}
+use Rattle.legal_stations.proofs.Datagrams.{begins_whole}
 use Rattle.legal_runs.specs.Requests.{is_forward, is_lookup, packet_in, request, value_of}
 use Rattle.nbp.specs.Packets.{NbpPacket, function_of, key, packet, packet_of, tuple, wrong_head}
 use Rattle.nbp.specs.declared.packet.Function.TheVariants.{BroadcastRequest}

@@ -6,7 +6,7 @@ use Rattle.std.specs.List.{AllByRecursion as Each}
 use Rattle.std.proofs.lemmas.Bool.{and_right}
 use Rattle.at_base.specs.Address.{same_address}
 use Rattle.audit.specs.Routing.{Hand, Here, On, Nowhere, hand, home}
-use Rattle.audit.specs.Seats.{Seat as PlaceOf, seat_at}
+use Rattle.table_image.specs.Seats.{Seat as PlaceOf, seat_at}
 use Rattle.cable_model.proofs.Counting.{count-append}
 use Rattle.cable_model.specs.Logs.{transcript}
 use Rattle.cable_model.specs.Outcomes.{Places, Sender, leg as leg_on, sent_entries}
@@ -23,7 +23,7 @@ use Rattle.frozen.specs.Promises.{HaveOnlyAsked, is_routers_request}
 use Rattle.frozen.specs.Runs.{IsFrozen, Running, TakenBy}
 use Rattle.frozen.specs.declared.order.Order.{Order}
 use Rattle.image_stations.specs.Holders.{places_of}
-use Rattle.legal_answers.proofs.Asked.{unended}
+use Rattle.legal_stations.proofs.Asked.{unended}
 use Rattle.legal_runs.proofs.Listing.{other_alone}
 use Rattle.legal_runs.specs.Answers.{Answers, Expanded, LookedUp, Others, asks_here, ends_at, is_other, seeks_here}
 use Rattle.legal_runs.specs.Legal.{Block, Sends, Takes, said}

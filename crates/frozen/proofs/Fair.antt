@@ -15,15 +15,15 @@ use Rattle.audit.proofs.WalkLists.{find_at}
 use Rattle.audit.proofs.WalkSteps.{cable_good}
 use Rattle.audit.specs.Routing.{owner}
 use Rattle.audit.specs.Rules.{Passes}
-use Rattle.audit.specs.Seats.{Seat as PlaceOf, seats}
+use Rattle.table_image.specs.Seats.{Seat as PlaceOf, seats}
 use Rattle.at_base.specs.Address.{same_address}
 use Rattle.ddp.proofs.Shape.{value_laid}
 use Rattle.ddp.specs.Datagram.{datagram, datagram_of}
 use Rattle.ddp.specs.declared.header.Header.{Header}
 use Rattle.frozen.specs.Orders.{IsFair, ask_order, asked_at, asking_for, asked_of, next_for, node_at, order_for, own_router, router_for, send_order, sent_at, sent_by, to_station}
 use Rattle.frozen.specs.declared.order.Order.{Order}
-use Rattle.legal_answers.proofs.Making.{IsSent, is_sent}
-use Rattle.legal_answers.proofs.NodeSeats.{node_seat, seat_of_node}
+use Rattle.legal_stations.proofs.Making.{IsSent, is_sent}
+use Rattle.legal_stations.proofs.NodeSeats.{node_seat, seat_of_node}
 use Rattle.legal_runs.proofs.Legs.{same_address_is}
 use Rattle.legal_runs.specs.Answers.{ByRouter, OnCable}
 use Rattle.legal_runs.specs.Stations.{is_on, is_router}

@@ -19,13 +19,13 @@ use Rattle.frozen.specs.Promises.{HaveOnlyAsked}
 use Rattle.frozen.specs.Runs.{IsFrozen, Running, TakenBy}
 use Rattle.frozen.specs.declared.order.Order.{Order}
 use Rattle.image_stations.specs.Holders.{HoldStations, HoldsStation, places_of}
-use Rattle.image_stations.specs.Members.{EitherHears}
-use Rattle.image_stations.specs.declared.member.Member.{Member}
-use Rattle.image_stations.specs.declared.member.Member.TheVariants as member
-use Rattle.legal_answers.proofs.Bridge.{sendings}
-use Rattle.legal_answers.proofs.Making.{IsSent}
-use Rattle.legal_answers.proofs.NodeTakes.{node_takes}
-use Rattle.legal_answers.proofs.RouterTakes.{router_takes}
+use Rattle.station.specs.Members.{EitherHears}
+use Rattle.station.specs.declared.member.Member.{Member}
+use Rattle.station.specs.declared.member.Member.TheVariants as member
+use Rattle.legal_stations.proofs.Bridge.{sendings}
+use Rattle.legal_stations.proofs.Making.{IsSent}
+use Rattle.legal_stations.proofs.NodeTakes.{node_takes}
+use Rattle.legal_stations.proofs.RouterTakes.{router_takes}
 use Rattle.legal_runs.proofs.Frames.{whole}
 use Rattle.legal_runs.specs.Answers.{IsMade, IsOwn}
 use Rattle.legal_runs.specs.Legal.{Begins, Block, Goes, IsLegal}

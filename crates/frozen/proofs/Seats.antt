@@ -10,7 +10,7 @@ use Rattle.audit.proofs.Finding.{any_at, any_from}
 use Rattle.audit.proofs.SeatPlaces.{AtNode, AtPort, sits}
 use Rattle.audit.proofs.WalkLists.{At, at_map, at_within, find_at}
 use Rattle.audit.specs.Rules.{Passes}
-use Rattle.audit.specs.Seats.{Seat as PlaceOf, port_seat, seats}
+use Rattle.table_image.specs.Seats.{Seat as PlaceOf, port_seat, seats}
 use Rattle.cable_model.proofs.Counting.{contained_at, map_at}
 use Rattle.cable_model.proofs.Finds.{contains_at}
 use Rattle.cable_model.specs.Logs.{transcript}
@@ -22,12 +22,12 @@ use Rattle.frozen.specs.Events.{IsNext}
 use Rattle.frozen.specs.Runs.{IsFrozen, Running, ports_of}
 use Rattle.image_stations.specs.Finding.{is_at, spot_of, station_at}
 use Rattle.image_stations.specs.Holders.{HoldStations, HoldsNode, HoldsRouter, choice_on}
-use Rattle.image_stations.specs.declared.member.Member.{Member}
-use Rattle.image_stations.specs.declared.member.Member.TheVariants as member
+use Rattle.station.specs.declared.member.Member.{Member}
+use Rattle.station.specs.declared.member.Member.TheVariants as member
 use Rattle.image_stations.specs.declared.whereabouts.Spot.{Spot}
-use Rattle.legal_answers.proofs.Arrivals.{arrives}
-use Rattle.legal_answers.proofs.NodeSeats.{node_seat, past_end, seat_of_node}
-use Rattle.legal_answers.proofs.Ports.{port_number, port_of, seat_of_port}
+use Rattle.legal_stations.proofs.Arrivals.{arrives}
+use Rattle.legal_stations.proofs.NodeSeats.{node_seat, past_end, seat_of_node}
+use Rattle.legal_stations.proofs.Ports.{port_number, port_of, seat_of_port}
 use Rattle.legal_runs.specs.Stations.{cable_seat, cable_seats, is_on, port_on}
 use Rattle.router.specs.Holding.{Holding}
 use Rattle.table_image.specs.Internet.{Internet}

@@ -10,7 +10,7 @@ ghost use Rattle.cable_model.specs.Pending.{pending as pending_on};
 ghost use Rattle.end_node.specs.Holding.{NodeHolding};
 ghost use Rattle.frozen.specs.Runs.{TakenFrom, ports_of};
 ghost use Rattle.image_stations.specs.Holders.{places_of};
-ghost use Rattle.image_stations.specs.declared.member.Member.{Member as MemberValue};
+ghost use Rattle.station.specs.declared.member.Member.{Member as MemberValue};
 ghost use Rattle.router.specs.Holding.{Holding};
 ghost use Rattle.station.specs.Lawful.{IsNext};
 
@@ -18,7 +18,8 @@ use crate::order::Order;
 use at_base::{Bytes, Error};
 use cable_model::Cables;
 use end_node::EndNode;
-use image_stations::{Member, Whereabouts};
+use image_stations::Whereabouts;
+use station::Member;
 use router::Router;
 use rtmp::RouteTable;
 

@@ -1,10 +1,8 @@
 //! The trace of a script over frozen tables: each step is played, and what it adds is printed.
 #![tactic(auto)]
 
-mod output;
 mod playing;
 mod printing;
 mod trace;
 
-pub use output::Output;
 pub use trace::trace_script;

@@ -1,11 +1,11 @@
 //! Steps of a script, one at a time.
 
 ghost use Rattle.std.specs.Prelude.{◌≡◌, ◌⊎◌, List, ℕ, true, IfErr, OnOk};
-ghost use Rattle.frozen_trace.specs.Going.{Goes};
+ghost use Rattle.text.specs.Going.{Goes};
 ghost use Rattle.frozen_trace.specs.Traces.{Plays, PlaysAll, all_printed};
 ghost use Rattle.script.specs.declared.step.Step.TheVariants as step;
 
-use crate::output::Output;
+use text::Output;
 use crate::printing::{print_from, refuse};
 use at_base::Error;
 use events::Event;

@@ -3,12 +3,12 @@
 ghost use Rattle.std.specs.Prelude.{◌≡◌, ◌≢◌, ◌≤◌, ◌⊎◌, true, [], ◌∷◌, ◌++◌, drop, length, map, take};
 ghost use Rattle.std.specs.Prelude.{IfErr, OnOk};
 ghost use Rattle.cable_model.specs.Logs.{entry_at, transcript as said};
-ghost use Rattle.frozen_trace.specs.Going.{Goes};
+ghost use Rattle.text.specs.Going.{Goes};
 ghost use Rattle.frozen_trace.specs.Traces.{all_printed, cables_of, pending_line};
 ghost use Rattle.frozen_trace.specs.Traces.{refused_line};
 ghost use Rattle.trace_lines.specs.Lines.{IsNamed, cable_of, line as line_of, lines as lines_of};
 
-use crate::output::Output;
+use text::Output;
 use at_base::Error;
 use cable_model::Entry;
 use frozen::Frozen;

@@ -5,7 +5,7 @@ ghost use Rattle.std.specs.Io.KnownBytes.{Appends};
 ghost use Rattle.frozen_trace.specs.Traces.{IsPrinted, PlaysAll, all_printed, pending_line};
 ghost use Rattle.frozen.specs.Runs.{IsFrozen};
 
-use crate::output::Output;
+use text::Output;
 use crate::playing::play;
 use crate::printing::print_pending;
 use at_base::Error;

@@ -5,7 +5,7 @@ use Rattle.std.proofs.lemmas.Option.{none-some}
 use Rattle.std.proofs.Common.{Option, Some, None, option_map, find}
 use Rattle.at_base.specs.declared.address.Addr.{Addr}
 use Rattle.audit.specs.Routing.{owner, router_of}
-use Rattle.audit.specs.Seats.{Seat, port_seat, router_seats, seat_at, seats}
+use Rattle.table_image.specs.Seats.{Seat, port_seat, router_seats, seat_at, seats}
 use Rattle.image_stations.specs.Finding.{is_at, is_routers, spot_in, spot_of}
 use Rattle.image_stations.specs.declared.whereabouts.Spot.{Spot}
 use Rattle.table_image.specs.Internet.{Internet}

@@ -4,7 +4,7 @@ use Rattle.std.proofs.Common.{Option, Some, None, option_map}
 use Rattle.at_base.specs.Address.{same_address}
 use Rattle.at_base.specs.declared.address.Addr.{Addr}
 use Rattle.audit.proofs.WalkLists.{At, at_append}
-use Rattle.audit.specs.Seats.{Seat, seat_at, seats}
+use Rattle.table_image.specs.Seats.{Seat, seat_at, seats}
 use Rattle.cable_model.specs.declared.resolve.Found.{Found}
 use Rattle.image_stations.specs.Holders.{found_at}
 use Rattle.image_stations.specs.Homes.{AreHomes, found_home, has, home_of, homes_on}

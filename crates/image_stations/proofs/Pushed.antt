@@ -5,7 +5,7 @@ use Rattle.audit.proofs.WalkLists.{At, at_append}
 use Rattle.end_node.specs.Holding.{NodeHolding}
 use Rattle.image_stations.specs.Building.{AreFirst}
 use Rattle.image_stations.specs.Holders.{HoldsStation}
-use Rattle.image_stations.specs.declared.member.Member.{Member}
+use Rattle.station.specs.declared.member.Member.{Member}
 use Rattle.router.specs.Holding.{Holding}
 use Rattle.table_image.specs.Internet.{Internet}
 

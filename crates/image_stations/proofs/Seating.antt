@@ -7,10 +7,11 @@ use Rattle.std.proofs.lemmas.Option.{slice_get_past, slice_get_within}
 use Rattle.std.specs.Option.{unwrap_or}
 use Rattle.std.specs.List.{AllByRecursion as Each}
 use Rattle.audit.proofs.Finding.{index_position}
-use Rattle.audit.specs.Seats.{node_seats, port_seat, router_seats}
+use Rattle.table_image.specs.Seats.{node_seats, port_seat, router_seats}
 use Rattle.cable_model.specs.declared.seat.Seat.{Seat}
 use Rattle.image_stations.specs.Seating.{node_seat, node_seats_from, router_seat, seats_from, seats_on}
-use Rattle.legal_runs.specs.Stations.{cable_seat, cable_seats, group_of, node_of, port_on}
+use Rattle.legal_runs.specs.Stations.{cable_seat, cable_seats, node_of, port_on}
+use Rattle.at_base.specs.Multicast.{group_of}
 use Rattle.table_image.specs.Bounds.{IsBounded}
 use Rattle.table_image.specs.Internet.{Internet}
 use Rattle.table_image.specs.declared.node.Node.{Node}

@@ -2,7 +2,7 @@
 use Rattle.std.specs.Prelude.{◌≡◌, ℕ, List, length, Some, slice_get}
 use Rattle.end_node.specs.Holding.{NodeHolding}
 use Rattle.image_stations.specs.Holders.{HoldsStation}
-use Rattle.image_stations.specs.declared.member.Member.{Member}
+use Rattle.station.specs.declared.member.Member.{Member}
 use Rattle.router.specs.Holding.{Holding}
 use Rattle.table_image.specs.Internet.{Internet}
 

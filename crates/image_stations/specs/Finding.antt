@@ -2,7 +2,7 @@
 use Rattle.std.specs.Prelude.{ℕ, Bool, true, false, length, nat_lt, ◌&&◌, ◌==◌, List, Option, Some, None, find, option_map}
 use Rattle.at_base.specs.Address.{same_address}
 use Rattle.at_base.specs.declared.address.Addr.{Addr}
-use Rattle.audit.specs.Seats.{Seat, seats}
+use Rattle.table_image.specs.Seats.{Seat, seats}
 use Rattle.image_stations.specs.declared.whereabouts.Spot.{Spot}
 use Rattle.table_image.specs.Internet.{Internet}
 

@@ -5,12 +5,12 @@ use Rattle.at_base.specs.Range.{Span}
 use Rattle.at_base.specs.declared.address.Addr.{Addr}
 use Rattle.at_base.specs.declared.address.Hw.{Hw}
 use Rattle.audit.specs.Routing.{home}
-use Rattle.audit.specs.Seats.{Seat, seat_at}
+use Rattle.table_image.specs.Seats.{Seat, seat_at}
 use Rattle.cable_model.specs.Outcomes.{Places}
 use Rattle.cable_model.specs.declared.resolve.Found.{Found}
 use Rattle.cable_model.specs.declared.resolve.Found.TheVariants.{At, Nobody}
-use Rattle.image_stations.specs.declared.member.Member.{Member}
-use Rattle.image_stations.specs.declared.member.Member.TheVariants as member
+use Rattle.station.specs.declared.member.Member.{Member}
+use Rattle.station.specs.declared.member.Member.TheVariants as member
 use Rattle.router.specs.Holding.{Holding}
 use Rattle.table_image.specs.Internet.{Internet}
 use Rattle.table_image.specs.RouteRows.{route_row}

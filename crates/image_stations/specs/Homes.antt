@@ -2,7 +2,7 @@
 use Rattle.std.specs.Prelude.{◌≡◌, ℕ, Bool, ◌==◌, List, filter, map, slice_get, Option, Some, None}
 use Rattle.at_base.specs.Address.{same_address}
 use Rattle.at_base.specs.declared.address.Addr.{Addr}
-use Rattle.audit.specs.Seats.{Seat, seats}
+use Rattle.table_image.specs.Seats.{Seat, seats}
 use Rattle.cable_model.specs.declared.resolve.Found.{Found}
 use Rattle.cable_model.specs.declared.resolve.Found.TheVariants.{At, Nobody}
 use Rattle.image_stations.specs.declared.homes.Home.{Home}

@@ -1,4 +1,3 @@
-pub mod Members
 pub mod Holders
 pub mod Homes
 pub mod Building

@@ -2,7 +2,7 @@
 use Rattle.std.specs.Prelude.{ℕ, suc, ◌==◌, List, [], ◌∷◌, ◌++◌, map, length, position, Some, None}
 use Rattle.std.specs.Option.{unwrap_or}
 use Rattle.cable_model.specs.declared.seat.Seat.{Seat}
-use Rattle.legal_runs.specs.Stations.{group_of}
+use Rattle.at_base.specs.Multicast.{group_of}
 use Rattle.table_image.specs.Internet.{Internet}
 use Rattle.table_image.specs.declared.node.Node.{Node}
 use Rattle.table_image.specs.declared.port.Port.{Port}

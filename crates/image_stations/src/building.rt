@@ -6,7 +6,6 @@ ghost use Rattle.audit.specs.Rules.{Passes};
 ghost use Rattle.image_stations.specs.Building.{AreFirst};
 ghost use Rattle.image_stations.specs.Holders.{HoldStations};
 
-use crate::member::Member;
 use crate::nodes::node_of;
 use crate::routers::router_of;
 use at_base::Error;

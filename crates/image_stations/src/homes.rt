@@ -2,7 +2,7 @@
 
 ghost use Rattle.std.specs.Prelude.{◌≡◌, ◌++◌, ℕ, find, map, option_map, slice_get};
 ghost use Rattle.std.specs.Prelude.{IfOk, IsOkUnless, OnOk};
-ghost use Rattle.audit.specs.Seats.{node_seats, port_seat, router_seats, seats};
+ghost use Rattle.table_image.specs.Seats.{node_seats, port_seat, router_seats, seats};
 ghost use Rattle.image_stations.specs.Homes.{AreHomes, found_home, has, homes_on};
 
 use at_base::{Addr, Error, Hw};

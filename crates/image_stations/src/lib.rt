@@ -4,7 +4,6 @@
 
 mod building;
 mod homes;
-mod member;
 mod nodes;
 mod plans;
 mod routers;
@@ -12,7 +11,6 @@ mod seats;
 mod whereabouts;
 
 pub use building::stations_of;
-pub use member::Member;
 pub use nodes::node_of;
 pub use routers::router_of;
 pub use seats::seats_of;

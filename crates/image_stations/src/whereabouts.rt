@@ -5,7 +5,7 @@ ghost use Rattle.std.specs.Prelude.{IfOk, IsOkUnless};
 ghost use Rattle.at_base.specs.Address.{same_address as same};
 ghost use Rattle.at_base.specs.Range.{is_between};
 ghost use Rattle.audit.specs.Routing.{owner};
-ghost use Rattle.audit.specs.Seats.{node_seats, port_seat, router_seats, seat_at, seats};
+ghost use Rattle.table_image.specs.Seats.{node_seats, port_seat, router_seats, seat_at, seats};
 ghost use Rattle.image_stations.specs.Finding.{is_named as is_named_in, spot_in};
 ghost use Rattle.image_stations.specs.Finding.{station_at as station_in};
 ghost use Rattle.image_stations.specs.Holders.{found_at};

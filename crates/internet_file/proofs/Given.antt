@@ -6,7 +6,7 @@ use Rattle.std.specs.Option.{unwrap_or}
 use Rattle.std.specs.Result.{result_ok}
 use Rattle.toml.specs.Data.{Data}
 use Rattle.at_base.specs.declared.error.Part.{Part}
-use Rattle.script.specs.Words.{given}
+use Rattle.text.specs.Words.{given}
 use Rattle.at_base.specs.declared.error.Error.TheVariants.{BadFile}
 use Rattle.internet_file.specs.Entries.{after, all, before, each, numbered, part, part_up_to}
 

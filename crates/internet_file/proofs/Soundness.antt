@@ -8,7 +8,7 @@ use Rattle.at_base.specs.Range.{Span, is_between, is_range}
 use Rattle.at_base.specs.declared.address.Addr.{Addr}
 use Rattle.at_base.specs.declared.error.Part.TheVariants.{Cable as CablePart, Router as RouterPart, Node as NodePart}
 use Rattle.at_base.specs.declared.error.Part.TheVariants.{Lose, Action as ActionPart}
-use Rattle.script.specs.Words.{given}
+use Rattle.text.specs.Words.{given}
 use Rattle.internet_file.specs.Actions.{action_of, doing, loss_of}
 use Rattle.internet_file.specs.Cables.{cable_of, zones}
 use Rattle.internet_file.specs.Entries.{all, at, entry}

@@ -1,7 +1,7 @@
 -- The cables of an internet file. This project's own.
 use Rattle.std.specs.Prelude.{ℕ, List, [], ◌∷◌, Option, Some, codes}
 use Rattle.toml.specs.Data.{Data}
-use Rattle.script.specs.Words.{given}
+use Rattle.text.specs.Words.{given}
 use Rattle.internet_file.specs.Entries.{all, at, entry}
 use Rattle.internet_file.specs.Values.{list_within, range, zone}
 use Rattle.internet_file.specs.declared.cable.Cable.{Cable}

@@ -7,7 +7,7 @@ use Rattle.toml.specs.Data.{Data, Members, no_members, member, as_table, get_mem
 use Rattle.at_base.specs.declared.error.Error.{Error}
 use Rattle.at_base.specs.declared.error.Error.TheVariants.{BadFile}
 use Rattle.at_base.specs.declared.error.Part.{Part}
-use Rattle.script.specs.Words.{given}
+use Rattle.text.specs.Words.{given}
 use Rattle.internet_file.specs.Values.{list}
 
 -- the keys of a table

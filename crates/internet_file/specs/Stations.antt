@@ -7,7 +7,7 @@ use Rattle.at_base.specs.Range.{overlaps}
 use Rattle.at_base.specs.declared.address.Addr.{Addr}
 use Rattle.nbp.specs.Registered.{free_from, is_registrable, is_taken, with_name}
 use Rattle.nbp.specs.declared.names.Named.{Named}
-use Rattle.script.specs.Words.{given}
+use Rattle.text.specs.Words.{given}
 use Rattle.internet_file.specs.Entries.{all, at, entry, list_at}
 use Rattle.internet_file.specs.Values.{hardware, list_within, number, one_of, short, try_of, zone}
 use Rattle.internet_file.specs.declared.cable.Cable.{Cable}

@@ -5,7 +5,7 @@ use Rattle.at_base.specs.Range.{Span, is_between, is_range}
 use Rattle.at_base.specs.Text.{is_name}
 use Rattle.at_base.specs.declared.address.Addr.{Addr}
 use Rattle.at_base.specs.declared.address.Hw.{Hw}
-use Rattle.script.specs.Words.{address, given, pairs}
+use Rattle.text.specs.Words.{address, given, pairs}
 
 -- an integer as a number, where it is from a low one to a high one
 abbrev pub within : ℕ → ℕ → ℤ → Option ℕ

@@ -4,7 +4,7 @@ ghost use Rattle.std.specs.Prelude.{◌≡◌, Some, codes, IfOk, IsOkUnless};
 ghost use Rattle.toml.specs.Data.{as_str};
 ghost use Rattle.toml.specs.View.{table_view};
 ghost use Rattle.at_base.specs.Text.{same_bytes};
-ghost use Rattle.script.specs.Words.{given};
+ghost use Rattle.text.specs.Words.{given};
 ghost use Rattle.internet_file.specs.Actions.{action_of, doing, looking_up, sending};
 ghost use Rattle.internet_file.specs.Entries.{at};
 ghost use Rattle.internet_file.specs.Values.{hex as hex_of};

@@ -2,12 +2,12 @@
 
 ghost use Rattle.std.specs.Prelude.{◌≡◌, ◌<◌, ◌∷◌, ◌+◌, Some, None, length};
 ghost use Rattle.std.specs.Prelude.{IfOk, IfSome, IfNone, IsOkUnless};
-ghost use Rattle.script.specs.Words.{given, pairs as pairs_of};
+ghost use Rattle.text.specs.Words.{given, pairs as pairs_of};
 ghost use Rattle.toml.specs.View.{view};
 ghost use Rattle.internet_file.specs.Values.{hardware as hardware_of, hex as hex_of};
 
 use at_base::{Bytes, Error, Hw};
-use script::hex::{nibble, pairs};
+use text::hex::{nibble, pairs};
 use std::alloc::Global;
 use toml::Value;
 

@@ -9,7 +9,7 @@ ghost use Rattle.internet_file.specs.Values.{short as short_of, try_of as try_ad
 ghost use Rattle.internet_file.specs.Values.{zone as zone_of};
 
 use at_base::{Addr, Name, Range, Text32};
-use script::address;
+use text::address;
 use toml::Value;
 
 /// The number that the value is, if it is an integer from a low one to a high one.

@@ -12,7 +12,7 @@ use Rattle.ddp.specs.Bodies.{body, target}
 use Rattle.table_image.specs.Internet.{Internet}
 use Rattle.audit.specs.Routing.{Hand, Here, On, Nowhere, hand, home}
 use Rattle.audit.specs.Rules.{Passes}
-use Rattle.audit.specs.Seats.{Seat as PlaceOf, seats}
+use Rattle.table_image.specs.Seats.{Seat as PlaceOf, seats}
 use Rattle.audit.proofs.Finding.{any_at, any_from}
 use Rattle.audit.proofs.SeatUnique.{addressed}
 use Rattle.audit.proofs.WalkSteps.{nowhere}

@@ -12,7 +12,7 @@ use Rattle.legal_runs.specs.Example.{echo, ping, echo_reply, echo_request}
 use Rattle.legal_runs.specs.Legal.{IsLegal, Begins, Goes, Sends, Takes}
 use Rattle.legal_runs.specs.Legs.{Leg}
 use Rattle.legal_runs.specs.Requests.{request}
-use Rattle.legal_runs.specs.Stations.{group_of}
+use Rattle.at_base.specs.Multicast.{group_of}
 use Rattle.station.specs.declared.output.Next.TheVariants as next
 
 -- ---- The two datagrams

@@ -8,9 +8,10 @@ use Rattle.cable_model.specs.Transcript.{Took}
 use Rattle.legal_runs.specs.Answers.{Others, IsBody, IsMade, ByRouter}
 use Rattle.legal_runs.specs.Example.{plain, to_everybody, to_nobody, to_nowhere}
 use Rattle.legal_runs.specs.Legal.{IsLegal, Begins, Goes, Sends, Takes}
-use Rattle.legal_runs.specs.Legs.{Leg, all_hw}
+use Rattle.legal_runs.specs.Legs.{Leg}
+use Rattle.at_base.specs.Multicast.{all_hw}
 use Rattle.legal_runs.specs.Requests.{request}
-use Rattle.legal_runs.specs.Stations.{group_of}
+use Rattle.at_base.specs.Multicast.{group_of}
 use Rattle.legal_runs.proofs.ByHand.{fitting, frame, is_body, not_zero, pair}
 use Rattle.station.specs.declared.output.Next.TheVariants as next
 

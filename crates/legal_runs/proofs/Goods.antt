@@ -10,16 +10,19 @@ use Rattle.audit.specs.Routing.{hand}
 use Rattle.audit.specs.Rules.{Passes}
 use Rattle.station.specs.declared.heard.Kind.TheVariants.{Ddp}
 use Rattle.cable_model.specs.declared.seat.Seat.{Seat}
-use Rattle.cable_model.specs.Pending.{Pair, is_all, pairs, pairs_of}
+use Rattle.cable_model.specs.Pending.{Pair, pairs, pairs_of}
+use Rattle.at_base.specs.Multicast.{is_all}
 use Rattle.cable_model.specs.Transcript.{Entry, count, one, stamps}
 use Rattle.cable_model.proofs.Counting.{each-append, each_all, each_map, each_more}
 use Rattle.cable_model.proofs.Pairs.{pairs-append}
 use Rattle.legal_runs.specs.Answers.{Expands, IsLookup, IsMade, IsOwn, ends_at, is_other}
 use Rattle.legal_runs.specs.Legal.{said}
-use Rattle.legal_runs.specs.Legs.{Leg, fate, fate_by, group_hw, is_copy, is_datagram, is_unicast, leg, leg_to, put}
+use Rattle.legal_runs.specs.Legs.{Leg, fate, fate_by, is_copy, is_datagram, is_unicast, leg, leg_to, put}
+use Rattle.at_base.specs.Multicast.{group_hw}
 use Rattle.legal_runs.specs.Lookups.{asks, is_request, waits}
 use Rattle.legal_runs.specs.Requests.{is_forward, is_lookup, request, zone_of}
-use Rattle.legal_runs.specs.Stations.{cable_seats, group_of}
+use Rattle.legal_runs.specs.Stations.{cable_seats}
+use Rattle.at_base.specs.Multicast.{group_of}
 use Rattle.legal_runs.proofs.Does.{Does, HopsFine, IsOf}
 use Rattle.legal_runs.proofs.FateCounts.{pair_good}
 use Rattle.legal_runs.proofs.Fates.{fate_does}

@@ -10,17 +10,18 @@ use Rattle.table_image.specs.Internet.{Internet}
 use Rattle.audit.specs.Places.{on}
 use Rattle.audit.specs.Routing.{distance, home, owner}
 use Rattle.audit.specs.Rules.{Passes}
-use Rattle.audit.specs.Seats.{Seat as PlaceOf, seat_at, seats}
+use Rattle.table_image.specs.Seats.{Seat as PlaceOf, seat_at, seats}
 use Rattle.audit.proofs.Finding.{any_at, any_from}
 use Rattle.audit.proofs.SeatUnique.{addressed, unique}
 use Rattle.audit.proofs.WalkFacts.{owner_is}
 use Rattle.audit.proofs.WalkLists.{at_one, find_at}
 use Rattle.cable_model.specs.declared.entry.How.TheVariants as how
 use Rattle.station.specs.declared.heard.Kind.TheVariants.{Ddp}
-use Rattle.cable_model.specs.Pending.{is_all, is_group}
+use Rattle.at_base.specs.Multicast.{is_all, is_group}
 use Rattle.cable_model.proofs.Counting.{At}
 use Rattle.legal_runs.specs.Answers.{Goes, Straight, ByRouter, ToThem, OnCable, ToThese}
-use Rattle.legal_runs.specs.Legs.{Leg, all_hw, group_hw, is_datagram, leg, leg_to, put, reach}
+use Rattle.legal_runs.specs.Legs.{Leg, is_datagram, leg, leg_to, put, reach}
+use Rattle.at_base.specs.Multicast.{all_hw, group_hw}
 use Rattle.legal_runs.specs.Legs.{to_other, to_target}
 use Rattle.legal_runs.specs.Stations.{cable_holds, cable_seat, has_address, is_on, is_router}
 use Rattle.legal_runs.proofs.Does.{Does, copy_is, does_arrive, does_go, does_reach, does_stay, none_alone, none_at_all, frame_to}

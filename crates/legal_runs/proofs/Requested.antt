@@ -9,14 +9,15 @@ use Rattle.ddp.specs.Bodies.{body, hops, target, with_hops}
 use Rattle.table_image.specs.Internet.{Internet}
 use Rattle.audit.specs.Routing.{Hand, Here, On, Nowhere, owner}
 use Rattle.audit.specs.Rules.{Passes}
-use Rattle.audit.specs.Seats.{Seat as PlaceOf, seat_at, seats}
+use Rattle.table_image.specs.Seats.{Seat as PlaceOf, seat_at, seats}
 use Rattle.audit.proofs.SeatUnique.{addressed}
 use Rattle.audit.proofs.WalkFacts.{owner_is}
 use Rattle.station.specs.declared.output.Cause.TheVariants.{HopLimit}
 use Rattle.cable_model.specs.declared.entry.How.TheVariants as how
 use Rattle.station.specs.declared.heard.Kind.TheVariants.{Ddp}
 use Rattle.cable_model.specs.declared.seat.Seat.{Seat}
-use Rattle.cable_model.specs.Pending.{Pair, is_all, is_group, is_heard, pairs, pairs_of}
+use Rattle.cable_model.specs.Pending.{Pair, is_heard, pairs, pairs_of}
+use Rattle.at_base.specs.Multicast.{is_all, is_group}
 use Rattle.cable_model.specs.Transcript.{Entry, Frame, Sent, Put, Took, Reached, Dropped, Lost, count, one}
 use Rattle.cable_model.proofs.Counting.{At, count_none, each-append, each_all, each_map, each_more}
 use Rattle.legal_runs.specs.Answers.{keeps_by}

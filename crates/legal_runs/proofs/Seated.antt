@@ -15,7 +15,7 @@ use Rattle.table_image.specs.declared.router.Router.{Router}
 use Rattle.audit.specs.Places.{on}
 use Rattle.audit.specs.Routing.{home}
 use Rattle.audit.specs.Rules.{Passes}
-use Rattle.audit.specs.Seats.{Seat as PlaceOf, node_seats, port_seat, router_seats, seats}
+use Rattle.table_image.specs.Seats.{Seat as PlaceOf, node_seats, port_seat, router_seats, seats}
 use Rattle.audit.specs.Walks.{HasPort}
 use Rattle.audit.proofs.Finding.{any_from}
 use Rattle.audit.proofs.SeatUnique.{addressed, unique}
@@ -23,7 +23,8 @@ use Rattle.audit.proofs.WalkFacts.{between_is}
 use Rattle.audit.proofs.WalkLists.{index_at, index_found}
 use Rattle.audit.proofs.WalkSteps.{cable_good, one_cable}
 use Rattle.cable_model.specs.declared.seat.Seat.{Seat}
-use Rattle.cable_model.specs.Pending.{is_all, is_for, is_group, is_heard, listens, pairs_of}
+use Rattle.cable_model.specs.Pending.{is_for, is_heard, listens, pairs_of}
+use Rattle.at_base.specs.Multicast.{is_all, is_group}
 use Rattle.cable_model.specs.Transcript.{Frame, Put, count}
 use Rattle.cable_model.proofs.Counting.{At, any-append, count-map, count_one, filter_one, map_at}
 use Rattle.legal_runs.specs.Stations.{cable_holds, cable_seat, cable_seats, is_on}

@@ -12,7 +12,8 @@ use Rattle.audit.specs.Routing.{Hand, Here, On, Nowhere, hand, home, owner}
 use Rattle.cable_model.specs.Pending.{Pair}
 use Rattle.legal_runs.specs.Legs.{Leg, is_copy, is_unicast}
 use Rattle.legal_runs.specs.Requests.{request, is_broadcast, is_forward, is_lookup, key_in, listing, zone_of}
-use Rattle.legal_runs.specs.Stations.{cable_holds, group_of, has_address, is_on, is_router}
+use Rattle.legal_runs.specs.Stations.{cable_holds, has_address, is_on, is_router}
+use Rattle.at_base.specs.Multicast.{group_of}
 use Rattle.station.specs.declared.output.Next.TheVariants as next
 
 -- The bytes are a body: one whole datagram with hop count 0, without a checksum or with the right one, and no more.

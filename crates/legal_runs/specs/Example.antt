@@ -6,7 +6,7 @@ use Rattle.station.specs.declared.output.Cause.TheVariants.{NoRoute}
 use Rattle.cable_model.specs.declared.entry.How.TheVariants as how
 use Rattle.station.specs.declared.heard.Kind.TheVariants.{Ddp}
 use Rattle.cable_model.specs.Transcript.{Dropped, Entry, Sent, Put, Took, Reached}
-use Rattle.legal_runs.specs.Legs.{all_hw}
+use Rattle.at_base.specs.Multicast.{all_hw}
 
 -- the data of the request after its first byte: "ping"
 abbrev pub ping : List ℕ

@@ -5,7 +5,7 @@ use Rattle.cable_model.specs.declared.entry.How.TheVariants as how
 use Rattle.station.specs.declared.heard.Kind.TheVariants.{Ddp}
 use Rattle.cable_model.specs.Transcript.{Dropped, Entry, Sent, Put, Took, Reached}
 use Rattle.legal_runs.specs.Example.{echo_request, framed, plain}
-use Rattle.legal_runs.specs.Legs.{all_hw}
+use Rattle.at_base.specs.Multicast.{all_hw}
 use Rattle.legal_runs.specs.LookupExample.{blue_lookup, blue_request, to_blue}
 
 -- a datagram reached a cable that nobody sent

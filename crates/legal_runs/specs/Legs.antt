@@ -3,17 +3,19 @@
 use Rattle.std.specs.Prelude.{ℕ, ◌+◌, Bool, true, false, not, ◌&&◌, ◌||◌, ◌==◌, cond, List, [], ◌∷◌, Option, Some, None, is_some}
 use Rattle.at_base.specs.Address.{same_address}
 use Rattle.at_base.specs.declared.address.Addr.{Addr}
+use Rattle.at_base.specs.Multicast.{all_hw, group_hw}
 use Rattle.at_base.specs.declared.address.Hw.{Hw}
 use Rattle.ddp.specs.Bodies.{body, hops, target, with_hops}
 use Rattle.table_image.specs.Internet.{Internet}
 use Rattle.audit.specs.Routing.{Hand, Here, On, Nowhere, hand, home}
-use Rattle.audit.specs.Seats.{Seat, seat_at}
+use Rattle.table_image.specs.Seats.{Seat, seat_at}
 use Rattle.station.specs.declared.output.Cause.TheVariants.{NoRoute, HopLimit}
 use Rattle.cable_model.specs.declared.entry.How.{How}
 use Rattle.cable_model.specs.declared.entry.How.TheVariants as how
 use Rattle.station.specs.declared.heard.Kind.{Kind}
 use Rattle.station.specs.declared.heard.Kind.TheVariants.{Ddp}
-use Rattle.cable_model.specs.Pending.{Pair, is_all, is_group}
+use Rattle.cable_model.specs.Pending.{Pair}
+use Rattle.at_base.specs.Multicast.{is_all, is_group}
 use Rattle.cable_model.specs.Transcript.{Entry, Put, Reached, Dropped}
 use Rattle.legal_runs.specs.Stations.{has_address, is_router}
 use Rattle.station.specs.declared.output.Next.{Next}
@@ -45,14 +47,6 @@ to_target stamp l (Some s) = reach how.Station l ∷ put stamp l s.hardware ∷ 
 abbrev pub to_other : ℕ → Leg → Option Seat → List Entry
 to_other stamp l None = []
 to_other stamp l (Some s) = put stamp l s.hardware ∷ []
-
--- the hardware address of all stations
-abbrev pub all_hw : Hw
-all_hw = record { 0 = 9 ∷ 0 ∷ 7 ∷ 255 ∷ 255 ∷ 255 ∷ [] }
-
--- the hardware address of a group
-abbrev pub group_hw : ℕ → Hw
-group_hw group = record { 0 = 9 ∷ 0 ∷ 7 ∷ 0 ∷ 0 ∷ group ∷ [] }
 
 -- the entries of a leg whose frame has this stamp
 abbrev pub leg_to : Internet → ℕ → Leg → Next → List Entry

@@ -5,7 +5,7 @@ use Rattle.cable_model.specs.declared.entry.How.TheVariants as how
 use Rattle.station.specs.declared.heard.Kind.TheVariants.{Ddp}
 use Rattle.cable_model.specs.Transcript.{Entry, Sent, Put, Took, Reached}
 use Rattle.legal_runs.specs.Example.{framed}
-use Rattle.legal_runs.specs.Legs.{group_hw}
+use Rattle.at_base.specs.Multicast.{group_hw}
 
 -- a request of this function and number of tuples: ID 1, to be answered to 10.7 socket 253, for =:=@blue
 abbrev pub blue : ℕ → List ℕ

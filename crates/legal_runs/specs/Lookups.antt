@@ -7,7 +7,7 @@ use Rattle.at_base.specs.declared.address.Addr.{Addr}
 use Rattle.ddp.specs.Bodies.{body, target}
 use Rattle.table_image.specs.Internet.{Internet}
 use Rattle.audit.specs.Routing.{home}
-use Rattle.audit.specs.Seats.{seats}
+use Rattle.table_image.specs.Seats.{seats}
 use Rattle.cable_model.specs.Pending.{Pair, pairs, pending, was_ended}
 use Rattle.cable_model.specs.Transcript.{Entry, Sent, Put, count}
 use Rattle.legal_runs.specs.Answers.{ends_at}

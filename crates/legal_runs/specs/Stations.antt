@@ -3,21 +3,16 @@ use Rattle.std.specs.Prelude.{ℕ, ◌-◌, ◌%◌, Bool, ◌&&◌, ◌==◌, L
 use Rattle.std.specs.Prelude.{if◌then◌else◌}
 use Rattle.std.specs.Option.{unwrap_or}
 use Rattle.std.specs.List.{list_any}
-use Rattle.std.specs.Char.{to_ascii_uppercase}
 use Rattle.at_base.specs.Address.{same_address}
-use Rattle.at_base.specs.Checksum.{sum_of}
+use Rattle.at_base.specs.Multicast.{group_of}
 use Rattle.at_base.specs.Range.{is_between}
 use Rattle.at_base.specs.declared.address.Addr.{Addr}
 use Rattle.table_image.specs.Internet.{Internet}
 use Rattle.table_image.specs.declared.node.Node.{Node}
 use Rattle.table_image.specs.declared.router.Router.{Router}
 use Rattle.audit.specs.Places.{index_of, on}
-use Rattle.audit.specs.Seats.{seats, Seat as PlaceOf}
+use Rattle.table_image.specs.Seats.{seats, Seat as PlaceOf}
 use Rattle.cable_model.specs.declared.seat.Seat.{Seat}
-
--- the group of a zone: names that are the same but for case have one group
-abbrev pub group_of : List ℕ → ℕ
-group_of zone = sum_of (map to_ascii_uppercase zone) % 253
 
 -- the node of a station, where it is one
 abbrev pub node_of : Internet → ℕ → Option Node

@@ -9,7 +9,8 @@ use Rattle.at_base.specs.Range.{Span}
 use Rattle.at_base.specs.declared.address.Addr.{Addr}
 use Rattle.at_base.specs.declared.address.Hw.{Hw}
 use Rattle.cable_model.specs.Logs.{Adds, Cabling, bytes_at, transcript}
-use Rattle.cable_model.specs.Outcomes.{IsHeard, Places, all_hw, framed, has_cable, held_at, held_next, is_named, is_seated, port_on, sent_entries}
+use Rattle.cable_model.specs.Outcomes.{IsHeard, Places, framed, has_cable, held_at, held_next, is_named, is_seated, port_on, sent_entries}
+use Rattle.at_base.specs.Multicast.{all_hw}
 use Rattle.cable_model.specs.Pending.{pending}
 use Rattle.cable_model.specs.Transcript.{stamps}
 use Rattle.cable_model.specs.declared.seat.Seat.{Seat}

@@ -7,7 +7,7 @@ use Rattle.aarp.specs.Packets.{packet, written}
 use Rattle.aarp.specs.declared.packet.Packet.{Packet}
 use Rattle.at_base.specs.Spelling.{bytes_of}
 use Rattle.at_base.specs.declared.address.Addr.{Addr}
-use Rattle.at_base.specs.declared.address.Hw.{Hw}
+use Rattle.at_base.specs.Multicast.{all_hw}
 use Rattle.live_node.specs.Living.{LivingNode}
 use Rattle.station.specs.Making.{made}
 use Rattle.station.specs.declared.output.Next.TheVariants as next
@@ -17,14 +17,10 @@ use Rattle.station.specs.declared.way.Way.{Way}
 use Rattle.zip_zones.specs.Formats.{packet as spelled_packet}
 use Rattle.zip_zones.specs.Written.{question}
 
--- the hardware address of all stations
-abbrev pub everyone_hw : Hw
-everyone_hw = record { 0 = 9 ∷ 0 ∷ 7 ∷ 255 ∷ 255 ∷ 255 ∷ [] }
-
 -- a probe goes to all stations of the cable
 abbrev pub probe : Option Packet → List Output
 probe None = []
-probe (Some p) = Wire 0 everyone_hw (bytes_of packet (written p)) ∷ []
+probe (Some p) = Wire 0 all_hw (bytes_of packet (written p)) ∷ []
 
 -- a node's router, and for how long it has been silent, after a tick: after 250 ticks the node forgets it
 abbrev pub silent : Option Addr → ℕ → Option Addr × ℕ

@@ -8,7 +8,7 @@ use Rattle.aarp.specs.declared.packet.Packet.{Packet}
 use Rattle.at_base.specs.Range.{Span}
 use Rattle.at_base.specs.Spelling.{bytes_of}
 use Rattle.at_base.specs.declared.address.Addr.{Addr}
-use Rattle.at_base.specs.declared.address.Hw.{Hw}
+use Rattle.at_base.specs.Multicast.{all_hw}
 use Rattle.atp.specs.Responding.{ticked as requests_ticked}
 use Rattle.ddp.specs.declared.header.Header.{Header}
 use Rattle.learning.specs.Forgetting.{without_gone}
@@ -31,10 +31,6 @@ use Rattle.zip_zones.specs.declared.packet.Packet.TheVariants.{Query as QueryPac
 
 -- ---- Addresses
 
--- the hardware address of all stations
-abbrev pub everyone_hw : Hw
-everyone_hw = record { 0 = 9 ∷ 0 ∷ 7 ∷ 255 ∷ 255 ∷ 255 ∷ [] }
-
 -- the choices of the ports after a tick
 abbrev pub ports_ticked : List Choice → List Choice
 ports_ticked ports = map (λ c. (ticked c).0) ports
@@ -42,7 +38,7 @@ ports_ticked ports = map (λ c. (ticked c).0) ports
 -- a probe goes by port k to all stations of the cable
 abbrev pub probe_by : ℕ → Option Packet → List Output
 probe_by k None = []
-probe_by k (Some p) = Wire k everyone_hw (bytes_of packet (written p)) ∷ []
+probe_by k (Some p) = Wire k all_hw (bytes_of packet (written p)) ∷ []
 
 -- the probes of a tick, of ports numbered from k
 abbrev pub probes : ℕ → List Choice → List Output

@@ -12,8 +12,8 @@ use Rattle.at_base.specs.declared.error.Error.TheVariants.{BadRange, Full, Memor
 use Rattle.internet_file.specs.Sound.{is_cable, is_port, may_try_on}
 use Rattle.internet_file.specs.Stations.{are_apart, cable_at, meet}
 use Rattle.internet_file.specs.declared.cable.Cable.{Cable}
-use Rattle.image_stations.specs.declared.member.Member.{Member}
-use Rattle.image_stations.specs.declared.member.Member.TheVariants as member
+use Rattle.station.specs.declared.member.Member.{Member}
+use Rattle.station.specs.declared.member.Member.TheVariants as member
 use Rattle.internet_file.specs.Files.{Planned}
 use Rattle.internet_file.specs.declared.node.Node.{Node}
 use Rattle.internet_file.specs.declared.router.Router.{Router}

@@ -17,7 +17,7 @@ use Rattle.internet_file.specs.declared.cable.Cable.{Cable}
 use Rattle.internet_file.specs.declared.node.Node.{Node}
 use Rattle.internet_file.specs.declared.port.Port.{Port}
 use Rattle.internet_file.specs.declared.router.Router.{Router}
-use Rattle.legal_runs.specs.Stations.{group_of}
+use Rattle.at_base.specs.Multicast.{group_of}
 use Rattle.planned_stations.specs.Planning.{AreSeated, planned_ports}
 use Rattle.planned_stations.specs.Seating.{node_seats, plan_seats, port_seats, router_seats}
 

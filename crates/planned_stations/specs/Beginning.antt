@@ -4,8 +4,8 @@ use Rattle.std.specs.List.{list_all, list_any}
 use Rattle.aarp.specs.Choosing.{Choice, begun}
 use Rattle.at_base.specs.Range.{Span, overlaps}
 use Rattle.atp.specs.Requesting.{known}
-use Rattle.image_stations.specs.declared.member.Member.{Member}
-use Rattle.image_stations.specs.declared.member.Member.TheVariants as member
+use Rattle.station.specs.declared.member.Member.{Member}
+use Rattle.station.specs.declared.member.Member.TheVariants as member
 use Rattle.internet_file.specs.Files.{Planned}
 use Rattle.internet_file.specs.Stations.{cable_at}
 use Rattle.internet_file.specs.declared.cable.Cable.{Cable}

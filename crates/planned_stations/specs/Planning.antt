@@ -3,8 +3,8 @@ use Rattle.std.specs.Prelude.{◌≡◌, ℕ, ◌<◌, Bool, ◌&&◌, List, ◌
 use Rattle.std.specs.List.{list_all}
 use Rattle.cable_model.specs.Outcomes.{AreSeatsOf}
 use Rattle.cable_model.specs.declared.seat.Seat.{Seat}
-use Rattle.image_stations.specs.Members.{either}
-use Rattle.image_stations.specs.declared.member.Member.{Member}
+use Rattle.station.specs.Members.{either}
+use Rattle.station.specs.declared.member.Member.{Member}
 use Rattle.internet_file.specs.Files.{Planned}
 use Rattle.internet_file.specs.declared.node.Node.{Node}
 use Rattle.internet_file.specs.declared.port.Port.{Port}

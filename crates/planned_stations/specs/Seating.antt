@@ -5,7 +5,7 @@ use Rattle.internet_file.specs.Files.{Planned}
 use Rattle.internet_file.specs.declared.node.Node.{Node}
 use Rattle.internet_file.specs.declared.port.Port.{Port}
 use Rattle.internet_file.specs.declared.router.Router.{Router}
-use Rattle.legal_runs.specs.Stations.{group_of}
+use Rattle.at_base.specs.Multicast.{group_of}
 
 -- the seats of a router's ports, which are numbered from q on
 abbrev pub port_seats : ℕ → ℕ → List Port → List Seat

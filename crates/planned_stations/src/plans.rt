@@ -4,7 +4,7 @@ ghost use Rattle.std.specs.Prelude.{◌≡◌, ◌<◌, ◌≤◌, ◌+◌, ◌+
 ghost use Rattle.std.specs.Prelude.{IfOk, IsOkUnless, IsTrue, OnOk};
 ghost use Rattle.std.specs.List.{list_all};
 ghost use Rattle.aarp.specs.Choosing.{begun};
-ghost use Rattle.image_stations.specs.declared.member.Member.TheVariants as MemberValue;
+ghost use Rattle.station.specs.declared.member.Member.TheVariants as MemberValue;
 ghost use Rattle.internet_file.specs.Sound.{is_cable, is_node, is_port, is_router};
 ghost use Rattle.internet_file.specs.Stations.{are_apart, cable_at as cable_of};
 ghost use Rattle.live_node.specs.Living.{LivingNode};
@@ -15,7 +15,7 @@ ghost use Rattle.planned_stations.specs.Planning.{planned_ports, ports_of};
 ghost use Rattle.station.specs.Ports.{is_planned, planned};
 
 use at_base::Error;
-use image_stations::Member;
+use station::Member;
 use internet_file::{Cable, Node, Plan, Port, Router};
 use live_node::LiveNode;
 use live_router::LiveRouter;

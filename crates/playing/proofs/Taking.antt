@@ -3,10 +3,10 @@ use Rattle.std.proofs.Common.{◌≡◌, ◌≢◌, ℕ, zero, suc, ◌+◌, ◌
 use Rattle.std.proofs.Common.{Bool, false, slice_get, slice_set, refl, ap, ap₂, ◌∙◌, arith}
 use Rattle.std.proofs.lemmas.Bool.{ne_eqb}
 use Rattle.end_node.specs.Holding.{NodeHolding}
-use Rattle.image_stations.specs.declared.member.Member.{Member}
+use Rattle.station.specs.declared.member.Member.{Member}
 use Rattle.live_node.specs.Living.{LivingNode}
 use Rattle.live_router.specs.Living.{Living}
-use Rattle.play_lines.specs.Lines.{received_lines}
+use Rattle.playing.specs.Lines.{received_lines}
 use Rattle.playing.specs.Plays.{all_received}
 use Rattle.world.specs.Seen.{emptied, emptied_at, emptied_by, node_at, node_of, received_by, station_of, taken_out}
 use Rattle.world.specs.Worlds.{Worldly}

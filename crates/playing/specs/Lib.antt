@@ -1,3 +1,3 @@
-pub mod Answer
 pub mod Lives
 pub mod Plays
+pub mod Lines

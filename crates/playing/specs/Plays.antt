@@ -3,8 +3,7 @@ use Rattle.std.specs.Prelude.{◌≡◌, ℕ, zero, suc, ◌+◌, Bool, List, []
 use Rattle.audit.specs.Verdicts.{Judges, verdict_line}
 use Rattle.audit.specs.declared.verdict.Verdict.{Verdict}
 use Rattle.internet_file.specs.Files.{IsFile}
-use Rattle.play_lines.specs.Lines.{received_lines, refused_lines}
-use Rattle.playing.specs.Answer.{is_yes}
+use Rattle.playing.specs.Lines.{received_lines, refused_lines}
 use Rattle.playing.specs.Lives.{Lives}
 use Rattle.table_image.specs.Internet.{Internet}
 use Rattle.world.specs.Frozen.{frozen}

@@ -2,8 +2,7 @@
 
 ghost use Rattle.std.specs.Prelude.{◌≡◌, ◌++◌, ◌∷◌, [], IfOk, IsOkUnless, OnOk};
 ghost use Rattle.at_base.specs.Spelling.{Spells};
-ghost use Rattle.audit.specs.Verdicts.{Judges, verdict_line};
-ghost use Rattle.playing.specs.Answer.{is_yes};
+ghost use Rattle.audit.specs.Verdicts.{Judges, is_yes, verdict_line};
 ghost use Rattle.table_image.specs.Spelling.{image_spelling};
 
 use crate::playing::Played;
@@ -11,13 +10,6 @@ use at_base::Error;
 use audit::{Verdict, audit};
 use std::alloc::Global;
 use table_image::{Image, write};
-
-/// Whether the verdict is a yes.
-pub fn says_yes(verdict: &Verdict) -> bool
-    ensures { result ≡ is_yes verdict.now }
-{
-    matches!(verdict, Verdict::Yes(_))
-}
 
 /// Appends the line of the verdict and an end of line. Error: `Memory`.
 fn put_verdict(alloc: Global, text: &mut Vec<u8>, verdict: &Verdict) -> Result<(), Error>
@@ -43,7 +35,7 @@ pub fn judge(alloc: Global, mut lines: Vec<u8>, image: &Image) -> Result<Played,
     let bytes = write(alloc, image)?;
     Ok(Played {
         lines,
-        yes: says_yes(&verdict),
+        yes: verdict.is_yes(),
         image: bytes.into_vec(),
     })
 }

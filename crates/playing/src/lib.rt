@@ -6,7 +6,8 @@ mod playing;
 mod printing;
 mod progress;
 mod reading;
+mod received;
+mod refused;
 
-pub use judging::says_yes;
 pub use playing::{Played, play_text};
 pub use progress::{Progress, Silent};

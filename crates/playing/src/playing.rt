@@ -4,7 +4,7 @@ ghost use Rattle.std.specs.Prelude.{◌≡◌, ◌≢◌, ◌<◌, ◌⊎◌, �
 ghost use Rattle.std.specs.Prelude.{IsOkUnless, length};
 ghost use Rattle.at_base.specs.Spelling.{Spells};
 ghost use Rattle.internet_file.specs.Files.{IsFile, IsFileRefused, Planned};
-ghost use Rattle.play_lines.specs.Lines.{refused_lines};
+ghost use Rattle.playing.specs.Lines.{refused_lines};
 ghost use Rattle.playing.specs.Lives.{Fills, Lives};
 ghost use Rattle.playing.specs.Plays.{IsPlay, all_received};
 ghost use Rattle.table_image.specs.Internet.{Internet};

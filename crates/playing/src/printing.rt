@@ -1,12 +1,13 @@
 //! What is printed of a world.
 
 ghost use Rattle.std.specs.Prelude.{◌≡◌, ◌≤◌, ◌+◌, ◌++◌, IsOkUnless, OnOk, length};
-ghost use Rattle.play_lines.specs.Lines.{received_lines, refused_lines};
+ghost use Rattle.playing.specs.Lines.{received_lines, refused_lines};
 ghost use Rattle.playing.specs.Plays.{all_received};
 ghost use Rattle.world.specs.Seen.{node_at, received_by, taken_out};
 
+use crate::received::put_received;
+use crate::refused::put_refused;
 use at_base::Error;
-use play_lines::{put_received, put_refused};
 use rtmp::PlainTable;
 use world::World;
 

@@ -4,7 +4,7 @@ use at_base::Error;
 use case_words::{Answer, Stop, Words, put_line};
 use command_line::status;
 use commands::{Input, audit_file, play_bytes, run_frozen};
-use frozen_trace::Output;
+use text::Output;
 use playing::{Silent, play_text};
 use std::alloc::{AllocError, Global};
 

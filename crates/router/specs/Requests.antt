@@ -1,9 +1,8 @@
 -- What a router does with requests for names. (Inside AppleTalk, the chapter on NBP)
 use Rattle.std.specs.Prelude.{ℕ, ◌%◌, cond, List, [], ◌∷◌, map, Option, Some, None, position}
-use Rattle.std.specs.Char.{to_ascii_uppercase}
 use Rattle.std.specs.List.{flat_map}
 use Rattle.aarp.specs.Choosing.{Choice}
-use Rattle.at_base.specs.Checksum.{sum_of}
+use Rattle.at_base.specs.Multicast.{group_of}
 use Rattle.at_base.specs.Packets.{packets}
 use Rattle.at_base.specs.Range.{Span, is_between}
 use Rattle.at_base.specs.Reading.{read}
@@ -31,10 +30,6 @@ use Rattle.router.specs.declared.request.Request.{Request}
 -- the packet in a datagram's data
 unfoldable pub names_in : List ℕ → Option NbpPacket
 names_in payload = value_of (read packets packet payload)
-
--- the group of a zone: names that are the same but for case have one group
-abbrev pub group_of : List ℕ → ℕ
-group_of zone = sum_of (map to_ascii_uppercase zone) % 253
 
 -- every node of a cable
 abbrev pub every_node : Addr

@@ -5,7 +5,8 @@ use cable_model::{Cause, Entry, How, Kind};
 use case_words::{Answer, Stop, Words, put_hw};
 use std::alloc::{AllocError, Global};
 use table_image::{Image, read};
-use trace_lines::{Lines, put_address, put_decimal};
+use text::{put_address, put_decimal};
+use trace_lines::Lines;
 
 pub(crate) fn kind(words: &mut Words<'_>) -> Result<Kind, Stop> {
     match words.word() {

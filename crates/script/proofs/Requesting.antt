@@ -4,9 +4,10 @@ use Rattle.std.specs.List.{join_with_byte}
 use Rattle.std.proofs.lemmas.List.Splits.{join_with_byte-slice_split}
 use Rattle.events.specs.declared.event.Event.TheVariants.{Request}
 use Rattle.script.specs.declared.step.Step.TheVariants.{Event}
-use Rattle.script.specs.Words.{given, address, via, byte, words}
+use Rattle.script.specs.Words.{via, words}
+use Rattle.text.specs.Words.{address, byte, given}
 use Rattle.script.specs.Lines.{name, request}
-use Rattle.script.proofs.Cutting.{first_part}
+use Rattle.text.proofs.Cutting.{first_part}
 
 pub name_is_rest : (all : List (List ℕ)) (a b c text : List ℕ) → all ≡ a ∷ b ∷ c ∷ words text
     → request all ≡ given (address a) (λ node. given (via b) (λ by. given (byte c) (λ id. given (name text) (λ tuple.

@@ -1,6 +1,7 @@
 -- A line by which a node sends, whose last word is no bytes.
 use Rattle.std.proofs.Common.{◌≡◌, ℕ, List, [], ◌∷◌, Option, Some, None, refl}
-use Rattle.script.specs.Words.{given, bytes}
+use Rattle.script.specs.Words.{bytes}
+use Rattle.text.specs.Words.{given}
 use Rattle.script.specs.Lines.{send}
 
 nothing_given : {T U : Type 0} (x : Option T) → given {U = U} x (λ y. None) ≡ None

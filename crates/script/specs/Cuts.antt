@@ -1,19 +1,13 @@
--- What is left of a text of which some parts were read. This project's own.
-use Rattle.std.specs.Prelude.{ℕ, ◌==◌, List, [], ◌∷◌, Option, Some}
-use Rattle.std.specs.Borrow.{Bor}
-use Rattle.std.specs.List.{slice_split}
-use Rattle.std.specs.Option.{option_map_or}
+-- The words of a line that a step is said by. This project's own.
+use Rattle.std.specs.Prelude.{ℕ, List, [], ◌∷◌, Option, Some}
 use Rattle.events.specs.declared.event.Event.TheVariants.{Request}
 use Rattle.script.specs.Lines.{name}
-use Rattle.script.specs.Words.{address, byte, given, via}
+use Rattle.script.specs.Words.{via}
+use Rattle.text.specs.Words.{address, byte, given}
 use Rattle.script.specs.declared.request.RequestWords.{RequestWords}
 use Rattle.script.specs.declared.send.SendWords.{SendWords}
 use Rattle.script.specs.declared.step.Step.{Step}
 use Rattle.script.specs.declared.step.Step.TheVariants.{Event}
-
--- the parts of what is left, which a byte separates; none where all were read
-abbrev pub parts_left : ℕ → Option (Bor (List ℕ)) → List (List ℕ)
-parts_left byte rest = option_map_or (λ text. slice_split (λ b. b == byte) text.now) rest []
 
 -- the eight words of a line by which a node sends, in order
 abbrev pub all_of : SendWords → List (List ℕ)

@@ -5,7 +5,8 @@ use Rattle.std.specs.List.{join_with_byte}
 use Rattle.at_base.specs.Text.{same_bytes}
 use Rattle.nbp.specs.declared.tuple.Tuple.{Tuple}
 use Rattle.events.specs.declared.event.Event.TheVariants.{Send, Request, Take}
-use Rattle.script.specs.Words.{address, byte, bytes, flag, given, number, via, words}
+use Rattle.script.specs.Words.{bytes, flag, via, words}
+use Rattle.text.specs.Words.{address, byte, given, number}
 use Rattle.script.specs.declared.step.Step.{Step}
 use Rattle.script.specs.declared.step.Step.TheVariants.{Event, Drain}
 

@@ -1,46 +1,13 @@
 -- The words of a script's lines. This project's own.
-use Rattle.std.specs.Prelude.{ℕ, ◌+◌, ◌*◌, ◌-◌, Bool, true, false, not, ◌&&◌, ◌==◌, cond, List, [], ◌∷◌, Option, Some, None}
-use Rattle.std.specs.Prelude.{fold, nat_le, nat_lt, option_map}
-use Rattle.std.specs.Char.{digit_value, is_ascii_digit}
-use Rattle.std.specs.List.{list_all, slice_split}
+use Rattle.std.specs.Prelude.{ℕ, Bool, true, false, ◌==◌, cond, List, [], ◌∷◌, Option, Some, None, option_map}
+use Rattle.std.specs.List.{slice_split}
 use Rattle.at_base.specs.Text.{is_only}
 use Rattle.at_base.specs.declared.address.Addr.{Addr}
-
--- what is made of a value, if there is one
-abbrev pub given : {T U : Type 0} → Option T → (T → Option U) → Option U
-given None make = None
-given (Some x) make = make x
+use Rattle.text.specs.Words.{address, pairs}
 
 -- the parts of a line that one space stands between
 abbrev pub words : List ℕ → List (List ℕ)
 words line = slice_split (λ b. b == 32) line
-
--- digits alone, the first of which is no 0 unless it is all
-abbrev pub is_plain : List ℕ → Bool
-is_plain [] = false
-is_plain (d ∷ []) = is_ascii_digit d
-is_plain (d ∷ e ∷ ds) = not (d == 48) && list_all is_ascii_digit (d ∷ e ∷ ds)
-
--- what digits come to
-abbrev pub value : List ℕ → ℕ
-value digits = fold (λ n d. n * 10 + (d - 48)) 0 digits
-
--- the number that a word is, if it is one and at most this
-abbrev pub number : ℕ → List ℕ → Option ℕ
-number max word = cond (is_plain word && nat_le (value word) max) (Some (value word)) None
-
--- a number that fits a byte
-abbrev pub byte : List ℕ → Option ℕ
-byte word = number 255 word
-
--- the address that a word is, if it is one: the network and the node, as 10.7
-abbrev pub address : List ℕ → Option Addr
-address word = of_parts (slice_split (λ b. b == 46) word)
-  where
-    of_parts : List (List ℕ) → Option Addr
-    of_parts (net ∷ node ∷ []) =
-        given (number 65535 net) (λ n. given (byte node) (λ k. Some (record { net = n; node = k })))
-    of_parts _ = None
 
 -- the word is a dash, which stands for nothing
 abbrev pub is_dash : List ℕ → Bool
@@ -53,17 +20,6 @@ via word = cond (is_dash word) (Some None) (option_map Some (address word))
 -- 0 or 1
 abbrev pub flag : List ℕ → Option Bool
 flag word = cond (is_only 48 word) (Some false) (cond (is_only 49 word) (Some true) None)
-
--- the value of a hexadecimal digit of either case
-abbrev pub nibble : ℕ → Option ℕ
-nibble d = cond (nat_lt (digit_value d) 16) (Some (digit_value d)) None
-
--- the bytes of pairs of hexadecimal digits, if they are that
-abbrev pub pairs : List ℕ → Option (List ℕ)
-pairs [] = Some []
-pairs (d ∷ []) = None
-pairs (high ∷ low ∷ ds) =
-    given (nibble high) (λ h. given (nibble low) (λ l. given (pairs ds) (λ bytes. Some ((h * 16 + l) ∷ bytes))))
 
 -- pairs of hexadecimal digits, at least one, or a dash for no bytes
 abbrev pub bytes : List ℕ → Option (List ℕ)

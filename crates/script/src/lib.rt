@@ -1,12 +1,9 @@
 //! Scripts: the steps of a run, one a line.
 #![tactic(auto)]
 
-mod cut;
-pub mod hex;
 mod laws;
 mod line;
 mod name;
-mod number;
 mod reading;
 mod request;
 mod send;
@@ -17,4 +14,3 @@ mod words;
 pub use laws::scripts_have_no_bad_line;
 pub use reading::read;
 pub use step::Step;
-pub use word::address;

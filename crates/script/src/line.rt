@@ -4,15 +4,15 @@ ghost use Rattle.std.specs.Prelude.{◌≡◌, IfOk, IsOkUnless};
 ghost use Rattle.at_base.specs.Text.{same_bytes};
 ghost use Rattle.script.specs.Lines.{draining, is_skipped as skipped, step as said, taking};
 
-use crate::number::number;
+use at_base::Error;
 use crate::request::request;
 use crate::send::send;
 use crate::step::Step;
-use crate::word::address;
 use crate::words::Words;
-use at_base::Error;
 use events::Event;
 use std::alloc::Global;
+use text::address;
+use text::number::number;
 
 /// Whether the line says nothing: it is empty, or begins with a `#`.
 pub(crate) fn is_skipped(line: &[u8]) -> bool

@@ -5,10 +5,10 @@ ghost use Rattle.std.specs.Prelude.{IfSome};
 ghost use Rattle.script.specs.Lines.{last_place, name as name_of};
 ghost use Rattle.script.specs.Lines.{parts as parts_of};
 
-use crate::cut::place_of;
 use at_base::{Addr, Text32};
 use nbp::Tuple;
 use std::marker::Model;
+use text::cut::place_of;
 
 /// The index of the last such byte.
 fn last_place_of(byte: u8, text: &[u8]) -> Option<usize>

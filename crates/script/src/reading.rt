@@ -3,11 +3,11 @@
 ghost use Rattle.std.specs.Prelude.{◌≡◌, ◌⊎◌, ℕ, IfErr, IfOk};
 ghost use Rattle.script.specs.Scripts.{IsBadAt, IsScript};
 
-use crate::cut::cut;
+use at_base::Error;
 use crate::line::{is_skipped, step};
 use crate::step::Step;
-use at_base::Error;
 use std::alloc::Global;
+use text::cut::cut;
 
 /// Reads a script. Each line is a step, and lines end with a line feed, which the last may lack.
 /// Empty lines and lines that begin with `#` are skipped.

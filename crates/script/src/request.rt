@@ -5,11 +5,12 @@ ghost use Rattle.script.specs.Cuts.{asked_by};
 ghost use Rattle.script.specs.Lines.{request as said};
 
 use crate::name::name;
-use crate::number::byte;
 use crate::step::Step;
-use crate::word::{address, via};
+use crate::word::via;
 use crate::words::Words;
 use events::Event;
+use text::address;
+use text::number::byte;
 
 /// The words that follow `request`, the last of which may hold spaces.
 #[derive(Debug, Drop)]

@@ -5,14 +5,14 @@ ghost use Rattle.script.specs.Cuts.{all_of};
 ghost use Rattle.script.specs.Lines.{send as said};
 ghost use Rattle.script.specs.Words.{bytes as bytes_of};
 
-use crate::hex::bytes;
-use crate::number::byte;
-use crate::step::Step;
-use crate::word::{address, flag, via};
-use crate::words::Words;
 use at_base::{Bytes, Error};
+use crate::step::Step;
+use crate::word::{bytes, flag, via};
+use crate::words::Words;
 use events::Event;
 use std::alloc::Global;
+use text::address;
+use text::number::byte;
 
 /// The words that follow `send`.
 #[derive(Debug, Drop)]

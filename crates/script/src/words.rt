@@ -3,8 +3,8 @@
 ghost use Rattle.std.specs.Prelude.{◌≡◌, ◌∷◌, [], ℕ, List, IfNone, IfSome};
 ghost use Rattle.script.specs.Words.{words as words_of};
 
-use crate::cut::cut;
 use std::marker::Model;
+use text::cut::cut;
 
 /// The words of a line that are left, which contracts see as a list.
 #[derive(Debug, Drop)]
@@ -15,7 +15,7 @@ pub(crate) struct Words<'a> {
 
 impl<'a> Model for Words<'a> {
     ghost use Rattle.std.specs.Prelude.{ℕ, List};
-    ghost use Rattle.script.specs.Cuts.{parts_left};
+    ghost use Rattle.text.specs.Cuts.{parts_left};
 
     ghost Value = { List (List ℕ) };
 

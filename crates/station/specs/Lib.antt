@@ -1,5 +1,6 @@
 pub mod Hearing
 pub mod Lawful
+pub mod Members
 pub mod Values
 pub mod Making
 pub mod Ports

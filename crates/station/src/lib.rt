@@ -6,6 +6,7 @@ pub mod frames;
 mod heard;
 mod laws;
 pub mod making;
+mod member;
 mod output;
 mod outputs;
 mod port_plan;
@@ -15,6 +16,7 @@ pub mod ways;
 
 pub use heard::{Heard, Kind, Link};
 pub use laws::slices_have_bytes;
+pub use member::Member;
 pub use output::{Cause, Next, Output};
 pub use outputs::Outputs;
 pub use port_plan::PortPlan;

@@ -12,3 +12,4 @@ pub mod Checking
 pub mod Rows
 pub mod RouteRows
 pub mod ZoneMaps
+pub mod Seats

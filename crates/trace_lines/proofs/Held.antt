@@ -3,7 +3,7 @@ use Rattle.std.proofs.Common.{◌≡◌, ℕ, suc, Bool, true, false, cond, ◌&
 use Rattle.at_base.specs.Text.{same_bytes}
 use Rattle.at_base.specs.declared.address.Addr.{Addr}
 use Rattle.at_base.specs.declared.address.Hw.{Hw}
-use Rattle.audit.specs.Seats.{Seat, node_seats, port_seat, router_seats, seats}
+use Rattle.table_image.specs.Seats.{Seat, node_seats, port_seat, router_seats, seats}
 use Rattle.table_image.specs.Internet.{Internet}
 use Rattle.table_image.specs.declared.node.Node.{Node}
 use Rattle.table_image.specs.declared.port.Port.{Port}

@@ -1,2 +1,1 @@
-pub mod InDigits
 pub mod Held

@@ -6,7 +6,7 @@ use Rattle.std.specs.List.{flat_map}
 use Rattle.at_base.specs.Texts.{address_text}
 use Rattle.at_base.specs.declared.address.Addr.{Addr}
 use Rattle.at_base.specs.declared.address.Hw.{Hw}
-use Rattle.cable_model.specs.Pending.{is_all, is_group}
+use Rattle.at_base.specs.Multicast.{is_all, is_group}
 use Rattle.cable_model.specs.Transcript.{Entry, Sent, Put, Took, Reached, Dropped, Lost}
 use Rattle.cable_model.specs.Logs.{bytes_at}
 use Rattle.cable_model.specs.declared.entry.Entry.{Entry as Line}
@@ -16,11 +16,8 @@ use Rattle.cable_model.specs.declared.entry.How.TheVariants as how
 use Rattle.station.specs.declared.output.Cause.{Cause}
 use Rattle.station.specs.declared.output.Cause.TheVariants as cause
 use Rattle.table_image.specs.Internet.{Internet}
+use Rattle.text.specs.Digits.{hex_text}
 use Rattle.trace_lines.specs.Stations.{address_of, address_on, holder}
-
--- bytes as pairs of hexadecimal digits, in upper case
-abbrev pub hex_text : List ℕ → List ℕ
-hex_text bytes = flat_map (λ b. digit_glyph true (b / 16) ∷ digit_glyph true (b % 16) ∷ []) bytes
 
 -- whom a frame on a cable is for
 abbrev pub who_text : Internet → ℕ → Hw → List ℕ

@@ -5,7 +5,7 @@ use Rattle.std.specs.Prelude.{if◌then◌else◌}
 use Rattle.at_base.specs.Text.{same_bytes}
 use Rattle.at_base.specs.declared.address.Addr.{Addr}
 use Rattle.at_base.specs.declared.address.Hw.{Hw}
-use Rattle.audit.specs.Seats.{Seat, seats}
+use Rattle.table_image.specs.Seats.{Seat, seats}
 use Rattle.table_image.specs.Internet.{Internet}
 use Rattle.table_image.specs.declared.node.Node.{Node}
 use Rattle.table_image.specs.declared.port.Port.{Port}

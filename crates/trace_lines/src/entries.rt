@@ -9,13 +9,13 @@ ghost use Rattle.trace_lines.specs.Lines.{at_frame as address_at_frame, line, wh
 ghost use Rattle.trace_lines.specs.Said.{entry_with};
 ghost use Rattle.trace_lines.specs.Stations.{address_on};
 
-use crate::digits::{put_decimal, put_hex};
-use crate::stations::Stations;
-use crate::words::{put_address, put_body, put_cause, put_how, put_who};
 use at_base::{Addr, Hw};
 use cable_model::{Entry, How};
+use crate::stations::Stations;
+use crate::words::{put_body, put_cause, put_how, put_who};
 use station::{Cause, Kind};
 use std::alloc::AllocError;
+use text::{put_address, put_decimal, put_hex};
 
 /// A frame on a cable.
 #[derive(Clone, Copy)]

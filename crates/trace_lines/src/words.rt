@@ -1,41 +1,16 @@
 //! The words of lines.
 
 ghost use Rattle.std.specs.Prelude.{◌≡◌, ◌++◌, OnOk};
-ghost use Rattle.at_base.specs.Texts.{address_text};
-ghost use Rattle.cable_model.specs.Pending.{is_all as is_all_in, is_group as is_group_in};
 ghost use Rattle.ddp.specs.Bodies.{body, named_length as length_named};
-ghost use Rattle.trace_lines.specs.Lines.{cause_text, hex_text, how_text, who_text};
+ghost use Rattle.trace_lines.specs.Lines.{cause_text, how_text, who_text};
+ghost use Rattle.text.specs.Digits.{hex_text};
 
-use crate::digits::{put_decimal, put_hex};
-use crate::stations::Stations;
-use at_base::{Addr, Hw};
+use at_base::Hw;
 use cable_model::How;
+use crate::stations::Stations;
 use station::Cause;
 use std::alloc::AllocError;
-
-/// Appends an address.
-pub fn put_address(text: &mut Vec<u8>, address: Addr) -> Result<(), AllocError>
-    ensures { OnOk result (text.new.items ≡ text.old.items ++ address_text address) }
-{
-    put_decimal(text, u32::from(address.net))?;
-    text.extend_from_slice(b".")?;
-    put_decimal(text, u32::from(address.node))
-}
-
-/// Whether this is the hardware address of every station of a cable.
-fn is_all(to: &Hw) -> bool
-    ensures { result ≡ is_all_in to.now }
-{
-    *to == Hw::ALL
-}
-
-/// Whether this is the hardware address of a group.
-fn is_group(to: &Hw) -> bool
-    ensures { result ≡ is_group_in to.now }
-{
-    let [a, b, c, d, e, group] = to.0;
-    a == 9 && b == 0 && c == 7 && d == 0 && e == 0 && group < 253
-}
+use text::{put_address, put_decimal, put_hex};
 
 /// Appends whom a frame on a cable is for.
 pub(crate) fn put_who(
@@ -47,12 +22,12 @@ pub(crate) fn put_who(
     ensures { OnOk result (text.new.items
         ≡ text.old.items ++ who_text stations.now cable to.now) }
 {
-    if is_all(to) {
+    if to.is_all() {
         return text.extend_from_slice(b"all");
     }
-    if is_group(to) {
+    if let Some(group) = to.group() {
         text.extend_from_slice(b"group ")?;
-        return put_decimal(text, u32::from(to.0[5]));
+        return put_decimal(text, u32::from(group));
     }
     put_address(text, stations.holder(cable, to))
 }

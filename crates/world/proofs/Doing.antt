@@ -5,7 +5,7 @@ use Rattle.std.proofs.lemmas.Result.{on_ok_weaker}
 use Rattle.at_base.specs.ErrorNumber.{number_of}
 use Rattle.at_base.specs.declared.error.Error.{Error}
 use Rattle.at_base.specs.declared.error.Error.TheVariants.{Memory}
-use Rattle.image_stations.specs.declared.member.Member.{Member}
+use Rattle.station.specs.declared.member.Member.{Member}
 use Rattle.internet_file.specs.Files.{Planned}
 use Rattle.internet_file.specs.declared.action.Action.{Action}
 use Rattle.internet_file.specs.declared.action.Do.{Do}

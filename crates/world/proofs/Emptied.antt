@@ -5,8 +5,8 @@ use Rattle.std.specs.List.{All}
 use Rattle.std.proofs.lemmas.List.Elements.{All-nil}
 use Rattle.cable_model.specs.Transcript.{Entry}
 use Rattle.end_node.specs.declared.node.Datagram.{Datagram as Received}
-use Rattle.image_stations.specs.declared.member.Member.{Member}
-use Rattle.image_stations.specs.declared.member.Member.TheVariants.{Router, Node}
+use Rattle.station.specs.declared.member.Member.{Member}
+use Rattle.station.specs.declared.member.Member.TheVariants.{Router, Node}
 use Rattle.internet_file.specs.Files.{Planned}
 use Rattle.internet_file.specs.declared.cable.Cable.{Cable}
 use Rattle.internet_file.specs.declared.node.Node.{Node as PlannedNode}

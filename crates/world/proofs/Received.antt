@@ -20,9 +20,9 @@ use Rattle.end_node.specs.Answers.{keeping_any, takes}
 use Rattle.end_node.specs.Holding.{NodeHolding}
 use Rattle.end_node.specs.Taking.{taken}
 use Rattle.end_node.specs.declared.node.Datagram.{Datagram as Received}
-use Rattle.image_stations.specs.Members.{EitherHears, EitherTicks}
-use Rattle.image_stations.specs.declared.member.Member.{Member}
-use Rattle.image_stations.specs.declared.member.Member.TheVariants.{Router, Node}
+use Rattle.station.specs.Members.{EitherHears, EitherTicks}
+use Rattle.station.specs.declared.member.Member.{Member}
+use Rattle.station.specs.declared.member.Member.TheVariants.{Router, Node}
 use Rattle.live_cables.specs.Living.{IsTakenBy, Wires, happened}
 use Rattle.live_node.specs.Living.{LivingNode, LiveHears as NodeHears, informed, is_waiting, routed, routing_in, taught, told, zones_in}
 use Rattle.live_node.specs.Ticking.{LiveTicks as NodeTicks}

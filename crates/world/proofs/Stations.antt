@@ -12,13 +12,13 @@ use Rattle.cable_model.specs.Outcomes.{AreSeatsOf, IsLeast, is_named}
 use Rattle.cable_model.specs.Pending.{Pair, is_heard, pairs, pairs_of, pending, was_ended}
 use Rattle.cable_model.specs.Transcript.{Entry, Sent, Put, Took, Reached, Dropped, Lost}
 use Rattle.cable_model.specs.declared.seat.Seat.{Seat}
-use Rattle.image_stations.specs.declared.member.Member.{Member}
+use Rattle.station.specs.declared.member.Member.{Member}
 use Rattle.live_cables.proofs.Pending.{has_any}
 use Rattle.live_cables.specs.Living.{happened}
 use Rattle.live_cables.specs.Playing.{AreDue}
 use Rattle.live_node.specs.Living.{LivingNode}
 use Rattle.live_router.specs.Living.{Living}
-use Rattle.image_stations.specs.declared.member.Member.TheVariants as member
+use Rattle.station.specs.declared.member.Member.TheVariants as member
 use Rattle.internet_file.specs.Files.{Planned}
 use Rattle.internet_file.specs.Sound.{IsSound}
 use Rattle.internet_file.specs.declared.node.Node.{Node}

@@ -1,6 +1,6 @@
 -- Which of the planned actions are done in a tick. This project's own.
 use Rattle.std.specs.Prelude.{◌≡◌, ◌≢◌, ℕ, zero, suc, List, [], ◌∷◌, ◌++◌, Option, Some, option_map, slice_get}
-use Rattle.image_stations.specs.declared.member.Member.{Member}
+use Rattle.station.specs.declared.member.Member.{Member}
 use Rattle.internet_file.specs.Files.{Planned}
 use Rattle.internet_file.specs.declared.action.Action.{Action}
 use Rattle.live_cables.specs.Living.{Wires}

@@ -5,8 +5,8 @@ use Rattle.at_base.specs.declared.address.Addr.{Addr}
 use Rattle.at_base.specs.declared.error.Error.{Error}
 use Rattle.end_node.specs.Asking.{asked_by, asking, request_bytes, zone_asked}
 use Rattle.end_node.specs.Sending.{header_to, sending}
-use Rattle.image_stations.specs.declared.member.Member.{Member}
-use Rattle.image_stations.specs.declared.member.Member.TheVariants.{Router, Node}
+use Rattle.station.specs.declared.member.Member.{Member}
+use Rattle.station.specs.declared.member.Member.TheVariants.{Router, Node}
 use Rattle.internet_file.specs.Files.{Planned}
 use Rattle.internet_file.specs.declared.action.Action.{Action}
 use Rattle.internet_file.specs.declared.action.Do.{Do}

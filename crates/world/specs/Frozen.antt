@@ -1,5 +1,5 @@
 -- The image of a world's tables as they stand. This project's own.
-use Rattle.frozen_stations.specs.Frozen.{frozen_in}
+use Rattle.freeze.specs.Frozen.{frozen_in}
 use Rattle.table_image.specs.Internet.{Internet}
 use Rattle.world.specs.Worlds.{Worldly}
 

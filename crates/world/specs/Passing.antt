@@ -1,7 +1,7 @@
 -- A tick that passes for the stations of a world, one after the other. This project's own.
 use Rattle.std.specs.Prelude.{◌≡◌, ℕ, zero, suc, ◌+◌, fold, List, Some, slice_get, slice_set}
-use Rattle.image_stations.specs.Members.{EitherTicks}
-use Rattle.image_stations.specs.declared.member.Member.{Member}
+use Rattle.station.specs.Members.{EitherTicks}
+use Rattle.station.specs.declared.member.Member.{Member}
 use Rattle.aarp.specs.Mapping.{given_up as given_up_of}
 use Rattle.live_cables.specs.Finding.{held_at}
 use Rattle.live_cables.specs.Living.{GivesOut, PassesFor, Wires}

@@ -2,8 +2,8 @@
 use Rattle.std.specs.Prelude.{ℕ, ◌+◌, ◌-◌, ◌==◌, List, [], Option, Some, None, cond, length, slice_get, slice_set}
 use Rattle.end_node.specs.Holding.{NodeHolding}
 use Rattle.end_node.specs.declared.node.Datagram.{Datagram as Received}
-use Rattle.image_stations.specs.declared.member.Member.{Member}
-use Rattle.image_stations.specs.declared.member.Member.TheVariants.{Router, Node}
+use Rattle.station.specs.declared.member.Member.{Member}
+use Rattle.station.specs.declared.member.Member.TheVariants.{Router, Node}
 use Rattle.live_node.specs.Living.{LivingNode}
 use Rattle.live_router.specs.Living.{Living}
 use Rattle.world.specs.Worlds.{Worldly}

@@ -2,8 +2,8 @@
 use Rattle.std.specs.Prelude.{◌≡◌, ℕ, zero, suc, List, Some, slice_get, slice_set}
 use Rattle.cable_model.specs.Outcomes.{IsLeast}
 use Rattle.cable_model.specs.Pending.{pending}
-use Rattle.image_stations.specs.Members.{EitherHears}
-use Rattle.image_stations.specs.declared.member.Member.{Member}
+use Rattle.station.specs.Members.{EitherHears}
+use Rattle.station.specs.declared.member.Member.{Member}
 use Rattle.live_cables.specs.Living.{TakesIn, Wires, happened}
 use Rattle.live_node.specs.Living.{LivingNode, LiveHears as NodeHears}
 use Rattle.live_router.specs.Living.{Living, LiveHears as RouterHears}

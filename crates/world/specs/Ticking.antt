@@ -1,6 +1,6 @@
 -- What a tick does. This project's own.
 use Rattle.std.specs.Prelude.{◌≡◌, ℕ, List, Bool, length}
-use Rattle.image_stations.specs.declared.member.Member.{Member}
+use Rattle.station.specs.declared.member.Member.{Member}
 use Rattle.internet_file.specs.Files.{Planned}
 use Rattle.live_cables.specs.Living.{Wires}
 use Rattle.live_node.specs.Living.{LivingNode}

@@ -8,8 +8,8 @@ use Rattle.cable_model.specs.Transcript.{Entry, Frame, Put, Took, count}
 use Rattle.ddp.specs.Datagram.{Datagram}
 use Rattle.end_node.specs.Answers.{kept}
 use Rattle.end_node.specs.declared.node.Datagram.{Datagram as Received}
-use Rattle.image_stations.specs.declared.member.Member.{Member}
-use Rattle.image_stations.specs.declared.member.Member.TheVariants.{Node}
+use Rattle.station.specs.declared.member.Member.{Member}
+use Rattle.station.specs.declared.member.Member.TheVariants.{Node}
 use Rattle.internet_file.specs.Files.{Planned}
 use Rattle.live_cables.specs.Living.{Wires, happened}
 use Rattle.live_cables.specs.Playing.{AreDue, IsPlayed, are_lost, is_took}

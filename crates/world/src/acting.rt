@@ -10,7 +10,7 @@ ghost use Rattle.world.specs.Doing.{IsDone, acted, acted_by, number_from, statio
 ghost use Rattle.world.specs.Going.{Goes, GoesOn};
 
 use at_base::Error;
-use image_stations::Member;
+use station::Member;
 use internet_file::{Action, Do, Plan};
 use live_cables::LiveCables;
 use live_node::LiveNode;

@@ -6,7 +6,7 @@ ghost use Rattle.planned_stations.specs.Planning.{planned_ports, ports_of};
 ghost use Rattle.world.specs.Received.{AreReceived, got};
 
 use at_base::Error;
-use image_stations::Member;
+use station::Member;
 use internet_file::Plan;
 use live_node::LiveNode;
 use live_router::LiveRouter;

@@ -2,7 +2,7 @@
 
 ghost use Rattle.std.specs.Prelude.{◌≡◌, ◌⊎◌, ◌≤◌, ℕ, fold, length, map, slice_get};
 ghost use Rattle.std.specs.Prelude.{IfErr, OnOk, Some};
-ghost use Rattle.image_stations.specs.declared.member.Member.{Member as MemberValue};
+ghost use Rattle.station.specs.declared.member.Member.{Member as MemberValue};
 ghost use Rattle.live_cables.specs.Steps.{HasNoRoom};
 ghost use Rattle.live_node.specs.Living.{LivingNode};
 ghost use Rattle.live_router.specs.Living.{Living};
@@ -13,7 +13,7 @@ ghost use Rattle.world.specs.Passing.{AreAged, HasPassed, HasTicked, HavePassed,
 ghost use Rattle.world.specs.Received.{got};
 
 use at_base::{Addr, Error};
-use image_stations::Member;
+use station::Member;
 use live_cables::LiveCables;
 use live_node::LiveNode;
 use live_router::LiveRouter;

@@ -14,7 +14,7 @@ use crate::passing::pass_all;
 use crate::taking::take_all;
 use crate::world::MAX_TAKES;
 use at_base::Error;
-use image_stations::Member;
+use station::Member;
 use internet_file::Plan;
 use live_cables::LiveCables;
 use live_node::LiveNode;

@@ -7,7 +7,7 @@ ghost use Rattle.world.specs.Seen.{received_by};
 
 use at_base::Error;
 use end_node::{Datagram, EndNode};
-use image_stations::Member;
+use station::Member;
 use live_node::LiveNode;
 use live_router::LiveRouter;
 use rtmp::RouteTable;

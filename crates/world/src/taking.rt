@@ -14,7 +14,7 @@ ghost use Rattle.world.specs.Received.{AreReceived, got};
 ghost use Rattle.world.specs.Taking.{AreTaken, IsTaken, IsTaker};
 
 use at_base::Error;
-use image_stations::Member;
+use station::Member;
 use live_cables::LiveCables;
 use live_node::LiveNode;
 use live_router::LiveRouter;

@@ -4,7 +4,7 @@ use at_base::Hw;
 use cable_model::{Cause, Entry, How};
 use rtmp::RouteTable;
 use std::alloc::AllocError;
-use trace_lines::{put_decimal, put_hex};
+use text::{put_decimal, put_hex};
 use world::World;
 
 /// Appends a word and a number that counts from 1.
@@ -29,11 +29,10 @@ fn put_body(text: &mut Vec<u8>, bytes: &[u8]) -> Result<(), AllocError> {
 
 /// Appends whom a frame is for: all, a group, or who has the hardware address.
 fn put_who(text: &mut Vec<u8>, to: &Hw) -> Result<(), AllocError> {
-    if *to == Hw::ALL {
+    if to.is_all() {
         return text.extend_from_slice(b"all");
     }
-    let [a, b, c, d, e, group] = to.0;
-    if a == 9 && b == 0 && c == 7 && d == 0 && e == 0 && group < 253 {
+    if let Some(group) = to.group() {
         text.extend_from_slice(b"group ")?;
         return put_decimal(text, u32::from(group));
     }

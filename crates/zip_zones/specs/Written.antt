@@ -1,11 +1,10 @@
 -- ZIP packets as they are written. (Inside AppleTalk, the chapter on ZIP)
 use Rattle.std.specs.Prelude.{◌≡◌, ℕ, ◌+◌, ◌≤◌, ◌%◌, Bool, ◌==◌, List, [], ◌∷◌, ◌++◌, length, map, find, Option, Some, None}
 use Rattle.std.specs.Prelude.{is_some, if◌then◌else◌}
-use Rattle.std.specs.Char.{to_ascii_uppercase}
 use Rattle.std.specs.List.{All}
 use Rattle.std.specs.Option.{unwrap_or}
 use Rattle.at_base.specs.declared.address.Hw.{Hw}
-use Rattle.at_base.specs.Checksum.{sum_of}
+use Rattle.at_base.specs.Multicast.{group_hw, group_of}
 use Rattle.at_base.specs.Range.{Span}
 use Rattle.at_base.specs.Spelling.{Begins, bytes_of}
 use Rattle.at_base.specs.Text.{is_name, same_name}
@@ -61,7 +60,7 @@ first_of (name ∷ names) = name
 
 -- the hardware address of a zone's group
 abbrev pub zone_group : List ℕ → Hw
-zone_group zone = record { 0 = 9 ∷ 0 ∷ 7 ∷ 0 ∷ 0 ∷ (sum_of (map to_ascii_uppercase zone) % 253) ∷ [] }
+zone_group zone = group_hw (group_of zone)
 
 -- 80 (hex) where the zone asked for isn't listed, and 20 where so many zones are one
 abbrev pub flags_for : Bool → ℕ → ℕ

@@ -4,7 +4,7 @@ use super::fakes::{Frail, Holding, Pieces};
 use super::holds;
 use at_base::Error;
 use commands::{Input, play_bytes};
-use frozen_trace::Output;
+use text::Output;
 use playing::Silent;
 use std::alloc::Global;
 use std::io::Write;

@@ -4,7 +4,7 @@ use super::fakes::{Frail, Pieces};
 use super::{EMPTY, holds};
 use at_base::Error;
 use commands::{Input, run_frozen};
-use frozen_trace::Output;
+use text::Output;
 use std::alloc::Global;
 use std::io::Write;
 

@@ -1,6 +1,6 @@
 use Rattle.std.proofs.Common.{◌++◌, [], length, refl, ◌∙◌}
 use Rattle.std.proofs.lemmas.Option.{slice_get_read}
-use Rattle.frozen_trace.proofs.Going.{goes_none, goes_then}
+use Rattle.text.proofs.Going.{goes_none, goes_then}
 use Rattle.frozen_trace.proofs.Growth.{play_one}
 use Rattle.frozen_trace.specs.Traces.{Unplayed}
 use Rattle.frozen_trace.proofs.playing.play.Goals as goal

@@ -1,5 +1,5 @@
 use Rattle.std.proofs.Common.{◌≡◌, List, take, ℕ}
-use Rattle.frozen_trace.specs.Going.{Goes}
+use Rattle.text.specs.Going.{Goes}
 use Rattle.frozen_trace.specs.Traces.{PlaysAll, all_printed}
 use Rattle.frozen_trace.proofs.playing.play.Given as goal
 

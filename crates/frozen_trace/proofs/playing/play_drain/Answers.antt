@@ -3,9 +3,9 @@ use Rattle.cable_model.specs.Logs.{transcript as said}
 use Rattle.cable_model.specs.Pending.{pending}
 use Rattle.frozen.specs.Events.{DrainsTo}
 use Rattle.frozen.specs.Events.{Undrained}
-use Rattle.frozen_trace.proofs.Going.{goes_none, goes_then, on_both, on_ok}
+use Rattle.text.proofs.Going.{goes_none, goes_then, on_both, on_ok}
 use Rattle.frozen_trace.proofs.Growth.{drain_full, drain_on, drain_out, drain_stops, drained_grows, prints, told_none, told_then}
-use Rattle.frozen_trace.specs.Going.{Goes}
+use Rattle.text.specs.Going.{Goes}
 use Rattle.frozen_trace.specs.Traces.{Draining, Stopping, all_printed, refused_line, told}
 use Rattle.frozen_trace.proofs.playing.play_drain.Goals as goal
 

@@ -1,6 +1,6 @@
 use Rattle.std.proofs.Common.{◌≡◌}
 use Rattle.frozen.specs.Events.{Drained}
-use Rattle.frozen_trace.specs.Going.{Goes}
+use Rattle.text.specs.Going.{Goes}
 use Rattle.frozen_trace.specs.Traces.{all_printed, told}
 use Rattle.frozen_trace.proofs.playing.play_drain.Given as goal
 

@@ -1,7 +1,7 @@
 use Rattle.std.proofs.Common.{List, ℕ, ap, sym, subst, ◌∙◌}
-use Rattle.frozen_trace.proofs.Going.{on_ok, on_both}
+use Rattle.text.proofs.Going.{on_ok, on_both}
 use Rattle.frozen_trace.proofs.Growth.{happens_grows, prints, refusing}
-use Rattle.frozen_trace.specs.Going.{Goes}
+use Rattle.text.specs.Going.{Goes}
 use Rattle.frozen_trace.specs.Traces.{Happening, all_printed, refused_line, told}
 use Rattle.frozen_trace.proofs.playing.play_event.Goals as goal
 

@@ -4,8 +4,8 @@ use Rattle.cable_model.specs.Logs.{entry_at}
 use Rattle.cable_model.specs.Transcript.{Entry}
 use Rattle.cable_model.specs.declared.entry.Entry.TheVariants as named
 use Rattle.frozen_trace.proofs.EntryLines.{cables_one, lines_one, one_further, printed, there}
-use Rattle.frozen_trace.proofs.Going.{goes_none, goes_then}
-use Rattle.frozen_trace.specs.Going.{Goes}
+use Rattle.text.proofs.Going.{goes_none, goes_then}
+use Rattle.text.specs.Going.{Goes}
 use Rattle.frozen_trace.specs.Traces.{cables_of}
 use Rattle.trace_lines.specs.Lines.{Printed, cable_of, line, lines as lines_of}
 use Rattle.frozen_trace.proofs.printing.print_entries.Goals as goal

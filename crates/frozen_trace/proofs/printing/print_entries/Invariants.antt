@@ -1,6 +1,6 @@
 use Rattle.std.proofs.Common.{◌≡◌, ◌++◌, map, take}
 use Rattle.cable_model.specs.Logs.{entry_at}
-use Rattle.frozen_trace.specs.Going.{Goes}
+use Rattle.text.specs.Going.{Goes}
 use Rattle.frozen_trace.specs.Traces.{cables_of}
 use Rattle.trace_lines.specs.Lines.{lines as lines_of}
 use Rattle.frozen_trace.proofs.printing.print_entries.Given as goal

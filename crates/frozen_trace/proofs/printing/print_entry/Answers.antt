@@ -1,7 +1,7 @@
 use Rattle.std.proofs.Common.{◌++◌, [], ◌∷◌, ◌∙◌}
 use Rattle.std.proofs.lemmas.List.{append_assoc}
 use Rattle.cable_model.specs.Logs.{entry_at}
-use Rattle.frozen_trace.proofs.Going.{goes_put, on_ok}
+use Rattle.text.proofs.Going.{goes_put, on_ok}
 use Rattle.trace_lines.specs.Lines.{line}
 use Rattle.frozen_trace.proofs.printing.print_entry.Goals as goal
 

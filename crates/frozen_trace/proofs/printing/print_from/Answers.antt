@@ -5,8 +5,8 @@ use Rattle.cable_model.specs.Logs.{entry_at, transcript as said}
 use Rattle.cable_model.specs.Transcript.{Entry}
 use Rattle.cable_model.specs.declared.entry.Entry.{Entry as Line}
 use Rattle.frozen_trace.proofs.EntryLines.{from_on, printed}
-use Rattle.frozen_trace.proofs.Going.{on_ok}
-use Rattle.frozen_trace.specs.Going.{Goes}
+use Rattle.text.proofs.Going.{on_ok}
+use Rattle.text.specs.Going.{Goes}
 use Rattle.frozen_trace.specs.Traces.{cables_of}
 use Rattle.trace_lines.specs.Lines.{Printed, cable_of, lines as lines_of}
 use Rattle.frozen_trace.proofs.printing.print_from.Goals as goal

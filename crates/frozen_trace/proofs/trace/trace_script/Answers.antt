@@ -7,7 +7,7 @@ use Rattle.at_base.specs.declared.error.Fault.{Fault}
 use Rattle.audit.specs.Verdicts.{IsFirst, verdict_line}
 use Rattle.audit.specs.declared.verdict.Verdict.TheVariants.{No}
 use Rattle.frozen.specs.Events.{IsUnstarted}
-use Rattle.frozen_trace.proofs.Going.{appends_then}
+use Rattle.text.proofs.Going.{appends_then}
 use Rattle.frozen_trace.specs.Traces.{pending_line}
 use Rattle.table_image.specs.Internet.{Internet}
 use Rattle.frozen_trace.proofs.trace.trace_script.Goals as goal

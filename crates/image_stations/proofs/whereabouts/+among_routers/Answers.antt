@@ -1,5 +1,5 @@
 use Rattle.std.proofs.Common.{◌∙◌, sym, ap, map}
-use Rattle.audit.specs.Seats.{port_seat}
+use Rattle.table_image.specs.Seats.{port_seat}
 use Rattle.table_image.specs.declared.router.Router.{Router}
 use Rattle.image_stations.proofs.Finding.{routers_later}
 use Rattle.image_stations.specs.Finding.{spot_in}

@@ -1,6 +1,6 @@
 use Rattle.std.proofs.Common.{◌≡◌, ◌++◌, List, ℕ, ◌+◌, ◌-◌, Result, Ok, Err, OnOk, ap, ◌∙◌}
 use Rattle.std.proofs.lemmas.List.{append_assoc}
-use Rattle.play_lines.specs.Lines.{received_lines}
+use Rattle.playing.specs.Lines.{received_lines}
 use Rattle.playing.specs.Plays.{all_received}
 use Rattle.playing.proofs.Taking.{received_in_turn}
 use Rattle.world.specs.Seen.{node_at, received_by, taken_out}

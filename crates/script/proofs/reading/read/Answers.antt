@@ -1,5 +1,5 @@
 use Rattle.std.proofs.Common.{◌≡◌, [], ◌∷◌, ◌++◌, ℕ, List, Some, None, false, true, refl, ap, subst, inl, sym, ◌∙◌}
-use Rattle.script.specs.Cuts.{parts_left}
+use Rattle.text.specs.Cuts.{parts_left}
 use Rattle.script.specs.Lines.{is_skipped, step}
 use Rattle.script.specs.Scripts.{lines}
 use Rattle.script.specs.declared.step.Step.{Step}

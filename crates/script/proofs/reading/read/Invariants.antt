@@ -1,6 +1,6 @@
 use Rattle.std.proofs.Common.{◌+◌, length}
 use Rattle.std.specs.Option.{option_map_or}
-use Rattle.script.specs.Cuts.{parts_left}
+use Rattle.text.specs.Cuts.{parts_left}
 use Rattle.script.specs.Lines.{is_skipped, step}
 use Rattle.script.specs.Scripts.{lines}
 use Rattle.script.proofs.Progress.{SoFar}

@@ -14,7 +14,7 @@ use Rattle.frozen.specs.Orders.{IsFair, bytes_for}
 use Rattle.frozen.specs.Promises.{HaveOnlyAsked}
 use Rattle.frozen.specs.Runs.{IsFrozen, Running}
 use Rattle.image_stations.specs.Holders.{places_of}
-use Rattle.legal_answers.proofs.Making.{IsSent}
+use Rattle.legal_stations.proofs.Making.{IsSent}
 use Rattle.legal_runs.proofs.Frames.{whole}
 use Rattle.legal_runs.specs.Requests.{request}
 use Rattle.station.specs.Lawful.{are_bytes}

@@ -1,5 +1,5 @@
 use Rattle.std.proofs.Common.{◌==◌}
-use Rattle.script.proofs.Cutting.{first_part}
+use Rattle.text.proofs.Cutting.{first_part}
 use Rattle.script.proofs.words.Words.end.Goals as goal
 
 pub returns-in-Some-clause-none : goal.returns-in-Some-clause-none

@@ -1,0 +1,5 @@
+pub mod Eaches
+pub mod Listed
+pub mod Taken
+pub mod Values
+pub mod Valid

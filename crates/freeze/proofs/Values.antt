@@ -1,0 +1,214 @@
+-- The parts that say what routers and nodes hold are parts of an image.
+use Rattle.std.proofs.Common.{◌≡◌, ℕ, suc, ◌+◌, ◌^◌, ◌<◌, ◌≤◌, Bool, true, ◌&&◌, List, [], ◌∷◌, length, map, Option, Some, None, Ok}
+use Rattle.std.proofs.Common.{refl, sym, ap, ◌∙◌, subst, arith, nat_lt, nat_le, leb-true, ltb-true, IsTrue}
+use Rattle.std.specs.List.{list_all, All, AllByRecursion as Each}
+use Rattle.std.proofs.lemmas.Bool.{and_parts}
+use Rattle.aarp.specs.Choosing.{Choice}
+use Rattle.at_base.specs.declared.address.Addr.{Addr}
+use Rattle.at_base.specs.Grammar.{Grammar}
+use Rattle.at_base.specs.Spelling.{IsValue, ListPasses, bytes_of, list_bytes}
+use Rattle.at_base.specs.Text.{IsName}
+use Rattle.end_node.specs.Holding.{NodeHolding}
+use Rattle.freeze.specs.Fits.{FitsCable, FitsList}
+use Rattle.freeze.specs.Freezing.{frozen_list, frozen_name, frozen_node, frozen_port, frozen_ports, frozen_router, frozen_row}
+use Rattle.nbp.specs.Registered.{IsNamed, IsNames, are_above as names_above}
+use Rattle.nbp.specs.declared.names.Named.{Named}
+use Rattle.router.specs.Holding.{Holding}
+use Rattle.rtmp.specs.Routes.{IsRouteMap, are_above as rows_above, is_row}
+use Rattle.rtmp.specs.declared.row.Row.{Row}
+use Rattle.table_image.proofs.Checked.{FitsPort, FitsRow, counted_checks, entity_passes, name_length, port_passes, row_passes, text_value}
+use Rattle.table_image.proofs.CheckedParts.{FitsName, FitsNode, cable_checks, list_checks, name_kind, node_checks, none_value, router_checks, some_value}
+use Rattle.table_image.specs.Checking.{Checks}
+use Rattle.table_image.specs.Flaws.{Wrong}
+use Rattle.table_image.specs.Limits.{max_names, max_ports, max_rows, max_zone_lists, max_zones}
+use Rattle.table_image.specs.Spelling.{cable_spelling, counted, name_spelling, node_spelling, own_router_spelling, port_spelling, router_spelling}
+use Rattle.table_image.specs.Spelling.{row_spelling, zone_list_spelling, zone_spelling, zones_spelling}
+use Rattle.table_image.specs.declared.cable.Cable.{Cable}
+use Rattle.table_image.specs.declared.node.NodeName.{NodeName}
+use Rattle.table_image.specs.declared.port.Port.{Port}
+use Rattle.table_image.specs.declared.zone_list.ZoneList.{ZoneList}
+use Rattle.at_base.specs.Text.{is_name, is_entity}
+use Rattle.zip_zones.proofs.Tables.{known_ends}
+use Rattle.zip_zones.specs.Zones.{IsZoneMap, Known, are_above as lists_above, are_distinct, is_known}
+use Rattle.at_base.specs.Range.{is_range}
+
+-- ---- Values, checked
+
+-- where the bytes of a value end that begin at an offset
+abbrev ends : {A : Type 0} → Grammar Wrong true A → A → ℕ → ℕ
+ends g y at = at + length (bytes_of g y)
+
+-- a value passes its check
+checked : {A : Type 0} (g : Grammar Wrong true A) (y : A) (at : ℕ) → IsValue g y → Checks g y at (Ok (ends g y at))
+checked g y at h = (h, refl)
+
+-- items that pass are a list of so many
+pub counted_value : {B : Type 0} (limit : ℕ) (item : ℕ → Grammar Wrong true B) (next : B → ℕ) (xs : List B) → length xs ≤ limit → limit < 256
+    → ListPasses (λ low. IsValue (item low)) next 0 xs → IsValue (counted limit item next) xs
+counted_value limit item next xs few small h =
+    (counted_checks limit item next xs 0 (Ok (1 + length (list_bytes (λ low. bytes_of (item low)) next 0 xs))) few small (h, refl)).0
+
+-- ---- Zones
+
+zones_pass : (low : ℕ) (zones : List (List ℕ)) → Each IsName zones → ListPasses (λ low. IsValue zone_spelling) (λ name. 0) low zones
+zones_pass low [] h = tt
+zones_pass low (z ∷ zs) h =
+    let len = name_length z h.0 in (text_value is_name z h.0 len.0 len.1, zones_pass 0 zs h.1)
+
+pub zones_value : (zones : List (List ℕ)) → length zones ≤ max_zones → Each IsName zones → IsValue zones_spelling zones
+unfolding zones_spelling
+zones_value zones few h =
+    counted_value max_zones (λ low. zone_spelling) (λ name. 0) zones few (omega arith) (zones_pass 0 zones h)
+
+-- ---- Cables
+
+pub cable_value : (c : Cable) → length c.zones ≤ 64 → FitsCable c → IsValue cable_spelling c
+cable_value c few fits =
+    (cable_checks c 0 (Ok (ends zones_spelling c.zones (0 + 4))) fits.start fits.end
+    (checked zones_spelling c.zones (0 + 4) (zones_value c.zones few fits.zones))).0
+
+-- ---- Ports
+
+ports_pass : (count low : ℕ) (cables : List ℕ) (choices : List Choice) → IsTrue (list_all (λ c. nat_lt c count) cables)
+    → Each FitsPort (frozen_ports cables choices)
+    → ListPasses (λ low. IsValue (port_spelling count)) (λ p. 0) low (frozen_ports cables choices)
+ports_pass count low [] choices below fits = tt
+ports_pass count low (c ∷ cs) [] below fits = tt
+ports_pass count low (c ∷ cs) (x ∷ xs) below fits =
+    let parts = and_parts (nat_lt c count) (list_all (λ c. nat_lt c count) cs) below in (
+      (port_passes count (frozen_port c x) 0 fits.0 (ltb-true c count parts.0)).0,
+      ports_pass count 0 cs xs parts.1 fits.1,
+    )
+
+-- as many ports as cables, where each has one
+ports_length : (cables : List ℕ) (choices : List Choice) → length cables ≡ length choices
+    → length (frozen_ports cables choices) ≡ length choices
+ports_length [] [] e = refl
+ports_length [] (x ∷ xs) e = absurd cc
+ports_length (c ∷ cs) [] e = refl
+ports_length (c ∷ cs) (x ∷ xs) e = ap suc (ports_length cs xs cc)
+
+-- ---- Rows
+
+row_ends : (r : Row) → is_row r ≡ true → (r.range.start ≤ r.range.end) × (r.distance ≤ 31)
+row_ends r h =
+    let parts = and_parts (is_range r.range.start r.range.end) (nat_le r.distance 31) h in
+    let low = and_parts (nat_le 1 r.range.start && nat_le r.range.start r.range.end) (nat_le r.range.end 65279) parts.0 in
+    let rise = and_parts (nat_le 1 r.range.start) (nat_le r.range.start r.range.end) low.0 in
+    (leb-true r.range.start r.range.end rise.1, leb-true r.distance 31 parts.1)
+
+rows_pass : (ports low above : ℕ) (rows : List Row) → low ≤ above + 1 → rows_above above rows ≡ true → list_all is_row rows ≡ true
+    → IsTrue (list_all (λ r. nat_lt r.port ports) rows) → Each FitsRow (map frozen_row rows)
+    → ListPasses (λ low. IsValue (row_spelling ports low)) (λ r. r.start + 1) low (map frozen_row rows)
+rows_pass ports low above [] le rise each there fits = tt
+rows_pass ports low above (r ∷ rs) le rise each there fits =
+    let order = and_parts (nat_lt above r.range.start) (rows_above r.range.end rs) rise in
+    let first = ltb-true above r.range.start order.0 in
+    let good = and_parts (is_row r) (list_all is_row rs) each in
+    let bounds = row_ends r good.0 in
+    let seated = and_parts (nat_lt r.port ports) (list_all (λ r. nat_lt r.port ports) rs) there in (
+      (row_passes ports low (frozen_row r) 0 fits.0 (omega (arith, le, first)) bounds.1 (ltb-true r.port ports seated.0)).0,
+      rows_pass ports (r.range.start + 1) r.range.end rs (omega (arith, bounds.0)) order.1 good.1 seated.1 fits.1,
+    )
+
+-- ---- Zone lists
+
+few_names : (k : Known) → is_known k ≡ true → length k.names ≤ 64
+few_names k h =
+    let a = and_parts (is_range k.range.start k.range.end && nat_le k.total 64 && nat_le (length k.names) k.total) (are_distinct k.names) h in
+    let b = and_parts (is_range k.range.start k.range.end && nat_le k.total 64) (nat_le (length k.names) k.total) a.0 in
+    let c = and_parts (is_range k.range.start k.range.end) (nat_le k.total 64) b.0 in
+    let total = leb-true k.total 64 c.1 in
+    let names = leb-true (length k.names) k.total b.1 in
+    omega (arith, total, names)
+
+lists_pass : (low above : ℕ) (lists : List Known) → low ≤ above + 1 → lists_above above lists ≡ true → list_all is_known lists ≡ true
+    → Each FitsList (map frozen_list lists)
+    → ListPasses (λ low. IsValue (zone_list_spelling low)) (λ l. l.start + 1) low (map frozen_list lists)
+lists_pass low above [] le rise each fits = tt
+lists_pass low above (k ∷ ks) le rise each fits =
+    let order = and_parts (nat_lt above k.range.start) (lists_above k.range.end ks) rise in
+    let first = ltb-true above k.range.start order.0 in
+    let good = and_parts (is_known k) (list_all is_known ks) each in
+    let bounds = known_ends k good.0 in
+    let zones = zones_value k.names (few_names k good.0) fits.0.zones in (
+      (list_checks low (frozen_list k) 0 (Ok (ends zones_spelling k.names (0 + 5))) fits.0.start fits.0.end (omega (arith, le, first))
+          (checked zones_spelling k.names (0 + 5) zones)).0,
+      lists_pass (k.range.start + 1) k.range.end ks (omega (arith, bounds.1)) order.1 good.1 fits.1,
+    )
+
+-- ---- Routers
+
+-- what a router holds is a router of an image, where its ports are on cables that there are
+pub router_value : (count : ℕ) (cables : List ℕ) (h : Holding) → length h.ports ≤ 16
+    → IsTrue (list_all (λ r. nat_lt r.port (length h.ports)) h.routes) → IsRouteMap h.routes → IsZoneMap h.zones
+    → Each FitsPort (frozen_ports cables h.ports) → Each FitsRow (map frozen_row h.routes) → Each FitsList (map frozen_list h.zones)
+    → IsTrue (list_all (λ c. nat_lt c count) cables) → length cables ≡ length h.ports
+    → IsValue (router_spelling count) (frozen_router cables h)
+router_value count cables h few seated routes zones fits_ports fits_rows fits_lists below same =
+    let many = ports_length cables h.ports same in
+    let x = frozen_router cables h in
+    let there = subst (λ n. IsTrue (list_all (λ r. nat_lt r.port n) h.routes)) (sym many) seated in
+    let ports = counted_value max_ports (λ low. port_spelling count) (λ p. 0) x.ports (subst (λ n. n ≤ 16) (sym many) few) (omega arith)
+    (ports_pass count 0 cables h.ports below fits_ports) in
+    let rows = counted_value max_rows (row_spelling (length x.ports)) (λ r. r.start + 1) x.rows
+    (subst (λ n. n ≤ 200) (sym (length-map frozen_row h.routes)) routes.few) (omega arith)
+    (rows_pass (length x.ports) 0 0 h.routes (omega arith) routes.apart routes.each there fits_rows) in
+    let lists = counted_value max_zone_lists zone_list_spelling (λ l. l.start + 1) x.lists
+    (subst (λ n. n ≤ 200) (sym (length-map frozen_list h.zones)) zones.few) (omega arith)
+    (lists_pass 0 0 h.zones (omega arith) zones.apart zones.each fits_lists) in
+    let a = ends (counted max_ports (λ low. port_spelling count) (λ p. 0)) x.ports 0 in
+    let b = ends (counted max_rows (row_spelling (length x.ports)) (λ r. r.start + 1)) x.rows a in
+    let c = ends (counted max_zone_lists zone_list_spelling (λ l. l.start + 1)) x.lists b in
+    (router_checks count x 0 a b (Ok c) (ports, refl) (rows, refl) (lists, refl)).0
+  where
+    length-map : {X Y : Type 0} (f : X → Y) (xs : List X) → length (map f xs) ≡ length xs
+    length-map f [] = refl
+    length-map f (y ∷ ys) = ap suc (length-map f ys)
+
+-- ---- Nodes
+
+named_head : (n : Named) (names : List Named) → All IsNamed (n ∷ names) → IsNamed n
+named_head n names each = each 0 n (omega arith)
+
+named_tail : (n : Named) (names : List Named) → All IsNamed (n ∷ names) → All IsNamed names
+named_tail n names each = λ k d lt. each (suc k) d (omega arith)
+
+name_value : (low : ℕ) (n : Named) → IsNamed n → FitsName (frozen_name n) → low ≤ n.enumerator
+    → IsValue (name_spelling low) (frozen_name n)
+name_value low n h fits le =
+    let o = 0 + 2 + 1 + length n.object in
+    let k = o + 1 + length n.kind in
+    (name_kind low (frozen_name n) 0 o (Ok k) fits h.socket_low h.socket_high h.enumerator le
+    (entity_passes n.object (0 + 2) o h.object.test h.object.some h.object.few refl)
+    (entity_passes n.kind o k h.kind.test h.kind.some h.kind.few refl)).0
+
+names_pass : (low above : ℕ) (names : List Named) → low ≤ above + 1 → IsTrue (names_above above names) → All IsNamed names
+    → Each FitsName (map frozen_name names)
+    → ListPasses (λ low. IsValue (name_spelling low)) (λ n. n.enumerator + 1) low (map frozen_name names)
+names_pass low above [] le rise each small = tt
+names_pass low above (n ∷ ns) le rise each small =
+    let order = and_parts (nat_lt above n.enumerator) (names_above n.enumerator ns) rise in
+    let first = ltb-true above n.enumerator order.0 in (
+      name_value low n (named_head n ns each) small.0 (omega (arith, le, first)),
+      names_pass (n.enumerator + 1) n.enumerator ns (omega arith) order.1 (named_tail n ns each) small.1,
+    )
+
+-- what a node holds is a node of an image, where its port is on a cable that there is
+pub node_value : (count cable : ℕ) (h : NodeHolding) → cable < count → FitsNode (frozen_node cable h) → IsName h.zone
+    → IsValue own_router_spelling h.router → IsNames h.names → Each FitsName (map frozen_name h.names)
+    → IsValue (node_spelling count) (frozen_node cable h)
+node_value count cable h there fits zone router names small =
+    let x = frozen_node cable h in
+    let len = name_length h.zone zone in
+    let named = counted_value max_names name_spelling (λ n. n.enumerator + 1) x.names
+    (subst (λ n. n ≤ 32) (sym (length-map h.names)) names.few) (omega arith)
+    (names_pass 0 0 h.names (omega arith) names.rising names.each small) in
+    let a = ends zone_spelling x.zone (0 + 10) in
+    let b = ends own_router_spelling x.router a in
+    let c = ends (counted max_names name_spelling (λ n. n.enumerator + 1)) x.names b in
+    (node_checks count x 0 a b (Ok c) fits there (text_value is_name h.zone zone len.0 len.1, refl) (router, refl) (named, refl)).0
+  where
+    length-map : (xs : List Named) → length (map frozen_name xs) ≡ length xs
+    length-map [] = refl
+    length-map (y ∷ ys) = ap suc (length-map ys)

@@ -1,0 +1,4 @@
+pub mod Fits
+pub mod Freezing
+pub mod Valid
+pub mod Frozen

@@ -1,4 +1,0 @@
-pub mod Taken
-pub mod Listed
-pub mod Values
-pub mod Eaches

@@ -1,7 +1,0 @@
-use Rattle.freezing.proofs.Eaches.{each_of}
-use Rattle.freezing.specs.Fits.{FitsList}
-use Rattle.freezing.proofs.fits.+fit_lists.Goals as goal
-
-pub returns-in-len1-up : goal.returns-in-len1-up
-returns-in-len1-up t c =
-    each_of FitsList c.args.lists.now c.list-item.result c.in-len1-up.len_at_least c.list-item.is c.fit_list.ensures c.fit_lists.ensures

@@ -1,5 +1,0 @@
-use Rattle.std.proofs.Common.{length}
-use Rattle.freezing.proofs.fits.+fit_names.Given as goal
-
-abbrev pub decreases-fit_names : goal.decreases-fit_names
-decreases-fit_names l = length l.names.now

@@ -1,5 +1,0 @@
-use Rattle.std.proofs.Common.{arith}
-use Rattle.freezing.proofs.fits.fit_name.Goals as goal
-
-pub returns : goal.returns
-returns c = record { socket = omega arith; enumerator = omega arith }

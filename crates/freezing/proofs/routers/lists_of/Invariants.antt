@@ -1,7 +1,0 @@
-use Rattle.std.proofs.Common.{◌≡◌, map, take}
-use Rattle.freezing.specs.Freezing.{frozen_list}
-use Rattle.freezing.proofs.routers.lists_of.Given as goal
-
--- the lists before the index were added
-abbrev pub invariant-loop-index : goal.invariant-loop-index
-invariant-loop-index l = l.lists.items ≡ map frozen_list (take l.index l.zones)

@@ -1,7 +1,0 @@
-use Rattle.std.proofs.Common.{◌≡◌, map, take}
-use Rattle.freezing.specs.Freezing.{frozen_row}
-use Rattle.freezing.proofs.routers.rows_of.Given as goal
-
--- the rows before the index were added
-abbrev pub invariant-loop-index : goal.invariant-loop-index
-invariant-loop-index g l = l.rows.items ≡ map frozen_row (take l.index (g.T.RouteTable.rows l.routes))

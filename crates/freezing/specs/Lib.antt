@@ -1,2 +1,0 @@
-pub mod Freezing
-pub mod Fits

@@ -1,5 +1,0 @@
-use Rattle.std.proofs.Common.{length}
-use Rattle.frozen_stations.proofs.tables.+put_cables.Given as goal
-
-abbrev pub decreases-put_cables : goal.decreases-put_cables
-decreases-put_cables l = length l.cables.now

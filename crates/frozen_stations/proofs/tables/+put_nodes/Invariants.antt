@@ -1,5 +1,0 @@
-use Rattle.std.proofs.Common.{length}
-use Rattle.frozen_stations.proofs.tables.+put_nodes.Given as goal
-
-abbrev pub decreases-put_nodes : goal.decreases-put_nodes
-decreases-put_nodes g l = length l.planned.now

@@ -1,5 +1,0 @@
-use Rattle.legal_requests.proofs.LookedUp.{looked_up_there}
-use Rattle.legal_requests.proofs.laws.forward_requests_are_looked_up.Goals as goal
-
-pub returns : goal.returns
-returns c = λ i r n c h d p ok bounded holder. looked_up_there i ok r h holder n c d p

@@ -1,0 +1,8 @@
+//! That what the stations of an internet that passes the audit do is what a legal transcript allows.
+#![tactic(auto)]
+
+mod requests;
+mod takes;
+
+pub use requests::{broadcast_requests_expand, forward_requests_are_looked_up};
+pub use takes::{nodes_takes_are_legal, routers_takes_are_legal, sendings_are_legal};

@@ -1,0 +1,49 @@
+//! Laws of routers that hold the tables of an internet that passes the audit, for the crates above.
+//! The functions do nothing: what they ensure is the law.
+
+ghost use Rattle.std.specs.Prelude.{◌≡◌, ℕ, [], ◌∷◌, IsTrue, Some, true};
+ghost use Rattle.std.specs.List.{All, AllByRecursion as Each};
+ghost use Rattle.at_base.specs.Text.{is_name};
+ghost use Rattle.audit.specs.Routing.{home};
+ghost use Rattle.audit.specs.Rules.{Passes};
+ghost use Rattle.audit.specs.Walks.{HasPort};
+ghost use Rattle.ddp.specs.Datagram.{Datagram};
+ghost use Rattle.image_stations.specs.Holders.{HoldsRouter};
+ghost use Rattle.legal_stations.specs.Made.{legs};
+ghost use Rattle.legal_runs.specs.Answers.{Expands, IsLookup, IsMade};
+ghost use Rattle.legal_runs.specs.Legs.{Leg};
+ghost use Rattle.legal_runs.specs.Requests.{listing, zone_of};
+ghost use Rattle.nbp.specs.Packets.{NbpPacket, key};
+ghost use Rattle.nbp.specs.declared.packet.Function.TheVariants.{BroadcastRequest, ForwardRequest};
+ghost use Rattle.router.specs.Holding.{Holding};
+ghost use Rattle.router.specs.Requests.{names_in, requests_made};
+ghost use Rattle.station.specs.Lawful.{IsGood, are_bytes};
+ghost use Rattle.table_image.specs.Bounds.{IsBounded};
+ghost use Rattle.table_image.specs.Internet.{Internet};
+
+/// What a router makes of a broadcast request that ends at it: for each cable that lists the zone,
+/// by rising range, one lookup there or one forward request to it, with the request's key; each is
+/// whole and leaves as datagrams may. Inside AppleTalk, the chapter on NBP.
+pub fn broadcast_requests_expand()
+    ensures { (i : Internet) (r n : ℕ) (h : Holding) (d : Datagram) (p : NbpPacket)
+        → Passes i → IsBounded i → HoldsRouter i r h
+        → IsTrue (are_bytes d.payload) → names_in d.payload ≡ Some p
+        → p.function ≡ BroadcastRequest
+        → All (IsGood n) (requests_made h d (Some p))
+        → Expands i (key p) r (listing i (zone_of (key p))) (legs i r (requests_made h d (Some p)))
+        × Each (IsMade i) (legs i r (requests_made h d (Some p))) }
+{}
+
+/// What a router makes of a forward request for a zone that ends at it, for a cable that it has a
+/// port on: one lookup there, with the request's key, which is whole and leaves as datagrams may.
+/// Inside AppleTalk, the chapter on NBP.
+pub fn forward_requests_are_looked_up()
+    ensures { (i : Internet) (r n c : ℕ) (h : Holding) (d : Datagram) (p : NbpPacket)
+        → Passes i → IsBounded i → HoldsRouter i r h
+        → IsTrue (are_bytes d.payload) → names_in d.payload ≡ Some p
+        → p.function ≡ ForwardRequest → is_name (zone_of (key p)) ≡ true
+        → home i d.target.net ≡ Some c → HasPort i r c
+        → All (IsGood n) (requests_made h d (Some p))
+        → (l : Leg) × (legs i r (requests_made h d (Some p)) ≡ l ∷ [])
+        × IsLookup i (key p) r c l × IsMade i l }
+{}

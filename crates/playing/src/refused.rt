@@ -1,0 +1,33 @@
+//! The lines of refused actions.
+
+ghost use Rattle.std.specs.Prelude.{◌≡◌, ◌++◌, OnOk};
+ghost use Rattle.playing.specs.Lines.{refused_line, refused_lines};
+
+use std::alloc::AllocError;
+use text::put_decimal;
+
+/// Appends the line of an action that was refused: its number, from 1, and that of the error.
+fn put_line(text: &mut Vec<u8>, refused: (u32, u8)) -> Result<(), AllocError>
+    ensures { OnOk result (text.new.items ≡ text.old.items ++ refused_line refused) }
+{
+    text.extend_from_slice(b"action ")?;
+    put_decimal(text, refused.0)?;
+    text.extend_from_slice(b" refused ")?;
+    put_decimal(text, u32::from(refused.1))?;
+    text.push(b'\n')?;
+    Ok(())
+}
+
+/// Appends a line for each action that was refused, in their order: `action K refused N`, where
+/// actions are counted from 1, and N is the number of the error.
+pub fn put_refused(text: &mut Vec<u8>, refused: &[(u32, u8)]) -> Result<(), AllocError>
+    ensures { OnOk result (text.new.items ≡ text.old.items ++ refused_lines refused.now) }
+{
+    match refused {
+        [] => Ok(()),
+        [first, rest @ ..] => {
+            put_line(text, *first)?;
+            put_refused(text, rest)
+        }
+    }
+}

@@ -1,6 +1,0 @@
-use Rattle.std.proofs.Common.{◌≡◌, ◌≤◌, take}
-use Rattle.script.specs.Words.{value}
-use Rattle.script.proofs.number.value_up_to.Given as goal
-
-abbrev pub invariant-loop-digit : goal.invariant-loop-digit
-invariant-loop-digit l = (l.value ≡ value (take l.digit-index l.digits)) × (l.value ≤ l.max)

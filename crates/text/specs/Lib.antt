@@ -1,0 +1,4 @@
+pub mod Words
+pub mod Cuts
+pub mod Digits
+pub mod Going

@@ -1,0 +1,42 @@
+//! Addresses as words say them.
+
+ghost use Rattle.std.specs.Prelude.{◌≡◌, ◌==◌, ◌∷◌, [], None, IfNone, IfSome};
+ghost use Rattle.std.specs.List.{slice_split};
+ghost use Rattle.text.specs.Words as spec;
+
+use crate::cut::cut;
+use crate::number::{byte, number};
+use at_base::Addr;
+
+/// What one dot separates, if the word has just one.
+fn halves(word: &[u8]) -> Option<(&[u8], &[u8])>
+    ensures some { IfSome result (λ x. slice_split (λ b. b == 46) word.now
+        ≡ x.0.now ∷ x.1.now ∷ []) }
+    ensures none { IfNone result (spec.address word.now ≡ None) }
+{
+    let (front, rest) = cut(b'.', word);
+    let Some(rest) = rest else {
+        return None;
+    };
+    let (back, more) = cut(b'.', rest);
+    match more {
+        Some(_) => None,
+        None => Some((front, back)),
+    }
+}
+
+/// The address that the word is, if it is one: the network and the node, as `10.7`.
+pub fn address(word: &[u8]) -> Option<Addr>
+    ensures { result ≡ spec.address word.now }
+{
+    let Some((net, node)) = halves(word) else {
+        return None;
+    };
+    match (number(65535, net), byte(node)) {
+        (Some(net), Some(node)) => Some(Addr {
+            net: net as u16,
+            node,
+        }),
+        _ => None,
+    }
+}

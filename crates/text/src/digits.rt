@@ -1,0 +1,90 @@
+//! Numbers and bytes in digits.
+
+ghost use Rattle.std.specs.Prelude.{◌≡◌, ◌<◌, ◌+◌, ◌*◌, ◌++◌, ◌∷◌, [], true, length, OnOk};
+ghost use Rattle.std.specs.Fmt.{decimal, digit_glyph};
+ghost use Rattle.at_base.specs.Texts.{address_text};
+ghost use Rattle.text.specs.Digits.{hex_text};
+
+use at_base::Addr;
+use std::alloc::AllocError;
+
+/// Appends a decimal digit.
+fn put_digit(text: &mut Vec<u8>, digit: u8) -> Result<(), AllocError>
+    requires { digit < 10 }
+    ensures { OnOk result (text.new.items ≡ text.old.items ++ (48 + digit) ∷ []) }
+{
+    text.push(b'0' + digit)?;
+    Ok(())
+}
+
+/// Appends a number in decimal. Most numbers are short, and take one call.
+#[tactic(auto, using(std::proofs::lemmas::Fmt::decimal_digit))]
+pub fn put_decimal(text: &mut Vec<u8>, number: u32) -> Result<(), AllocError>
+    ensures { OnOk result (text.new.items ≡ text.old.items ++ decimal number) }
+{
+    if number < 10 {
+        return put_digit(text, number as u8);
+    }
+    if number < 100 {
+        put_digit(text, (number / 10) as u8)?;
+        return put_digit(text, (number % 10) as u8);
+    }
+    if number < 1000 {
+        put_digit(text, (number / 100) as u8)?;
+        put_digit(text, (number / 10 % 10) as u8)?;
+        return put_digit(text, (number % 10) as u8);
+    }
+    put_decimal(text, number / 10)?;
+    put_digit(text, (number % 10) as u8)
+}
+
+/// A hexadecimal digit, in upper case.
+fn hex_digit(value: u8) -> u8
+    requires { value < 16 }
+    ensures { result ≡ digit_glyph true value }
+{
+    if value < 10 {
+        b'0' + value
+    } else {
+        b'A' - 10 + value
+    }
+}
+
+/// Writes bytes as pairs of hexadecimal digits.
+fn write_hex(out: &mut [u8], bytes: &[u8])
+    requires { length out.old ≡ 2 * length bytes.now }
+    ensures { out.new ≡ hex_text bytes.now }
+{
+    for i in 0..bytes.len() {
+        let byte = bytes[i];
+        out[2 * i] = hex_digit(byte / 16);
+        out[2 * i + 1] = hex_digit(byte % 16);
+    }
+}
+
+/// Appends bytes as pairs of hexadecimal digits: room is made first, so that the loop over them is
+/// one without a branch.
+pub fn put_hex(text: &mut Vec<u8>, bytes: &[u8]) -> Result<(), AllocError>
+    ensures { OnOk result (text.new.items ≡ text.old.items ++ hex_text bytes.now) }
+{
+    let start = text.len();
+    let Some(end) = bytes
+        .len()
+        .checked_mul(2)
+        .and_then(|twice| twice.checked_add(start))
+    else {
+        return Err(AllocError);
+    };
+    text.resize(end, 0)?;
+    write_hex(&mut text[start..], bytes);
+    Ok(())
+}
+
+/// Appends an address, as `10.7`.
+pub fn put_address(text: &mut Vec<u8>, address: Addr) -> Result<(), AllocError>
+    ensures { OnOk result (text.new.items ≡ text.old.items ++ address_text address) }
+{
+    put_decimal(text, u32::from(address.net))?;
+    text.extend_from_slice(b".")?;
+    put_decimal(text, u32::from(address.node))
+}

@@ -1,0 +1,55 @@
+//! Bytes in hexadecimal digits.
+
+ghost use Rattle.std.specs.Prelude.{◌≡◌, ◌<◌, ◌∷◌, None, Some, length};
+ghost use Rattle.std.specs.Prelude.{IfNone, IfOk, IfSome, IsOkUnless};
+ghost use Rattle.text.specs.Words as spec;
+ghost use Rattle.text.specs.Words.{given};
+
+use at_base::{Bytes, Error};
+use std::alloc::Global;
+
+/// The value of a hexadecimal digit of either case, 0 to 15.
+pub fn nibble(digit: u8) -> Option<u8>
+    ensures value { result ≡ spec.nibble digit }
+    ensures low { IfSome result (λ n. n < 16) }
+{
+    match char::from(digit).to_digit(16) {
+        Some(n) => Some(n as u8),
+        None => None,
+    }
+}
+
+/// The byte of the first two digits, and the digits after them.
+fn first_pair(digits: &[u8]) -> Option<(u8, &[u8])>
+    requires { 0 < length digits.now }
+    ensures some { IfSome result (λ x. spec.pairs digits.now
+        ≡ given (spec.pairs x.1.now) (λ more. Some (x.0 ∷ more))) }
+    ensures none { IfNone result (spec.pairs digits.now ≡ None) }
+    ensures shorter { IfSome result (λ x. length x.1.now < length digits.now) }
+{
+    match digits {
+        [high, low, rest @ ..] => match (nibble(*high), nibble(*low)) {
+            (Some(high), Some(low)) => Some((high * 16 + low, rest)),
+            _ => None,
+        },
+        _ => None,
+    }
+}
+
+/// The bytes of pairs of hexadecimal digits of either case, if the digits are that; no digits are no
+/// bytes. Error: `Memory`.
+pub fn pairs(alloc: Global, digits: &[u8]) -> Result<Option<Bytes>, Error>
+    ensures read { IfOk result (λ x. x ≡ spec.pairs digits.now) }
+    ensures refused { IsOkUnless result Error.Memory }
+{
+    let mut bytes = Vec::with_capacity(alloc, digits.len() / 2)?;
+    let mut rest = digits;
+    while rest.len() > 0 {
+        let Some((byte, more)) = first_pair(rest) else {
+            return Ok(None);
+        };
+        bytes.push(byte)?;
+        rest = more;
+    }
+    Ok(Some(Bytes::from_vec(bytes)))
+}

@@ -1,0 +1,119 @@
+//! Writing text, so that a writer's failure is known.
+
+ghost use Rattle.std.specs.Prelude.{◌≡◌, ◌<◌, length, true, false, [], ◌∷◌, ◌++◌, ◌⊎◌, OnOk, OnErr, IfErr, IsOkUnless};
+ghost use Rattle.std.specs.Io.KnownBytes.{Appends};
+ghost use Rattle.text.specs.Going.{Goes};
+
+use at_base::Error;
+use std::alloc::Global;
+use std::io;
+use std::io::Write;
+
+/// The number of bytes from which on text is written.
+const FULL: usize = 65_536;
+
+/// A writer, with the text that is still to be written, and whether a write failed.
+#[derive(Drop)]
+pub struct Output<W> {
+    /// The writer.
+    pub writer: W,
+    /// The text that is still to be written.
+    pub text: Vec<u8>,
+    /// Whether a write failed.
+    pub failed: bool,
+}
+
+impl<W: Write> Output<W> {
+    /// An output of which no write has failed, and with nothing still to be written.
+    pub fn new(alloc: Global, writer: W) -> Output<W>
+        ensures writer { result.writer ≡ writer }
+        ensures empty { result.text.items ≡ [] }
+        ensures sound { result.failed ≡ false }
+    {
+        Output {
+            writer,
+            text: Vec::new(alloc),
+            failed: false,
+        }
+    }
+
+    /// Writes the text and an end of line, and flushes; what is still to be written stays. Error:
+    /// `WriteFault`, only where the writer failed.
+    pub fn write_line(&mut self, text: &[u8]) -> Result<(), Error>
+        ensures ok { OnOk result
+            (Appends (W.contents self.old.writer) (W.contents self.new.writer)
+            (text.now ++ 10 ∷ [])) }
+        ensures fault { OnErr result (self.new.failed ≡ true) }
+        ensures refused { IsOkUnless result Error.WriteFault }
+        ensures stays { OnOk result (self.new.failed ≡ self.old.failed) }
+        ensures text { self.new.text ≡ self.old.text }
+    {
+        match put_line(&mut self.writer, text) {
+            Ok(()) => Ok(()),
+            Err(_) => {
+                self.failed = true;
+                Err(Error::WriteFault)
+            }
+        }
+    }
+
+    /// Writes what is still to be written, and flushes. Error: `WriteFault`, only where the writer
+    /// failed.
+    pub fn flush(&mut self) -> Result<(), Error>
+        ensures ok { OnOk result (Appends (W.contents self.old.writer)
+            (W.contents self.new.writer) self.old.text.items) }
+        ensures empty { OnOk result (self.new.text.items ≡ []) }
+        // What can't be written is still to be written.
+        ensures left { OnErr result (self.new.text ≡ self.old.text) }
+        ensures fault { OnErr result (self.new.failed ≡ true) }
+        ensures refused { IsOkUnless result Error.WriteFault }
+        ensures stays { OnOk result (self.new.failed ≡ self.old.failed) }
+    {
+        match put(&mut self.writer, self.text.as_slice()) {
+            Ok(()) => {
+                self.text.clear();
+                Ok(())
+            }
+            Err(_) => {
+                self.failed = true;
+                Err(Error::WriteFault)
+            }
+        }
+    }
+
+    /// Writes what is still to be written, where that is much: less than 64 KiB are left. Error:
+    /// `WriteFault`, only where the writer failed.
+    pub fn pass_on(&mut self) -> Result<(), Error>
+        ensures little { OnOk result (length self.new.text.items < 65536) }
+        ensures gone { OnOk result (Goes (W.contents self.old.writer) self.old.text.items []
+            (W.contents self.new.writer) self.new.text.items) }
+        ensures left { OnErr result (self.new.text ≡ self.old.text) }
+        ensures fault { OnErr result (self.new.failed ≡ true) }
+        ensures refused { IsOkUnless result Error.WriteFault }
+        ensures stays { OnOk result (self.new.failed ≡ self.old.failed) }
+    {
+        if self.text.len() >= FULL {
+            self.flush()
+        } else {
+            Ok(())
+        }
+    }
+}
+
+/// Writes the text, and flushes.
+fn put<W: Write>(writer: &mut W, text: &[u8]) -> io::Result<()>
+    ensures { OnOk result (Appends (W.contents writer.old) (W.contents writer.new) text.now) }
+{
+    writer.write_all(text)?;
+    writer.flush()
+}
+
+/// Writes the text and an end of line, and flushes.
+fn put_line<W: Write>(writer: &mut W, text: &[u8]) -> io::Result<()>
+    ensures { OnOk result
+        (Appends (W.contents writer.old) (W.contents writer.new) (text.now ++ 10 ∷ [])) }
+{
+    writer.write_all(text)?;
+    writer.write_all(b"\n")?;
+    writer.flush()
+}
