@@ -2,10 +2,9 @@
 
 ghost use Rattle.std.specs.Prelude.{◌≡◌, IsTrue, IfOk, IfSome, IsOkUnless};
 ghost use Rattle.std.specs.List.{list_all};
-ghost use Rattle.aarp.specs.Choosing.{begun, ticked, heard as heard_by, settled as settled_at};
-ghost use Rattle.aarp.specs.Choosing.{answer as answer_of, is_conflict as conflict};
-ghost use Rattle.aarp.specs.Choosing.{upwards as next_upwards, probe_for, is_on, decided as decided_on};
-ghost use Rattle.aarp.specs.Choosing.{wants as is_wanted};
+ghost use Rattle.aarp.specs.Choosing as spec;
+ghost use Rattle.aarp.specs.Choosing.{begun, ticked};
+ghost use Rattle.aarp.specs.Choosing.{probe_for, is_on};
 
 use crate::packet::{Function, Packet};
 use at_base::{Addr, Error, Hw, Range};
@@ -68,7 +67,7 @@ pub fn are_on(range: Range, addrs: &[Addr]) -> bool
 
 /// The address after another, in a range.
 fn upwards(range: Range, addr: Addr) -> Addr
-    ensures next { result ≡ next_upwards range addr }
+    ensures next { result ≡ spec.upwards range addr }
     ensures inside { IsTrue (is_on range addr) → IsTrue (is_on range result) }
 {
     if addr.node < LAST_NODE {
@@ -87,7 +86,7 @@ fn upwards(range: Range, addr: Addr) -> Addr
 
 /// Whether the sender of the packet has the address, or another station probes for it.
 fn is_conflict(tentative: Addr, hw: Hw, packet: &Packet) -> bool
-    ensures { result ≡ conflict tentative hw packet.now }
+    ensures { result ≡ spec.is_conflict tentative hw packet.now }
 {
     match packet.function {
         Function::Request => false,
@@ -98,7 +97,7 @@ fn is_conflict(tentative: Addr, hw: Hw, packet: &Packet) -> bool
 
 /// Whether the packet wants an answer of who has its target address.
 fn wants(function: Function) -> bool
-    ensures { result ≡ is_wanted function }
+    ensures { result ≡ spec.wants function }
 {
     match function {
         Function::Request | Function::Probe => true,
@@ -141,7 +140,7 @@ impl Chooser {
     /// `are_on` tests. Allocates nothing.
     pub fn decided(alloc: Global, range: Range, addr: Addr, hw: Hw) -> Chooser
         requires { IsTrue (is_on range addr) }
-        ensures { result ≡ decided_on range addr hw }
+        ensures { result ≡ spec.decided range addr hw }
     {
         Chooser {
             range,
@@ -217,7 +216,7 @@ impl Chooser {
     /// A packet was heard on the port: where another station has the tentative address or probes
     /// for it too, the next address is tried. A settled port keeps its address. Allocates nothing.
     pub fn heard(&mut self, packet: &Packet)
-        ensures { self.new ≡ heard_by packet.now self.old }
+        ensures { self.new ≡ spec.heard packet.now self.old }
     {
         if self.is_settled || !is_conflict(self.tentative, self.hw, packet) {
             return;
@@ -234,7 +233,7 @@ impl Chooser {
 
     /// The port's address, once it is settled. Allocates nothing.
     pub fn settled(&self) -> Option<Addr>
-        ensures value { result ≡ settled_at self.now }
+        ensures value { result ≡ spec.settled self.now }
         ensures valid { IfSome result (λ a. IsTrue (is_on self.now.range a)) }
     {
         if self.is_settled {
@@ -246,7 +245,7 @@ impl Chooser {
 
     /// The answer of a settled port to a request or a probe for its address. Allocates nothing.
     pub fn answer(&self, packet: &Packet) -> Option<Packet>
-        ensures { result ≡ answer_of self.now packet.now }
+        ensures { result ≡ spec.answer self.now packet.now }
     {
         if !self.is_settled || !wants(packet.function) || packet.target != self.tentative {
             return None;

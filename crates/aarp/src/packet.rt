@@ -2,7 +2,8 @@
 
 ghost use Rattle.std.specs.Prelude.{◌≡◌, ◌<◌, length};
 ghost use Rattle.at_base.specs.Packets.{packets};
-ghost use Rattle.at_base.specs.Reading.{Gives, Reads, read as read_by};
+ghost use Rattle.at_base.specs.Reading as spec;
+ghost use Rattle.at_base.specs.Reading.{Gives, Reads};
 ghost use Rattle.at_base.specs.Spelling.{Spells};
 ghost use Rattle.aarp.specs.Packets.{packet, whole, written, function_of, head_bytes};
 ghost use Rattle.aarp.specs.Packets.{station_bytes};
@@ -79,7 +80,7 @@ fn named(number: u16) -> Function
 #[tactic(auto, unfolding(crate::specs::Packets::packet))]
 fn whole_at(bytes: &[u8]) -> Result<(Packet, u8, u8, &[u8]), Error>
     ensures { Gives (λ x. (whole x.0 x.1 x.2, x.3.now)) result
-        (read_by packets packet bytes.now) }
+        (spec.read packets packet bytes.now) }
 {
     if bytes.len() < PACKET_LEN {
         return Err(Error::Truncated);

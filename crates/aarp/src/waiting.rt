@@ -5,7 +5,8 @@ ghost use Rattle.std.specs.Prelude.{◌≡◌, ◌<◌, ◌≤◌, ◌+◌, ◌+
 ghost use Rattle.std.specs.Prelude.{find, position, remove, slice_get, if◌then◌else◌};
 ghost use Rattle.std.specs.Option.{option_copied};
 ghost use Rattle.std.specs.List.{list_any};
-ghost use Rattle.aarp.specs.Mapping.{is_for, asked_for as count_for, released, without_oldest};
+ghost use Rattle.aarp.specs.Mapping as spec;
+ghost use Rattle.aarp.specs.Mapping.{is_for, released, without_oldest};
 ghost use Rattle.aarp.specs.Mapping.{waited, to_ask, given_up, is_asked_again, noted};
 
 use crate::addresses::Addresses;
@@ -43,7 +44,7 @@ fn oldest_for(queue: &HeapCircularBuffer<Held>, addr: Addr) -> Option<&Held>
 
 /// How often the address was asked for, and 1 where nothing waits for it.
 pub(crate) fn asked_for(queue: &HeapCircularBuffer<Held>, addr: Addr) -> u8
-    ensures { result ≡ count_for addr queue.now.items }
+    ensures { result ≡ spec.asked_for addr queue.now.items }
 {
     match oldest_for(queue, addr) {
         Some(held) => held.asked,

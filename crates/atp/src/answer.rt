@@ -6,7 +6,7 @@ ghost use Rattle.std.specs.List.{list_all};
 ghost use Rattle.at_base.specs.Spelling.{bytes_of};
 ghost use Rattle.atp.specs.Answers.{AreShort, is_answer, answer_packets, bytes_of_all, response_of};
 ghost use Rattle.atp.specs.Packets.{packet};
-ghost use Rattle.atp.specs.Bitmaps.{asks_for as asks};
+ghost use Rattle.atp.specs.Bitmaps as spec;
 
 use crate::ask::AnswerPart;
 use crate::packet::{MAX_DATA, MAX_PARTS, write};
@@ -89,7 +89,7 @@ impl Answer {
 /// Whether a bitmap asks for a part.
 fn asks_for(bitmap: u8, index: usize) -> bool
     requires { index < 8 }
-    ensures { result ≡ asks bitmap index }
+    ensures { result ≡ spec.asks_for bitmap index }
 {
     (bitmap >> index) % 2 == 1
 }

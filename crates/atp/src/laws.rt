@@ -12,11 +12,14 @@ ghost use Rattle.atp.specs.declared.request.Todo.TheVariants.{Again};
 ghost use Rattle.atp.specs.Bitmaps.{asks_for};
 ghost use Rattle.atp.specs.Complete.{CompleteResponse, Step, history, is_missing, is_whole, run};
 ghost use Rattle.atp.specs.CompleteExample.{heard, response, steps, three_parts};
-ghost use Rattle.atp.specs.Keeping.{Event, lasts, run as held};
+ghost use Rattle.atp.specs.Keeping as keeping_spec;
+ghost use Rattle.atp.specs.Keeping.{Event, lasts};
 ghost use Rattle.atp.specs.Outcomes.{outcome_of};
 ghost use Rattle.atp.specs.Packets.{AtpPacket, IsPacket, is_request, packet};
-ghost use Rattle.atp.specs.Requesting.{IsAsk, begun, part_of, request_of as asks};
-ghost use Rattle.atp.specs.Responding.{answered, heard as hears, kept, request_of};
+ghost use Rattle.atp.specs.Requesting as requesting_spec;
+ghost use Rattle.atp.specs.Requesting.{IsAsk, begun, part_of};
+ghost use Rattle.atp.specs.Responding as responding_spec;
+ghost use Rattle.atp.specs.Responding.{answered, kept, request_of};
 
 /// What was written is read back, where nothing follows it.
 pub fn written_is_read()
@@ -43,7 +46,7 @@ pub fn complete_response()
         (outcome_of t ≡ Waiting)
         ↔ ((t.failed ≡ false) × (is_whole ask.parts (history steps id ask) ≡ false)) }
     ensures missing { (steps : List Step) (id : ℕ) (ask : Ask) (i : ℕ) → IsAsk ask
-        → asks_for (asks (run steps (begun id ask))).part i
+        → asks_for (requesting_spec.request_of (run steps (begun id ask))).part i
         ≡ is_missing ask.parts (history steps id ask) i }
 {}
 
@@ -69,10 +72,10 @@ pub fn a_kept_answer_lasts()
         (r : Request) (events : List Event)
         → request_of from id requests ≡ Some r → r.once ≡ true
         → lasts from id r.release r.release events ≡ true
-        → kept (request_of from id (held events (answered from id parts requests)))
+        → kept (request_of from id (keeping_spec.run events (answered from id parts requests)))
         ≡ Some parts }
     ensures again { (from : Peer) (id : ℕ) (requests : List Request) (parts : List AnswerPart)
         (p : AtpPacket)
         → kept (request_of from id requests) ≡ Some parts
-        → p.id ≡ id → is_request p.control ≡ true → (hears from p requests).0 ≡ Again }
+        → p.id ≡ id → is_request p.control ≡ true → (responding_spec.heard from p requests).0 ≡ Again }
 {}

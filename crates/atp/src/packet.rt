@@ -3,13 +3,11 @@
 ghost use Rattle.std.specs.Prelude.{◌≡◌, ◌⊎◌, ◌<◌, ◌≤◌, ◌↔◌, [], length, IfOk, IfErr};
 ghost use Rattle.at_base.specs.Grammar.{number, run, one};
 ghost use Rattle.at_base.specs.Packets.{packets, any};
-ghost use Rattle.at_base.specs.Reading.{Gives, Reads, field_at, many_at, read as read_by};
+ghost use Rattle.at_base.specs.Reading as reading_spec;
+ghost use Rattle.at_base.specs.Reading.{Gives, Reads, field_at, many_at};
 ghost use Rattle.at_base.specs.Spelling.{bytes_of};
-ghost use Rattle.atp.specs.Packets.{packet as spelled_packet, data_byte, wrong_control, wrong_part};
-ghost use Rattle.atp.specs.Packets.{is_request as asks, is_response as responds};
-ghost use Rattle.atp.specs.Packets.{is_release as releases, is_exactly_once as once};
-ghost use Rattle.atp.specs.Packets.{is_end as ends, wants_status as asks_status};
-ghost use Rattle.atp.specs.Packets.{release_ticks as ticks_of};
+ghost use Rattle.atp.specs.Packets as spec;
+ghost use Rattle.atp.specs.Packets.{data_byte, wrong_control, wrong_part};
 ghost use Rattle.atp.specs.InPlace.{packet_value};
 
 use at_base::packet::{byte_at, run_at, u16_at};
@@ -80,7 +78,7 @@ fn user_at(bytes: &[u8]) -> Result<([u8; 4], &[u8]), Error>
 #[tactic(auto, using(crate::proofs::Payload::whole_read))]
 fn data_at(bytes: &[u8]) -> &[u8]
     ensures all { result.now ≡ bytes.now }
-    ensures read { many_at (λ low. read_by packets (data_byte low)) (λ b. 0) 0
+    ensures read { many_at (λ low. reading_spec.read packets (data_byte low)) (λ b. 0) 0
         (length bytes.now) bytes.now ≡ Ok result.now }
 {
     bytes
@@ -90,7 +88,7 @@ fn data_at(bytes: &[u8]) -> &[u8]
 #[tactic(auto, unfolding(crate::specs::Packets::packet))]
 fn parts_of(bytes: &[u8]) -> Result<Packet<'_>, Error>
     ensures { Gives (λ p. (packet_value p, [])) result
-        (read_by packets spelled_packet bytes.now) }
+        (reading_spec.read packets spec.packet bytes.now) }
 {
     if bytes.len() < HEADER_LEN {
         return Err(Error::Truncated);
@@ -118,56 +116,56 @@ impl<'a> Packet<'a> {
     /// Errors: `Truncated` below 8 bytes; `BadLength` above 586; `BadField` of `Control` where the
     /// two top bits of the first byte are 0, and of `Sequence` where a response's part is above 7.
     pub fn read(bytes: &'a [u8]) -> Result<Packet<'a>, Error>
-        ensures { Reads packets spelled_packet (λ d. d) packet_value bytes.now result }
+        ensures { Reads packets spec.packet (λ d. d) packet_value bytes.now result }
     {
         parts_of(bytes)
     }
 
     /// Whether it is a request.
     pub fn is_request(&self) -> bool
-        ensures { result ≡ asks self.now.control }
+        ensures { result ≡ spec.is_request self.now.control }
     {
         self.control / 64 == 1
     }
 
     /// Whether it is a part of a response.
     pub fn is_response(&self) -> bool
-        ensures { result ≡ responds self.now.control }
+        ensures { result ≡ spec.is_response self.now.control }
     {
         self.control / 64 == 2
     }
 
     /// Whether it says that the response has come.
     pub fn is_release(&self) -> bool
-        ensures { result ≡ releases self.now.control }
+        ensures { result ≡ spec.is_release self.now.control }
     {
         self.control / 64 == 3
     }
 
     /// Whether the request is to be carried out once, however often it comes.
     pub fn is_exactly_once(&self) -> bool
-        ensures { result ≡ once self.now.control }
+        ensures { result ≡ spec.is_exactly_once self.now.control }
     {
         self.control / 32 % 2 == 1
     }
 
     /// Whether the response has no part after this one.
     pub fn is_end(&self) -> bool
-        ensures { result ≡ ends self.now.control }
+        ensures { result ≡ spec.is_end self.now.control }
     {
         self.control / 16 % 2 == 1
     }
 
     /// Whether the responder wants the request again at once, to know which parts are missing.
     pub fn wants_status(&self) -> bool
-        ensures { result ≡ asks_status self.now.control }
+        ensures { result ≡ spec.wants_status self.now.control }
     {
         self.control / 8 % 2 == 1
     }
 
     /// For how long an answer to the request is kept, in ticks of a fifth of a second.
     pub fn release_ticks(&self) -> u16
-        ensures { result ≡ ticks_of self.now.control }
+        ensures { result ≡ spec.release_ticks self.now.control }
     {
         match self.control % 8 {
             0 => 150,
@@ -192,7 +190,7 @@ pub fn write(
     user: [u8; 4],
     payload: &[u8],
 ) -> Result<Bytes, Error>
-    ensures ok { IfOk result (λ bytes. bytes ≡ bytes_of spelled_packet (record {
+    ensures ok { IfOk result (λ bytes. bytes ≡ bytes_of spec.packet (record {
       control = control;
       part = part;
       id = id;

@@ -4,7 +4,7 @@ ghost use Rattle.std.specs.Prelude.{◌≡◌, ◌⊎◌, ◌<◌, ◌≤◌, �
 ghost use Rattle.std.specs.Prelude.{IsOkUnless, OnErr, OnOk};
 ghost use Rattle.atp.specs.Answers.{AreShort, answer_packets, bytes_of_all, is_answer};
 ghost use Rattle.atp.specs.InPlace.{packet_value};
-ghost use Rattle.atp.specs.Replies.{kept_packets as packets_kept, reply as reply_to};
+ghost use Rattle.atp.specs.Replies as spec;
 ghost use Rattle.atp.specs.Responding.{answered, asked_by, request_of, waits, without};
 
 use crate::answer::is_short;
@@ -17,7 +17,7 @@ use at_base::{Bytes, Error};
 /// The packets of a kept answer, where a packet asks for one.
 fn kept_packets(responder: &Responder, from: Peer, packet: &Packet<'_>) -> Result<Vec<Bytes>, Error>
     ensures ok { IfOk result (λ packets. packets.items
-        ≡ bytes_of_all (packets_kept from (packet_value packet.now) responder.now)) }
+        ≡ bytes_of_all (spec.kept_packets from (packet_value packet.now) responder.now)) }
     ensures few { IfOk result (λ packets. length packets.items ≤ 8) }
     ensures short { IfOk result (λ packets. AreShort packets.items) }
     ensures err { IsOkUnless result Error.Memory }
@@ -74,13 +74,13 @@ pub fn reply(
 ) -> Result<Vec<Bytes>, Error>
     requires { 0 < length user.now }
     ensures ok { IfOk result (λ packets. packets.items ≡ bytes_of_all
-        (reply_to from (packet_value packet.now) user.now responder.old).0) }
+        (spec.reply from (packet_value packet.now) user.now responder.old).0) }
     // As many as a response has parts.
     ensures few { IfOk result (λ packets. length packets.items ≤ 8) }
     // Each is the data of a datagram.
     ensures short { IfOk result (λ packets. AreShort packets.items) }
     ensures after { OnOk result (responder.new
-        ≡ (reply_to from (packet_value packet.now) user.now responder.old).1) }
+        ≡ (spec.reply from (packet_value packet.now) user.now responder.old).1) }
     ensures long { (result ≡ Err Error.TooLong) ↔ (is_answer user.now ≡ false) }
     ensures refused { IfErr result (λ e. (e ≡ Error.TooLong) ⊎ (e ≡ Error.Memory)) }
     ensures kept { OnErr result (responder.new ≡ responder.old) }

@@ -2,7 +2,8 @@
 
 ghost use Rattle.std.specs.Prelude.{◌≡◌, is_some, IfOk, IsOkUnless};
 ghost use Rattle.atp.specs.InPlace.{packet_value};
-ghost use Rattle.atp.specs.Responding.{is_of as of, is_over as over, new_request};
+ghost use Rattle.atp.specs.Responding as spec;
+ghost use Rattle.atp.specs.Responding.{new_request};
 ghost use Rattle.atp.specs.Responding.{older, repeated, same_peer, with_answer};
 
 use crate::answer::Answer;
@@ -84,7 +85,7 @@ impl Request {
 
     /// Whether it is of this asker and number.
     pub(crate) fn is_of(&self, from: Peer, id: u16) -> bool
-        ensures { result ≡ of from id self.now }
+        ensures { result ≡ spec.is_of from id self.now }
     {
         is_same(self.from, from) && self.id == id
     }
@@ -113,7 +114,7 @@ impl Request {
 
     /// Whether its answer has one tick left at most.
     pub(crate) fn is_over(&self) -> bool
-        ensures { result ≡ over self.now }
+        ensures { result ≡ spec.is_over self.now }
     {
         self.answer.is_some() && self.left <= 1
     }

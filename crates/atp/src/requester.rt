@@ -7,7 +7,7 @@ ghost use Rattle.std.specs.Option.{option_map};
 ghost use Rattle.at_base.specs.Spelling.{bytes_of};
 ghost use Rattle.at_base.specs.declared.error.What.TheVariants.{Transaction as Missing};
 ghost use Rattle.atp.specs.InPlace.{packet_value};
-ghost use Rattle.atp.specs.Packets.{packet as spelled_packet};
+ghost use Rattle.atp.specs.Packets as spec;
 ghost use Rattle.atp.specs.Requesting.{known, begun, sent, ticked, after_hearing, IsAsk, IsNextId};
 ghost use Rattle.atp.specs.Requesting.{IsLeastDue, is_due_in, open_count, release_for, request_of};
 ghost use Rattle.atp.specs.Outcomes.{left_open, outcome_of};
@@ -132,7 +132,7 @@ impl Requester {
     /// nothing.
     pub fn request(&mut self, id: u16) -> Result<Bytes, Error>
         ensures ok { IfOk result (λ bytes. IfSome (known id self.old.slots)
-            (λ t. bytes ≡ bytes_of spelled_packet (request_of t))) }
+            (λ t. bytes ≡ bytes_of spec.packet (request_of t))) }
         ensures sent { OnOk result (known id self.new.slots
             ≡ option_map sent (known id self.old.slots)) }
         ensures others { (other : ℕ) → other ≢ id

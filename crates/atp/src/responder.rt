@@ -7,10 +7,11 @@ ghost use Rattle.std.specs.Option.{option_copied};
 ghost use Rattle.atp.specs.InPlace.{packet_value};
 ghost use Rattle.atp.specs.Answers.{AreShort, is_answer, answer_packets, bytes_of_all};
 ghost use Rattle.atp.specs.Places.{IsPlace, with_first};
-ghost use Rattle.atp.specs.Responding.{asked_again, asked_by, has_room as room_for, heard as hears};
-ghost use Rattle.atp.specs.Responding.{is_of, is_over, kept as kept_of, new_request, of_kind};
+ghost use Rattle.atp.specs.Responding as spec;
+ghost use Rattle.atp.specs.Responding.{asked_again, asked_by};
+ghost use Rattle.atp.specs.Responding.{is_of, is_over, new_request, of_kind};
 ghost use Rattle.atp.specs.Responding.{IsRequests, older};
-ghost use Rattle.atp.specs.Responding.{parts_or_none, request_of, answered as with_answers};
+ghost use Rattle.atp.specs.Responding.{parts_or_none, request_of};
 ghost use Rattle.atp.specs.Responding.{ticked, waits, with_answer, without};
 ghost use Rattle.atp.specs.declared.request.Request.{Request as RequestValue};
 ghost use Rattle.at_base.specs.declared.error.What.TheVariants.{Transaction};
@@ -137,7 +138,7 @@ fn waiting_place(requests: &[Request], from: Peer, id: u16) -> Option<usize>
 
 /// The answer that is kept for an asker and number.
 fn kept_answer(requests: &[Request], from: Peer, id: u16) -> Option<&Answer>
-    ensures { option_copied result ≡ kept_of (request_of from id requests.now) }
+    ensures { option_copied result ≡ spec.kept (request_of from id requests.now) }
 {
     let request = find(requests, from, id)?;
     request.answer.as_ref()
@@ -163,7 +164,7 @@ fn hear_new(requests: &mut Vec<Request>, from: Peer, packet: &Packet<'_>) -> Res
     ensures ok { IfOk result (λ todo. (todo ≡ Todo.Ask) × (requests.new.items
         ≡ requests.old.items ++ new_request from (packet_value packet.now) ∷ [])) }
     ensures full { (result ≡ Err Error.Full)
-        ↔ (room_for (packet_value packet.now) requests.old.items ≡ false) }
+        ↔ (spec.has_room (packet_value packet.now) requests.old.items ≡ false) }
     ensures refused { IfErr result (λ e. (e ≡ Error.Full) ⊎ (e ≡ Error.Memory)) }
     ensures kept { OnErr result (requests.new.items ≡ requests.old.items) }
 {
@@ -219,13 +220,13 @@ impl Responder {
     /// request. A refusal changes nothing.
     pub fn heard(&mut self, from: Peer, packet: &Packet<'_>) -> Result<Todo, Error>
         ensures ok { IfOk result (λ todo.
-            (todo, self.new) ≡ hears from (packet_value packet.now) self.old) }
+            (todo, self.new) ≡ spec.heard from (packet_value packet.now) self.old) }
         ensures full { (result ≡ Err Error.Full)
-            ↔ (((hears from (packet_value packet.now) self.old).0 ≡ Todo.Ask)
-            × (room_for (packet_value packet.now) self.old ≡ false)) }
+            ↔ (((spec.heard from (packet_value packet.now) self.old).0 ≡ Todo.Ask)
+            × (spec.has_room (packet_value packet.now) self.old ≡ false)) }
         ensures refused { IfErr result (λ e. (e ≡ Error.Full) ⊎ (e ≡ Error.Memory)) }
         ensures new_alone { IfErr result (λ e.
-            (hears from (packet_value packet.now) self.old).0 ≡ Todo.Ask) }
+            (spec.heard from (packet_value packet.now) self.old).0 ≡ Todo.Ask) }
         ensures kept { OnErr result (self.new ≡ self.old) }
     {
         if packet.is_release() {
@@ -257,7 +258,7 @@ impl Responder {
             (answer_packets id (asked_by (request_of from id self.old)) parts.now)) }
         ensures few { IfOk result (λ packets. length packets.items ≤ 8) }
         ensures short { IfOk result (λ packets. AreShort packets.items) }
-        ensures after { OnOk result (self.new ≡ with_answers from id parts.now self.old) }
+        ensures after { OnOk result (self.new ≡ spec.answered from id parts.now self.old) }
         ensures unasked { (result ≡ Err (Error.NoSuch Transaction))
             ↔ (waits (request_of from id self.old) ≡ false) }
         ensures long { (result ≡ Err Error.TooLong)
@@ -292,11 +293,11 @@ impl Responder {
     pub fn parts(&self, from: Peer, id: u16, bitmap: u8) -> Result<Vec<Bytes>, Error>
         ensures ok { IfOk result (λ packets. packets.items ≡ bytes_of_all
             (answer_packets id bitmap
-            (parts_or_none (kept_of (request_of from id self.now))))) }
+            (parts_or_none (spec.kept (request_of from id self.now))))) }
         ensures few { IfOk result (λ packets. length packets.items ≤ 8) }
         ensures short { IfOk result (λ packets. AreShort packets.items) }
         ensures unasked { (result ≡ Err (Error.NoSuch Transaction))
-            ↔ (kept_of (request_of from id self.now) ≡ None) }
+            ↔ (spec.kept (request_of from id self.now) ≡ None) }
         ensures refused { IfErr result (λ e. (e ≡ Error.NoSuch Transaction)
             ⊎ (e ≡ Error.Memory)) }
     {

@@ -8,7 +8,7 @@ ghost use Rattle.slab.specs.Slab.{get, slab_len};
 ghost use Rattle.at_base.specs.Spelling.{bytes_of};
 ghost use Rattle.at_base.specs.declared.error.What.TheVariants.{Transaction as Missing};
 ghost use Rattle.atp.specs.InPlace.{packet_value};
-ghost use Rattle.atp.specs.Packets.{packet as spelled_packet};
+ghost use Rattle.atp.specs.Packets as spec;
 ghost use Rattle.atp.specs.Requesting.{known, IsNextId, IsSendable, is_due, is_due_in, request_of};
 ghost use Rattle.atp.specs.Requesting.{sent, ticked};
 ghost use Rattle.atp.specs.Requesting.{is_complete, part_of, with_part, with_end, with_status};
@@ -211,7 +211,7 @@ pub(crate) fn request_at(
 ) -> Result<Bytes, Error>
     requires { (t : Value) → get table.now key ≡ Some t → IsSendable t.ask }
     ensures ok { IfOk result (λ bytes. (t : Value) → get table.now key ≡ Some t
-        → (is_due t ≡ true) × (bytes ≡ bytes_of spelled_packet (request_of t))) }
+        → (is_due t ≡ true) × (bytes ≡ bytes_of spec.packet (request_of t))) }
     ensures err { IfErr result (λ e. (t : Value) → get table.now key ≡ Some t
         → e ≡ (if is_due t then Error.Memory else Error.NoSuch Missing)) }
     ensures refused { IfErr result (λ e. (e ≡ Error.NoSuch Missing) ⊎ (e ≡ Error.Memory)) }
@@ -267,7 +267,7 @@ fn hears_at(table: &Slab<Transaction>, key: usize, from: Peer, packet: &Packet<'
 /// The bytes of the release of the transaction at a key, where it is to be carried out once.
 fn release_at(alloc: Global, table: &Slab<Transaction>, key: usize) -> Result<Option<Bytes>, Error>
     ensures ok { IfOk result (λ release. (t : Value) → get table.now key ≡ Some t → release
-        ≡ (if t.ask.exactly_once then Some (bytes_of spelled_packet (release_of t)) else None)) }
+        ≡ (if t.ask.exactly_once then Some (bytes_of spec.packet (release_of t)) else None)) }
     ensures err { IsOkUnless result Error.Memory }
 {
     match table.get(key) {

@@ -4,12 +4,12 @@ ghost use Rattle.std.specs.Prelude.{◌≡◌, ◌≤◌, ◌<◌, ◌+◌, ◌^
 ghost use Rattle.std.specs.Prelude.{slice_index_or, take, drop, IfOk, IsOkUnless};
 ghost use Rattle.std.specs.List.{list_any};
 ghost use Rattle.at_base.specs.Spelling.{bytes_of};
-ghost use Rattle.atp.specs.Bitmaps.{bitmap as number_of, first_parts as parts_below};
+ghost use Rattle.atp.specs.Bitmaps as bitmaps_spec;
 ghost use Rattle.atp.specs.InPlace.{packet_value};
-ghost use Rattle.atp.specs.Packets.{packet as spelled_packet};
-ghost use Rattle.atp.specs.Requesting.{IsAsk, begun, is_complete as complete};
-ghost use Rattle.atp.specs.Requesting.{is_waiting as waiting};
-ghost use Rattle.atp.specs.Requesting.{is_due as due, request_control, request_of, sent, ticked};
+ghost use Rattle.atp.specs.Packets as packets_spec;
+ghost use Rattle.atp.specs.Requesting as requesting_spec;
+ghost use Rattle.atp.specs.Requesting.{IsAsk, begun};
+ghost use Rattle.atp.specs.Requesting.{request_control, request_of, sent, ticked};
 ghost use Rattle.atp.specs.Requesting.{cut};
 ghost use Rattle.atp.specs.Requesting.{with_part, with_end, with_status, answers, is_heard};
 ghost use Rattle.atp.specs.Requesting.{release_of};
@@ -46,7 +46,7 @@ pub(crate) struct Transaction {
 
 /// The first parts of eight.
 fn first_parts(count: u8) -> [bool; 8]
-    ensures { result ≡ parts_below count }
+    ensures { result ≡ bitmaps_spec.first_parts count }
 {
     [
         0 < count,
@@ -63,7 +63,7 @@ fn first_parts(count: u8) -> [bool; 8]
 /// The number of a bitmap.
 fn bitmap(bits: &[bool]) -> u8
     requires { length bits.now ≤ 8 }
-    ensures value { result ≡ number_of bits.now }
+    ensures value { result ≡ bitmaps_spec.bitmap bits.now }
     ensures small { result < 2 ^ length bits.now }
 {
     match bits {
@@ -188,21 +188,21 @@ impl Transaction {
 
     /// Whether no part is missing.
     pub(crate) fn is_complete(&self) -> bool
-        ensures { result ≡ complete self.now }
+        ensures { result ≡ requesting_spec.is_complete self.now }
     {
         !is_any(self.missing.as_slice())
     }
 
     /// Whether it waits for parts.
     pub(crate) fn is_waiting(&self) -> bool
-        ensures { result ≡ waiting self.now }
+        ensures { result ≡ requesting_spec.is_waiting self.now }
     {
         !self.failed && !self.is_complete()
     }
 
     /// Whether its request is to be sent now.
     pub(crate) fn is_due(&self) -> bool
-        ensures { result ≡ due self.now }
+        ensures { result ≡ requesting_spec.is_due self.now }
     {
         self.is_waiting() && self.due
     }
@@ -211,7 +211,7 @@ impl Transaction {
     pub(crate) fn request(&self, alloc: Global) -> Result<Bytes, Error>
         requires short { length self.now.ask.payload ≤ 578 }
         requires release { self.now.ask.release ≤ 7 }
-        ensures ok { IfOk result (λ bytes. bytes ≡ bytes_of spelled_packet (request_of self.now)) }
+        ensures ok { IfOk result (λ bytes. bytes ≡ bytes_of packets_spec.packet (request_of self.now)) }
         ensures err { IsOkUnless result Error.Memory }
     {
         write(
@@ -226,7 +226,7 @@ impl Transaction {
 
     /// The bytes of its release. Error: `Memory`.
     pub(crate) fn release(&self, alloc: Global) -> Result<Bytes, Error>
-        ensures ok { IfOk result (λ bytes. bytes ≡ bytes_of spelled_packet (release_of self.now)) }
+        ensures ok { IfOk result (λ bytes. bytes ≡ bytes_of packets_spec.packet (release_of self.now)) }
         ensures err { IsOkUnless result Error.Memory }
     {
         write(alloc, RELEASE, 0, self.id, [0; 4], &[])

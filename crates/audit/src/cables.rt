@@ -4,8 +4,9 @@ ghost use Rattle.std.specs.Prelude.{◌≡◌, ◌<◌, suc, IfSome};
 ghost use Rattle.std.specs.List.{list_any};
 ghost use Rattle.at_base.specs.Text.{same_name};
 ghost use Rattle.audit.specs.Firsts.{FirstNumber, FirstPlace};
-ghost use Rattle.audit.specs.Rules.{bad_cable as bad, c1};
-ghost use Rattle.audit.specs.ZoneLists.{has_double as doubled};
+ghost use Rattle.audit.specs.Rules as rules_spec;
+ghost use Rattle.audit.specs.Rules.{c1};
+ghost use Rattle.audit.specs.ZoneLists as zone_lists_spec;
 
 use crate::places::from_one;
 use at_base::{Name, Place, Range};
@@ -18,7 +19,7 @@ fn is_among(name: &Name, others: &[Name]) -> bool
 }
 
 fn has_double(zones: &[Name]) -> bool
-    ensures { result ≡ doubled zones.now }
+    ensures { result ≡ zone_lists_spec.has_double zones.now }
 {
     match zones {
         [] => false,
@@ -27,7 +28,7 @@ fn has_double(zones: &[Name]) -> bool
 }
 
 fn is_bad(before: u16, cable: &Cable) -> bool
-    ensures { result ≡ bad before cable.now }
+    ensures { result ≡ rules_spec.bad_cable before cable.now }
 {
     Range::new(cable.start, cable.end).is_err()
         || cable.start <= before

@@ -6,24 +6,24 @@ ghost use Rattle.std.specs.Prelude.{◌≡◌, ◌==◌, ◌&&◌, None, Some, p
 ghost use Rattle.std.specs.List.{list_any};
 ghost use Rattle.std.specs.Option.{option_copied};
 ghost use Rattle.table_image.specs.Bounds.{AreRising};
-ghost use Rattle.audit.specs.Routing.{owner as owner_at};
-ghost use Rattle.at_base.specs.Address.{same_address as same};
+ghost use Rattle.audit.specs.Routing as routing_spec;
+ghost use Rattle.at_base.specs.Address as address_spec;
 ghost use Rattle.audit.specs.Firsts.{FirstPlace};
-ghost use Rattle.audit.specs.Rules.{is_for as fits, cable_of as cable, port_on as port};
-ghost use Rattle.audit.specs.Rules.{same_row as row_of, c1, c2};
+ghost use Rattle.audit.specs.Rules as rules_spec;
+ghost use Rattle.audit.specs.Rules.{c1, c2};
 
 use crate::stations::same_address;
 use at_base::Addr;
 use table_image::{Cable, Image, Port, Router, Row};
 
 fn is_for(row: &Row, cable: &Cable) -> bool
-    ensures { result ≡ fits row.now cable.now }
+    ensures { result ≡ rules_spec.is_for row.now cable.now }
 {
     row.start == cable.start && row.end == cable.end
 }
 
 fn search_cables(cables: &[Cable], row: &Row) -> Option<usize>
-    ensures { result ≡ position (fits row.now) cables.now }
+    ensures { result ≡ position (rules_spec.is_for row.now) cables.now }
 {
     cables.iter().position(|c| is_for(row, c))
 }
@@ -31,7 +31,7 @@ fn search_cables(cables: &[Cable], row: &Row) -> Option<usize>
 /// The 0-based index of the cable that the row is for.
 pub(crate) fn cable_of(image: &Image, hint: usize, row: &Row) -> Option<usize>
     requires { FirstPlace (c1 image.now) None }
-    ensures { result ≡ cable image.now row.now }
+    ensures { result ≡ rules_spec.cable_of image.now row.now }
 {
     let cables = image.cables();
     if let Some(c) = cables.get(hint) {
@@ -44,7 +44,7 @@ pub(crate) fn cable_of(image: &Image, hint: usize, row: &Row) -> Option<usize>
 
 /// Whether the router has a row for the cable.
 pub(crate) fn has_row(router: &Router, hint: usize, cable: &Cable) -> bool
-    ensures { result ≡ list_any (λ row. fits row cable.now) router.now.rows }
+    ensures { result ≡ list_any (λ row. rules_spec.is_for row cable.now) router.now.rows }
 {
     let rows = router.rows.as_slice();
     if let Some(row) = rows.get(hint) {
@@ -63,7 +63,7 @@ fn search_ports(ports: &[Port], cable: usize) -> Option<usize>
 
 /// The 0-based index of the router's port on the cable.
 pub(crate) fn port_on(router: &Router, cable: usize) -> Option<usize>
-    ensures { result ≡ port router.now cable }
+    ensures { result ≡ rules_spec.port_on router.now cable }
 {
     search_ports(router.ports.as_slice(), cable)
 }
@@ -84,7 +84,7 @@ fn search_rows<'a>(rows: &'a [Row], row: &Row) -> Option<&'a Row>
 /// The router's row of the same range.
 pub(crate) fn same_row(router: &Router, hint: usize, row: &Row) -> Option<Row>
     requires { AreRising router.now.rows }
-    ensures { result ≡ row_of (Some router.now) row.now }
+    ensures { result ≡ rules_spec.same_row (Some router.now) row.now }
 {
     let rows = router.rows.as_slice();
     if let Some(other) = rows.get(hint) {
@@ -97,7 +97,7 @@ pub(crate) fn same_row(router: &Router, hint: usize, row: &Row) -> Option<Row>
 
 fn has_seat(router: &Router, cable: u8, address: Addr) -> bool
     ensures { result
-        ≡ list_any (λ p. p.cable == cable && same p.address address) router.now.ports }
+        ≡ list_any (λ p. p.cable == cable && address_spec.same_address p.address address) router.now.ports }
 {
     router
         .ports
@@ -109,7 +109,7 @@ fn has_seat(router: &Router, cable: u8, address: Addr) -> bool
 fn search_routers(routers: &[Router], cable: u8, address: Addr) -> Option<usize>
     ensures { result
         ≡ position
-        (λ router. list_any (λ p. p.cable == cable && same p.address address) router.ports)
+        (λ router. list_any (λ p. p.cable == cable && address_spec.same_address p.address address) router.ports)
         routers.now }
 {
     routers
@@ -120,7 +120,7 @@ fn search_routers(routers: &[Router], cable: u8, address: Addr) -> Option<usize>
 /// The 0-based index of the router that has a port with the address on the cable.
 pub(crate) fn owner(image: &Image, hint: usize, cable: u8, address: Addr) -> Option<usize>
     requires { FirstPlace (c2 image.now) None }
-    ensures { result ≡ owner_at image.now cable address }
+    ensures { result ≡ routing_spec.owner image.now cable address }
 {
     let routers = image.routers();
     if let Some(router) = routers.get(hint) {

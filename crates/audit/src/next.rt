@@ -1,13 +1,14 @@
 //! Next routers: rule C6, that they exist, and rule C7, that they are one router nearer.
 
 ghost use Rattle.std.specs.Prelude.{◌≡◌, ◌≢◌, ◌<◌, ◌&&◌, ℕ, not, None, length, slice_get};
-ghost use Rattle.table_image.specs.Rows.{is_direct as direct};
+ghost use Rattle.table_image.specs.Rows as rows_spec;
 ghost use Rattle.audit.specs.Firsts.{FirstPlace};
 ghost use Rattle.audit.specs.Hints.{hint_slot, port_slot, hint_at, Names, FirstOr};
 ghost use Rattle.audit.specs.Hints.{HasHintsBelow};
-ghost use Rattle.audit.specs.Routing.{owner as owner_at};
-ghost use Rattle.audit.specs.Rules.{bad_step, is_no_other as no_other, next_router as next};
-ghost use Rattle.audit.specs.Rules.{same_row as same, not_one_less, c2};
+ghost use Rattle.audit.specs.Routing as routing_spec;
+ghost use Rattle.audit.specs.Rules as rules_spec;
+ghost use Rattle.audit.specs.Rules.{bad_step};
+ghost use Rattle.audit.specs.Rules.{not_one_less, c2};
 
 use crate::lookups::{owner, same_row};
 use at_base::Addr;
@@ -63,7 +64,7 @@ impl Hints {
     /// The 0-based index of the router that has a port with the address on the cable.
     pub(crate) fn owner(&self, image: &Image, cable: u8, address: Addr) -> Option<usize>
         requires { FirstPlace (c2 image.now) None }
-        ensures { result ≡ owner_at image.now cable address }
+        ensures { result ≡ routing_spec.owner image.now cable address }
     {
         let hint = self.routers[slot(cable, address.node)];
         owner(image, hint as usize, cable, address)
@@ -72,7 +73,7 @@ impl Hints {
 
 fn next_router(image: &Image, hints: &Hints, router: &Router, row: &Row) -> Option<usize>
     requires { FirstPlace (c2 image.now) None }
-    ensures { result ≡ next image.now router.now row.now }
+    ensures { result ≡ rules_spec.next_router image.now router.now row.now }
 {
     match router.ports.as_slice().get(row.port as usize) {
         Some(port) => hints.owner(image, port.cable, row.next),
@@ -89,7 +90,7 @@ pub(crate) fn breaks_next(
     row: &Row,
 ) -> bool
     requires { FirstPlace (c2 image.now) None }
-    ensures { result ≡ (not (direct row.now) && no_other r (next image.now router.now row.now)) }
+    ensures { result ≡ (not (rows_spec.is_direct row.now) && rules_spec.is_no_other r (rules_spec.next_router image.now router.now row.now)) }
 {
     if row.is_direct() {
         return false;
@@ -101,7 +102,7 @@ pub(crate) fn breaks_next(
 }
 
 fn row_at(image: &Image, s: usize, k: usize, row: &Row) -> Option<Row>
-    ensures { result ≡ same (slice_get image.now.routers s) row.now }
+    ensures { result ≡ rules_spec.same_row (slice_get image.now.routers s) row.now }
 {
     match image.routers().get(s) {
         Some(router) => same_row(router, k, row),
@@ -137,8 +138,8 @@ pub(crate) fn breaks_steps(
 ) -> bool
     requires { FirstPlace (c2 image.now) None }
     ensures { result
-        ≡ (not (direct row.now)
-        && bad_step image.now row.now (next image.now router.now row.now)) }
+        ≡ (not (rows_spec.is_direct row.now)
+        && bad_step image.now row.now (rules_spec.next_router image.now router.now row.now)) }
 {
     !row.is_direct() && is_bad_step(image, k, row, next_router(image, hints, router, row))
 }

@@ -4,8 +4,8 @@ ghost use Rattle.std.specs.Prelude.{◌≡◌, ◌<◌, suc, None, IfSome};
 ghost use Rattle.std.specs.List.{list_any};
 ghost use Rattle.at_base.specs.Text.{same_name};
 ghost use Rattle.audit.specs.Firsts.{FirstNumber, FirstPlace};
-ghost use Rattle.audit.specs.Rules.{has_bad_router as bad_router, has_its_zone as its_zone};
-ghost use Rattle.audit.specs.Rules.{bad_service as unserved, c2, c9};
+ghost use Rattle.audit.specs.Rules as spec;
+ghost use Rattle.audit.specs.Rules.{c2, c9};
 
 use crate::next::Hints;
 use crate::places::from_one;
@@ -16,7 +16,7 @@ use table_image::{Image, Node};
 // may be on a cable that has one.
 fn has_bad_router(image: &Image, hints: &Hints, node: &Node) -> bool
     requires { FirstPlace (c2 image.now) None }
-    ensures { result ≡ bad_router image.now node.now }
+    ensures { result ≡ spec.has_bad_router image.now node.now }
 {
     match node.router {
         Some(address) => hints.owner(image, node.cable, address).is_none(),
@@ -31,7 +31,7 @@ fn is_among(zones: &[Name], name: &Name) -> bool
 }
 
 fn has_its_zone(image: &Image, node: &Node) -> bool
-    ensures { result ≡ its_zone image.now node.now }
+    ensures { result ≡ spec.has_its_zone image.now node.now }
 {
     match image.cables().get(node.cable as usize) {
         Some(cable) => is_among(cable.zones.as_slice(), &node.zone),
@@ -41,7 +41,7 @@ fn has_its_zone(image: &Image, node: &Node) -> bool
 
 fn is_unserved(image: &Image, hints: &Hints, node: &Node) -> bool
     requires { FirstPlace (c2 image.now) None }
-    ensures { result ≡ unserved image.now node.now }
+    ensures { result ≡ spec.bad_service image.now node.now }
 {
     has_bad_router(image, hints, node) || !has_its_zone(image, node)
 }

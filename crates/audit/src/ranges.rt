@@ -4,7 +4,8 @@
 ghost use Rattle.std.specs.Prelude.{◌≡◌, None};
 ghost use Rattle.audit.specs.Places.{on};
 ghost use Rattle.audit.specs.Firsts.{FirstPlace};
-ghost use Rattle.audit.specs.Rules.{bad_range, bad_direct, cable_of as cable, port_on as port, c1};
+ghost use Rattle.audit.specs.Rules as spec;
+ghost use Rattle.audit.specs.Rules.{bad_range, bad_direct, c1};
 
 use crate::lookups::{cable_of, port_on};
 use table_image::{Image, Router, Row};
@@ -29,7 +30,7 @@ fn is_bad_direct(row: &Row, port: Option<usize>) -> bool
 /// Whether the row breaks rule C4.
 pub(crate) fn breaks_direct(image: &Image, router: &Router, k: usize, row: &Row) -> bool
     requires { FirstPlace (c1 image.now) None }
-    ensures { result ≡ on (cable image.now row.now) (λ c. bad_direct row.now (port router.now c)) }
+    ensures { result ≡ on (spec.cable_of image.now row.now) (λ c. bad_direct row.now (spec.port_on router.now c)) }
 {
     match cable_of(image, k, row) {
         Some(c) => is_bad_direct(row, port_on(router, c)),

@@ -2,7 +2,8 @@
 
 ghost use Rattle.std.specs.Prelude.{◌≡◌, ◌<◌, suc, None, Some, IfSome, length, slice_get};
 ghost use Rattle.audit.specs.Firsts.{FirstNumber, FirstPlace};
-ghost use Rattle.audit.specs.Rules.{lacks_row as lacks, c1, c2, c3, row_breaks, breaks_rows};
+ghost use Rattle.audit.specs.Rules as spec;
+ghost use Rattle.audit.specs.Rules.{c1, c2, c3, row_breaks, breaks_rows};
 
 use crate::lookups::has_row;
 use crate::next::{Hints, breaks_next, breaks_steps};
@@ -55,7 +56,7 @@ fn first_row(image: &Image, hints: &Hints, rule: Rule, r: usize, router: &Router
 }
 
 fn lacks_row(router: &Router, k: usize, cable: &Cable) -> bool
-    ensures { result ≡ lacks router.now cable.now }
+    ensures { result ≡ spec.lacks_row router.now cable.now }
 {
     !has_row(router, k, cable)
 }

@@ -3,7 +3,8 @@
 
 ghost use Rattle.std.specs.Prelude.{◌≡◌, ◌<◌};
 ghost use Rattle.audit.specs.Seen.{HasSeen, HasSeenNothing, HasSeenPorts, SeesMore};
-ghost use Rattle.audit.specs.Seen.{address_slot, hardware_slot, may_have as has_mark};
+ghost use Rattle.audit.specs.Seen as spec;
+ghost use Rattle.audit.specs.Seen.{address_slot, hardware_slot};
 
 use at_base::{Addr, Hw};
 use table_image::Port;
@@ -43,7 +44,7 @@ impl Seen {
 
     /// Whether the address or the hardware address may have been seen.
     pub(crate) fn may_have(&self, a: Addr, h: &Hw) -> bool
-        ensures { result ≡ has_mark self.now a h.now }
+        ensures { result ≡ spec.may_have self.now a h.now }
     {
         self.addresses[slot_of(a)] || self.hardware[hardware_slot_of(h)]
     }

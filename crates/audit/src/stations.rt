@@ -4,12 +4,11 @@
 ghost use Rattle.std.specs.Prelude.{◌≡◌, ◌<◌, ◌≤◌, ◌==◌, ℕ, suc, false, Some, IfNone, IfSome};
 ghost use Rattle.std.specs.Prelude.{length, slice_get, take};
 ghost use Rattle.std.specs.List.{list_any};
-ghost use Rattle.at_base.specs.Address.{same_address as same};
+ghost use Rattle.at_base.specs.Address as address_spec;
 ghost use Rattle.audit.specs.Firsts.{FirstNumber, FirstPlace};
 ghost use Rattle.audit.specs.Seen.{HasSeenBelow};
-ghost use Rattle.audit.specs.Rules.{same_hardware as same_hw, bad_address as badly, c2};
-ghost use Rattle.audit.specs.Rules.{router_has as router_uses, bad_port as port_bad};
-ghost use Rattle.audit.specs.Rules.{node_has as node_uses, bad_node as node_bad};
+ghost use Rattle.audit.specs.Rules as spec;
+ghost use Rattle.audit.specs.Rules.{c2};
 
 use crate::places::from_one;
 use crate::seen::Seen;
@@ -18,20 +17,20 @@ use table_image::{Image, Node, Port, Router};
 
 /// Whether the two are one address.
 pub(crate) fn same_address(a: Addr, b: Addr) -> bool
-    ensures { result ≡ same a b }
+    ensures { result ≡ address_spec.same_address a b }
 {
     a.net == b.net && a.node == b.node
 }
 
 fn same_hardware(a: &Hw, b: &Hw) -> bool
-    ensures { result ≡ same_hw a.now b.now }
+    ensures { result ≡ spec.same_hardware a.now b.now }
 {
     // The last byte first: hardware addresses of one maker differ there.
     a.0[5] == b.0[5] && a.0 == b.0
 }
 
 fn has_bad_address(image: &Image, cable: u8, address: Addr, hardware: &Hw) -> bool
-    ensures { result ≡ badly image.now cable address hardware.now }
+    ensures { result ≡ spec.bad_address image.now cable address hardware.now }
 {
     let in_range = match image.cables().get(cable as usize) {
         Some(c) => c.start <= address.net && address.net <= c.end,
@@ -41,14 +40,14 @@ fn has_bad_address(image: &Image, cable: u8, address: Addr, hardware: &Hw) -> bo
 }
 
 fn router_has(address: Addr, hardware: &Hw, router: &Router) -> bool
-    ensures { result ≡ router_uses address hardware.now router.now }
+    ensures { result ≡ spec.router_has address hardware.now router.now }
 {
     router.ports.as_slice().iter().any(|p| same_address(address, p.address)
         || same_hardware(hardware, &p.hardware))
 }
 
 fn one_router_has(address: Addr, hardware: &Hw, routers: &[Router]) -> bool
-    ensures { result ≡ list_any (router_uses address hardware.now) routers.now }
+    ensures { result ≡ list_any (spec.router_has address hardware.now) routers.now }
 {
     routers
         .iter()
@@ -56,13 +55,13 @@ fn one_router_has(address: Addr, hardware: &Hw, routers: &[Router]) -> bool
 }
 
 fn node_has(address: Addr, hardware: &Hw, node: &Node) -> bool
-    ensures { result ≡ node_uses address hardware.now node.now }
+    ensures { result ≡ spec.node_has address hardware.now node.now }
 {
     same_address(address, node.address) || same_hardware(hardware, &node.hardware)
 }
 
 fn one_node_has(address: Addr, hardware: &Hw, nodes: &[Node]) -> bool
-    ensures { result ≡ list_any (node_uses address hardware.now) nodes.now }
+    ensures { result ≡ list_any (spec.node_has address hardware.now) nodes.now }
 {
     nodes.iter().any(|node| node_has(address, hardware, node))
 }
@@ -76,7 +75,7 @@ fn one_port_is_on(cable: u8, ports: &[Port]) -> bool
 fn earlier_router_has(image: &Image, seen: &Seen, r: usize, address: Addr, hardware: &Hw) -> bool
     requires seen { HasSeenBelow seen.now image.now.routers r }
     requires within { r ≤ length image.now.routers }
-    ensures { result ≡ list_any (router_uses address hardware.now) (take r image.now.routers) }
+    ensures { result ≡ list_any (spec.router_has address hardware.now) (take r image.now.routers) }
 {
     if !seen.may_have(address, hardware) {
         return false;
@@ -88,7 +87,7 @@ fn is_bad_port(image: &Image, seen: &Seen, r: usize, p: usize, router: &Router, 
     requires seen { HasSeenBelow seen.now image.now.routers r }
     requires router { r ≤ length image.now.routers }
     requires port { p ≤ length router.now.ports }
-    ensures { result ≡ port_bad image.now r p router.now port.now }
+    ensures { result ≡ spec.bad_port image.now r p router.now port.now }
 {
     has_bad_address(image, port.cable, port.address, &port.hardware)
         || earlier_router_has(image, seen, r, port.address, &port.hardware)
@@ -97,7 +96,7 @@ fn is_bad_port(image: &Image, seen: &Seen, r: usize, p: usize, router: &Router, 
 
 fn a_router_has(image: &Image, seen: &Seen, address: Addr, hardware: &Hw) -> bool
     requires { HasSeenBelow seen.now image.now.routers (length image.now.routers) }
-    ensures { result ≡ list_any (router_uses address hardware.now) image.now.routers }
+    ensures { result ≡ list_any (spec.router_has address hardware.now) image.now.routers }
 {
     earlier_router_has(image, seen, image.routers().len(), address, hardware)
 }
@@ -105,7 +104,7 @@ fn a_router_has(image: &Image, seen: &Seen, address: Addr, hardware: &Hw) -> boo
 fn is_bad_node(image: &Image, seen: &Seen, k: usize, node: &Node) -> bool
     requires seen { HasSeenBelow seen.now image.now.routers (length image.now.routers) }
     requires node { k ≤ length image.now.nodes }
-    ensures { result ≡ node_bad image.now k node.now }
+    ensures { result ≡ spec.bad_node image.now k node.now }
 {
     has_bad_address(image, node.cable, node.address, &node.hardware)
         || a_router_has(image, seen, node.address, &node.hardware)

@@ -7,8 +7,9 @@ ghost use Rattle.std.specs.List.{list_any};
 ghost use Rattle.audit.specs.Places.{index_of};
 ghost use Rattle.audit.specs.Firsts.{FirstNumber, FirstPlace};
 ghost use Rattle.audit.specs.Rules.{c1, c8};
-ghost use Rattle.audit.specs.ZoneLists.{has_double, same_zones, is_list_for as fits};
-ghost use Rattle.audit.specs.ZoneLists.{bad_list, lacks_list as lacks};
+ghost use Rattle.audit.specs.ZoneLists as spec;
+ghost use Rattle.audit.specs.ZoneLists.{has_double, same_zones};
+ghost use Rattle.audit.specs.ZoneLists.{bad_list};
 ghost use Rattle.audit.specs.GoodLists.{AreGood, AreGoodBelow};
 
 use crate::places::from_one;
@@ -18,13 +19,13 @@ use at_base::Place;
 use table_image::{Cable, Image, Router, ZoneList};
 
 fn is_for(list: &ZoneList, cable: &Cable) -> bool
-    ensures { result ≡ fits list.now cable.now }
+    ensures { result ≡ spec.is_list_for list.now cable.now }
 {
     list.start == cable.start && list.end == cable.end
 }
 
 fn search_cables(cables: &[Cable], list: &ZoneList) -> Option<usize>
-    ensures { result ≡ position (fits list.now) cables.now }
+    ensures { result ≡ position (spec.is_list_for list.now) cables.now }
 {
     cables.iter().position(|c| is_for(list, c))
 }
@@ -32,7 +33,7 @@ fn search_cables(cables: &[Cable], list: &ZoneList) -> Option<usize>
 // The 0-based index of the cable that the list is for. A router's list k is usually for cable k.
 fn cable_of(image: &Image, hint: usize, list: &ZoneList) -> Option<usize>
     requires { FirstPlace (c1 image.now) None }
-    ensures { result ≡ index_of (fits list.now) image.now.cables }
+    ensures { result ≡ index_of (spec.is_list_for list.now) image.now.cables }
 {
     let cables = image.cables();
     if let Some(c) = cables.get(hint) {
@@ -46,7 +47,7 @@ fn cable_of(image: &Image, hint: usize, list: &ZoneList) -> Option<usize>
 // Whether a complete list is bad that is for cable c.
 fn is_bad_for(image: &Image, hints: &ZoneHints, c: usize, list: &ZoneList) -> bool
     requires cables { FirstPlace (c1 image.now) None }
-    requires cable { index_of (fits list.now) image.now.cables ≡ Some c }
+    requires cable { index_of (spec.is_list_for list.now) image.now.cables ≡ Some c }
     requires complete { list.now.complete ≡ true }
     ensures { result ≡ bad_list image.now list.now }
 {
@@ -121,7 +122,7 @@ fn first_list(
 }
 
 fn has_list(router: &Router, hint: usize, cable: &Cable) -> bool
-    ensures { result ≡ list_any (λ l. fits l cable.now) router.now.lists }
+    ensures { result ≡ list_any (λ l. spec.is_list_for l cable.now) router.now.lists }
 {
     let lists = router.lists.as_slice();
     if let Some(list) = lists.get(hint) {
@@ -133,7 +134,7 @@ fn has_list(router: &Router, hint: usize, cable: &Cable) -> bool
 }
 
 fn lacks_list(router: &Router, k: usize, cable: &Cable) -> bool
-    ensures { result ≡ lacks router.now cable.now }
+    ensures { result ≡ spec.lacks_list router.now cable.now }
 {
     !has_list(router, k, cable)
 }

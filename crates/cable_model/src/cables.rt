@@ -6,11 +6,12 @@ ghost use Rattle.std.specs.Prelude.{IfErr, IfNone, IfOk, IfSome, IsOkUnless, OnE
 ghost use Rattle.std.specs.List.{list_any};
 ghost use Rattle.at_base.specs.declared.error.What.TheVariants.{Cable, Station};
 ghost use Rattle.cable_model.specs.Books.{HasOneSeat};
-ghost use Rattle.cable_model.specs.Logs.{Adds, bytes_at, transcript as said};
+ghost use Rattle.cable_model.specs.Logs as logs_spec;
+ghost use Rattle.cable_model.specs.Logs.{Adds, bytes_at};
 ghost use Rattle.cable_model.specs.Outcomes.{AreSeatsOf, IsHeard, IsLeast, IsTaken, Places, framed, has_cable, has_stamp};
 ghost use Rattle.cable_model.specs.Outcomes.{held_at, held_next, is_named, is_seated, port_on};
 ghost use Rattle.cable_model.specs.Outcomes.{sent_entries};
-ghost use Rattle.cable_model.specs.Pending.{pending as pending_on};
+ghost use Rattle.cable_model.specs.Pending as pending_spec;
 ghost use Rattle.cable_model.specs.Transcript.{AreNumbered, Lost, stamps};
 ghost use Rattle.station.specs.Hearing.{hearing};
 ghost use Rattle.station.specs.Lawful.{IsNext};
@@ -88,7 +89,7 @@ impl Cables {
     /// What happened, in order. Allocates nothing.
     pub fn transcript(&self) -> &[Entry]
         ensures value { result.now ≡ self.now.lines }
-        ensures numbered { AreNumbered 0 (said self.now) }
+        ensures numbered { AreNumbered 0 (logs_spec.transcript self.now) }
         ensures one_seat { HasOneSeat self.now.seats }
     {
         self.log.lines.as_slice()
@@ -104,17 +105,17 @@ impl Cables {
     /// Whether the frame of the stamp is pending for the station. Allocates nothing.
     pub fn pending(&self, stamp: u32, station: u16) -> bool
         ensures { result ≡ list_any (is_named stamp station)
-            (pending_on self.now.seats (said self.now)) }
+            (pending_spec.pending self.now.seats (logs_spec.transcript self.now)) }
     {
         ending::find_pair(&self.log, self.seats.as_slice(), stamp, station).is_some()
     }
 
     /// What the station hears of the frame of a stamp, where it is pending for it. Allocates nothing.
     pub fn heard(&self, stamp: u32, station: u16) -> Option<Heard<'_>>
-        ensures some { IfSome result (λ h. IsHeard (pending_on self.now.seats (said self.now))
+        ensures some { IfSome result (λ h. IsHeard (pending_spec.pending self.now.seats (logs_spec.transcript self.now))
             stamp station (hearing h)) }
         ensures none { IfNone result (list_any (is_named stamp station)
-            (pending_on self.now.seats (said self.now)) ≡ false) }
+            (pending_spec.pending self.now.seats (logs_spec.transcript self.now)) ≡ false) }
     {
         match ending::find_pair(&self.log, self.seats.as_slice(), stamp, station) {
             Some(due) => Some(taking::heard_of(&self.log, self.seats.as_slice(), due)),
@@ -126,15 +127,15 @@ impl Cables {
     /// Allocates nothing.
     pub fn first(&self) -> Option<(u32, u16)>
         ensures some { IfSome result (λ pair.
-            IsLeast (pending_on self.now.seats (said self.now)) pair.0 pair.1) }
-        ensures none { IfNone result (pending_on self.now.seats (said self.now) ≡ []) }
+            IsLeast (pending_spec.pending self.now.seats (logs_spec.transcript self.now)) pair.0 pair.1) }
+        ensures none { IfNone result (pending_spec.pending self.now.seats (logs_spec.transcript self.now) ≡ []) }
     {
         earliest::first_pair(&self.log, self.seats.as_slice())
     }
 
     /// The number of pairs of a frame and a station that are pending. Allocates nothing.
     pub fn pending_count(&self) -> usize
-        ensures { result ≡ length (pending_on self.now.seats (said self.now)) }
+        ensures { result ≡ length (pending_spec.pending self.now.seats (logs_spec.transcript self.now)) }
     {
         self.log.due.len()
     }
@@ -159,7 +160,7 @@ impl Cables {
         kind: Kind,
         bytes: Bytes,
     ) -> Result<u32, Error>
-        ensures ok { IfOk result (λ stamp. (stamp ≡ stamps (said self.old))
+        ensures ok { IfOk result (λ stamp. (stamp ≡ stamps (logs_spec.transcript self.old))
             × Adds self.old self.new
             (framed (record { stamp = stamp; cable = cable; station = station }) to kind bytes ∷ [])) }
         ensures waiting { self.new.waiting ≡ self.old.waiting }
@@ -258,9 +259,9 @@ impl Cables {
             (λ h added. S.hears taker.old h added taker.new)) }
         ensures ports_stay { S.ports_of taker.new ≡ S.ports_of taker.old }
         ensures not_pending { (result ≡ Err Error.NotPending)
-            ↔ (list_any (is_named stamp station) (pending_on self.old.seats (said self.old)) ≡ false) }
+            ↔ (list_any (is_named stamp station) (pending_spec.pending self.old.seats (logs_spec.transcript self.old)) ≡ false) }
         ensures full { (result ≡ Err Error.Full)
-            ↔ ((list_any (is_named stamp station) (pending_on self.old.seats (said self.old)) ≡ true)
+            ↔ ((list_any (is_named stamp station) (pending_spec.pending self.old.seats (logs_spec.transcript self.old)) ≡ true)
             × (self.old.limit < length self.old.lines + 771)) }
         ensures refused { IfErr result (λ e. (e ≡ Error.NotPending) ⊎ (e ≡ Error.Full)
             ⊎ (e ≡ Error.Memory)) }
@@ -304,9 +305,9 @@ impl Cables {
         ensures ok { OnOk result (Adds self.old self.new (Lost stamp ∷ [])) }
         ensures waiting { self.new.waiting ≡ self.old.waiting }
         ensures not_pending { (result ≡ Err Error.NotPending)
-            ↔ (list_any (has_stamp stamp) (pending_on self.old.seats (said self.old)) ≡ false) }
+            ↔ (list_any (has_stamp stamp) (pending_spec.pending self.old.seats (logs_spec.transcript self.old)) ≡ false) }
         ensures full { (result ≡ Err Error.Full)
-            ↔ ((list_any (has_stamp stamp) (pending_on self.old.seats (said self.old)) ≡ true)
+            ↔ ((list_any (has_stamp stamp) (pending_spec.pending self.old.seats (logs_spec.transcript self.old)) ≡ true)
             × (self.old.limit < length self.old.lines + 1)) }
         ensures refused { IfErr result (λ e. (e ≡ Error.NotPending) ⊎ (e ≡ Error.Full)
             ⊎ (e ≡ Error.Memory)) }

@@ -2,7 +2,8 @@
 
 ghost use Rattle.std.specs.Prelude.{◌≡◌};
 ghost use Rattle.at_base.specs.Text.{same_bytes};
-ghost use Rattle.cable_model.specs.Outcomes.{is_for_as, link_of as link_in};
+ghost use Rattle.cable_model.specs.Outcomes as spec;
+ghost use Rattle.cable_model.specs.Outcomes.{is_for_as};
 
 use crate::seat::Seat;
 use at_base::Hw;
@@ -17,7 +18,7 @@ pub fn same_hw(a: &Hw, b: &Hw) -> bool
 
 /// To whom a frame is addressed, for who hears it.
 pub fn link_of(to: &Hw) -> Link
-    ensures { result ≡ link_in to.now }
+    ensures { result ≡ spec.link_of to.now }
 {
     if to.is_all() {
         return Link::All;

@@ -4,7 +4,7 @@ ghost use Rattle.std.specs.Prelude.{◌≡◌, ◌<◌, [], ◌∷◌, List, len
 ghost use Rattle.cable_model.specs.Books.{Grows, HasRoom, IsBook, Uses};
 ghost use Rattle.cable_model.specs.Logs.{bytes_at};
 ghost use Rattle.cable_model.specs.Outcomes.{held_by};
-ghost use Rattle.cable_model.specs.Outcomes.{to_other as other_entries, to_target as target_entries};
+ghost use Rattle.cable_model.specs.Outcomes as spec;
 ghost use Rattle.cable_model.specs.Transcript.{Reached};
 ghost use Rattle.cable_model.specs.Ways.{sender_at, way_entries, way_held};
 ghost use Rattle.cable_model.specs.declared.resolve.Found.TheVariants.{Later};
@@ -52,7 +52,7 @@ fn to_target(log: &mut Log, seats: &Seats, exit: Exit, addr: Addr, found: Found,
     requires book { IsBook seats.now log.old }
     requires names { bytes < length log.old.kept.items }
     ensures grows { Grows log.old log.new
-        (target_entries (sender_at exit log.old.puts) (bytes_at log.old.kept.items bytes) found)
+        (spec.to_target (sender_at exit log.old.puts) (bytes_at log.old.kept.items bytes) found)
         (held_by found exit.port addr (bytes_at log.old.kept.items bytes)) }
     ensures book { IsBook seats.now log.new }
     ensures kept { log.new.kept ≡ log.old.kept }
@@ -77,7 +77,7 @@ fn to_other(log: &mut Log, seats: &Seats, exit: Exit, addr: Addr, found: Found, 
     requires book { IsBook seats.now log.old }
     requires names { bytes < length log.old.kept.items }
     ensures grows { Grows log.old log.new
-        (other_entries (sender_at exit log.old.puts) (bytes_at log.old.kept.items bytes) found)
+        (spec.to_other (sender_at exit log.old.puts) (bytes_at log.old.kept.items bytes) found)
         (held_by found exit.port addr (bytes_at log.old.kept.items bytes)) }
     ensures book { IsBook seats.now log.new }
     ensures kept { log.new.kept ≡ log.old.kept }

@@ -3,8 +3,7 @@
 ghost use Rattle.std.specs.Prelude.{◌≡◌, ◌⊎◌, ◌==◌, ◌&&◌, true, false, IfErr, OnOk};
 ghost use Rattle.std.specs.List.{list_any};
 ghost use Rattle.at_base.specs.declared.error.What.TheVariants.{Cable, Station};
-ghost use Rattle.cable_model.specs.Outcomes.{cable_of as cable_in, has_cable as has_any};
-ghost use Rattle.cable_model.specs.Outcomes.{is_seated as is_there, port_on as port_in};
+ghost use Rattle.cable_model.specs.Outcomes as spec;
 
 use crate::exit::Exit;
 use crate::seats::Seats;
@@ -12,18 +11,18 @@ use at_base::{Error, What};
 
 /// Whether this station is on the cable.
 fn is_seated(seats: &Seats, cable: u8, station: u16) -> bool
-    ensures { result ≡ is_there seats.now cable station }
+    ensures { result ≡ spec.is_seated seats.now cable station }
 {
     seats.seat_on(cable, station).is_some()
 }
 
 /// That the station is on the cable, and an error where it isn't.
 pub fn check(seats: &Seats, cable: u8, station: u16) -> Result<(), Error>
-    ensures ok { OnOk result ((is_there seats.now cable station ≡ true)
-        × (has_any seats.now cable ≡ true)) }
-    ensures refused { IfErr result (λ e. (is_there seats.now cable station ≡ false)
-        × (((e ≡ Error.NoSuch Cable) × (has_any seats.now cable ≡ false))
-        ⊎ ((e ≡ Error.NoSuch Station) × (has_any seats.now cable ≡ true)))) }
+    ensures ok { OnOk result ((spec.is_seated seats.now cable station ≡ true)
+        × (spec.has_cable seats.now cable ≡ true)) }
+    ensures refused { IfErr result (λ e. (spec.is_seated seats.now cable station ≡ false)
+        × (((e ≡ Error.NoSuch Cable) × (spec.has_cable seats.now cable ≡ false))
+        ⊎ ((e ≡ Error.NoSuch Station) × (spec.has_cable seats.now cable ≡ true)))) }
 {
     if !seats.has_cable(cable) {
         return Err(Error::NoSuch(What::Cable));
@@ -36,7 +35,7 @@ pub fn check(seats: &Seats, cable: u8, station: u16) -> Result<(), Error>
 
 /// The cable of a station's port, and 0 where it has none.
 fn cable_of(seats: &Seats, station: u16, port: u8) -> u8
-    ensures { result ≡ cable_in seats.now station port }
+    ensures { result ≡ spec.cable_of seats.now station port }
 {
     match seats.seat_by(station, port) {
         None => 0,
@@ -46,7 +45,7 @@ fn cable_of(seats: &Seats, station: u16, port: u8) -> u8
 
 /// A station's port, with its cable.
 pub fn exit_by(seats: &Seats, station: u16, port: u8) -> Exit
-    ensures { result ≡ record { cable = cable_in seats.now station port; station = station; port = port } }
+    ensures { result ≡ record { cable = spec.cable_of seats.now station port; station = station; port = port } }
 {
     Exit {
         cable: cable_of(seats, station, port),
@@ -57,7 +56,7 @@ pub fn exit_by(seats: &Seats, station: u16, port: u8) -> Exit
 
 /// The port of a station that is on a cable, and 0 where it isn't there.
 fn port_on(seats: &Seats, cable: u8, station: u16) -> u8
-    ensures { result ≡ port_in seats.now cable station }
+    ensures { result ≡ spec.port_on seats.now cable station }
 {
     match seats.seat_on(cable, station) {
         None => 0,
@@ -67,7 +66,7 @@ fn port_on(seats: &Seats, cable: u8, station: u16) -> u8
 
 /// A station on a cable, with its port there.
 pub fn exit_on(seats: &Seats, cable: u8, station: u16) -> Exit
-    ensures { result ≡ record { cable = cable; station = station; port = port_in seats.now cable station } }
+    ensures { result ≡ record { cable = cable; station = station; port = spec.port_on seats.now cable station } }
 {
     Exit {
         cable,

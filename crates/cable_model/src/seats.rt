@@ -3,7 +3,8 @@
 ghost use Rattle.std.specs.Prelude.{◌≡◌, ◌<◌, ◌≤◌, ◌+◌, ◌^◌, ◌++◌, ◌&&◌, ◌==◌, ℕ, length, slice_get};
 ghost use Rattle.std.specs.Prelude.{find, position, IfOk, IsOkUnless, OnOk};
 ghost use Rattle.std.specs.List.{list_any};
-ghost use Rattle.cable_model.specs.Places.{AreLists, first_at as first_in, has_key, has_some, indices, passes};
+ghost use Rattle.cable_model.specs.Places as spec;
+ghost use Rattle.cable_model.specs.Places.{AreLists, has_key, has_some, indices, passes};
 ghost use Rattle.cable_model.specs.declared.seats.Key.TheVariants.{Cable, Station};
 
 use crate::seat::Seat;
@@ -177,7 +178,7 @@ fn is_any(list: &[usize]) -> bool
 
 /// The first of these indices whose seat has the key.
 fn first_at(seats: &[Seat], list: &[usize], key: Key) -> Option<usize>
-    ensures { result ≡ first_in (has_key key) seats.now list.now }
+    ensures { result ≡ spec.first_at (has_key key) seats.now list.now }
 {
     match list {
         [] => None,

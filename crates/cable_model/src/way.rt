@@ -2,8 +2,8 @@
 
 ghost use Rattle.std.specs.Prelude.{◌≡◌, ◌<◌, slice_index};
 ghost use Rattle.at_base.specs.Address.{same_address};
-ghost use Rattle.cable_model.specs.Ways.{way_of as way_in};
-ghost use Rattle.ddp.specs.Bodies.{target as target_in};
+ghost use Rattle.cable_model.specs.Ways as spec;
+ghost use Rattle.ddp.specs.Bodies as bodies_spec;
 
 use crate::resolve::{Found, Resolve};
 use at_base::Addr;
@@ -31,7 +31,7 @@ fn byte_at(bytes: &[u8], index: usize) -> u8
 
 /// The target of a datagram.
 fn target_of(bytes: &[u8]) -> Addr
-    ensures { result ≡ target_in bytes.now }
+    ensures { result ≡ bodies_spec.target bytes.now }
 {
     let high = byte_at(bytes, 4);
     let low = byte_at(bytes, 5);
@@ -50,7 +50,7 @@ fn is_same(a: Addr, b: Addr) -> bool
 
 /// The way of a datagram on a cable.
 pub fn way_of<R: Resolve>(resolver: &R, cable: u8, next: Next, bytes: &[u8]) -> Way
-    ensures { result ≡ way_in (record { finds = R.finds resolver.now; lists = R.lists resolver.now })
+    ensures { result ≡ spec.way_of (record { finds = R.finds resolver.now; lists = R.lists resolver.now })
         cable next bytes.now }
 {
     let target = target_of(bytes);

@@ -12,7 +12,7 @@ ghost use Rattle.clap.specs.declared.error.ErrorKind.TheVariants.{OutOfMemory};
 ghost use Rattle.command_line.specs.Arguments.{Audits, IsMeant, IsMeantBy, Names, Plays, Traces};
 ghost use Rattle.command_line.specs.Arguments.{atalk_app, audit_app, images_app, is_operand};
 ghost use Rattle.command_line.specs.Arguments.{out_option, play_app, trace_app};
-ghost use Rattle.command_line.specs.Arguments.{operand as operand_rule};
+ghost use Rattle.command_line.specs.Arguments as spec;
 
 use clap::{Arg, ArgAction, ArgMatches, Command, Error};
 use std::alloc::{AllocError, Global};
@@ -84,7 +84,7 @@ const OUT: &str = "Where the image of the tables goes";
 
 /// An operand that has to be there.
 fn operand<'a>(alloc: Global, name: &'a str, help: &'a str) -> Arg<'a>
-    ensures rule { rule_of result ≡ operand_rule name.entry.now }
+    ensures rule { rule_of result ≡ spec.operand name.entry.now }
     ensures local { result.global ≡ false }
 {
     Arg::new(alloc, name)

@@ -2,7 +2,8 @@
 //! exit of each.
 
 ghost use Rattle.std.specs.Prelude.{◌≡◌};
-ghost use Rattle.command_line.specs.Exits.{exit_at, refused as refused_by};
+ghost use Rattle.command_line.specs.Exits as spec;
+ghost use Rattle.command_line.specs.Exits.{exit_at};
 
 use crate::exit_status::status;
 use at_base::Error;
@@ -32,7 +33,7 @@ pub struct Exit {
 }
 
 fn refused(error: Error) -> Exit
-    ensures { result ≡ refused_by error }
+    ensures { result ≡ spec.refused error }
 {
     Exit {
         status: status(&Err(error)),

@@ -4,7 +4,7 @@ ghost use Rattle.std.specs.Prelude.{◌≡◌, ℕ, ◌≤◌, List, ◌++◌, l
 ghost use Rattle.at_base.specs.Spelling.{bytes_of, Spells, Begins};
 ghost use Rattle.ddp.specs.declared.header.Header.{Header as HeaderValue};
 ghost use Rattle.ddp.specs.Datagram.{Datagram, datagram, datagram_of, length_of};
-ghost use Rattle.ddp.specs.Bodies.{hops as hops_in, target as target_in};
+ghost use Rattle.ddp.specs.Bodies as spec;
 ghost use Rattle.ddp.specs.Bodies.{named_length, body, with_hops};
 
 /// What was written is read back, whatever follows it.
@@ -18,9 +18,9 @@ pub fn written_is_read()
 /// A set hop count is that hop count, and leaves body, target and length.
 pub fn hops_leave_the_body()
     ensures { (n : ℕ) (bytes : List ℕ) → n ≤ 15 → 13 ≤ named_length bytes
-        → (hops_in (with_hops n bytes) ≡ n)
+        → (spec.hops (with_hops n bytes) ≡ n)
         × (body (with_hops n bytes) ≡ body bytes)
-        × (target_in (with_hops n bytes) ≡ target_in bytes)
+        × (spec.target (with_hops n bytes) ≡ spec.target bytes)
         × (named_length (with_hops n bytes) ≡ named_length bytes) }
 {}
 
@@ -45,8 +45,8 @@ pub fn padding_leaves_the_body()
 /// The value that is read has the hop count, the target and the body of the bytes.
 pub fn value_agrees_with_bytes()
     ensures { (bytes : List ℕ) (d : Datagram) → Begins datagram bytes d
-        → (hops_in bytes ≡ d.hops)
-        × (target_in bytes ≡ d.target)
+        → (spec.hops bytes ≡ d.hops)
+        × (spec.target bytes ≡ d.target)
         × (named_length bytes ≡ length_of d)
         × (body bytes ≡ bytes_of datagram (record d { hops = 0 })) }
 {}
@@ -55,5 +55,5 @@ pub fn value_agrees_with_bytes()
 pub fn written_has_no_hops()
     ensures { (h : HeaderValue) (payload bytes : List ℕ)
         → Spells datagram bytes (datagram_of h payload)
-        → (hops_in bytes ≡ 0) × (body bytes ≡ bytes) }
+        → (spec.hops bytes ≡ 0) × (body bytes ≡ bytes) }
 {}

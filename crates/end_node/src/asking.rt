@@ -4,9 +4,8 @@ ghost use Rattle.std.specs.Prelude.{◌≡◌, ◌↔◌, ◌≤◌, ◌&&◌, �
 ghost use Rattle.std.specs.Prelude.{IfErr, IfOk, IsOkUnless, OnErr, OnOk};
 ghost use Rattle.at_base.specs.declared.error.Field.TheVariants.{Taken};
 ghost use Rattle.aarp.specs.Choosing.{settled};
-ghost use Rattle.end_node.specs.Asking.{asked_by, asking as asks, asking_from, request_bytes};
-ghost use Rattle.end_node.specs.Asking.{way_to_router as to_router};
-ghost use Rattle.end_node.specs.Asking.{zone_asked as asked_zone};
+ghost use Rattle.end_node.specs.Asking as spec;
+ghost use Rattle.end_node.specs.Asking.{asked_by, asking_from, request_bytes};
 ghost use Rattle.nbp.specs.Registered.{IsLeastFree, is_registrable, is_taken, with_name};
 ghost use Rattle.station.specs.Lawful.{IsNext, PutsOut};
 ghost use Rattle.station.specs.Making.{made};
@@ -31,7 +30,7 @@ impl EndNode {
         target_socket: u8,
         source_socket: u8,
     ) -> Result<Way, Error>
-        ensures value { result ≡ asking_from (to_router kind target_socket source_socket)
+        ensures value { result ≡ asking_from (spec.way_to_router kind target_socket source_socket)
             (settled self.now.port) self.now.router }
         ensures inside { IfOk result (λ way. (way.port ≡ 0) × IsNext way.next) }
     {
@@ -57,7 +56,7 @@ impl EndNode {
 
     /// The way of a request for names to the router, or why there is none.
     fn asking(&self) -> Result<Way, Error>
-        ensures value { result ≡ asks self.now }
+        ensures value { result ≡ spec.asking self.now }
         ensures inside { IfOk result (λ way. (way.port ≡ 0) × IsNext way.next) }
     {
         self.way_to_router(types::NBP, sockets::NAMES, REPLIES)
@@ -65,7 +64,7 @@ impl EndNode {
 
     /// The zone that is asked for.
     fn zone_asked(&self, zone: &Text32) -> Text32
-        ensures { result ≡ asked_zone self.now zone.now }
+        ensures { result ≡ spec.zone_asked self.now zone.now }
     {
         if is_any(zone.as_slice()) {
             text_of(&self.zone)
@@ -89,12 +88,12 @@ impl EndNode {
         zone: &Text32,
         outputs: &mut Outputs,
     ) -> Result<(), Error>
-        ensures sent { OnOk result (IfOk (asks self.now) (λ way.
+        ensures sent { OnOk result (IfOk (spec.asking self.now) (λ way.
             PutsOut 1 outputs.old.items outputs.new.items (λ added. added ≡ made way
             (request_bytes id (asked_by way.header.source object.now kind.now
-            (asked_zone self.now zone.now))) ∷ []))) }
-        ensures unsendable { IfErr (asks self.now) (λ e. result ≡ Err e) }
-        ensures refused { IfOk (asks self.now) (λ _. IsOkUnless result Error.Memory) }
+            (spec.zone_asked self.now zone.now))) ∷ []))) }
+        ensures unsendable { IfErr (spec.asking self.now) (λ e. result ≡ Err e) }
+        ensures refused { IfOk (spec.asking self.now) (λ _. IsOkUnless result Error.Memory) }
         ensures outputs_stay { OnErr result (outputs.new.items ≡ outputs.old.items) }
     {
         match self.asking() {

@@ -7,9 +7,11 @@ ghost use Rattle.at_base.specs.declared.error.What.TheVariants.{Transaction as M
 ghost use Rattle.atp.specs.InPlace.{packet_value};
 ghost use Rattle.atp.specs.Outcomes.{left_open, outcome_of};
 ghost use Rattle.atp.specs.Requesting.{IsNextId, begun, known, open_count, sent};
-ghost use Rattle.end_node.specs.Answers.{AsksHearOwn, HearsAny, brought_by as brings};
-ghost use Rattle.end_node.specs.Answers.{peer as peer_of, transaction_in};
-ghost use Rattle.end_node.specs.Asking.{ask_bytes, zone_ask as asked_of, zones_asking as asks};
+ghost use Rattle.end_node.specs.Answers as answers_spec;
+ghost use Rattle.end_node.specs.Answers.{AsksHearOwn, HearsAny};
+ghost use Rattle.end_node.specs.Answers.{transaction_in};
+ghost use Rattle.end_node.specs.Asking as asking_spec;
+ghost use Rattle.end_node.specs.Asking.{ask_bytes};
 ghost use Rattle.station.specs.Lawful.{IsNext, PutsOut};
 ghost use Rattle.station.specs.Making.{made};
 
@@ -27,7 +29,7 @@ const GET_ZONE_LIST: u8 = 8;
 
 /// What the router is asked for the zones from an index on.
 fn zone_ask(alloc: Global, start: u16, router: Addr) -> Ask
-    ensures { result ≡ asked_of start router }
+    ensures { result ≡ asking_spec.zone_ask start router }
 {
     let [high, low] = start.to_be_bytes();
     Ask {
@@ -53,11 +55,11 @@ fn begin(
 ) -> Result<(u16, Bytes), Error>
     ensures id { IfOk result (λ x. IsNextId requester.old.next requester.old.slots x.0) }
     ensures begun { IfOk result (λ x.
-        known x.0 requester.new.slots ≡ Some (sent (begun x.0 (asked_of start router)))) }
+        known x.0 requester.new.slots ≡ Some (sent (begun x.0 (asking_spec.zone_ask start router)))) }
     ensures others { IfOk result (λ x. (other : ℕ) → other ≢ x.0
         → known other requester.new.slots ≡ known other requester.old.slots) }
     ensures next { IfOk result (λ x. requester.new.next ≡ (x.0 + 1) % 65536) }
-    ensures bytes { IfOk result (λ x. x.1 ≡ ask_bytes x.0 (asked_of start router)) }
+    ensures bytes { IfOk result (λ x. x.1 ≡ ask_bytes x.0 (asking_spec.zone_ask start router)) }
     ensures short { IfOk result (λ x. length x.1 ≤ 586) }
     ensures full { (result ≡ Err Error.Full) ↔ (32 ≤ open_count requester.old.slots) }
     ensures refused { IfErr result (λ e. (e ≡ Error.Full) ⊎ (e ≡ Error.Memory)) }
@@ -79,7 +81,7 @@ fn read_packet(payload: &[u8]) -> Option<Packet<'_>>
 
 /// The socket that a datagram comes from.
 fn peer(view: &View<'_>) -> Peer
-    ensures { result ≡ peer_of view.now }
+    ensures { result ≡ answers_spec.peer view.now }
 {
     Peer {
         addr: view.source(),
@@ -89,7 +91,7 @@ fn peer(view: &View<'_>) -> Peer
 
 /// What a datagram of the node's own brings to its transactions.
 fn brought_by<'a>(view: &View<'a>) -> Option<Packet<'a>>
-    ensures { option_map packet_value result ≡ brings view.now }
+    ensures { option_map packet_value result ≡ answers_spec.brought_by view.now }
 {
     if is_to(view, types::ATP, TRANSACTIONS) {
         read_packet(view.payload())
@@ -126,7 +128,7 @@ pub(crate) fn hear_answer(requester: &mut Requester, view: &View<'_>) -> Result<
 impl EndNode {
     /// The way of a request for zones to the router, or why there is none.
     fn asking_zones(&self) -> Result<Way, Error>
-        ensures value { result ≡ asks self.now }
+        ensures value { result ≡ asking_spec.zones_asking self.now }
         ensures inside { IfOk result (λ way. (way.port ≡ 0) × IsNext way.next) }
     {
         self.way_to_router(types::ATP, sockets::ZIP, TRANSACTIONS)
@@ -138,14 +140,14 @@ impl EndNode {
         requires next { IsNext way.now.next }
         ensures id { IfOk result (λ id. IsNextId self.old.asks.next self.old.asks.slots id) }
         ensures begun { IfOk result (λ id. known id self.new.asks.slots
-            ≡ Some (sent (begun id (asked_of start way.now.header.target)))) }
+            ≡ Some (sent (begun id (asking_spec.zone_ask start way.now.header.target)))) }
         ensures others { IfOk result (λ id. (other : ℕ) → other ≢ id
             → known other self.new.asks.slots ≡ known other self.old.asks.slots) }
         ensures next { IfOk result (λ id. self.new.asks.next ≡ (id + 1) % 65536) }
         ensures left { OnOk result (self.new ≡ record self.old { asks = self.new.asks }) }
         ensures sent { IfOk result (λ id. PutsOut 1 outputs.old.items outputs.new.items
             (λ added. added ≡ made way.now
-            (ask_bytes id (asked_of start way.now.header.target)) ∷ [])) }
+            (ask_bytes id (asking_spec.zone_ask start way.now.header.target)) ∷ [])) }
         ensures full { (result ≡ Err Error.Full) ↔ (32 ≤ open_count self.old.asks.slots) }
         ensures refused { IfErr result (λ e. (e ≡ Error.Full) ⊎ (e ≡ Error.Memory)) }
         ensures station_stays { OnErr result (self.new ≡ self.old) }
@@ -172,20 +174,20 @@ impl EndNode {
     /// no router; `Full` where 32 transactions are open; `Memory`. A refusal changes nothing.
     pub fn ask_zone_list(&mut self, start: u16, outputs: &mut Outputs) -> Result<u16, Error>
         ensures id { IfOk result (λ id. IsNextId self.old.asks.next self.old.asks.slots id) }
-        ensures begun { IfOk result (λ id. IfOk (asks self.old) (λ way.
+        ensures begun { IfOk result (λ id. IfOk (asking_spec.zones_asking self.old) (λ way.
             known id self.new.asks.slots
-            ≡ Some (sent (begun id (asked_of start way.header.target))))) }
+            ≡ Some (sent (begun id (asking_spec.zone_ask start way.header.target))))) }
         ensures others { IfOk result (λ id. (other : ℕ) → other ≢ id
             → known other self.new.asks.slots ≡ known other self.old.asks.slots) }
         ensures next { IfOk result (λ id. self.new.asks.next ≡ (id + 1) % 65536) }
         ensures left { OnOk result (self.new ≡ record self.old { asks = self.new.asks }) }
-        ensures sent { IfOk result (λ id. IfOk (asks self.old) (λ way.
+        ensures sent { IfOk result (λ id. IfOk (asking_spec.zones_asking self.old) (λ way.
             PutsOut 1 outputs.old.items outputs.new.items (λ added. added
-            ≡ made way (ask_bytes id (asked_of start way.header.target)) ∷ []))) }
-        ensures unsendable { IfErr (asks self.old) (λ e. result ≡ Err e) }
-        ensures full { IfOk (asks self.old) (λ _.
+            ≡ made way (ask_bytes id (asking_spec.zone_ask start way.header.target)) ∷ []))) }
+        ensures unsendable { IfErr (asking_spec.zones_asking self.old) (λ e. result ≡ Err e) }
+        ensures full { IfOk (asking_spec.zones_asking self.old) (λ _.
             (result ≡ Err Error.Full) ↔ (32 ≤ open_count self.old.asks.slots)) }
-        ensures refused { IfOk (asks self.old) (λ _.
+        ensures refused { IfOk (asking_spec.zones_asking self.old) (λ _.
             IfErr result (λ e. (e ≡ Error.Full) ⊎ (e ≡ Error.Memory))) }
         ensures station_stays { OnErr result (self.new ≡ self.old) }
         ensures outputs_stay { OnErr result (outputs.new.items ≡ outputs.old.items) }

@@ -1,7 +1,8 @@
 //! What a live node changes by itself: the choice of its address, its router and its zone.
 
 ghost use Rattle.std.specs.Prelude.{◌≡◌, Some};
-ghost use Rattle.end_node.specs.Taking.{taken as datagram_taken, taken_datagram};
+ghost use Rattle.end_node.specs.Taking as spec;
+ghost use Rattle.end_node.specs.Taking.{taken_datagram};
 ghost use Rattle.station.specs.Hearing.{hearing};
 
 use crate::node::EndNode;
@@ -41,7 +42,7 @@ impl EndNode {
     ///
     /// Inside AppleTalk, the chapter on DDP.
     pub fn taken<'a>(&self, heard: &Heard<'a>) -> Option<View<'a>>
-        ensures { result ≡ datagram_taken self.now (hearing heard.now) }
+        ensures { result ≡ spec.taken self.now (hearing heard.now) }
     {
         match heard.kind {
             Kind::Ddp => match read_datagram(heard.bytes) {

@@ -4,8 +4,8 @@ ghost use Rattle.std.specs.Prelude.{◌≡◌, ◌≤◌, ◌+◌, [], ◌∷◌
 ghost use Rattle.std.specs.Prelude.{IfOk, IsOkUnless, OnOk};
 ghost use Rattle.at_base.specs.Text.{is_only, same_name};
 ghost use Rattle.nbp.specs.Registered.{answers};
-ghost use Rattle.end_node.specs.Lookups.{answer_header as header_of, is_any as any_zone, is_in as within};
-ghost use Rattle.end_node.specs.Lookups.{looked_up, named_at as tuple_at, names_in, replies};
+ghost use Rattle.end_node.specs.Lookups as spec;
+ghost use Rattle.end_node.specs.Lookups.{looked_up, names_in, replies};
 ghost use Rattle.end_node.specs.Lookups.{reply_of, told};
 ghost use Rattle.station.specs.Made.{AreMade, IsWayIn};
 ghost use Rattle.station.specs.Ways.{replying};
@@ -39,7 +39,7 @@ fn is_star(zone: &[u8]) -> bool
 
 /// Whether the zone stands for that of whoever hears it.
 pub(crate) fn is_any(zone: &[u8]) -> bool
-    ensures { result ≡ any_zone zone.now }
+    ensures { result ≡ spec.is_any zone.now }
 {
     zone.is_empty() || is_star(zone)
 }
@@ -52,7 +52,7 @@ fn same(a: &[u8], b: &[u8]) -> bool
 
 /// Whether a node of this zone is in the zone of a lookup.
 fn is_in(own: &Name, zone: &[u8]) -> bool
-    ensures { result ≡ within own.now zone.now }
+    ensures { result ≡ spec.is_in own.now zone.now }
 {
     is_any(zone) || same(zone, own.as_slice())
 }
@@ -66,7 +66,7 @@ pub(crate) fn text_of(zone: &Name) -> Text32
 
 /// A name's tuple with this address and zone.
 fn named_at(own: Addr, zone: &Name, tuple: &Tuple) -> Tuple
-    ensures { result ≡ tuple_at own zone.now tuple.now }
+    ensures { result ≡ spec.named_at own zone.now tuple.now }
 {
     Tuple {
         at: own,
@@ -77,7 +77,7 @@ fn named_at(own: Addr, zone: &Name, tuple: &Tuple) -> Tuple
 
 /// The header of the replies to a lookup, without a source.
 fn answer_header(summed: bool, tuple: &Tuple) -> Header
-    ensures { result ≡ header_of summed tuple.now }
+    ensures { result ≡ spec.answer_header summed tuple.now }
 {
     Header {
         summed,

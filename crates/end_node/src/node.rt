@@ -1,7 +1,7 @@
 //! End nodes, and what they hold.
 
 ghost use Rattle.std.specs.Prelude.{◌≡◌, [], ℕ, None, IfOk, IsOkUnless, IsTrue};
-ghost use Rattle.aarp.specs.Choosing.{settled as settled_at};
+ghost use Rattle.aarp.specs.Choosing as spec;
 ghost use Rattle.atp.specs.Requesting.{known};
 ghost use Rattle.station.specs.Ports.{is_planned, planned};
 
@@ -97,7 +97,7 @@ impl EndNode {
 
     /// The address of the node, once it is settled. Allocates nothing.
     pub fn own(&self) -> Option<Addr>
-        ensures { result ≡ settled_at self.now.port }
+        ensures { result ≡ spec.settled self.now.port }
     {
         self.port.settled()
     }

@@ -4,13 +4,13 @@ ghost use Rattle.std.specs.Prelude.{◌≡◌, ◌<◌, ◌≤◌, ◌+◌, ◌+
 ghost use Rattle.std.specs.Prelude.{IfOk, IsOkUnless, OnErr, OnOk};
 ghost use Rattle.echo.specs.Echo.{echo_reply};
 ghost use Rattle.end_node.specs.Answers.{AsksHearDatagram, AsksHearOwn, heard_datagram, heard_own};
-ghost use Rattle.end_node.specs.Answers.{is_all as all, is_served as is_for_node};
-ghost use Rattle.end_node.specs.Answers.{is_to as goes_to, keeping, keeping_any, kept};
-ghost use Rattle.end_node.specs.Answers.{received_of, served, takes as is_taken};
-ghost use Rattle.end_node.specs.Ways.{way_back as back};
+ghost use Rattle.end_node.specs.Answers as answers_spec;
+ghost use Rattle.end_node.specs.Answers.{keeping, keeping_any, kept};
+ghost use Rattle.end_node.specs.Answers.{received_of, served};
+ghost use Rattle.end_node.specs.Ways as ways_spec;
 ghost use Rattle.station.specs.Lawful.{AreLawful, PutsOut};
 ghost use Rattle.station.specs.Made.{AreMade};
-ghost use Rattle.station.specs.Ports.{has as has_address};
+ghost use Rattle.station.specs.Ports as ports_spec;
 ghost use Rattle.station.specs.Ways.{replying};
 
 use crate::lists::hear_answer;
@@ -27,14 +27,14 @@ pub(crate) const TRANSACTIONS: u8 = 252;
 
 /// Whether the datagram is of this type and for this socket.
 pub(crate) fn is_to(view: &View<'_>, kind: u8, socket: u8) -> bool
-    ensures { result ≡ goes_to kind socket view.now }
+    ensures { result ≡ answers_spec.is_to kind socket view.now }
 {
     view.kind() == kind && view.target_socket() == socket
 }
 
 /// Whether the datagram is for one of the sockets at which the node itself listens.
 fn is_served(view: &View<'_>) -> bool
-    ensures { result ≡ is_for_node view.now }
+    ensures { result ≡ answers_spec.is_served view.now }
 {
     is_to(view, kind::AEP, socket::ECHO)
         || is_to(view, kind::NBP, socket::NAMES)
@@ -45,7 +45,7 @@ fn is_served(view: &View<'_>) -> bool
 
 /// Whether the port has this address.
 fn has(target: Addr, own: Option<Addr>) -> bool
-    ensures { result ≡ has_address target own }
+    ensures { result ≡ ports_spec.has target own }
 {
     match own {
         Some(own) => target == own,
@@ -108,14 +108,14 @@ fn keep(received: &mut Vec<Datagram>, datagram: Option<Datagram>)
 impl EndNode {
     /// Whether the target is every node of the node's cable.
     fn is_all(&self, target: Addr) -> bool
-        ensures { result ≡ all self.now target }
+        ensures { result ≡ answers_spec.is_all self.now target }
     {
         target.node == EVERY_NODE && (target.net == 0 || self.port.range().holds(target.net))
     }
 
     /// Whether the node takes a datagram as its own.
     pub(crate) fn takes(&self, link: Link, view: &View<'_>) -> bool
-        ensures { result ≡ is_taken self.now link view.now }
+        ensures { result ≡ answers_spec.takes self.now link view.now }
     {
         match link {
             Link::Own => has(view.target(), self.own()),
@@ -127,7 +127,7 @@ impl EndNode {
     /// Echoes.
     fn hear_echo(&self, made: &mut Vec<Output>, view: &View<'_>) -> Result<(), Error>
         ensures put { OnOk result (made.new.items ≡ made.old.items
-            ++ replying (back self.now view.now) (option_to_list (echo_reply view.now))) }
+            ++ replying (ways_spec.way_back self.now view.now) (option_to_list (echo_reply view.now))) }
         ensures few { OnOk result (length made.new.items ≤ length made.old.items + 1) }
         ensures good { OnOk result (AreMade 1 made.old.items → AreMade 1 made.new.items) }
         ensures refused { IsOkUnless result Error.Memory }

@@ -1,8 +1,8 @@
 //! What a node sends of its own.
 
 ghost use Rattle.std.specs.Prelude.{◌≡◌, ◌≤◌, ◌∷◌, [], length, IfErr, IfOk, IfSome, IsOkUnless, OnErr, OnOk};
-ghost use Rattle.end_node.specs.Sending.{is_nobodys as nobodys, next_of as goes_to};
-ghost use Rattle.end_node.specs.Sending.{header_to, sending as sends, way_or_none as way_of};
+ghost use Rattle.end_node.specs.Sending as spec;
+ghost use Rattle.end_node.specs.Sending.{header_to};
 ghost use Rattle.station.specs.Lawful.{IsNext, PutsOut};
 ghost use Rattle.station.specs.Making.{made};
 
@@ -15,7 +15,7 @@ use std::alloc::Global;
 
 /// Whether nobody has the target.
 fn is_nobodys(target: Addr) -> bool
-    ensures { result ≡ nobodys target }
+    ensures { result ≡ spec.is_nobodys target }
 {
     target.net == 0 && target.node != EVERY_NODE
 }
@@ -23,7 +23,7 @@ fn is_nobodys(target: Addr) -> bool
 /// The way of a datagram that goes to the next station from this address.
 fn way_or_none(own: Addr, header: Header, next: Option<Next>) -> Result<Way, Error>
     requires { IfSome next IsNext }
-    ensures value { result ≡ way_of own header next }
+    ensures value { result ≡ spec.way_or_none own header next }
     ensures inside { IfOk result (λ way. (way.port ≡ 0) × IsNext way.next) }
 {
     match next {
@@ -63,7 +63,7 @@ pub(crate) fn put_out(
 impl EndNode {
     /// To whom a datagram of the node's own goes next.
     fn next_of(&self, target: Addr) -> Option<Next>
-        ensures value { result ≡ goes_to self.now target }
+        ensures value { result ≡ spec.next_of self.now target }
         ensures next { IfSome result IsNext }
     {
         if target.net == 0 {
@@ -75,7 +75,7 @@ impl EndNode {
 
     /// The way of a datagram with this header and so many bytes of data, or why it can't be sent.
     fn sending(&self, header: Header, len: usize) -> Result<Way, Error>
-        ensures value { result ≡ sends self.now header len }
+        ensures value { result ≡ spec.sending self.now header len }
         ensures short { IfOk result (λ _. len ≤ 586) }
         ensures inside { IfOk result (λ way. (way.port ≡ 0) × IsNext way.next) }
     {
@@ -93,12 +93,12 @@ impl EndNode {
 
     /// Puts a datagram with this header out.
     fn send_by(&self, header: Header, payload: &[u8], outputs: &mut Outputs) -> Result<(), Error>
-        ensures sent { OnOk result (IfOk (sends self.now header (length payload.now)) (λ way.
+        ensures sent { OnOk result (IfOk (spec.sending self.now header (length payload.now)) (λ way.
             PutsOut 1 outputs.old.items outputs.new.items
             (λ added. added ≡ made way payload.now ∷ []))) }
-        ensures unsendable { IfErr (sends self.now header (length payload.now))
+        ensures unsendable { IfErr (spec.sending self.now header (length payload.now))
             (λ e. result ≡ Err e) }
-        ensures refused { IfOk (sends self.now header (length payload.now))
+        ensures refused { IfOk (spec.sending self.now header (length payload.now))
             (λ _. IsOkUnless result Error.Memory) }
         ensures outputs_stay { OnErr result (outputs.new.items ≡ outputs.old.items) }
     {
@@ -125,13 +125,13 @@ impl EndNode {
         payload: &[u8],
         outputs: &mut Outputs,
     ) -> Result<(), Error>
-        ensures sent { OnOk result (IfOk (sends self.now
+        ensures sent { OnOk result (IfOk (spec.sending self.now
             (header_to target target_socket source_socket kind summed)
             (length payload.now)) (λ way. PutsOut 1 outputs.old.items outputs.new.items
             (λ added. added ≡ made way payload.now ∷ []))) }
-        ensures unsendable { IfErr (sends self.now
+        ensures unsendable { IfErr (spec.sending self.now
             (header_to target target_socket source_socket kind summed) (length payload.now)) (λ e. result ≡ Err e) }
-        ensures refused { IfOk (sends self.now
+        ensures refused { IfOk (spec.sending self.now
             (header_to target target_socket source_socket kind summed) (length payload.now)) (λ _. IsOkUnless result Error.Memory) }
         ensures outputs_stay { OnErr result (outputs.new.items ≡ outputs.old.items) }
     {

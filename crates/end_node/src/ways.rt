@@ -1,8 +1,7 @@
 //! By which way a node's datagrams leave.
 
 ghost use Rattle.std.specs.Prelude.{◌≡◌, IfSome};
-ghost use Rattle.end_node.specs.Ways.{is_near as near, next_to as goes_to, reply_way as way_of_reply};
-ghost use Rattle.end_node.specs.Ways.{to_router as by_router, way_back as back};
+ghost use Rattle.end_node.specs.Ways as spec;
 ghost use Rattle.station.specs.Lawful.{IsNext};
 ghost use Rattle.station.specs.Made.{IsWayIn};
 
@@ -14,7 +13,7 @@ use station::{Next, Way};
 
 /// To the router, if there is one.
 pub(crate) fn to_router(router: Option<Addr>) -> Option<Next>
-    ensures value { result ≡ by_router router }
+    ensures value { result ≡ spec.to_router router }
     ensures next { IfSome result IsNext }
 {
     match router {
@@ -26,14 +25,14 @@ pub(crate) fn to_router(router: Option<Addr>) -> Option<Next>
 impl EndNode {
     /// Whether the target is on the node's cable.
     fn is_near(&self, target: Addr) -> bool
-        ensures { result ≡ near self.now target }
+        ensures { result ≡ spec.is_near self.now target }
     {
         self.port.range().holds(target.net) && target.node != 0
     }
 
     /// To whom a datagram for a target goes next.
     pub(crate) fn next_to(&self, target: Addr) -> Option<Next>
-        ensures value { result ≡ goes_to self.now target }
+        ensures value { result ≡ spec.next_to self.now target }
         ensures next { IfSome result IsNext }
     {
         if self.is_near(target) {
@@ -45,7 +44,7 @@ impl EndNode {
 
     /// The way of a reply with this header.
     pub(crate) fn reply_way(&self, header: Header) -> Option<Way>
-        ensures value { result ≡ way_of_reply self.now header }
+        ensures value { result ≡ spec.reply_way self.now header }
         ensures inside { IsWayIn 1 result }
     {
         if header.target.net == 0 {
@@ -59,7 +58,7 @@ impl EndNode {
 
     /// The way of the reply to a datagram.
     pub(crate) fn way_back(&self, view: &View<'_>) -> Option<Way>
-        ensures value { result ≡ back self.now view.now }
+        ensures value { result ≡ spec.way_back self.now view.now }
         ensures inside { IsWayIn 1 result }
     {
         self.reply_way(reply_header(view, view.source()))

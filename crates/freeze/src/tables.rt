@@ -4,7 +4,8 @@ ghost use Rattle.std.specs.Prelude.{◌≡◌, ◌∷◌, ◌++◌, ◌-◌, ℕ
 ghost use Rattle.std.specs.Prelude.{IfOk, IsOkUnless, IsTrue, OnOk};
 ghost use Rattle.std.specs.List.{AllByRecursion as Each, list_all};
 ghost use Rattle.at_base.specs.Spelling.{IsValue};
-ghost use Rattle.freeze.specs.Frozen.{cables_by as cables_in, frozen_in, frozen_nodes};
+ghost use Rattle.freeze.specs.Frozen as spec;
+ghost use Rattle.freeze.specs.Frozen.{frozen_in, frozen_nodes};
 ghost use Rattle.freeze.specs.Frozen.{frozen_of, frozen_routers};
 ghost use Rattle.freeze.specs.Valid.{AreNodes, AreRouters, HavePorts, is_node_on, is_on};
 ghost use Rattle.internet_file.specs.Sound.{IsSound, is_cable};
@@ -75,7 +76,7 @@ fn put_indexes(indexes: &mut Vec<u8>, ports: &[Port]) -> Result<(), Error>
 /// The indexes, from 0, of the cables of a router's ports.
 fn indexes_of(alloc: Global, router: &Router) -> Result<Vec<u8>, Error>
     requires { IsTrue (is_low_router router.now) }
-    ensures ok { IfOk result (λ indexes. indexes.items ≡ cables_in router.now) }
+    ensures ok { IfOk result (λ indexes. indexes.items ≡ spec.cables_by router.now) }
     ensures refused { IsOkUnless result Error.Memory }
 {
     let mut indexes = Vec::new(alloc);

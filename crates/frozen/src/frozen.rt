@@ -5,18 +5,20 @@ ghost use Rattle.std.specs.Prelude.{nat_lt, not, slice_get, take, true, false};
 ghost use Rattle.std.specs.Prelude.{IfErr, IfOk, IsOkUnless, OnErr, OnOk};
 ghost use Rattle.std.specs.List.{AllByRecursion as Each};
 ghost use Rattle.audit.specs.Rules.{Passes};
-ghost use Rattle.cable_model.specs.Logs.{bytes_at, transcript as said};
-ghost use Rattle.cable_model.specs.Pending.{pending as pending_on};
+ghost use Rattle.cable_model.specs.Logs as logs_spec;
+ghost use Rattle.cable_model.specs.Logs.{bytes_at};
+ghost use Rattle.cable_model.specs.Pending as pending_spec;
 ghost use Rattle.ddp.specs.Bodies.{body};
 ghost use Rattle.ddp.specs.Datagram.{datagram_of};
 ghost use Rattle.frozen.specs.Events.{DrainStops, DrainsTo, Happened, Happens, IsRefused};
 ghost use Rattle.frozen.specs.Events.{IsUnstarted, Sends, SentBy, Stopped, order_refusal, refusal};
-ghost use Rattle.frozen.specs.Orders.{IsFair, ask_data as asked_data, ask_order as asks};
+ghost use Rattle.frozen.specs.Orders as spec;
+ghost use Rattle.frozen.specs.Orders.{IsFair};
 ghost use Rattle.frozen.specs.Orders.{bytes_for};
 ghost use Rattle.frozen.specs.Promises.{AreAllCarried, HasHops, HaveOnlyAsked, IsEachOnce};
 ghost use Rattle.frozen.specs.Promises.{LooksUp, OnlyAsks, is_routers_request};
 ghost use Rattle.frozen.specs.Runs.{IsFrozen, TakenBy, take_refusal};
-ghost use Rattle.legal_runs.specs.Requests.{packet_in as asked_in, request as asked_by};
+ghost use Rattle.legal_runs.specs.Requests as requests_spec;
 ghost use Rattle.legal_runs.specs.Stations.{cable_seats};
 ghost use Rattle.station.specs.Lawful.{IsNext};
 
@@ -129,7 +131,7 @@ impl<T: RouteTable> Frozen<T> {
 
     /// The number of pairs of a frame and a station that are pending. Allocates nothing.
     pub fn pending_count(&self) -> usize
-        ensures { result ≡ length (pending_on self.now.cabling.seats (said self.now.cabling)) }
+        ensures { result ≡ length (pending_spec.pending self.now.cabling.seats (logs_spec.transcript self.now.cabling)) }
     {
         self.cables.pending_count()
     }
@@ -159,8 +161,8 @@ impl<T: RouteTable> Frozen<T> {
         requires short { length payload.now ≤ 586 }
         requires fair { IsFair self.old.internet order.now }
         ensures sent { OnOk result (SentBy self.old order.now payload.now self.new) }
-        ensures request { OnOk result (asked_by (body (bytes_for order.now payload.now))
-            ≡ asked_in (Some (datagram_of order.now.header payload.now))) }
+        ensures request { OnOk result (requests_spec.request (body (bytes_for order.now payload.now))
+            ≡ requests_spec.packet_in (Some (datagram_of order.now.header payload.now))) }
         ensures frozen { IsFrozen self.new }
         ensures asks { HaveOnlyAsked self.old
             → is_routers_request (body (bytes_for order.now payload.now)) ≡ false
@@ -184,14 +186,14 @@ impl<T: RouteTable> Frozen<T> {
 
     /// The node with this address asks a router for names.
     fn ask(&mut self, node: Addr, via: Option<Addr>, id: u8, name: &Tuple) -> Result<(), Error>
-        ensures sent { OnOk result (Sends self.old (asks self.old.internet node via)
-            (asked_data self.old.internet node id name.now) self.new) }
+        ensures sent { OnOk result (Sends self.old (spec.ask_order self.old.internet node via)
+            (spec.ask_data self.old.internet node id name.now) self.new) }
         ensures frozen { IsFrozen self.new }
         ensures asks { HaveOnlyAsked self.old → HaveOnlyAsked self.new }
         ensures ok { OnOk result
-            (order_refusal self.old (asks self.old.internet node via) ≡ None) }
+            (order_refusal self.old (spec.ask_order self.old.internet node via) ≡ None) }
         ensures refused { IfErr result
-            (IsRefused (order_refusal self.old (asks self.old.internet node via))) }
+            (IsRefused (order_refusal self.old (spec.ask_order self.old.internet node via))) }
         ensures kept { OnErr result (self.new ≡ self.old) }
     {
         let order = match ask_order(&self.places, node, via) {

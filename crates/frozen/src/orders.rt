@@ -2,14 +2,10 @@
 
 ghost use Rattle.std.specs.Prelude.{◌≡◌, ◌<◌, ◌≤◌, cond, length, slice_get, Some};
 ghost use Rattle.std.specs.Prelude.{IfOk, IfSome, IsOkUnless};
-ghost use Rattle.at_base.specs.Address.{same_address as same};
+ghost use Rattle.at_base.specs.Address as address_spec;
 ghost use Rattle.at_base.specs.Text.{is_only};
-ghost use Rattle.end_node.specs.Lookups.{is_any as stands_for_own};
-ghost use Rattle.frozen.specs.Orders.{ask_data as asked_data};
-ghost use Rattle.frozen.specs.Orders.{ask_order as asks, asked_at as asks_at, data_at as data_in};
-ghost use Rattle.frozen.specs.Orders.{next_for as goes_to, node_at as node_in};
-ghost use Rattle.frozen.specs.Orders.{own_router as own, router_for as goes_by};
-ghost use Rattle.frozen.specs.Orders.{send_order as sends, sent_at as sends_at};
+ghost use Rattle.end_node.specs.Lookups as lookups_spec;
+ghost use Rattle.frozen.specs.Orders as spec;
 ghost use Rattle.station.specs.Lawful.{IsNext};
 
 use crate::order::Order;
@@ -27,14 +23,14 @@ const REPLIES: u8 = 253;
 
 /// Whether two addresses are the same.
 fn same_address(a: Addr, b: Addr) -> bool
-    ensures { result ≡ same a b }
+    ensures { result ≡ address_spec.same_address a b }
 {
     a.net == b.net && a.node == b.node
 }
 
 /// The index of the node that has the address.
 pub fn node_at(nodes: &[Node], addr: Addr) -> Option<usize>
-    ensures place { result ≡ node_in nodes.now addr }
+    ensures place { result ≡ spec.node_at nodes.now addr }
     ensures inside { IfSome result (λ k. k < length nodes.now) }
 {
     nodes.iter().position(|n| same_address(n.address, addr))
@@ -42,7 +38,7 @@ pub fn node_at(nodes: &[Node], addr: Addr) -> Option<usize>
 
 /// The node's own router, if it has one.
 fn own_router(router: Option<Addr>) -> Result<Addr, Error>
-    ensures { result ≡ own router }
+    ensures { result ≡ spec.own_router router }
 {
     match router {
         Some(addr) => Ok(addr),
@@ -52,7 +48,7 @@ fn own_router(router: Option<Addr>) -> Result<Addr, Error>
 
 /// The router that a node sends through.
 fn router_for(places: &Whereabouts, node: &Node, via: Option<Addr>) -> Result<Addr, Error>
-    ensures { result ≡ goes_by places.now node.now via }
+    ensures { result ≡ spec.router_for places.now node.now via }
 {
     match via {
         None => own_router(node.router),
@@ -73,7 +69,7 @@ fn next_for(
     via: Option<Addr>,
     target: Addr,
 ) -> Result<Next, Error>
-    ensures value { result ≡ goes_to places.now node.now via target }
+    ensures value { result ≡ spec.next_for places.now node.now via target }
     ensures next { IfOk result IsNext }
 {
     if target.net == 0 {
@@ -99,7 +95,7 @@ fn sent_at(
     len: usize,
 ) -> Result<Order, Error>
     requires { k < length places.now.nodes }
-    ensures value { result ≡ sends_at places.now k (slice_get places.now.nodes k) via header len }
+    ensures value { result ≡ spec.sent_at places.now k (slice_get places.now.nodes k) via header len }
     ensures next { IfOk result (λ o. IsNext o.next) }
     ensures short { IfOk result (λ o. len ≤ 586) }
 {
@@ -128,7 +124,7 @@ pub fn send_order(
     header: Header,
     len: usize,
 ) -> Result<Order, Error>
-    ensures value { result ≡ sends places.now node via header len }
+    ensures value { result ≡ spec.send_order places.now node via header len }
     ensures next { IfOk result (λ o. IsNext o.next) }
     ensures short { IfOk result (λ o. len ≤ 586) }
 {
@@ -141,7 +137,7 @@ pub fn send_order(
 /// The order of node `k` to ask a router for names.
 fn asked_at(places: &Whereabouts, k: usize, via: Option<Addr>) -> Result<Order, Error>
     requires { k < length places.now.nodes }
-    ensures value { result ≡ asks_at places.now k (slice_get places.now.nodes k) via }
+    ensures value { result ≡ spec.asked_at places.now k (slice_get places.now.nodes k) via }
     ensures next { IfOk result (λ o. IsNext o.next) }
 {
     let image = places.image();
@@ -166,7 +162,7 @@ fn asked_at(places: &Whereabouts, k: usize, via: Option<Addr>) -> Result<Order, 
 
 /// The order of the node with an address to ask a router for names.
 pub fn ask_order(places: &Whereabouts, node: Addr, via: Option<Addr>) -> Result<Order, Error>
-    ensures value { result ≡ asks places.now node via }
+    ensures value { result ≡ spec.ask_order places.now node via }
     ensures next { IfOk result (λ o. IsNext o.next) }
 {
     match node_at(places.image().nodes(), node) {
@@ -177,7 +173,7 @@ pub fn ask_order(places: &Whereabouts, node: Addr, via: Option<Addr>) -> Result<
 
 /// Whether the zone of a request stands for that of the node that asks.
 fn is_any(zone: &[u8]) -> bool
-    ensures { result ≡ stands_for_own zone.now }
+    ensures { result ≡ lookups_spec.is_any zone.now }
 {
     zone.is_empty() || is_star(zone)
 }
@@ -201,7 +197,7 @@ fn text_of(zone: &Name) -> Text32
 
 /// The zone that a node asks for.
 fn zone_for(own: &Name, zone: &Text32) -> Text32
-    ensures { result ≡ (cond (stands_for_own zone.now) own.now zone.now) }
+    ensures { result ≡ (cond (lookups_spec.is_any zone.now) own.now zone.now) }
 {
     if is_any(zone.as_slice()) {
         text_of(own)
@@ -212,7 +208,7 @@ fn zone_for(own: &Name, zone: &Text32) -> Text32
 
 /// The data of a node's request for names. Error: `Memory`.
 fn data_at(alloc: Global, node: &Node, id: u8, name: &Tuple) -> Result<Bytes, Error>
-    ensures ok { IfOk result (λ bytes. bytes ≡ data_in (Some node.now) id name.now) }
+    ensures ok { IfOk result (λ bytes. bytes ≡ spec.data_at (Some node.now) id name.now) }
     ensures short { IfOk result (λ bytes. length bytes ≤ 586) }
     ensures refused { IsOkUnless result Error.Memory }
 {
@@ -235,7 +231,7 @@ pub fn ask_data(
     id: u8,
     name: &Tuple,
 ) -> Result<Bytes, Error>
-    ensures ok { IfOk result (λ bytes. bytes ≡ asked_data image.now node id name.now) }
+    ensures ok { IfOk result (λ bytes. bytes ≡ spec.ask_data image.now node id name.now) }
     ensures short { IfOk result (λ bytes. length bytes ≤ 586) }
     ensures refused { IsOkUnless result Error.Memory }
 {

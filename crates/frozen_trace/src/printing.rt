@@ -2,11 +2,13 @@
 
 ghost use Rattle.std.specs.Prelude.{◌≡◌, ◌≢◌, ◌≤◌, ◌⊎◌, true, [], ◌∷◌, ◌++◌, drop, length, map, take};
 ghost use Rattle.std.specs.Prelude.{IfErr, OnOk};
-ghost use Rattle.cable_model.specs.Logs.{entry_at, transcript as said};
+ghost use Rattle.cable_model.specs.Logs as logs_spec;
+ghost use Rattle.cable_model.specs.Logs.{entry_at};
 ghost use Rattle.text.specs.Going.{Goes};
 ghost use Rattle.frozen_trace.specs.Traces.{all_printed, cables_of, pending_line};
 ghost use Rattle.frozen_trace.specs.Traces.{refused_line};
-ghost use Rattle.trace_lines.specs.Lines.{IsNamed, cable_of, line as line_of, lines as lines_of};
+ghost use Rattle.trace_lines.specs.Lines as lines_spec;
+ghost use Rattle.trace_lines.specs.Lines.{IsNamed, cable_of};
 
 use text::Output;
 use at_base::Error;
@@ -42,7 +44,7 @@ fn print_entry<T: RouteTable, W: Write>(
     output: &mut Output<W>,
 ) -> Result<(), Error>
     ensures gone { OnOk result (Goes (W.contents output.old.writer) output.old.text.items
-        (line_of lines.old.internet lines.old.cables (entry_at run.now.cabling.kept entry.now) ++ 10 ∷ [])
+        (lines_spec.line lines.old.internet lines.old.cables (entry_at run.now.cabling.kept entry.now) ++ 10 ∷ [])
         (W.contents output.new.writer) output.new.text.items) }
     ensures further { OnOk result (lines.new ≡ record {
       internet = lines.old.internet;
@@ -65,7 +67,7 @@ fn print_entries<T: RouteTable, W: Write>(
     output: &mut Output<W>,
 ) -> Result<(), Error>
     ensures gone { OnOk result (Goes (W.contents output.old.writer) output.old.text.items
-        (lines_of lines.old.internet lines.old.cables
+        (lines_spec.lines lines.old.internet lines.old.cables
         (map (entry_at run.now.cabling.kept) entries.now))
         (W.contents output.new.writer) output.new.text.items) }
     ensures further { OnOk result (lines.new ≡ record {
@@ -93,10 +95,10 @@ pub fn print_from<T: RouteTable, W: Write>(
     requires inside { from ≤ length run.now.cabling.lines }
     requires known { lines.old ≡ record {
       internet = run.now.internet;
-      cables = cables_of (take from (said run.now.cabling));
+      cables = cables_of (take from (logs_spec.transcript run.now.cabling));
     } }
     ensures gone { OnOk result (Goes (W.contents output.old.writer) output.old.text.items
-        (lines_of lines.old.internet lines.old.cables (drop from (said run.now.cabling)))
+        (lines_spec.lines lines.old.internet lines.old.cables (drop from (logs_spec.transcript run.now.cabling)))
         (W.contents output.new.writer) output.new.text.items) }
     ensures known { OnOk result (lines.new ≡ all_printed run.now) }
     ensures refused { IfErr result (λ e.

@@ -2,12 +2,12 @@
 
 ghost use Rattle.std.specs.Prelude.{◌≡◌, ◌+◌, ◌≤◌, is_some, length, map, position};
 ghost use Rattle.std.specs.Prelude.{IfOk, IsOkUnless};
-ghost use Rattle.at_base.specs.Address.{same_address as same};
+ghost use Rattle.at_base.specs.Address as address_spec;
 ghost use Rattle.at_base.specs.Range.{is_between};
 ghost use Rattle.audit.specs.Routing.{owner};
 ghost use Rattle.table_image.specs.Seats.{node_seats, port_seat, router_seats, seat_at, seats};
-ghost use Rattle.image_stations.specs.Finding.{is_named as is_named_in, spot_in};
-ghost use Rattle.image_stations.specs.Finding.{station_at as station_in};
+ghost use Rattle.image_stations.specs.Finding as spec;
+ghost use Rattle.image_stations.specs.Finding.{spot_in};
 ghost use Rattle.image_stations.specs.Holders.{found_at};
 
 use crate::homes::Homes;
@@ -30,14 +30,14 @@ pub struct Spot {
 
 /// Whether two addresses are the same.
 fn same_address(a: Addr, b: Addr) -> bool
-    ensures { result ≡ same a b }
+    ensures { result ≡ address_spec.same_address a b }
 {
     a.net == b.net && a.node == b.node
 }
 
 /// Whether no cable is named, or this one.
 fn is_named(named: Option<u8>, cable: u8) -> bool
-    ensures { result ≡ is_named_in named cable }
+    ensures { result ≡ spec.is_named named cable }
 {
     match named {
         None => true,
@@ -171,7 +171,7 @@ impl Whereabouts {
 
     /// The first station that has the address. Allocates nothing.
     pub fn station(&self, addr: Addr) -> Option<u16>
-        ensures { result ≡ station_in self.now addr }
+        ensures { result ≡ spec.station_at self.now addr }
     {
         spot_of(self.image(), None, addr).map(|spot| spot.station)
     }

@@ -7,7 +7,7 @@ ghost use Rattle.at_base.specs.Text.{same_bytes};
 ghost use Rattle.text.specs.Words.{given};
 ghost use Rattle.internet_file.specs.Actions.{action_of, doing, looking_up, sending};
 ghost use Rattle.internet_file.specs.Entries.{at};
-ghost use Rattle.internet_file.specs.Values.{hex as hex_of};
+ghost use Rattle.internet_file.specs.Values as spec;
 
 use crate::bytes::hex;
 use crate::entries::Reader;
@@ -60,7 +60,7 @@ pub struct Action {
 
 /// The bytes at the key. Error: `Memory`.
 fn hex_at(alloc: Global, table: &Table, key: &str) -> Result<Option<Bytes>, Error>
-    ensures read { IfOk result (λ x. x ≡ at key.now hex_of (table_view table.now)) }
+    ensures read { IfOk result (λ x. x ≡ at key.now spec.hex (table_view table.now)) }
     ensures refused { IsOkUnless result Error.Memory }
 {
     match get(table, key) {
@@ -71,7 +71,7 @@ fn hex_at(alloc: Global, table: &Table, key: &str) -> Result<Option<Bytes>, Erro
 
 /// The datagram that an entry stands for, with these bytes.
 fn send_of(table: &Table, hex: Bytes) -> Option<Do>
-    requires { at (codes "hex") hex_of (table_view table.now) ≡ Some hex }
+    requires { at (codes "hex") spec.hex (table_view table.now) ≡ Some hex }
     ensures { result ≡ sending (table_view table.now) }
 {
     Some(Do::Send {

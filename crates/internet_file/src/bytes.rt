@@ -2,9 +2,10 @@
 
 ghost use Rattle.std.specs.Prelude.{◌≡◌, ◌<◌, ◌∷◌, ◌+◌, Some, None, length};
 ghost use Rattle.std.specs.Prelude.{IfOk, IfSome, IfNone, IsOkUnless};
-ghost use Rattle.text.specs.Words.{given, pairs as pairs_of};
+ghost use Rattle.text.specs.Words as words_spec;
+ghost use Rattle.text.specs.Words.{given};
 ghost use Rattle.toml.specs.View.{view};
-ghost use Rattle.internet_file.specs.Values.{hardware as hardware_of, hex as hex_of};
+ghost use Rattle.internet_file.specs.Values as spec;
 
 use at_base::{Bytes, Error, Hw};
 use text::hex::{nibble, pairs};
@@ -15,8 +16,8 @@ use toml::Value;
 fn first_pair(digits: &[u8]) -> Option<(u8, &[u8])>
     requires { 0 < length digits.now }
     ensures some { IfSome result (λ x.
-        pairs_of digits.now ≡ given (pairs_of x.1.now) (λ more. Some (x.0 ∷ more))) }
-    ensures none { IfNone result (pairs_of digits.now ≡ None) }
+        words_spec.pairs digits.now ≡ given (words_spec.pairs x.1.now) (λ more. Some (x.0 ∷ more))) }
+    ensures none { IfNone result (words_spec.pairs digits.now ≡ None) }
     ensures shorter { IfSome result (λ x. length digits.now ≡ length x.1.now + 2) }
 {
     match digits {
@@ -31,7 +32,7 @@ fn first_pair(digits: &[u8]) -> Option<(u8, &[u8])>
 /// The six bytes of twelve hexadecimal digits.
 fn six_bytes(digits: &[u8]) -> Option<[u8; 6]>
     requires { length digits.now ≡ 12 }
-    ensures { result ≡ pairs_of digits.now }
+    ensures { result ≡ words_spec.pairs digits.now }
 {
     let (a, rest) = first_pair(digits)?;
     let (b, rest) = first_pair(rest)?;
@@ -47,7 +48,7 @@ fn six_bytes(digits: &[u8]) -> Option<[u8; 6]>
 
 /// A hardware address: twelve hexadecimal digits.
 pub(crate) fn hardware(value: &Value) -> Option<Hw>
-    ensures { result ≡ hardware_of (view value.now) }
+    ensures { result ≡ spec.hardware (view value.now) }
 {
     let digits = value.as_str()?.as_bytes();
     if digits.len() != 12 {
@@ -58,7 +59,7 @@ pub(crate) fn hardware(value: &Value) -> Option<Hw>
 
 /// An even number of hexadecimal digits. Error: `Memory`.
 pub(crate) fn hex(alloc: Global, value: &Value) -> Result<Option<Bytes>, Error>
-    ensures read { IfOk result (λ x. x ≡ hex_of (view value.now)) }
+    ensures read { IfOk result (λ x. x ≡ spec.hex (view value.now)) }
     ensures refused { IsOkUnless result Error.Memory }
 {
     match value.as_str() {

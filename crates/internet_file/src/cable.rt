@@ -2,9 +2,10 @@
 
 ghost use Rattle.std.specs.Prelude.{◌≡◌, IfOk, IsOkUnless};
 ghost use Rattle.toml.specs.View.{table_view};
-ghost use Rattle.internet_file.specs.Cables.{cable_of, zones as zones_of};
+ghost use Rattle.internet_file.specs.Cables as cables_spec;
+ghost use Rattle.internet_file.specs.Cables.{cable_of};
 ghost use Rattle.internet_file.specs.Entries.{at};
-ghost use Rattle.internet_file.specs.Values.{zone as zone_of};
+ghost use Rattle.internet_file.specs.Values as values_spec;
 
 use crate::entries::{Reader, all};
 use crate::fields::range_at;
@@ -31,7 +32,7 @@ struct Zones;
 impl Reader for Zones {
     type Entry = Name;
 
-    ghost meaning = { λ _ d. zone_of d };
+    ghost meaning = { λ _ d. values_spec.zone d };
 
     fn read_one(&self, _alloc: Global, value: &Value) -> Result<Option<Name>, Error> {
         Ok(zone(value))
@@ -40,7 +41,7 @@ impl Reader for Zones {
 
 /// The 1 to 64 names of zones at the key. Error: `Memory`.
 fn zones_at(alloc: Global, table: &Table, key: &str) -> Result<Option<Listed<Name>>, Error>
-    ensures read { IfOk result (λ x. x ≡ at key.now zones_of (table_view table.now)) }
+    ensures read { IfOk result (λ x. x ≡ at key.now cables_spec.zones (table_view table.now)) }
     ensures refused { IsOkUnless result Error.Memory }
 {
     let Some(value) = get(table, key) else {

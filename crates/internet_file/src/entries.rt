@@ -4,8 +4,7 @@ ghost use Rattle.std.specs.Prelude.{◌≡◌, ◌<◌, ◌⊎◌, map, take, Ok
 ghost use Rattle.std.specs.Prelude.{Option};
 ghost use Rattle.toml.specs.Data.{Data};
 ghost use Rattle.toml.specs.View.{view};
-ghost use Rattle.internet_file.specs.Entries.{all as all_of, each as each_of};
-ghost use Rattle.internet_file.specs.Entries.{part as part_of, part_up_to as part_up_to_of};
+ghost use Rattle.internet_file.specs.Entries as spec;
 
 use crate::listed::Listed;
 use at_base::{Error, Part};
@@ -32,7 +31,7 @@ fn each<R: Reader>(
     reader: &R,
     values: &[Value],
 ) -> Result<Result<Listed<R::Entry>, usize>, Error>
-    ensures read { IfOk result (λ x. x ≡ each_of (R.meaning reader.now) (map view values.now)) }
+    ensures read { IfOk result (λ x. x ≡ spec.each (R.meaning reader.now) (map view values.now)) }
     ensures refused { IsOkUnless result Error.Memory }
 {
     let mut entries = Vec::with_capacity(alloc, values.len())?;
@@ -51,7 +50,7 @@ pub(crate) fn all<R: Reader>(
     reader: &R,
     values: &[Value],
 ) -> Result<Option<Listed<R::Entry>>, Error>
-    ensures read { IfOk result (λ x. x ≡ all_of (R.meaning reader.now) (map view values.now)) }
+    ensures read { IfOk result (λ x. x ≡ spec.all (R.meaning reader.now) (map view values.now)) }
     ensures refused { IsOkUnless result Error.Memory }
 {
     match each(alloc, reader, values)? {
@@ -69,9 +68,9 @@ pub(crate) fn part<R: Reader>(
     values: &[Value],
 ) -> Result<Listed<R::Entry>, Error>
     ensures read { IfOk result (λ xs.
-        part_of name (R.meaning reader.now) (map view values.now) ≡ Ok xs) }
+        spec.part name (R.meaning reader.now) (map view values.now) ≡ Ok xs) }
     ensures refused { IfErr result (λ e.
-        (part_of name (R.meaning reader.now) (map view values.now) ≡ Err e)
+        (spec.part name (R.meaning reader.now) (map view values.now) ≡ Err e)
         ⊎ (e ≡ Error.Memory)) }
 {
     match each(alloc, reader, values)? {
@@ -109,9 +108,9 @@ pub(crate) fn part_up_to<R: Reader>(
 ) -> Result<Listed<R::Entry>, Error>
     requires { limit < 4294967295 }
     ensures read { IfOk result (λ xs.
-        part_up_to_of limit name (R.meaning reader.now) (map view values.now) ≡ Ok xs) }
+        spec.part_up_to limit name (R.meaning reader.now) (map view values.now) ≡ Ok xs) }
     ensures refused { IfErr result (λ e.
-        (part_up_to_of limit name (R.meaning reader.now) (map view values.now) ≡ Err e)
+        (spec.part_up_to limit name (R.meaning reader.now) (map view values.now) ≡ Err e)
         ⊎ (e ≡ Error.Memory)) }
 {
     let entries = match part(alloc, name, reader, up_to(limit, values)) {

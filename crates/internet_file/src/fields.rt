@@ -3,9 +3,7 @@
 ghost use Rattle.std.specs.Prelude.{◌≡◌, ◌≤◌, IfSome, length};
 ghost use Rattle.toml.specs.View.{table_view};
 ghost use Rattle.internet_file.specs.Entries.{at};
-ghost use Rattle.internet_file.specs.Values.{any_address as any_address_of, number as number_of};
-ghost use Rattle.internet_file.specs.Values.{hardware as hardware_of, one_of as one_of_these};
-ghost use Rattle.internet_file.specs.Values.{range as range_of, short as short_of, zone as zone_of};
+ghost use Rattle.internet_file.specs.Values as spec;
 
 use crate::bytes::hardware;
 use crate::key::get;
@@ -15,7 +13,7 @@ use toml::Table;
 
 /// The number at the key, if it is an integer from a low one to a high one.
 pub(crate) fn number_at(table: &Table, key: &str, low: u32, high: u32) -> Option<u32>
-    ensures value { result ≡ at key.now (number_of low high) (table_view table.now) }
+    ensures value { result ≡ at key.now (spec.number low high) (table_view table.now) }
     ensures low { IfSome result (λ n. low ≤ n) }
     ensures high { IfSome result (λ n. n ≤ high) }
 {
@@ -24,14 +22,14 @@ pub(crate) fn number_at(table: &Table, key: &str, low: u32, high: u32) -> Option
 
 /// The byte at the key.
 pub(crate) fn byte_at(table: &Table, key: &str) -> Option<u8>
-    ensures { result ≡ at key.now (number_of 0 255) (table_view table.now) }
+    ensures { result ≡ at key.now (spec.number 0 255) (table_view table.now) }
 {
     Some(number_at(table, key, 0, 255)? as u8)
 }
 
 /// The number at the key of one of the entries, counted from 1.
 pub(crate) fn one_at<T>(table: &Table, key: &str, entries: &[T]) -> Option<u16>
-    ensures value { result ≡ at key.now (one_of_these entries.now) (table_view table.now) }
+    ensures value { result ≡ at key.now (spec.one_of entries.now) (table_view table.now) }
     ensures low { IfSome result (λ k. 1 ≤ k) }
     ensures high { IfSome result (λ k. k ≤ length entries.now) }
 {
@@ -40,35 +38,35 @@ pub(crate) fn one_at<T>(table: &Table, key: &str, entries: &[T]) -> Option<u16>
 
 /// The text at the key, of at least so many bytes and at most 32.
 pub(crate) fn short_at(table: &Table, key: &str, low: usize) -> Option<Text32>
-    ensures { result ≡ at key.now (short_of low) (table_view table.now) }
+    ensures { result ≡ at key.now (spec.short low) (table_view table.now) }
 {
     short(low, get(table, key)?)
 }
 
 /// The name of a zone at the key.
 pub(crate) fn zone_at(table: &Table, key: &str) -> Option<Name>
-    ensures { result ≡ at key.now zone_of (table_view table.now) }
+    ensures { result ≡ at key.now spec.zone (table_view table.now) }
 {
     zone(get(table, key)?)
 }
 
 /// The address at the key.
 pub(crate) fn address_at(table: &Table, key: &str) -> Option<Addr>
-    ensures { result ≡ at key.now any_address_of (table_view table.now) }
+    ensures { result ≡ at key.now spec.any_address (table_view table.now) }
 {
     any_address(get(table, key)?)
 }
 
 /// The hardware address at the key.
 pub(crate) fn hardware_at(table: &Table, key: &str) -> Option<Hw>
-    ensures { result ≡ at key.now hardware_of (table_view table.now) }
+    ensures { result ≡ at key.now spec.hardware (table_view table.now) }
 {
     hardware(get(table, key)?)
 }
 
 /// The range of networks at the key.
 pub(crate) fn range_at(table: &Table, key: &str) -> Option<Range>
-    ensures { result ≡ at key.now range_of (table_view table.now) }
+    ensures { result ≡ at key.now spec.range (table_view table.now) }
 {
     range(get(table, key)?)
 }

@@ -5,8 +5,7 @@ ghost use Rattle.std.specs.BTreeMap.{keys as btree_keys};
 ghost use Rattle.std.specs.List.{list_all, list_any};
 ghost use Rattle.toml.specs.Data.{get_member};
 ghost use Rattle.toml.specs.View.{table_view, view};
-ghost use Rattle.internet_file.specs.Entries.{entry as entry_of, has_only as only};
-ghost use Rattle.internet_file.specs.Entries.{list_at as list_of};
+ghost use Rattle.internet_file.specs.Entries as spec;
 
 use crate::value::list;
 use toml::{Table, Value};
@@ -44,7 +43,7 @@ fn are_among(named: &[&str], table: &Table) -> bool
 
 /// Whether the table has no keys but these.
 pub(crate) fn has_only(named: &[&str], table: &Table) -> bool
-    ensures { result ≡ only (map (λ k. k.now) named.now) (table_view table.now) }
+    ensures { result ≡ spec.has_only (map (λ k. k.now) named.now) (table_view table.now) }
 {
     are_among(named, table)
 }
@@ -52,8 +51,8 @@ pub(crate) fn has_only(named: &[&str], table: &Table) -> bool
 /// The value as a table that has no keys but these.
 pub(crate) fn entry<'a>(named: &[&str], value: &'a Value) -> Option<&'a Table>
     ensures some { IfSome result (λ t.
-        entry_of (map (λ k. k.now) named.now) (view value.now) ≡ Some (table_view t.now)) }
-    ensures none { IfNone result (entry_of (map (λ k. k.now) named.now) (view value.now) ≡ None) }
+        spec.entry (map (λ k. k.now) named.now) (view value.now) ≡ Some (table_view t.now)) }
+    ensures none { IfNone result (spec.entry (map (λ k. k.now) named.now) (view value.now) ≡ None) }
 {
     let table = value.as_table()?;
     if has_only(named, table) {
@@ -66,8 +65,8 @@ pub(crate) fn entry<'a>(named: &[&str], value: &'a Value) -> Option<&'a Table>
 /// The values of the list at a key that may be absent.
 pub(crate) fn list_at<'a>(table: &'a Table, key: &str) -> Option<&'a [Value]>
     ensures some { IfSome result (λ vs.
-        list_of key.now (table_view table.now) ≡ Some (map view vs.now)) }
-    ensures none { IfNone result (list_of key.now (table_view table.now) ≡ None) }
+        spec.list_at key.now (table_view table.now) ≡ Some (map view vs.now)) }
+    ensures none { IfNone result (spec.list_at key.now (table_view table.now) ≡ None) }
 {
     match get(table, key) {
         Some(value) => list(value),

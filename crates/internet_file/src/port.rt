@@ -3,7 +3,8 @@
 ghost use Rattle.std.specs.Prelude.{◌≡◌, ◌≤◌, IfOk, IsOkUnless};
 ghost use Rattle.toml.specs.View.{table_view};
 ghost use Rattle.internet_file.specs.Entries.{at};
-ghost use Rattle.internet_file.specs.Stations.{port_in, port_of, tries as tries_of};
+ghost use Rattle.internet_file.specs.Stations as spec;
+ghost use Rattle.internet_file.specs.Stations.{port_in, port_of};
 ghost use Rattle.internet_file.specs.Values.{try_of};
 
 use crate::cable::Cable;
@@ -53,7 +54,7 @@ fn tries_at(
 ) -> Result<Option<Listed<Addr>>, Error>
     requires { 1 ≤ cable }
     ensures read { IfOk result (λ x.
-        x ≡ at key.now (tries_of cables.now cable) (table_view table.now)) }
+        x ≡ at key.now (spec.tries cables.now cable) (table_view table.now)) }
     ensures refused { IsOkUnless result Error.Memory }
 {
     let Some(value) = get(table, key) else {

@@ -4,8 +4,8 @@ ghost use Rattle.std.specs.Prelude.{◌≡◌, not, option_copied, IfOk, IsOkUnl
 ghost use Rattle.std.specs.List.{list_all};
 ghost use Rattle.toml.specs.View.{table_view};
 ghost use Rattle.internet_file.specs.Entries.{at};
-ghost use Rattle.internet_file.specs.Stations.{are_apart as apart, cable_at as cable_of};
-ghost use Rattle.internet_file.specs.Stations.{meet as meet_on, ports as ports_of, router_of};
+ghost use Rattle.internet_file.specs.Stations as spec;
+ghost use Rattle.internet_file.specs.Stations.{router_of};
 
 use crate::cable::Cable;
 use crate::entries::{Reader, all};
@@ -26,14 +26,14 @@ pub struct Router {
 
 /// The cable with this number, from 1.
 fn cable_at(cables: &[Cable], number: u16) -> Option<&Cable>
-    ensures { option_copied result ≡ cable_of cables.now number }
+    ensures { option_copied result ≡ spec.cable_at cables.now number }
 {
     cables.get((number as usize).saturating_sub(1))
 }
 
 /// Whether the cables of the two ports have a network in common.
 fn meet(cables: &[Cable], port: &Port, other: &Port) -> bool
-    ensures { result ≡ meet_on cables.now port.now other.now }
+    ensures { result ≡ spec.meet cables.now port.now other.now }
 {
     match (cable_at(cables, port.cable), cable_at(cables, other.cable)) {
         (Some(a), Some(b)) => a.range.overlaps(&b.range),
@@ -43,14 +43,14 @@ fn meet(cables: &[Cable], port: &Port, other: &Port) -> bool
 
 /// Whether the port is on a cable that has no network in common with those of the others.
 fn is_apart(cables: &[Cable], port: &Port, others: &[Port]) -> bool
-    ensures { result ≡ list_all (λ q. not (meet_on cables.now port.now q)) others.now }
+    ensures { result ≡ list_all (λ q. not (spec.meet cables.now port.now q)) others.now }
 {
     others.iter().all(|other| !meet(cables, port, other))
 }
 
 /// Whether no two of the ports are on cables that have a network in common.
 fn are_apart(cables: &[Cable], ports: &[Port]) -> bool
-    ensures { result ≡ apart cables.now ports.now }
+    ensures { result ≡ spec.are_apart cables.now ports.now }
 {
     match ports {
         [] => true,
@@ -65,7 +65,7 @@ fn ports_at(
     key: &str,
     cables: &[Cable],
 ) -> Result<Option<Listed<Port>>, Error>
-    ensures read { IfOk result (λ x. x ≡ at key.now (ports_of cables.now) (table_view table.now)) }
+    ensures read { IfOk result (λ x. x ≡ at key.now (spec.ports cables.now) (table_view table.now)) }
     ensures refused { IsOkUnless result Error.Memory }
 {
     let Some(value) = get(table, key) else {

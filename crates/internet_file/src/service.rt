@@ -2,7 +2,7 @@
 
 ghost use Rattle.std.specs.Prelude.{◌≡◌, ◌≤◌, IfSome};
 ghost use Rattle.toml.specs.View.{view};
-ghost use Rattle.internet_file.specs.Stations.{service_of as said};
+ghost use Rattle.internet_file.specs.Stations as spec;
 
 use crate::fields::{number_at, short_at};
 use crate::key::entry;
@@ -19,7 +19,7 @@ pub(crate) struct Service {
 
 /// The service that an entry of a node's names stands for.
 pub(crate) fn service_of(value: &Value) -> Option<Service>
-    ensures value { result ≡ said (view value.now) }
+    ensures value { result ≡ spec.service_of (view value.now) }
     ensures low { IfSome result (λ s. 1 ≤ s.socket) }
     ensures high { IfSome result (λ s. s.socket ≤ 254) }
 {

@@ -3,8 +3,8 @@
 ghost use Rattle.std.specs.Prelude.{◌≡◌, map, Ok, Err};
 ghost use Rattle.toml.specs.View.{table_view, view};
 ghost use Rattle.at_base.specs.declared.error.Part.TheVariants.{Top};
-ghost use Rattle.internet_file.specs.Files.{entries_at as entries_of, is_listed as listed};
-ghost use Rattle.internet_file.specs.Files.{is_top as top, ticks_of};
+ghost use Rattle.internet_file.specs.Files as spec;
+ghost use Rattle.internet_file.specs.Files.{ticks_of};
 
 use crate::fields::number_at;
 use crate::key::{has_only, list_at};
@@ -13,14 +13,14 @@ use toml::{Table, Value};
 
 /// Whether there is a list at the key, or nothing.
 fn is_listed(table: &Table, key: &str) -> bool
-    ensures { result ≡ listed key.now (table_view table.now) }
+    ensures { result ≡ spec.is_listed key.now (table_view table.now) }
 {
     list_at(table, key).is_some()
 }
 
 /// Whether the top has no keys but those of a file, and lists where it has tables.
 fn is_top(table: &Table) -> bool
-    ensures { result ≡ top (table_view table.now) }
+    ensures { result ≡ spec.is_top (table_view table.now) }
 {
     has_only(
         &["ticks", "cable", "router", "node", "lose", "action"],
@@ -47,7 +47,7 @@ pub(crate) fn ticks(table: &Table) -> Result<u32, Error>
 
 /// The entries at a key of the top.
 pub(crate) fn entries_at<'a>(table: &'a Table, key: &str) -> &'a [Value]
-    ensures { map view result.now ≡ entries_of key.now (table_view table.now) }
+    ensures { map view result.now ≡ spec.entries_at key.now (table_view table.now) }
 {
     match list_at(table, key) {
         Some(values) => values,

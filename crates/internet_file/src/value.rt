@@ -2,11 +2,7 @@
 
 ghost use Rattle.std.specs.Prelude.{◌≡◌, ◌≤◌, map, length, Some, None, IfSome, IfNone};
 ghost use Rattle.toml.specs.View.{view};
-ghost use Rattle.internet_file.specs.Values.{any_address as any_address_of, list as list_of};
-ghost use Rattle.internet_file.specs.Values.{list_within as list_within_of, number as number_of};
-ghost use Rattle.internet_file.specs.Values.{one_of as one_of_these, range as range_of};
-ghost use Rattle.internet_file.specs.Values.{short as short_of, try_of as try_address_of};
-ghost use Rattle.internet_file.specs.Values.{zone as zone_of};
+ghost use Rattle.internet_file.specs.Values as spec;
 
 use at_base::{Addr, Name, Range, Text32};
 use text::address;
@@ -14,7 +10,7 @@ use toml::Value;
 
 /// The number that the value is, if it is an integer from a low one to a high one.
 pub(crate) fn number(low: u32, high: u32, value: &Value) -> Option<u32>
-    ensures value { result ≡ number_of low high (view value.now) }
+    ensures value { result ≡ spec.number low high (view value.now) }
     ensures low { IfSome result (λ n. low ≤ n) }
     ensures high { IfSome result (λ n. n ≤ high) }
 {
@@ -28,7 +24,7 @@ pub(crate) fn number(low: u32, high: u32, value: &Value) -> Option<u32>
 
 /// The number of one of the entries, counted from 1; there are at most 200.
 pub(crate) fn one_of<T>(entries: &[T], value: &Value) -> Option<u16>
-    ensures value { result ≡ one_of_these entries.now (view value.now) }
+    ensures value { result ≡ spec.one_of entries.now (view value.now) }
     ensures low { IfSome result (λ k. 1 ≤ k) }
     ensures high { IfSome result (λ k. k ≤ length entries.now) }
 {
@@ -42,7 +38,7 @@ pub(crate) fn one_of<T>(entries: &[T], value: &Value) -> Option<u16>
 
 /// A text of at least so many bytes and at most 32.
 pub(crate) fn short(low: usize, value: &Value) -> Option<Text32>
-    ensures { result ≡ short_of low (view value.now) }
+    ensures { result ≡ spec.short low (view value.now) }
 {
     let bytes = value.as_str()?.as_bytes();
     if bytes.len() < low {
@@ -53,21 +49,21 @@ pub(crate) fn short(low: usize, value: &Value) -> Option<Text32>
 
 /// The name of a zone.
 pub(crate) fn zone(value: &Value) -> Option<Name>
-    ensures { result ≡ zone_of (view value.now) }
+    ensures { result ≡ spec.zone (view value.now) }
 {
     Name::new(value.as_str()?.as_bytes()).ok()
 }
 
 /// An address of any network and node, as `10.7`.
 pub(crate) fn any_address(value: &Value) -> Option<Addr>
-    ensures { result ≡ any_address_of (view value.now) }
+    ensures { result ≡ spec.any_address (view value.now) }
 {
     address(value.as_str()?.as_bytes())
 }
 
 /// An address that a station may try on a cable with this range: a node 1 to 253 of its networks.
 pub(crate) fn try_address(range: &Range, value: &Value) -> Option<Addr>
-    ensures { result ≡ try_address_of range.now (view value.now) }
+    ensures { result ≡ spec.try_of range.now (view value.now) }
 {
     let address = any_address(value)?;
     if range.holds(address.net) && 1 <= address.node && address.node <= 253 {
@@ -79,8 +75,8 @@ pub(crate) fn try_address(range: &Range, value: &Value) -> Option<Addr>
 
 /// The values of a list.
 pub(crate) fn list(value: &Value) -> Option<&[Value]>
-    ensures some { IfSome result (λ vs. list_of (view value.now) ≡ Some (map view vs.now)) }
-    ensures none { IfNone result (list_of (view value.now) ≡ None) }
+    ensures some { IfSome result (λ vs. spec.list (view value.now) ≡ Some (map view vs.now)) }
+    ensures none { IfNone result (spec.list (view value.now) ≡ None) }
 {
     match value.as_array() {
         Some(values) => Some(values.as_slice()),
@@ -91,8 +87,8 @@ pub(crate) fn list(value: &Value) -> Option<&[Value]>
 /// The values of a list that has from so many to so many of them.
 pub(crate) fn list_within(low: usize, high: usize, value: &Value) -> Option<&[Value]>
     ensures some { IfSome result (λ vs.
-        list_within_of low high (view value.now) ≡ Some (map view vs.now)) }
-    ensures none { IfNone result (list_within_of low high (view value.now) ≡ None) }
+        spec.list_within low high (view value.now) ≡ Some (map view vs.now)) }
+    ensures none { IfNone result (spec.list_within low high (view value.now) ≡ None) }
 {
     let values = list(value)?;
     if low <= values.len() && values.len() <= high {
@@ -104,7 +100,7 @@ pub(crate) fn list_within(low: usize, high: usize, value: &Value) -> Option<&[Va
 
 /// A range of networks, given by its first and its last one.
 pub(crate) fn range(value: &Value) -> Option<Range>
-    ensures { result ≡ range_of (view value.now) }
+    ensures { result ≡ spec.range (view value.now) }
 {
     match list(value)? {
         [first, last] => {

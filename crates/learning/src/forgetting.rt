@@ -1,7 +1,8 @@
 //! What a router forgets when a period passes.
 
 ghost use Rattle.std.specs.Prelude.{◌≡◌, if◌then◌else◌};
-ghost use Rattle.rtmp.specs.Routes.{aged, is_over as over};
+ghost use Rattle.rtmp.specs.Routes as spec;
+ghost use Rattle.rtmp.specs.Routes.{aged};
 ghost use Rattle.zip_zones.specs.Zones.{without};
 ghost use Rattle.learning.specs.Forgetting.{without_gone};
 
@@ -10,7 +11,7 @@ use zip_zones::ZoneTable;
 
 /// Whether the row goes when a period passes.
 fn is_over(row: &Row) -> bool
-    ensures { result ≡ over row.now }
+    ensures { result ≡ spec.is_over row.now }
 {
     match row.state {
         State::Last => !row.is_direct(),
@@ -20,7 +21,7 @@ fn is_over(row: &Row) -> bool
 
 /// Forgets the list of the row's range, where the row goes.
 fn forget_list(zones: &mut ZoneTable, row: &Row)
-    ensures { zones.new ≡ (if over row.now then without row.now.range zones.old else zones.old) }
+    ensures { zones.new ≡ (if spec.is_over row.now then without row.now.range zones.old else zones.old) }
 {
     if is_over(row) {
         zones.remove(row.range);

@@ -4,7 +4,8 @@ ghost use Rattle.std.specs.Prelude.{◌≡◌, ◌==◌, fold, length, if◌then
 ghost use Rattle.std.specs.Prelude.{false, None, IfOk, OnErr, OnOk, IsOk, IsOkUnless};
 ghost use Rattle.std.specs.List.{list_any};
 ghost use Rattle.learning.specs.Partly.{IsLearnedInPart};
-ghost use Rattle.zip_zones.specs.Answers.{after_list, is_taken, names_for as names_in};
+ghost use Rattle.zip_zones.specs.Answers as spec;
+ghost use Rattle.zip_zones.specs.Answers.{after_list, is_taken};
 ghost use Rattle.zip_zones.specs.Answers.{networks_named, range_heard};
 ghost use Rattle.zip_zones.specs.Zones.{set_list, with_known};
 
@@ -37,7 +38,7 @@ fn all_of(alloc: Global, entries: Entries<'_>) -> Result<Vec<Entry>, Error>
 
 /// The names that the entries have for a network. Error: `Memory`.
 fn names_for(alloc: Global, entries: &[Entry], net: u16) -> Result<Vec<Name>, Error>
-    ensures ok { IfOk result (λ names. names.items ≡ names_in net entries.now) }
+    ensures ok { IfOk result (λ names. names.items ≡ spec.names_for net entries.now) }
     ensures refused { IsOkUnless result Error.Memory }
 {
     let names = entries.iter().filter(|entry| entry.net == net);

@@ -18,8 +18,9 @@ ghost use Rattle.legal_runs.specs.Illegal.{reached_from_afar, reached_unlisted, 
 ghost use Rattle.legal_runs.specs.Illegal.{taken_twice};
 ghost use Rattle.legal_runs.specs.Legal.{IsLegal};
 ghost use Rattle.legal_runs.specs.LookupExample.{blue_names, blue_request, blue_to};
-ghost use Rattle.legal_runs.specs.Lookups.{IsLookedUp, NodesOnlyAsk, asked as asked_for};
-ghost use Rattle.legal_runs.specs.Lookups.{lookups as lookups_on, taken};
+ghost use Rattle.legal_runs.specs.Lookups as spec;
+ghost use Rattle.legal_runs.specs.Lookups.{IsLookedUp, NodesOnlyAsk};
+ghost use Rattle.legal_runs.specs.Lookups.{taken};
 ghost use Rattle.legal_runs.specs.Requests.{is_broadcast, key_in, request};
 
 /// Conservation: each datagram to a listed network is under way once or has reached its
@@ -74,11 +75,11 @@ pub fn each_end_is_legal()
 /// This project's own.
 pub fn the_lookup_is_legal()
     ensures legal { IsLegal three_cables blue_names }
-    ensures asked { (asked_for three_cables (key_in (request blue_request)) blue_names ≡ 1)
+    ensures asked { (spec.asked three_cables (key_in (request blue_request)) blue_names ≡ 1)
         × (taken three_cables (key_in (request blue_request)) blue_names ≡ 1) }
-    ensures looked { (lookups_on three_cables (key_in (request blue_request)) 0 blue_names ≡ 0)
-        × (lookups_on three_cables (key_in (request blue_request)) 1 blue_names ≡ 1)
-        × (lookups_on three_cables (key_in (request blue_request)) 2 blue_names ≡ 1) }
+    ensures looked { (spec.lookups three_cables (key_in (request blue_request)) 0 blue_names ≡ 0)
+        × (spec.lookups three_cables (key_in (request blue_request)) 1 blue_names ≡ 1)
+        × (spec.lookups three_cables (key_in (request blue_request)) 2 blue_names ≡ 1) }
 {}
 
 /// A datagram with the same bytes to another socket, or of another type, is no request. This

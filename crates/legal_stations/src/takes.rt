@@ -3,10 +3,11 @@
 
 ghost use Rattle.std.specs.Prelude.{◌≡◌, ◌+◌, ◌∷◌, ℕ, List, Contains, length};
 ghost use Rattle.audit.specs.Rules.{Passes};
-ghost use Rattle.cable_model.specs.Outcomes.{all_entries, heard_by, leg as leg_on};
+ghost use Rattle.cable_model.specs.Outcomes as outcomes_spec;
+ghost use Rattle.cable_model.specs.Outcomes.{all_entries, heard_by};
 ghost use Rattle.cable_model.specs.Pending.{Pair, pending};
 ghost use Rattle.cable_model.specs.Transcript.{Entry, Sent, Took, stamps};
-ghost use Rattle.end_node.specs.Answers.{Hears as NodeHears};
+ghost use Rattle.end_node.specs.Answers as answers_spec;
 ghost use Rattle.end_node.specs.Holding.{NodeHolding};
 ghost use Rattle.image_stations.specs.Holders.{HoldsNode};
 ghost use Rattle.image_stations.specs.Holders.{HoldsRouter, places_of};
@@ -40,7 +41,7 @@ pub fn nodes_takes_are_legal()
         (added : List Output)
         → Passes i → IsBounded i → IsLegal i t → Contains (pending (cable_seats i) t) p
         → p.seat.station ≡ length i.routers + k
-        → HoldsNode i k old → NodeHears old (heard_by p) added new → AreLawful n added
+        → HoldsNode i k old → answers_spec.Hears old (heard_by p) added new → AreLawful n added
         → Block i t (Took p.frame.stamp p.seat.station
         ∷ all_entries (places_of i) (cable_seats i) p.seat.station (stamps t) added)
         × HoldsNode i k new }
@@ -50,6 +51,6 @@ pub fn nodes_takes_are_legal()
 /// project's own.
 pub fn sendings_are_legal()
     ensures { (i : Internet) (t : List Entry) (l : Leg) → IsMade i l → IsOwn i l
-        → Block i t (Sent l.station l.body ∷ leg_on (places_of i)
+        → Block i t (Sent l.station l.body ∷ outcomes_spec.leg (places_of i)
         (record { stamp = stamps t; cable = l.cable; station = l.station }) l.next l.body) }
 {}

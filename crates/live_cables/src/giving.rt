@@ -4,7 +4,7 @@ ghost use Rattle.std.specs.Prelude.{◌≡◌, ◌⊎◌, [], IfErr, OnOk, lengt
 ghost use Rattle.std.specs.Prelude.{option_and_then, slice_get};
 ghost use Rattle.std.specs.List.{AllByRecursion};
 ghost use Rattle.station.specs.Lawful.{IsNext};
-ghost use Rattle.live_cables.specs.Finding.{seat_by as seat_by_in};
+ghost use Rattle.live_cables.specs.Finding as spec;
 ghost use Rattle.live_cables.specs.Putting.{AreGiven, IsGiven, IsMade};
 ghost use Rattle.live_cables.specs.Steps.{HasNoRoom, IsSendable, Puts};
 
@@ -21,7 +21,7 @@ use std::alloc::Global;
 /// The seat of a station's port.
 fn seat_of(ports: &Ports, station: u16, port: u8) -> Option<Seat>
     ensures { result ≡ option_and_then (slice_get ports.now.seats)
-        (seat_by_in ports.now.seats station port) }
+        (spec.seat_by ports.now.seats station port) }
 {
     match ports.seats.index_by(station, port) {
         Some(index) => ports.seats.get(index),

@@ -4,11 +4,12 @@ ghost use Rattle.std.specs.Prelude.{◌≡◌, ◌⊎◌, ◌↔◌, ◌++◌, [
 ghost use Rattle.std.specs.Prelude.{false, length, map, slice_set, IsOkUnless, None, OnErr};
 ghost use Rattle.std.specs.Prelude.{OnOk, ℕ};
 ghost use Rattle.std.specs.List.{list_any};
-ghost use Rattle.aarp.specs.Mapping.{given_up as given_up_of};
+ghost use Rattle.aarp.specs.Mapping as mapping_spec;
 ghost use Rattle.cable_model.specs.Books.{HasOneSeat};
-ghost use Rattle.cable_model.specs.Logs.{bytes_at, transcript as said};
+ghost use Rattle.cable_model.specs.Logs as logs_spec;
+ghost use Rattle.cable_model.specs.Logs.{bytes_at};
 ghost use Rattle.cable_model.specs.Outcomes.{AreSeatsOf, IsLeast, is_named};
-ghost use Rattle.cable_model.specs.Pending.{pending as pending_on};
+ghost use Rattle.cable_model.specs.Pending as pending_spec;
 ghost use Rattle.cable_model.specs.Transcript.{AreNumbered};
 ghost use Rattle.live_cables.specs.Finding.{held_at};
 ghost use Rattle.live_cables.specs.Living.{GivesOut, IsTakenBy, PassesFor, Plays, PlaysOn};
@@ -64,7 +65,7 @@ impl Model for LiveCables {
 
 /// Recalls that frames are numbered from 0. Does nothing.
 fn recall_numbered(cables: &Cables)
-    ensures { AreNumbered 0 (said cables.now) }
+    ensures { AreNumbered 0 (logs_spec.transcript cables.now) }
 {
     let _len = cables.transcript().len();
 }
@@ -162,15 +163,15 @@ impl LiveCables {
     /// Allocates nothing.
     pub fn first(&self) -> Option<(u32, u16)>
         ensures some { IfSome result (λ pair.
-            IsLeast (pending_on self.now.cabling.seats (happened self.now)) pair.0 pair.1) }
-        ensures none { IfNone result (pending_on self.now.cabling.seats (happened self.now) ≡ []) }
+            IsLeast (pending_spec.pending self.now.cabling.seats (happened self.now)) pair.0 pair.1) }
+        ensures none { IfNone result (pending_spec.pending self.now.cabling.seats (happened self.now) ≡ []) }
     {
         self.cables.first()
     }
 
     /// The number of pairs of a frame and a station that are pending. Allocates nothing.
     pub fn pending_count(&self) -> usize
-        ensures { result ≡ length (pending_on self.now.cabling.seats (happened self.now)) }
+        ensures { result ≡ length (pending_spec.pending self.now.cabling.seats (happened self.now)) }
     {
         self.cables.pending_count()
     }
@@ -243,7 +244,7 @@ impl LiveCables {
             (λ h added. S.hears taker.old h added taker.new)) }
         ensures ports_stay { S.ports_of taker.new ≡ S.ports_of taker.old }
         ensures not_pending { (result ≡ Err Error.NotPending) ↔ (list_any (is_named stamp station)
-            (pending_on self.old.cabling.seats (happened self.old)) ≡ false) }
+            (pending_spec.pending self.old.cabling.seats (happened self.old)) ≡ false) }
         ensures full { (result ≡ Err Error.Full) → HasNoRoom 771 self.new.cabling }
         ensures refused { IfErr result (λ e. (e ≡ Error.NotPending) ⊎ (e ≡ Error.Full)
             ⊎ (e ≡ Error.Memory)) }
@@ -284,7 +285,7 @@ impl LiveCables {
         ensures plays { Plays self.old self.new }
         ensures passed { OnOk result (PassesFor seat self.old self.new) }
         ensures done { OnOk result (PlaysOn 0 self.old self.new) }
-        ensures given_up { IfOk result (λ addrs. addrs ≡ given_up_of (held_at self.old.maps seat)) }
+        ensures given_up { IfOk result (λ addrs. addrs ≡ mapping_spec.given_up (held_at self.old.maps seat)) }
         ensures full { (result ≡ Err Error.Full) → HasNoRoom 1 self.new.cabling }
         ensures refused { IfErr result (λ e. (e ≡ Error.Full) ⊎ (e ≡ Error.Memory)) }
     {

@@ -1,7 +1,8 @@
 //! Ticks that pass for mappings.
 
 ghost use Rattle.std.specs.Prelude.{◌≡◌, ◌⊎◌, IfErr, OnOk, length, slice_get};
-ghost use Rattle.aarp.specs.Mapping.{given_up as given_up_of, to_ask};
+ghost use Rattle.aarp.specs.Mapping as spec;
+ghost use Rattle.aarp.specs.Mapping.{to_ask};
 ghost use Rattle.live_cables.specs.Finding.{held_at};
 ghost use Rattle.live_cables.specs.Putting.{AreAsked, with_tick};
 ghost use Rattle.live_cables.specs.Steps.{HasNoRoom, Puts};
@@ -16,7 +17,7 @@ use std::alloc::Global;
 /// A tick passes for the mappings of a seat, if it is one.
 pub fn tick(mappers: &mut [Mapper], seat: usize) -> Asks
     ensures ask { result.ask ≡ to_ask (held_at mappers.old seat) }
-    ensures given_up { result.given_up ≡ given_up_of (held_at mappers.old seat) }
+    ensures given_up { result.given_up ≡ spec.given_up (held_at mappers.old seat) }
     ensures waits { mappers.new ≡ with_tick mappers.old seat }
     ensures mappers { length mappers.new ≡ length mappers.old }
 {

@@ -3,7 +3,8 @@
 ghost use Rattle.std.specs.Prelude.{◌≡◌, slice_get};
 ghost use Rattle.std.specs.List.{list_any};
 ghost use Rattle.at_base.specs.Range.{is_between};
-ghost use Rattle.live_cables.specs.Finding.{hw_of, is_listed as is_listed_in, is_own as is_own_in};
+ghost use Rattle.live_cables.specs.Finding as spec;
+ghost use Rattle.live_cables.specs.Finding.{hw_of};
 
 use at_base::{Addr, Range};
 use cable_model::{Found, Seats};
@@ -18,7 +19,7 @@ pub struct Ports {
 
 /// Whether the settled address of a seat is this one.
 pub fn is_own(own: &[Option<Addr>], seat: usize, addr: Addr) -> bool
-    ensures { result ≡ is_own_in (slice_get own.now seat) addr }
+    ensures { result ≡ spec.is_own (slice_get own.now seat) addr }
 {
     match own.get(seat) {
         Some(Some(own)) => own.net == addr.net && own.node == addr.node,
@@ -38,7 +39,7 @@ pub fn hw_at(seats: &Seats, seat: usize) -> Found
 
 /// Whether one of the ranges has the network. No range has 0, which many datagrams name.
 pub fn is_listed(ranges: &[Range], net: u16) -> bool
-    ensures { result ≡ is_listed_in ranges.now net }
+    ensures { result ≡ spec.is_listed ranges.now net }
 {
     net != 0 && has_range(ranges, net)
 }

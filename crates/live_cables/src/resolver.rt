@@ -47,13 +47,12 @@ fn find_at(ports: &Ports, mappers: &[Mapper], seat: Option<usize>, addr: Addr) -
 }
 
 impl Resolve for Resolver<'_> {
-    ghost use Rattle.live_cables.specs.Finding.{found_at as known_at, is_listed as is_listed_in};
-    ghost use Rattle.live_cables.specs.Finding.{seat_on as seat_on_in};
+    ghost use Rattle.live_cables.specs.Finding as spec;
 
-    ghost finds = { λ r cable addr. known_at r.ports.now.seats r.ports.now.own.items
-        r.mappers.now (seat_on_in r.ports.now.seats cable r.station) addr };
+    ghost finds = { λ r cable addr. spec.found_at r.ports.now.seats r.ports.now.own.items
+        r.mappers.now (spec.seat_on r.ports.now.seats cable r.station) addr };
 
-    ghost lists = { λ r net. is_listed_in r.ports.now.ranges.items net };
+    ghost lists = { λ r net. spec.is_listed r.ports.now.ranges.items net };
 
     fn find(&self, cable: u8, addr: Addr) -> Found {
         let seat = self.ports.seats.index_on(cable, self.station);

@@ -2,9 +2,9 @@
 
 ghost use Rattle.std.specs.Prelude.{◌≡◌, ◌⊎◌, ◌↔◌, false, IfErr, OnErr, OnOk, length};
 ghost use Rattle.std.specs.List.{list_any};
-ghost use Rattle.cable_model.specs.Logs.{transcript as said};
+ghost use Rattle.cable_model.specs.Logs as logs_spec;
 ghost use Rattle.cable_model.specs.Outcomes.{AreSeatsOf, IsTaken, Places, is_named};
-ghost use Rattle.cable_model.specs.Pending.{pending as pending_on};
+ghost use Rattle.cable_model.specs.Pending as pending_spec;
 ghost use Rattle.live_cables.specs.Putting.{IsAnswer, IsFollowed};
 ghost use Rattle.live_cables.specs.Steps.{HasNoRoom, Puts, Takes};
 
@@ -34,7 +34,7 @@ pub fn take<S: Taker, R: Resolve>(
         (λ h added. S.hears taker.old h added taker.new)) }
     ensures ports_stay { S.ports_of taker.new ≡ S.ports_of taker.old }
     ensures not_pending { (result ≡ Err Error.NotPending) ↔ (list_any (is_named stamp station)
-        (pending_on cables.old.seats (said cables.old)) ≡ false) }
+        (pending_spec.pending cables.old.seats (logs_spec.transcript cables.old)) ≡ false) }
     ensures full { (result ≡ Err Error.Full) → HasNoRoom 771 cables.new }
     ensures refused { IfErr result (λ e. (e ≡ Error.NotPending) ⊎ (e ≡ Error.Full)
         ⊎ (e ≡ Error.Memory)) }

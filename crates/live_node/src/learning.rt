@@ -1,8 +1,9 @@
 //! What frames teach a live node.
 
 ghost use Rattle.std.specs.Prelude.{◌≡◌};
-ghost use Rattle.end_node.specs.Answers.{is_to as goes_to};
-ghost use Rattle.live_node.specs.Living.{informed, is_waiting as waits, routed, routing_in};
+ghost use Rattle.end_node.specs.Answers as answers_spec;
+ghost use Rattle.live_node.specs.Living as spec;
+ghost use Rattle.live_node.specs.Living.{informed, routed, routing_in};
 ghost use Rattle.live_node.specs.Living.{taught, told, zones_in};
 
 use crate::live::LiveNode;
@@ -12,7 +13,7 @@ use zip_zones::{NetInfo, Packet};
 
 /// Whether the datagram is of this type and for this socket.
 fn is_to(view: &View<'_>, kind: u8, socket: u8) -> bool
-    ensures { result ≡ goes_to kind socket view.now }
+    ensures { result ≡ answers_spec.is_to kind socket view.now }
 {
     view.kind() == kind && view.target_socket() == socket
 }
@@ -50,7 +51,7 @@ impl LiveNode {
 
     /// Whether the node waits for an answer about its cable.
     fn is_waiting(&self) -> bool
-        ensures { result ≡ waits self.now }
+        ensures { result ≡ spec.is_waiting self.now }
     {
         self.asked > 0 && !self.answered
     }

@@ -2,11 +2,12 @@
 
 ghost use Rattle.std.specs.Prelude.{◌≡◌, ◌≤◌, length, IfOk, IsOkUnless, OnErr, OnOk, Some};
 ghost use Rattle.at_base.specs.Spelling.{bytes_of};
-ghost use Rattle.live_node.specs.Ticking.{asked_after, asked_from, asks as asks_now};
-ghost use Rattle.live_node.specs.Ticking.{is_asking as still_asks, question_way, questions};
+ghost use Rattle.live_node.specs.Ticking as spec;
+ghost use Rattle.live_node.specs.Ticking.{asked_after, asked_from};
+ghost use Rattle.live_node.specs.Ticking.{question_way, questions};
 ghost use Rattle.live_node.specs.Ticking.{wait_after};
 ghost use Rattle.station.specs.Lawful.{PutsOut};
-ghost use Rattle.zip_zones.specs.Formats.{packet as spelled_packet};
+ghost use Rattle.zip_zones.specs.Formats as formats_spec;
 ghost use Rattle.zip_zones.specs.Written.{question};
 
 use crate::live::LiveNode;
@@ -55,7 +56,7 @@ fn text_of(zone: &Name) -> Text32
 
 /// The data of the question of a node in this zone.
 fn data_for(alloc: Global, zone: &Name) -> Result<Bytes, Error>
-    ensures ok { IfOk result (λ bytes. bytes ≡ bytes_of spelled_packet (question zone.now)) }
+    ensures ok { IfOk result (λ bytes. bytes ≡ bytes_of formats_spec.packet (question zone.now)) }
     ensures short { IfOk result (λ bytes. length bytes ≤ 586) }
     ensures refused { IsOkUnless result Error.Memory }
 {
@@ -65,14 +66,14 @@ fn data_for(alloc: Global, zone: &Name) -> Result<Bytes, Error>
 impl LiveNode {
     /// Whether the node still asks about its cable, where this is its address.
     fn is_asking(&self, own: Option<Addr>) -> bool
-        ensures { result ≡ still_asks own self.now }
+        ensures { result ≡ spec.is_asking own self.now }
     {
         own.is_some() && !self.answered && self.asked < MAX_QUESTIONS
     }
 
     /// Whether it asks in this tick.
     fn asks(&self, own: Option<Addr>) -> bool
-        ensures { result ≡ asks_now own self.now }
+        ensures { result ≡ spec.asks own self.now }
     {
         self.is_asking(own) && self.wait == 0
     }

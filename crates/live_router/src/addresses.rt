@@ -4,7 +4,8 @@ ghost use Rattle.std.specs.Prelude.{◌≡◌, ◌<◌, ◌≤◌, ◌+◌, ◌+
 ghost use Rattle.std.specs.Prelude.{unwrap_or, IfOk, IsOkUnless, OnOk, Some};
 ghost use Rattle.std.specs.List.{list_all};
 ghost use Rattle.aarp.specs.Choosing.{ticked};
-ghost use Rattle.live_router.specs.Ticking.{ports_ticked, probe_by as probes_by, probes};
+ghost use Rattle.live_router.specs.Ticking as spec;
+ghost use Rattle.live_router.specs.Ticking.{ports_ticked, probes};
 ghost use Rattle.station.specs.Made.{AreMade, IsMadeIn};
 
 use aarp::{Chooser, Packet};
@@ -30,7 +31,7 @@ fn are_settled(ports: &[Chooser]) -> bool
 
 /// The frame with a probe, for all stations of the port's cable. Error: `Memory`.
 fn probe_frame(alloc: Global, port: u8, probe: &Packet) -> Result<Output, Error>
-    ensures ok { IfOk result (λ output. output ∷ [] ≡ probes_by port (Some probe.now)) }
+    ensures ok { IfOk result (λ output. output ∷ [] ≡ spec.probe_by port (Some probe.now)) }
     ensures good { IfOk result (λ output. (n : ℕ) → port < n → IsMadeIn n output) }
     ensures refused { IsOkUnless result Error.Memory }
 {
@@ -43,7 +44,7 @@ fn probe_frame(alloc: Global, port: u8, probe: &Packet) -> Result<Output, Error>
 
 /// Appends the frame with a probe, where there is one. Error: `Memory`.
 fn put_probe(made: &mut Vec<Output>, port: u8, probe: &Option<Packet>) -> Result<(), Error>
-    ensures put { OnOk result (made.new.items ≡ made.old.items ++ probes_by port probe.now) }
+    ensures put { OnOk result (made.new.items ≡ made.old.items ++ spec.probe_by port probe.now) }
     ensures good { OnOk result ((n : ℕ) → port < n → AreMade n made.old.items
         → AreMade n made.new.items) }
     ensures refused { IsOkUnless result Error.Memory }
@@ -68,7 +69,7 @@ fn tick_port(
 ) -> Result<(), Error>
     ensures next { OnOk result (next.new.items ≡ next.old.items ++ (ticked chooser.now).0 ∷ []) }
     ensures put { OnOk result
-        (made.new.items ≡ made.old.items ++ probes_by port (ticked chooser.now).1) }
+        (made.new.items ≡ made.old.items ++ spec.probe_by port (ticked chooser.now).1) }
     ensures good { OnOk result ((n : ℕ) → port < n → AreMade n made.old.items
         → AreMade n made.new.items) }
     ensures refused { IsOkUnless result Error.Memory }

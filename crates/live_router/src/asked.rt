@@ -4,9 +4,9 @@ ghost use Rattle.std.specs.Prelude.{◌≡◌, ◌<◌, ◌≤◌, ◌+◌, ◌+
 ghost use Rattle.std.specs.Prelude.{IfOk, IfSome, IsOk, IsOkUnless, None, OnOk, Some};
 ghost use Rattle.at_base.specs.Spelling.{bytes_of};
 ghost use Rattle.live_router.specs.Ticking.{all_queries, query_from};
-ghost use Rattle.router.specs.Holding.{own_at as address_at};
+ghost use Rattle.router.specs.Holding as holding_spec;
 ghost use Rattle.station.specs.Made.{AreMade};
-ghost use Rattle.zip_zones.specs.Formats.{packet as spelled_packet};
+ghost use Rattle.zip_zones.specs.Formats as formats_spec;
 ghost use Rattle.zip_zones.specs.declared.packet.Packet.TheVariants.{Query as QueryPacket};
 
 use crate::sent::header_of;
@@ -21,7 +21,7 @@ use zip_zones::write_query;
 
 /// The address of the port at an index, once it is settled.
 fn own_at(ports: &[Chooser], port: u8) -> Option<Addr>
-    ensures value { result ≡ address_at ports.now port }
+    ensures value { result ≡ holding_spec.own_at ports.now port }
     ensures inside { IfSome result (λ me. port < length ports.now) }
 {
     match ports.get(port as usize) {
@@ -33,7 +33,7 @@ fn own_at(ports: &[Chooser], port: u8) -> Option<Addr>
 /// The query about the range that begins with this network. Error: `Memory`.
 fn query_bytes(alloc: Global, start: u16) -> Result<Bytes, Error>
     ensures ok { IfOk result
-        (λ bytes. bytes ≡ bytes_of spelled_packet (QueryPacket (start ∷ []))) }
+        (λ bytes. bytes ≡ bytes_of formats_spec.packet (QueryPacket (start ∷ []))) }
     ensures short { IfOk result (λ bytes. length bytes ≤ 586) }
     ensures refused { IsOkUnless result Error.Memory }
 {
@@ -64,9 +64,9 @@ fn put_query_from(made: &mut Vec<Output>, me: Addr, query: &Query) -> Result<(),
 /// Sends a query by its port, where that is settled. Error: `Memory`.
 fn put_query(made: &mut Vec<Output>, ports: &[Chooser], query: &Query) -> Result<(), Error>
     ensures put { OnOk result (made.new.items ≡ made.old.items
-        ++ query_from (address_at ports.now query.now.port) query.now) }
+        ++ query_from (holding_spec.own_at ports.now query.now.port) query.now) }
     // What isn't sent needs no memory.
-    ensures unsettled { address_at ports.now query.now.port ≡ None → IsOk result }
+    ensures unsettled { holding_spec.own_at ports.now query.now.port ≡ None → IsOk result }
     ensures few { OnOk result (length made.new.items ≤ length made.old.items + 1) }
     ensures good { OnOk result ((n : ℕ) → length ports.now ≤ n → AreMade n made.old.items
         → AreMade n made.new.items) }

@@ -6,7 +6,8 @@ ghost use Rattle.std.specs.Prelude.{IfOk, IsOkUnless, OnOk, Some};
 ghost use Rattle.std.specs.List.{list_any};
 ghost use Rattle.aarp.specs.Choosing.{ticked};
 ghost use Rattle.live_router.specs.Ticking.{all_joined, joined, ports_ticked, routes_aged};
-ghost use Rattle.live_router.specs.Ticking.{settles as settles_now, zones_aged};
+ghost use Rattle.live_router.specs.Ticking as spec;
+ghost use Rattle.live_router.specs.Ticking.{zones_aged};
 ghost use Rattle.learning.specs.Forgetting.{without_gone};
 ghost use Rattle.rtmp.specs.Routes.{aged, beside};
 
@@ -21,7 +22,7 @@ use zip_zones::ZoneTable;
 /// Whether a port settles in the tick between these choices.
 fn settles(before: &Chooser, after: &Chooser) -> bool
     requires { after.now ≡ (ticked before.now).0 }
-    ensures { result ≡ settles_now before.now }
+    ensures { result ≡ spec.settles before.now }
 {
     before.settled().is_none() && after.settled().is_some()
 }
@@ -29,7 +30,7 @@ fn settles(before: &Chooser, after: &Chooser) -> bool
 /// Whether one of the ports settles in the tick between these choices.
 fn any_settles(before: &[Chooser], after: &[Chooser]) -> bool
     requires { after.now ≡ ports_ticked before.now }
-    ensures { result ≡ list_any settles_now before.now }
+    ensures { result ≡ list_any spec.settles before.now }
 {
     match before {
         [] => false,

@@ -6,7 +6,8 @@ ghost use Rattle.std.specs.Prelude.{IfOk, IsOkUnless, IsTrue, OnErr, OnOk};
 ghost use Rattle.std.specs.List.{list_all};
 ghost use Rattle.learning.specs.Queries.{queries_of};
 ghost use Rattle.live_router.specs.Ticking.{all_joined, all_queries, data_from};
-ghost use Rattle.live_router.specs.Ticking.{phase_after as next_phase, ports_ticked, probes};
+ghost use Rattle.live_router.specs.Ticking as spec;
+ghost use Rattle.live_router.specs.Ticking.{ports_ticked, probes};
 ghost use Rattle.live_router.specs.Ticking.{router_after, routes_aged, sent_by, zones_aged};
 ghost use Rattle.station.specs.Lawful.{PutsOut};
 ghost use Rattle.station.specs.Made.{AreMade};
@@ -33,7 +34,7 @@ const SEND_TICKS: u8 = 50;
 /// The phase of the next tick.
 pub(crate) fn phase_after(phase: u8) -> u8
     requires { phase < 100 }
-    ensures value { result ≡ next_phase phase }
+    ensures value { result ≡ spec.phase_after phase }
     ensures inside { result < 100 }
 {
     (phase + 1) % AGE_TICKS

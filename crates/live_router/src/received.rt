@@ -2,7 +2,7 @@
 
 ghost use Rattle.std.specs.Prelude.{◌≡◌, ◌<◌, length, OnErr, OnOk, IsOkUnless};
 ghost use Rattle.live_router.specs.Living.{taught};
-ghost use Rattle.router.specs.Answers.{heard as answered};
+ghost use Rattle.router.specs.Answers as spec;
 ghost use Rattle.router.specs.Ending.{ended};
 ghost use Rattle.station.specs.Hearing.{hearing};
 ghost use Rattle.station.specs.Lawful.{PutsOut};
@@ -24,9 +24,9 @@ pub(crate) fn hear<T: RouteTable>(
     requires { heard.now.port < length router.old.ports }
     ensures ok { OnOk result
         (PutsOut (length router.old.ports) outputs.old.items outputs.new.items (λ added.
-        added ≡ (answered router.old (hearing heard.now)).0)) }
+        added ≡ (spec.heard router.old (hearing heard.now)).0)) }
     ensures after { OnOk result (router.new
-        ≡ taught router.old (answered router.old (hearing heard.now)).1
+        ≡ taught router.old (spec.heard router.old (hearing heard.now)).1
         (ended router.old (hearing heard.now))) }
     ensures ports_stay { length router.new.ports ≡ length router.old.ports }
     ensures refused { IsOkUnless result Error.Memory }

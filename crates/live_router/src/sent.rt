@@ -4,12 +4,13 @@ ghost use Rattle.std.specs.Prelude.{◌≡◌, ◌<◌, ◌≤◌, ◌+◌, ◌+
 ghost use Rattle.std.specs.Prelude.{IsOk, IsOkUnless, None, OnOk};
 ghost use Rattle.aarp.specs.Choosing.{settled};
 ghost use Rattle.at_base.specs.Spelling.{bytes_of};
-ghost use Rattle.live_router.specs.Ticking.{data_by, data_from, data_way as way_of_data};
-ghost use Rattle.live_router.specs.Ticking.{header_of as header_from, packets_for};
+ghost use Rattle.live_router.specs.Ticking as spec;
+ghost use Rattle.live_router.specs.Ticking.{data_by, data_from};
+ghost use Rattle.live_router.specs.Ticking.{packets_for};
 ghost use Rattle.rtmp.specs.Data.{routing_data};
 ghost use Rattle.rtmp.specs.Sending.{packet_numbered};
 ghost use Rattle.station.specs.Made.{AreMade};
-ghost use Rattle.station.specs.Making.{made as datagram_made};
+ghost use Rattle.station.specs.Making as making_spec;
 
 use aarp::Chooser;
 use at_base::{Addr, Error, Range};
@@ -21,7 +22,7 @@ use station::{Next, Output, Way};
 
 /// The header of a datagram of the router's own, from a socket to the same one.
 pub(crate) fn header_of(source: Addr, target: Addr, socket: u8, kind: u8) -> Header
-    ensures { result ≡ header_from source target socket kind }
+    ensures { result ≡ spec.header_of source target socket kind }
 {
     Header {
         summed: false,
@@ -35,7 +36,7 @@ pub(crate) fn header_of(source: Addr, target: Addr, socket: u8, kind: u8) -> Hea
 
 /// The way of routing data: by a port to all stations of its cable.
 fn data_way(port: u8, me: Addr) -> Way
-    ensures { result ≡ way_of_data port me }
+    ensures { result ≡ spec.data_way port me }
 {
     let all = Addr {
         net: 0,
@@ -58,7 +59,7 @@ fn put_packet<T: RouteTable>(
     number: u16,
 ) -> Result<(), Error>
     ensures put { OnOk result (made.new.items ≡ made.old.items
-        ++ map (λ p. datagram_made (way_of_data port me) (bytes_of routing_data p))
+        ++ map (λ p. making_spec.made (spec.data_way port me) (bytes_of routing_data p))
         (option_to_list (packet_numbered port range me number (T.rows routes.now)))) }
     ensures good { OnOk result ((n : ℕ) → port < n → AreMade n made.old.items
         → AreMade n made.new.items) }
@@ -77,7 +78,7 @@ fn put_packets<T: RouteTable>(
     routes: &T,
 ) -> Result<(), Error>
     ensures put { OnOk result (made.new.items ≡ made.old.items
-        ++ map (λ p. datagram_made (way_of_data port me) (bytes_of routing_data p))
+        ++ map (λ p. making_spec.made (spec.data_way port me) (bytes_of routing_data p))
         (packets_for port range me (T.rows routes.now))) }
     ensures good { OnOk result ((n : ℕ) → port < n → AreMade n made.old.items
         → AreMade n made.new.items) }

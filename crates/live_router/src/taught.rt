@@ -6,8 +6,8 @@ ghost use Rattle.std.specs.List.{list_all};
 ghost use Rattle.learning.specs.Heard.{routes_after};
 ghost use Rattle.live_router.specs.Living.{routes_taught, routes_then, routing_in, taught};
 ghost use Rattle.live_router.specs.Living.{zones_taught, zones_then};
-ghost use Rattle.live_router.specs.Replies.{is_reply as has_names};
-ghost use Rattle.router.specs.Answers.{is_to as goes_to};
+ghost use Rattle.live_router.specs.Replies as spec;
+ghost use Rattle.router.specs.Answers as answers_spec;
 ghost use Rattle.router.specs.Ending.{ended};
 ghost use Rattle.router.specs.Zones.{zones_in};
 ghost use Rattle.station.specs.Hearing.{hearing};
@@ -24,7 +24,7 @@ use zip_zones::{Packet, ZoneTable};
 
 /// Whether the datagram is of this type and for this socket.
 fn is_to(view: &View<'_>, kind: u8, socket: u8) -> bool
-    ensures { result ≡ goes_to kind socket view.now }
+    ensures { result ≡ answers_spec.is_to kind socket view.now }
 {
     view.kind() == kind && view.target_socket() == socket
 }
@@ -92,7 +92,7 @@ fn routes_taught_by<T: RouteTable>(
 
 /// Whether the packet is a reply, which alone teaches zone lists.
 fn is_reply(packet: &Packet<'_>) -> bool
-    ensures { result ≡ has_names packet.now }
+    ensures { result ≡ spec.is_reply packet.now }
 {
     matches!(packet, Packet::Reply(_, _) | Packet::ExtendedReply(_, _))
 }

@@ -3,7 +3,8 @@
 ghost use Rattle.std.specs.Prelude.{◌≡◌, ◌≤◌, length, map, position, IfOk, IsOkUnless};
 ghost use Rattle.std.specs.List.{All};
 ghost use Rattle.at_base.specs.Range.{same_range};
-ghost use Rattle.nbp.specs.Expansion.{IsAskIn, ask as ask_for, asks, listing as listed};
+ghost use Rattle.nbp.specs.Expansion as spec;
+ghost use Rattle.nbp.specs.Expansion.{IsAskIn, asks};
 
 use at_base::{Error, Name, Range, is_zone_name};
 use std::alloc::Global;
@@ -20,7 +21,7 @@ pub enum Ask {
 
 /// The ranges of the cables that have the zone. Error: `Memory`.
 fn listing(alloc: Global, zone: &[u8], table: &ZoneTable) -> Result<Vec<Range>, Error>
-    ensures ok { IfOk result (λ ranges. ranges.items ≡ listed zone.now table.now) }
+    ensures ok { IfOk result (λ ranges. ranges.items ≡ spec.listing zone.now table.now) }
     ensures few { IfOk result (λ ranges. length ranges.items ≤ 200) }
     ensures err { IsOkUnless result Error.Memory }
 {
@@ -39,7 +40,7 @@ fn port_of(range: Range, ports: &[Range]) -> Option<usize>
 
 /// What is asked for a range.
 fn ask_of(range: Range, ports: &[Range]) -> Ask
-    ensures value { result ≡ ask_for ports.now range }
+    ensures value { result ≡ spec.ask ports.now range }
     ensures inside { IsAskIn (length ports.now) result }
 {
     match port_of(range, ports) {
@@ -50,7 +51,7 @@ fn ask_of(range: Range, ports: &[Range]) -> Ask
 
 /// What is asked for each of the ranges. Error: `Memory`.
 fn asks_of(alloc: Global, ranges: &[Range], ports: &[Range]) -> Result<Vec<Ask>, Error>
-    ensures ok { IfOk result (λ made. made.items ≡ map (ask_for ports.now) ranges.now) }
+    ensures ok { IfOk result (λ made. made.items ≡ map (spec.ask ports.now) ranges.now) }
     ensures inside { IfOk result (λ made. All (IsAskIn (length ports.now)) made.items) }
     ensures err { IsOkUnless result Error.Memory }
 {

@@ -3,8 +3,8 @@
 ghost use Rattle.std.specs.Prelude.{◌≡◌, ◌↔◌, ◌==◌, IsTrue, option_map};
 ghost use Rattle.std.specs.List.{position};
 ghost use Rattle.at_base.specs.Text.{is_only, same_name};
-ghost use Rattle.nbp.specs.Matching.{Matches, is_around, is_like as like, matches as is_match};
-ghost use Rattle.nbp.specs.Matching.{split_at_wildcard as parts_of};
+ghost use Rattle.nbp.specs.Matching as spec;
+ghost use Rattle.nbp.specs.Matching.{Matches, is_around};
 
 /// The byte of a pattern that stands for any bytes.
 const WILDCARD: u8 = 0xC5;
@@ -43,7 +43,7 @@ fn wildcard_in(pattern: &[u8]) -> Option<usize>
 
 /// The bytes before the first wildcard and those after it.
 fn split_at_wildcard(pattern: &[u8]) -> Option<(&[u8], &[u8])>
-    ensures { option_map (λ x. (x.0.now, x.1.now)) result ≡ parts_of pattern.now }
+    ensures { option_map (λ x. (x.0.now, x.1.now)) result ≡ spec.split_at_wildcard pattern.now }
 {
     let at = wildcard_in(pattern)?;
     Some((&pattern[..at], &pattern[at + 1..]))
@@ -51,7 +51,7 @@ fn split_at_wildcard(pattern: &[u8]) -> Option<(&[u8], &[u8])>
 
 /// Whether a pattern that isn't `=` alone matches the name.
 fn is_like(pattern: &[u8], name: &[u8]) -> bool
-    ensures { result ≡ like pattern.now name.now (parts_of pattern.now) }
+    ensures { result ≡ spec.is_like pattern.now name.now (spec.split_at_wildcard pattern.now) }
 {
     match split_at_wildcard(pattern) {
         Some((before, after)) => is_between(before, after, name),
@@ -66,7 +66,7 @@ fn is_like(pattern: &[u8], name: &[u8]) -> bool
 /// Inside AppleTalk, the chapter on NBP.
 pub fn matches(pattern: &[u8], name: &[u8]) -> bool
     ensures exact { IsTrue result ↔ Matches pattern.now name.now }
-    ensures test { result ≡ is_match pattern.now name.now }
+    ensures test { result ≡ spec.matches pattern.now name.now }
 {
     is_equals(pattern) || is_like(pattern, name)
 }

@@ -5,10 +5,10 @@ ghost use Rattle.std.specs.Prelude.{IsTrue, IfOk, IfErr, OnOk, OnErr, IsOkUnless
 ghost use Rattle.std.specs.Prelude.{vec_capacity};
 ghost use Rattle.at_base.specs.declared.error.Field.TheVariants.{Taken};
 ghost use Rattle.at_base.specs.declared.error.What.TheVariants.{Name as NoName};
-ghost use Rattle.nbp.specs.Registered.{IsNames, IsLeastFree, is_taken as taken_in};
-ghost use Rattle.nbp.specs.Registered.{is_registrable as registrable, has as has_number};
-ghost use Rattle.nbp.specs.Registered.{free_from, with_name, without as without_number, before};
-ghost use Rattle.nbp.specs.Registered.{tuple_of, is_asked_for as asked_for, answers};
+ghost use Rattle.nbp.specs.Registered as spec;
+ghost use Rattle.nbp.specs.Registered.{IsNames, IsLeastFree};
+ghost use Rattle.nbp.specs.Registered.{free_from, with_name, before};
+ghost use Rattle.nbp.specs.Registered.{tuple_of, answers};
 
 use crate::matching::{matches, same};
 use crate::tuple::Tuple;
@@ -54,7 +54,7 @@ impl Model for Names {
 
 /// Whether the text may be the object or the type of a name.
 fn is_registrable(text: &Text32) -> bool
-    ensures value { result ≡ registrable text.now }
+    ensures value { result ≡ spec.is_registrable text.now }
     ensures few { length text.now ≤ 32 }
 {
     let text = text.as_slice();
@@ -63,7 +63,7 @@ fn is_registrable(text: &Text32) -> bool
 
 /// Whether a name may have this object and this type.
 fn are_registrable(object: &Text32, kind: &Text32) -> bool
-    ensures value { result ≡ (registrable object.now && registrable kind.now) }
+    ensures value { result ≡ (spec.is_registrable object.now && spec.is_registrable kind.now) }
     ensures few { (length object.now ≤ 32) × (length kind.now ≤ 32) }
 {
     // Both are looked at always, so that both are known to be short.
@@ -73,7 +73,7 @@ fn are_registrable(object: &Text32, kind: &Text32) -> bool
 
 /// Whether a name has this object and this type, whatever the case of their letters.
 fn is_taken(names: &[Named], object: &Text32, kind: &Text32) -> bool
-    ensures { result ≡ taken_in object.now kind.now names.now }
+    ensures { result ≡ spec.is_taken object.now kind.now names.now }
 {
     names.iter().any(|name| {
         same(object.as_slice(), name.object.as_slice())
@@ -83,7 +83,7 @@ fn is_taken(names: &[Named], object: &Text32, kind: &Text32) -> bool
 
 /// Whether a name has this enumerator.
 fn has(names: &[Named], enumerator: u8) -> bool
-    ensures { result ≡ has_number enumerator names.now }
+    ensures { result ≡ spec.has enumerator names.now }
 {
     names.iter().any(|name| name.enumerator == enumerator)
 }
@@ -130,14 +130,14 @@ fn put(names: &mut Vec<Named>, name: Named)
 
 /// Takes out the name with this enumerator.
 fn take_out(names: &mut Vec<Named>, enumerator: u8)
-    ensures { names.new.items ≡ without_number enumerator names.old.items }
+    ensures { names.new.items ≡ spec.without enumerator names.old.items }
 {
     names.retain(|name| name.enumerator != enumerator);
 }
 
 /// Whether the name's object and type match these patterns.
 fn is_asked_for(object: &[u8], kind: &[u8], name: &Named) -> bool
-    ensures { result ≡ asked_for object.now kind.now name.now }
+    ensures { result ≡ spec.is_asked_for object.now kind.now name.now }
 {
     matches(object, name.object.as_slice()) && matches(kind, name.kind.as_slice())
 }
@@ -230,13 +230,13 @@ impl Names {
           kind = kind;
         }) self.old) }
         ensures bad { (result ≡ Err Error.BadName)
-            ↔ ((registrable object && registrable kind) ≡ false) }
+            ↔ ((spec.is_registrable object && spec.is_registrable kind) ≡ false) }
         ensures taken { (result ≡ Err (Error.BadField Taken))
-            ↔ (((registrable object && registrable kind) ≡ true)
-            × (taken_in object kind self.old ≡ true)) }
+            ↔ (((spec.is_registrable object && spec.is_registrable kind) ≡ true)
+            × (spec.is_taken object kind self.old ≡ true)) }
         ensures full { (result ≡ Err Error.Full)
-            ↔ (((registrable object && registrable kind) ≡ true)
-            × (taken_in object kind self.old ≡ false)
+            ↔ (((spec.is_registrable object && spec.is_registrable kind) ≡ true)
+            × (spec.is_taken object kind self.old ≡ false)
             × (32 ≤ length self.old)) }
         ensures refused { IfErr result (λ e. (e ≡ Error.BadName) ⊎ (e ≡ Error.BadField Taken)
             ⊎ (e ≡ Error.Full) ⊎ (e ≡ Error.Memory)) }
@@ -268,9 +268,9 @@ impl Names {
     ///
     /// Error: `NoSuch(Name)` where there is none; nothing changes then.
     pub fn remove(&mut self, enumerator: u8) -> Result<(), Error>
-        ensures removed { OnOk result (self.new ≡ without_number enumerator self.old) }
+        ensures removed { OnOk result (self.new ≡ spec.without enumerator self.old) }
         ensures unknown { (result ≡ Err (Error.NoSuch NoName))
-            ↔ (has_number enumerator self.old ≡ false) }
+            ↔ (spec.has enumerator self.old ≡ false) }
         ensures refused { IsOkUnless result (Error.NoSuch NoName) }
         ensures kept { OnErr result (self.new ≡ self.old) }
     {

@@ -4,11 +4,13 @@ ghost use Rattle.std.specs.Prelude.{◌≡◌, ◌≢◌, ◌<◌, ◌≤◌, �
 ghost use Rattle.std.specs.Prelude.{[], length, IfOk, IfNone, IfSome, IsOkUnless};
 ghost use Rattle.at_base.specs.Grammar.{number, one};
 ghost use Rattle.at_base.specs.Packets.{packets};
-ghost use Rattle.at_base.specs.Reading.{Gives, Reads, field_at, read as read_by};
+ghost use Rattle.at_base.specs.Reading as reading_spec;
+ghost use Rattle.at_base.specs.Reading.{Gives, Reads, field_at};
 ghost use Rattle.at_base.specs.Spelling.{bytes_of};
 ghost use Rattle.nbp.specs.declared.packet.Function.TheVariants.{Reply};
 ghost use Rattle.nbp.specs.declared.tuple.Tuple.{Tuple as TupleValue};
-ghost use Rattle.nbp.specs.Packets.{packet as spelled_packet, wrong_head, number_of, function_of};
+ghost use Rattle.nbp.specs.Packets as spec;
+ghost use Rattle.nbp.specs.Packets.{wrong_head, number_of, function_of};
 ghost use Rattle.nbp.specs.Packets.{tuples_read, tuples_in, BeginWith, packet_of, front_bytes};
 
 use crate::tuple::{Tuple, TupleView, tuple_at};
@@ -81,7 +83,7 @@ fn check_tuples(count: u8, bytes: &[u8]) -> Result<&[u8], Error>
 /// The function, the ID, and the number of the tuples, which are in place.
 #[tactic(auto, unfolding(crate::specs::Packets::packet, crate::specs::Packets::tuples_read))]
 fn parts_of(bytes: &[u8]) -> Result<(Packet<'_>, &[u8]), Error>
-    ensures { Gives (λ x. (x.0, x.1.now)) result (read_by packets spelled_packet bytes.now) }
+    ensures { Gives (λ x. (x.0, x.1.now)) result (reading_spec.read packets spec.packet bytes.now) }
 {
     if bytes.len() < 2 {
         return Err(Error::Truncated);
@@ -133,7 +135,7 @@ impl<'a> Packet<'a> {
     /// `Truncated` where the input ends within a part, and `BadField(NameLength)` where an object
     /// or a type hasn't 1 to 32 bytes, or a zone has more than 32.
     pub fn read(bytes: &'a [u8]) -> Result<Packet<'a>, Error>
-        ensures { Reads packets spelled_packet (λ d. d) (λ p. p) bytes.now result }
+        ensures { Reads packets spec.packet (λ d. d) (λ p. p) bytes.now result }
     {
         match parts_of(bytes) {
             Ok((packet, _)) => Ok(packet),
@@ -278,7 +280,7 @@ fn put_text(bytes: &mut Vec<u8>, text: &Text32) -> Result<(), Error>
 /// Error: `Memory`.
 pub fn write(alloc: Global, function: Function, id: u8, tuple: &Tuple) -> Result<Bytes, Error>
     ensures ok { IfOk result (λ bytes. bytes
-        ≡ bytes_of spelled_packet (packet_of function id tuple.now)) }
+        ≡ bytes_of spec.packet (packet_of function id tuple.now)) }
     // The first 7 bytes, and three texts of at most 33 each.
     ensures short { IfOk result (λ bytes. length bytes ≤ 106) }
     ensures refused { IsOkUnless result Error.Memory }

@@ -3,7 +3,7 @@
 ghost use Rattle.std.specs.Prelude.{◌≡◌, ◌≤◌, length, IfOk};
 ghost use Rattle.at_base.specs.Packets.{packets, any, text};
 ghost use Rattle.at_base.specs.Reading.{Gives, read};
-ghost use Rattle.nbp.specs.Packets.{tuple as spelled_tuple};
+ghost use Rattle.nbp.specs.Packets as spec;
 
 use at_base::packet::{address_at, byte_at, text_at};
 use at_base::{Addr, Error, Text32};
@@ -138,7 +138,7 @@ fn name_at(bytes: &[u8], least: u8) -> Result<(&[u8], &[u8]), Error>
 /// The tuple at the front of the bytes, and the bytes after it.
 #[tactic(auto, unfolding(crate::specs::Packets::tuple))]
 pub(crate) fn tuple_at(bytes: &[u8]) -> Result<(TupleView<'_>, &[u8]), Error>
-    ensures { Gives (λ x. (x.0, x.1.now)) result (read packets spelled_tuple bytes.now) }
+    ensures { Gives (λ x. (x.0, x.1.now)) result (read packets spec.tuple bytes.now) }
 {
     let (at, rest) = address_at(bytes)?;
     let (socket, rest) = byte_at(rest)?;

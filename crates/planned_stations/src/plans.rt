@@ -6,7 +6,8 @@ ghost use Rattle.std.specs.List.{list_all};
 ghost use Rattle.aarp.specs.Choosing.{begun};
 ghost use Rattle.station.specs.declared.member.Member.TheVariants as MemberValue;
 ghost use Rattle.internet_file.specs.Sound.{is_cable, is_node, is_port, is_router};
-ghost use Rattle.internet_file.specs.Stations.{are_apart, cable_at as cable_of};
+ghost use Rattle.internet_file.specs.Stations as spec;
+ghost use Rattle.internet_file.specs.Stations.{are_apart};
 ghost use Rattle.live_node.specs.Living.{LivingNode};
 ghost use Rattle.planned_stations.specs.Beginning.{AreBegun, AreNodesBegun, IsNodeBegun, are_free};
 ghost use Rattle.planned_stations.specs.Beginning.{is_free, port_begun, range_of, router_begun};
@@ -68,10 +69,10 @@ fn put_plans<'a>(
 fn put_zones(zones: &mut ZoneTable, cables: &[Cable], port: &Port) -> Result<(), Error>
     requires there { IsTrue (is_port cables.now port.now) }
     requires cables { IsTrue (list_all is_cable cables.now) }
-    requires free { IsTrue (is_free zones.old (cable_of cables.now port.now.cable)) }
+    requires free { IsTrue (is_free zones.old (spec.cable_at cables.now port.now.cable)) }
     requires room { length zones.old < 200 }
     ensures put { OnOk result
-        (zones.new ≡ with_cable zones.old (cable_of cables.now port.now.cable)) }
+        (zones.new ≡ with_cable zones.old (spec.cable_at cables.now port.now.cable)) }
     ensures refused { IsOkUnless result Error.Memory }
 {
     let cable = &cables[port.cable as usize - 1];
@@ -131,7 +132,7 @@ fn node_plan<'a>(cables: &[Cable], node: &'a Node) -> PortPlan<'a>
     requires { IsTrue (is_node cables.now node.now) }
     ensures good { IsTrue (is_planned result) }
     ensures begins { planned result
-        ≡ begun (range_of (cable_of cables.now node.now.cable)) node.now.tries node.now.hardware }
+        ≡ begun (range_of (spec.cable_at cables.now node.now.cable)) node.now.tries node.now.hardware }
 {
     PortPlan {
         range: cables[node.cable as usize - 1].range,

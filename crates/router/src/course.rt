@@ -2,12 +2,10 @@
 //! here.
 
 ghost use Rattle.std.specs.Prelude.{◌≡◌, ◌<◌, ◌≤◌, ℕ, length, IfSome};
-ghost use Rattle.router.specs.Forwarding.{arrived as arrives, course as course_of};
-ghost use Rattle.router.specs.Forwarding.{course_by as course_for, ends_at_once as ended_at_once};
-ghost use Rattle.router.specs.Forwarding.{handed_on as goes_on, heard_as as hears_as};
-ghost use Rattle.router.specs.Forwarding.{IsCourse, is_own as is_unicast};
+ghost use Rattle.router.specs.Forwarding as spec;
+ghost use Rattle.router.specs.Forwarding.{IsCourse};
 ghost use Rattle.router.specs.Holding.{IsHandIn};
-ghost use Rattle.station.specs.Ports.{has as has_address};
+ghost use Rattle.station.specs.Ports as ports_spec;
 
 use crate::hand::Hand;
 use crate::router::{Router, own_at};
@@ -51,7 +49,7 @@ pub struct Course {
 }
 
 fn is_own(link: Link) -> bool
-    ensures { result ≡ is_unicast link }
+    ensures { result ≡ spec.is_own link }
 {
     match link {
         Link::Own => true,
@@ -61,7 +59,7 @@ fn is_own(link: Link) -> bool
 
 /// Whether the port has this address.
 pub(crate) fn has(target: Addr, own: Option<Addr>) -> bool
-    ensures { result ≡ has_address target own }
+    ensures { result ≡ ports_spec.has target own }
 {
     match own {
         Some(own) => target == own,
@@ -70,13 +68,13 @@ pub(crate) fn has(target: Addr, own: Option<Addr>) -> bool
 }
 
 fn ends_at_once(ports: &[Chooser], port: u8, link: Link, target: Addr) -> bool
-    ensures { result ≡ ended_at_once ports.now port link target }
+    ensures { result ≡ spec.ends_at_once ports.now port link target }
 {
     !is_own(link) || target.net == 0 || has(target, own_at(ports, port))
 }
 
 fn heard_as(port: u8, link: Link, target: Addr) -> Option<Ending>
-    ensures value { result ≡ hears_as port link target }
+    ensures value { result ≡ spec.heard_as port link target }
     ensures inside { IfSome result (λ e. e.port ≡ port) }
 {
     match link {
@@ -101,7 +99,7 @@ fn goes(step: Step) -> Course
 /// The course of a datagram whose target is on the port's cable.
 fn arrived(ports: &[Chooser], port: u8, hops: u8, target: Addr) -> Course
     requires { port < length ports.now }
-    ensures value { result ≡ arrives ports.now port hops target }
+    ensures value { result ≡ spec.arrived ports.now port hops target }
     ensures inside { hops ≤ 15 → IsCourse (length ports.now) hops result }
 {
     if target.node == 0 || has(target, own_at(ports, port)) {
@@ -131,7 +129,7 @@ fn arrived(ports: &[Chooser], port: u8, hops: u8, target: Addr) -> Course
 
 /// The course of a datagram that goes to the next router.
 fn handed_on(port: u8, router: Addr, hops: u8) -> Course
-    ensures value { result ≡ goes_on port router hops }
+    ensures value { result ≡ spec.handed_on port router hops }
     ensures inside { hops ≤ 15 → (n : ℕ) → port < n → IsCourse n hops result }
 {
     if hops == MAX_HOPS {
@@ -144,7 +142,7 @@ fn handed_on(port: u8, router: Addr, hops: u8) -> Course
 /// The course of a datagram that doesn't end at once, by where the router hands such datagrams on.
 fn course_by(ports: &[Chooser], hand: Hand, hops: u8, target: Addr) -> Course
     requires { IsHandIn (length ports.now) hand }
-    ensures value { result ≡ course_for ports.now hand hops target }
+    ensures value { result ≡ spec.course_by ports.now hand hops target }
     ensures inside { hops ≤ 15 → IsCourse (length ports.now) hops result }
 {
     match hand {
@@ -160,7 +158,7 @@ impl<T: RouteTable> Router<T> {
         requires port { port < length self.now.ports }
         requires hops { hops ≤ 15 }
         ensures value { result
-            ≡ course_of self.now.ports self.now.routes port link hops target }
+            ≡ spec.course self.now.ports self.now.routes port link hops target }
         ensures inside { IsCourse (length self.now.ports) hops result }
     {
         let ports = self.ports.as_slice();

@@ -4,12 +4,12 @@ ghost use Rattle.std.specs.Prelude.{◌≡◌, ◌<◌, ◌≤◌, ◌+◌, ◌+
 ghost use Rattle.std.specs.Prelude.{IfOk, IfSome, IsOkUnless, None, OnOk, option_to_list};
 ghost use Rattle.std.specs.Option.{unwrap_or};
 ghost use Rattle.echo.specs.Echo.{echo_reply};
-ghost use Rattle.router.specs.Answers.{handled as is_handled, is_to as goes_to};
+ghost use Rattle.router.specs.Answers as answers_spec;
 ghost use Rattle.router.specs.Answers.{made_for, requests_after, served};
 ghost use Rattle.router.specs.Zones.{transacted, transaction_in};
 ghost use Rattle.atp.specs.Answers.{bytes_of_all};
 ghost use Rattle.station.specs.Made.{AreMade, AreShort};
-ghost use Rattle.router.specs.Ways.{way_back as back};
+ghost use Rattle.router.specs.Ways as ways_spec;
 ghost use Rattle.station.specs.Ways.{replying};
 
 use crate::course::Ending;
@@ -33,7 +33,7 @@ pub(crate) struct Handled {
 
 /// Whether the datagram is of this type and for this socket.
 fn is_to(view: &View<'_>, kind: u8, socket: u8) -> bool
-    ensures { result ≡ goes_to kind socket view.now }
+    ensures { result ≡ answers_spec.is_to kind socket view.now }
 {
     view.kind() == kind && view.target_socket() == socket
 }
@@ -42,7 +42,7 @@ impl<T: RouteTable> Router<T> {
     /// Echoes.
     fn hear_echo(&self, made: &mut Vec<Output>, port: u8, view: &View<'_>) -> Result<(), Error>
         ensures put { OnOk result (made.new.items ≡ made.old.items
-            ++ replying (back self.now port view.now) (option_to_list (echo_reply view.now))) }
+            ++ replying (ways_spec.way_back self.now port view.now) (option_to_list (echo_reply view.now))) }
         ensures few { OnOk result (length made.new.items ≤ length made.old.items + 1) }
         ensures good { OnOk result (AreMade (length self.now.ports) made.old.items
             → AreMade (length self.now.ports) made.new.items) }
@@ -64,7 +64,7 @@ impl<T: RouteTable> Router<T> {
         requires few { length packets.now ≤ 8 }
         requires short { AreShort packets.now }
         ensures put { OnOk result (made.new.items ≡ made.old.items
-            ++ replying (back self.now port view.now) packets.now) }
+            ++ replying (ways_spec.way_back self.now port view.now) packets.now) }
         ensures few { OnOk result (length made.new.items ≤ length made.old.items + 8) }
         ensures good { OnOk result (AreMade (length self.now.ports) made.old.items
             → AreMade (length self.now.ports) made.new.items) }
@@ -119,7 +119,7 @@ impl<T: RouteTable> Router<T> {
     /// What is made of a datagram that ended here and is of a transaction.
     fn handle_transaction(&self, ending: Ending, view: &View<'_>) -> Result<Handled, Error>
         ensures made { IfOk result (λ x. x.made.items ≡ replying
-            (back self.now ending.port view.now)
+            (ways_spec.way_back self.now ending.port view.now)
             (bytes_of_all (transacted self.now view.now (transaction_in view.now.payload)).0)) }
         ensures requests { IfOk result (λ x. unwrap_or x.responder self.now.requests
             ≡ (transacted self.now view.now (transaction_in view.now.payload)).1) }
@@ -153,9 +153,9 @@ impl<T: RouteTable> Router<T> {
     pub(crate) fn handle(&self, ending: Option<Ending>, view: &View<'_>) -> Result<Handled, Error>
         requires { IfSome ending (λ e. e.port < length self.now.ports) }
         ensures made { IfOk result
-            (λ x. x.made.items ≡ (is_handled self.now ending view.now).0) }
+            (λ x. x.made.items ≡ (answers_spec.handled self.now ending view.now).0) }
         ensures requests { IfOk result (λ x. unwrap_or x.responder self.now.requests
-            ≡ (is_handled self.now ending view.now).1) }
+            ≡ (answers_spec.handled self.now ending view.now).1) }
         ensures few { IfOk result (λ x. length x.made.items ≤ 256) }
         ensures good { IfOk result (λ x. AreMade (length self.now.ports) x.made.items) }
         ensures refused { IsOkUnless result Error.Memory }

@@ -5,13 +5,14 @@ ghost use Rattle.std.specs.Prelude.{IfOk, IsOkUnless};
 ghost use Rattle.std.specs.Option.{unwrap_or};
 ghost use Rattle.atp.specs.Answers.{bytes_of_all};
 ghost use Rattle.atp.specs.InPlace.{packet_value};
-ghost use Rattle.atp.specs.Packets.{is_request as asks};
-ghost use Rattle.atp.specs.Replies.{reply as reply_to};
-ghost use Rattle.atp.specs.Responding.{heard as hears};
+ghost use Rattle.atp.specs.Packets as packets_spec;
+ghost use Rattle.atp.specs.Replies as replies_spec;
+ghost use Rattle.atp.specs.Responding as responding_spec;
 ghost use Rattle.zip_zones.specs.Answers.{asked_page};
 ghost use Rattle.station.specs.Made.{AreShort};
-ghost use Rattle.router.specs.Zones.{listed, page_for as page_of, page_part as part_of};
-ghost use Rattle.router.specs.Zones.{peer as peer_of, transacted, transaction_in};
+ghost use Rattle.router.specs.Zones as spec;
+ghost use Rattle.router.specs.Zones.{listed};
+ghost use Rattle.router.specs.Zones.{transacted, transaction_in};
 
 use crate::router::Router;
 use at_base::{Bytes, Error};
@@ -33,7 +34,7 @@ fn read_packet(payload: &[u8]) -> Option<Packet<'_>>
 
 /// The socket that a datagram comes from.
 fn peer(view: &View<'_>) -> Peer
-    ensures { result ≡ peer_of view.now }
+    ensures { result ≡ spec.peer view.now }
 {
     Peer {
         addr: view.source(),
@@ -43,7 +44,7 @@ fn peer(view: &View<'_>) -> Peer
 
 /// The part that answers a request with a page.
 fn page_part(page: Page) -> AnswerPart
-    ensures { result ≡ part_of page }
+    ensures { result ≡ spec.page_part page }
 {
     AnswerPart {
         user: page.user(),
@@ -79,9 +80,9 @@ fn respond(
 ) -> Result<Transacted, Error>
     requires { length part.payload ≤ 578 }
     ensures packets { IfOk result (λ x. x.packets.items ≡ bytes_of_all
-        (reply_to from (packet_value packet.now) (part ∷ []) responder.now).0) }
+        (replies_spec.reply from (packet_value packet.now) (part ∷ []) responder.now).0) }
     ensures requests { IfOk result (λ x. x.responder ≡ Some
-        (reply_to from (packet_value packet.now) (part ∷ []) responder.now).1) }
+        (replies_spec.reply from (packet_value packet.now) (part ∷ []) responder.now).1) }
     ensures few { IfOk result (λ x. length x.packets.items ≤ 8) }
     ensures short { IfOk result (λ x. AreShort x.packets.items) }
     ensures refused { IsOkUnless result Error.Memory }
@@ -103,10 +104,10 @@ fn release(
     from: Peer,
     packet: &Packet<'_>,
 ) -> Result<Transacted, Error>
-    requires { asks packet.now.control ≡ false }
+    requires { packets_spec.is_request packet.now.control ≡ false }
     ensures packets { IfOk result (λ x. x.packets.items ≡ []) }
     ensures requests { IfOk result (λ x. unwrap_or x.responder responder.now
-        ≡ (hears from (packet_value packet.now) responder.now).1) }
+        ≡ (responding_spec.heard from (packet_value packet.now) responder.now).1) }
     ensures refused { IsOkUnless result Error.Memory }
 {
     if !packet.is_release() {
@@ -123,7 +124,7 @@ fn release(
 impl<T: RouteTable> Router<T> {
     /// The page that a node gets.
     fn page_for(&self, view: &View<'_>, function: ZoneFunction, start: u16) -> Result<Page, Error>
-        ensures ok { IfOk result (λ page. page ≡ page_of self.now view.now (function, start)) }
+        ensures ok { IfOk result (λ page. page ≡ spec.page_for self.now view.now (function, start)) }
         ensures short { IfOk result (λ page. length page.bytes ≤ 578) }
         ensures refused { IsOkUnless result Error.Memory }
     {

@@ -3,7 +3,8 @@
 ghost use Rattle.std.specs.Prelude.{◌≡◌, ◌<◌, ◌≤◌, length, nat_lt, IfSome, IsTrue, Some};
 ghost use Rattle.std.specs.List.{list_all};
 ghost use Rattle.atp.specs.Responding.{ticked};
-ghost use Rattle.router.specs.Ending.{ended as datagram_ended, ended_datagram};
+ghost use Rattle.router.specs.Ending as spec;
+ghost use Rattle.router.specs.Ending.{ended_datagram};
 ghost use Rattle.rtmp.specs.Routes.{poisoned};
 ghost use Rattle.station.specs.Hearing.{hearing};
 
@@ -52,7 +53,7 @@ impl<T: RouteTable> Router<T> {
     /// Inside AppleTalk, the chapter on DDP.
     pub fn ended<'a>(&self, heard: &Heard<'a>) -> Option<(u8, View<'a>)>
         requires { heard.now.port < length self.now.ports }
-        ensures value { result ≡ datagram_ended self.now (hearing heard.now) }
+        ensures value { result ≡ spec.ended self.now (hearing heard.now) }
         ensures inside { IfSome result (λ e. e.0 < length self.now.ports) }
     {
         match heard.kind {

@@ -7,9 +7,9 @@ ghost use Rattle.at_base.specs.Range.{is_between};
 ghost use Rattle.at_base.specs.Text.{IsName};
 ghost use Rattle.nbp.specs.Expansion.{IsAskIn};
 ghost use Rattle.station.specs.Made.{AreMade, IsWayIn};
-ghost use Rattle.router.specs.Requests.{asked, forward_way as way_forward, looked_by, looked_on};
-ghost use Rattle.router.specs.Requests.{lookup_way as way_of_lookup, looked_up, made_of, names_in};
-ghost use Rattle.router.specs.Requests.{ranges as ranges_of, request_header as header_of};
+ghost use Rattle.router.specs.Requests as spec;
+ghost use Rattle.router.specs.Requests.{asked, looked_by, looked_on};
+ghost use Rattle.router.specs.Requests.{looked_up, made_of, names_in};
 ghost use Rattle.router.specs.Requests.{requests_made};
 
 use crate::request::Request;
@@ -40,7 +40,7 @@ fn read_packet(payload: &[u8]) -> Option<Packet<'_>>
 
 /// The header of a request that a router makes, without a source.
 fn request_header(request: &Request, target: Addr) -> Header
-    ensures { result ≡ header_of request.now target }
+    ensures { result ≡ spec.request_header request.now target }
 {
     Header {
         summed: request.summed,
@@ -54,7 +54,7 @@ fn request_header(request: &Request, target: Addr) -> Header
 
 /// Appends the ranges of ports.
 fn put_ranges(made: &mut Vec<Range>, ports: &[Chooser]) -> Result<(), Error>
-    ensures put { OnOk result (made.new.items ≡ made.old.items ++ ranges_of ports.now) }
+    ensures put { OnOk result (made.new.items ≡ made.old.items ++ spec.ranges ports.now) }
     ensures refused { IsOkUnless result Error.Memory }
 {
     match ports {
@@ -68,7 +68,7 @@ fn put_ranges(made: &mut Vec<Range>, ports: &[Chooser]) -> Result<(), Error>
 
 /// The ranges of ports. Error: `Memory`.
 fn ranges(alloc: Global, ports: &[Chooser]) -> Result<Vec<Range>, Error>
-    ensures ok { IfOk result (λ made. made.items ≡ ranges_of ports.now) }
+    ensures ok { IfOk result (λ made. made.items ≡ spec.ranges ports.now) }
     ensures refused { IsOkUnless result Error.Memory }
 {
     let mut made = Vec::with_capacity(alloc, ports.len())?;
@@ -88,7 +88,7 @@ impl<T: RouteTable> Router<T> {
     /// The way of a lookup by a port.
     fn lookup_way(&self, request: &Request, port: u8) -> Option<Way>
         requires name { IsName request.now.tuple.zone }
-        ensures value { result ≡ way_of_lookup self.now request.now port }
+        ensures value { result ≡ spec.lookup_way self.now request.now port }
         ensures inside { port < length self.now.ports → IsWayIn (length self.now.ports) result }
     {
         let group = Name::of(request.tuple.zone.as_slice()).group();
@@ -102,7 +102,7 @@ impl<T: RouteTable> Router<T> {
 
     /// The way of a forward request to a network.
     fn forward_way(&self, request: &Request, net: u16) -> Option<Way>
-        ensures value { result ≡ way_forward self.now request.now net }
+        ensures value { result ≡ spec.forward_way self.now request.now net }
         ensures inside { IsWayIn (length self.now.ports) result }
     {
         let any_router = Addr {

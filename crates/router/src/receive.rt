@@ -6,7 +6,8 @@ ghost use Rattle.std.specs.Option.{unwrap_or};
 ghost use Rattle.station.specs.Hearing.{hearing};
 ghost use Rattle.station.specs.Lawful.{AreLawful, IsGood, PutsOut, is_made};
 ghost use Rattle.router.specs.Answers.{heard_datagram};
-ghost use Rattle.router.specs.Forwarding.{IsBy, IsNear, fate as fate_of};
+ghost use Rattle.router.specs.Forwarding as spec;
+ghost use Rattle.router.specs.Forwarding.{IsBy, IsNear};
 
 use crate::course::Step;
 use crate::router::Router;
@@ -20,7 +21,7 @@ use std::alloc::Global;
 /// What is put out of a datagram itself, if anything is.
 fn fate(alloc: Global, step: Option<Step>, view: &View<'_>) -> Result<Option<Output>, Error>
     requires { IfSome step (IsNear view.now.hops) }
-    ensures ok { IfOk result (λ made. option_to_list made ≡ fate_of step view.now) }
+    ensures ok { IfOk result (λ made. option_to_list made ≡ spec.fate step view.now) }
     ensures other { IfOk result (λ made. IfSome made (λ o. is_made o ≡ false)) }
     ensures good { IfOk result (λ made. (n : ℕ) → IfSome step (IsBy n)
         → IfSome made (λ o. IsGood n o)) }

@@ -4,7 +4,8 @@ ghost use Rattle.std.specs.Prelude.{◌≡◌, ◌<◌, ◌↔◌, ◌⊎◌, �
 ghost use Rattle.std.specs.Prelude.{[], IfErr, IfOk, IsOkUnless, IsTrue, OnOk};
 ghost use Rattle.std.specs.List.{list_all};
 ghost use Rattle.station.specs.Ports.{is_planned, planned};
-ghost use Rattle.router.specs.Holding.{IsHandIn, hand as hand_in, hand_by, own_at as address_at};
+ghost use Rattle.router.specs.Holding as spec;
+ghost use Rattle.router.specs.Holding.{IsHandIn, hand_by};
 
 use crate::hand::Hand;
 use aarp::Chooser;
@@ -54,7 +55,7 @@ impl<T: RouteTable> Model for Router<T> {
 
 /// The address of the port at an index, once it is settled.
 pub(crate) fn own_at(ports: &[Chooser], port: u8) -> Option<Addr>
-    ensures { result ≡ address_at ports.now port }
+    ensures { result ≡ spec.own_at ports.now port }
 {
     match ports.get(port as usize) {
         Some(chooser) => chooser.settled(),
@@ -127,7 +128,7 @@ impl<T: RouteTable> Router<T> {
 
     /// What the router does with datagrams for a network. Allocates nothing.
     pub fn hand(&self, net: u16) -> Hand
-        ensures value { result ≡ hand_in self.now.routes net }
+        ensures value { result ≡ spec.hand self.now.routes net }
         ensures inside { IsHandIn (length self.now.ports) result }
     {
         hand_of(self.routes.row_for(net))
@@ -135,7 +136,7 @@ impl<T: RouteTable> Router<T> {
 
     /// The address of the port at an index, once it is settled. Allocates nothing.
     pub fn own(&self, port: u8) -> Option<Addr>
-        ensures { result ≡ address_at self.now.ports port }
+        ensures { result ≡ spec.own_at self.now.ports port }
     {
         own_at(self.ports.as_slice(), port)
     }

@@ -1,10 +1,12 @@
 //! By which way a router's own datagrams leave.
 
 ghost use Rattle.std.specs.Prelude.{◌≡◌, ℕ, length};
-ghost use Rattle.router.specs.Holding.{IsHandIn, own_at as address_at};
-ghost use Rattle.router.specs.Ways.{is_answered as answers, way_back as back, way_by};
+ghost use Rattle.router.specs.Holding as holding_spec;
+ghost use Rattle.router.specs.Holding.{IsHandIn};
+ghost use Rattle.router.specs.Ways as ways_spec;
+ghost use Rattle.router.specs.Ways.{way_by};
 ghost use Rattle.station.specs.Made.{IsWayIn};
-ghost use Rattle.station.specs.Ports.{have as have_address};
+ghost use Rattle.station.specs.Ports as ports_spec;
 
 use crate::course::has;
 use crate::hand::Hand;
@@ -18,14 +20,14 @@ use station::{Next, Way};
 
 /// One of the ports has the address.
 fn have(target: Addr, ports: &[Chooser]) -> bool
-    ensures { result ≡ have_address target ports.now }
+    ensures { result ≡ ports_spec.have target ports.now }
 {
     ports.iter().any(|port| has(target, port.settled()))
 }
 
 /// Whether the address is replied to.
 pub(crate) fn is_answered(ports: &[Chooser], target: Addr) -> bool
-    ensures { result ≡ answers ports.now target }
+    ensures { result ≡ ways_spec.is_answered ports.now target }
 {
     target.net != 0 && target.node != 0 && !have(target, ports)
 }
@@ -46,7 +48,7 @@ fn reply_way(hand: Hand, own: Option<Addr>, header: Header) -> Option<Way>
 /// The way of a request of the router's own with this header: its source is the address of the port
 /// by which it leaves.
 pub(crate) fn request_way(ports: &[Chooser], hand: Hand, header: Header) -> Option<Way>
-    ensures value { result ≡ way_by hand (address_at ports.now) header }
+    ensures value { result ≡ way_by hand (holding_spec.own_at ports.now) header }
     ensures inside { (n : ℕ) → IsHandIn n hand → IsWayIn n result }
 {
     match hand {
@@ -65,7 +67,7 @@ pub(crate) fn request_way(ports: &[Chooser], hand: Hand, header: Header) -> Opti
 impl<T: RouteTable> Router<T> {
     /// The way of the reply to a datagram that ended on a port.
     pub(crate) fn way_back(&self, port: u8, view: &View<'_>) -> Option<Way>
-        ensures value { result ≡ back self.now port view.now }
+        ensures value { result ≡ ways_spec.way_back self.now port view.now }
         ensures inside { IsWayIn (length self.now.ports) result }
     {
         let target = view.source();

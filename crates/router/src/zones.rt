@@ -4,11 +4,12 @@ ghost use Rattle.std.specs.Prelude.{◌≡◌, ◌<◌, ◌≤◌, ◌+◌, ◌+
 ghost use Rattle.std.specs.Prelude.{IsOkUnless, OnOk};
 ghost use Rattle.at_base.specs.Spelling.{bytes_of};
 ghost use Rattle.zip_zones.specs.Answers.{replies};
-ghost use Rattle.zip_zones.specs.Formats.{packet as zip_packet};
+ghost use Rattle.zip_zones.specs.Formats as formats_spec;
 ghost use Rattle.station.specs.Made.{AreMade, IsWayIn};
-ghost use Rattle.router.specs.Ways.{way_back as back};
+ghost use Rattle.router.specs.Ways as ways_spec;
 ghost use Rattle.station.specs.Ways.{replying};
-ghost use Rattle.router.specs.Zones.{info, info_way as way_of_info, told as is_told};
+ghost use Rattle.router.specs.Zones as zones_spec;
+ghost use Rattle.router.specs.Zones.{info};
 ghost use Rattle.router.specs.Zones.{zones_in, zones_told};
 
 use crate::router::Router;
@@ -34,7 +35,7 @@ fn read_packet(payload: &[u8]) -> Option<Packet<'_>>
 impl<T: RouteTable> Router<T> {
     /// The way of what a node is told of the cable of this range, on which it asked.
     fn info_way(&self, port: u8, range: Range, view: &View<'_>) -> Option<Way>
-        ensures value { result ≡ way_of_info self.now port range view.now }
+        ensures value { result ≡ zones_spec.info_way self.now port range view.now }
         ensures inside { port < length self.now.ports → IsWayIn (length self.now.ports) result }
     {
         let asker = view.source();
@@ -64,7 +65,7 @@ impl<T: RouteTable> Router<T> {
     ) -> Result<(), Error>
         requires { port < length self.now.ports }
         ensures put { OnOk result (made.new.items ≡ made.old.items
-            ++ replying (way_of_info self.now port range view.now) (info self.now range zone.now)) }
+            ++ replying (zones_spec.info_way self.now port range view.now) (info self.now range zone.now)) }
         ensures few { OnOk result (length made.new.items ≤ length made.old.items + 1) }
         ensures good { OnOk result (AreMade (length self.now.ports) made.old.items
             → AreMade (length self.now.ports) made.new.items) }
@@ -86,7 +87,7 @@ impl<T: RouteTable> Router<T> {
     ) -> Result<(), Error>
         requires { port < length self.now.ports }
         ensures put { OnOk result
-            (made.new.items ≡ made.old.items ++ is_told self.now port view.now zone.now) }
+            (made.new.items ≡ made.old.items ++ zones_spec.told self.now port view.now zone.now) }
         ensures few { OnOk result (length made.new.items ≤ length made.old.items + 1) }
         ensures good { OnOk result (AreMade (length self.now.ports) made.old.items
             → AreMade (length self.now.ports) made.new.items) }
@@ -107,8 +108,8 @@ impl<T: RouteTable> Router<T> {
         networks: Networks<'_>,
     ) -> Result<(), Error>
         ensures put { OnOk result (made.new.items ≡ made.old.items ++ replying
-            (back self.now port view.now)
-            (map (bytes_of zip_packet) (replies self.now.zones networks.entry))) }
+            (ways_spec.way_back self.now port view.now)
+            (map (bytes_of formats_spec.packet) (replies self.now.zones networks.entry))) }
         ensures few { OnOk result (length made.new.items ≤ length made.old.items + 64) }
         ensures good { OnOk result (AreMade (length self.now.ports) made.old.items
             → AreMade (length self.now.ports) made.new.items) }

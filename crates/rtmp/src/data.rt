@@ -2,7 +2,8 @@
 
 ghost use Rattle.std.specs.Prelude.{◌≡◌, ◌≢◌, ◌∷◌, [], length, IfOk, IfNone, IfSome};
 ghost use Rattle.at_base.specs.Packets.{packets};
-ghost use Rattle.at_base.specs.Reading.{Gives, Reads, many_at, read as read_by};
+ghost use Rattle.at_base.specs.Reading as spec;
+ghost use Rattle.at_base.specs.Reading.{Gives, Reads, many_at};
 ghost use Rattle.rtmp.specs.Data.{routing_data, written_tuple, written_in, IsTuples, data_in};
 ghost use Rattle.rtmp.specs.Data.{tuples_of, own_range};
 
@@ -15,7 +16,7 @@ use std::marker::Model;
 /// Goes through the tuples up to the end of the bytes.
 fn check_tuples(bytes: &[u8]) -> Result<(), Error>
     ensures { Gives (λ _. written_in 0 bytes.now) result
-        (many_at (λ n. read_by packets (written_tuple n)) (λ t. 1) 0 (length bytes.now)
+        (many_at (λ n. spec.read packets (written_tuple n)) (λ t. 1) 0 (length bytes.now)
         bytes.now) }
 {
     let mut rest = bytes;
@@ -36,7 +37,7 @@ fn check_tuples(bytes: &[u8]) -> Result<(), Error>
 #[tactic(auto, unfolding(crate::specs::Data::routing_data))]
 fn parts_of(bytes: &[u8]) -> Result<(Addr, &[u8]), Error>
     ensures value { Gives (λ x. (data_in x.0 x.1.now, [])) result
-        (read_by packets routing_data bytes.now) }
+        (spec.read packets routing_data bytes.now) }
     ensures whole { IfOk result (λ x. IsTuples 0 x.1.now) }
     ensures some { IfOk result (λ x. x.1.now ≢ []) }
 {

@@ -5,10 +5,9 @@ ghost use Rattle.std.specs.Prelude.{vec_capacity};
 ghost use Rattle.std.specs.List.{list_all, list_any};
 ghost use Rattle.std.specs.Option.{option_copied};
 ghost use Rattle.at_base.specs.Range.{IsRange, overlaps, is_range};
-ghost use Rattle.rtmp.specs.Routes.{are_apart, row_at, row_for as row_in, beside, added};
-ghost use Rattle.rtmp.specs.Routes.{is_over as over, replaced, IsRouteMap};
-ghost use Rattle.rtmp.specs.Routes.{after_hearing as hears, heard_row as new_row};
-ghost use Rattle.rtmp.specs.Routes.{direct_row as own_row, is_new as new_range};
+ghost use Rattle.rtmp.specs.Routes as spec;
+ghost use Rattle.rtmp.specs.Routes.{are_apart, row_at, beside, added};
+ghost use Rattle.rtmp.specs.Routes.{replaced, IsRouteMap};
 ghost use Rattle.rtmp.specs.Updates.{before};
 
 use crate::row::Row;
@@ -136,7 +135,7 @@ fn row_of(rows: &[Row], range: Range, near: usize) -> Option<&Row>
 
 /// The usable row whose range holds the network.
 fn usable_row(rows: &[Row], net: u16) -> Option<&Row>
-    ensures { option_copied result ≡ row_in net rows.now }
+    ensures { option_copied result ≡ spec.row_for net rows.now }
 {
     rows.iter()
         .find(|row| row.state.is_usable() && row.range.holds(net))
@@ -162,7 +161,7 @@ fn keep_beside(rows: &mut Vec<Row>, range: Range)
 
 /// Takes out the rows in their last state.
 fn drop_over(rows: &mut Vec<Row>)
-    ensures { rows.new.items ≡ filter (λ r. not (over r)) rows.old.items }
+    ensures { rows.new.items ≡ filter (λ r. not (spec.is_over r)) rows.old.items }
 {
     rows.retain(|row| !is_over(row));
 }
@@ -170,7 +169,7 @@ fn drop_over(rows: &mut Vec<Row>)
 /// The row of a range that `source`, heard on a port, is so far from.
 fn heard_row(range: Range, distance: u8, source: Addr, port: u8) -> Row
     requires { distance ≤ 14 }
-    ensures { result ≡ new_row range distance source port }
+    ensures { result ≡ spec.heard_row range distance source port }
 {
     Row {
         range,
@@ -190,7 +189,7 @@ fn recall_valid(range: Range)
 
 /// The row of a cable that a port stands on.
 fn direct_row(range: Range, port: u8) -> Row
-    ensures { result ≡ own_row range port }
+    ensures { result ≡ spec.direct_row range port }
 {
     Row {
         range,
@@ -203,7 +202,7 @@ fn direct_row(range: Range, port: u8) -> Row
 
 /// The row of a range after `source` said on a port that it is at `distance`, and the change.
 fn after_hearing(row: &Row, distance: u8, source: Addr, port: u8) -> (Row, Change)
-    ensures { result ≡ hears row.now distance source port }
+    ensures { result ≡ spec.after_hearing row.now distance source port }
 {
     let unchanged = (*row, Change::Ignored);
     let is_next = row.next == source && row.port == port;
@@ -233,7 +232,7 @@ fn overlaps_any(rows: &[Row], range: Range) -> bool
 
 /// Whether a range that no row has is added.
 fn is_new(rows: &[Row], range: Range, distance: u8) -> bool
-    ensures value { result ≡ new_range range distance rows.now }
+    ensures value { result ≡ spec.is_new range distance rows.now }
     ensures near { result ≡ true → distance ≤ 14 }
 {
     distance <= MAX_DISTANCE && !overlaps_any(rows, range)

@@ -22,11 +22,11 @@ pub struct Row {
 
 impl Row {
     ghost use Rattle.std.specs.Prelude.{◌≡◌};
-    ghost use Rattle.rtmp.specs.Routes.{is_direct as direct};
+    ghost use Rattle.rtmp.specs.Routes as spec;
 
     /// Whether a port stands on the range's own cable, so that there is no next router.
     pub fn is_direct(&self) -> bool
-        ensures { result ≡ direct self.now }
+        ensures { result ≡ spec.is_direct self.now }
     {
         self.next.is_none()
     }

@@ -14,11 +14,11 @@ pub enum State {
 
 impl State {
     ghost use Rattle.std.specs.Prelude.{◌≡◌};
-    ghost use Rattle.rtmp.specs.States.{is_usable as usable};
+    ghost use Rattle.rtmp.specs.States as spec;
 
     /// Whether a row in this state is used for forwarding.
     pub fn is_usable(self) -> bool
-        ensures { result ≡ usable self }
+        ensures { result ≡ spec.is_usable self }
     {
         match self {
             State::Good | State::Suspect => true,

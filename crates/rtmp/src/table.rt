@@ -4,7 +4,8 @@ ghost use Rattle.std.specs.Prelude.{◌≡◌, ◌≢◌, ◌≤◌, ◌<◌, �
 ghost use Rattle.std.specs.Prelude.{slice_get, nat_le};
 ghost use Rattle.std.specs.Prelude.{IfOk, IfErr, OnOk, OnErr, IsOk, IsTrue, IsOkUnless};
 ghost use Rattle.std.specs.List.{list_all};
-ghost use Rattle.rtmp.specs.Routes.{IsRouteMap, are_apart, row_for as row_in};
+ghost use Rattle.rtmp.specs.Routes as spec;
+ghost use Rattle.rtmp.specs.Routes.{IsRouteMap, are_apart};
 ghost use Rattle.rtmp.specs.Routes.{beside, directed, heard, aged, poisoned};
 ghost use Rattle.rtmp.specs.declared.table.Change.TheVariants.{Added};
 
@@ -61,7 +62,7 @@ pub trait RouteTable: Drop {
 
     /// The usable row whose range holds the network. Allocates nothing.
     fn row_for(&self, net: u16) -> Option<Row>
-        ensures value { result ≡ row_in net (rows self.now) }
+        ensures value { result ≡ spec.row_for net (rows self.now) }
         ensures map { IsRouteMap (rows self.now) };
 
     /// Takes these rows in place of its own. Distances of at most 31 are the caller's condition.

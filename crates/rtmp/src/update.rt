@@ -1,7 +1,8 @@
 //! Changes of the rows of a table, one by one: none of them changes a range.
 
 ghost use Rattle.std.specs.Prelude.{◌≡◌, map};
-ghost use Rattle.rtmp.specs.Routes.{aged_row, is_over as over, older as state_after};
+ghost use Rattle.rtmp.specs.Routes as spec;
+ghost use Rattle.rtmp.specs.Routes.{aged_row};
 ghost use Rattle.rtmp.specs.Updates.{updated};
 
 use crate::row::Row;
@@ -19,7 +20,7 @@ pub(crate) enum Update {
 
 /// The state that follows.
 fn older(state: State) -> State
-    ensures { result ≡ state_after state }
+    ensures { result ≡ spec.older state }
 {
     match state {
         State::Good => State::Suspect,
@@ -30,7 +31,7 @@ fn older(state: State) -> State
 
 /// Whether the row goes when it next grows older.
 pub(crate) fn is_over(row: &Row) -> bool
-    ensures { result ≡ over row.now }
+    ensures { result ≡ spec.is_over row.now }
 {
     !row.is_direct() && matches!(row.state, State::Last)
 }

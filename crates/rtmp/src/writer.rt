@@ -3,9 +3,11 @@
 ghost use Rattle.std.specs.Prelude.{◌≡◌, ◌≤◌, ◌++◌, length, map, take, drop, IfOk, OnOk};
 ghost use Rattle.std.specs.Prelude.{IsOkUnless};
 ghost use Rattle.at_base.specs.Range.{IsRange};
-ghost use Rattle.rtmp.specs.Bytes.{head_bytes, tuple_bytes as bytes_of_tuple, tuples_bytes};
+ghost use Rattle.rtmp.specs.Bytes as bytes_spec;
+ghost use Rattle.rtmp.specs.Bytes.{head_bytes, tuples_bytes};
 ghost use Rattle.rtmp.specs.Routes.{IsRouteMap};
-ghost use Rattle.rtmp.specs.Sending.{packet_numbered, IsPacket, sent_tuple as tuple_of_row};
+ghost use Rattle.rtmp.specs.Sending as sending_spec;
+ghost use Rattle.rtmp.specs.Sending.{packet_numbered, IsPacket};
 ghost use Rattle.rtmp.specs.Sending.{of_other_ports, own_tuple};
 
 use crate::row::Row;
@@ -27,7 +29,7 @@ const TUPLE_LEN: usize = 6;
 
 /// What is sent of a row.
 fn sent_tuple(row: &Row) -> Tuple
-    ensures { result ≡ tuple_of_row row.now }
+    ensures { result ≡ sending_spec.sent_tuple row.now }
 {
     let distance = if row.state.is_usable() {
         row.distance
@@ -54,7 +56,7 @@ fn put_head(bytes: &mut Vec<u8>, me: Addr) -> Result<(), Error>
 /// Appends an extended tuple.
 fn put_tuple(bytes: &mut Vec<u8>, tuple: Tuple) -> Result<(), Error>
     requires { tuple.distance ≤ 31 }
-    ensures put { OnOk result (bytes.new.items ≡ bytes.old.items ++ bytes_of_tuple tuple) }
+    ensures put { OnOk result (bytes.new.items ≡ bytes.old.items ++ bytes_spec.tuple_bytes tuple) }
     ensures valid { OnOk result (IsRange tuple.range.start tuple.range.end) }
     ensures refused { IsOkUnless result Error.Memory }
 {
@@ -68,7 +70,7 @@ fn put_tuple(bytes: &mut Vec<u8>, tuple: Tuple) -> Result<(), Error>
 /// Appends what each packet begins with: the router, and the port's own range at distance 0.
 fn put_front(bytes: &mut Vec<u8>, me: Addr, own: Range) -> Result<(), Error>
     ensures put { OnOk result (bytes.new.items
-        ≡ bytes.old.items ++ head_bytes me ++ bytes_of_tuple (own_tuple own)) }
+        ≡ bytes.old.items ++ head_bytes me ++ bytes_spec.tuple_bytes (own_tuple own)) }
     ensures valid { OnOk result (IsRange own.start own.end) }
     ensures refused { IsOkUnless result Error.Memory }
 {
@@ -106,7 +108,7 @@ fn put_rows<T: RouteTable>(
     left_out: usize,
 ) -> Result<(), Error>
     ensures put { OnOk result (bytes.new.items ≡ bytes.old.items ++ tuples_bytes
-        (map tuple_of_row (take 96 (drop left_out (of_other_ports port (T.rows table.now)))))) }
+        (map sending_spec.sent_tuple (take 96 (drop left_out (of_other_ports port (T.rows table.now)))))) }
     ensures refused { IsOkUnless result Error.Memory }
 {
     let mut left_out = left_out;

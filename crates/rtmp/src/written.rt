@@ -5,8 +5,9 @@ ghost use Rattle.at_base.specs.Grammar.{number, one};
 ghost use Rattle.at_base.specs.Packets.{packets};
 ghost use Rattle.at_base.specs.Range.{is_range};
 ghost use Rattle.at_base.specs.Reading.{Gives, field_at, read};
-ghost use Rattle.rtmp.specs.Data.{wrong_third, wrong_extension, extension_at as spelled_extension};
-ghost use Rattle.rtmp.specs.Data.{written_tuple, tuple_of as said, IsWritten};
+ghost use Rattle.rtmp.specs.Data as spec;
+ghost use Rattle.rtmp.specs.Data.{wrong_third, wrong_extension};
+ghost use Rattle.rtmp.specs.Data.{written_tuple, IsWritten};
 
 use crate::tuple::Tuple;
 use at_base::packet::{byte_at, u16_at};
@@ -63,7 +64,7 @@ fn extension_at(
     bytes: &[u8],
 ) -> Result<(Option<Extension>, &[u8]), Error>
     ensures read { Gives (λ x. (x.0, x.1.now)) result
-        (read packets (spelled_extension low start third (nat_le 128 third)) bytes.now) }
+        (read packets (spec.extension_at low start third (nat_le 128 third)) bytes.now) }
     ensures valid { IfOk result (λ x. IfSome x.0 (λ e. is_range start e.end ≡ true)) }
 {
     if third < 128 {
@@ -97,7 +98,7 @@ pub(crate) fn written_at(low: u32, bytes: &[u8]) -> Result<(Written, &[u8]), Err
 /// What an extended tuple says, and nothing of another.
 pub(crate) fn tuple_of(written: &Written) -> Option<Tuple>
     requires { IsWritten written.now }
-    ensures { result ≡ said written.now }
+    ensures { result ≡ spec.tuple_of written.now }
 {
     let extension = written.extension?;
     Some(Tuple {

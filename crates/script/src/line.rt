@@ -2,7 +2,8 @@
 
 ghost use Rattle.std.specs.Prelude.{◌≡◌, IfOk, IsOkUnless};
 ghost use Rattle.at_base.specs.Text.{same_bytes};
-ghost use Rattle.script.specs.Lines.{draining, is_skipped as skipped, step as said, taking};
+ghost use Rattle.script.specs.Lines as spec;
+ghost use Rattle.script.specs.Lines.{draining, taking};
 
 use at_base::Error;
 use crate::request::request;
@@ -16,7 +17,7 @@ use text::number::number;
 
 /// Whether the line says nothing: it is empty, or begins with a `#`.
 pub(crate) fn is_skipped(line: &[u8]) -> bool
-    ensures { result ≡ skipped line.now }
+    ensures { result ≡ spec.is_skipped line.now }
 {
     match line {
         [] => true,
@@ -54,7 +55,7 @@ fn drain(mut words: Words<'_>) -> Option<Step>
 
 /// The step that the line says, if it says one. Error: `Memory`.
 pub(crate) fn step(alloc: Global, line: &[u8]) -> Result<Option<Step>, Error>
-    ensures read { IfOk result (λ x. x ≡ said line.now) }
+    ensures read { IfOk result (λ x. x ≡ spec.step line.now) }
     ensures refused { IsOkUnless result Error.Memory }
 {
     let mut words = Words::of(line);

@@ -2,8 +2,8 @@
 
 ghost use Rattle.std.specs.Prelude.{◌≡◌, ◌<◌, ◌&&◌, None, Some, cond, length, nat_le};
 ghost use Rattle.std.specs.Prelude.{IfSome};
-ghost use Rattle.script.specs.Lines.{last_place, name as name_of};
-ghost use Rattle.script.specs.Lines.{parts as parts_of};
+ghost use Rattle.script.specs.Lines as spec;
+ghost use Rattle.script.specs.Lines.{last_place};
 
 use at_base::{Addr, Text32};
 use nbp::Tuple;
@@ -33,16 +33,16 @@ struct Parts<'a> {
 }
 
 impl<'a> Model for Parts<'a> {
-    ghost use Rattle.script.specs.Lines.{Parts as PartsValue};
+    ghost use Rattle.script.specs.Lines as spec;
 
-    ghost Value = { PartsValue };
+    ghost Value = { spec.Parts };
 
     ghost view = { λ p. record { object = p.object.now; kind = p.kind.now; zone = p.zone.now } };
 }
 
 /// What a text is cut into at its first colon and at its last at sign.
 fn cut_name(text: &[u8]) -> Option<Parts<'_>>
-    ensures { result ≡ parts_of text.now }
+    ensures { result ≡ spec.parts text.now }
 {
     let colon = place_of(b':', text)?;
     let at = last_place_of(b'@', text)?;
@@ -73,7 +73,7 @@ fn text_of(bytes: &[u8], least: usize) -> Option<Text32>
 /// The tuple of a request for the names of a text; `None` where that isn't OBJECT:TYPE@ZONE, or a
 /// part of it has too few bytes or too many.
 pub(crate) fn name(text: &[u8]) -> Option<Tuple>
-    ensures { result ≡ name_of text.now }
+    ensures { result ≡ spec.name text.now }
 {
     let Some(parts) = cut_name(text) else {
         return None;

@@ -2,7 +2,7 @@
 
 ghost use Rattle.std.specs.Prelude.{◌≡◌, None, IfNone, IfSome};
 ghost use Rattle.script.specs.Cuts.{asked_by};
-ghost use Rattle.script.specs.Lines.{request as said};
+ghost use Rattle.script.specs.Lines as spec;
 
 use crate::name::name;
 use crate::step::Step;
@@ -23,8 +23,8 @@ struct RequestWords<'a> {
 
 /// The three words, and the rest of the line.
 fn words_of(mut words: Words<'_>) -> Option<RequestWords<'_>>
-    ensures some { IfSome result (λ w. said words.entry ≡ asked_by w) }
-    ensures none { IfNone result (said words.entry ≡ None) }
+    ensures some { IfSome result (λ w. spec.request words.entry ≡ asked_by w) }
+    ensures none { IfNone result (spec.request words.entry ≡ None) }
 {
     Some(RequestWords {
         node: words.next()?,
@@ -36,7 +36,7 @@ fn words_of(mut words: Words<'_>) -> Option<RequestWords<'_>>
 
 /// The step that the words after `request` say, if they say one.
 pub(crate) fn request(words: Words<'_>) -> Option<Step>
-    ensures { result ≡ said words.entry }
+    ensures { result ≡ spec.request words.entry }
 {
     let words = words_of(words)?;
     Some(Step::Event(Event::Request {

@@ -2,8 +2,8 @@
 
 ghost use Rattle.std.specs.Prelude.{◌≡◌, None, Some, IfNone, IfOk, IfSome, IsOkUnless};
 ghost use Rattle.script.specs.Cuts.{all_of};
-ghost use Rattle.script.specs.Lines.{send as said};
-ghost use Rattle.script.specs.Words.{bytes as bytes_of};
+ghost use Rattle.script.specs.Lines as lines_spec;
+ghost use Rattle.script.specs.Words as words_spec;
 
 use at_base::{Bytes, Error};
 use crate::step::Step;
@@ -30,7 +30,7 @@ struct SendWords<'a> {
 /// The eight words.
 fn words_of(mut words: Words<'_>) -> Option<SendWords<'_>>
     ensures some { IfSome result (λ w. words.entry ≡ all_of w) }
-    ensures none { IfNone result (said words.entry ≡ None) }
+    ensures none { IfNone result (lines_spec.send words.entry ≡ None) }
 {
     let made = SendWords {
         node: words.next()?,
@@ -48,8 +48,8 @@ fn words_of(mut words: Words<'_>) -> Option<SendWords<'_>>
 
 /// The step that the words say, with the bytes that the last of them is.
 fn sent(words: &SendWords<'_>, payload: Bytes) -> Option<Step>
-    requires { bytes_of words.now.hex.now ≡ Some payload }
-    ensures { result ≡ said (all_of words.now) }
+    requires { words_spec.bytes words.now.hex.now ≡ Some payload }
+    ensures { result ≡ lines_spec.send (all_of words.now) }
 {
     Some(Step::Event(Event::Send {
         node: address(words.node)?,
@@ -65,7 +65,7 @@ fn sent(words: &SendWords<'_>, payload: Bytes) -> Option<Step>
 
 /// The step that the words after `send` say, if they say one. Error: `Memory`.
 pub(crate) fn send(alloc: Global, words: Words<'_>) -> Result<Option<Step>, Error>
-    ensures read { IfOk result (λ x. x ≡ said words.entry) }
+    ensures read { IfOk result (λ x. x ≡ lines_spec.send words.entry) }
     ensures refused { IsOkUnless result Error.Memory }
 {
     let Some(words) = words_of(words) else {

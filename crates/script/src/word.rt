@@ -1,7 +1,7 @@
 //! What a word may be, apart from numbers and addresses.
 
 ghost use Rattle.std.specs.Prelude.{◌≡◌, IfOk, IsOkUnless};
-ghost use Rattle.at_base.specs.Text.{is_only as only};
+ghost use Rattle.at_base.specs.Text as text_spec;
 ghost use Rattle.script.specs.Words as spec;
 
 use at_base::{Addr, Bytes, Error};
@@ -10,7 +10,7 @@ use text::address;
 use text::hex::pairs;
 
 fn is_only(byte: u8, word: &[u8]) -> bool
-    ensures { result ≡ only byte word.now }
+    ensures { result ≡ text_spec.is_only byte word.now }
 {
     match word {
         [b] => *b == byte,

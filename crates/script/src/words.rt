@@ -1,7 +1,7 @@
 //! The words of a line, one at a time.
 
 ghost use Rattle.std.specs.Prelude.{◌≡◌, ◌∷◌, [], ℕ, List, IfNone, IfSome};
-ghost use Rattle.script.specs.Words.{words as words_of};
+ghost use Rattle.script.specs.Words as spec;
 
 use std::marker::Model;
 use text::cut::cut;
@@ -25,7 +25,7 @@ impl<'a> Model for Words<'a> {
 impl<'a> Words<'a> {
     /// The words of a line: the parts that one space separates.
     pub(crate) fn of(line: &'a [u8]) -> Words<'a>
-        ensures { result ≡ words_of line.now }
+        ensures { result ≡ spec.words line.now }
     {
         Words { rest: Some(line) }
     }
@@ -54,7 +54,7 @@ impl<'a> Words<'a> {
 
     /// The words that are left as they stand in the line, with the spaces between them.
     pub(crate) fn text(self) -> Option<&'a [u8]>
-        ensures some { IfSome result (λ text. words_of text.now ≡ self.entry) }
+        ensures some { IfSome result (λ text. spec.words text.now ≡ self.entry) }
         ensures none { IfNone result (self.entry ≡ []) }
     {
         self.rest

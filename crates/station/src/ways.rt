@@ -2,9 +2,7 @@
 
 ghost use Rattle.std.specs.Prelude.{◌≡◌, IfSome};
 ghost use Rattle.station.specs.Lawful.{IsNext};
-ghost use Rattle.station.specs.Ways.{checks as has_good_sum, is_summed as carries_sum};
-ghost use Rattle.station.specs.Ways.{reply_header as header_back, straight as goes_straight};
-ghost use Rattle.station.specs.Ways.{way_from as from_port};
+ghost use Rattle.station.specs.Ways as spec;
 
 use crate::output::Next;
 use crate::way::Way;
@@ -18,7 +16,7 @@ pub const EVERY_NODE: u8 = 255;
 
 /// Whom a datagram goes to on the cable of its target.
 pub fn straight(target: Addr) -> Next
-    ensures value { result ≡ goes_straight target }
+    ensures value { result ≡ spec.straight target }
     ensures next { IsNext result }
 {
     if target.node == EVERY_NODE {
@@ -30,7 +28,7 @@ pub fn straight(target: Addr) -> Next
 
 /// A way by a port, with the port's address as source; none where it has no address.
 pub fn way_from(own: Option<Addr>, port: u8, next: Next, header: Header) -> Option<Way>
-    ensures value { result ≡ from_port own port next header }
+    ensures value { result ≡ spec.way_from own port next header }
     ensures inside { IfSome result (λ way. (way.port ≡ port) × (way.next ≡ next)) }
 {
     let source = own?;
@@ -43,14 +41,14 @@ pub fn way_from(own: Option<Addr>, port: u8, next: Next, header: Header) -> Opti
 
 /// Whether the datagram carries a checksum.
 pub fn is_summed(view: &View<'_>) -> bool
-    ensures { result ≡ carries_sum view.now }
+    ensures { result ≡ spec.is_summed view.now }
 {
     view.checksum() != 0
 }
 
 /// The header of a reply to a datagram, without a source.
 pub fn reply_header(view: &View<'_>, target: Addr) -> Header
-    ensures { result ≡ header_back view.now target }
+    ensures { result ≡ spec.reply_header view.now target }
 {
     Header {
         summed: is_summed(view),
@@ -64,7 +62,7 @@ pub fn reply_header(view: &View<'_>, target: Addr) -> Header
 
 /// Whether the datagram has no checksum, or that of its bytes.
 pub fn checks(view: &View<'_>) -> bool
-    ensures { result ≡ has_good_sum view.now }
+    ensures { result ≡ spec.checks view.now }
 {
     view.check().is_ok()
 }

@@ -2,7 +2,8 @@
 
 ghost use Rattle.std.specs.Prelude.{◌≡◌, true};
 ghost use Rattle.std.specs.List.{All};
-ghost use Rattle.nbp.specs.Registered.{IsNamed, are_above as rise_above};
+ghost use Rattle.nbp.specs.Registered as spec;
+ghost use Rattle.nbp.specs.Registered.{IsNamed};
 
 use at_base::{Error, Text32, is_entity};
 use case_words::{Answer, Stop, Words, put_text};
@@ -70,7 +71,7 @@ fn may_be_all(names: &[Named]) -> bool
 
 /// Whether the enumerators rise from above a number.
 fn are_above(low: u8, names: &[Named]) -> bool
-    ensures { result ≡ rise_above low names.now }
+    ensures { result ≡ spec.are_above low names.now }
 {
     match names {
         [] => true,

@@ -7,7 +7,8 @@ ghost use Rattle.table_image.specs.RouteRows.{route_row, have_ranges, rows_at};
 ghost use Rattle.std.specs.Result.{OkIff};
 ghost use Rattle.table_image.specs.Short.{is_short};
 ghost use Rattle.at_base.specs.Spelling.{bytes_of, IsValue, Spells};
-ghost use Rattle.at_base.specs.Reading.{read as read_by, Gives};
+ghost use Rattle.at_base.specs.Reading as spec;
+ghost use Rattle.at_base.specs.Reading.{Gives};
 ghost use Rattle.table_image.specs.Internet.{Internet, internet};
 ghost use Rattle.table_image.specs.Bounds.{IsBounded};
 ghost use Rattle.table_image.specs.Flaws.{flaws, GivesOrStops, GoesPast};
@@ -157,7 +158,7 @@ struct Parts {
 
 #[tactic(auto, unfolding(crate::specs::Spelling::front_spelling))]
 fn front_of(alloc: Global, bytes: &[u8]) -> Result<(Listed<Cable>, &[u8]), Stop>
-    ensures { GivesOrStops (λ x. (x.0, x.1.now)) result (read_by flaws front_spelling bytes.now) }
+    ensures { GivesOrStops (λ x. (x.0, x.1.now)) result (spec.read flaws front_spelling bytes.now) }
 {
     let (_, rest) = magic_at(bytes)?;
     let (_, rest) = byte_within(rest, 1, 1, Cause::Version)?;
@@ -190,7 +191,7 @@ fn routers_of<'a>(
     bytes: &'a [u8],
 ) -> Result<(Listed<Router>, &'a [u8]), Stop>
     ensures { GivesOrStops (λ x. (x.0, x.1.now)) result
-        (read_by flaws (counted max_routers (λ low. router_spelling (length cables.now)) (λ r. 0))
+        (spec.read flaws (counted max_routers (λ low. router_spelling (length cables.now)) (λ r. 0))
         bytes.now) }
 {
     match router_like(alloc, cables) {
@@ -208,7 +209,7 @@ fn nodes_of<'a>(
     bytes: &'a [u8],
 ) -> Result<(Listed<Node>, &'a [u8]), Stop>
     ensures { GivesOrStops (λ x. (x.0, x.1.now)) result
-        (read_by flaws (counted max_nodes (λ low. node_spelling (length cables.now)) (λ n. 0))
+        (spec.read flaws (counted max_nodes (λ low. node_spelling (length cables.now)) (λ n. 0))
         bytes.now) }
 {
     counted_of::<Node>(alloc, MAX_NODES, cables.len(), &[], bytes)
@@ -217,7 +218,7 @@ fn nodes_of<'a>(
 #[tactic(auto, unfolding(crate::specs::Spelling::image_spelling))]
 fn parts_of(alloc: Global, bytes: &[u8]) -> Result<(Parts, &[u8]), Stop>
     ensures { GivesOrStops (λ x. (internet x.0.cables x.0.routers x.0.nodes, x.1.now)) result
-        (read_by flaws image_spelling bytes.now) }
+        (spec.read flaws image_spelling bytes.now) }
 {
     let (cables, rest) = front_of(alloc, bytes)?;
     let (routers, rest) = routers_of(alloc, &cables, rest)?;
@@ -247,7 +248,7 @@ fn whole(alloc: Global, bytes: &[u8]) -> Result<Parts, Stop>
 #[tactic(auto, unfolding(crate::specs::Spelling::front_spelling))]
 fn pass_front(bytes: &[u8]) -> Result<(usize, &[u8]), Flaw>
     ensures { GoesPast (λ cables. length cables) (λ x. (x.0, x.1.now)) result
-        (read_by flaws front_spelling bytes.now) }
+        (spec.read flaws front_spelling bytes.now) }
 {
     let (_magic, rest) = magic_at(bytes)?;
     let (_version, rest) = byte_within(rest, 1, 1, Cause::Version)?;
@@ -257,7 +258,7 @@ fn pass_front(bytes: &[u8]) -> Result<(usize, &[u8]), Flaw>
 #[tactic(auto, unfolding(crate::specs::Spelling::image_spelling))]
 fn pass_image(bytes: &[u8]) -> Result<(usize, &[u8]), Flaw>
     ensures { GoesPast (λ i. length i.cables) (λ x. (x.0, x.1.now)) result
-        (read_by flaws image_spelling bytes.now) }
+        (spec.read flaws image_spelling bytes.now) }
 {
     let (cables, rest) = pass_front(bytes)?;
     let (_routers, rest) = pass_counted::<Router>(MAX_ROUTERS, cables, rest)?;

@@ -4,7 +4,8 @@
 ghost use Rattle.std.specs.Prelude.{◌≡◌, ◌+◌, length};
 ghost use Rattle.at_base.specs.Grammar.{number, run, one, two};
 ghost use Rattle.at_base.specs.Reading.{Gives, bytes_at, field_at, read};
-ghost use Rattle.at_base.specs.Text.{is_entity as entity, is_name};
+ghost use Rattle.at_base.specs.Text as spec;
+ghost use Rattle.at_base.specs.Text.{is_name};
 ghost use Rattle.table_image.specs.Flaws.{flaws};
 ghost use Rattle.table_image.specs.Tests.{any, within, below, rising, enumerator};
 ghost use Rattle.table_image.specs.Tests.{is_magic};
@@ -172,7 +173,7 @@ pub(crate) fn name_at(bytes: &[u8]) -> Result<(Name, &[u8]), Flaw>
 /// An object or a type that a node may have.
 #[tactic(auto, unfolding(crate::specs::Spelling::text_spelling))]
 pub(crate) fn entity_at(bytes: &[u8]) -> Result<(Text32, &[u8]), Flaw>
-    ensures { Gives (λ x. (x.0, x.1.now)) result (read flaws (text_spelling entity) bytes.now) }
+    ensures { Gives (λ x. (x.0, x.1.now)) result (read flaws (text_spelling spec.is_entity) bytes.now) }
 {
     let (len, after) = byte_within(bytes, 1, MAX_TEXT, Cause::Name)?;
     let (text, rest) = split(after, len as usize)?;

@@ -4,11 +4,12 @@ ghost use Rattle.std.specs.Prelude.{◌≡◌, ◌+◌, ◌^◌, ◌<◌, ◌≤
 ghost use Rattle.at_base.specs.Spelling.{bytes_of, IsValue};
 ghost use Rattle.at_base.specs.Reading.{Gives, read};
 ghost use Rattle.table_image.specs.Checking.{Checks};
-ghost use Rattle.at_base.specs.Text.{is_entity as is_entity_text};
+ghost use Rattle.at_base.specs.Text as text_spec;
 ghost use Rattle.table_image.specs.Flaws.{flaws, GoesPast};
 ghost use Rattle.table_image.specs.Spelling.{node_spelling, name_spelling, own_router_spelling};
 ghost use Rattle.table_image.specs.Spelling.{text_spelling};
-ghost use Rattle.table_image.specs.Sizes.{text_size, own_router_size as own_size};
+ghost use Rattle.table_image.specs.Sizes as spec;
+ghost use Rattle.table_image.specs.Sizes.{text_size};
 
 use crate::checking::{CheckItem, Misfit, check_counted};
 use crate::flaw::{Flaw, Stop};
@@ -204,7 +205,7 @@ impl WriteItem for Node {
 
 fn check_entity(text: &Text32, at: usize) -> Result<usize, Misfit>
     requires { at + text_size < 2 ^ 40 }
-    ensures checked { Checks (text_spelling is_entity_text) text.now at result }
+    ensures checked { Checks (text_spelling text_spec.is_entity) text.now at result }
     ensures near { MatchResult result (λ end. end ≤ at + text_size)
         (λ m. m.place ≤ at + text_size) }
 {
@@ -268,7 +269,7 @@ impl CheckItem for NodeName {
 fn own_router_size(router: Option<Addr>) -> usize
     ensures size { result ≡ length (bytes_of own_router_spelling router) }
     ensures value { IsValue own_router_spelling router }
-    ensures few { result ≤ own_size }
+    ensures few { result ≤ spec.own_router_size }
 {
     match router {
         None => BYTE_SIZE,

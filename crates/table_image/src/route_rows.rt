@@ -2,7 +2,8 @@
 
 ghost use Rattle.std.specs.Prelude.{◌≡◌, true, IfOk, IsOkUnless, map};
 ghost use Rattle.at_base.specs.Range.{is_range};
-ghost use Rattle.table_image.specs.RouteRows.{route_row as row_of_route, have_ranges};
+ghost use Rattle.table_image.specs.RouteRows as spec;
+ghost use Rattle.table_image.specs.RouteRows.{have_ranges};
 
 use crate::row::Row;
 use at_base::{Error, Range};
@@ -25,7 +26,7 @@ pub(crate) fn all_have_ranges(rows: &[Row]) -> bool
 /// The row of a routing table.
 fn route_row(row: &Row) -> rtmp::Row
     requires { is_range row.now.start row.now.end ≡ true }
-    ensures { result ≡ row_of_route row.now }
+    ensures { result ≡ spec.route_row row.now }
 {
     rtmp::Row {
         range: Range::new(row.start, row.end).unwrap(),
@@ -39,7 +40,7 @@ fn route_row(row: &Row) -> rtmp::Row
 /// The rows of a routing table, in order. Error: `Memory`.
 pub(crate) fn route_rows(alloc: Global, rows: &[Row]) -> Result<Vec<rtmp::Row>, Error>
     requires { have_ranges rows.now ≡ true }
-    ensures made { IfOk result (λ made. made.items ≡ map row_of_route rows.now) }
+    ensures made { IfOk result (λ made. made.items ≡ map spec.route_row rows.now) }
     ensures refused { IsOkUnless result Error.Memory }
 {
     let mut made = Vec::with_capacity(alloc, rows.len())?;

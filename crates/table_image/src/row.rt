@@ -35,11 +35,11 @@ pub struct Row {
 }
 
 impl Row {
-    ghost use Rattle.table_image.specs.Rows.{is_direct as direct};
+    ghost use Rattle.table_image.specs.Rows as spec;
 
     /// Whether the row is direct: its networks are those of the port's own cable.
     pub fn is_direct(&self) -> bool
-        ensures { result ≡ direct self.now }
+        ensures { result ≡ spec.is_direct self.now }
     {
         self.next.is_none()
     }

@@ -9,7 +9,8 @@ ghost use Rattle.std.specs.Option.{option_copied};
 ghost use Rattle.at_base.specs.Range.{is_range};
 ghost use Rattle.zip_zones.specs.Zones.{IsZoneMap, are_above};
 ghost use Rattle.table_image.specs.Bounds.{Every};
-ghost use Rattle.table_image.specs.ZoneMaps.{have_few_zones, have_zone_ranges, is_told as told};
+ghost use Rattle.table_image.specs.ZoneMaps as spec;
+ghost use Rattle.table_image.specs.ZoneMaps.{have_few_zones, have_zone_ranges};
 ghost use Rattle.table_image.specs.ZoneMaps.{lists_at, zone_map};
 ghost use Rattle.table_image.specs.declared.zone_list.ZoneList.{ZoneList as ListValue};
 
@@ -30,7 +31,7 @@ fn has_range(list: &ZoneList) -> bool
 
 /// Whether something is known of the zones.
 fn is_told(list: &ZoneList) -> bool
-    ensures { result ≡ told list.now }
+    ensures { result ≡ spec.is_told list.now }
 {
     list.complete || !list.zones.is_empty()
 }

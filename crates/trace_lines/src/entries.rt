@@ -5,7 +5,8 @@ ghost use Rattle.cable_model.specs.Transcript.{Sent, Put, Took, Reached, Dropped
 ghost use Rattle.std.specs.Fmt.{decimal};
 ghost use Rattle.ddp.specs.Bodies.{body};
 ghost use Rattle.at_base.specs.Texts.{address_text};
-ghost use Rattle.trace_lines.specs.Lines.{at_frame as address_at_frame, line, who_text};
+ghost use Rattle.trace_lines.specs.Lines as spec;
+ghost use Rattle.trace_lines.specs.Lines.{line, who_text};
 ghost use Rattle.trace_lines.specs.Said.{entry_with};
 ghost use Rattle.trace_lines.specs.Stations.{address_on};
 
@@ -107,7 +108,7 @@ fn put_frame(
 
 /// The address of a station on the cable of a frame, and 0.0 where the frame was never printed.
 fn at_frame(stations: &Stations, cables: &[u8], station: u16, stamp: u32) -> Addr
-    ensures { result ≡ address_at_frame stations.now cables.now station stamp }
+    ensures { result ≡ spec.at_frame stations.now cables.now station stamp }
 {
     match cables.get(stamp as usize) {
         Some(cable) => stations.address_on(station, *cable),

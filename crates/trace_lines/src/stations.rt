@@ -1,10 +1,9 @@
 //! The addresses of an internet's stations.
 
 ghost use Rattle.std.specs.Prelude.{◌≡◌, ◌==◌, IfOk, find, slice_get};
-ghost use Rattle.trace_lines.specs.Stations.{address_of as of_station, address_on as on_its_cable};
+ghost use Rattle.trace_lines.specs.Stations as spec;
 ghost use Rattle.trace_lines.specs.Holders.{places};
-ghost use Rattle.trace_lines.specs.Stations.{holder as holder_on, of_node as node_in, of_port};
-ghost use Rattle.trace_lines.specs.Stations.{on_cable as router_on};
+ghost use Rattle.trace_lines.specs.Stations.{of_port};
 
 use crate::holders::{Place, held, rows_of};
 use at_base::{Addr, Hw};
@@ -50,7 +49,7 @@ fn on_cable(ports: &[Port], cable: u8) -> Addr
 
 /// The address of a router's port on a cable, and 0.0 where it has none there.
 fn port_on(router: &Router, cable: u8) -> Addr
-    ensures { result ≡ router_on (Some router.now) cable }
+    ensures { result ≡ spec.on_cable (Some router.now) cable }
 {
     on_cable(router.ports.as_slice(), cable)
 }
@@ -83,7 +82,7 @@ impl<'a> Stations<'a> {
 
     /// The address of a node, by its number among the nodes, and 0.0 where there is none.
     fn of_node(&self, node: usize) -> Addr
-        ensures { result ≡ node_in (slice_get self.now.nodes node) }
+        ensures { result ≡ spec.of_node (slice_get self.now.nodes node) }
     {
         match self.image().nodes().get(node) {
             Some(node) => node.address,
@@ -93,7 +92,7 @@ impl<'a> Stations<'a> {
 
     /// The address of a station on a cable: that of the router's port there, or of the node.
     pub(crate) fn address_on(&self, station: u16, cable: u8) -> Addr
-        ensures { result ≡ on_its_cable self.now station cable }
+        ensures { result ≡ spec.address_on self.now station cable }
     {
         let routers = self.image().routers();
         let station = usize::from(station);
@@ -115,7 +114,7 @@ impl<'a> Stations<'a> {
     /// it.
     #[tactic(auto, using(crate::proofs::Held::held_holder))]
     pub(crate) fn holder(&self, cable: u8, hw: &Hw) -> Addr
-        ensures { result ≡ holder_on self.now cable hw.now }
+        ensures { result ≡ spec.holder self.now cable hw.now }
     {
         held(self.places_on(cable), hw)
     }
@@ -123,7 +122,7 @@ impl<'a> Stations<'a> {
     /// The address of a station where no cable is named: that of the router's first port, or of the
     /// node.
     pub(crate) fn address_of(&self, station: u16) -> Addr
-        ensures { result ≡ of_station self.now station }
+        ensures { result ≡ spec.address_of self.now station }
     {
         let routers = self.image().routers();
         let station = usize::from(station);

@@ -1,7 +1,8 @@
 //! The words of lines.
 
 ghost use Rattle.std.specs.Prelude.{◌≡◌, ◌++◌, OnOk};
-ghost use Rattle.ddp.specs.Bodies.{body, named_length as length_named};
+ghost use Rattle.ddp.specs.Bodies as spec;
+ghost use Rattle.ddp.specs.Bodies.{body};
 ghost use Rattle.trace_lines.specs.Lines.{cause_text, how_text, who_text};
 ghost use Rattle.text.specs.Digits.{hex_text};
 
@@ -57,7 +58,7 @@ pub(crate) fn put_cause(text: &mut Vec<u8>, cause: Cause) -> Result<(), AllocErr
 
 /// The length that a datagram's header names, where bytes that are missing count as 0.
 fn named_length(bytes: &[u8]) -> usize
-    ensures { result ≡ length_named bytes.now }
+    ensures { result ≡ spec.named_length bytes.now }
 {
     match bytes {
         [] => 0,

@@ -3,7 +3,8 @@
 ghost use Rattle.std.specs.Prelude.{◌≡◌, ◌||◌, ◌≤◌, ℕ, length, IfOk, IsOkUnless, IsTrue};
 ghost use Rattle.std.specs.List.{list_all, list_any};
 ghost use Rattle.live_cables.specs.Steps.{loses_by};
-ghost use Rattle.world.specs.Losing.{is_lossy, is_on as is_on_in, loses_at, loses_in, marked};
+ghost use Rattle.world.specs.Losing as spec;
+ghost use Rattle.world.specs.Losing.{is_lossy, loses_at, loses_in, marked};
 
 use at_base::Error;
 use internet_file::{Loss, Plan};
@@ -11,14 +12,14 @@ use std::alloc::Global;
 
 /// Whether the loss is on in a tick.
 fn is_on(loss: &Loss, now: u32) -> bool
-    ensures { result ≡ is_on_in now loss.now }
+    ensures { result ≡ spec.is_on now loss.now }
 {
     loss.first <= now && now <= loss.last
 }
 
 /// Whether one of the losses is on in a tick.
 fn any_is_on(losses: &[Loss], now: u32) -> bool
-    ensures { result ≡ list_any (is_on_in now) losses.now }
+    ensures { result ≡ list_any (spec.is_on now) losses.now }
 {
     losses.iter().any(|loss| is_on(loss, now))
 }

@@ -7,7 +7,8 @@ ghost use Rattle.live_cables.specs.Steps.{HasNoRoom};
 ghost use Rattle.live_node.specs.Living.{LivingNode};
 ghost use Rattle.live_router.specs.Living.{Living};
 ghost use Rattle.planned_stations.specs.Planning.{ports_of};
-ghost use Rattle.world.specs.Doing.{given_up as without, own_in, settled_own};
+ghost use Rattle.world.specs.Doing as spec;
+ghost use Rattle.world.specs.Doing.{own_in, settled_own};
 ghost use Rattle.world.specs.Going.{Goes, GoesOn};
 ghost use Rattle.world.specs.Passing.{AreAged, HasPassed, HasTicked, HavePassed, IsAged};
 ghost use Rattle.world.specs.Received.{got};
@@ -48,7 +49,7 @@ fn settle<T: RouteTable>(
 
 /// AARP has given an address up, which a router is told.
 fn give_up<T: RouteTable>(station: &mut Member<LiveRouter<T>, LiveNode>, addr: Addr)
-    ensures without { station.new ≡ without station.old addr }
+    ensures without { station.new ≡ spec.given_up station.old addr }
     ensures ports { ports_of station.new ≡ ports_of station.old }
     ensures got { got station.new ≡ got station.old }
 {
@@ -60,7 +61,7 @@ fn give_up<T: RouteTable>(station: &mut Member<LiveRouter<T>, LiveNode>, addr: A
 
 /// AARP has given addresses up, which a router is told.
 fn give_up_all<T: RouteTable>(station: &mut Member<LiveRouter<T>, LiveNode>, addrs: &[Addr])
-    ensures without { station.new ≡ fold without station.old addrs.now }
+    ensures without { station.new ≡ fold spec.given_up station.old addrs.now }
     ensures ports { ports_of station.new ≡ ports_of station.old }
     ensures got { got station.new ≡ got station.old }
 {

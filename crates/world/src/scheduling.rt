@@ -1,7 +1,8 @@
 //! In which order what is planned is done.
 
 ghost use Rattle.std.specs.Prelude.{◌≡◌, IfOk, IsOkUnless};
-ghost use Rattle.world.specs.Scheduling.{IsSchedule, tick_or_0, turn_of as turn_in};
+ghost use Rattle.world.specs.Scheduling as spec;
+ghost use Rattle.world.specs.Scheduling.{IsSchedule, tick_or_0};
 
 use at_base::Error;
 use internet_file::Action;
@@ -19,7 +20,7 @@ fn tick_of(actions: &[Action], index: u32) -> u32
 
 /// The turn of the action at an index: the number of its tick before that of its place in the file.
 fn turn_of(actions: &[Action], index: u32) -> u64
-    ensures { result ≡ turn_in actions.now index }
+    ensures { result ≡ spec.turn_of actions.now index }
 {
     u64::from(tick_of(actions, index)) * 4_294_967_296 + u64::from(index)
 }
@@ -36,7 +37,7 @@ pub(crate) fn schedule_of(alloc: Global, actions: &[Action]) -> Result<Vec<u32>,
     let mut indices: Vec<u32> = (0..len).collect(alloc)?;
     indices.sort_unstable_by_key(
         |index: &u32| -> u64
-            ensures { result ≡ turn_in actions.entry.now index.now }
+            ensures { result ≡ spec.turn_of actions.entry.now index.now }
         { turn_of(actions, *index) },
     );
     indices.reverse();

@@ -2,7 +2,8 @@
 
 ghost use Rattle.std.specs.Prelude.{◌≡◌, ◌<◌, length, slice_get, None, Some, IfOk, IsOk};
 ghost use Rattle.std.specs.Prelude.{option_copied, IsOkUnless, OnErr, OnOk};
-ghost use Rattle.world.specs.Seen.{emptied as emptied_of, emptied_at, node_of as node_in};
+ghost use Rattle.world.specs.Seen as spec;
+ghost use Rattle.world.specs.Seen.{emptied_at};
 ghost use Rattle.world.specs.Seen.{received_by};
 
 use at_base::Error;
@@ -15,7 +16,7 @@ use std::alloc::Global;
 
 /// The node, if the station is one.
 fn node_of<T: RouteTable>(station: &Member<LiveRouter<T>, LiveNode>) -> Option<&EndNode>
-    ensures { option_copied result ≡ node_in (Some station.now) }
+    ensures { option_copied result ≡ spec.node_of (Some station.now) }
 {
     match station {
         Member::Node(node) => Some(node.node()),
@@ -28,7 +29,7 @@ pub fn node_by<T: RouteTable>(
     stations: &[Member<LiveRouter<T>, LiveNode>],
     index: usize,
 ) -> Option<&EndNode>
-    ensures { option_copied result ≡ node_in (slice_get stations.now index) }
+    ensures { option_copied result ≡ spec.node_of (slice_get stations.now index) }
 {
     match stations.get(index) {
         Some(station) => node_of(station),
@@ -42,9 +43,9 @@ fn take_of<T: RouteTable>(
     station: &mut Member<LiveRouter<T>, LiveNode>,
 ) -> Result<Vec<Datagram>, Error>
     ensures taken { IfOk result
-        (λ datagrams. datagrams.items ≡ received_by (node_in (Some station.old))) }
-    ensures left { OnOk result (station.new ≡ emptied_of station.old) }
-    ensures nobody { node_in (Some station.old) ≡ None → IsOk result }
+        (λ datagrams. datagrams.items ≡ received_by (spec.node_of (Some station.old))) }
+    ensures left { OnOk result (station.new ≡ spec.emptied station.old) }
+    ensures nobody { spec.node_of (Some station.old) ≡ None → IsOk result }
     ensures refused { IsOkUnless result Error.Memory }
     ensures stay { OnErr result (station.new ≡ station.old) }
 {
@@ -62,9 +63,9 @@ fn take_in<T: RouteTable>(
 ) -> Result<Vec<Datagram>, Error>
     requires there { index < length stations.old.items }
     ensures taken { IfOk result (λ datagrams.
-        datagrams.items ≡ received_by (node_in (slice_get stations.old.items index))) }
+        datagrams.items ≡ received_by (spec.node_of (slice_get stations.old.items index))) }
     ensures left { OnOk result (stations.new.items ≡ emptied_at stations.old.items index) }
-    ensures nobody { node_in (slice_get stations.old.items index) ≡ None → IsOk result }
+    ensures nobody { spec.node_of (slice_get stations.old.items index) ≡ None → IsOk result }
     ensures refused { IsOkUnless result Error.Memory }
     ensures stay { OnErr result (stations.new.items ≡ stations.old.items) }
 {
@@ -79,9 +80,9 @@ pub fn take_at<T: RouteTable>(
     index: usize,
 ) -> Result<Vec<Datagram>, Error>
     ensures taken { IfOk result (λ datagrams.
-        datagrams.items ≡ received_by (node_in (slice_get stations.old.items index))) }
+        datagrams.items ≡ received_by (spec.node_of (slice_get stations.old.items index))) }
     ensures left { OnOk result (stations.new.items ≡ emptied_at stations.old.items index) }
-    ensures nobody { node_in (slice_get stations.old.items index) ≡ None → IsOk result }
+    ensures nobody { spec.node_of (slice_get stations.old.items index) ≡ None → IsOk result }
     ensures refused { IsOkUnless result Error.Memory }
     ensures stay { OnErr result (stations.new.items ≡ stations.old.items) }
 {

@@ -4,7 +4,7 @@ ghost use Rattle.std.specs.Prelude.{◌≡◌, ◌⊎◌, ◌↔◌, ◌<◌, �
 ghost use Rattle.std.specs.Prelude.{IfErr, IfOk, OnOk};
 ghost use Rattle.std.specs.List.{list_any};
 ghost use Rattle.cable_model.specs.Outcomes.{is_named};
-ghost use Rattle.cable_model.specs.Pending.{pending as pending_on};
+ghost use Rattle.cable_model.specs.Pending as spec;
 ghost use Rattle.cable_model.specs.Transcript.{one};
 ghost use Rattle.live_cables.specs.Living.{happened};
 ghost use Rattle.live_cables.specs.Steps.{HasNoRoom};
@@ -37,7 +37,7 @@ fn take<T: RouteTable>(
     ensures received { AreReceived (happened wires.old) (map got stations.old.items)
         → AreReceived (happened wires.new) (map got stations.new.items) }
     ensures not_pending { (result ≡ Err Error.NotPending) ↔ (list_any (is_named stamp station)
-        (pending_on wires.old.cabling.seats (happened wires.old)) ≡ false) }
+        (spec.pending wires.old.cabling.seats (happened wires.old)) ≡ false) }
     ensures full { (result ≡ Err Error.Full) → HasNoRoom 771 wires.new.cabling }
     ensures refused { IfErr result (λ e. (e ≡ Error.NotPending) ⊎ (e ≡ Error.Full)
         ⊎ (e ≡ Error.Memory)) }
@@ -61,7 +61,7 @@ fn take_first<T: RouteTable>(
     ensures stay { IfOk result (λ was_one. was_one ≡ false
         → (stations.new.items ≡ stations.old.items) × (wires.new ≡ wires.old)) }
     ensures none { IfOk result (λ was_one. was_one ≡ false
-        → pending_on wires.new.cabling.seats (happened wires.new) ≡ []) }
+        → spec.pending wires.new.cabling.seats (happened wires.new) ≡ []) }
     ensures received { AreReceived (happened wires.old) (map got stations.old.items)
         → AreReceived (happened wires.new) (map got stations.new.items) }
     ensures full { (result ≡ Err Error.Full) → HasNoRoom 771 wires.new.cabling }

@@ -5,11 +5,12 @@ ghost use Rattle.std.specs.Prelude.{map, option_copied};
 ghost use Rattle.cable_model.specs.Logs.{bytes_at};
 ghost use Rattle.internet_file.specs.Sound.{IsSound};
 ghost use Rattle.live_cables.specs.Living.{happened};
-ghost use Rattle.world.specs.Frozen.{frozen as frozen_image};
+ghost use Rattle.world.specs.Frozen as frozen_spec;
 ghost use Rattle.planned_stations.specs.Beginning.{AreBegun};
 ghost use Rattle.planned_stations.specs.Seating.{plan_seats};
 ghost use Rattle.world.specs.Scheduling.{IsSchedule};
-ghost use Rattle.world.specs.Seen.{node_at, received_by, station_of as station_in, taken_out};
+ghost use Rattle.world.specs.Seen as seen_spec;
+ghost use Rattle.world.specs.Seen.{node_at, received_by, taken_out};
 ghost use Rattle.world.specs.Worlds.{IsWorld, wires_begun};
 
 use crate::beginning::stations_begun;
@@ -166,7 +167,7 @@ impl<T: RouteTable> World<T> {
 
     /// The index of the station of a node's number, from 1.
     fn station_of(&self, number: u16) -> usize
-        ensures { result ≡ station_in self.now number }
+        ensures { result ≡ seen_spec.station_of self.now number }
     {
         self.plan.routers().len() + (number as usize).saturating_sub(1)
     }
@@ -212,7 +213,7 @@ impl<T: RouteTable> World<T> {
     /// The image of the tables as they stand. An address that isn't settled is 0.0. Error:
     /// `Memory`.
     pub fn freeze(&self) -> Result<Image, Error>
-        ensures ok { IfOk result (λ image. image ≡ frozen_image self.now) }
+        ensures ok { IfOk result (λ image. image ≡ frozen_spec.frozen self.now) }
         ensures refused { IsOkUnless result Error.Memory }
     {
         image_of(self.alloc, &self.plan, self.stations.as_slice())

@@ -9,8 +9,10 @@ ghost use Rattle.at_base.specs.Spelling.{bytes_of};
 ghost use Rattle.at_base.specs.Text.{same_name};
 ghost use Rattle.zip_zones.specs.declared.packet.Packet.TheVariants.{NetInfoReply as ReplyValue};
 ghost use Rattle.zip_zones.specs.Answers.{net_info_reply};
-ghost use Rattle.zip_zones.specs.Formats.{default_zone, packet as spelled_packet};
-ghost use Rattle.zip_zones.specs.Written.{flags_for, listed as listed_in, net_info as info_for};
+ghost use Rattle.zip_zones.specs.Formats as formats_spec;
+ghost use Rattle.zip_zones.specs.Formats.{default_zone};
+ghost use Rattle.zip_zones.specs.Written as written_spec;
+ghost use Rattle.zip_zones.specs.Written.{flags_for};
 ghost use Rattle.zip_zones.specs.Written.{zone_group};
 
 use crate::packet::{Function, NetInfo};
@@ -37,7 +39,7 @@ fn spelling_of<'a>(zone: &Name, names: &'a [Name]) -> Option<&'a Name>
 
 /// The list's zone that a text names, in any case.
 fn listed<'a>(asked: &[u8], names: &'a [Name]) -> Option<&'a Name>
-    ensures { option_copied result ≡ listed_in asked.now names.now }
+    ensures { option_copied result ≡ written_spec.listed asked.now names.now }
 {
     if !is_zone_name(asked) {
         return None;
@@ -64,7 +66,7 @@ fn flags(is_listed: bool, count: usize) -> u8
 /// What a node that asks for a zone is told of a cable with these zones.
 fn net_info(asked: &Text32, range: Range, names: &[Name]) -> NetInfo
     requires { 0 < length names.now }
-    ensures { result ≡ info_for asked.now range names.now }
+    ensures { result ≡ written_spec.net_info asked.now range names.now }
 {
     let found = listed(asked.as_slice(), names);
     NetInfo {
@@ -142,7 +144,7 @@ fn put_default(bytes: &mut Vec<u8>, default: &Option<Name>) -> Result<(), Error>
 /// The bytes of an answer, whose first flag says whether it names a default zone.
 fn write_info(alloc: Global, info: &NetInfo) -> Result<Bytes, Error>
     requires { (info.now.flags / 128 == 1) ≡ is_some info.now.default }
-    ensures ok { IfOk result (λ bytes. bytes ≡ bytes_of spelled_packet (ReplyValue info.now)) }
+    ensures ok { IfOk result (λ bytes. bytes ≡ bytes_of formats_spec.packet (ReplyValue info.now)) }
     ensures short { IfOk result (λ bytes. length bytes ≤ 586) }
     ensures refused { IsOkUnless result Error.Memory }
 {
@@ -173,7 +175,7 @@ pub fn answer_net_info(
 ) -> Result<Bytes, Error>
     requires { 0 < length names.now }
     ensures ok { IfOk result (λ bytes. bytes
-        ≡ bytes_of spelled_packet (ReplyValue (info_for asked.now range names.now))) }
+        ≡ bytes_of formats_spec.packet (ReplyValue (written_spec.net_info asked.now range names.now))) }
     ensures short { IfOk result (λ bytes. length bytes ≤ 586) }
     ensures refused { IsOkUnless result Error.Memory }
 {
@@ -193,7 +195,7 @@ pub fn reply_net_info(
     names: &[Name],
 ) -> Result<Option<Bytes>, Error>
     ensures ok { IfOk result (λ made. made
-        ≡ option_map (bytes_of spelled_packet) (net_info_reply asked.now range names.now)) }
+        ≡ option_map (bytes_of formats_spec.packet) (net_info_reply asked.now range names.now)) }
     ensures short { IfOk result (λ made. IfSome made (λ bytes. length bytes ≤ 586)) }
     ensures refused { IsOkUnless result Error.Memory }
 {

@@ -2,8 +2,9 @@
 
 ghost use Rattle.std.specs.Prelude.{◌≡◌, ◌⊎◌, ◌↔◌, ◌++◌, ◌∷◌, [], false, length, true};
 ghost use Rattle.std.specs.Prelude.{IfErr, IsOkUnless, OnErr, OnOk};
-ghost use Rattle.zip_zones.specs.Zones.{IsZoneMap, end_of, has_room as with_room};
-ghost use Rattle.zip_zones.specs.Zones.{is_past as past, list_of_least};
+ghost use Rattle.zip_zones.specs.Zones as spec;
+ghost use Rattle.zip_zones.specs.Zones.{IsZoneMap, end_of};
+ghost use Rattle.zip_zones.specs.Zones.{list_of_least};
 
 use crate::known::KnownZones;
 use crate::table::{MAX_LISTS, MAX_ZONES, ZoneTable, recall_valid};
@@ -21,14 +22,14 @@ fn end(lists: &[KnownZones]) -> u16
 
 /// Whether the range starts above all lists.
 fn is_past(lists: &[KnownZones], range: Range) -> bool
-    ensures { result ≡ past range lists.now }
+    ensures { result ≡ spec.is_past range lists.now }
 {
     end(lists) < range.start()
 }
 
 /// Whether there is room for a list of these names after the others.
 fn has_room(lists: &[KnownZones], least: u8, names: &[Name]) -> bool
-    ensures { result ≡ with_room least names.now lists.now }
+    ensures { result ≡ spec.has_room least names.now lists.now }
 {
     least as usize <= MAX_ZONES && names.len() <= MAX_ZONES && lists.len() < MAX_LISTS
 }
@@ -54,9 +55,9 @@ impl ZoneTable {
     pub fn append(&mut self, range: Range, least: u8, names: &[Name]) -> Result<(), Error>
         ensures ok { OnOk result
             (self.new ≡ self.old ++ list_of_least range least names.now ∷ []) }
-        ensures range { (result ≡ Err Error.BadRange) ↔ (past range self.old ≡ false) }
-        ensures full { (result ≡ Err Error.Full) ↔ ((past range self.old ≡ true)
-            × (with_room least names.now self.old ≡ false)) }
+        ensures range { (result ≡ Err Error.BadRange) ↔ (spec.is_past range self.old ≡ false) }
+        ensures full { (result ≡ Err Error.Full) ↔ ((spec.is_past range self.old ≡ true)
+            × (spec.has_room least names.now self.old ≡ false)) }
         ensures refused { IfErr result
             (λ e. (e ≡ Error.BadRange) ⊎ (e ≡ Error.Full) ⊎ (e ≡ Error.Memory)) }
         ensures kept { OnErr result (self.new ≡ self.old) }

@@ -2,7 +2,8 @@
 
 ghost use Rattle.std.specs.Prelude.{◌≡◌, ◌∷◌, [], length, IfNone, IfSome};
 ghost use Rattle.at_base.specs.Packets.{packets};
-ghost use Rattle.at_base.specs.Reading.{Gives, many_at, read as read_by};
+ghost use Rattle.at_base.specs.Reading as spec;
+ghost use Rattle.at_base.specs.Reading.{Gives, many_at};
 ghost use Rattle.zip_zones.specs.Packets.{entry, next_net, IsEntries, entries_in};
 
 use crate::entry::{Entry, Nets, entry_at, low_after};
@@ -12,7 +13,7 @@ use std::marker::Model;
 /// Goes through the entries up to the end of the bytes.
 pub(crate) fn check_entries(nets: Nets, bytes: &[u8]) -> Result<(), Error>
     ensures { Gives (λ _. entries_in nets 0 bytes.now) result
-        (many_at (λ n. read_by packets (entry n)) (next_net nets) 0 (length bytes.now)
+        (many_at (λ n. spec.read packets (entry n)) (next_net nets) 0 (length bytes.now)
         bytes.now) }
 {
     let mut rest = bytes;

@@ -3,8 +3,10 @@
 ghost use Rattle.std.specs.Prelude.{◌≡◌, ◌∷◌, [], length, IfNone, IfOk, IfSome, OnOk};
 ghost use Rattle.at_base.specs.Grammar.{number, two};
 ghost use Rattle.at_base.specs.Packets.{packets, text};
-ghost use Rattle.at_base.specs.Reading.{Gives, field_at, many_at, read as read_by};
-ghost use Rattle.zip_zones.specs.Packets.{entry as spelled_entry, next_net, wrong_name, wrong_net};
+ghost use Rattle.at_base.specs.Reading as reading_spec;
+ghost use Rattle.at_base.specs.Reading.{Gives, field_at, many_at};
+ghost use Rattle.zip_zones.specs.Packets as spec;
+ghost use Rattle.zip_zones.specs.Packets.{next_net, wrong_name, wrong_net};
 ghost use Rattle.zip_zones.specs.Packets.{IsEntries, entries_in};
 
 use at_base::packet::{text_at, u16_at};
@@ -46,7 +48,7 @@ fn net_at(low: u32, bytes: &[u8]) -> Result<(u16, &[u8]), Error>
 /// The name of a zone, after its length.
 #[tactic(auto, unfolding(at_base::specs::Packets::text))]
 pub(crate) fn name_at(bytes: &[u8]) -> Result<(Name, &[u8]), Error>
-    ensures { Gives (λ x. (x.0, x.1.now)) result (read_by packets (text 1 wrong_name) bytes.now) }
+    ensures { Gives (λ x. (x.0, x.1.now)) result (reading_spec.read packets (text 1 wrong_name) bytes.now) }
 {
     let (name, rest) = text_at(bytes, 1)?;
     if !is_zone_name(name) {
@@ -58,7 +60,7 @@ pub(crate) fn name_at(bytes: &[u8]) -> Result<(Name, &[u8]), Error>
 /// An entry, after one whose network is one less than `low`, or after none.
 #[tactic(auto, unfolding(crate::specs::Packets::entry))]
 pub(crate) fn entry_at(low: u32, bytes: &[u8]) -> Result<(Entry, &[u8]), Error>
-    ensures { Gives (λ x. (x.0, x.1.now)) result (read_by packets (spelled_entry low) bytes.now) }
+    ensures { Gives (λ x. (x.0, x.1.now)) result (reading_spec.read packets (spec.entry low) bytes.now) }
 {
     let (net, rest) = net_at(low, bytes)?;
     match name_at(rest) {

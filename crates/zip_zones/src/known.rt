@@ -2,7 +2,8 @@
 
 ghost use Rattle.std.specs.Prelude.{◌≡◌, ◌<◌, ◌≤◌, [], length, true, IfOk, OnErr, OnOk};
 ghost use Rattle.std.specs.Prelude.{IsOkUnless};
-ghost use Rattle.zip_zones.specs.Zones.{each_once, has_zone as with_this, is_complete as complete};
+ghost use Rattle.zip_zones.specs.Zones as spec;
+ghost use Rattle.zip_zones.specs.Zones.{each_once};
 ghost use Rattle.zip_zones.specs.Zones.{list_of_least, set_list, with_name, with_zone};
 ghost use Rattle.std.specs.Arc.{arc_value};
 
@@ -194,14 +195,14 @@ impl KnownZones {
 
     /// Whether all names have come.
     pub(crate) fn is_complete(&self) -> bool
-        ensures { result ≡ complete self.now }
+        ensures { result ≡ spec.is_complete self.now }
     {
         self.zones.as_ref().len() == self.total as usize
     }
 
     /// Whether the zone is one of those that came.
     pub(crate) fn has(&self, zone: &Name) -> bool
-        ensures { result ≡ with_this zone.now self.now }
+        ensures { result ≡ spec.has_zone zone.now self.now }
     {
         self.zones.as_ref().contains(&Zone::new(zone))
     }

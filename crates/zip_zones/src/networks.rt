@@ -2,7 +2,8 @@
 
 ghost use Rattle.std.specs.Prelude.{◌≡◌, ◌≤◌, ◌∷◌, ◌-◌, [], IfNone, IfSome};
 ghost use Rattle.at_base.specs.Packets.{packets};
-ghost use Rattle.at_base.specs.Reading.{Gives, read as read_by};
+ghost use Rattle.at_base.specs.Reading as spec;
+ghost use Rattle.at_base.specs.Reading.{Gives};
 ghost use Rattle.zip_zones.specs.Networks.{BeginWith, network, networks_in, networks_read};
 
 use at_base::Error;
@@ -12,7 +13,7 @@ use std::marker::Model;
 /// A network.
 #[tactic(auto, unfolding(crate::specs::Networks::network))]
 fn network_at(bytes: &[u8]) -> Result<(u16, &[u8]), Error>
-    ensures { Gives (λ x. (x.0, x.1.now)) result (read_by packets network bytes.now) }
+    ensures { Gives (λ x. (x.0, x.1.now)) result (spec.read packets network bytes.now) }
 {
     u16_at(bytes)
 }

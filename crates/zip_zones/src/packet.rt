@@ -3,10 +3,11 @@
 ghost use Rattle.std.specs.Prelude.{◌≡◌, ◌/◌, ◌==◌, [], length};
 ghost use Rattle.at_base.specs.Grammar.{number, one};
 ghost use Rattle.at_base.specs.Packets.{packets, text, any};
-ghost use Rattle.at_base.specs.Reading.{Gives, Reads, field_at, read as read_by};
+ghost use Rattle.at_base.specs.Reading as reading_spec;
+ghost use Rattle.at_base.specs.Reading.{Gives, Reads, field_at};
 ghost use Rattle.zip_zones.specs.Answers.{zone_asked};
 ghost use Rattle.zip_zones.specs.Formats.{body, default_zone, function_of};
-ghost use Rattle.zip_zones.specs.Formats.{packet as spelled_packet};
+ghost use Rattle.zip_zones.specs.Formats as spec;
 ghost use Rattle.zip_zones.specs.Formats.{wrong_function};
 
 use crate::entries::{Entries, check_entries};
@@ -96,7 +97,7 @@ fn function_at(bytes: &[u8]) -> Result<(u8, &[u8]), Error>
 
 /// The zone asked for.
 fn asked_at(bytes: &[u8]) -> Result<(Text32, &[u8]), Error>
-    ensures { Gives (λ x. (x.0, x.1.now)) result (read_by packets (text 0 any) bytes.now) }
+    ensures { Gives (λ x. (x.0, x.1.now)) result (reading_spec.read packets (text 0 any) bytes.now) }
 {
     let (asked, rest) = text_at(bytes, 0)?;
     match Text32::new(asked) {
@@ -109,7 +110,7 @@ fn asked_at(bytes: &[u8]) -> Result<(Text32, &[u8]), Error>
 #[tactic(auto, unfolding(crate::specs::Formats::default_zone))]
 fn default_at(flags: u8, bytes: &[u8]) -> Result<(Option<Name>, &[u8]), Error>
     ensures { Gives (λ x. (x.0, x.1.now)) result
-        (read_by packets (default_zone (flags / 128 == 1)) bytes.now) }
+        (reading_spec.read packets (default_zone (flags / 128 == 1)) bytes.now) }
 {
     if flags / 128 != 1 {
         return Ok((None, bytes));
@@ -124,7 +125,7 @@ fn default_at(flags: u8, bytes: &[u8]) -> Result<(Option<Name>, &[u8]), Error>
 #[tactic(auto, unfolding(crate::specs::Formats::body, crate::specs::Networks::networks_read))]
 fn query_at(bytes: &[u8]) -> Result<(Packet<'_>, &[u8]), Error>
     ensures { Gives (λ x. (x.0, x.1.now)) result
-        (read_by packets (body Function.Query) bytes.now) }
+        (reading_spec.read packets (body Function.Query) bytes.now) }
 {
     let (count, networks) = byte_at(bytes)?;
     let rest = check_networks(count, networks)?;
@@ -135,7 +136,7 @@ fn query_at(bytes: &[u8]) -> Result<(Packet<'_>, &[u8]), Error>
 #[tactic(auto, unfolding(crate::specs::Formats::body))]
 fn reply_at(bytes: &[u8]) -> Result<(Packet<'_>, &[u8]), Error>
     ensures { Gives (λ x. (x.0, x.1.now)) result
-        (read_by packets (body Function.Reply) bytes.now) }
+        (reading_spec.read packets (body Function.Reply) bytes.now) }
 {
     let (count, entries) = byte_at(bytes)?;
     check_entries(Nets::Any, entries)?;
@@ -146,7 +147,7 @@ fn reply_at(bytes: &[u8]) -> Result<(Packet<'_>, &[u8]), Error>
 #[tactic(auto, unfolding(crate::specs::Formats::body))]
 fn get_net_info_at(bytes: &[u8]) -> Result<(Packet<'_>, &[u8]), Error>
     ensures { Gives (λ x. (x.0, x.1.now)) result
-        (read_by packets (body Function.GetNetInfo) bytes.now) }
+        (reading_spec.read packets (body Function.GetNetInfo) bytes.now) }
 {
     let (front, rest) = run_at(bytes, 5)?;
     let mut unused = [0; 5];
@@ -161,7 +162,7 @@ fn get_net_info_at(bytes: &[u8]) -> Result<(Packet<'_>, &[u8]), Error>
 #[tactic(auto, unfolding(crate::specs::Formats::body))]
 fn extended_at(bytes: &[u8]) -> Result<(Packet<'_>, &[u8]), Error>
     ensures { Gives (λ x. (x.0, x.1.now)) result
-        (read_by packets (body Function.ExtendedReply) bytes.now) }
+        (reading_spec.read packets (body Function.ExtendedReply) bytes.now) }
 {
     let (total, entries) = byte_at(bytes)?;
     check_entries(Nets::One, entries)?;
@@ -178,7 +179,7 @@ fn extended_at(bytes: &[u8]) -> Result<(Packet<'_>, &[u8]), Error>
 #[tactic(auto, unfolding(crate::specs::Formats::body))]
 fn net_info_at(bytes: &[u8]) -> Result<(Packet<'_>, &[u8]), Error>
     ensures { Gives (λ x. (x.0, x.1.now)) result
-        (read_by packets (body Function.NetInfoReply) bytes.now) }
+        (reading_spec.read packets (body Function.NetInfoReply) bytes.now) }
 {
     let (flags, rest) = byte_at(bytes)?;
     let (start, rest) = u16_at(rest)?;
@@ -207,7 +208,7 @@ fn net_info_at(bytes: &[u8]) -> Result<(Packet<'_>, &[u8]), Error>
 /// The packet with which the bytes begin, and the bytes after it.
 #[tactic(auto, unfolding(crate::specs::Formats::packet))]
 fn parts_of(bytes: &[u8]) -> Result<(Packet<'_>, &[u8]), Error>
-    ensures { Gives (λ x. (x.0, x.1.now)) result (read_by packets spelled_packet bytes.now) }
+    ensures { Gives (λ x. (x.0, x.1.now)) result (reading_spec.read packets spec.packet bytes.now) }
 {
     if bytes.len() < 2 {
         return Err(Error::Truncated);
@@ -232,7 +233,7 @@ impl<'a> Packet<'a> {
     /// hardware address isn't 6 bytes long, and of `Network` where an extended reply has names of
     /// two networks; `BadName` where a name is no zone's.
     pub fn read(bytes: &'a [u8]) -> Result<Packet<'a>, Error>
-        ensures { Reads packets spelled_packet (λ d. d) (λ p. p) bytes.now result }
+        ensures { Reads packets spec.packet (λ d. d) (λ p. p) bytes.now result }
     {
         match parts_of(bytes) {
             Ok((packet, _)) => Ok(packet),

@@ -2,7 +2,7 @@
 
 ghost use Rattle.std.specs.Prelude.{◌≡◌, ◌∷◌, [], IfOk, IsOkUnless};
 ghost use Rattle.at_base.specs.Spelling.{bytes_of};
-ghost use Rattle.zip_zones.specs.Formats.{packet as spelled_packet};
+ghost use Rattle.zip_zones.specs.Formats as spec;
 ghost use Rattle.zip_zones.specs.Written.{question};
 
 use crate::answer::put_text;
@@ -26,7 +26,7 @@ fn front() -> [u8; 6]
 ///
 /// Inside AppleTalk, the chapter on ZIP. Error: `Memory`.
 pub fn write_get_net_info(alloc: Global, asked: &Text32) -> Result<Bytes, Error>
-    ensures ok { IfOk result (λ bytes. bytes ≡ bytes_of spelled_packet (question asked.now)) }
+    ensures ok { IfOk result (λ bytes. bytes ≡ bytes_of spec.packet (question asked.now)) }
     ensures refused { IsOkUnless result Error.Memory }
 {
     let mut bytes = Vec::with_capacity(alloc, QUESTION_LEN + asked.as_slice().len())?;

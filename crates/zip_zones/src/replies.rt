@@ -5,7 +5,7 @@ ghost use Rattle.std.specs.Prelude.{IfOk, IsOkUnless, OnOk};
 ghost use Rattle.std.specs.List.{flat_map};
 ghost use Rattle.at_base.specs.Spelling.{bytes_of};
 ghost use Rattle.zip_zones.specs.Answers.{first_group, grouped, replies, replies_for};
-ghost use Rattle.zip_zones.specs.Formats.{packet as spelled_packet};
+ghost use Rattle.zip_zones.specs.Formats as spec;
 ghost use Rattle.zip_zones.specs.Written.{AreShort, entries_size, extended_reply};
 
 use crate::networks::Networks;
@@ -42,7 +42,7 @@ fn put_group(made: &mut Vec<Bytes>, net: u16, total: u8, group: &[Name]) -> Resu
     requires some { 0 < length group.now }
     requires fits { entries_size group.now ≤ 584 }
     ensures put { OnOk result (made.new.items
-        ≡ made.old.items ++ bytes_of spelled_packet (extended_reply net total group.now) ∷ []) }
+        ≡ made.old.items ++ bytes_of spec.packet (extended_reply net total group.now) ∷ []) }
     ensures short { OnOk result (AreShort made.old.items → AreShort made.new.items) }
     ensures refused { IsOkUnless result Error.Memory }
 {
@@ -58,7 +58,7 @@ fn put_group(made: &mut Vec<Bytes>, net: u16, total: u8, group: &[Name]) -> Resu
 /// Appends replies with these names, as many in each as have room.
 fn put_groups(made: &mut Vec<Bytes>, net: u16, total: u8, names: &[Name]) -> Result<(), Error>
     ensures put { OnOk result (made.new.items ≡ made.old.items
-        ++ map (bytes_of spelled_packet) (map (extended_reply net total) (grouped names.now))) }
+        ++ map (bytes_of spec.packet) (map (extended_reply net total) (grouped names.now))) }
     ensures few { OnOk result
         (16 * length made.new.items ≤ 16 * length made.old.items + length names.now + 15) }
     ensures short { OnOk result (AreShort made.old.items → AreShort made.new.items) }
@@ -78,7 +78,7 @@ fn put_groups(made: &mut Vec<Bytes>, net: u16, total: u8, names: &[Name]) -> Res
 /// Appends the replies for a network.
 fn put_replies(made: &mut Vec<Bytes>, table: &ZoneTable, net: u16) -> Result<(), Error>
     ensures put { OnOk result (made.new.items ≡ made.old.items
-        ++ map (bytes_of spelled_packet) (replies_for table.now net)) }
+        ++ map (bytes_of spec.packet) (replies_for table.now net)) }
     // A list has at most 64 names, and each reply but the last one has 16 of them or more.
     ensures few { OnOk result (length made.new.items ≤ length made.old.items + 4) }
     ensures short { OnOk result (AreShort made.old.items → AreShort made.new.items) }
@@ -99,7 +99,7 @@ fn put_first(
     mut networks: Networks<'_>,
     most: usize,
 ) -> Result<(), Error>
-    ensures put { OnOk result (made.new.items ≡ made.old.items ++ map (bytes_of spelled_packet)
+    ensures put { OnOk result (made.new.items ≡ made.old.items ++ map (bytes_of spec.packet)
         (flat_map (replies_for table.now) (take most networks.entry))) }
     ensures few { OnOk result (length made.new.items ≤ length made.old.items + 4 * most) }
     ensures short { OnOk result (AreShort made.old.items → AreShort made.new.items) }
@@ -129,7 +129,7 @@ pub fn answer_query(
     networks: Networks<'_>,
 ) -> Result<Vec<Bytes>, Error>
     ensures ok { IfOk result (λ made. made.items
-        ≡ map (bytes_of spelled_packet) (replies table.now networks.entry)) }
+        ≡ map (bytes_of spec.packet) (replies table.now networks.entry)) }
     // As many as a list of 64 names takes, for each of the networks.
     ensures few { IfOk result (λ made. length made.items ≤ 64) }
     // Each is the data of a datagram.

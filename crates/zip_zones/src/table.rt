@@ -8,7 +8,7 @@ ghost use Rattle.std.specs.Option.{option_copied};
 ghost use Rattle.zip_zones.specs.Zones.{IsZoneMap, all_zones, complete_at, heard, is_full_for};
 ghost use Rattle.zip_zones.specs.Zones.{lists_at, names_at, overlaps_another, ranges_of, set_list};
 ghost use Rattle.zip_zones.specs.Zones.{are_above, known_for, known_of, with_known, with_name};
-ghost use Rattle.zip_zones.specs.Zones.{is_answered as answered, list_of as list_before};
+ghost use Rattle.zip_zones.specs.Zones as spec;
 ghost use Rattle.zip_zones.specs.Zones.{with_zone, without};
 ghost use Rattle.zip_zones.specs.Places.{IsAt};
 ghost use Rattle.at_base.specs.Range.{IsRange};
@@ -137,8 +137,8 @@ fn put(lists: &mut Vec<KnownZones>, known: KnownZones)
 fn place_to_go_on(lists: &[KnownZones], range: Range, total: u8) -> Option<usize>
     requires { IsZoneMap lists.now }
     ensures some { IfSome result (λ place. (at : IsAt range lists.now place)
-        × (list_before range total (Some at.known) ≡ at.known)) }
-    ensures none { IfNone result (list_before range total (known_for range lists.now)
+        × (spec.list_of range total (Some at.known) ≡ at.known)) }
+    ensures none { IfNone result (spec.list_of range total (known_for range lists.now)
         ≡ record { range = range; total = total; names = [] }) }
 {
     match place_of(lists, range) {
@@ -270,7 +270,7 @@ impl ZoneTable {
 
     /// Whether the range has a complete list.
     pub(crate) fn is_answered(&self, range: Range) -> bool
-        ensures { result ≡ answered self.now range }
+        ensures { result ≡ spec.is_answered self.now range }
     {
         match list_for(self.lists.as_slice(), range) {
             Some(known) => known.is_complete(),

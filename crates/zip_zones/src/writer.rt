@@ -4,9 +4,10 @@ ghost use Rattle.std.specs.Prelude.{◌≡◌, ◌<◌, ◌≤◌, ◌+◌, ◌+
 ghost use Rattle.std.specs.Prelude.{IsOkUnless};
 ghost use Rattle.at_base.specs.Spelling.{bytes_of};
 ghost use Rattle.zip_zones.specs.declared.packet.Packet.TheVariants.{Query as QueryValue};
-ghost use Rattle.zip_zones.specs.Formats.{number_of, packet as spelled_packet};
-ghost use Rattle.zip_zones.specs.Networks.{network as spelled_network};
-ghost use Rattle.zip_zones.specs.Packets.{entry as spelled_entry};
+ghost use Rattle.zip_zones.specs.Formats as formats_spec;
+ghost use Rattle.zip_zones.specs.Formats.{number_of};
+ghost use Rattle.zip_zones.specs.Networks as networks_spec;
+ghost use Rattle.zip_zones.specs.Packets as packets_spec;
 ghost use Rattle.zip_zones.specs.Written.{entries_bytes, entries_of, entries_size, extended_reply};
 ghost use Rattle.zip_zones.specs.Written.{networks_bytes};
 
@@ -46,7 +47,7 @@ pub(crate) fn number(function: Function) -> u8
 /// Appends a network.
 #[tactic(auto, unfolding(crate::specs::Networks::network))]
 fn put_network(bytes: &mut Vec<u8>, net: u16) -> Result<(), Error>
-    ensures put { OnOk result (bytes.new.items ≡ bytes.old.items ++ bytes_of spelled_network net) }
+    ensures put { OnOk result (bytes.new.items ≡ bytes.old.items ++ bytes_of networks_spec.network net) }
     ensures refused { IsOkUnless result Error.Memory }
 {
     bytes.extend_from_slice(&net.to_be_bytes())?;
@@ -71,7 +72,7 @@ fn put_networks(bytes: &mut Vec<u8>, networks: &[u16]) -> Result<(), Error>
 ///
 /// Errors: `Full` above 255 networks, `Memory`.
 pub fn write_query(alloc: Global, networks: &[u16]) -> Result<Bytes, Error>
-    ensures ok { IfOk result (λ bytes. bytes ≡ bytes_of spelled_packet (QueryValue networks.now)) }
+    ensures ok { IfOk result (λ bytes. bytes ≡ bytes_of formats_spec.packet (QueryValue networks.now)) }
     ensures full { (result ≡ Err Error.Full) ↔ (255 < length networks.now) }
     ensures refused { IfErr result (λ e. (e ≡ Error.Full) ⊎ (e ≡ Error.Memory)) }
 {
@@ -88,7 +89,7 @@ pub fn write_query(alloc: Global, networks: &[u16]) -> Result<Bytes, Error>
 #[tactic(auto, unfolding(crate::specs::Packets::entry, at_base::specs::Packets::text))]
 fn put_entry(bytes: &mut Vec<u8>, net: u16, name: &Name) -> Result<(), Error>
     ensures put { OnOk result (bytes.new.items
-        ≡ bytes.old.items ++ bytes_of (spelled_entry 0) (record { net = net; name = name.now })) }
+        ≡ bytes.old.items ++ bytes_of (packets_spec.entry 0) (record { net = net; name = name.now })) }
     ensures refused { IsOkUnless result Error.Memory }
 {
     bytes.extend_from_slice(&net.to_be_bytes())?;
@@ -135,7 +136,7 @@ fn entries_len(names: &[Name], room: usize) -> Result<usize, Error>
 pub fn write_extended(alloc: Global, net: u16, total: u8, names: &[Name]) -> Result<Bytes, Error>
     requires { 0 < length names.now }
     ensures ok { IfOk result (λ bytes. bytes
-        ≡ bytes_of spelled_packet (extended_reply net total names.now)) }
+        ≡ bytes_of formats_spec.packet (extended_reply net total names.now)) }
     ensures short { IfOk result (λ bytes. length bytes ≤ 586) }
     ensures long { (result ≡ Err Error.TooLong) ↔ (586 < 2 + entries_size names.now) }
     ensures refused { IfErr result (λ e. (e ≡ Error.TooLong) ⊎ (e ≡ Error.Memory)) }

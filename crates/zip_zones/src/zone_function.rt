@@ -1,7 +1,8 @@
 //! The requests for lists of zones, which come as transactions.
 
 ghost use Rattle.std.specs.Prelude.{◌≡◌};
-ghost use Rattle.zip_zones.specs.Answers.{asked_page, number as number_of};
+ghost use Rattle.zip_zones.specs.Answers as spec;
+ghost use Rattle.zip_zones.specs.Answers.{asked_page};
 
 /// Which zones a node asks for.
 ///
@@ -19,7 +20,7 @@ pub enum ZoneFunction {
 impl ZoneFunction {
     /// The number in the first of a request's user bytes.
     pub fn number(self) -> u8
-        ensures { result ≡ number_of self }
+        ensures { result ≡ spec.number self }
     {
         match self {
             ZoneFunction::GetMyZone => 7,
