@@ -1,7 +1,7 @@
 //! What an answer means, for a person at a terminal. All of this runs after the answer was given,
 //! and writes to standard error alone; where it fails, it says nothing.
 
-use advice::{explain_bytes, explain_kind, explain_no};
+use image_advice::{explain_bytes, explain_kind, explain_no};
 use at_base::{Error, Part};
 use command_line::{Outcome, Source};
 use file_advice::explain_entry;

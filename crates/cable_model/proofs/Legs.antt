@@ -5,12 +5,12 @@ use Rattle.cable_model.specs.Outcomes.{Places, Sender, held_by, held_next, leg, 
 use Rattle.cable_model.specs.Ways.{all_lines, all_spare, is_nowhere_way, sender_at, way_entries, way_held, way_of}
 use Rattle.cable_model.proofs.Steps.{same_grows}
 use Rattle.cable_model.specs.Books.{Grows}
-use Rattle.cable_model.specs.declared.exit.Exit.{Exit}
+use Rattle.cable_model.specs.declared.outlet.Outlet.{Outlet}
 use Rattle.cable_model.specs.declared.log.Log.{Log}
 use Rattle.cable_model.specs.declared.resolve.Found.{Found}
 use Rattle.cable_model.specs.declared.resolve.Found.TheVariants.{At, Nobody, Later}
-use Rattle.cable_model.specs.declared.way.Way.{Way}
-use Rattle.cable_model.specs.declared.way.Way.TheVariants as way
+use Rattle.cable_model.specs.declared.route.Route.{Route}
+use Rattle.cable_model.specs.declared.route.Route.TheVariants as way
 use Rattle.ddp.specs.Bodies.{target}
 use Rattle.station.specs.Lawful.{count, is_made}
 use Rattle.station.specs.declared.output.Next.{Next}
@@ -40,7 +40,7 @@ held_is places cable port next.All bytes = refl
 held_is places cable port (next.Group g) bytes = refl
 
 -- a datagram left by the way that was found
-pub left_grows : (places : Places) (exit : Exit) (to : Next) (bytes b : List ℕ) (w : Way) (old new : Log) (n stamp : ℕ)
+pub left_grows : (places : Places) (exit : Outlet) (to : Next) (bytes b : List ℕ) (w : Route) (old new : Log) (n stamp : ℕ)
     → w ≡ way_of places exit.cable to bytes → n ≡ stamp → b ≡ bytes
     → Grows old new (way_entries (sender_at exit n) b w) (way_held exit.port b w)
     → Grows old new (leg places (sender_at exit stamp) to bytes) (held_next places exit.cable exit.port to bytes)
@@ -54,7 +54,7 @@ left_grows places exit to bytes b w old new n stamp e p q x =
     subst (λ es. Grows old new es (held_next places exit.cable exit.port to bytes)) entries
     (subst (λ hs. Grows old new (way_entries (sender_at exit n) b w) hs) waits x)
 
-nowhere_none : (s : Sender) (port : ℕ) (bytes : List ℕ) (w : Way) → is_nowhere_way w ≡ true
+nowhere_none : (s : Sender) (port : ℕ) (bytes : List ℕ) (w : Route) → is_nowhere_way w ≡ true
     → (way_entries s bytes w ≡ []) × (way_held port bytes w ≡ [])
 nowhere_none s port bytes (way.Other a Nobody) e = (refl, refl)
 nowhere_none s port bytes (way.Other a Later) e = cc
@@ -64,7 +64,7 @@ nowhere_none s port bytes (way.All listed) e = cc
 nowhere_none s port bytes (way.Group g) e = cc
 
 -- a datagram that goes nowhere leaves no trace
-pub nowhere_grows : (places : Places) (exit : Exit) (to : Next) (bytes : List ℕ) (w : Way) (log : Log) (stamp : ℕ)
+pub nowhere_grows : (places : Places) (exit : Outlet) (to : Next) (bytes : List ℕ) (w : Route) (log : Log) (stamp : ℕ)
     → w ≡ way_of places exit.cable to bytes → is_nowhere_way w ≡ true
     → Grows log log (leg places (sender_at exit stamp) to bytes) (held_next places exit.cable exit.port to bytes)
 nowhere_grows places exit to bytes w log stamp e none =

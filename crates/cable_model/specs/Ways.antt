@@ -5,10 +5,10 @@ use Rattle.cable_model.specs.Outcomes.{Held, Places, Sender, framed, held_by, to
 use Rattle.at_base.specs.Multicast.{all_hw, group_hw}
 use Rattle.cable_model.specs.Transcript.{Entry, Reached}
 use Rattle.cable_model.specs.declared.entry.How.TheVariants as how
-use Rattle.cable_model.specs.declared.exit.Exit.{Exit}
+use Rattle.cable_model.specs.declared.outlet.Outlet.{Outlet}
 use Rattle.cable_model.specs.declared.resolve.Found.TheVariants.{At, Nobody, Later}
-use Rattle.cable_model.specs.declared.way.Way.{Way}
-use Rattle.cable_model.specs.declared.way.Way.TheVariants as way
+use Rattle.cable_model.specs.declared.route.Route.{Route}
+use Rattle.cable_model.specs.declared.route.Route.TheVariants as way
 use Rattle.ddp.specs.Bodies.{body, target}
 use Rattle.station.specs.declared.heard.Kind.TheVariants.{Ddp}
 use Rattle.station.specs.declared.output.Next.{Next}
@@ -17,14 +17,14 @@ use Rattle.station.specs.declared.output.Output.{Output}
 use Rattle.station.specs.declared.output.Output.TheVariants as output
 
 -- the way of a datagram
-abbrev pub way_of : Places → ℕ → Next → List ℕ → Way
+abbrev pub way_of : Places → ℕ → Next → List ℕ → Route
 way_of places cable (next.Station a) bytes =
     cond (same_address (target bytes) a) (way.Target a (places.finds cable a)) (way.Other a (places.finds cable a))
 way_of places cable next.All bytes = way.All (places.lists (target bytes).net)
 way_of places cable (next.Group g) bytes = way.Group g
 
 -- the entries of a datagram that goes this way
-abbrev pub way_entries : Sender → List ℕ → Way → List Entry
+abbrev pub way_entries : Sender → List ℕ → Route → List Entry
 way_entries s bytes (way.Target a found) = to_target s bytes found
 way_entries s bytes (way.Other a found) = to_other s bytes found
 way_entries s bytes (way.All listed) =
@@ -32,14 +32,14 @@ way_entries s bytes (way.All listed) =
 way_entries s bytes (way.Group g) = framed s (group_hw g) Ddp bytes ∷ []
 
 -- the datagram waits, if it goes to a station of which nothing is known yet
-abbrev pub way_held : ℕ → List ℕ → Way → List Held
+abbrev pub way_held : ℕ → List ℕ → Route → List Held
 way_held port bytes (way.Target a found) = held_by found port a bytes
 way_held port bytes (way.Other a found) = held_by found port a bytes
 way_held port bytes (way.All listed) = []
 way_held port bytes (way.Group g) = []
 
 -- the station that puts the next frame there
-abbrev pub sender_at : Exit → ℕ → Sender
+abbrev pub sender_at : Outlet → ℕ → Sender
 sender_at exit stamp = record { stamp = stamp; cable = exit.cable; station = exit.station }
 
 -- the most entries of an output
@@ -69,7 +69,7 @@ all_spare [] = 0
 all_spare (o ∷ os) = spare_for o + all_spare os
 
 -- a datagram of this way is in no entry, and doesn't wait
-abbrev pub is_nowhere_way : Way → Bool
+abbrev pub is_nowhere_way : Route → Bool
 is_nowhere_way (way.Other a Nobody) = true
 is_nowhere_way (way.Other a Later) = false
 is_nowhere_way (way.Other a (At hw)) = false

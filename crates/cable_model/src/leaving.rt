@@ -9,22 +9,22 @@ ghost use Rattle.cable_model.specs.Transcript.{Reached};
 ghost use Rattle.cable_model.specs.Ways.{sender_at, way_entries, way_held};
 ghost use Rattle.cable_model.specs.declared.resolve.Found.TheVariants.{Later};
 ghost use Rattle.cable_model.specs.declared.seat.Seat.{Seat as SeatValue};
-ghost use Rattle.cable_model.specs.declared.way.Way.TheVariants.{All};
+ghost use Rattle.cable_model.specs.declared.route.Route.TheVariants.{All};
 ghost use Rattle.ddp.specs.Bodies.{body};
 
 use crate::entry::{Entry, How};
-use crate::exit::Exit;
+use crate::outlet::Outlet;
 use crate::log::{Log, hold, note};
 use crate::putting::put;
 use crate::resolve::Found;
 use crate::seats::Seats;
 use crate::waiting::Waiting;
-use crate::way::Way;
+use crate::route::Route;
 use at_base::{Addr, Hw};
 use station::Kind;
 
 /// Adds that a datagram reached the cable.
-fn reached(log: &mut Log, exit: Exit, how: How, bytes: u32)
+fn reached(log: &mut Log, exit: Outlet, how: How, bytes: u32)
     requires room { HasRoom log.old 1 0 0 0 }
     requires names { bytes < length log.old.kept.items }
     ensures grows { Grows log.old log.new
@@ -47,7 +47,7 @@ fn reached(log: &mut Log, exit: Exit, how: How, bytes: u32)
 }
 
 /// A datagram goes to the station that it is for.
-fn to_target(log: &mut Log, seats: &Seats, exit: Exit, addr: Addr, found: Found, bytes: u32)
+fn to_target(log: &mut Log, seats: &Seats, exit: Outlet, addr: Addr, found: Found, bytes: u32)
     requires room { HasRoom log.old 2 0 1 (length seats.now) }
     requires book { IsBook seats.now log.old }
     requires names { bytes < length log.old.kept.items }
@@ -72,7 +72,7 @@ fn to_target(log: &mut Log, seats: &Seats, exit: Exit, addr: Addr, found: Found,
 }
 
 /// A datagram goes to another station.
-fn to_other(log: &mut Log, seats: &Seats, exit: Exit, addr: Addr, found: Found, bytes: u32)
+fn to_other(log: &mut Log, seats: &Seats, exit: Outlet, addr: Addr, found: Found, bytes: u32)
     requires room { HasRoom log.old 1 0 1 (length seats.now) }
     requires book { IsBook seats.now log.old }
     requires names { bytes < length log.old.kept.items }
@@ -91,7 +91,7 @@ fn to_other(log: &mut Log, seats: &Seats, exit: Exit, addr: Addr, found: Found, 
 }
 
 /// A datagram waits for the hardware address of its next station.
-fn wait(log: &mut Log, exit: Exit, next: Addr, bytes: u32)
+fn wait(log: &mut Log, exit: Outlet, next: Addr, bytes: u32)
     requires room { HasRoom log.old 0 0 1 0 }
     requires names { bytes < length log.old.kept.items }
     ensures grows { Grows log.old log.new []
@@ -109,7 +109,7 @@ fn wait(log: &mut Log, exit: Exit, next: Addr, bytes: u32)
 }
 
 /// A datagram goes to all stations.
-fn to_all(log: &mut Log, seats: &Seats, exit: Exit, listed: bool, bytes: u32)
+fn to_all(log: &mut Log, seats: &Seats, exit: Outlet, listed: bool, bytes: u32)
     requires room { HasRoom log.old 2 0 0 (length seats.now) }
     requires book { IsBook seats.now log.old }
     requires names { bytes < length log.old.kept.items }
@@ -144,7 +144,7 @@ fn to_all(log: &mut Log, seats: &Seats, exit: Exit, listed: bool, bytes: u32)
 }
 
 /// A datagram goes onto a cable.
-pub fn leave(log: &mut Log, seats: &Seats, exit: Exit, way: Way, bytes: u32)
+pub fn leave(log: &mut Log, seats: &Seats, exit: Outlet, way: Route, bytes: u32)
     requires room { HasRoom log.old 2 0 1 (length seats.now) }
     requires book { IsBook seats.now log.old }
     requires names { bytes < length log.old.kept.items }
@@ -156,10 +156,10 @@ pub fn leave(log: &mut Log, seats: &Seats, exit: Exit, way: Way, bytes: u32)
     ensures uses { Uses log.old log.new 2 0 1 (length seats.now) }
 {
     match way {
-        Way::Target(addr, found) => to_target(log, seats, exit, addr, found, bytes),
-        Way::Other(addr, found) => to_other(log, seats, exit, addr, found, bytes),
-        Way::All(listed) => to_all(log, seats, exit, listed, bytes),
-        Way::Group(group) => {
+        Route::Target(addr, found) => to_target(log, seats, exit, addr, found, bytes),
+        Route::Other(addr, found) => to_other(log, seats, exit, addr, found, bytes),
+        Route::All(listed) => to_all(log, seats, exit, listed, bytes),
+        Route::Group(group) => {
             let to = Hw::zone(group);
             put(log, seats, exit.cable, exit.station, to, Kind::Ddp, bytes);
         }

@@ -12,14 +12,14 @@ ghost use Rattle.ddp.specs.Bodies.{body};
 ghost use Rattle.station.specs.declared.heard.Kind.TheVariants.{Aarp};
 
 use crate::entry::{Entry, How};
-use crate::exit::Exit;
+use crate::outlet::Outlet;
 use crate::leaving::leave;
 use crate::log::{Log, keep, note};
 use crate::putting::put;
 use crate::resolve::{Found, Resolve};
 use crate::seating::exit_by;
 use crate::seats::Seats;
-use crate::way::{Way, way_of};
+use crate::route::{Route, way_of};
 use at_base::{Bytes, Hw};
 use station::{Cause, Kind, Next, Output, Outputs};
 
@@ -28,7 +28,7 @@ pub fn sent<R: Resolve>(
     log: &mut Log,
     seats: &Seats,
     resolver: &R,
-    exit: Exit,
+    exit: Outlet,
     next: Next,
     bytes: Bytes,
 )
@@ -61,7 +61,7 @@ fn passed<R: Resolve>(
     log: &mut Log,
     seats: &Seats,
     resolver: &R,
-    exit: Exit,
+    exit: Outlet,
     next: Next,
     bytes: Bytes,
 )
@@ -84,11 +84,11 @@ fn passed<R: Resolve>(
 }
 
 /// Whether a datagram of this way is in no entry, and doesn't wait.
-fn is_nowhere(way: Way) -> bool
+fn is_nowhere(way: Route) -> bool
     ensures { result ≡ is_nowhere_way way }
 {
     match way {
-        Way::Other(_, found) => match found {
+        Route::Other(_, found) => match found {
             Found::Nobody => true,
             _ => false,
         },
@@ -97,7 +97,7 @@ fn is_nowhere(way: Way) -> bool
 }
 
 /// A router keeps a datagram.
-fn own(log: &mut Log, exit: Exit, bytes: Bytes)
+fn own(log: &mut Log, exit: Outlet, bytes: Bytes)
     requires room { HasRoom log.old 2 1 0 0 }
     ensures grows { (seats : List SeatValue) → IsBook seats log.old
         → Grows log.old log.new (Reached exit.cable exit.station Own (body bytes) ∷ []) [] }
@@ -140,7 +140,7 @@ fn dropped(log: &mut Log, router: u16, cause: Cause, bytes: Bytes)
 }
 
 /// A station puts an AARP packet on a cable.
-fn wire(log: &mut Log, seats: &Seats, exit: Exit, to: Hw, bytes: Bytes)
+fn wire(log: &mut Log, seats: &Seats, exit: Outlet, to: Hw, bytes: Bytes)
     requires room { HasRoom log.old 3 1 0 (length seats.now) }
     requires book { IsBook seats.now log.old }
     ensures grows { Grows log.old log.new

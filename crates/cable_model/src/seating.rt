@@ -5,7 +5,7 @@ ghost use Rattle.std.specs.List.{list_any};
 ghost use Rattle.at_base.specs.declared.error.What.TheVariants.{Cable, Station};
 ghost use Rattle.cable_model.specs.Outcomes as spec;
 
-use crate::exit::Exit;
+use crate::outlet::Outlet;
 use crate::seats::Seats;
 use at_base::{Error, What};
 
@@ -44,10 +44,10 @@ fn cable_of(seats: &Seats, station: u16, port: u8) -> u8
 }
 
 /// A station's port, with its cable.
-pub fn exit_by(seats: &Seats, station: u16, port: u8) -> Exit
+pub fn exit_by(seats: &Seats, station: u16, port: u8) -> Outlet
     ensures { result ≡ record { cable = spec.cable_of seats.now station port; station = station; port = port } }
 {
-    Exit {
+    Outlet {
         cable: cable_of(seats, station, port),
         station,
         port,
@@ -65,10 +65,10 @@ fn port_on(seats: &Seats, cable: u8, station: u16) -> u8
 }
 
 /// A station on a cable, with its port there.
-pub fn exit_on(seats: &Seats, cable: u8, station: u16) -> Exit
+pub fn exit_on(seats: &Seats, cable: u8, station: u16) -> Outlet
     ensures { result ≡ record { cable = cable; station = station; port = spec.port_on seats.now cable station } }
 {
-    Exit {
+    Outlet {
         cable,
         station,
         port: port_on(seats, cable, station),

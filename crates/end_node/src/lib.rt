@@ -4,11 +4,11 @@
 mod asking;
 mod hearing;
 mod lists;
-mod live;
 mod lookups;
 mod node;
 mod receive;
 mod sending;
+mod setters;
 mod ways;
 
 pub use node::{Datagram, EndNode, MAX_RECEIVED};

@@ -4,12 +4,12 @@
 mod acting;
 mod beginning;
 mod losing;
-mod passing;
-mod playing;
+mod phases;
 mod scheduling;
 mod seen;
+mod station_ticks;
 mod taking;
-mod ticking;
+mod tick;
 mod world;
 
 pub use world::{MAX_ENTRIES, MAX_TAKES, World};

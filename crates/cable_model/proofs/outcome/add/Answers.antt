@@ -3,7 +3,7 @@ use Rattle.cable_model.specs.Books.{Grows}
 use Rattle.cable_model.specs.Outcomes.{Places, entries_of, held_of}
 use Rattle.cable_model.specs.Transcript.{Reached}
 use Rattle.cable_model.specs.declared.entry.How.TheVariants.{Own}
-use Rattle.cable_model.specs.declared.exit.Exit.{Exit}
+use Rattle.cable_model.specs.declared.outlet.Outlet.{Outlet}
 use Rattle.ddp.specs.Bodies.{body}
 use Rattle.cable_model.proofs.outcome.add.Goals as goal
 
@@ -12,7 +12,7 @@ returns-in-Kept-clause-grows g c =
     let places : Places = record { finds = g.R.Resolve.finds c.args.resolver.now; lists = g.R.Resolve.lists c.args.resolver.now } in
     subst (λ o. Grows c.args.log.now c.own.new.log (entries_of places c.args.seats.now c.args.station c.args.log.now.puts o)
     (held_of places c.args.seats.now c.args.station o)) (sym c.in-Kept.is)
-    (subst (λ (e : Exit). Grows c.args.log.now c.own.new.log (Reached e.cable e.station Own (body c.in-Kept.bytes) ∷ []) [])
+    (subst (λ (e : Outlet). Grows c.args.log.now c.own.new.log (Reached e.cable e.station Own (body c.in-Kept.bytes) ∷ []) [])
     c.exit_by-in-Kept.ensures (c.own.ensures.grows c.args.seats.now c.requires.book))
 
 pub returns-in-Kept-clause-book : goal.returns-in-Kept-clause-book

@@ -4,7 +4,7 @@ use Rattle.cable_model.specs.Books.{Grows, IsBook, said as said_in}
 use Rattle.cable_model.specs.Outcomes.{Places, held_next, leg, port_on}
 use Rattle.cable_model.specs.Transcript.{Sent, stamps}
 use Rattle.cable_model.specs.Ways.{sender_at}
-use Rattle.cable_model.specs.declared.exit.Exit.{Exit}
+use Rattle.cable_model.specs.declared.outlet.Outlet.{Outlet}
 use Rattle.ddp.specs.Bodies.{body}
 use Rattle.cable_model.proofs.cables.Cables.send.Goals as goal
 
@@ -32,13 +32,13 @@ returns-clause-ok g c =
     let places : Places = record { finds = g.R.Resolve.finds c.args.resolver.now; lists = g.R.Resolve.lists c.args.resolver.now } in
     let mid = c.forget_waiting.new.log in
     let new = c.sent.new.log in
-    let exit : Exit = record {
+    let exit : Outlet = record {
       cable = c.args.cable;
       station = c.args.station;
       port = port_on c.self.inside.seats c.args.cable c.args.station;
     } in
     let grows =
-    subst (λ (e : Exit). Grows mid new
+    subst (λ (e : Outlet). Grows mid new
     (Sent e.station (body c.args.bytes) ∷ leg places (sender_at e mid.puts) c.args.next c.args.bytes)
     (held_next places e.cable e.port c.args.next c.args.bytes)) c.exit_on-exit.ensures c.sent.ensures.grows in
     let puts : mid.puts ≡ stamps (said_in c.self.inside.log) =

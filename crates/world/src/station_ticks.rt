@@ -75,7 +75,7 @@ fn give_up_all<T: RouteTable>(station: &mut Member<LiveRouter<T>, LiveNode>, add
 }
 
 /// Lets a tick pass for the mappings of a station's seat. Errors: `Full`, `Memory`.
-fn pass_seat<T: RouteTable>(
+fn age_mappings<T: RouteTable>(
     station: &mut Member<LiveRouter<T>, LiveNode>,
     wires: &mut LiveCables,
     seat: usize,
@@ -99,7 +99,7 @@ fn pass_seat<T: RouteTable>(
 
 /// Lets a tick pass for the mappings of a station's seats, so many from an index on. Errors:
 /// `Full`, `Memory`.
-fn pass_seats<T: RouteTable>(
+fn age_all_mappings<T: RouteTable>(
     station: &mut Member<LiveRouter<T>, LiveNode>,
     wires: &mut LiveCables,
     seat: usize,
@@ -115,7 +115,7 @@ fn pass_seats<T: RouteTable>(
     ensures refused { IfErr result (λ e. (e ≡ Error.Full) ⊎ (e ≡ Error.Memory)) }
 {
     for port in 0..ports {
-        match pass_seat(station, wires, seat + port as usize) {
+        match age_mappings(station, wires, seat + port as usize) {
             Ok(()) => {}
             Err(error) => return Err(error),
         }
@@ -155,7 +155,7 @@ fn tick<T: RouteTable>(
 
 /// Lets a tick pass for a station, and for the mappings of its ports, whose seats begin at an
 /// index. Errors: `Full`, `Memory`.
-fn pass<T: RouteTable>(
+fn tick_station<T: RouteTable>(
     alloc: Global,
     station: &mut Member<LiveRouter<T>, LiveNode>,
     wires: &mut LiveCables,
@@ -177,7 +177,7 @@ fn pass<T: RouteTable>(
         Err(error) => return Err(error),
     }
     let ports = station.ports();
-    pass_seats(station, wires, seat, ports)
+    age_all_mappings(station, wires, seat, ports)
 }
 
 /// The number of the ports of the station at an index.
@@ -193,7 +193,7 @@ fn ports_at<T: RouteTable>(stations: &[Member<LiveRouter<T>, LiveNode>], index: 
 }
 
 /// Lets a tick pass for all stations. Errors: `Full`, `Memory`.
-pub fn pass_all<T: RouteTable>(
+pub fn tick_all<T: RouteTable>(
     alloc: Global,
     stations: &mut Vec<Member<LiveRouter<T>, LiveNode>>,
     wires: &mut LiveCables,
@@ -211,7 +211,7 @@ pub fn pass_all<T: RouteTable>(
     let mut seat = 0;
     for index in 0..stations.len() {
         let station = &mut stations[index];
-        match pass(alloc, station, wires, index as u16, seat) {
+        match tick_station(alloc, station, wires, index as u16, seat) {
             Ok(()) => {}
             Err(error) => return Err(error),
         }

@@ -1,6 +1,6 @@
 use Rattle.std.proofs.Common.{◌≡◌}
 use Rattle.world.specs.Doing.{settled_own}
-use Rattle.world.proofs.passing.settle.Given as goal
+use Rattle.world.proofs.station_ticks.settle.Given as goal
 
 -- the ports before this one have the addresses that they settled, and nothing but addresses changes
 abbrev pub invariant-loop-port : goal.invariant-loop-port

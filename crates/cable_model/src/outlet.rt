@@ -2,7 +2,7 @@
 
 /// A port of a station, and the cable that it is on.
 #[derive(Clone, Copy, Debug)]
-pub struct Exit {
+pub struct Outlet {
     /// The cable.
     pub cable: u8,
     /// The station.

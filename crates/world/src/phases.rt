@@ -10,7 +10,7 @@ ghost use Rattle.world.specs.Received.{AreReceived, got};
 ghost use Rattle.world.specs.Ticking.{Begins, Plays};
 
 use crate::acting::act_all;
-use crate::passing::pass_all;
+use crate::station_ticks::tick_all;
 use crate::taking::take_all;
 use crate::world::MAX_TAKES;
 use at_base::Error;
@@ -23,7 +23,7 @@ use rtmp::RouteTable;
 
 /// Lets the tick pass for all stations, and lets the nodes do what is planned for it. Errors:
 /// `Full`, `Memory`.
-fn begin<T: RouteTable>(
+fn before_takings<T: RouteTable>(
     plan: &Plan,
     stations: &mut Vec<Member<LiveRouter<T>, LiveNode>>,
     wires: &mut LiveCables,
@@ -43,7 +43,7 @@ fn begin<T: RouteTable>(
     ensures full { (result ≡ Err Error.Full) → HasNoRoom 3 wires.new.cabling }
     ensures refused { IfErr result (λ e. (e ≡ Error.Full) ⊎ (e ≡ Error.Memory)) }
 {
-    match pass_all(*refused.allocator(), stations, wires) {
+    match tick_all(*refused.allocator(), stations, wires) {
         Ok(()) => {}
         Err(error) => return Err(error),
     }
@@ -52,7 +52,7 @@ fn begin<T: RouteTable>(
 
 /// What happens in a tick: it passes for all stations, the nodes do what is planned for it, and
 /// frames are taken. Errors: `Full`, `Memory`.
-pub fn play<T: RouteTable>(
+pub fn run_phases<T: RouteTable>(
     plan: &Plan,
     stations: &mut Vec<Member<LiveRouter<T>, LiveNode>>,
     wires: &mut LiveCables,
@@ -74,7 +74,7 @@ pub fn play<T: RouteTable>(
     ensures full { (result ≡ Err Error.Full) → HasNoRoom 771 wires.new.cabling }
     ensures refused { IfErr result (λ e. (e ≡ Error.Full) ⊎ (e ≡ Error.Memory)) }
 {
-    match begin(plan, stations, wires, refused, schedule, now) {
+    match before_takings(plan, stations, wires, refused, schedule, now) {
         Ok(()) => {}
         Err(error) => return Err(error),
     }

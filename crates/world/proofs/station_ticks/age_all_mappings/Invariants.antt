@@ -3,7 +3,7 @@ use Rattle.planned_stations.specs.Planning.{ports_of}
 use Rattle.world.specs.Going.{GoesOn}
 use Rattle.world.specs.Passing.{AreAged}
 use Rattle.world.specs.Received.{got}
-use Rattle.world.proofs.passing.pass_seats.Given as goal
+use Rattle.world.proofs.station_ticks.age_all_mappings.Given as goal
 
 abbrev pub invariant-loop-port : goal.invariant-loop-port
 invariant-loop-port g l =

@@ -3,7 +3,7 @@ use Rattle.planned_stations.specs.Planning.{ports_of}
 use Rattle.world.specs.Going.{GoesOn}
 use Rattle.world.specs.Passing.{HavePassed}
 use Rattle.world.specs.Received.{got}
-use Rattle.world.proofs.passing.pass_all.Given as goal
+use Rattle.world.proofs.station_ticks.tick_all.Given as goal
 
 abbrev pub invariant-loop-index : goal.invariant-loop-index
 invariant-loop-index g l =

@@ -1,28 +1,28 @@
 use Rattle.std.proofs.Common.{◌≡◌, ◌∙◌, ◌+◌, suc, arith, refl, subst}
 use Rattle.world.proofs.Going.{goes_none, goes_on_then, goes_then}
 use Rattle.world.specs.Passing.{AreAged}
-use Rattle.world.proofs.passing.pass_seats.Goals as goal
+use Rattle.world.proofs.station_ticks.age_all_mappings.Goals as goal
 
 pub loop-port-init : goal.loop-port-init
 loop-port-init g c = (refl, refl, goes_none _, (refl, refl))
 
 pub loop-port-preserved : goal.loop-port-preserved
 loop-port-preserved g c = let next : suc c.loop-port.port ≡ c.loop-port.port + 1 = omega arith in (
-  c.pass_seat.ensures.ports ∙ c.loop-port.invariant.0,
-  c.pass_seat.ensures.got ∙ c.loop-port.invariant.1,
+  c.age_mappings.ensures.ports ∙ c.loop-port.invariant.0,
+  c.age_mappings.ensures.got ∙ c.loop-port.invariant.1,
   goes_on_then 0 _ _ _ c.loop-port.invariant.2 0 0 (omega arith) c.in-Ok.ensures.done,
-  subst (λ n. AreAged c.args.seat n c.args.station.now c.pass_seat.new.station c.args.wires.now c.pass_seat.new.wires) next
+  subst (λ n. AreAged c.args.seat n c.args.station.now c.age_mappings.new.station c.args.wires.now c.age_mappings.new.wires) next
       (c.loop-port.station, c.loop-port.wires, c.loop-port.invariant.3, c.in-Ok.ensures.aged),
 )
 
 pub returns-in-Err-clause-ports : goal.returns-in-Err-clause-ports
-returns-in-Err-clause-ports g c = c.pass_seat.ensures.ports ∙ c.loop-port.invariant.0
+returns-in-Err-clause-ports g c = c.age_mappings.ensures.ports ∙ c.loop-port.invariant.0
 
 pub returns-in-Err-clause-got : goal.returns-in-Err-clause-got
-returns-in-Err-clause-got g c = c.pass_seat.ensures.got ∙ c.loop-port.invariant.1
+returns-in-Err-clause-got g c = c.age_mappings.ensures.got ∙ c.loop-port.invariant.1
 
 pub returns-in-Err-clause-goes : goal.returns-in-Err-clause-goes
-returns-in-Err-clause-goes g c = goes_then 0 _ _ _ c.loop-port.invariant.2 c.pass_seat.ensures.goes
+returns-in-Err-clause-goes g c = goes_then 0 _ _ _ c.loop-port.invariant.2 c.age_mappings.ensures.goes
 
 pub returns-clause-goes : goal.returns-clause-goes
 returns-clause-goes g c = c.loop-port.invariant.2.goes

@@ -11,7 +11,7 @@ use station::Next;
 
 /// To whom a datagram goes on a cable, and what is known of where that is.
 #[derive(Clone, Copy, Debug)]
-pub enum Way {
+pub enum Route {
     /// To the station that it is for, at this address.
     Target(Addr, Found),
     /// To another station, at this address.
@@ -49,7 +49,7 @@ fn is_same(a: Addr, b: Addr) -> bool
 }
 
 /// The way of a datagram on a cable.
-pub fn way_of<R: Resolve>(resolver: &R, cable: u8, next: Next, bytes: &[u8]) -> Way
+pub fn way_of<R: Resolve>(resolver: &R, cable: u8, next: Next, bytes: &[u8]) -> Route
     ensures { result ≡ spec.way_of (record { finds = R.finds resolver.now; lists = R.lists resolver.now })
         cable next bytes.now }
 {
@@ -58,12 +58,12 @@ pub fn way_of<R: Resolve>(resolver: &R, cable: u8, next: Next, bytes: &[u8]) -> 
         Next::Station(addr) => {
             let found = resolver.find(cable, addr);
             if is_same(target, addr) {
-                Way::Target(addr, found)
+                Route::Target(addr, found)
             } else {
-                Way::Other(addr, found)
+                Route::Other(addr, found)
             }
         }
-        Next::All => Way::All(resolver.listed(target.net)),
-        Next::Group(group) => Way::Group(group),
+        Next::All => Route::All(resolver.listed(target.net)),
+        Next::Group(group) => Route::Group(group),
     }
 }

@@ -9,7 +9,7 @@ ghost use Rattle.world.specs.Ticking.{IsTick};
 ghost use Rattle.world.specs.Worlds.{Ticks, TicksOn};
 
 use crate::losing::losing_at;
-use crate::playing::play;
+use crate::phases::run_phases;
 use crate::world::World;
 use at_base::Error;
 use live_cables::LiveCables;
@@ -24,7 +24,7 @@ fn recall_numbered(wires: &LiveCables)
 
 impl<T: RouteTable> World<T> {
     /// What happens in a tick. Errors: `Full`, `Memory`.
-    fn play(&mut self) -> Result<(), Error>
+    fn run_tick(&mut self) -> Result<(), Error>
         ensures plan { self.new.plan ≡ self.old.plan }
         ensures now { self.new.now ≡ self.old.now }
         ensures stopped { self.new.stopped ≡ self.old.stopped }
@@ -41,7 +41,7 @@ impl<T: RouteTable> World<T> {
             Err(error) => return Err(error),
         };
         self.wires.set_losing(losing);
-        let played = play(
+        let played = run_phases(
             &self.plan,
             &mut self.stations,
             &mut self.wires,
@@ -54,7 +54,7 @@ impl<T: RouteTable> World<T> {
     }
 
     /// The next tick, if there is one. Errors: `Full`, `Memory`.
-    fn pass(&mut self) -> Result<(), Error>
+    fn next_tick(&mut self) -> Result<(), Error>
         ensures plan { self.new.plan ≡ self.old.plan }
         ensures now { OnOk result (self.new.now ≡ self.old.now + 1) }
         ensures began { self.old.now < self.old.plan.ticks → self.new.now ≡ self.old.now + 1 }
@@ -74,7 +74,7 @@ impl<T: RouteTable> World<T> {
             return Err(Error::Full);
         }
         self.passed += 1;
-        self.play()
+        self.run_tick()
     }
 
     /// Lets a tick pass: for each station in turn, and for the mappings of its ports; then the
@@ -112,7 +112,7 @@ impl<T: RouteTable> World<T> {
         if let Some(error) = self.stopped {
             return Err(error);
         }
-        match self.pass() {
+        match self.next_tick() {
             Ok(()) => Ok(()),
             Err(error) => {
                 self.stopped = Some(error);

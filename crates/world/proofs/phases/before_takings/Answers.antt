@@ -2,7 +2,7 @@ use Rattle.std.proofs.Common.{arith, subst}
 use Rattle.std.proofs.lemmas.Result.{on_ok_weaker}
 use Rattle.world.proofs.Going.{goes_on_then, goes_then}
 use Rattle.world.specs.Acting.{AreDone}
-use Rattle.world.proofs.playing.begin.Goals as goal
+use Rattle.world.proofs.phases.before_takings.Goals as goal
 
 pub returns-clause-goes : goal.returns-clause-goes
 returns-clause-goes g c = goes_then 0 _ _ _ c.in-Ok.ensures.done c.act_all.ensures.goes
@@ -16,8 +16,8 @@ returns-clause-begins g c =
     on_ok_weaker c.act_all.result
     (λ d. record {
       seats = c.in-Ok.ensures.passed.0;
-      wires = c.pass_all.new.wires;
+      wires = c.tick_all.new.wires;
       passes = c.in-Ok.ensures.passed.1;
       actions = d.0;
-      does = subst (λ l. AreDone c.args.plan.now l c.args.now d.0 c.args.schedule.now.items c.act_all.new.schedule.items (c.pass_all.new.wires, c.args.refused.now.items) (c.act_all.new.wires, c.act_all.new.refused.items)) c.as_slice.ensures.value d.1;
+      does = subst (λ l. AreDone c.args.plan.now l c.args.now d.0 c.args.schedule.now.items c.act_all.new.schedule.items (c.tick_all.new.wires, c.args.refused.now.items) (c.act_all.new.wires, c.act_all.new.refused.items)) c.as_slice.ensures.value d.1;
     }) c.act_all.ensures.are_done

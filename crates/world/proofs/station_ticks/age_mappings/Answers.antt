@@ -1,5 +1,5 @@
 use Rattle.world.proofs.Going.{goes_plays, goes_plays_on}
-use Rattle.world.proofs.passing.pass_seat.Goals as goal
+use Rattle.world.proofs.station_ticks.age_mappings.Goals as goal
 
 pub returns-in-Ok-clause-goes : goal.returns-in-Ok-clause-goes
 returns-in-Ok-clause-goes g c = goes_plays _ _ c.pass.ensures.plays

@@ -1,6 +1,6 @@
 use Rattle.std.proofs.lemmas.Result.{on_ok_weaker}
 use Rattle.world.proofs.Going.{goes_on_settled, goes_plays, goes_plays_on, goes_settled}
-use Rattle.world.proofs.passing.tick.Goals as goal
+use Rattle.world.proofs.station_ticks.tick.Goals as goal
 
 pub returns-clause-goes : goal.returns-clause-goes
 returns-clause-goes g c = goes_settled _ c.settle.new.wires _ c.settle.ensures.others (goes_plays _ _ c.give.ensures.plays)
