@@ -19,36 +19,11 @@ use std::alloc::Global;
 use std::io::Read;
 use table_image::Image;
 
-/// An image, and the same again: the run takes one, and the lines take addresses from the other.
-#[derive(Drop)]
-pub struct Twice {
-    pub image: Image,
-    pub shown: Image,
-    ghost same: { shown ≡ image },
-}
-
-/// The image is needed no more.
-pub fn discard(_images: Twice) {}
-
-/// Reads the image that the bytes spell, twice. Errors: `BadImage`, `Memory`.
-fn read_twice(alloc: Global, bytes: &[u8]) -> Result<Twice, Error>
-    ensures found { IfOk result (λ t. Spells image_spelling bytes.now t.image) }
-    ensures only { (i : Internet) → Spells image_spelling bytes.now i
-        → IfErr result (λ e. e ≡ Error.Memory) }
-    ensures first { (f : Flaw) → IsFirstFlaw bytes.now f
-        → IsErrAnd result (λ e. e ≡ refusal bytes.now f) }
-    ensures refused { IfErr result (λ e. (e ≢ Error.WriteFault) × (e ≢ Error.ReadFault)) }
-{
-    let image = table_image::read(alloc, bytes)?;
-    let shown = table_image::read(alloc, bytes)?;
-    Ok(Twice { image, shown })
-}
-
-/// Reads the whole input, and the image that it spells, twice; leaves its bytes in the input.
-/// Errors: `ReadFault`, `BadImage`, `Memory`.
-pub fn read_images<R: Read>(alloc: Global, input: &mut Input<R>) -> Result<Twice, Error>
-    ensures found { IfOk result (λ t. IfSome (R.remaining input.old.reader)
-        (λ bytes. Spells image_spelling bytes t.image)) }
+/// Reads the whole input, and the image that it spells; leaves its bytes in the input. Errors:
+/// `ReadFault`, `BadImage`, `Memory`.
+pub fn read_image<R: Read>(alloc: Global, input: &mut Input<R>) -> Result<Image, Error>
+    ensures found { IfOk result (λ image. IfSome (R.remaining input.old.reader)
+        (λ bytes. Spells image_spelling bytes image)) }
     // Bytes that spell no image are refused by their first flaw, unless they can't be read to their
     // end.
     ensures flaw { IfSome (R.remaining input.old.reader) (λ bytes.
@@ -72,9 +47,9 @@ pub fn read_images<R: Read>(alloc: Global, input: &mut Input<R>) -> Result<Twice
         IfSome (R.remaining input.old.reader) (λ bytes. v.items ≡ bytes)) }
 {
     let bytes = input.read_all(alloc)?;
-    let images = read_twice(alloc, bytes.as_slice());
+    let image = table_image::read(alloc, bytes.as_slice());
     input.kept = Some(bytes);
-    images
+    image
 }
 
 /// Reads the whole input, and the script that it is. Errors: `ReadFault`, `BadScript`, `Memory`.

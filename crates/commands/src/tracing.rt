@@ -14,12 +14,11 @@ ghost use Rattle.table_image.specs.declared.flaw.Flaw.{Flaw};
 ghost use Rattle.commands.specs.declared.input.TheConstants.{READS};
 
 use crate::input::Input;
-use crate::sources::{Twice, discard, read_images, read_steps};
+use crate::sources::{read_image, read_steps};
 use at_base::Error;
 use frozen_trace::trace_script;
 use text::Output;
 use rtmp::PlainTable;
-use script::Step;
 use std::alloc::Global;
 use std::io::{Read, Write};
 
@@ -91,31 +90,7 @@ pub fn run_frozen<I: Read, S: Read, W: Write>(
         → IsSomeAnd image.new.kept (λ v.
         IfSome (I.remaining image.old.reader) (λ bytes. v.items ≡ bytes)) }
 {
-    let images = read_images(alloc, image)?;
-    match read_steps(alloc, script) {
-        Ok(steps) => play(alloc, images, steps, output),
-        Err(error) => {
-            discard(images);
-            Err(error)
-        }
-    }
-}
-
-/// Plays the steps over an image that was read twice.
-fn play<W: Write>(
-    alloc: Global,
-    images: Twice,
-    steps: Vec<Step>,
-    output: &mut Output<W>,
-) -> Result<bool, Error>
-    ensures printed { IfOk result (λ yes. (lines : List ℕ)
-        × IsPrinted images.image steps.items yes lines
-        × Appends (W.contents output.old.writer) (W.contents output.new.writer)
-        (output.old.text.items ++ lines)) }
-    ensures refused { IfErr result (λ e.
-        (e ≡ Error.Memory) ⊎ ((e ≡ Error.WriteFault) × (output.new.failed ≡ true))) }
-    ensures stays { OnOk result (output.new.failed ≡ output.old.failed) }
-{
-    let Twice { image, shown, .. } = images;
-    trace_script::<PlainTable, W>(alloc, image, &shown, steps.as_slice(), output)
+    let image = read_image(alloc, image)?;
+    let steps = read_steps(alloc, script)?;
+    trace_script::<PlainTable, W>(alloc, image, steps.as_slice(), output)
 }

@@ -7,11 +7,11 @@ use Rattle.cable_model.specs.Transcript.{Entry}
 use Rattle.cable_model.specs.declared.entry.Entry.{Entry as Line}
 use Rattle.frozen.proofs.Refused.{take_one}
 use Rattle.frozen_trace.specs.Traces.{cables_of}
-use Rattle.table_image.specs.Internet.{Internet}
 use Rattle.trace_lines.specs.Lines.{Printed, cable_of, line, lines}
+use Rattle.trace_lines.specs.Stations.{Directory}
 
 -- the lines of entries, and then of more
-pub lines_append : (i : Internet) (c : List ℕ) (xs ys : List Entry)
+pub lines_append : (i : Directory) (c : List ℕ) (xs ys : List Entry)
     → lines i c (xs ++ ys) ≡ lines i c xs ++ lines i (c ++ cables_of xs) ys
 lines_append i c [] ys = ap (λ (d : List ℕ). lines i d ys) (sym (append-nil c))
 lines_append i c (e ∷ xs) ys =
@@ -21,7 +21,7 @@ lines_append i c (e ∷ xs) ys =
     ∙ sym (append_assoc (line i c e) (10 ∷ lines i d xs) (lines i (c ++ cables_of (e ∷ xs)) ys))
 
 -- the lines of entries, and then of one more
-pub lines_one : (i : Internet) (c : List ℕ) (xs : List Entry) (e : Entry)
+pub lines_one : (i : Directory) (c : List ℕ) (xs : List Entry) (e : Entry)
     → lines i c (xs ++ e ∷ []) ≡ lines i c xs ++ (line i (c ++ cables_of xs) e ++ 10 ∷ [])
 lines_one i c xs e = lines_append i c xs (e ∷ [])
 
@@ -46,5 +46,5 @@ from_on f xs n inside =
     ∙ sym (drop-map f n xs)
 
 -- what a printer of entries knows
-abbrev pub printed : Internet → List ℕ → Printed
-printed i cables = record { internet = i; cables = cables }
+abbrev pub printed : Directory → List ℕ → Printed
+printed i cables = record { directory = i; cables = cables }

@@ -23,6 +23,7 @@ use Rattle.frozen_trace.specs.Traces.{Plays, Played, PlaysAll, Refusing, added, 
 use Rattle.script.specs.declared.step.Step.{Step}
 use Rattle.script.specs.declared.step.Step.TheVariants as step
 use Rattle.trace_lines.specs.Lines.{Printed, cable_of, lines}
+use Rattle.trace_lines.specs.Stations.{directory_of}
 
 -- the internet stays, and these entries come after those that there were
 pub record Grows (a b : Running) (more : List Entry) : Type 0 where
@@ -118,20 +119,20 @@ told_then a b c m n x y =
     let cb : List ℕ = cables_of (transcript b.cabling) in
     let known : cb ≡ ca ++ cables_of m =
     ap cables_of x.said ∙ flat_map-append cable_of (transcript a.cabling) m in
-    ap (lines a.internet ca) (added_are a c (m ++ n) (grows_then a b c m n x y)) ∙ lines_append a.internet ca m n
-    ∙ ap (λ (k : List ℕ). lines a.internet ca m ++ lines a.internet k n) (sym known)
-    ∙ ap (λ i. lines a.internet ca m ++ lines i cb n) (sym x.internet)
-    ∙ ap (λ (l : List Entry). lines a.internet ca l ++ lines b.internet cb n) (sym (added_are a b m x))
-    ∙ ap (λ (l : List Entry). told a b ++ lines b.internet cb l) (sym (added_are b c n y))
+    ap (lines (directory_of a.internet) ca) (added_are a c (m ++ n) (grows_then a b c m n x y)) ∙ lines_append (directory_of a.internet) ca m n
+    ∙ ap (λ (k : List ℕ). lines (directory_of a.internet) ca m ++ lines (directory_of a.internet) k n) (sym known)
+    ∙ ap (λ i. lines (directory_of a.internet) ca m ++ lines (directory_of i) cb n) (sym x.internet)
+    ∙ ap (λ (l : List Entry). lines (directory_of a.internet) ca l ++ lines (directory_of b.internet) cb n) (sym (added_are a b m x))
+    ∙ ap (λ (l : List Entry). told a b ++ lines (directory_of b.internet) cb l) (sym (added_are b c n y))
 
 pub told_none : (a : Running) → told a a ≡ []
-told_none a = ap (lines a.internet (cables_of (transcript a.cabling))) (added_are a a [] (grows_none a))
+told_none a = ap (lines (directory_of a.internet) (cables_of (transcript a.cabling))) (added_are a a [] (grows_none a))
 
 -- what is printed of a growth, by one who has printed what was there before
 pub record Prints (a b : Running) (known : Printed) (before : List Line) : Type 0 where
   pub inside : length before ≤ length b.cabling.lines
-  pub frames : known ≡ printed b.internet (cables_of (take (length before) (transcript b.cabling)))
-  pub told_is : lines known.internet known.cables (drop (length before) (transcript b.cabling)) ≡ told a b
+  pub frames : known ≡ printed (directory_of b.internet) (cables_of (take (length before) (transcript b.cabling)))
+  pub told_is : lines known.directory known.cables (drop (length before) (transcript b.cabling)) ≡ told a b
 
 pub prints : (a b : Running) (m : List Entry) (known : Printed) (before : List Line) → Grows a b m
     → known ≡ all_printed a → before ≡ a.cabling.lines → Prints a b known before
@@ -139,11 +140,11 @@ prints a b m known before x k l = record {
   inside = subst (λ (t : List Line). length t ≤ length b.cabling.lines) (sym l) (no_fewer a b m x);
   frames =
       k
-      ∙ ap₂ printed (sym x.internet) (ap cables_of (sym (first_are a b m x))
+      ∙ ap₂ printed (ap directory_of (sym x.internet)) (ap cables_of (sym (first_are a b m x))
       ∙ ap (λ (t : List Line). cables_of (take (length t) (transcript b.cabling))) (sym l));
   told_is =
-      ap (λ (p : Printed). lines p.internet p.cables (drop (length before) (transcript b.cabling))) k
-      ∙ ap (λ (t : List Line). lines a.internet (cables_of (transcript a.cabling)) (drop (length t) (transcript b.cabling))) l;
+      ap (λ (p : Printed). lines p.directory p.cables (drop (length before) (transcript b.cabling))) k
+      ∙ ap (λ (t : List Line). lines (directory_of a.internet) (cables_of (transcript a.cabling)) (drop (length t) (transcript b.cabling))) l;
 }
 
 -- an event that is refused for a reason of its own is played so

@@ -20,6 +20,7 @@ use Rattle.script.specs.declared.step.Step.{Step}
 use Rattle.script.specs.declared.step.Step.TheVariants as step
 use Rattle.table_image.specs.Internet.{Internet}
 use Rattle.trace_lines.specs.Lines.{Printed, cable_of, lines}
+use Rattle.trace_lines.specs.Stations.{directory_of}
 
 -- the cables on which frames were put, one for each frame
 abbrev pub cables_of : List Entry → List ℕ
@@ -27,7 +28,7 @@ cables_of entries = flat_map cable_of entries
 
 -- what one knows who has printed all entries of a run
 abbrev pub all_printed : Running → Printed
-all_printed r = record { internet = r.internet; cables = cables_of (transcript r.cabling) }
+all_printed r = record { directory = directory_of r.internet; cables = cables_of (transcript r.cabling) }
 
 -- the entries that a run has and another, earlier one hadn't
 abbrev pub added : Running → Running → List Entry
@@ -35,7 +36,7 @@ added old new = drop (length old.cabling.lines) (transcript new.cabling)
 
 -- the lines of the entries that were added
 abbrev pub told : Running → Running → List ℕ
-told old new = lines old.internet (cables_of (transcript old.cabling)) (added old new)
+told old new = lines (directory_of old.internet) (cables_of (transcript old.cabling)) (added old new)
 
 -- the line of a step that is refused
 abbrev pub refused_line : Error → List ℕ

@@ -21,7 +21,7 @@ fn play_event<T: RouteTable, W: Write>(
     alloc: Global,
     run: &mut Frozen<T>,
     event: &Event,
-    lines: &mut Lines<'_>,
+    lines: &mut Lines,
     output: &mut Output<W>,
 ) -> Result<(), Error>
     requires known { lines.old ≡ all_printed run.old }
@@ -46,7 +46,7 @@ fn play_drain<T: RouteTable, W: Write>(
     alloc: Global,
     run: &mut Frozen<T>,
     most: u32,
-    lines: &mut Lines<'_>,
+    lines: &mut Lines,
     output: &mut Output<W>,
 ) -> Result<(), Error>
     requires known { lines.old ≡ all_printed run.old }
@@ -79,7 +79,7 @@ fn play_step<T: RouteTable, W: Write>(
     alloc: Global,
     run: &mut Frozen<T>,
     step: &Step,
-    lines: &mut Lines<'_>,
+    lines: &mut Lines,
     output: &mut Output<W>,
 ) -> Result<(), Error>
     requires known { lines.old ≡ all_printed run.old }
@@ -103,7 +103,7 @@ pub fn play<T: RouteTable, W: Write>(
     alloc: Global,
     run: &mut Frozen<T>,
     steps: &[Step],
-    lines: &mut Lines<'_>,
+    lines: &mut Lines,
     output: &mut Output<W>,
 ) -> Result<(), Error>
     requires known { lines.old ≡ all_printed run.old }

@@ -9,6 +9,7 @@ ghost use Rattle.frozen_trace.specs.Traces.{all_printed, cables_of, pending_line
 ghost use Rattle.frozen_trace.specs.Traces.{refused_line};
 ghost use Rattle.trace_lines.specs.Lines as lines_spec;
 ghost use Rattle.trace_lines.specs.Lines.{IsNamed, cable_of};
+ghost use Rattle.trace_lines.specs.Stations.{directory_of};
 
 use text::Output;
 use at_base::Error;
@@ -40,14 +41,14 @@ fn bytes_of<'a, T: RouteTable>(run: &'a Frozen<T>, entry: &Entry) -> &'a [u8]
 fn print_entry<T: RouteTable, W: Write>(
     run: &Frozen<T>,
     entry: &Entry,
-    lines: &mut Lines<'_>,
+    lines: &mut Lines,
     output: &mut Output<W>,
 ) -> Result<(), Error>
     ensures gone { OnOk result (Goes (W.contents output.old.writer) output.old.text.items
-        (lines_spec.line lines.old.internet lines.old.cables (entry_at run.now.cabling.kept entry.now) ++ 10 ∷ [])
+        (lines_spec.line lines.old.directory lines.old.cables (entry_at run.now.cabling.kept entry.now) ++ 10 ∷ [])
         (W.contents output.new.writer) output.new.text.items) }
     ensures further { OnOk result (lines.new ≡ record {
-      internet = lines.old.internet;
+      directory = lines.old.directory;
       cables = lines.old.cables ++ cable_of (entry_at run.now.cabling.kept entry.now);
     }) }
     ensures refused { IfErr result (λ e.
@@ -63,15 +64,15 @@ fn print_entry<T: RouteTable, W: Write>(
 fn print_entries<T: RouteTable, W: Write>(
     run: &Frozen<T>,
     entries: &[Entry],
-    lines: &mut Lines<'_>,
+    lines: &mut Lines,
     output: &mut Output<W>,
 ) -> Result<(), Error>
     ensures gone { OnOk result (Goes (W.contents output.old.writer) output.old.text.items
-        (lines_spec.lines lines.old.internet lines.old.cables
+        (lines_spec.lines lines.old.directory lines.old.cables
         (map (entry_at run.now.cabling.kept) entries.now))
         (W.contents output.new.writer) output.new.text.items) }
     ensures further { OnOk result (lines.new ≡ record {
-      internet = lines.old.internet;
+      directory = lines.old.directory;
       cables = lines.old.cables
           ++ cables_of (map (entry_at run.now.cabling.kept) entries.now);
     }) }
@@ -89,16 +90,16 @@ fn print_entries<T: RouteTable, W: Write>(
 pub fn print_from<T: RouteTable, W: Write>(
     run: &Frozen<T>,
     from: usize,
-    lines: &mut Lines<'_>,
+    lines: &mut Lines,
     output: &mut Output<W>,
 ) -> Result<(), Error>
     requires inside { from ≤ length run.now.cabling.lines }
     requires known { lines.old ≡ record {
-      internet = run.now.internet;
+      directory = directory_of run.now.internet;
       cables = cables_of (take from (logs_spec.transcript run.now.cabling));
     } }
     ensures gone { OnOk result (Goes (W.contents output.old.writer) output.old.text.items
-        (lines_spec.lines lines.old.internet lines.old.cables (drop from (logs_spec.transcript run.now.cabling)))
+        (lines_spec.lines lines.old.directory lines.old.cables (drop from (logs_spec.transcript run.now.cabling)))
         (W.contents output.new.writer) output.new.text.items) }
     ensures known { OnOk result (lines.new ≡ all_printed run.now) }
     ensures refused { IfErr result (λ e.

@@ -23,7 +23,7 @@ const LIMIT: u32 = 4_000_000;
 
 /// Plays a script over the frozen tables of an image, and prints its trace: the lines of the entries
 /// that each step adds, `refused N` for each step that is refused, and at last `pending N`. Lines go
-/// out as soon as there are many. `shown` is the same image, which the lines take addresses from. Where the audit says no, the line of its verdict is printed alone.
+/// out as soon as there are many. Where the audit says no, the line of its verdict is printed alone.
 /// Returns whether the audit says yes.
 ///
 /// Errors: `Memory`; `WriteFault`, only where the writer failed. After an error, a part of the trace
@@ -31,11 +31,9 @@ const LIMIT: u32 = 4_000_000;
 pub fn trace_script<T: RouteTable, W: Write>(
     alloc: Global,
     image: Image,
-    shown: &Image,
     steps: &[Step],
     output: &mut Output<W>,
 ) -> Result<bool, Error>
-    requires same { shown.now ≡ image }
     ensures printed { IfOk result (λ yes. (text : List ℕ) × IsPrinted image steps.now yes text
         × Appends (W.contents output.old.writer) (W.contents output.new.writer)
         (output.old.text.items ++ text)) }
@@ -43,10 +41,10 @@ pub fn trace_script<T: RouteTable, W: Write>(
         (e ≡ Error.Memory) ⊎ ((e ≡ Error.WriteFault) × (output.new.failed ≡ true))) }
     ensures stays { OnOk result (output.new.failed ≡ output.old.failed) }
 {
+    let mut lines = Lines::new(alloc, &image)?;
     match Frozen::<T>::start(alloc, image, LIMIT) {
         Ok(run) => {
             let mut run = run;
-            let mut lines = Lines::new(alloc, shown)?;
             trace_run(alloc, &mut run, steps, &mut lines, output)?;
             Ok(true)
         }
@@ -65,7 +63,7 @@ fn trace_run<T: RouteTable, W: Write>(
     alloc: Global,
     run: &mut Frozen<T>,
     steps: &[Step],
-    lines: &mut Lines<'_>,
+    lines: &mut Lines,
     output: &mut Output<W>,
 ) -> Result<(), Error>
     requires known { lines.old ≡ all_printed run.old }

@@ -1,5 +1,5 @@
 -- Who has which hardware address, cable by cable. This project's own.
-use Rattle.std.specs.Prelude.{◌≡◌, ℕ, ◌<◌, ◌==◌, if◌then◌else◌, List, [], ◌∷◌, ◌++◌, length, slice_index_or}
+use Rattle.std.specs.Prelude.{ℕ, zero, suc, ◌==◌, if◌then◌else◌, List, [], ◌∷◌, ◌++◌}
 use Rattle.at_base.specs.Text.{same_bytes}
 use Rattle.at_base.specs.declared.address.Addr.{Addr}
 use Rattle.at_base.specs.declared.address.Hw.{Hw}
@@ -37,7 +37,7 @@ abbrev pub held_or : Hw → List Place → Addr → Addr
 held_or hw [] other = other
 held_or hw (p ∷ places) other = if same_bytes p.hardware.0 hw.0 then p.address else held_or hw places other
 
--- these are the places on the cables below a number
-pub record AreRows (i : Internet) (cables : ℕ) (rows : List (List Place)) : Type 0 where
-  pub count : length rows ≡ cables
-  pub each : (k : ℕ) (other : List Place) → k < cables → slice_index_or rows k other ≡ places i k
+-- the places on so many cables, from one on
+abbrev pub places_from : Internet → ℕ → ℕ → List (List Place)
+places_from i cable zero = []
+places_from i cable (suc n) = places i cable ∷ places_from i (suc cable) n

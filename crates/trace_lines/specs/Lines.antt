@@ -15,16 +15,15 @@ use Rattle.cable_model.specs.declared.entry.How.{How}
 use Rattle.cable_model.specs.declared.entry.How.TheVariants as how
 use Rattle.station.specs.declared.output.Cause.{Cause}
 use Rattle.station.specs.declared.output.Cause.TheVariants as cause
-use Rattle.table_image.specs.Internet.{Internet}
 use Rattle.text.specs.Digits.{hex_text}
-use Rattle.trace_lines.specs.Stations.{address_of, address_on, holder}
+use Rattle.trace_lines.specs.Stations.{Directory, address_of, address_on, holder}
 
 -- whom a frame on a cable is for
-abbrev pub who_text : Internet → ℕ → Hw → List ℕ
-who_text i cable to =
+abbrev pub who_text : Directory → ℕ → Hw → List ℕ
+who_text d cable to =
     if is_all to then codes "all"
     else if is_group to then codes "group " ++ decimal (slice_index to.0 5)
-    else address_text (holder i cable to)
+    else address_text (holder d cable to)
 
 -- how a datagram reached a cable
 abbrev pub how_text : How → List ℕ
@@ -46,35 +45,35 @@ cable_of _ = []
 
 -- the address of a station on the cable of a frame, where frames were put on these cables: the frame with stamp k is the
 -- k-th, from 0
-abbrev pub at_frame : Internet → List ℕ → ℕ → ℕ → Addr
-at_frame i cables station stamp = on_its (slice_get cables stamp)
+abbrev pub at_frame : Directory → List ℕ → ℕ → ℕ → Addr
+at_frame d cables station stamp = on_its (slice_get cables stamp)
   where
     on_its : Option ℕ → Addr
     on_its None = record { net = 0; node = 0 }
-    on_its (Some cable) = address_on i station cable
+    on_its (Some cable) = address_on d station cable
 
 -- The line of an entry, without its end, where frames were put on these cables before. Cables are counted from 1 there.
-abbrev pub line : Internet → List ℕ → Entry → List ℕ
-line i cables (Sent station body) = codes "sent " ++ address_text (address_of i station) ++ codes " " ++ hex_text body
-line i cables (Put f) =
+abbrev pub line : Directory → List ℕ → Entry → List ℕ
+line d cables (Sent station body) = codes "sent " ++ address_text (address_of d station) ++ codes " " ++ hex_text body
+line d cables (Put f) =
     codes "put " ++ decimal f.stamp ++ codes " cable " ++ decimal (f.cable + 1) ++ codes " "
-    ++ address_text (address_on i f.sender f.cable) ++ codes " to " ++ who_text i f.cable f.to ++ codes " " ++ hex_text f.bytes
-line i cables (Took stamp station) = codes "took " ++ decimal stamp ++ codes " " ++ address_text (at_frame i cables station stamp)
-line i cables (Reached cable station how body) =
-    codes "reached cable " ++ decimal (cable + 1) ++ codes " " ++ address_text (address_on i station cable) ++ codes " "
+    ++ address_text (address_on d f.sender f.cable) ++ codes " to " ++ who_text d f.cable f.to ++ codes " " ++ hex_text f.bytes
+line d cables (Took stamp station) = codes "took " ++ decimal stamp ++ codes " " ++ address_text (at_frame d cables station stamp)
+line d cables (Reached cable station how body) =
+    codes "reached cable " ++ decimal (cable + 1) ++ codes " " ++ address_text (address_on d station cable) ++ codes " "
     ++ how_text how ++ codes " " ++ hex_text body
-line i cables (Dropped router cause body) =
-    codes "dropped " ++ address_text (address_of i router) ++ codes " " ++ cause_text cause ++ codes " " ++ hex_text body
-line i cables (Lost stamp) = codes "lost " ++ decimal stamp
+line d cables (Dropped router cause body) =
+    codes "dropped " ++ address_text (address_of d router) ++ codes " " ++ cause_text cause ++ codes " " ++ hex_text body
+line d cables (Lost stamp) = codes "lost " ++ decimal stamp
 
 -- the lines of entries, each with a line feed at its end, where frames were put on these cables before
-abbrev pub lines : Internet → List ℕ → List Entry → List ℕ
-lines i cables [] = []
-lines i cables (e ∷ es) = line i cables e ++ 10 ∷ lines i (cables ++ cable_of e) es
+abbrev pub lines : Directory → List ℕ → List Entry → List ℕ
+lines d cables [] = []
+lines d cables (e ∷ es) = line d cables e ++ 10 ∷ lines d (cables ++ cable_of e) es
 
--- what a printer of entries knows: the internet, and the cables of the frames that were printed
+-- what a printer of entries knows: the directory of an internet, and the cables of the frames that were printed
 pub record Printed : Type 0 where
-  pub internet : Internet
+  pub directory : Directory
   pub cables : List ℕ
 
 -- these are the bytes of the number that an entry names, if it names one

@@ -1,7 +1,7 @@
 //! Who has which hardware address, cable by cable.
 
-ghost use Rattle.std.specs.Prelude.{◌≡◌, ◌≤◌, ◌++◌, IfOk, OnOk};
-ghost use Rattle.trace_lines.specs.Holders.{AreRows, held_or, node_places, places, port_places};
+ghost use Rattle.std.specs.Prelude.{◌≡◌, ◌≤◌, ◌-◌, ◌++◌, IfOk, OnOk};
+ghost use Rattle.trace_lines.specs.Holders.{held_or, node_places, places, places_from, port_places};
 ghost use Rattle.trace_lines.specs.Holders.{router_places};
 
 use at_base::{Addr, Hw};
@@ -85,8 +85,8 @@ fn put_rows(
     from: usize,
 ) -> Result<(), AllocError>
     requires few { from ≤ 256 }
-    requires before { AreRows image.now from rows.old.items }
-    ensures { OnOk result (AreRows image.now 256 rows.new.items) }
+    ensures { OnOk result (rows.new.items
+        ≡ rows.old.items ++ places_from image.now from (256 - from)) }
 {
     if from == CABLES {
         return Ok(());
@@ -100,7 +100,7 @@ fn put_rows(
 
 /// The places on each cable.
 pub(crate) fn rows_of(alloc: Global, image: &Image) -> Result<Vec<Listed<Place>>, AllocError>
-    ensures { IfOk result (λ rows. AreRows image.now 256 rows.items) }
+    ensures { IfOk result (λ rows. rows.items ≡ places_from image.now 0 256) }
 {
     let mut rows = Vec::with_capacity(alloc, CABLES)?;
     put_rows(alloc, &mut rows, image, 0)?;

@@ -4,6 +4,7 @@ ghost use Rattle.std.specs.Prelude.{◌≡◌, ◌++◌, ◌∷◌, List, ℕ, [
 ghost use Rattle.cable_model.specs.Logs.{entry_at};
 ghost use Rattle.trace_lines.specs.Lines.{cable_of, line, IsNamed};
 ghost use Rattle.trace_lines.specs.Said.{entry_with};
+ghost use Rattle.trace_lines.specs.Stations.{directory_of};
 
 use crate::entries::put_entry;
 use crate::stations::Stations;
@@ -17,17 +18,17 @@ use table_image::Image;
 ///
 /// This project's own.
 #[derive(Drop)]
-pub struct Lines<'a> {
-    stations: Stations<'a>,
+pub struct Lines {
+    stations: Stations,
     cables: Vec<u8>,
 }
 
-impl<'a> Model for Lines<'a> {
+impl Model for Lines {
     ghost use Rattle.trace_lines.specs.Lines.{Printed};
 
     ghost Value = { Printed };
 
-    ghost view = { λ l. record { internet = l.stations; cables = l.cables.items } };
+    ghost view = { λ l. record { directory = l.stations; cables = l.cables.items } };
 }
 
 /// Appends the line of an entry, with a line feed at its end.
@@ -60,10 +61,10 @@ fn note_cable(cables: &mut Vec<u8>, entry: &Entry) -> Result<(), AllocError>
     }
 }
 
-impl<'a> Lines<'a> {
+impl Lines {
     /// Nothing has been printed yet.
-    pub fn new(alloc: Global, image: &'a Image) -> Result<Lines<'a>, AllocError>
-        ensures { IfOk result (λ l. l ≡ record { internet = image.now; cables = [] }) }
+    pub fn new(alloc: Global, image: &Image) -> Result<Lines, AllocError>
+        ensures { IfOk result (λ l. l ≡ record { directory = directory_of image.now; cables = [] }) }
     {
         let stations = Stations::new(alloc, image)?;
         Ok(Lines {
@@ -94,10 +95,10 @@ impl<'a> Lines<'a> {
         bytes: &[u8],
     ) -> Result<(), AllocError>
         ensures line { OnOk result ((kept : List (List ℕ)) → IsNamed kept entry.now bytes.now
-            → text.new.items ≡ text.old.items ++ line self.old.internet self.old.cables
+            → text.new.items ≡ text.old.items ++ line self.old.directory self.old.cables
             (entry_at kept entry.now) ++ 10 ∷ []) }
         ensures further { OnOk result ((kept : List (List ℕ)) → self.new ≡ record {
-          internet = self.old.internet;
+          directory = self.old.directory;
           cables = self.old.cables ++ cable_of (entry_at kept entry.now);
         }) }
         ensures stays { OnErr result (self.new ≡ self.old) }

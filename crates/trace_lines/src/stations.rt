@@ -1,39 +1,114 @@
 //! The addresses of an internet's stations.
 
-ghost use Rattle.std.specs.Prelude.{◌≡◌, ◌==◌, IfOk, find, slice_get};
+ghost use Rattle.std.specs.Prelude.{◌≡◌, ◌==◌, ◌++◌, [], IfOk, OnOk, find, map, slice_get, slice_index_or};
+ghost use Rattle.table_image.specs.declared.node.Node.{Node as NodeValue};
+ghost use Rattle.table_image.specs.declared.router.Router.{Router as RouterValue};
 ghost use Rattle.trace_lines.specs.Stations as spec;
-ghost use Rattle.trace_lines.specs.Holders.{places};
-ghost use Rattle.trace_lines.specs.Stations.{of_port};
 
 use crate::holders::{Place, held, rows_of};
 use at_base::{Addr, Hw};
 use std::alloc::{AllocError, Global};
 use std::marker::Model;
-use table_image::{Image, Listed, Port, Router};
+use table_image::{Image, Listed, Node, Port, Router};
 
-/// The stations of an internet, by its image.
+/// The address of a router's port, and its cable.
+#[derive(Clone, Copy)]
+pub(crate) struct PortAddress {
+    pub(crate) cable: u8,
+    pub(crate) address: Addr,
+}
+
+/// The addresses of an internet's stations. This project's own.
 #[derive(Drop)]
-pub(crate) struct Stations<'a> {
-    image: &'a Image,
+pub(crate) struct Stations {
+    /// Those of each router's ports.
+    routers: Vec<Listed<PortAddress>>,
+    /// Those of the nodes.
+    nodes: Vec<Addr>,
     /// The places on each cable that a byte can name, so that a holder is looked for among those
     /// of one cable.
     rows: Vec<Listed<Place>>,
 }
 
-impl<'a> Model for Stations<'a> {
-    ghost use Rattle.table_image.specs.Internet.{Internet};
-    ghost use Rattle.trace_lines.specs.Holders.{AreRows};
+impl Model for Stations {
+    ghost use Rattle.std.specs.Prelude.{◌≡◌, length};
+    ghost use Rattle.trace_lines.specs.Stations.{Directory};
 
-    ghost Value = { Internet };
+    ghost Value = { Directory };
 
-    ghost view = { λ s. s.image.now };
+    ghost view = { λ s. record {
+      routers = s.routers.items;
+      nodes = s.nodes.items;
+      places = s.rows.items;
+    } };
 
-    ghost invariant = { λ s. AreRows s.image.now 256 s.rows.items };
+    ghost invariant = { λ s. length s.rows.items ≡ 256 };
+}
+
+/// Appends the addresses of ports.
+fn put_ports(addresses: &mut Vec<PortAddress>, ports: &[Port]) -> Result<(), AllocError>
+    ensures { OnOk result
+        (addresses.new.items ≡ addresses.old.items ++ map spec.port_address ports.now) }
+{
+    match ports {
+        [] => Ok(()),
+        [port, rest @ ..] => {
+            addresses.push(PortAddress {
+                cable: port.cable,
+                address: port.address,
+            })?;
+            put_ports(addresses, rest)
+        }
+    }
+}
+
+/// The addresses of ports.
+fn addresses_of(alloc: Global, ports: &[Port]) -> Result<Listed<PortAddress>, AllocError>
+    ensures { IfOk result (λ addresses. addresses ≡ map spec.port_address ports.now) }
+{
+    let mut addresses = Vec::with_capacity(alloc, ports.len())?;
+    put_ports(&mut addresses, ports)?;
+    Ok(Listed::from_vec(addresses))
+}
+
+/// Appends the addresses of routers, those of the ports of each.
+fn put_routers(
+    alloc: Global,
+    all: &mut Vec<Listed<PortAddress>>,
+    routers: &[Router],
+) -> Result<(), AllocError>
+    ensures { OnOk result (all.new.items
+        ≡ all.old.items ++ map (λ (r : RouterValue). map spec.port_address r.ports) routers.now) }
+{
+    match routers {
+        [] => Ok(()),
+        [router, rest @ ..] => {
+            let addresses = addresses_of(alloc, router.ports.as_slice())?;
+            if all.push(addresses).is_err() {
+                return Err(AllocError);
+            }
+            put_routers(alloc, all, rest)
+        }
+    }
+}
+
+/// Appends the addresses of nodes.
+fn put_nodes(addresses: &mut Vec<Addr>, nodes: &[Node]) -> Result<(), AllocError>
+    ensures { OnOk result (addresses.new.items
+        ≡ addresses.old.items ++ map (λ (n : NodeValue). n.address) nodes.now) }
+{
+    match nodes {
+        [] => Ok(()),
+        [node, rest @ ..] => {
+            addresses.push(node.address)?;
+            put_nodes(addresses, rest)
+        }
+    }
 }
 
 /// The address of the first of a router's ports that is on a cable, and 0.0 where none is.
-fn on_cable(ports: &[Port], cable: u8) -> Addr
-    ensures { result ≡ of_port (find (λ p. p.cable == cable) ports.now) }
+fn on_cable(ports: &[PortAddress], cable: u8) -> Addr
+    ensures { result ≡ spec.of_port (find (λ p. p.cable == cable) ports.now) }
 {
     match ports {
         [] => Addr::NONE,
@@ -47,16 +122,9 @@ fn on_cable(ports: &[Port], cable: u8) -> Addr
     }
 }
 
-/// The address of a router's port on a cable, and 0.0 where it has none there.
-fn port_on(router: &Router, cable: u8) -> Addr
-    ensures { result ≡ spec.on_cable (Some router.now) cable }
-{
-    on_cable(router.ports.as_slice(), cable)
-}
-
 /// The address of a router's first port, and 0.0 where it has none.
-fn first_of(ports: &[Port]) -> Addr
-    ensures { result ≡ of_port (slice_get ports.now 0) }
+fn first_of(ports: &[PortAddress]) -> Addr
+    ensures { result ≡ spec.of_port (slice_get ports.now 0) }
 {
     match ports.first() {
         Some(port) => port.address,
@@ -64,28 +132,29 @@ fn first_of(ports: &[Port]) -> Addr
     }
 }
 
-impl<'a> Stations<'a> {
+impl Stations {
     /// The stations of the image's internet.
-    pub(crate) fn new(alloc: Global, image: &'a Image) -> Result<Stations<'a>, AllocError>
-        ensures { IfOk result (λ s. s ≡ image.now) }
+    pub(crate) fn new(alloc: Global, image: &Image) -> Result<Stations, AllocError>
+        ensures { IfOk result (λ s. s ≡ spec.directory_of image.now) }
     {
+        let mut routers = Vec::with_capacity(alloc, image.routers().len())?;
+        put_routers(alloc, &mut routers, image.routers())?;
+        let mut nodes = Vec::with_capacity(alloc, image.nodes().len())?;
+        put_nodes(&mut nodes, image.nodes())?;
         let rows = rows_of(alloc, image)?;
-        Ok(Stations { image, rows })
-    }
-
-    /// The image.
-    fn image(&self) -> &Image
-        ensures { result.now ≡ self.now }
-    {
-        self.image
+        Ok(Stations {
+            routers,
+            nodes,
+            rows,
+        })
     }
 
     /// The address of a node, by its number among the nodes, and 0.0 where there is none.
     fn of_node(&self, node: usize) -> Addr
         ensures { result ≡ spec.of_node (slice_get self.now.nodes node) }
     {
-        match self.image().nodes().get(node) {
-            Some(node) => node.address,
+        match self.nodes.get(node) {
+            Some(address) => *address,
             None => Addr::NONE,
         }
     }
@@ -94,25 +163,23 @@ impl<'a> Stations<'a> {
     pub(crate) fn address_on(&self, station: u16, cable: u8) -> Addr
         ensures { result ≡ spec.address_on self.now station cable }
     {
-        let routers = self.image().routers();
         let station = usize::from(station);
-        if station < routers.len() {
-            port_on(&routers[station], cable)
+        if station < self.routers.len() {
+            on_cable(self.routers[station].as_slice(), cable)
         } else {
-            self.of_node(station - routers.len())
+            self.of_node(station - self.routers.len())
         }
     }
 
     /// The places on a cable.
     fn places_on(&self, cable: u8) -> &[Place]
-        ensures { result.now ≡ places self.now cable }
+        ensures { result.now ≡ slice_index_or self.now.places cable [] }
     {
         self.rows[usize::from(cable)].as_slice()
     }
 
     /// The address of the station that has a hardware address on a cable, and 0.0 where none has
     /// it.
-    #[tactic(auto, using(crate::proofs::Held::held_holder))]
     pub(crate) fn holder(&self, cable: u8, hw: &Hw) -> Addr
         ensures { result ≡ spec.holder self.now cable hw.now }
     {
@@ -124,12 +191,11 @@ impl<'a> Stations<'a> {
     pub(crate) fn address_of(&self, station: u16) -> Addr
         ensures { result ≡ spec.address_of self.now station }
     {
-        let routers = self.image().routers();
         let station = usize::from(station);
-        if station < routers.len() {
-            first_of(routers[station].ports.as_slice())
+        if station < self.routers.len() {
+            first_of(self.routers[station].as_slice())
         } else {
-            self.of_node(station - routers.len())
+            self.of_node(station - self.routers.len())
         }
     }
 }

@@ -3,7 +3,7 @@ use Rattle.commands.proofs.tracing.run_frozen.Goals as goal
 
 pub returns-in-Ok-clause-flaw : goal.returns-in-Ok-clause-flaw
 returns-in-Ok-clause-flaw g c =
-    map_some _ _ (g.I.Read.remaining c.args.image.now.reader) c.in_ok-images.ensures.flaw (λ bytes none f flawed. absurd (none f flawed))
+    map_some _ _ (g.I.Read.remaining c.args.image.now.reader) c.in_ok-image.ensures.flaw (λ bytes none f flawed. absurd (none f flawed))
 
 pub returns-in-Ok-clause-bad_line : goal.returns-in-Ok-clause-bad_line
 returns-in-Ok-clause-bad_line g c =
@@ -12,7 +12,7 @@ returns-in-Ok-clause-bad_line g c =
 
 pub returns-in-Err-clause-flaw : goal.returns-in-Err-clause-flaw
 returns-in-Err-clause-flaw g c =
-    map_some _ _ (g.I.Read.remaining c.args.image.now.reader) c.in_ok-images.ensures.flaw (λ bytes none f flawed. absurd (none f flawed))
+    map_some _ _ (g.I.Read.remaining c.args.image.now.reader) c.in_ok-image.ensures.flaw (λ bytes none f flawed. absurd (none f flawed))
 
 pub returns-in-Err-clause-bad_line : goal.returns-in-Err-clause-bad_line
 returns-in-Err-clause-bad_line g c =
@@ -21,8 +21,8 @@ returns-in-Err-clause-bad_line g c =
 
 pub returns-in-Ok-clause-image_first : goal.returns-in-Ok-clause-image_first
 returns-in-Ok-clause-image_first g c =
-    map_some _ _ (g.I.Read.remaining c.args.image.now.reader) c.in_ok-images.ensures.flaw (λ bytes none f flawed. absurd (none f flawed))
+    map_some _ _ (g.I.Read.remaining c.args.image.now.reader) c.in_ok-image.ensures.flaw (λ bytes none f flawed. absurd (none f flawed))
 
 pub returns-in-Err-clause-image_first : goal.returns-in-Err-clause-image_first
 returns-in-Err-clause-image_first g c =
-    map_some _ _ (g.I.Read.remaining c.args.image.now.reader) c.in_ok-images.ensures.flaw (λ bytes none f flawed. absurd (none f flawed))
+    map_some _ _ (g.I.Read.remaining c.args.image.now.reader) c.in_ok-image.ensures.flaw (λ bytes none f flawed. absurd (none f flawed))

@@ -1,21 +1,21 @@
 use Rattle.std.proofs.Common.{◌≡◌, ◌++◌, List, ℕ, ap, ◌∙◌}
 use Rattle.std.proofs.lemmas.Result.{on_err_weaker, on_ok_weaker}
 use Rattle.cable_model.specs.Logs.{entry_at}
-use Rattle.table_image.specs.Internet.{Internet}
 use Rattle.trace_lines.specs.Lines.{Printed, cable_of}
+use Rattle.trace_lines.specs.Stations.{Directory}
 use Rattle.trace_lines.proofs.lines.Lines.append.Goals as goal
 
-abbrev printed : Internet → List ℕ → Printed
-printed i cables = record { internet = i; cables = cables }
+abbrev printed : Directory → List ℕ → Printed
+printed i cables = record { directory = i; cables = cables }
 
 -- what is known when cables were added
-more : (p : Printed) (i : Internet) (old new added : List ℕ) → printed i old ≡ p → new ≡ old ++ added
-    → printed i new ≡ printed p.internet (p.cables ++ added)
+more : (p : Printed) (i : Directory) (old new added : List ℕ) → printed i old ≡ p → new ≡ old ++ added
+    → printed i new ≡ printed p.directory (p.cables ++ added)
 more p i old new added now grown =
-    ap (printed i) grown ∙ ap (λ (q : Printed). printed q.internet (q.cables ++ added)) now
+    ap (printed i) grown ∙ ap (λ (q : Printed). printed q.directory (q.cables ++ added)) now
 
 -- what is known when no cable was added
-same : (p : Printed) (i : Internet) (old new : List ℕ) → printed i old ≡ p → new ≡ old → printed i new ≡ p
+same : (p : Printed) (i : Directory) (old new : List ℕ) → printed i old ≡ p → new ≡ old → printed i new ≡ p
 same p i old new now stayed = ap (printed i) stayed ∙ now
 
 pub returns-clause-further : goal.returns-clause-further
