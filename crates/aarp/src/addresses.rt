@@ -11,8 +11,6 @@ use std::marker::Model;
 const MAX_ADDRESSES: usize = 16;
 
 /// At most 16 addresses, without memory of their own.
-///
-/// This project's own.
 #[derive(Debug, Drop)]
 pub struct Addresses {
     items: [Addr; MAX_ADDRESSES],

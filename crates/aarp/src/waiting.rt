@@ -18,8 +18,6 @@ use circular_buffer::HeapCircularBuffer;
 const MAX_ASKED: u8 = 10;
 
 /// What a tick asks for: lists of at most 16 addresses, each once, the oldest held first.
-///
-/// This project's own.
 #[derive(Debug, Drop)]
 pub struct Asks {
     /// To ask for now.

@@ -1,5 +1,5 @@
 -- The first fault of an input, from the left: whole fields that pass their tests, and then one that isn't whole or
--- breaks its test. This project's own.
+-- breaks its test.
 use Rattle.std.specs.Prelude.{◌≡◌, ℕ, zero, suc, ◌<◌, ◌≤◌, Bool, ◌⊎◌, List, [], ◌∷◌, ◌++◌, length, Some}
 use Rattle.std.specs.Int.{byte_len}
 use Rattle.at_base.specs.Grammar.{width, Field, number, run, Grammar, done, field, part, list, room, limit, many, Refusals}

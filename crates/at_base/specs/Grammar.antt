@@ -1,6 +1,6 @@
 -- Formats as data: a format is a tree of fields, each of which has a test of its own, and what follows a field may
 -- depend on its value. What the bytes of a value are, which fault comes first and what reading gives is said in the
--- modules beside this one, once for every format. This project's own.
+-- modules beside this one, once for every format.
 use Rattle.std.specs.Prelude.{ℕ, Bool, true, false, List, Option}
 use Rattle.std.specs.Int.{Width, w8, w16}
 

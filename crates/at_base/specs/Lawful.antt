@@ -1,4 +1,4 @@
--- Formats whose parts stand where their projections find them: the formats that the laws of reading are about. This project's own.
+-- Formats whose parts stand where their projections find them: the formats that the laws of reading are about.
 use Rattle.std.specs.Prelude.{◌≡◌, ◌≤◌, ℕ, Bool, List, length}
 use Rattle.at_base.specs.Grammar.{Grammar, done, field, part, list, room, limit, many}
 use Rattle.at_base.specs.Spelling.{Passes, IsValue, bytes_of}

@@ -1,5 +1,5 @@
 -- Reading from left to right, as a function: the value and the bytes after it, or a refusal. The laws beside it say
--- that it gives what is spelled there, and else the first fault. This project's own.
+-- that it gives what is spelled there, and else the first fault.
 use Rattle.std.specs.Prelude.{◌≡◌, ℕ, zero, suc, Bool, List, [], ◌∷◌, length, take, drop, Option, Some, None, Result, Ok, Err, nat_lt}
 use Rattle.std.specs.Prelude.{if◌then◌else◌}
 use Rattle.std.specs.Int.{byte_len, from_be_bytes}

@@ -1,4 +1,4 @@
--- The bytes of a value, and which values a format has. This project's own.
+-- The bytes of a value, and which values a format has.
 use Rattle.std.specs.Prelude.{◌≡◌, ℕ, ◌<◌, ◌≤◌, ◌^◌, ◌*◌, Bool, List, [], ◌∷◌, ◌++◌, length, Option, None}
 use Rattle.std.specs.Int.{byte_len, to_be_bytes}
 use Rattle.at_base.specs.Grammar.{width, Field, number, run, Grammar, done, field, part, list, room, limit, many}

@@ -1,4 +1,4 @@
--- Items in the order of their starts. (own)
+-- Items in the order of their starts.
 use Rattle.std.specs.Prelude.{ℕ, suc, List, [], ◌∷◌, nat_lt, if◌then◌else◌}
 
 -- how many items there are before the first one that doesn't start below a number

@@ -1,4 +1,4 @@
--- How addresses, ranges and places are printed. This project's own.
+-- How addresses, ranges and places are printed.
 use Rattle.std.specs.Prelude.{ℕ, List, ◌++◌, codes}
 use Rattle.std.specs.Fmt.{decimal}
 use Rattle.at_base.specs.Range.{Span}

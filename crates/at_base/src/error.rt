@@ -36,7 +36,7 @@ pub enum Field {
     Taken,
 }
 
-/// What is wrong with an image. This project's own.
+/// What is wrong with an image.
 #[derive(Clone, Copy, Debug, PartialEq, Eq)]
 pub enum Cause {
     /// The input ends within a field.
@@ -59,7 +59,7 @@ pub enum Cause {
     Trailing,
 }
 
-/// A part of an internet file. This project's own.
+/// A part of an internet file.
 #[derive(Clone, Copy, Debug, PartialEq, Eq)]
 pub enum Part {
     Text,
@@ -71,7 +71,7 @@ pub enum Part {
     Action,
 }
 
-/// Where a rule is broken. All numbers count from 1, in the order of the image. This project's own.
+/// Where a rule is broken. All numbers count from 1, in the order of the image.
 #[derive(Clone, Copy, Debug, PartialEq, Eq)]
 pub enum Place {
     /// A cable.

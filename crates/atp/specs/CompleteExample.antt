@@ -1,4 +1,4 @@
--- A request for three parts, and packets that answer it. This project's own.
+-- A request for three parts, and packets that answer it.
 use Rattle.std.specs.Prelude.{ℕ, false, List, [], ◌∷◌}
 use Rattle.at_base.specs.declared.address.Addr.{Addr}
 use Rattle.atp.specs.declared.ask.Ask.{Ask}

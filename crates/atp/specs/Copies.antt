@@ -1,4 +1,4 @@
--- A copy of open transactions, slot by slot. This project's own.
+-- A copy of open transactions, slot by slot.
 use Rattle.std.specs.Prelude.{◌≡◌, ℕ, zero, suc, ◌+◌, ◌<◌, List, [], ◌∷◌, Option, Some, is_some, if◌then◌else◌}
 use Rattle.slab.specs.Slab.{Slab, get, slab_len}
 use Rattle.atp.specs.declared.transaction.Transaction.{Transaction}

@@ -1,4 +1,4 @@
--- Packets in place, as their values. This project's own.
+-- Packets in place, as their values.
 use Rattle.atp.specs.declared.packet.Packet.{Packet}
 use Rattle.atp.specs.Packets.{AtpPacket}
 

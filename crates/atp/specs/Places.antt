@@ -1,4 +1,4 @@
--- The first item of a list that passes a test, and its index. This project's own.
+-- The first item of a list that passes a test, and its index.
 use Rattle.std.specs.Prelude.{◌≡◌, ℕ, ◌<◌, Bool, List, [], ◌∷◌, length, find, Some, slice_index_or, slice_set, if◌then◌else◌}
 
 -- the list with another value in place of the first one that passes

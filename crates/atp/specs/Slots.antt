@@ -1,4 +1,4 @@
--- Open transactions in the slots of a slab. This project's own.
+-- Open transactions in the slots of a slab.
 use Rattle.std.specs.Prelude.{◌≡◌, ◌≢◌, ℕ, ◌≤◌, Option}
 use Rattle.slab.specs.Slab.{Slab, slab_len}
 use Rattle.atp.specs.declared.transaction.Transaction.{Transaction}

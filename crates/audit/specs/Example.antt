@@ -1,4 +1,4 @@
--- Two small internets: one that passes, and one whose routers send a datagram in a loop. This project's own.
+-- Two small internets: one that passes, and one whose routers send a datagram in a loop.
 use Rattle.std.specs.Prelude.{ℕ, true, List, [], ◌∷◌, Some, codes}
 use Rattle.at_base.specs.declared.address.Addr.{Addr}
 use Rattle.at_base.specs.declared.address.Hw.{Hw}

@@ -1,4 +1,4 @@
--- What comes first: of numbers that pass a test, and of the places that break a rule. This project's own.
+-- What comes first: of numbers that pass a test, and of the places that break a rule.
 use Rattle.std.specs.Prelude.{◌≡◌, ℕ, ◌<◌, Bool, true, false, Option, Some, None}
 use Rattle.at_base.specs.declared.error.Place.{Place}
 use Rattle.audit.specs.Verdicts.{IsBefore}

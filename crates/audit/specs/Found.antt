@@ -1,4 +1,4 @@
--- Which of a cable's zones were found in a list. This project's own.
+-- Which of a cable's zones were found in a list.
 use Rattle.std.specs.Prelude.{ℕ, Bool, false, take, slice_index_or}
 use Rattle.std.specs.List.{list_all}
 use Rattle.audit.specs.declared.zone_sets.Found.{Found}

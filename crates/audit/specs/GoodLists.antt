@@ -1,4 +1,4 @@
--- Zone lists that keep rule C8. This project's own.
+-- Zone lists that keep rule C8.
 use Rattle.std.specs.Prelude.{◌≡◌, ℕ, suc, ◌<◌, false, List, Some, slice_get}
 use Rattle.at_base.specs.declared.error.Place.TheVariants as place
 use Rattle.table_image.specs.Internet.{Internet}

@@ -1,4 +1,4 @@
--- Hints for the search of a router: which one may have a port with a node number on a cable. This project's own.
+-- Hints for the search of a router: which one may have a port with a node number on a cable.
 use Rattle.std.specs.Prelude.{◌≡◌, ℕ, ◌+◌, ◌*◌, ◌<◌, ◌==◌, ◌⊎◌, Bool, true, List, Some, slice_get, slice_index_or}
 use Rattle.std.specs.List.{list_any}
 use Rattle.audit.specs.Places.{on}

@@ -1,4 +1,4 @@
--- The element at an index of a list, which may have none there. This project's own.
+-- The element at an index of a list, which may have none there.
 use Rattle.std.specs.Prelude.{ℕ, zero, suc, Bool, false, cond, List, [], ◌∷◌, Option, Some, None, option_map}
 
 -- the test of the element, and false without one

@@ -1,5 +1,5 @@
--- The rules of the audit, as tests on places: whether a place breaks a rule. Numbers in a place count from 1, and a place
--- that the internet doesn't have breaks no rule. docs/RULES.md says what each rule is for. This project's own.
+-- The rules of the audit, as tests on places: whether a place breaks a rule. Numbers in a place count from 1, and a
+-- place that the internet doesn't have breaks no rule. docs/RULES.md says what each rule is for.
 use Rattle.std.specs.Prelude.{◌≡◌, ℕ, zero, suc, ◌+◌, ◌%◌, Bool, true, false, not, ◌&&◌, ◌||◌, if◌then◌else◌, List, Option, Some}
 use Rattle.std.specs.Prelude.{None, length, take, slice_get, slice_index, find, nat_le, nat_lt, ◌==◌, is_some, option_and_then}
 use Rattle.std.specs.List.{list_any}

@@ -1,4 +1,4 @@
--- What a filter of addresses has seen. This project's own.
+-- What a filter of addresses has seen.
 use Rattle.std.specs.Prelude.{◌≡◌, ℕ, ◌+◌, ◌*◌, ◌%◌, ◌<◌, ◌||◌, Bool, true, false, List, Some, slice_get, slice_index, slice_index_or}
 use Rattle.at_base.specs.declared.address.Addr.{Addr}
 use Rattle.at_base.specs.declared.address.Hw.{Hw}

@@ -1,4 +1,4 @@
--- Verdicts: which are right, and how they read. This project's own.
+-- Verdicts: which are right, and how they read.
 use Rattle.std.specs.Prelude.{◌≡◌, ℕ, ◌<◌, ◌≤◌, ◌⊎◌, Bool, true, false, List, [], ◌∷◌, ◌++◌, length, map, max, sum_by, codes}
 use Rattle.std.specs.Fmt.{decimal}
 use Rattle.at_base.specs.declared.error.Place.{Place}

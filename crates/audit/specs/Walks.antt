@@ -1,4 +1,4 @@
--- Walks of a datagram from router to router, over the tables of an internet. This project's own.
+-- Walks of a datagram from router to router, over the tables of an internet.
 use Rattle.std.specs.Prelude.{◌≡◌, ◌≢◌, ℕ, ◌+◌, ◌≤◌, ◌<◌, ◌%◌, ◌==◌, true, false, List, [], ◌∷◌, length, Some, slice_get, slice_index}
 use Rattle.at_base.specs.declared.address.Addr.{Addr}
 use Rattle.table_image.specs.Internet.{Internet}

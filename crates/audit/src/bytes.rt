@@ -17,7 +17,7 @@ use table_image::read;
 
 /// Audits the internet whose image the bytes are (docs/FORMATS.md). Errors: `BadImage`, with the
 /// 0-based offset and the cause of the first fault, where the bytes are no image; `Memory`, only
-/// where they are one. This project's own.
+/// where they are one.
 pub fn audit_bytes(alloc: Global, bytes: &[u8]) -> Result<Verdict, Error>
     // The verdict is that of the image that the bytes are.
     ensures judged { IfOk result (λ verdict.

@@ -38,7 +38,7 @@ fn bad_next(image: &Image, hints: &Hints, steps: Option<Place>) -> Option<Place>
 }
 
 /// Audits an internet by the rules, in their order: yes with a summary, or the first place that
-/// breaks the first broken rule. It allocates nothing. This project's own.
+/// breaks the first broken rule. It allocates nothing.
 pub fn audit(image: &Image) -> Verdict
     // The verdict is right: yes exactly where every rule is kept, otherwise the first place that
     // breaks the first broken rule.

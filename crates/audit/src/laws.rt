@@ -17,70 +17,67 @@ ghost use Rattle.audit.specs.Walks.{AreDifferent, IsAddressed};
 ghost use Rattle.audit.specs.ZoneLists.{ZonesAgree};
 
 /// One walk home: from each router a datagram to a network that a cable has takes exactly one walk
-/// over the tables. It ends at that cable, visits no router twice, and has at most 15 routers. This
-/// project's own.
+/// over the tables. It ends at that cable, visits no router twice, and has at most 15 routers.
 pub fn one_walk_home()
     ensures { (i : Internet) → Passes i → WalksHome i }
 {}
 
 /// Each router puts a datagram to a network that a cable has on that cable, where it has a port, or
-/// hands it to a next router that is one nearer, over another cable where both have a port. This
-/// project's own.
+/// hands it to a next router that is one nearer, over another cable where both have a port.
 pub fn each_step()
     ensures { (i : Internet) (r n c : ℕ)
         → Passes i → r < length i.routers → home i n ≡ Some c → Steps i n c r }
 {}
 
 /// Each cable is at most 14 routers away by each router's table, so the hop count of a datagram,
-/// which is at most 15, suffices. This project's own.
+/// which is at most 15, suffices.
 pub fn distances_fit()
     ensures { (i : Internet) (r n c : ℕ)
         → Passes i → r < length i.routers → home i n ≡ Some c → distance i r n ≤ 14 }
 {}
 
-/// A router drops a datagram to a network that no cable has. This project's own.
+/// A router drops a datagram to a network that no cable has.
 pub fn unlisted_is_nowhere()
     ensures { (i : Internet) (r n : ℕ)
         → Passes i → r < length i.routers → home i n ≡ None → hand i r n ≡ Nowhere }
 {}
 
-/// No two stations have one address, no router has an address twice, no two stations on a cable have
-/// one hardware address, and no station has two seats on a cable. This project's own.
+/// No two stations have one address, no router has an address twice, no two stations on a cable
+/// have one hardware address, and no station has two seats on a cable.
 pub fn seats_are_unique()
     ensures { (i : Internet) → Passes i → SeatsAreUnique i }
 {}
 
 /// The zone table of each router has a zone for exactly the cables that have it, by rising range;
 /// and each of its zone lists is complete and has the range and the zones of the cable of its
-/// number. This project's own.
+/// number.
 pub fn zone_lists_agree()
     ensures { (i : Internet) → Passes i → IsBounded i → ZonesAgree i }
 {}
 
 /// The router of a node that has one is a router's port on the node's cable, and that cable has the
-/// node's zone, in any case. This project's own.
+/// node's zone, in any case.
 pub fn nodes_are_served()
     ensures { (i : Internet) (k : ℕ) (node : Node)
         → Passes i → slice_get i.nodes k ≡ Some node → IsServed i node }
 {}
 
 /// Each seat has an address of its cable, with a node number of 1 to 253, and the hardware address
-/// of one station. This project's own.
+/// of one station.
 pub fn seats_are_addressed()
     ensures { (i : Internet) (k : ℕ) (s : Seat)
         → Passes i → slice_get (seats i) k ≡ Some s → IsAddressed i s }
 {}
 
 /// Two routers that join three cables, with a node on the first and a printer on the last, pass. A
-/// datagram from the first router to the last cable goes through the second router. This project's
-/// own.
+/// datagram from the first router to the last cable goes through the second router.
 pub fn the_example_passes()
     ensures passes { Passes three_cables }
     ensures walk { IsWalk three_cables 30 0 (1 ∷ []) 2 }
 {}
 
 /// Where two routers each have the other as the next router for a cable, a datagram to it loops: no
-/// walk ends. The tables of the example keep every rule but C7. This project's own.
+/// walk ends. The tables of the example keep every rule but C7.
 pub fn loops_have_no_walk()
     ensures no_walk { (rest : List ℕ) (c : ℕ) → ¬ IsWalk pointing_at_each_other 30 0 rest c }
     ensures no_walk_home { ¬ WalksHome pointing_at_each_other }
@@ -91,7 +88,7 @@ pub fn loops_have_no_walk()
 
 /// What the definitions in the laws exclude: a walk that returns to a router, a port on a cable
 /// where the router has none, two ports with one address, and two ports on a cable with one
-/// hardware address. This project's own.
+/// hardware address.
 pub fn words_exclude()
     ensures routers { ¬ AreDifferent (0 ∷ 1 ∷ 0 ∷ []) }
     ensures ports { ¬ HasPort pointing_at_each_other 1 2 }

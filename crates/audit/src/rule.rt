@@ -11,7 +11,7 @@ use at_base::{Fault, Place};
 /// Inside AppleTalk, the chapter on RTMP.
 pub const MAX_DISTANCE: u8 = 14;
 
-/// A rule of the audit. This project's own.
+/// A rule of the audit.
 #[derive(Clone, Copy, Debug, PartialEq, Eq)]
 pub enum Rule {
     /// C1: the cables' ranges are valid and rise, and each cable has zones, none of them twice.

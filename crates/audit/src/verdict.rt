@@ -8,7 +8,7 @@ use at_base::{Error, Fault};
 use std::alloc::Global;
 use std::fmt;
 
-/// How much an internet has, and how far its routers hold its cables to be. This project's own.
+/// How much an internet has, and how far its routers hold its cables to be.
 #[derive(Clone, Copy, Debug, PartialEq, Eq)]
 pub struct Summary {
     /// How many cables there are, at most 200.
@@ -23,7 +23,7 @@ pub struct Summary {
     pub greatest: u8,
 }
 
-/// What the audit of an internet comes to. This project's own.
+/// What the audit of an internet comes to.
 #[derive(Clone, Copy, Debug, PartialEq, Eq)]
 pub enum Verdict {
     /// Each rule is kept.

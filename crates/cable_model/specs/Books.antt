@@ -1,4 +1,4 @@
--- How cables keep what happened, and what is still to be taken. This project's own.
+-- How cables keep what happened, and what is still to be taken.
 use Rattle.std.specs.Prelude.{◌≡◌, ℕ, ◌+◌, ◌≤◌, ◌<◌, ◌^◌, Bool, ◌&&◌, ◌==◌, List, [], ◌∷◌, ◌++◌, map, length, slice_get, cond, nat_lt, ◌||◌}
 use Rattle.std.specs.Prelude.{Option, Some, None, vec_len, vec_capacity}
 use Rattle.std.specs.VecDeque.{deque_len, deque_capacity}

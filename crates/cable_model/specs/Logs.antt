@@ -1,4 +1,4 @@
--- Transcripts as they are kept: entries name bytes by number. This project's own.
+-- Transcripts as they are kept: entries name bytes by number.
 use Rattle.std.specs.Prelude.{◌≡◌, ℕ, List, [], ◌++◌, map, slice_get}
 use Rattle.std.specs.Prelude.{Option, Some, None}
 use Rattle.ddp.specs.Bodies.{body}

@@ -1,4 +1,4 @@
--- What becomes of a station's outputs on the cables. This project's own.
+-- What becomes of a station's outputs on the cables.
 use Rattle.std.specs.Prelude.{◌≡◌, ◌⊎◌, ℕ, ◌+◌, ◌<◌, ◌≤◌, Bool, ◌&&◌, ◌==◌, cond, List, [], ◌∷◌, ◌++◌, find, map, slice_index}
 use Rattle.std.specs.Prelude.{Option, Some, None, Contains, if◌then◌else◌, not}
 use Rattle.std.specs.List.{list_any}

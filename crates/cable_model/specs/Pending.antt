@@ -1,4 +1,4 @@
--- Who hears a frame, and which frames are still to be taken. This project's own.
+-- Who hears a frame, and which frames are still to be taken.
 use Rattle.std.specs.Prelude.{ℕ, Bool, false, not, ◌&&◌, ◌==◌, if◌then◌else◌, List, [], ◌∷◌, ◌++◌, Option, Some, None, map, filter}
 use Rattle.std.specs.Prelude.{nat_lt, take, slice_index}
 use Rattle.std.specs.List.{list_any}

@@ -1,4 +1,4 @@
--- Which seats are on each cable, and which each station has, by their indices. This project's own.
+-- Which seats are on each cable, and which each station has, by their indices.
 use Rattle.std.specs.Prelude.{◌≡◌, ℕ, ◌+◌, ◌≤◌, ◌==◌, ◌++◌, cond, Bool, true, false, List, [], ◌∷◌, length, slice_get, Option, Some, None}
 use Rattle.cable_model.specs.declared.due.Due.{Due}
 use Rattle.cable_model.specs.declared.seat.Seat.{Seat}

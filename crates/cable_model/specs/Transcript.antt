@@ -1,4 +1,4 @@
--- What happened on the cables of an internet, in order. This project's own.
+-- What happened on the cables of an internet, in order.
 use Rattle.std.specs.Prelude.{◌≡◌, ℕ, ◌+◌, Bool, true, false, List, [], ◌∷◌}
 use Rattle.at_base.specs.declared.address.Hw.{Hw}
 use Rattle.station.specs.declared.output.Cause.{Cause}

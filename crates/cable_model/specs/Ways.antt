@@ -1,4 +1,4 @@
--- How a datagram goes onto a cable, once it is known where stations are. This project's own.
+-- How a datagram goes onto a cable, once it is known where stations are.
 use Rattle.std.specs.Prelude.{Bool, true, false, ℕ, ◌+◌, cond, List, [], ◌∷◌}
 use Rattle.at_base.specs.Address.{same_address}
 use Rattle.cable_model.specs.Outcomes.{Held, Places, Sender, framed, held_by, to_other, to_target}

@@ -30,16 +30,16 @@ use std::alloc::Global;
 use std::marker::Model;
 
 /// The most entries that one taking of a frame adds: that it was taken; three for each of 256
-/// outputs that the station makes; and two for the datagram that it passes on. This project's own.
+/// outputs that the station makes; and two for the datagram that it passes on.
 pub const TAKE_ROOM: usize = 771;
 
-/// The most entries that one sending adds. This project's own.
+/// The most entries that one sending adds.
 pub const SEND_ROOM: usize = 3;
 
 /// The most bytes of a frame. Inside AppleTalk, the chapter on DDP.
 pub const MAX_FRAME: usize = 599;
 
-/// Cables, the seats on them, and what happened there. This project's own.
+/// Cables, the seats on them, and what happened there.
 #[derive(Drop)]
 pub struct Cables {
     seats: Seats,

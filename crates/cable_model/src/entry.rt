@@ -3,7 +3,7 @@
 use at_base::Hw;
 use station::{Cause, Kind};
 
-/// How a datagram reached the cable of its target. This project's own.
+/// How a datagram reached the cable of its target.
 #[derive(Clone, Copy, Debug, PartialEq, Eq)]
 pub enum How {
     /// In a frame to the station that it is for.
@@ -19,7 +19,7 @@ pub enum How {
 }
 
 /// An entry of a transcript. Cables and stations are counted from 0; `bytes` is the number by which
-/// `Cables::bytes` gives the datagram or packet. This project's own.
+/// `Cables::bytes` gives the datagram or packet.
 #[derive(Clone, Copy, Debug, PartialEq, Eq)]
 pub enum Entry {
     /// A station made a datagram.

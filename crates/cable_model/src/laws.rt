@@ -9,7 +9,7 @@ ghost use Rattle.cable_model.specs.Transcript.{AreNumbered, Entry, Took, count, 
 
 /// A station that takes a frame which is pending for it ends that pair and no other: of the pairs
 /// that pass any test, one less is pending where this one passes. Stations have one seat at most on
-/// a cable, and frames are numbered from 0. This project's own.
+/// a cable, and frames are numbered from 0.
 pub fn taking_ends_one_pair()
     ensures { (seats : List SeatValue) (test : Pair → Bool) (t : List Entry) (p : Pair)
         → ((cable station : ℕ)

@@ -4,7 +4,7 @@ ghost use Rattle.std.specs.Prelude.{◌≡◌};
 
 use at_base::{Addr, Hw};
 
-/// What is known of the station that has an address on a cable. This project's own.
+/// What is known of the station that has an address on a cable.
 #[derive(Clone, Copy, Debug, PartialEq, Eq)]
 pub enum Found {
     /// It has this hardware address.
@@ -15,7 +15,7 @@ pub enum Found {
     Later,
 }
 
-/// Knows where stations are, and which networks have a cable. This project's own.
+/// Knows where stations are, and which networks have a cable.
 pub trait Resolve {
     ghost use Rattle.std.specs.Prelude.{Bool, ℕ};
     ghost use Rattle.at_base.specs.declared.address.Addr.{Addr as AddrValue};

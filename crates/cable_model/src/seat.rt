@@ -3,7 +3,7 @@
 use at_base::Hw;
 
 /// A station's seat on a cable: the port by which it is there, and whom it listens to. Cables,
-/// stations and ports are counted from 0. This project's own.
+/// stations and ports are counted from 0.
 #[derive(Clone, Copy, Debug, PartialEq, Eq)]
 pub struct Seat {
     /// The cable.

@@ -49,8 +49,6 @@ impl Indices {
 /// The seats on cables, in order. Those of each cable and of each station are kept beside them by
 /// their indices: a frame is offered to the seats of its own cable alone, and a station's seat is
 /// looked for among its own.
-///
-/// This project's own.
 #[derive(Drop)]
 pub struct Seats {
     items: Vec<Seat>,

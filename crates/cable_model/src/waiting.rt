@@ -2,8 +2,7 @@
 
 use at_base::Addr;
 
-/// A datagram that a station put out for an address whose hardware address isn't known yet. This
-/// project's own.
+/// A datagram that a station put out for an address whose hardware address isn't known yet.
 #[derive(Clone, Copy, Debug, PartialEq, Eq)]
 pub struct Waiting {
     /// The port by which it is to go.

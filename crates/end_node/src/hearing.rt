@@ -1,15 +1,18 @@
 //! Nodes as stations.
 
 ghost use Rattle.std.specs.Prelude.{◌≡◌, ◌∷◌, [], Some};
-ghost use Rattle.std.specs.Prelude.{IsOkUnless, OnErr, OnOk};
+ghost use Rattle.std.specs.Prelude.{IfOk, IsOkUnless, OnErr, OnOk};
 ghost use Rattle.aarp.specs.Choosing.{answer};
-ghost use Rattle.end_node.specs.Answers.{heard_packet};
+ghost use Rattle.end_node.specs.Answers.{Hears, heard_packet};
+ghost use Rattle.end_node.specs.Taking as spec;
+ghost use Rattle.station.specs.Hearing.{hearing};
 ghost use Rattle.station.specs.Lawful.{PutsOut};
 ghost use Rattle.station.specs.Resolution.{packet_at, wired};
 
 use crate::node::EndNode;
 use aarp::Packet;
 use at_base::Error;
+use ddp::View;
 use station::frames::{read_datagram, read_packet, wire};
 use station::{Heard, Kind, Outputs, Station};
 
@@ -44,6 +47,35 @@ impl EndNode {
         }
         Ok(())
     }
+
+    /// Hears a frame, as a station does. Returns the datagram that it brings, where the node takes it
+    /// as its own and its checksum is right. Error: `Memory`, which changes neither the node nor the
+    /// outputs.
+    ///
+    /// Inside AppleTalk, the chapter on DDP.
+    pub fn hear<'a>(
+        &mut self,
+        heard: &Heard<'a>,
+        outputs: &mut Outputs,
+    ) -> Result<Option<View<'a>>, Error>
+        ensures ok { OnOk result (PutsOut 1 outputs.old.items outputs.new.items
+            (λ added. Hears self.old (hearing heard.now) added self.new)) }
+        ensures taken { IfOk result (λ t. t ≡ spec.taken self.old (hearing heard.now)) }
+        ensures refused { IsOkUnless result Error.Memory }
+        ensures station_stays { OnErr result (self.new ≡ self.old) }
+        ensures outputs_stay { OnErr result (outputs.new.items ≡ outputs.old.items) }
+    {
+        match heard.kind {
+            Kind::Ddp => match read_datagram(heard.bytes) {
+                Some(view) => self.hear_datagram(heard.link, view, outputs),
+                None => Ok(None),
+            },
+            Kind::Aarp => {
+                self.hear_packet(heard.bytes, outputs)?;
+                Ok(None)
+            }
+        }
+    }
 }
 
 impl Station for EndNode {
@@ -60,12 +92,9 @@ impl Station for EndNode {
     }
 
     fn receive(&mut self, heard: &Heard<'_>, outputs: &mut Outputs) -> Result<(), Error> {
-        match heard.kind {
-            Kind::Ddp => match read_datagram(heard.bytes) {
-                Some(view) => self.hear_datagram(heard.link, &view, outputs),
-                None => Ok(()),
-            },
-            Kind::Aarp => self.hear_packet(heard.bytes, outputs),
+        match self.hear(heard, outputs) {
+            Ok(_) => Ok(()),
+            Err(error) => Err(error),
         }
     }
 

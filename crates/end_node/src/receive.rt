@@ -7,6 +7,7 @@ ghost use Rattle.end_node.specs.Answers.{AsksHearDatagram, AsksHearOwn, heard_da
 ghost use Rattle.end_node.specs.Answers as answers_spec;
 ghost use Rattle.end_node.specs.Answers.{keeping, keeping_any, kept};
 ghost use Rattle.end_node.specs.Answers.{received_of, served};
+ghost use Rattle.end_node.specs.Taking.{taken_datagram};
 ghost use Rattle.end_node.specs.Ways as ways_spec;
 ghost use Rattle.station.specs.Lawful.{AreLawful, PutsOut};
 ghost use Rattle.station.specs.Made.{AreMade};
@@ -195,25 +196,27 @@ impl EndNode {
         Ok(())
     }
 
-    /// Hears a datagram.
-    pub(crate) fn hear_datagram(
+    /// Hears a datagram. Returns it, where the node takes it as its own and its checksum is right.
+    pub(crate) fn hear_datagram<'a>(
         &mut self,
         link: Link,
-        view: &View<'_>,
+        view: View<'a>,
         outputs: &mut Outputs,
-    ) -> Result<(), Error>
+    ) -> Result<Option<View<'a>>, Error>
         ensures ok { OnOk result (PutsOut 1 outputs.old.items outputs.new.items (λ added.
             (added, record self.new { asks = self.old.asks })
-            ≡ heard_datagram self.old link (Some view.now))) }
+            ≡ heard_datagram self.old link (Some view.entry))) }
         ensures asks { OnOk result
-            (AsksHearDatagram self.old link (Some view.now) self.new.asks) }
+            (AsksHearDatagram self.old link (Some view.entry) self.new.asks) }
+        ensures taken { IfOk result (λ t. t ≡ taken_datagram self.old link (Some view.entry)) }
         ensures refused { IsOkUnless result Error.Memory }
         ensures station_stays { OnErr result (self.new ≡ self.old) }
         ensures outputs_stay { OnErr result (outputs.new.items ≡ outputs.old.items) }
     {
-        if self.takes(link, view) && checks(view) {
-            return self.hear_own(view, outputs);
+        if self.takes(link, &view) && checks(&view) {
+            self.hear_own(&view, outputs)?;
+            return Ok(Some(view));
         }
-        Ok(())
+        Ok(None)
     }
 }

@@ -1,5 +1,4 @@
--- Tables and packets for the laws that compute examples: those of a router on 10-19, whose neighbour there is 10.2. This
--- project's own.
+-- Tables and packets for the laws that compute examples: those of a router on 10-19, whose neighbour there is 10.2.
 use Rattle.std.specs.Prelude.{ℕ, List, [], ◌∷◌, codes}
 use Rattle.at_base.specs.Range.{Span}
 use Rattle.rtmp.specs.declared.row.Row.{Row}

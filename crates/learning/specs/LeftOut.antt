@@ -1,4 +1,4 @@
--- What of the replies of other routers a router leaves out. This project's own.
+-- What of the replies of other routers a router leaves out.
 use Rattle.std.specs.Prelude.{ℕ, Bool, true, false, not, List, Option, Some, None}
 use Rattle.at_base.specs.Range.{Span}
 use Rattle.rtmp.specs.declared.row.Row.{Row}

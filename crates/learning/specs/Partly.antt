@@ -1,4 +1,4 @@
--- What a router has learned of a reply of which it couldn't learn all. This project's own.
+-- What a router has learned of a reply of which it couldn't learn all.
 use Rattle.std.specs.Prelude.{◌≡◌, ℕ, List, ◌++◌, fold}
 use Rattle.rtmp.specs.declared.row.Row.{Row}
 use Rattle.zip_zones.specs.declared.packet.Packet.{Packet}

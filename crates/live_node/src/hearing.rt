@@ -19,8 +19,7 @@ impl Station for LiveNode {
     }
 
     fn receive(&mut self, heard: &Heard<'_>, outputs: &mut Outputs) -> Result<(), Error> {
-        let taken = self.node.taken(heard);
-        self.node.receive(heard, outputs)?;
+        let taken = self.node.hear(heard, outputs)?;
         self.learn(&taken);
         Ok(())
     }

@@ -1,18 +1,48 @@
 //! What a live router makes of the frames that it hears.
 
-ghost use Rattle.std.specs.Prelude.{◌≡◌, ◌<◌, length, OnErr, OnOk, IsOkUnless};
+ghost use Rattle.std.specs.Prelude.{◌≡◌, ◌<◌, length, OnErr, OnOk, IsOkUnless, Some};
 ghost use Rattle.live_router.specs.Living.{taught};
 ghost use Rattle.router.specs.Answers as spec;
-ghost use Rattle.router.specs.Ending.{ended};
+ghost use Rattle.router.specs.Ending.{ended, ended_datagram};
 ghost use Rattle.station.specs.Hearing.{hearing};
 ghost use Rattle.station.specs.Lawful.{PutsOut};
 
 use crate::tables::take_tables;
 use crate::taught::tables_taught;
 use at_base::Error;
+use ddp::View;
 use router::Router;
 use rtmp::RouteTable;
-use station::{Heard, Outputs, Station};
+use station::frames::read_datagram;
+use station::{Heard, Kind, Outputs, Station};
+
+/// Hears a datagram on one of the ports: answers it, and learns from it. Error: `Memory`, which
+/// changes neither the router nor the outputs.
+fn hear_datagram<T: RouteTable>(
+    router: &mut Router<T>,
+    heard: &Heard<'_>,
+    view: &View<'_>,
+    outputs: &mut Outputs,
+) -> Result<(), Error>
+    requires { heard.now.port < length router.old.ports }
+    ensures ok { OnOk result
+        (PutsOut (length router.old.ports) outputs.old.items outputs.new.items (λ added.
+        added ≡ (spec.heard_datagram router.old (hearing heard.now) (Some view.now)).0)) }
+    ensures after { OnOk result (router.new ≡ taught router.old
+        (spec.heard_datagram router.old (hearing heard.now) (Some view.now)).1
+        (ended_datagram router.old (hearing heard.now) (Some view.now))) }
+    ensures ports_stay { length router.new.ports ≡ length router.old.ports }
+    ensures refused { IsOkUnless result Error.Memory }
+    ensures router_stays { OnErr result (router.new ≡ router.old) }
+    ensures outputs_stay { OnErr result (outputs.new.items ≡ outputs.old.items) }
+{
+    let reaction = router.react(heard, view)?;
+    // The tables are made first: a refusal then leaves the router as it is.
+    let tables = tables_taught(router, reaction.ended, view)?;
+    router.follow(reaction, outputs)?;
+    take_tables(router, tables);
+    Ok(())
+}
 
 /// Hears a frame on one of the ports: answers it, and learns from it. Error: `Memory`, which
 /// changes neither the router nor the outputs.
@@ -33,9 +63,11 @@ pub(crate) fn hear<T: RouteTable>(
     ensures router_stays { OnErr result (router.new ≡ router.old) }
     ensures outputs_stay { OnErr result (outputs.new.items ≡ outputs.old.items) }
 {
-    // The tables are made first: a refusal then leaves the router as it is.
-    let tables = tables_taught(router, heard)?;
-    router.receive(heard, outputs)?;
-    take_tables(router, tables);
-    Ok(())
+    match heard.kind {
+        Kind::Ddp => match read_datagram(heard.bytes) {
+            Some(view) => hear_datagram(router, heard, &view, outputs),
+            None => Ok(()),
+        },
+        Kind::Aarp => router.receive(heard, outputs),
+    }
 }

@@ -1,16 +1,14 @@
 //! What a datagram that ended at a router teaches it.
 
 ghost use Rattle.std.specs.Prelude.{◌≡◌, ◌<◌, length, nat_lt, option_map, slice_get, unwrap_or};
-ghost use Rattle.std.specs.Prelude.{IfOk, IsOkUnless, IsTrue};
+ghost use Rattle.std.specs.Prelude.{IfOk, IfSome, IsOkUnless, IsTrue};
 ghost use Rattle.std.specs.List.{list_all};
 ghost use Rattle.learning.specs.Heard.{routes_after};
 ghost use Rattle.live_router.specs.Living.{routes_taught, routes_then, routing_in, taught};
 ghost use Rattle.live_router.specs.Living.{zones_taught, zones_then};
 ghost use Rattle.live_router.specs.Replies as spec;
 ghost use Rattle.router.specs.Answers as answers_spec;
-ghost use Rattle.router.specs.Ending.{ended};
 ghost use Rattle.router.specs.Zones.{zones_in};
-ghost use Rattle.station.specs.Hearing.{hearing};
 ghost use Rattle.zip_zones.specs.Answers.{after_reply};
 
 use crate::tables::Tables;
@@ -19,7 +17,6 @@ use ddp::{View, kind, socket};
 use learning::{learn_routes, learn_zones};
 use router::Router;
 use rtmp::{DataPacket, RouteTable};
-use station::Heard;
 use zip_zones::{Packet, ZoneTable};
 
 /// Whether the datagram is of this type and for this socket.
@@ -165,26 +162,27 @@ fn recall_seated<T: RouteTable>(router: &Router<T>)
     let _ports = router.ports_now();
 }
 
-/// The tables after a frame on one of the ports: a datagram that ended at the router teaches it.
-/// Error: `Memory`.
+/// The tables after a datagram on one of the ports, where it ended at the router on the cable of a
+/// port. Error: `Memory`.
 pub(crate) fn tables_taught<T: RouteTable>(
     router: &Router<T>,
-    heard: &Heard<'_>,
+    ended: Option<u8>,
+    view: &View<'_>,
 ) -> Result<Tables<T>, Error>
-    requires { heard.now.port < length router.now.ports }
+    requires { IfSome ended (λ p. p < length router.now.ports) }
     ensures routes { IfOk result (λ next. unwrap_or (option_map T.rows next.routes)
         router.now.routes
-        ≡ (taught router.now router.now (ended router.now (hearing heard.now))).routes) }
+        ≡ (taught router.now router.now (option_map (λ p. (p, view.now)) ended)).routes) }
     ensures zones { IfOk result (λ next. unwrap_or next.zones router.now.zones
-        ≡ (taught router.now router.now (ended router.now (hearing heard.now))).zones) }
+        ≡ (taught router.now router.now (option_map (λ p. (p, view.now)) ended)).zones) }
     ensures seated { IfOk result (λ next. IsTrue (list_all
         (λ r. nat_lt r.port (length router.now.ports))
         (unwrap_or (option_map T.rows next.routes) router.now.routes))) }
     ensures refused { IsOkUnless result Error.Memory }
 {
     recall_seated(router);
-    match router.ended(heard) {
-        Some((port, view)) => taught_by(router, port, &view),
+    match ended {
+        Some(port) => taught_by(router, port, view),
         None => Ok(Tables {
             routes: None,
             zones: None,

@@ -16,7 +16,7 @@ use at_base::{Addr, Error, Field, Text32, What, is_entity};
 use std::alloc::Global;
 use std::marker::Model;
 
-/// The most names of a node. This project's own.
+/// The most names of a node.
 pub const MAX_NAMES: usize = 32;
 
 /// A name that a node has registered for one of its sockets. Its zone is the node's.

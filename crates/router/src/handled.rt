@@ -1,11 +1,13 @@
 //! What a router makes of the datagrams that end at it.
 
 ghost use Rattle.std.specs.Prelude.{◌≡◌, ◌<◌, ◌≤◌, ◌+◌, ◌++◌, length};
-ghost use Rattle.std.specs.Prelude.{IfOk, IfSome, IsOkUnless, None, OnOk, option_to_list};
+ghost use Rattle.std.specs.Prelude.{IfOk, IfSome, IsOkUnless, None, OnOk, Some};
+ghost use Rattle.std.specs.Prelude.{option_map, option_to_list};
 ghost use Rattle.std.specs.Option.{unwrap_or};
 ghost use Rattle.echo.specs.Echo.{echo_reply};
 ghost use Rattle.router.specs.Answers as answers_spec;
 ghost use Rattle.router.specs.Answers.{made_for, requests_after, served};
+ghost use Rattle.router.specs.Ending.{ended_by};
 ghost use Rattle.router.specs.Zones.{transacted, transaction_in};
 ghost use Rattle.atp.specs.Answers.{bytes_of_all};
 ghost use Rattle.station.specs.Made.{AreMade, AreShort};
@@ -23,12 +25,14 @@ use station::Output;
 use station::making::{put_all, put_one};
 use station::ways::checks;
 
-/// What a router makes of a datagram, and the requests that it holds then, where they are others
-/// than before.
+/// The outputs that a router makes of a datagram, and what it learns of it.
 #[derive(Drop)]
 pub(crate) struct Handled {
     pub(crate) made: Vec<Output>,
+    /// The requests that the router holds then, where they change.
     pub(crate) responder: Option<Responder>,
+    /// The port on whose cable the datagram ended, where it did and its checksum is right.
+    pub(crate) ended: Option<u8>,
 }
 
 /// Whether the datagram is of this type and for this socket.
@@ -104,6 +108,7 @@ impl<T: RouteTable> Router<T> {
         requires { ending.port < length self.now.ports }
         ensures made { IfOk result (λ x. x.made.items ≡ served self.now ending view.now) }
         ensures responder { IfOk result (λ x. x.responder ≡ None) }
+        ensures ended { IfOk result (λ x. x.ended ≡ Some ending.port) }
         ensures few { IfOk result (λ x. length x.made.items ≤ 256) }
         ensures good { IfOk result (λ x. AreMade (length self.now.ports) x.made.items) }
         ensures refused { IsOkUnless result Error.Memory }
@@ -113,6 +118,7 @@ impl<T: RouteTable> Router<T> {
         Ok(Handled {
             made,
             responder: None,
+            ended: Some(ending.port),
         })
     }
 
@@ -123,6 +129,7 @@ impl<T: RouteTable> Router<T> {
             (bytes_of_all (transacted self.now view.now (transaction_in view.now.payload)).0)) }
         ensures requests { IfOk result (λ x. unwrap_or x.responder self.now.requests
             ≡ (transacted self.now view.now (transaction_in view.now.payload)).1) }
+        ensures ended { IfOk result (λ x. x.ended ≡ Some ending.port) }
         ensures few { IfOk result (λ x. length x.made.items ≤ 256) }
         ensures good { IfOk result (λ x. AreMade (length self.now.ports) x.made.items) }
         ensures refused { IsOkUnless result Error.Memory }
@@ -130,7 +137,11 @@ impl<T: RouteTable> Router<T> {
         let Transacted { packets, responder } = self.transact(view)?;
         let mut made = Vec::new(*self.ports.allocator());
         self.answer_list(&mut made, ending.port, view, packets.as_slice())?;
-        Ok(Handled { made, responder })
+        Ok(Handled {
+            made,
+            responder,
+            ended: Some(ending.port),
+        })
     }
 
     /// What is made of a datagram that ended here.
@@ -139,6 +150,7 @@ impl<T: RouteTable> Router<T> {
         ensures made { IfOk result (λ x. x.made.items ≡ made_for self.now ending view.now) }
         ensures requests { IfOk result
             (λ x. unwrap_or x.responder self.now.requests ≡ requests_after self.now view.now) }
+        ensures ended { IfOk result (λ x. x.ended ≡ Some ending.port) }
         ensures few { IfOk result (λ x. length x.made.items ≤ 256) }
         ensures good { IfOk result (λ x. AreMade (length self.now.ports) x.made.items) }
         ensures refused { IsOkUnless result Error.Memory }
@@ -156,6 +168,9 @@ impl<T: RouteTable> Router<T> {
             (λ x. x.made.items ≡ (answers_spec.handled self.now ending view.now).0) }
         ensures requests { IfOk result (λ x. unwrap_or x.responder self.now.requests
             ≡ (answers_spec.handled self.now ending view.now).1) }
+        ensures ended { IfOk result
+            (λ x. option_map (λ p. (p, view.now)) x.ended ≡ ended_by ending view.now) }
+        ensures inside { IfOk result (λ x. IfSome x.ended (λ p. p < length self.now.ports)) }
         ensures few { IfOk result (λ x. length x.made.items ≤ 256) }
         ensures good { IfOk result (λ x. AreMade (length self.now.ports) x.made.items) }
         ensures refused { IsOkUnless result Error.Memory }
@@ -168,6 +183,7 @@ impl<T: RouteTable> Router<T> {
         Ok(Handled {
             made: Vec::new(*self.ports.allocator()),
             responder: None,
+            ended: None,
         })
     }
 }

@@ -20,4 +20,5 @@ mod zones;
 pub use course::{Course, Ending, Step};
 pub use hand::Hand;
 pub use laws::{forwarding_keeps_the_body, tables_stay};
+pub use receive::Reaction;
 pub use router::{MAX_PORTS, Router};

@@ -1,11 +1,13 @@
 //! What a router does with the datagrams that it hears.
 
 ghost use Rattle.std.specs.Prelude.{◌≡◌, ◌<◌, ◌≤◌, ◌++◌, ◌+◌, ℕ, false, length, option_to_list, Some};
+ghost use Rattle.std.specs.Prelude.{option_map};
 ghost use Rattle.std.specs.Prelude.{IfOk, IfSome, IsOkUnless, OnErr, OnOk};
 ghost use Rattle.std.specs.Option.{unwrap_or};
 ghost use Rattle.station.specs.Hearing.{hearing};
 ghost use Rattle.station.specs.Lawful.{AreLawful, IsGood, PutsOut, is_made};
 ghost use Rattle.router.specs.Answers.{heard_datagram};
+ghost use Rattle.router.specs.Ending.{ended_datagram};
 ghost use Rattle.router.specs.Forwarding as spec;
 ghost use Rattle.router.specs.Forwarding.{IsBy, IsNear};
 
@@ -36,13 +38,17 @@ fn fate(alloc: Global, step: Option<Step>, view: &View<'_>) -> Result<Option<Out
     }
 }
 
-/// What a router does with a datagram: what it puts out of it, what it makes, and the requests that
-/// it holds then, where they are others than before.
+/// What a router does with a datagram that it hears, before it does it.
 #[derive(Drop)]
-struct Reaction {
-    fate: Option<Output>,
-    made: Vec<Output>,
-    responder: Option<Responder>,
+pub struct Reaction {
+    /// The output of the datagram itself, where it is passed on, kept or dropped.
+    pub fate: Option<Output>,
+    /// The outputs that the router makes.
+    pub made: Vec<Output>,
+    /// The requests for zone lists that it holds then, where they change.
+    pub responder: Option<Responder>,
+    /// The port on whose cable the datagram ended, where it did and its checksum is right.
+    pub ended: Option<u8>,
 }
 
 /// Adds what is put out of a datagram, and then what is made.
@@ -57,8 +63,11 @@ fn put_out(outputs: &mut Outputs, fate: Option<Output>, made: Vec<Output>)
 }
 
 impl<T: RouteTable> Router<T> {
-    /// What the router does with a datagram that came on one of its ports.
-    fn react(&self, heard: &Heard<'_>, view: &View<'_>) -> Result<Reaction, Error>
+    /// The router's reaction to the datagram of a frame that came on one of its ports. It changes
+    /// nothing yet. Error: `Memory`.
+    ///
+    /// Inside AppleTalk, the chapter on DDP.
+    pub fn react(&self, heard: &Heard<'_>, view: &View<'_>) -> Result<Reaction, Error>
         requires { heard.now.port < length self.now.ports }
         ensures outputs { IfOk result (λ x. option_to_list x.fate ++ x.made.items
             ≡ (heard_datagram self.now (hearing heard.now) (Some view.now)).0) }
@@ -67,6 +76,9 @@ impl<T: RouteTable> Router<T> {
             ≡ (heard_datagram self.now (hearing heard.now) (Some view.now)).1) }
         ensures lawful { IfOk result (λ x.
             AreLawful (length self.now.ports) (option_to_list x.fate ++ x.made.items)) }
+        ensures ended { IfOk result (λ x. option_map (λ p. (p, view.now)) x.ended
+            ≡ ended_datagram self.now (hearing heard.now) (Some view.now)) }
+        ensures inside { IfOk result (λ x. IfSome x.ended (λ p. p < length self.now.ports)) }
         ensures refused { IsOkUnless result Error.Memory }
     {
         let course = self.course(heard.port, heard.link, view.hops(), view.target());
@@ -76,6 +88,7 @@ impl<T: RouteTable> Router<T> {
             fate,
             made: handled.made,
             responder: handled.responder,
+            ended: handled.ended,
         })
     }
 
@@ -87,6 +100,34 @@ impl<T: RouteTable> Router<T> {
         if let Some(responder) = responder {
             self.responder = responder;
         }
+    }
+
+    /// Puts the outputs of a reaction out, and holds its requests. That the outputs are lawful is the
+    /// caller's condition. Error: `Memory`, which changes neither the router nor the outputs.
+    pub fn follow(&mut self, reaction: Reaction, outputs: &mut Outputs) -> Result<(), Error>
+        requires { AreLawful (length self.old.ports)
+            (option_to_list reaction.fate ++ reaction.made.items) }
+        ensures ok { OnOk result
+            (PutsOut (length self.old.ports) outputs.old.items outputs.new.items (λ added.
+            added ≡ option_to_list reaction.fate ++ reaction.made.items)) }
+        ensures holds { OnOk result (self.new ≡ record self.old {
+          requests = unwrap_or reaction.responder self.old.requests;
+        }) }
+        ensures ports_stay { self.new.ports ≡ self.old.ports }
+        ensures refused { IsOkUnless result Error.Memory }
+        ensures station_stays { OnErr result (self.new ≡ self.old) }
+        ensures outputs_stay { OnErr result (outputs.new.items ≡ outputs.old.items) }
+    {
+        let Reaction {
+            fate,
+            made,
+            responder,
+            ..
+        } = reaction;
+        outputs.room(made.len() + 1)?;
+        put_out(outputs, fate, made);
+        self.keep(responder);
+        Ok(())
     }
 
     /// Hears a datagram on one of the ports.
@@ -105,14 +146,7 @@ impl<T: RouteTable> Router<T> {
         ensures station_stays { OnErr result (self.new ≡ self.old) }
         ensures outputs_stay { OnErr result (outputs.new.items ≡ outputs.old.items) }
     {
-        let Reaction {
-            fate,
-            made,
-            responder,
-        } = self.react(heard, view)?;
-        outputs.room(made.len() + 1)?;
-        put_out(outputs, fate, made);
-        self.keep(responder);
-        Ok(())
+        let reaction = self.react(heard, view)?;
+        self.follow(reaction, outputs)
     }
 }

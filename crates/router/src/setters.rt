@@ -1,21 +1,14 @@
 //! What a live router changes by itself: its tables, and the choices of its ports' addresses.
 
-ghost use Rattle.std.specs.Prelude.{◌≡◌, ◌<◌, ◌≤◌, length, nat_lt, IfSome, IsTrue, Some};
+ghost use Rattle.std.specs.Prelude.{◌≡◌, ◌<◌, ◌≤◌, length, nat_lt, IsTrue};
 ghost use Rattle.std.specs.List.{list_all};
 ghost use Rattle.atp.specs.Responding.{ticked};
-ghost use Rattle.router.specs.Ending as spec;
-ghost use Rattle.router.specs.Ending.{ended_datagram};
 ghost use Rattle.rtmp.specs.Routes.{poisoned};
-ghost use Rattle.station.specs.Hearing.{hearing};
 
 use crate::router::Router;
 use aarp::Chooser;
 use at_base::Addr;
-use ddp::View;
 use rtmp::RouteTable;
-use station::frames::read_datagram;
-use station::ways::checks;
-use station::{Heard, Kind};
 use std::alloc::Global;
 use zip_zones::ZoneTable;
 
@@ -32,37 +25,6 @@ impl<T: RouteTable> Router<T> {
         ensures seated { IsTrue (list_all (λ r. nat_lt r.port (length self.now.ports)) self.now.routes) }
     {
         self.ports.as_slice()
-    }
-
-    /// The datagram that ended on a port.
-    fn ended_here<'a>(&self, heard: &Heard<'a>, view: View<'a>) -> Option<(u8, View<'a>)>
-        requires { heard.now.port < length self.now.ports }
-        ensures value { result ≡ ended_datagram self.now (hearing heard.now) (Some view.entry) }
-        ensures inside { IfSome result (λ e. e.0 < length self.now.ports) }
-    {
-        let course = self.course(heard.port, heard.link, view.hops(), view.target());
-        match course.ending {
-            Some(ending) if checks(&view) => Some((ending.port, view)),
-            _ => None,
-        }
-    }
-
-    /// The datagram that a frame on one of the ports brings, where it ends at the router and its
-    /// checksum is right, with the port on whose cable it ended. Allocates nothing.
-    ///
-    /// Inside AppleTalk, the chapter on DDP.
-    pub fn ended<'a>(&self, heard: &Heard<'a>) -> Option<(u8, View<'a>)>
-        requires { heard.now.port < length self.now.ports }
-        ensures value { result ≡ spec.ended self.now (hearing heard.now) }
-        ensures inside { IfSome result (λ e. e.0 < length self.now.ports) }
-    {
-        match heard.kind {
-            Kind::Ddp => match read_datagram(heard.bytes) {
-                Some(view) => self.ended_here(heard, view),
-                None => None,
-            },
-            Kind::Aarp => None,
-        }
     }
 
     /// Takes another routing table in the place of its own. That each row is by one of the ports is

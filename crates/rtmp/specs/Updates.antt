@@ -1,4 +1,4 @@
--- Changes of the rows of a table, one by one. (own)
+-- Changes of the rows of a table, one by one.
 use Rattle.std.specs.Prelude.{ℕ, List}
 use Rattle.at_base.specs.Starts.{before_start}
 use Rattle.rtmp.specs.declared.row.Row.{Row}

@@ -1,4 +1,4 @@
--- What a station hears. This project's own.
+-- What a station hears.
 use Rattle.std.specs.Prelude.{ℕ, List}
 use Rattle.station.specs.declared.heard.Heard.{Heard}
 use Rattle.station.specs.declared.heard.Kind.{Kind}

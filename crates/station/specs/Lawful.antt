@@ -1,4 +1,4 @@
--- What a station may put out: the laws of stations. This project's own.
+-- What a station may put out: the laws of stations.
 use Rattle.std.specs.Prelude.{◌≡◌, ℕ, ◌+◌, ◌<◌, ◌≤◌, Bool, true, false, not, IsTrue, List, [], ◌∷◌, ◌++◌, nat_lt}
 use Rattle.std.specs.List.{All, list_all}
 use Rattle.at_base.specs.Spelling.{Spells}

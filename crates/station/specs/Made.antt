@@ -1,4 +1,4 @@
--- What is known of the outputs that a station makes. This project's own.
+-- What is known of the outputs that a station makes.
 use Rattle.std.specs.Prelude.{◌≡◌, ℕ, ◌<◌, ◌≤◌, true, List, Option, IfSome, length}
 use Rattle.std.specs.List.{All}
 use Rattle.station.specs.Lawful.{IsGood, IsNext, is_made}

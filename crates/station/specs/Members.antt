@@ -1,4 +1,4 @@
--- Stations of two kinds, as one. This project's own.
+-- Stations of two kinds, as one.
 use Rattle.std.specs.Prelude.{ℕ, List}
 use Rattle.station.specs.declared.member.Member.{Member}
 use Rattle.station.specs.declared.member.Member.TheVariants.{Router, Node}

@@ -1,4 +1,4 @@
--- What is read of what a station hears. This project's own.
+-- What is read of what a station hears.
 use Rattle.std.specs.Prelude.{ℕ, List, Option, Some, None, Result, Ok, Err}
 use Rattle.at_base.specs.Packets.{packets}
 use Rattle.at_base.specs.Reading.{read}

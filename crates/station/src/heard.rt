@@ -25,8 +25,6 @@ pub enum Link {
 }
 
 /// A frame that a station hears. It borrows the bytes.
-///
-/// This project's own.
 #[derive(Clone, Copy, Debug)]
 pub struct Heard<'a> {
     /// The index of the port on which it came, from 0.

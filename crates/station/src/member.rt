@@ -5,7 +5,7 @@ use crate::outputs::Outputs;
 use crate::station::Station;
 use at_base::Error;
 
-/// A station of an internet: a router or a node. This project's own.
+/// A station of an internet: a router or a node.
 #[derive(Drop)]
 pub enum Member<R, N> {
     /// A router.

@@ -28,8 +28,6 @@ pub enum Cause {
 
 /// What a station puts out, or did with what it heard. Bytes are a datagram without padding, in
 /// `Wire` an AARP packet. Ports are counted from 0.
-///
-/// This project's own.
 #[derive(Debug, Drop)]
 pub enum Output {
     /// A datagram that the station made.

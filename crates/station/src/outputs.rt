@@ -13,8 +13,6 @@ use std::collections::VecDeque;
 use std::marker::Model;
 
 /// A queue of outputs, with room for more that contracts see.
-///
-/// This project's own.
 #[derive(Drop)]
 pub struct Outputs {
     items: VecDeque<Output>,

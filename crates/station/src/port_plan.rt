@@ -7,7 +7,7 @@ use aarp::Chooser;
 use at_base::{Addr, Error, Hw, Range};
 use std::alloc::Global;
 
-/// A port that a station is to have. This project's own.
+/// A port that a station is to have.
 #[derive(Clone, Copy, Debug)]
 pub struct PortPlan<'a> {
     /// The range of its cable.

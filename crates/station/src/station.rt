@@ -8,8 +8,6 @@ use crate::outputs::Outputs;
 use at_base::Error;
 
 /// A station: a router or a node, with ports on cables.
-///
-/// This project's own.
 pub trait Station: Drop {
     ghost use Rattle.std.specs.Prelude.{List, ℕ};
     ghost use Rattle.station.specs.Hearing.{Hearing, hearing};

@@ -1,4 +1,4 @@
--- The limits that each part of an internet keeps. This project's own.
+-- The limits that each part of an internet keeps.
 use Rattle.std.specs.Prelude.{◌≡◌, ◌<◌, ◌≤◌, ℕ, List, length, Some, slice_get}
 use Rattle.at_base.specs.Text.{IsEntity, IsName}
 use Rattle.table_image.specs.Limits.{max_cables, max_routers, max_nodes, max_ports, max_rows, max_zone_lists, max_zones, max_names}

@@ -1,5 +1,5 @@
--- Checks of a value: whether it is one of its format, and else its first flaw, with the offset of the flaw's field from a
--- start if the value were written there. This project's own.
+-- Checks of a value: whether it is one of its format, and else its first flaw, with the offset of the flaw's field from
+-- a start if the value were written there.
 use Rattle.std.specs.Prelude.{◌≡◌, ℕ, ◌+◌, ◌-◌, ◌≤◌, ◌⊎◌, true, List, [], ◌∷◌, length, Some, Result, Ok, Err}
 use Rattle.at_base.specs.Grammar.{Grammar, done, field, part, list, room}
 use Rattle.at_base.specs.Spelling.{Fits, wrong_with, Passes, list_bytes, bytes_of, ListPasses, IsValue}

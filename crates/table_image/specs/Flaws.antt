@@ -1,5 +1,4 @@
 -- Flaws of an image: the cause, and how many bytes of the input are left from the byte on at which it is reported.
--- This project's own.
 use Rattle.std.specs.Prelude.{◌≡◌, ℕ, ◌+◌, List, Result, Ok, Err}
 use Rattle.at_base.specs.declared.error.Cause.{Cause}
 use Rattle.at_base.specs.declared.error.Cause.TheVariants.{Cut}

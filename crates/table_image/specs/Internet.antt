@@ -1,4 +1,4 @@
--- An internet: what an image holds, read as lists. This project's own.
+-- An internet: what an image holds, read as lists.
 use Rattle.std.specs.Prelude.{List}
 use Rattle.table_image.specs.declared.cable.Cable.{Cable}
 use Rattle.table_image.specs.declared.router.Router.{Router}

@@ -1,4 +1,4 @@
--- How many of each part an image may have, as constants of src/limits.rt. This project's own.
+-- How many of each part an image may have, as constants of src/limits.rt.
 use Rattle.std.specs.Prelude.{ℕ}
 
 -- cables of an internet

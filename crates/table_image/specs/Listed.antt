@@ -1,4 +1,4 @@
--- The values of a list, in order, however it keeps them. This project's own.
+-- The values of a list, in order, however it keeps them.
 use Rattle.std.specs.Prelude.{List}
 use Rattle.std.specs.Arc.{arc_value}
 use Rattle.table_image.specs.declared.listed.Kept.{Kept}

@@ -1,4 +1,4 @@
--- Whole images: which bytes spell one, and the first flaw of bytes that spell none. This project's own.
+-- Whole images: which bytes spell one, and the first flaw of bytes that spell none.
 use Rattle.std.specs.Prelude.{◌≡◌, ◌≢◌, ℕ, ◌-◌, ◌⊎◌, List, [], ◌++◌, length, Result, Ok, Err, ◌==◌, if◌then◌else◌}
 use Rattle.at_base.specs.declared.error.Cause.TheVariants.{Trailing}
 use Rattle.at_base.specs.declared.error.Error.{Error}

@@ -1,4 +1,4 @@
--- Rows of an image as rows of routing tables. This project's own.
+-- Rows of an image as rows of routing tables.
 use Rattle.std.specs.Prelude.{ℕ, Bool, List, Option, option_map, slice_get}
 use Rattle.std.specs.List.{list_all}
 use Rattle.at_base.specs.Range.{is_range}

@@ -1,4 +1,4 @@
--- The seats of an internet: which station is on which cable, by which addresses. This project's own.
+-- The seats of an internet: which station is on which cable, by which addresses.
 use Rattle.std.specs.Prelude.{ℕ, suc, ◌&&◌, List, [], ◌∷◌, ◌++◌, Option, length, map, find, ◌==◌}
 use Rattle.at_base.specs.Address.{same_address}
 use Rattle.at_base.specs.declared.address.Addr.{Addr}

@@ -1,4 +1,4 @@
--- Lists that are within their limits. This project's own.
+-- Lists that are within their limits.
 use Rattle.std.specs.Prelude.{Bool, ◌&&◌, length, nat_le}
 use Rattle.std.specs.List.{list_all}
 use Rattle.table_image.specs.Internet.{Internet}

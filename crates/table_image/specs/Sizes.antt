@@ -1,4 +1,4 @@
--- The most bytes that each part of an image takes, as sums over its fields. This project's own.
+-- The most bytes that each part of an image takes, as sums over its fields.
 use Rattle.std.specs.Prelude.{ℕ, ◌+◌, ◌*◌}
 use Rattle.table_image.specs.Limits.{max_cables, max_routers, max_nodes, max_ports, max_rows, max_zone_lists, max_zones, max_names}
 use Rattle.table_image.specs.Limits.{max_text}

@@ -1,5 +1,5 @@
--- The image of an internet's tables, version 1, as a format: its parts, their order and their tests. docs/FORMATS.md has
--- the same as a table. This project's own.
+-- The image of an internet's tables, version 1, as a format: its parts, their order and their tests. docs/FORMATS.md
+-- has the same as a table.
 use Rattle.std.specs.Prelude.{ℕ, zero, suc, ◌+◌, Bool, true, false, ◌==◌, List, length, Option, Some, None, if◌then◌else◌, unwrap_or}
 use Rattle.at_base.specs.declared.address.Addr.{Addr}
 use Rattle.at_base.specs.declared.error.Cause.TheVariants.{Count, Name, Value, Version}

@@ -1,4 +1,4 @@
--- The tests of an image's fields. This project's own.
+-- The tests of an image's fields.
 use Rattle.std.specs.Prelude.{ℕ, List, [], ◌∷◌, Option, Some, None, nat_lt, if◌then◌else◌}
 use Rattle.at_base.specs.declared.error.Cause.{Cause}
 use Rattle.at_base.specs.declared.error.Cause.TheVariants.{Index, Magic, Order, Value}

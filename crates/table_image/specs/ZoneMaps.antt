@@ -1,4 +1,4 @@
--- The zone lists of a router as a zone table. This project's own.
+-- The zone lists of a router as a zone table.
 use Rattle.std.specs.Prelude.{ℕ, ◌+◌, Bool, not, ◌&&◌, ◌||◌, ◌==◌, List, length, map, filter, Option, option_map, slice_get, nat_le}
 use Rattle.std.specs.Prelude.{if◌then◌else◌}
 use Rattle.std.specs.List.{list_all}

@@ -36,8 +36,6 @@ use std::marker::Model;
 
 /// The tables of an internet: a value of the format, whose indexes, orders, texts and limits are as
 /// reading wants them.
-///
-/// This project's own.
 #[derive(Debug, Drop)]
 pub struct Image {
     cables: Listed<Cable>,
@@ -61,8 +59,6 @@ impl Image {
     /// The image of these parts, without an allocation. Errors: `Full` where a list is longer than
     /// its limit; else `BadImage`, the first flaw of the parts if they were written in order, with
     /// its offset from the first byte.
-    ///
-    /// This project's own.
     pub fn make(cables: Vec<Cable>, routers: Vec<Router>, nodes: Vec<Node>) -> Result<Image, Error>
         ensures made { OkIff result
             (IsValue image_spelling (internet cables.items routers.items nodes.items))
@@ -126,8 +122,6 @@ impl Image {
     ///
     /// Errors: `NoSuch` of `Router`; else `BadRange` where the range of a row isn't valid; else
     /// `Memory`.
-    ///
-    /// This project's own.
     pub fn rows_of(&self, alloc: Global, router: u8) -> Result<Vec<rtmp::Row>, Error>
         ensures ok { IfOk result
             (λ made. option_map (map route_row) (rows_at router self.now) ≡ Some made.items) }
@@ -301,8 +295,6 @@ fn refused_for_memory(bytes: &[u8]) -> Error
 
 /// The image that the bytes spell, all of them. Errors: `BadImage`, the first flaw of bytes that
 /// spell no image, with its offset from the first byte; `Memory`, only where they spell one.
-///
-/// This project's own.
 pub fn read(alloc: Global, bytes: &[u8]) -> Result<Image, Error>
     // What is read is spelled so.
     ensures found { IfOk result (λ i. Spells image_spelling bytes.now i) }
@@ -355,8 +347,6 @@ fn written_len(image: &Image) -> usize
 }
 
 /// The one spelling of an image, in one allocation of its length. Error: `Memory`.
-///
-/// This project's own.
 pub fn write(alloc: Global, image: &Image) -> Result<Bytes, Error>
     ensures spelled { IfOk result (λ bytes. Spells image_spelling bytes image.now) }
     ensures refused { IsOkUnless result Error.Memory }

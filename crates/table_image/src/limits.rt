@@ -1,5 +1,4 @@
-//! How many of each part an image may have, and the greatest values of its fields. This project's
-//! own.
+//! How many of each part an image may have, and the greatest values of its fields.
 
 /// Cables of an internet.
 pub const MAX_CABLES: u8 = 200;

@@ -13,7 +13,6 @@ use std::slice;
 use std::sync::Arc;
 
 /// Values one after the other, as a slice that owns its memory; a clause sees the list of them.
-/// This project's own.
 #[derive(Debug, Drop)]
 pub struct Listed<T> {
     kept: Kept<T>,

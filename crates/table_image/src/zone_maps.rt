@@ -174,8 +174,6 @@ impl Image {
     ///
     /// Errors: `NoSuch` of `Router`; else `BadRange` where the range of a list isn't valid, or two
     /// overlap; else `Full` where a list that isn't complete has 64 names; else `Memory`.
-    ///
-    /// This project's own.
     pub fn zones_of(&self, alloc: Global, router: u8) -> Result<ZoneTable, Error>
         ensures ok { IfOk result
             (λ table. option_map zone_map (lists_at router self.now) ≡ Some table) }

@@ -1,4 +1,4 @@
--- What is left of a text of which some parts were read. This project's own.
+-- What is left of a text of which some parts were read.
 use Rattle.std.specs.Prelude.{ℕ, ◌==◌, List, [], Option}
 use Rattle.std.specs.Borrow.{Bor}
 use Rattle.std.specs.List.{slice_split}

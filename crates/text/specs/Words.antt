@@ -1,4 +1,4 @@
--- Numbers, addresses and bytes as words say them. This project's own.
+-- Numbers, addresses and bytes as words say them.
 use Rattle.std.specs.Prelude.{ℕ, ◌+◌, ◌*◌, ◌-◌, Bool, false, not, ◌&&◌, ◌==◌, cond, List, [], ◌∷◌, Option, Some, None}
 use Rattle.std.specs.Prelude.{fold, nat_le, nat_lt}
 use Rattle.std.specs.Char.{digit_value, is_ascii_digit}

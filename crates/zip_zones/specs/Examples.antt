@@ -1,5 +1,4 @@
--- Tables for the laws that compute examples: those of a router of the three-cable internet, and lists at the limits. This
--- project's own.
+-- Tables for the laws that compute examples: those of a router of the three-cable internet, and lists at the limits.
 use Rattle.std.specs.Prelude.{◌≡◌, ℕ, List, [], ◌∷◌, replicate, codes}
 use Rattle.at_base.specs.Range.{Span}
 use Rattle.rtmp.specs.declared.row.Row.{Row}

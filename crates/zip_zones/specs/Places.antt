@@ -1,4 +1,4 @@
--- Where the list of a range stands in a zone table. (own)
+-- Where the list of a range stands in a zone table.
 use Rattle.std.specs.Prelude.{◌≡◌, ℕ, ◌<◌, ◌≤◌, List, length, Some, None, slice_get, slice_set, insert}
 use Rattle.at_base.specs.Range.{Span}
 use Rattle.at_base.specs.Starts.{before_start}

@@ -50,8 +50,6 @@ impl ZoneTable {
     ///
     /// Errors: `BadRange` where the range isn't above all others; `Full` above 64 zones or names,
     /// doubles counted too, and where there are 200 lists; `Memory`. A refusal changes nothing.
-    ///
-    /// This project's own.
     pub fn append(&mut self, range: Range, least: u8, names: &[Name]) -> Result<(), Error>
         ensures ok { OnOk result
             (self.new ≡ self.old ++ list_of_least range least names.now ∷ []) }

@@ -14,7 +14,7 @@ use crate::writer::{ENTRY_LEN, MAX_ENTRIES, write_extended};
 use at_base::{Bytes, Error, Name};
 use std::alloc::Global;
 
-/// The most networks of a query that are looked at. This project's own.
+/// The most networks of a query that are looked at.
 const MAX_ANSWERED: usize = 16;
 
 /// How many of the names from the front have room in so many bytes of entries.
