@@ -3,8 +3,7 @@
 ghost use Rattle.std.specs.Prelude.{◌≡◌, IsTrue, IfOk, IfSome, IsOkUnless};
 ghost use Rattle.std.specs.List.{list_all};
 ghost use Rattle.aarp.specs.Choosing as spec;
-ghost use Rattle.aarp.specs.Choosing.{begun, ticked};
-ghost use Rattle.aarp.specs.Choosing.{probe_for, is_on};
+ghost use Rattle.aarp.specs.Choosing.{begun, is_on, probe_for, ticked};
 
 use crate::packet::{Function, Packet};
 use at_base::{Addr, Error, Hw, Range};

@@ -1,10 +1,10 @@
--- What reading gives of small formats, worked by hand and computed: each form that a grammar has, with its refusals.
+-- Reading in small formats, worked by hand and computed: each constructor of the grammar, with its refusals.
 use Rattle.std.proofs.Common.{◌≡◌, ℕ, Bool, true, false, List, [], ◌∷◌, length, Option, Some, None, Result, Ok, Err, nat_lt}
 use Rattle.std.proofs.Common.{if◌then◌else◌, refl}
 use Rattle.at_base.specs.Grammar.{number, run, one, two, Grammar, done, field, part, list, room, limit, many}
 use Rattle.at_base.specs.Reading.{read}
 
--- what is wrong with a value, and a refusal: a cut, or what is wrong with so many bytes of the input left
+-- what is wrong with a value, and the refusals: a cut, or a wrong value and the number of input bytes left
 data Wrong : Type 0 where
   low : Wrong
   long : Wrong
@@ -14,7 +14,7 @@ data Refusal : Type 0 where
   cut : Refusal
   left : ℕ → Wrong → Refusal
 
--- the bytes are read so
+-- reading the bytes gives this result
 abbrev Reads : {s : Bool} {A : Type 0} → Grammar Wrong s A → List ℕ → Result (A × List ℕ) Refusal → Type 0
 Reads g bytes answer = read (record { cut = cut; placed = left }) g bytes ≡ answer
 
@@ -44,7 +44,7 @@ numbers_are_few = refl
 input_is_long : Reads to_the_end (0 ∷ 0 ∷ 0 ∷ 0 ∷ 0 ∷ 0 ∷ 0 ∷ []) (Err (left 7 long))
 input_is_long = refl
 
--- three bytes there; a count; so many rising numbers; and a run of as many bytes
+-- at least three bytes: a count, that many rising numbers, and a run of that many bytes
 record Counted : Type 0 where
   numbers : List ℕ
   bytes : List ℕ
@@ -56,7 +56,7 @@ counted =
     field (run count any) (λ c. c.bytes) (λ bytes.
     done (record { numbers = numbers; bytes = bytes })))))
 
--- the same, and one number more, which begins anew
+-- a Counted and one number more, whose lower bound is 0 again
 abbrev with_another : Grammar Wrong true (Counted × ℕ)
 with_another = part counted (λ x. x.0) (λ c. part (rising 0) (λ x. x.1) (λ n. done (c, n)))
 

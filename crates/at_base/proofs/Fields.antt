@@ -1,4 +1,5 @@
--- Fields: what is read was written so, what was written is read, and a fault is one of the field's.
+-- Fields: a value that is read has these bytes, a value that was written is read back, and a refusal is a fault of the
+-- field.
 use Rattle.std.proofs.Common.{◌≡◌, ℕ, ◌+◌, ◌*◌, ◌^◌, ◌<◌, ◌≤◌, ◌%◌, ◌⊎◌, Bool, true, false, cond, ltb, List, [], ◌∷◌, ◌++◌, length}
 use Rattle.std.proofs.Common.{get_or, take, drop, Option, Some, None, Result, Ok, Err, refl, sym, ap, subst, ◌∙◌, arith, inl, inr}
 use Rattle.std.specs.Int.{Width, w8, byte_len, from_be_bytes, to_be_bytes}
@@ -24,7 +25,7 @@ IsBytes-take n bytes h i =
       | inr le ↦ rw (get_or_past (take n bytes) i 0 (omega (arith, length-take n bytes))) (omega arith)
     ]
 
--- ---- tests that found nothing wrong
+-- ---- tests that find nothing wrong
 
 pub not_wrong : {W : Type 0} (b : Bool) (w : W) (o : Option W) → cond b (Some w) o ≡ None → (b ≡ false) × (o ≡ None)
 not_wrong true w o e = absurd cc
@@ -34,7 +35,7 @@ pub is_right : {W : Type 0} (b : Bool) (w : W) → cond b None (Some w) ≡ None
 is_right true w e = refl
 is_right false w e = absurd cc
 
--- ---- steps that may fail
+-- ---- steps that may be refused
 
 abbrev pub ok : {E A : Type 0} → A → Result A E
 ok x = Ok x
@@ -84,7 +85,7 @@ pub pass_err : {E A : Type 0} (b : Bool) (d f : E) (x : A) → cond b (Ok x) (Er
 pass_err true d f x e = absurd cc
 pass_err {A = A} false d f x e = (refl, sym (err_is {A = A} d f e))
 
--- ---- so many bytes
+-- ---- a given number of bytes
 
 pub bytes_take : {E : Type 0} (len : ℕ) (cut : E) (bytes : List ℕ) (x : List ℕ × List ℕ) → bytes_at cut len bytes ≡ Ok x
     → (bytes ≡ x.0 ++ x.1) × (length x.0 ≡ len) × (x ≡ (take len bytes, drop len bytes))
@@ -138,7 +139,7 @@ wide two = record {
 
 -- ---- fields
 
--- what was taken from the front
+-- the bytes are a front and the rest, and both are bytes
 pub record Took (bytes front rest : List ℕ) : Type 0 where
   pub parts : bytes ≡ front ++ rest
   pub rest_fits : IsBytes rest
@@ -200,7 +201,7 @@ field_fault r (run len wrong) bytes f fits e =
           inr (a.0.0, a.0.1, c.0, t.0, t.1, c.1, c.2)
     ]
 
--- where the field is at fault, reading it answers that fault
+-- where the field is at fault, reading returns that fault
 pub field_refused : {W E V : Type 0} (r : Refusals W E) (fd : Field W V) (bytes : List ℕ) (f : E) → FieldFault r fd bytes f
     → field_at r fd bytes ≡ Err f
 field_refused {V = V} r (number size wrong) bytes f (inl h) = rw (bytes_cut (byte_len (width size)) r.cut bytes h.0, h.1) refl

@@ -1,4 +1,4 @@
--- Where halving a list by rising starts ends: what a look at one item says of how many start below a number.
+-- Binary search in a list by rising starts: the start of one item bounds the number of items that start below a number.
 use Rattle.std.proofs.Common.{◌≡◌, ℕ, zero, suc, ◌<◌, ◌≤◌, Bool, true, false, cond, ◌&&◌, List, [], ◌∷◌, length, get_or}
 use Rattle.std.proofs.Common.{refl, arith, nat_lt}
 use Rattle.std.proofs.lemmas.Bool.{and_parts, ltb-true, lt-ltb}
@@ -26,7 +26,7 @@ each_over start_of low (a ∷ items) (suc i) d h less =
     let rest = each_over start_of (start_of a) items i d q.1 (omega (arith, less)) in
     omega (arith, ltb-true _ _ q.0, rest)
 
--- an item that starts below a number is one of the first that do
+-- an item that starts below the number is among the first `before_start` items
 pub before_over : {A : Type 0} (start_of : A → ℕ) (start low : ℕ) (items : List A) (i : ℕ) (d : A) → rise start_of low items ≡ true
     → i < length items → start_of (get_or items i d) < start → i < before_start start_of start items
 before_over start_of start low [] i d h less below = absurd (omega (arith, less))
@@ -38,7 +38,7 @@ before_over start_of start low (a ∷ items) (suc i) d h less below =
     let more = before_over start_of start (start_of a) items i d q.1 (omega (arith, less)) below in
     rw first (omega (arith, more))
 
--- and one that doesn't isn't
+-- an item that doesn't start below the number isn't among the first `before_start` items
 pub before_under : {A : Type 0} (start_of : A → ℕ) (start : ℕ) (items : List A) (i : ℕ) (d : A) → i < length items
     → start ≤ start_of (get_or items i d) → before_start start_of start items ≤ i
 before_under start_of start [] i d less over = absurd (omega (arith, less))

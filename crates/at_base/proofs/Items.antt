@@ -1,5 +1,5 @@
--- Lists of items, one after the other: what is read, what is read again, and which fault comes first, from the same
--- facts about one item.
+-- Lists of items, one after the other: reading, reading back what was written, and the first fault, from the same facts
+-- about one item.
 use Rattle.std.proofs.Common.{◌≡◌, ℕ, zero, suc, ◌≤◌, List, [], ◌∷◌, ◌++◌, length, Result, Ok, Err, refl, sym, ap, subst, ◌∙◌}
 use Rattle.std.proofs.Common.{append_assoc, inl, inr, arith}
 use Rattle.std.proofs.lemmas.List.{length-append}
@@ -15,9 +15,9 @@ Took-then a x b y c p q = record {
   rest_fits = q.rest_fits;
 }
 
--- ---- lists, by what holds of their items
+-- ---- lists, by facts about their items
 
--- how one item is read
+-- an item that is read has these bytes and passes
 abbrev pub Takes : {E B : Type 0} → (ℕ → List ℕ → Result (B × List ℕ) E) → (ℕ → B → List ℕ) → (ℕ → B → Type 0) → Type 0
 Takes {B = B} item spell passes = (low : ℕ) (bytes : List ℕ) (x : B × List ℕ) → IsBytes bytes → item low bytes ≡ Ok x → Took bytes
     (spell low x.0) x.1 × passes low x.0
@@ -110,7 +110,7 @@ many_takes {E} {B} item spell passes next one long low (suc most) (byte ∷ byte
     (ok_is {E = E} (a.0.0 ∷ b.0) xs b.2)
     (first.0.parts ∙ ap (λ (l : List ℕ). spell low a.0.0 ++ l) others.0, (first.1, others.1))
 
--- one turn, where there is a byte
+-- one step, where the input has a byte
 pub many_turn : {E B : Type 0} (item : ℕ → List ℕ → Result (B × List ℕ) E) (next : B → ℕ) (low most : ℕ) (bytes : List ℕ) → 1 ≤ length bytes
     → many_at item next low (suc most) bytes ≡ (item low bytes >>= λ x. many_at item next (next x.0) most x.1 >>= λ xs. Ok (x.0 ∷ xs))
 many_turn item next low most [] le = absurd (omega arith)
@@ -134,7 +134,7 @@ many_again item spell passes next one long low (suc most) (x ∷ xs) h le =
     many_turn item next low most (spell low x ++ list_bytes spell next (next x) xs) some
     ∙ rw (one low x (list_bytes spell next (next x) xs) h.0, many_again item spell passes next one long (next x) most xs h.1 fewer) refl
 
--- the first of the values that is at fault
+-- the first fault of items that go on to the end of the input
 abbrev pub ManyFault : {E B : Type 0} → (ℕ → List ℕ → E → Type 0) → (ℕ → B → List ℕ) → (ℕ → B → Type 0) → (B → ℕ) → ℕ → List ℕ → E → Type 0
 ManyFault {B = B} faulty spell passes next low bytes f =
     (v : List B) × (rest : List ℕ) × (bytes ≡ list_bytes spell next low v ++ rest) × ListPasses passes next low v ×
@@ -168,7 +168,7 @@ many_fault {E} item faulty spell passes next one bad low (suc most) (byte ∷ by
           ]
     ]
 
--- where an item is at fault, reading answers that fault
+-- where an item is at fault, reading the list returns that fault
 pub list_refused : {E B : Type 0} (item : ℕ → List ℕ → Result (B × List ℕ) E) (faulty : ℕ → List ℕ → E → Type 0)
     (spell : ℕ → B → List ℕ) (passes : ℕ → B → Type 0) (next : B → ℕ)
     → Again item spell passes
@@ -180,7 +180,7 @@ list_refused item faulty spell passes next one bad low (suc n) bytes f (inr (x, 
     let first : item low bytes ≡ Ok (x, rest) = rw parts (one low x rest p) in
     rw (first, list_refused item faulty spell passes next one bad (next x) n rest f h) refl
 
--- the same of items up to the end of the input, after some that pass
+-- where an item is at fault after some that pass, reading items up to the end of the input returns that fault
 pub many_refused : {E B : Type 0} (item : ℕ → List ℕ → Result (B × List ℕ) E) (spell : ℕ → B → List ℕ) (passes : ℕ → B → Type 0)
     (next : B → ℕ)
     → Again item spell passes → IsLong spell passes

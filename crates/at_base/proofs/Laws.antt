@@ -1,5 +1,5 @@
--- The laws of reading, for every format: what is read is spelled so; what is spelled so is read; a refusal is the first
--- fault, and where there is a fault, it is the answer.
+-- The laws of reading, for every format: a value that is read has these bytes; the bytes of a value are read back; a
+-- refusal is the first fault, and a first fault is the refusal.
 use Rattle.std.proofs.Common.{◌≡◌, ℕ, ◌≤◌, Bool, true, false, ltb, List, [], ◌++◌, length, None, Ok, Err, refl, sym, ap, subst, ◌∙◌}
 use Rattle.std.proofs.Common.{append_assoc, inl, inr, arith}
 use Rattle.std.proofs.lemmas.Bool.{ltb-true, ltb-false, lt-ltb, le-ltb}
@@ -27,7 +27,7 @@ has_value get v (many item next wrong other make) h y p = ap get (sym p.2) ∙ h
 nothing_fits : IsBytes []
 nothing_fits i = omega arith
 
--- what is read is spelled so
+-- a value that is read has these bytes
 pub read_takes : {W E : Type 0} {s : Bool} {A : Type 0} (r : Refusals W E) (g : Grammar W s A) → IsLawful g
     → (bytes : List ℕ) (x : A × List ℕ) → IsBytes bytes → read r g bytes ≡ Ok x → Took bytes (bytes_of g x.0) x.1 × IsValue g x.0
 read_takes {E = E} {s = s} {A = A} r (done y) lawful bytes x fits e =
@@ -87,7 +87,7 @@ follows_all (part g get after) y rest = follows_all (after (get y)) y rest
 follows_all (list item next n get after) y rest = follows_all (after (get y)) y rest
 follows_all (room n g) y rest = follows_all g y rest
 
--- what is left may stand there
+-- the bytes after a value that is read may follow it
 pub read_follows : {W E : Type 0} {s : Bool} {A : Type 0} (r : Refusals W E) (g : Grammar W s A) → IsLawful g
     → (bytes : List ℕ) (x : A × List ℕ) → IsBytes bytes → read r g bytes ≡ Ok x → Follows g x.0 x.1
 read_follows r (done y) lawful bytes x fits e = tt
@@ -126,7 +126,7 @@ read_follows {A = A} r (many item next wrong get make) lawful bytes x fits e =
     let c = checked_ok r bytes (wrong a.0) (make a.0, []) x a.2 in
     sym (ap (λ (z : A × List ℕ). z.1) c.1)
 
--- what is spelled so is read
+-- the bytes of a value are read back as the value
 pub read_again : {W E : Type 0} {s : Bool} {A : Type 0} (r : Refusals W E) (g : Grammar W s A) → IsLawful g → (y : A) (rest : List ℕ)
     → IsValue g y → Follows g y rest → read r g (bytes_of g y ++ rest) ≡ Ok (y, rest)
 read_again {E = E} {s = s} {A = A} r (done x) lawful y rest h f = ap (λ (z : A). Ok (z, rest)) h
@@ -212,7 +212,7 @@ read_fault r (many item next wrong get make) lawful bytes f fits e =
           inr (a.0, c.0, t.0, t.1, c.1, c.2)
     ]
 
--- where there is a fault, reading answers it
+-- where the bytes have a first fault, reading returns it
 pub read_refused : {W E : Type 0} {s : Bool} {A : Type 0} (r : Refusals W E) (g : Grammar W s A) → IsLawful g → (bytes : List ℕ) (f : E)
     → FirstFault r g bytes f → read r g bytes ≡ Err f
 read_refused r (done x) lawful bytes f h = absurd h
@@ -253,7 +253,7 @@ read_refused r (many item next wrong get make) lawful bytes f (inr (v, w, parts,
     (length (list_bytes (λ low. bytes_of (item low)) next 0 v)) v p (omega arith)) in
     rw (all, bad, is) refl
 
--- there is one first fault
+-- the bytes have at most one first fault
 pub one_fault : {W E : Type 0} {s : Bool} {A : Type 0} (r : Refusals W E) (g : Grammar W s A) → IsLawful g → (bytes : List ℕ) (e f : E)
     → FirstFault r g bytes e → FirstFault r g bytes f → f ≡ e
 one_fault {A = A} r g lawful bytes e f h k =

@@ -1,4 +1,4 @@
--- Reading items one after the other, as a loop does: what was read before, and what reading gives of the rest.
+-- Reading items in a loop: the items read so far, and the result of reading the rest.
 use Rattle.std.proofs.Common.{◌≡◌, ℕ, zero, suc, ◌-◌, ◌+◌, ◌≤◌, ◌<◌, List, [], ◌∷◌, ◌++◌, length, true, Result, Ok, Err, refl, sym, ap}
 use Rattle.std.proofs.Common.{◌∙◌, append_assoc, arith}
 use Rattle.std.proofs.lemmas.List.{append-nil, length-append}
@@ -10,11 +10,11 @@ use Rattle.at_base.proofs.Fields.{IsBytes, ok}
 use Rattle.at_base.proofs.Items.{many_turn}
 use Rattle.at_base.proofs.Laws.{read_takes}
 
--- how one item is read, by the number that the one before it leaves
+-- reads one item, given the number that the one before it leaves
 abbrev pub Reader : Type 0 → Type 0 → Type 0
 Reader E A = ℕ → List ℕ → Result (A × List ℕ) E
 
--- what was read before, and what is still read
+-- adds the items read before to the result of reading the rest
 abbrev with_front : {E A : Type 0} → List A → Result (List A × List ℕ) E → Result (List A × List ℕ) E
 with_front front reading = reading >>= λ x. Ok (front ++ x.0, x.1)
 
@@ -23,9 +23,9 @@ regroup : {E A : Type 0} (front : List A) (y : A) (reading : Result (List A × L
 regroup {E} {A} front y (Ok x) = ap (λ (ys : List A). ok {E = E} (ys, x.1)) (simp append_assoc)
 regroup front y (Err f) = refl
 
--- ---- a list of so many items
+-- ---- a list of a given number of items
 
--- The loop has read some items, so many are left, and reading them gives the whole.
+-- The loop has read some items and n are left; reading them gives the whole result.
 abbrev pub Stands : {E A : Type 0} → Reader E A → (A → ℕ) → ℕ → ℕ → List ℕ → Result (List A × List ℕ) E → Type 0
 Stands {A = A} item next low left bytes total = (front : List A) × (with_front front (list_at item next low left bytes) ≡ total)
 
@@ -74,7 +74,7 @@ regroup_all : {E A : Type 0} (front : List A) (y : A) (reading : Result (List A)
 regroup_all {E} front y (Ok xs) = ap (ok {E = E}) (simp append_assoc)
 regroup_all front y (Err f) = refl
 
--- The loop has read some items, and reading the rest of the input gives the whole.
+-- The loop has read some items; reading the rest of the input gives the whole result.
 abbrev pub StandsIn : {E A : Type 0} → Reader E A → (A → ℕ) → ℕ → List ℕ → Result (List A) E → Type 0
 StandsIn {A = A} item next low bytes total = (front : List A) × (most : ℕ) × (length bytes ≤ most) ×
     (with_all front (many_at item next low most bytes) ≡ total)
@@ -109,9 +109,9 @@ pub ends_in : {E A : Type 0} (item : Reader E A) (next : A → ℕ) (low : ℕ) 
 ends_in {E} item next low total (front, zero, le, so_far) = (front, sym so_far ∙ ap (ok {E = E}) (append-nil front))
 ends_in {E} item next low total (front, suc most, le, so_far) = (front, sym so_far ∙ ap (ok {E = E}) (append-nil front))
 
--- ---- what a lawful item takes
+-- ---- the bytes of a lawful item
 
--- an item that takes a byte leaves less
+-- after an item of at least one byte, less input is left
 pub shorter_after : {W E A : Type 0} (r : Refusals W E) (g : Grammar W true A) → IsLawful g
     → ((x : A) → IsValue g x → 1 ≤ length (bytes_of g x)) → (bytes : List ℕ) (x : A) (after : List ℕ)
     → IsBytes bytes → read r g bytes ≡ Ok (x, after) → length after < length bytes
@@ -121,26 +121,26 @@ shorter_after r g lawful long bytes x after fits e =
     let len : length bytes ≡ length (bytes_of g x ++ after) = ap (λ (b : List ℕ). length b) t.0.parts in
     omega (arith, length-append (bytes_of g x) after)
 
--- what is left are bytes
+-- the rest of the input after an item is bytes
 pub rest_is_bytes : {W E A : Type 0} (r : Refusals W E) (g : Grammar W true A) → IsLawful g → (bytes : List ℕ) (x : A) (after : List ℕ)
     → IsBytes bytes → read r g bytes ≡ Ok (x, after) → IsBytes after
 rest_is_bytes r g lawful bytes x after fits e = (read_takes r g lawful bytes (x, after) fits e).0.rest_fits
 
--- ---- Items one by one, of an input that is known to be read
+-- ---- items one by one, of an input that is known to be read
 
--- an item that is read leaves less, and bytes
+-- after an item that is read, less input is left, and it is bytes
 abbrev pub Shrinks : {E A : Type 0} → Reader E A → Type 0
 Shrinks {E} {A} item =
     (low : ℕ) (bytes : List ℕ) (x : A) (after : List ℕ) → IsBytes bytes → item low bytes ≡ Ok (x, after) →
     (length after < length bytes) × IsBytes after
 
--- items that take a byte at least shrink the input
+-- items of at least one byte each shrink the input
 pub lawful_shrinks : {W E A : Type 0} (r : Refusals W E) (g : ℕ → Grammar W true A) → ((low : ℕ) → IsLawful (g low))
     → ((low : ℕ) (x : A) → IsValue (g low) x → 1 ≤ length (bytes_of (g low) x)) → Shrinks (λ low. read r (g low))
 lawful_shrinks r g lawful long low bytes x after fits e =
     (shorter_after r (g low) (lawful low) (long low) bytes x after fits e, rest_is_bytes r (g low) (lawful low) bytes x after fits e)
 
--- how many items there may be makes no difference, where it is enough
+-- the bound on the number of items makes no difference, where it is high enough
 pub same_fuel : {E A : Type 0} (item : Reader E A) (next : A → ℕ) → Shrinks item → (low m n : ℕ) (bytes : List ℕ) → IsBytes bytes
     → length bytes ≤ m → length bytes ≤ n → many_at item next low m bytes ≡ many_at item next low n bytes
 same_fuel item next shrinks low zero zero bytes fits le lf = refl
@@ -158,7 +158,7 @@ same_fuel {E} {A} item next shrinks low (suc m) (suc n) (b ∷ bytes) fits le lf
       | Err f ↦ λ e. rw e refl
     ]) refl
 
--- the items that the input is, and what follows the first of them
+-- the items of the input are its first item and those of the rest
 pub first_of : {E A : Type 0} (item : Reader E A) (next : A → ℕ) → Shrinks item → (low : ℕ) (bytes : List ℕ) (x : A) (after : List ℕ)
     → IsBytes bytes → item low bytes ≡ Ok (x, after)
     → many_at item next low (length bytes) bytes ≡ (many_at item next (next x) (length after) after >>= λ xs. Ok (x ∷ xs))
@@ -169,7 +169,7 @@ first_of item next shrinks low bytes x after fits e =
     rw n (many_turn item next low (length bytes - 1) bytes some ∙ rw
     (e, same_fuel item next shrinks (next x) (length bytes - 1) (length after) after s.1 (omega (arith, s.0)) (omega arith)) refl)
 
--- an item that isn't read is the answer of all
+-- where the first item is refused, reading all items returns that refusal
 pub refused_first : {E A : Type 0} (item : Reader E A) (next : A → ℕ) (low : ℕ) (bytes : List ℕ) (e : E) → 1 ≤ length bytes
     → item low bytes ≡ Err e → many_at item next low (length bytes) bytes ≡ Err e
 refused_first item next low bytes e some h =

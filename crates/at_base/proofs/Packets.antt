@@ -1,4 +1,4 @@
--- The fields of packets are lawful: each part stands where its projection finds it.
+-- The fields of packets are lawful: each projection gives its part.
 use Rattle.std.proofs.Common.{◌≡◌, ℕ, ◌≤◌, Bool, true, false, cond, eqb, List, length, Option, Some, None, Ok, refl, sym}
 use Rattle.std.specs.Prelude.{nat_lt}
 use Rattle.std.proofs.lemmas.Bool.{eqb-true, ltb-false}
@@ -11,7 +11,7 @@ use Rattle.at_base.specs.Reading.{read}
 use Rattle.at_base.proofs.Fields.{IsBytes, not_wrong}
 use Rattle.at_base.proofs.Laws.{read_takes}
 
--- a value that passes is that value
+-- a value that passes the test of one value is that value
 pub only_is : (value : ℕ) (what : Field) (n : ℕ) → only value what n ≡ None → value ≡ n
 only_is value what n e = sym (eqb-true _ _ (passed (eqb n value) (BadField what) e))
   where
@@ -27,7 +27,7 @@ pub address_lawful : IsLawful address
 unfolding address
 address_lawful = λ net p. (λ node q. refl, λ node q. (refl, tt))
 
--- a text that is read has so many bytes
+-- a text that is read has at most 32 bytes, and at least the least
 pub text_short : (least : ℕ) (bytes s rest : List ℕ) → IsBytes bytes → read packets (text least any) bytes ≡ Ok (s, rest)
     → (least ≤ length s) × (length s ≤ 32)
 unfolding text

@@ -1,4 +1,4 @@
--- Whole readers: from what reading gives, what a reader promises of its answer.
+-- Contracts of whole readers, from the result of reading.
 use Rattle.std.proofs.Common.{◌≡◌, ℕ, Bool, true, List, ◌++◌, Ok, Err, sym, ap, ◌∙◌}
 use Rattle.at_base.specs.Grammar.{Grammar, Refusals}
 use Rattle.at_base.specs.Spelling.{Spells, Begins}
@@ -12,7 +12,7 @@ pub begins_read : {W E : Type 0} {s : Bool} {A : Type 0} (r : Refusals W E) (g :
     → (b : Begins g bytes z) → read r g bytes ≡ Ok (z, b.0)
 begins_read r g lawful bytes z (rest, parts, h, f) = rw parts (read_again r g lawful z rest h f)
 
--- an input begins with one value
+-- an input begins with at most one value
 pub begins_one : {W E : Type 0} {s : Bool} {A : Type 0} (r : Refusals W E) (g : Grammar W s A) → IsLawful g → (bytes : List ℕ) (y z : A)
     → Begins g bytes y → Begins g bytes z → z ≡ y
 begins_one {E = E} {A = A} r g lawful bytes y z b c =

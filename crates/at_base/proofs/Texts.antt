@@ -1,4 +1,4 @@
--- Texts compared as a test, and as a fact.
+-- Comparison of texts as a test, and as a fact.
 use Rattle.std.proofs.Common.{◌≡◌, ℕ, Bool, true, false, ◌&&◌, eqb, List, [], ◌∷◌, map, refl, sym, ap, ◌∙◌, eqb-true, eq-eqb}
 use Rattle.std.specs.Prelude.{IsTrue, ◌↔◌, fold, length, replicate, take, ◌++◌, ◌-◌}
 use Rattle.std.proofs.lemmas.List.{length-map, map-append, take-map}
@@ -28,7 +28,7 @@ same_name_is a b e = same_bytes_is _ _ e
 pub is_same_name : (a b : List ℕ) → SameName a b → same_name a b ≡ true
 is_same_name a b e = ap (same_bytes (map to_ascii_lowercase a)) (sym e) ∙ same_bytes_self (map to_ascii_lowercase a)
 
--- what says whether two names are the same is the test
+-- a flag that is true for equal names, ignoring case, is the test
 pub test_is : (b : Bool) (x y : List ℕ) → (IsTrue b ↔ SameName x y) → b ≡ same_name x y
 test_is true x y h = sym (is_same_name x y (h.0 refl))
 test_is false x y h =
@@ -37,9 +37,9 @@ test_is false x y h =
       | false ↦ λ e. refl
     ] refl
 
--- ---- Texts that are padded to one length
+-- ---- texts padded to one length
 
--- texts that are the same are as long as each other
+-- texts that are equal, ignoring case, have one length
 pub same_lengths : (a b : List ℕ) → SameName a b → length a ≡ length b
 same_lengths a b e = sym (length-map a to_ascii_lowercase) ∙ (ap length e ∙ length-map b to_ascii_lowercase)
 
@@ -51,7 +51,7 @@ padded_alike a b e =
     ∙ (ap (λ n. map to_ascii_lowercase b ++ map to_ascii_lowercase (rest n)) (same_lengths a b e)
     ∙ sym (map-append to_ascii_lowercase b (rest (length b)))))
 
--- two texts of one length in padded arrays are the same where the arrays are
+-- two texts of one length in padded arrays are equal, ignoring case, if the arrays are
 pub same_in_place : (n m : ℕ) (xs ys a b : List ℕ) → take n xs ≡ a → take m ys ≡ b → n ≡ m → xs ≡ padded (take n xs)
     → ys ≡ padded (take m ys) → (map to_ascii_lowercase xs ≡ map to_ascii_lowercase ys) ↔ SameName a b
 same_in_place n m xs ys a b is_a is_b same padded_xs padded_ys = (
@@ -71,12 +71,12 @@ and_true : (a : Bool) → a ≡ (a && true)
 and_true true = refl
 and_true false = refl
 
--- a test of all bytes that never stops early
+-- a test of all bytes that doesn't stop early
 pub fold_and : (p : ℕ → Bool) (good : Bool) (bytes : List ℕ) → fold (λ g b. g && p b) good bytes ≡ (good && list_all p bytes)
 fold_and p good [] = and_true good
 fold_and p good (b ∷ bytes) = fold_and p (good && p b) bytes ∙ and_assoc good (p b) (list_all p bytes)
 
--- ---- Names that are the same but for case are one key
+-- ---- names that differ only in case are one key
 
 pub same_name_symm : (x y : List ℕ) → same_name x y ≡ same_name y x
 same_name_symm x y = test_is (same_name x y) y x (λ t. sym (same_name_is x y t), λ e. is_same_name x y (sym e))

@@ -2,7 +2,7 @@
 use Rattle.std.specs.Prelude.{Bool, ◌==◌, ◌&&◌}
 use Rattle.at_base.specs.declared.address.Addr.{Addr}
 
--- the two are one address
+-- the addresses are equal
 abbrev pub same_address : Addr → Addr → Bool
 same_address a b = a.net == b.net && a.node == b.node
 

@@ -1,23 +1,23 @@
--- The first fault of an input, from the left: whole fields that pass their tests, and then one that isn't whole or
--- breaks its test.
+-- The first fault of an input, from the left: whole fields that pass their tests, then one that isn't whole or fails
+-- its test.
 use Rattle.std.specs.Prelude.{◌≡◌, ℕ, zero, suc, ◌<◌, ◌≤◌, Bool, ◌⊎◌, List, [], ◌∷◌, ◌++◌, length, Some}
 use Rattle.std.specs.Int.{byte_len}
 use Rattle.at_base.specs.Grammar.{width, Field, number, run, Grammar, done, field, part, list, room, limit, many, Refusals}
 use Rattle.at_base.specs.Spelling.{field_bytes, Fits, wrong_with, Passes, list_bytes, bytes_of, ListPasses, IsValue}
 
--- how many bytes the field takes
+-- the number of bytes of the field
 abbrev pub field_len : {W V : Type 0} → Field W V → ℕ
 field_len (number size wrong) = byte_len (width size)
 field_len (run len wrong) = len
 
--- the field with which the bytes begin isn't whole, or breaks its test
+-- the bytes begin with a field that isn't whole or fails its test, and f is its refusal
 abbrev pub FieldFault : {W E V : Type 0} → Refusals W E → Field W V → List ℕ → E → Type 0
 FieldFault {W} {E} {V} r fd bytes f =
     ((length bytes < field_len fd) × (f ≡ r.cut))
     ⊎ ((v : V) × (rest : List ℕ) × (w : W) × (bytes ≡ field_bytes fd v ++ rest) × Fits fd v × (wrong_with fd v ≡ Some w) ×
     (f ≡ r.placed (length bytes) w))
 
--- items that pass, and then one at fault
+-- f is the refusal of one of n items, and the items before it pass
 abbrev pub ListFault : {E B : Type 0} → (ℕ → List ℕ → E → Type 0) → (ℕ → B → List ℕ) → (ℕ → B → Type 0) → (B → ℕ) → ℕ → ℕ → List ℕ → E
     → Type 0
 ListFault faulty spell passes next low zero bytes f = ⊥
@@ -25,12 +25,12 @@ ListFault {B = B} faulty spell passes next low (suc n) bytes f =
     faulty low bytes f
     ⊎ ((x : B) × (rest : List ℕ) × (bytes ≡ spell low x ++ rest) × passes low x × ListFault faulty spell passes next (next x) n rest f)
 
--- the number that the last of the items leaves
+-- the number that the last of the items gives to the next item
 abbrev pub low_after : {B : Type 0} → (B → ℕ) → ℕ → List B → ℕ
 low_after next low [] = low
 low_after next low (x ∷ xs) = low_after next (next x) xs
 
--- the first fault of the bytes by the format
+-- f is the first fault of the bytes, read by the format
 abbrev pub FirstFault : {W E : Type 0} {s : Bool} {A : Type 0} → Refusals W E → Grammar W s A → List ℕ → E → Type 0
 FirstFault r (done x) bytes f = ⊥
 FirstFault r (field {V = V} fd get after) bytes f =

@@ -1,10 +1,10 @@
--- Formats as data: a format is a tree of fields, each of which has a test of its own, and what follows a field may
--- depend on its value. What the bytes of a value are, which fault comes first and what reading gives is said in the
--- modules beside this one, once for every format.
+-- Formats as data. A format is a tree of fields, each with its test; the fields after a field may depend on its value.
+-- Other modules say once, for every format, which bytes a value has (Spelling), which fault comes first (FirstFault)
+-- and what reading gives (Reading).
 use Rattle.std.specs.Prelude.{ℕ, Bool, true, false, List, Option}
 use Rattle.std.specs.Int.{Width, w8, w16}
 
--- how many bytes a number takes
+-- the size of a number, in bytes
 pub data Size : Type 0 where
   one : Size
   two : Size
@@ -14,31 +14,33 @@ abbrev pub width : Size → Width
 width one = w8
 width two = w16
 
--- A big-endian number, or a run of so many bytes, each with its test: what is wrong with the value, if anything is.
+-- A field: a big-endian number, or a run of a given number of bytes. The test of each gives what is wrong with its
+-- value, if anything is.
 pub data Field (W : Type 0) : Type 0 → Type 1 where
   number : Size → (ℕ → Option W) → Field W ℕ
   run : ℕ → (List ℕ → Option W) → Field W (List ℕ)
 
--- A format of the values of A. Its Bool says whether it knows its own end (true), or may go on to the end of the input
--- (false). W is what is wrong with a field. Beside each part stands the projection that finds it in the value.
+-- A format of the values of A. Its Bool is true if the format knows its own end, false if it may go on to the end of
+-- the input. W describes what is wrong with a field. Each part comes with the projection that gets it from the value.
 pub data Grammar (W : Type 0) : Bool → Type 0 → Type 1 where
-  -- nothing more: the value is this one
+  -- the end of the format, with its value
   done : {s : Bool} {A : Type 0} → A → Grammar W s A
-  -- a field, and what follows it
+  -- a field, and the format after it
   field : {s : Bool} {A V : Type 0} → Field W V → (A → V) → (V → Grammar W s A) → Grammar W s A
-  -- a whole format, and what follows it
+  -- a whole format, and the format after it
   part : {s : Bool} {A B : Type 0} → Grammar W true B → (A → B) → (B → Grammar W s A) → Grammar W s A
-  -- so many items, each of which may look at a number that the one before it leaves, and what follows them
+  -- a given number of items, each of which may depend on a number that the one before it gives, and the format after
+  -- them
   list : {s : Bool} {A B : Type 0} → (ℕ → Grammar W true B) → (B → ℕ) → ℕ → (A → List B) → (List B → Grammar W s A) → Grammar W s A
-  -- a format before which so many bytes must be there
+  -- a format that needs at least this many bytes of input at its start
   room : {s : Bool} {A : Type 0} → ℕ → Grammar W s A → Grammar W s A
-  -- a format before which at most so many bytes may be left, or else this is wrong
+  -- a format that allows at most this many bytes of input at its start; with more, this is wrong
   limit : {A : Type 0} → ℕ → W → Grammar W false A → Grammar W false A
-  -- items up to the end of the input, with a test over all of them, and the value that they make
+  -- items up to the end of the input, a test of all of them together, and the value made of them
   many : {A B : Type 0} → (ℕ → Grammar W true B) → (B → ℕ) → (List B → Option W) → (A → List B) → (List B → A) → Grammar W false A
 
--- What a refusal is: one where the input ends within a field, and one for what is wrong with a field that has so many
--- bytes of the input from its first one on.
+-- The refusals of a reader: `cut` where the input ends within a field, and `placed` for a wrong field, given the number
+-- of input bytes left from the field's first byte on.
 pub record Refusals (W E : Type 0) : Type 0 where
   pub cut : E
   pub placed : ℕ → W → E

@@ -1,9 +1,9 @@
--- Formats whose parts stand where their projections find them: the formats that the laws of reading are about.
+-- The formats that the laws of reading are about: each projection gives the part that it belongs to.
 use Rattle.std.specs.Prelude.{◌≡◌, ◌≤◌, ℕ, Bool, List, length}
 use Rattle.at_base.specs.Grammar.{Grammar, done, field, part, list, room, limit, many}
 use Rattle.at_base.specs.Spelling.{Passes, IsValue, bytes_of}
 
--- the projection gives v of each value of the format
+-- the projection gives v for each value of the format
 abbrev pub Has : {W : Type 0} {s : Bool} {A V : Type 0} → (A → V) → V → Grammar W s A → Type 0
 Has get v (done x) = get x ≡ v
 Has get v (field {V = X} fd other after) = (w : X) → Passes fd w → Has get v (after w)
@@ -13,7 +13,8 @@ Has get v (room n g) = Has get v g
 Has get v (limit n over g) = Has get v g
 Has get v (many {B = B} item next wrong other make) = (w : List B) → get (make w) ≡ v
 
--- each part stands where its projection finds it, the bytes that must be there are, and each item takes a byte
+-- each projection gives its part, `room` asks for no more bytes than a value has, and each item of `many` has at least
+-- one byte
 abbrev pub IsLawful : {W : Type 0} {s : Bool} {A : Type 0} → Grammar W s A → Type 0
 IsLawful (done x) = Unit {0}
 IsLawful (field {V = V} fd get after) = (v : V) → Passes fd v → Has get v (after v) × IsLawful (after v)

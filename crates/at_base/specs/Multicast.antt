@@ -6,7 +6,7 @@ use Rattle.at_base.specs.Checksum.{sum_of}
 use Rattle.at_base.specs.Text.{same_bytes}
 use Rattle.at_base.specs.declared.address.Hw.{Hw}
 
--- the group that hears a zone: names that differ in case have one group
+-- the group of stations that hears a zone; names that differ only in case have one group
 abbrev pub group_of : List ℕ → ℕ
 group_of zone = sum_of (map to_ascii_uppercase zone) % 253
 
@@ -18,14 +18,14 @@ all_hw = record { 0 = 9 ∷ 0 ∷ 7 ∷ 255 ∷ 255 ∷ 255 ∷ [] }
 abbrev pub group_hw : ℕ → Hw
 group_hw group = record { 0 = 9 ∷ 0 ∷ 7 ∷ 0 ∷ 0 ∷ group ∷ [] }
 
--- it is the hardware address of every station of a cable
+-- the address is that of every station of a cable
 abbrev pub is_all : Hw → Bool
 is_all to = same_bytes to.0 (9 ∷ 0 ∷ 7 ∷ 255 ∷ 255 ∷ 255 ∷ [])
 
--- it is the hardware address of one of the 253 groups
+-- the address is that of one of the 253 groups
 abbrev pub is_group : Hw → Bool
 is_group to = same_bytes (take 5 to.0) (9 ∷ 0 ∷ 7 ∷ 0 ∷ 0 ∷ []) && nat_lt (slice_index to.0 5) 253
 
--- the group whose hardware address it is
+-- the group whose hardware address this is, if it is one's
 abbrev pub group_in : Hw → Option ℕ
 group_in to = if is_group to then Some (slice_index to.0 5) else None

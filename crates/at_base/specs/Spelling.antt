@@ -1,4 +1,4 @@
--- The bytes of a value, and which values a format has.
+-- The bytes of a value, and the values that a format has.
 use Rattle.std.specs.Prelude.{◌≡◌, ℕ, ◌<◌, ◌≤◌, ◌^◌, ◌*◌, Bool, List, [], ◌∷◌, ◌++◌, length, Option, None}
 use Rattle.std.specs.Int.{byte_len, to_be_bytes}
 use Rattle.at_base.specs.Grammar.{width, Field, number, run, Grammar, done, field, part, list, room, limit, many}
@@ -13,16 +13,16 @@ abbrev pub Fits : {W V : Type 0} → Field W V → V → Type 0
 Fits (number size wrong) n = n < 2 ^ (8 * byte_len (width size))
 Fits (run len wrong) s = length s ≡ len
 
--- what is wrong with a value of the field, if anything is
+-- the field's test: what is wrong with a value, if anything is
 abbrev pub wrong_with : {W V : Type 0} → Field W V → V → Option W
 wrong_with (number size wrong) = wrong
 wrong_with (run len wrong) = wrong
 
--- the field may have this value
+-- the value fits the field and passes its test
 abbrev pub Passes : {W V : Type 0} → Field W V → V → Type 0
 Passes fd v = Fits fd v × (wrong_with fd v ≡ None)
 
--- the bytes of items, each by the number that the one before it leaves
+-- the bytes of items, where each item gives a number to the next one
 abbrev pub list_bytes : {B : Type 0} → (ℕ → B → List ℕ) → (B → ℕ) → ℕ → List B → List ℕ
 list_bytes bytes next low [] = []
 list_bytes bytes next low (x ∷ xs) = bytes low x ++ list_bytes bytes next (next x) xs
@@ -37,7 +37,7 @@ bytes_of (room n g) y = bytes_of g y
 bytes_of (limit n over g) y = bytes_of g y
 bytes_of (many item next wrong get make) y = list_bytes (λ low. bytes_of (item low)) next 0 (get y)
 
--- each item passes, by the number that the one before it leaves
+-- each item passes, where each item gives a number to the next one
 abbrev pub ListPasses : {B : Type 0} → (ℕ → B → Type 0) → (B → ℕ) → ℕ → List B → Type 0
 ListPasses passes next low [] = Unit {0}
 ListPasses passes next low (x ∷ xs) = passes low x × ListPasses passes next (next x) xs
@@ -54,12 +54,12 @@ IsValue (limit n over g) y = IsValue g y
 IsValue (many item next wrong get make) y =
     ListPasses (λ low. IsValue (item low)) next 0 (get y) × (wrong (get y) ≡ None) × (make (get y) ≡ y)
 
--- the bytes are those of a value of the format
+-- y is a value of the format, and these are its bytes
 abbrev pub Spells : {W : Type 0} {s : Bool} {A : Type 0} → Grammar W s A → List ℕ → A → Type 0
 Spells g bytes y = IsValue g y × (bytes ≡ bytes_of g y)
 
--- what may follow the bytes of the value: nothing where its items went on to the end, and else anything that
--- leaves the input short enough
+-- the bytes that may follow a value: none after items that go on to the end, else any that keep the input within its
+-- limits
 abbrev pub Follows : {W : Type 0} {s : Bool} {A : Type 0} → Grammar W s A → A → List ℕ → Type 0
 Follows (done x) y rest = Unit {0}
 Follows (field fd get after) y rest = Follows (after (get y)) y rest

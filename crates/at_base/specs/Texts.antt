@@ -1,4 +1,4 @@
--- How addresses, ranges and places are printed.
+-- The printed form of addresses, ranges and places.
 use Rattle.std.specs.Prelude.{ℕ, List, ◌++◌, codes}
 use Rattle.std.specs.Fmt.{decimal}
 use Rattle.at_base.specs.Range.{Span}
@@ -14,7 +14,7 @@ address_text a = decimal a.net ++ codes "." ++ decimal a.node
 abbrev pub range_text : Span → List ℕ
 range_text s = decimal s.start ++ codes "-" ++ decimal s.end
 
--- the place where a rule is broken
+-- the place where a rule is broken, as `router 1 row 3`
 abbrev pub place_text : Place → List ℕ
 place_text (Cable k) = codes "cable " ++ decimal k
 place_text (Port r p) = codes "router " ++ decimal r ++ codes " port " ++ decimal p

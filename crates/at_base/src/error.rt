@@ -1,4 +1,4 @@
-//! What a call refuses, and why.
+//! The errors of calls, and their parts.
 
 ghost use Rattle.std.specs.Prelude.{◌≡◌};
 ghost use Rattle.at_base.specs.ErrorNumber.{number_of};
@@ -8,7 +8,7 @@ use std::alloc::{AllocError, AllocFailed};
 use std::fmt;
 use thiserror::Error as ErrorImpls;
 
-/// What a call was asked for and doesn't exist.
+/// The kind of thing that a call named and that doesn't exist.
 #[derive(Clone, Copy, Debug, PartialEq, Eq)]
 pub enum What {
     Cable,
@@ -19,7 +19,8 @@ pub enum What {
     Transaction,
 }
 
-/// A field of a packet whose value is outside its range, or a name that is taken already.
+/// A field of a packet whose value is outside its range, or (`Taken`) a name that is registered
+/// already.
 #[derive(Clone, Copy, Debug, PartialEq, Eq)]
 pub enum Field {
     HardwareType,
@@ -36,22 +37,22 @@ pub enum Field {
     Taken,
 }
 
-/// What is wrong with an image.
+/// The cause of a flaw in an image.
 #[derive(Clone, Copy, Debug, PartialEq, Eq)]
 pub enum Cause {
     /// The input ends within a field.
     Cut,
     /// The first four bytes aren't `ATIM`.
     Magic,
-    /// The version is another than 1.
+    /// The version isn't 1.
     Version,
-    /// A list is longer than an image may have it.
+    /// A list is longer than its limit.
     Count,
     /// The index of a cable or a port isn't below the length of its list.
     Index,
     /// A distance, state, flag, socket or enumerator is outside its range.
     Value,
-    /// A text is no zone name, object or type.
+    /// A text isn't a valid zone name, object or type.
     Name,
     /// A start or an enumerator isn't above the one before it.
     Order,
@@ -71,12 +72,12 @@ pub enum Part {
     Action,
 }
 
-/// Where a rule is broken. All numbers count from 1, in the order of the image.
+/// The place where a rule is broken. All numbers count from 1, in the order of the image.
 #[derive(Clone, Copy, Debug, PartialEq, Eq)]
 pub enum Place {
     /// A cable.
     Cable(u32),
-    /// A router, and a port of it.
+    /// A router, and one of its ports.
     Port(u32, u32),
     /// A node.
     Node(u32),
@@ -84,11 +85,11 @@ pub enum Place {
     Row(u32, u32),
     /// A router, and a cable for which it has no row or no zone list.
     Missing(u32, u32),
-    /// A router, and a zone list of it.
+    /// A router, and one of its zone lists.
     List(u32, u32),
 }
 
-/// The place as the verdict line has it, as `router 1 row 3`.
+/// The place as the verdict line prints it, as `router 1 row 3`.
 impl fmt::Display for Place {
     ghost use Rattle.std.specs.Prelude.{Some};
     ghost use Rattle.at_base.specs.Texts.{place_text};
@@ -110,13 +111,13 @@ impl fmt::Display for Place {
 /// The first rule that is broken, and the first place that breaks it.
 #[derive(Clone, Copy, Debug, PartialEq, Eq)]
 pub struct Fault {
-    /// The number of the rule, as in C1: 1 to 9.
+    /// The number of the rule: 1 to 9, as in C1.
     pub rule: u8,
     pub place: Place,
 }
 
-/// Why a call refuses. Its documentation names the errors of each call, in the order in which it
-/// looks for them.
+/// Why a call fails. Each call's documentation names its errors in the order in which the call
+/// checks for them.
 #[derive(Clone, Copy, Debug, PartialEq, Eq, ErrorImpls)]
 pub enum Error {
     #[error("truncated")]

@@ -1,8 +1,6 @@
-//! Fields at the front of packets. Each function gives a field's value and the bytes after it, or
-//! the
-//! error of the packet's reader: `Truncated` where the input ends within the field, `BadField`
-//! where
-//! its value is wrong.
+//! Fields at the front of packets. Each function returns a field's value and the bytes after it, or
+//! the error of the packet's reader: `Truncated` where the input ends within the field, `BadField`
+//! where its value is wrong.
 
 ghost use Rattle.std.specs.Prelude.{◌≡◌, ◌≤◌, length};
 ghost use Rattle.at_base.specs.Grammar.{number, run, one, two};
@@ -42,7 +40,7 @@ pub fn byte_within(bytes: &[u8], least: u8, most: u8, what: Field) -> Result<(u8
     Ok((byte, rest))
 }
 
-/// A byte that has one value alone.
+/// A byte that may have only one value.
 pub fn byte_only(bytes: &[u8], value: u8, what: Field) -> Result<(u8, &[u8]), Error>
     ensures { Gives (λ x. (x.0, x.1.now)) result
         (field_at packets (number one (only value what)) bytes.now) }
@@ -74,7 +72,7 @@ pub fn u16_within(bytes: &[u8], least: u16, most: u16, what: Field) -> Result<(u
     Ok((number, rest))
 }
 
-/// A big-endian number of two bytes that has one value alone.
+/// A big-endian number of two bytes that may have only one value.
 pub fn u16_only(bytes: &[u8], value: u16, what: Field) -> Result<(u16, &[u8]), Error>
     ensures { Gives (λ x. (x.0, x.1.now)) result
         (field_at packets (number two (only value what)) bytes.now) }
@@ -86,7 +84,7 @@ pub fn u16_only(bytes: &[u8], value: u16, what: Field) -> Result<(u16, &[u8]), E
     Ok((number, rest))
 }
 
-/// So many bytes, in place.
+/// The first `len` bytes, in place.
 pub fn run_at(bytes: &[u8], len: usize) -> Result<(&[u8], &[u8]), Error>
     ensures { Gives (λ x. (x.0.now, x.1.now)) result (field_at packets (run len any) bytes.now) }
 {
@@ -113,7 +111,7 @@ pub fn address_at(bytes: &[u8]) -> Result<(Addr, &[u8]), Error>
     Ok((Addr { net, node }, rest))
 }
 
-/// A text after its length, in place: from `least` to 32 bytes.
+/// A length-prefixed text of `least` to 32 bytes, in place.
 #[tactic(auto, unfolding(crate::specs::Packets::text))]
 pub fn text_at(bytes: &[u8], least: u8) -> Result<(&[u8], &[u8]), Error>
     ensures { Gives (λ x. (x.0.now, x.1.now)) result (read packets (text least any) bytes.now) }

@@ -1,8 +1,7 @@
 -- What a transaction keeps is what came: which parts are missing, and the first copy of each of the others.
 use Rattle.std.proofs.Common.{◌≡◌, ℕ, zero, suc, ◌+◌, ◌<◌, ◌≤◌, ◌-◌, ◌/◌, ◌%◌, ◌*◌, ◌==◌, ◌&&◌, ◌↔◌}
 use Rattle.std.proofs.Common.{Bool, true, false, cond, not, eqb, ltb, min, List, [], ◌∷◌, ◌++◌, length, map}
-use Rattle.std.proofs.Common.{Option, Some, None, is_some, get_or, slice_get, filter_map, refl, sym, ap, subst, ◌∙◌}
-use Rattle.std.proofs.Common.{inl, inr, arith}
+use Rattle.std.proofs.Common.{None, Option, Some, ap, arith, filter_map, get_or, inl, inr, is_some, refl, slice_get, subst, sym, ◌∙◌}
 use Rattle.std.specs.List.{list_any}
 use Rattle.std.specs.Option.{option_map, option_or}
 use Rattle.std.proofs.lemmas.Bool.{and_parts, or_parts, cases_eq, ltb-true, lt-ltb, eqb-true}

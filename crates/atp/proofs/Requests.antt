@@ -1,8 +1,6 @@
 -- What each call of a responder leaves of its requests: few of each kind, apart, and each within its time.
-use Rattle.std.proofs.Common.{◌≡◌, ℕ, suc, ◌+◌, ◌-◌, ◌<◌, ◌≤◌, ◌^◌, ◌%◌, ◌*◌, ◌&&◌}
-use Rattle.std.proofs.Common.{Bool, true, false, cond, not, eqb, nat_le, min, is_some}
-use Rattle.std.proofs.Common.{List, [], ◌∷◌, ◌++◌, length, map, filter, Some, None, Result, Ok, Err, ◌↔◌}
-use Rattle.std.proofs.Common.{refl, ap, ◌∙◌, arith}
+use Rattle.std.proofs.Common.{Bool, cond, eqb, false, is_some, min, nat_le, not, suc, true, ℕ, ◌%◌, ◌&&◌, ◌*◌, ◌+◌, ◌-◌, ◌<◌, ◌^◌, ◌≡◌, ◌≤◌}
+use Rattle.std.proofs.Common.{Err, List, None, Ok, Result, Some, [], ap, arith, filter, length, map, refl, ◌++◌, ◌↔◌, ◌∙◌, ◌∷◌}
 use Rattle.std.specs.List.{list_all, list_any, find}
 use Rattle.std.specs.Option.{IfSome}
 use Rattle.std.specs.Result.{IfOk, OnErr}

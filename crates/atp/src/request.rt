@@ -3,8 +3,7 @@
 ghost use Rattle.std.specs.Prelude.{◌≡◌, is_some, IfOk, IsOkUnless};
 ghost use Rattle.atp.specs.InPlace.{packet_value};
 ghost use Rattle.atp.specs.Responding as spec;
-ghost use Rattle.atp.specs.Responding.{new_request};
-ghost use Rattle.atp.specs.Responding.{older, repeated, same_peer, with_answer};
+ghost use Rattle.atp.specs.Responding.{new_request, older, repeated, same_peer, with_answer};
 
 use crate::answer::Answer;
 use crate::ask::Peer;

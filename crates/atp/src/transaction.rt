@@ -8,12 +8,9 @@ ghost use Rattle.atp.specs.Bitmaps as bitmaps_spec;
 ghost use Rattle.atp.specs.InPlace.{packet_value};
 ghost use Rattle.atp.specs.Packets as packets_spec;
 ghost use Rattle.atp.specs.Requesting as requesting_spec;
-ghost use Rattle.atp.specs.Requesting.{IsAsk, begun};
-ghost use Rattle.atp.specs.Requesting.{request_control, request_of, sent, ticked};
-ghost use Rattle.atp.specs.Requesting.{cut};
-ghost use Rattle.atp.specs.Requesting.{with_part, with_end, with_status, answers, is_heard};
-ghost use Rattle.atp.specs.Requesting.{release_of};
-ghost use Rattle.atp.specs.Requesting.{part_of};
+ghost use Rattle.atp.specs.Requesting.{IsAsk, begun, request_control, request_of, sent, ticked};
+ghost use Rattle.atp.specs.Requesting.{answers, cut, is_heard, with_end, with_part, with_status};
+ghost use Rattle.atp.specs.Requesting.{part_of, release_of};
 
 use crate::ask::{AnswerPart, Ask, Peer};
 use crate::packet::{Packet, write};

@@ -1,8 +1,7 @@
 -- Where the cables stand in order and the stations are addressed, no two seats share an address, and no two on one cable
 -- share a hardware address.
 use Rattle.std.proofs.Common.{◌≡◌, ℕ, zero, suc, ◌≤◌, ◌<◌, inl, inr, Bool, true, false, ◌||◌, ◌&&◌, List, Option, Some, None, length}
-use Rattle.std.proofs.Common.{take, refl, sym}
-use Rattle.std.proofs.Common.{ap, ◌∙◌, subst, arith, slice_get, ◌==◌, eqb-true, eq-eqb, true≢false}
+use Rattle.std.proofs.Common.{ap, arith, eq-eqb, eqb-true, refl, slice_get, subst, sym, take, true≢false, ◌==◌, ◌∙◌}
 use Rattle.std.specs.List.{list_any}
 use Rattle.std.proofs.lemmas.Bool.{or_parts, and_parts, not-false, cases_order, ltb-false}
 use Rattle.at_base.specs.Text.{same_bytes}

@@ -1,7 +1,6 @@
 -- Where the rule on zone lists is kept, each router's zone table agrees with the cables.
 use Rattle.std.proofs.Common.{◌≡◌, ℕ, zero, suc, ◌+◌, ◌==◌, ◌<◌, inl, inr, Bool, true, false, not, ◌||◌, List, [], ◌∷◌, ◌++◌, length}
-use Rattle.std.proofs.Common.{map, filter, fold}
-use Rattle.std.proofs.Common.{Option, Some, None, refl, sym, ap, ◌∙◌, slice_get, subst, eqb-true, arith, if◌then◌else◌}
+use Rattle.std.proofs.Common.{None, Option, Some, ap, arith, eqb-true, filter, fold, if◌then◌else◌, map, refl, slice_get, subst, sym, ◌∙◌}
 use Rattle.std.specs.List.{list_any, list_all}
 use Rattle.std.proofs.lemmas.Bool.{and_parts, or_parts, not-false, cases_order}
 use Rattle.at_base.specs.Range.{Span}

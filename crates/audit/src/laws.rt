@@ -1,8 +1,7 @@
 //! Laws of internets that pass the audit, for contracts and proofs of other crates. The functions
 //! do nothing: what they ensure is the law.
 
-ghost use Rattle.std.specs.Prelude.{◌≡◌, ◌≢◌, ℕ, ◌<◌, ◌≤◌, List, [], ◌∷◌, length};
-ghost use Rattle.std.specs.Prelude.{slice_get, Some};
+ghost use Rattle.std.specs.Prelude.{List, Some, [], length, slice_get, ℕ, ◌<◌, ◌∷◌, ◌≡◌, ◌≢◌, ◌≤◌};
 ghost use Rattle.table_image.specs.Internet.{Internet};
 ghost use Rattle.table_image.specs.Bounds.{IsBounded};
 ghost use Rattle.audit.specs.Routing.{Nowhere, home, hand, distance};

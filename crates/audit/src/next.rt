@@ -3,12 +3,10 @@
 ghost use Rattle.std.specs.Prelude.{◌≡◌, ◌≢◌, ◌<◌, ◌&&◌, ℕ, not, None, length, slice_get};
 ghost use Rattle.table_image.specs.Rows as rows_spec;
 ghost use Rattle.audit.specs.Firsts.{FirstPlace};
-ghost use Rattle.audit.specs.Hints.{hint_slot, port_slot, hint_at, Names, FirstOr};
-ghost use Rattle.audit.specs.Hints.{HasHintsBelow};
+ghost use Rattle.audit.specs.Hints.{FirstOr, HasHintsBelow, Names, hint_at, hint_slot, port_slot};
 ghost use Rattle.audit.specs.Routing as routing_spec;
 ghost use Rattle.audit.specs.Rules as rules_spec;
-ghost use Rattle.audit.specs.Rules.{bad_step};
-ghost use Rattle.audit.specs.Rules.{not_one_less, c2};
+ghost use Rattle.audit.specs.Rules.{bad_step, c2, not_one_less};
 
 use crate::lookups::{owner, same_row};
 use at_base::Addr;

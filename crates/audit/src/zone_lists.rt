@@ -8,8 +8,7 @@ ghost use Rattle.audit.specs.Places.{index_of};
 ghost use Rattle.audit.specs.Firsts.{FirstNumber, FirstPlace};
 ghost use Rattle.audit.specs.Rules.{c1, c8};
 ghost use Rattle.audit.specs.ZoneLists as spec;
-ghost use Rattle.audit.specs.ZoneLists.{has_double, same_zones};
-ghost use Rattle.audit.specs.ZoneLists.{bad_list};
+ghost use Rattle.audit.specs.ZoneLists.{bad_list, has_double, same_zones};
 ghost use Rattle.audit.specs.GoodLists.{AreGood, AreGoodBelow};
 
 use crate::places::from_one;

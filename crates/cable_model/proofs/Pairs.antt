@@ -1,6 +1,5 @@
 -- What entries do to the pairs that are pending, on cables where a station has one seat at most.
-use Rattle.std.proofs.Common.{◌≡◌, ℕ, ◌+◌, ◌<◌, ◌≤◌, inl, inr, Bool, true, false, ◌||◌, ◌&&◌, not, List, [], ◌∷◌, ◌++◌, refl}
-use Rattle.std.proofs.Common.{sym, ap}
+use Rattle.std.proofs.Common.{Bool, List, [], ap, false, inl, inr, not, refl, sym, true, ℕ, ◌&&◌, ◌++◌, ◌+◌, ◌<◌, ◌||◌, ◌∷◌, ◌≡◌, ◌≤◌}
 use Rattle.std.proofs.Common.{◌∙◌, subst, arith, filter, eqb-true, eq-eqb, ne_eqb, ◌==◌, append-nil, append_assoc}
 use Rattle.std.specs.List.{AllByRecursion as Each}
 use Rattle.std.proofs.lemmas.Bool.{and_parts, and_left, cases_Bool}
@@ -10,8 +9,7 @@ use Rattle.cable_model.specs.Pending.{Pair, ends, is_for, is_heard, pairs, pairs
 use Rattle.cable_model.specs.Transcript.{Entry, Frame, Sent, Put, Took, Reached, Dropped, Lost, AreNumbered, HasStamp, count, is_put}
 use Rattle.cable_model.specs.Transcript.{one, stamps}
 use Rattle.cable_model.proofs.Counting.{At, any-append, count-append, count-filter, count-map, count_agree, count_le, count_none}
-use Rattle.cable_model.proofs.Counting.{count_without}
-use Rattle.cable_model.proofs.Counting.{each_all, each-append, each_map, each_more, filter_at}
+use Rattle.cable_model.proofs.Counting.{count_without, each-append, each_all, each_map, each_more, filter_at}
 
 -- ---- Stamps
 

@@ -1,7 +1,6 @@
 -- The pairs that a frame makes, as they are kept.
 use Rattle.std.proofs.Common.{◌≡◌, ℕ, suc, ◌+◌, ◌<◌, ◌≤◌, Bool, true, false, not, cond, ◌&&◌, ◌==◌, List, [], ◌∷◌, ◌++◌, Some}
-use Rattle.std.proofs.Common.{length, refl, sym, ap, ◌∙◌, subst, arith, map, filter, append-nil, slice_get}
-use Rattle.std.proofs.Common.{if◌then◌else◌, slice_index}
+use Rattle.std.proofs.Common.{ap, append-nil, arith, filter, if◌then◌else◌, length, map, refl, slice_get, slice_index, subst, sym, ◌∙◌}
 use Rattle.std.specs.List.{AllByRecursion as Each}
 use Rattle.std.proofs.lemmas.List.{map-append, length-map}
 use Rattle.std.proofs.lemmas.Option.{slice_get_within}

@@ -1,6 +1,5 @@
 -- What stays where room is made, and what adds up.
-use Rattle.std.proofs.Common.{◌≡◌, ℕ, ◌<◌, List, [], ◌++◌, append-nil, append_assoc, refl}
-use Rattle.std.proofs.Common.{sym, ap, ◌∙◌, subst, arith, map, length}
+use Rattle.std.proofs.Common.{List, [], ap, append-nil, append_assoc, arith, length, map, refl, subst, sym, ℕ, ◌++◌, ◌<◌, ◌∙◌, ◌≡◌}
 use Rattle.std.specs.List.{AllByRecursion as Each}
 use Rattle.cable_model.specs.Books.{EndsBelow, Grows, IsBook, IsDue, IsKept, IsSame, Names, held, pair_at, said}
 use Rattle.cable_model.specs.Logs.{Adds, Cabling, entry_at}

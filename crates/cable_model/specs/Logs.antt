@@ -1,6 +1,5 @@
 -- Transcripts as they are kept: entries name bytes by number.
-use Rattle.std.specs.Prelude.{◌≡◌, ℕ, List, [], ◌++◌, map, slice_get}
-use Rattle.std.specs.Prelude.{Option, Some, None}
+use Rattle.std.specs.Prelude.{List, None, Option, Some, [], map, slice_get, ℕ, ◌++◌, ◌≡◌}
 use Rattle.ddp.specs.Bodies.{body}
 use Rattle.cable_model.specs.declared.entry.Entry.{Entry as Line}
 use Rattle.cable_model.specs.declared.entry.Entry.TheVariants as line

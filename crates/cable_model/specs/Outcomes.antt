@@ -5,7 +5,7 @@ use Rattle.std.specs.List.{list_any}
 use Rattle.at_base.specs.Address.{same_address}
 use Rattle.at_base.specs.Text.{same_bytes}
 use Rattle.at_base.specs.declared.address.Addr.{Addr}
-use Rattle.at_base.specs.Multicast.{all_hw, group_hw}
+use Rattle.at_base.specs.Multicast.{all_hw, group_hw, is_all, is_group}
 use Rattle.at_base.specs.declared.address.Hw.{Hw}
 use Rattle.ddp.specs.Bodies.{body, target}
 use Rattle.station.specs.Hearing.{Hearing}
@@ -25,7 +25,6 @@ use Rattle.cable_model.specs.declared.seat.Seat.{Seat}
 use Rattle.cable_model.specs.declared.waiting.Waiting.{Waiting}
 use Rattle.cable_model.specs.Logs.{Adds, Cabling, bytes_at, transcript}
 use Rattle.cable_model.specs.Pending.{Pair, listens, pending}
-use Rattle.at_base.specs.Multicast.{is_all, is_group}
 use Rattle.cable_model.specs.Transcript.{Entry, Sent, Put, Took, Reached, Dropped, stamps}
 
 -- Where stations are: what is known of the station that has an address on a cable, and whether a network is some cable's.

@@ -1,8 +1,7 @@
 //! Frames that are taken or lost.
 
 ghost use Rattle.std.specs.Prelude.{◌≡◌, ◌<◌, ◌≤◌, ◌+◌, ◌-◌, [], ◌∷◌, ◌++◌, ◌==◌};
-ghost use Rattle.std.specs.Prelude.{List, drop, filter, find, not, position, take, true};
-ghost use Rattle.std.specs.Prelude.{vec_len};
+ghost use Rattle.std.specs.Prelude.{List, drop, filter, find, not, position, take, true, vec_len};
 ghost use Rattle.std.specs.VecDeque.{deque_capacity, deque_len};
 ghost use Rattle.std.specs.Prelude.{Contains, IfSome, OnSome, is_some};
 ghost use Rattle.std.specs.List.{list_any};

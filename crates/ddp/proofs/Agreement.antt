@@ -1,4 +1,4 @@
--- A datagram and the bytes that begin with it have one hop count, one target and one body.
+-- A datagram and the bytes that begin with it have the same hop count, target and body.
 use Rattle.std.proofs.Common.{◌≡◌, ◌≤◌, ℕ, ◌<◌, ◌+◌, ◌*◌, ◌/◌, ◌%◌, List, [], ◌++◌, length, take, refl, sym, ap, subst, ◌∙◌, arith}
 use Rattle.std.specs.Int.{byte_at}
 use Rattle.std.proofs.lemmas.List.{take_at, append-nil}
@@ -11,14 +11,14 @@ use Rattle.ddp.specs.Datagram.{Datagram, datagram, datagram_of, first_word, leng
 use Rattle.ddp.specs.Bodies.{named_length, hops, target, with_hops, body}
 use Rattle.ddp.proofs.Shape.{datagram_lawful, laid, bytes_laid, IsLaid, value_laid, laid_value}
 
--- the numbers of a first word
+-- the length in the bytes of a first word
 word_length : (w : ℕ) → w < 65536 → byte_at 1 w % 4 * 256 + byte_at 0 w ≡ w % 1024
 word_length w h = omega arith
 
 word_hops : (w : ℕ) → w < 65536 → byte_at 1 w / 4 % 16 ≡ w / 1024 % 16
 word_hops w h = omega arith
 
--- a number of two bytes
+-- the bytes of a two-byte number give the number
 word_again : (n : ℕ) → n < 65536 → byte_at 1 n * 256 + byte_at 0 n ≡ n
 word_again n h = omega arith
 
@@ -114,7 +114,7 @@ read_back h payload bytes rest s =
     let b = spelled_begins datagram bytes rest (datagram_of h payload) s in
     (b, λ d c. begins_one packets datagram datagram_lawful (bytes ++ rest) (datagram_of h payload) d b c)
 
--- hop counts that were set change a datagram's first byte alone, whatever follows it
+-- setting the hop count of a datagram changes only its first byte, whatever follows it
 with_hops_front : (n : ℕ) (d : Datagram) (rest : List ℕ) → with_hops n (laid d ++ rest) ≡ with_hops n (laid d) ++ rest
 with_hops_front n d rest = refl
 

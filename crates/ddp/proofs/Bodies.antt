@@ -2,7 +2,7 @@
 use Rattle.std.proofs.Common.{◌≡◌, ℕ, ◌≤◌, ◌+◌, ◌*◌, ◌/◌, ◌%◌, List, [], ◌∷◌, length, get_or, set, refl, arith}
 use Rattle.ddp.specs.Bodies.{with_hops}
 
--- a set hop count is a first byte that is set
+-- setting the hop count is setting the first byte
 pub hops_set : (n : ℕ) (bytes : List ℕ) → 13 ≤ length bytes
     → with_hops n bytes ≡ set bytes 0 (get_or bytes 0 0 / 64 * 64 + n * 4 + get_or bytes 0 0 % 4)
 hops_set n [] h = absurd (omega arith)

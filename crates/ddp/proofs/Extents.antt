@@ -1,4 +1,4 @@
--- What the extent of bytes says of reading a datagram there.
+-- Reading a datagram where the bytes have an extent.
 use Rattle.std.proofs.Common.{◌≡◌, ℕ, ◌≤◌, ◌<◌, ◌-◌, ◌%◌, true, false, ltb, List, ◌∷◌, ◌++◌, length, get_or, take, drop, Some, None, Ok}
 use Rattle.std.proofs.Common.{Err, refl, sym, subst, ◌∙◌, inl, inr, arith, drop-cons}
 use Rattle.std.specs.Int.{w16, to_be_bytes}
@@ -38,7 +38,7 @@ extent_found bytes n e =
     let there = ltb-false _ _ d.0 in
     record { is = sym is; least = omega arith; most = omega arith; there = omega arith }
 
--- the first bytes, as many as an extent that was found, are one datagram
+-- the bytes up to an extent that was found are one datagram
 pub extent_datagram : (bytes : List ℕ) (n : ℕ) → IsBytes bytes → IsExtent bytes n → IsDatagram (take n bytes)
 extent_datagram bytes n fits h =
     let len : length (take n bytes) ≡ n = omega (arith, length-take n bytes, h.there) in

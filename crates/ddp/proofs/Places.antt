@@ -1,4 +1,4 @@
--- Bytes of the length that their header names are the bytes of the datagram that stands in them.
+-- Bytes whose length is that in their header are the bytes of the datagram in them.
 use Rattle.std.proofs.Common.{◌≡◌, ℕ, ◌≤◌, ◌<◌, ◌+◌, ◌*◌, List, ◌∷◌, length, get_or, drop, refl, sym, ap, ◌∙◌, arith, drop-cons}
 use Rattle.std.specs.Int.{byte_at}
 use Rattle.std.proofs.lemmas.List.{length-drop}
@@ -8,7 +8,7 @@ use Rattle.ddp.specs.Bodies.{word_at, named_length}
 use Rattle.ddp.specs.InPlace.{datagram_in, IsDatagram}
 use Rattle.ddp.proofs.Shape.{laid, bytes_laid, IsLaid, laid_value}
 
--- the bytes of a header, and what follows them
+-- the bytes of a header, and the bytes after it
 pub header_first : (s : List ℕ) → 13 ≤ length s
     → s ≡ get_or s 0 0 ∷ get_or s 1 0 ∷ get_or s 2 0 ∷ get_or s 3 0 ∷ get_or s 4 0 ∷ get_or s 5 0 ∷ get_or s 6 0 ∷ get_or s 7 0
     ∷ get_or s 8 0 ∷ get_or s 9 0 ∷ get_or s 10 0 ∷ get_or s 11 0 ∷ get_or s 12 0 ∷ drop 13 s
@@ -28,7 +28,7 @@ header_first s h =
     let e12 : drop 12 s ≡ get_or s 12 0 ∷ drop 13 s = drop-cons s 12 0 (omega arith) in
     cc
 
--- the first word of the datagram that stands there
+-- the first word of the datagram in the bytes
 word_in : (s : List ℕ) → 13 ≤ length s → named_length s ≡ length s → first_word (datagram_in s) ≡ word_at 0 s
 word_in s least named = omega (arith, length-drop 13 s)
 

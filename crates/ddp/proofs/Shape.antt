@@ -1,4 +1,4 @@
--- The format of a datagram: each part stands where its projection finds it; and the bytes of a datagram, one by one.
+-- The format of a datagram: each projection gives its part; and the bytes of a datagram, one by one.
 use Rattle.std.proofs.Common.{◌≡◌, ℕ, ◌≤◌, ◌<◌, ◌-◌, ◌/◌, ◌%◌, false, ltb, List, [], ◌∷◌, length, None, refl, ap, ◌∙◌, arith}
 use Rattle.std.specs.Int.{byte_at}
 use Rattle.std.proofs.lemmas.Bool.{ltb-false}
@@ -8,7 +8,7 @@ use Rattle.at_base.specs.Spelling.{IsValue, bytes_of}
 use Rattle.at_base.specs.Lawful.{IsLawful}
 use Rattle.ddp.specs.Datagram.{Datagram, datagram, first_word, wrong_word}
 
--- the length in a word that passes
+-- the length in a word that passes the test
 pub word_passes : (w : ℕ) → wrong_word w ≡ None → (13 ≤ w % 1024) × (w % 1024 ≤ 599)
 word_passes w h =
     let least = not_wrong (ltb (w % 1024) 13) _ _ h in
@@ -61,7 +61,7 @@ pub bytes_laid : (d : Datagram) → bytes_of datagram d ≡ laid d
 unfolding datagram
 bytes_laid d = simp append-nil
 
--- what a value of the format is, field by field
+-- the facts about a value of the format, field by field
 pub record IsLaid (d : Datagram) : Type 0 where
   pub word : first_word d < 65536
   pub least : 13 ≤ first_word d % 1024

@@ -1,4 +1,4 @@
--- The bytes of a header and data, without a sum and with it.
+-- The bytes of a header and data, with and without a sum.
 use Rattle.std.proofs.Common.{◌≡◌, ℕ, ◌≤◌, ◌<◌, ◌+◌, Bool, true, false, cond, IsTrue, List, ◌∷◌, length, drop, refl, sym, ap, ◌∙◌, arith}
 use Rattle.std.specs.Int.{byte_at}
 use Rattle.at_base.specs.Checksum.{sum_of}
@@ -36,7 +36,7 @@ unsummed_value h payload f few = laid_value (unsummed h payload) (record {
   hops = omega arith;
 })
 
--- with a sum the other fields stay
+-- setting the sum leaves the other fields as they are
 summed_laid : (d : Datagram) (n : ℕ) → n < 65536 → IsLaid d → IsLaid (record d { checksum = n })
 summed_laid d n fits h = record {
   word = h.word;

@@ -9,7 +9,7 @@ use Rattle.at_base.specs.Packets.{any}
 use Rattle.at_base.specs.Spelling.{bytes_of}
 use Rattle.ddp.specs.declared.header.Header.{Header}
 
--- a datagram; reserved are the top two bits, which are written as 0 and ignored
+-- the fields of a datagram; reserved are the top two bits, which are written as 0 and ignored when read
 pub record Datagram : Type 0 where
   pub reserved : ℕ
   pub hops : ℕ
@@ -21,19 +21,20 @@ pub record Datagram : Type 0 where
   pub kind : ℕ
   pub payload : List ℕ
 
--- the length of header and data
+-- the length of header and data, in bytes
 abbrev pub length_of : Datagram → ℕ
 length_of d = 13 + length d.payload
 
--- the first two bytes: the reserved bits, four bits of hop count and ten of length
+-- the first two bytes of a datagram: the reserved bits, four bits of hop count and ten of length
 abbrev pub first_word : Datagram → ℕ
 first_word d = d.reserved * 16384 + d.hops * 1024 + length_of d
 
--- the length in a first word is 13 to 599
+-- the test that the length in a first word is 13 to 599
 abbrev pub wrong_word : ℕ → Option Error
 wrong_word w = if nat_lt (w % 1024) 13 then Some BadLength else if nat_lt 599 (w % 1024) then Some BadLength else None
 
--- 13 bytes there; the first word, with a length of 13 to 599; that many bytes there in all; and the other fields
+-- the format of a datagram: 13 bytes at least; the first word, with a length of 13 to 599; as many bytes as that
+-- length; and the other fields
 unfoldable pub datagram : Grammar Error true Datagram
 datagram =
     room 13 (field (number two wrong_word) first_word (λ w.
@@ -59,11 +60,11 @@ datagram =
       payload = payload;
     })))))))))))))
 
--- the sum that the checksum field stands for: of all bytes after it
+-- the sum of all bytes after the checksum field
 abbrev pub checksum_of : Datagram → ℕ
 checksum_of d = sum_of (drop 4 (bytes_of datagram d))
 
--- a datagram of a header and data, without a checksum
+-- the datagram with this header and data, without a checksum
 abbrev pub unsummed : Header → List ℕ → Datagram
 unsummed h payload = record {
   reserved = 0;
@@ -77,6 +78,6 @@ unsummed h payload = record {
   payload = payload;
 }
 
--- the datagram of a header and data, with its sum exactly where the header says so
+-- the datagram with this header and data, with its sum exactly if the header asks for it
 abbrev pub datagram_of : Header → List ℕ → Datagram
 datagram_of h payload = record (unsummed h payload) { checksum = if h.summed then checksum_of (unsummed h payload) else 0 }

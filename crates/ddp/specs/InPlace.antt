@@ -1,4 +1,4 @@
--- The datagram that bytes are, each field found by its place. (Inside AppleTalk, the chapter on DDP)
+-- A datagram in place: each field is found by its offset. (Inside AppleTalk, the chapter on DDP)
 use Rattle.std.specs.Prelude.{ℕ, ◌/◌, ◌≤◌, List, ◌++◌, length, take, drop, slice_index, Result, Ok, Err, nat_lt, if◌then◌else◌}
 use Rattle.std.specs.Int.{w16, to_be_bytes}
 use Rattle.at_base.specs.declared.error.Error.{Error}
@@ -8,7 +8,7 @@ use Rattle.at_base.specs.Spelling.{Spells}
 use Rattle.ddp.specs.Datagram.{Datagram, datagram}
 use Rattle.ddp.specs.Bodies.{word_at, named_length, hops, target}
 
--- the datagram, where the bytes end with its data
+-- the datagram in the bytes, if its data goes to the end of the bytes
 abbrev pub datagram_in : List ℕ → Datagram
 datagram_in bytes = record {
   reserved = slice_index bytes 0 / 64;
@@ -22,13 +22,13 @@ datagram_in bytes = record {
   payload = drop 13 bytes;
 }
 
--- the bytes are one datagram, and nothing more
+-- the bytes are exactly one datagram
 pub record IsDatagram (bytes : List ℕ) : Type 0 where
   pub whole : Spells datagram bytes (datagram_in bytes)
   pub least : 13 ≤ length bytes
   pub most : length bytes ≤ 599
 
--- how long the datagram is with which the bytes begin, or what is wrong with its length
+-- the length of the datagram at the front of the bytes, or what is wrong with its length
 abbrev pub extent : List ℕ → Result ℕ Error
 extent bytes =
     if nat_lt (length bytes) 13 then Err Truncated
@@ -37,6 +37,6 @@ extent bytes =
     else if nat_lt (length bytes) (named_length bytes) then Err Truncated
     else Ok (named_length bytes)
 
--- the bytes with the sum of those after the checksum field in it, and nothing else changed
+-- the bytes with the sum of those after the checksum field in that field, and nothing else changed
 abbrev pub with_sum : List ℕ → List ℕ
 with_sum bytes = take 2 bytes ++ (to_be_bytes w16 (sum_of (drop 4 bytes)) ++ drop 4 bytes)

@@ -1,4 +1,4 @@
-//! What the sender of a datagram chooses.
+//! The header fields that the sender of a datagram sets.
 
 use at_base::Addr;
 
@@ -8,10 +8,10 @@ pub const HEADER_LEN: usize = 13;
 /// The most bytes of data in a datagram.
 pub const MAX_DATA: usize = 586;
 
-/// The most bytes of a datagram, header and data.
+/// The greatest length of a datagram, in bytes, header and data.
 pub const MAX_LEN: usize = 599;
 
-/// The protocols that a datagram's type names (Inside AppleTalk, the chapter on DDP).
+/// The types of datagrams: the protocol of the data (Inside AppleTalk, the chapter on DDP).
 pub mod kind {
     pub const RTMP_DATA: u8 = 1;
 
@@ -26,7 +26,7 @@ pub mod kind {
     pub const ZIP: u8 = 6;
 }
 
-/// The sockets that each protocol listens on (Inside AppleTalk, the chapter on DDP).
+/// The well-known sockets of the protocols (Inside AppleTalk, the chapter on DDP).
 pub mod socket {
     pub const RTMP: u8 = 1;
 
@@ -37,19 +37,20 @@ pub mod socket {
     pub const ZIP: u8 = 6;
 }
 
-/// The header of a datagram to be written. Its hop count is 0, and its length is that of the data.
+/// The header of a datagram to be written. Its hop count is written as 0, and its length is
+/// computed from the data.
 ///
 /// Inside AppleTalk, the chapter on DDP.
 #[derive(Clone, Copy, Debug, PartialEq, Eq)]
 pub struct Header {
-    /// Whether it carries a checksum.
+    /// Whether the datagram carries a checksum.
     pub summed: bool,
-    /// The node that it is for.
+    /// The destination node.
     pub target: Addr,
-    /// The node that sends it.
+    /// The sending node.
     pub source: Addr,
     pub target_socket: u8,
     pub source_socket: u8,
-    /// The protocol whose packet the data is, as in `kind`.
+    /// The protocol of the data, as in `kind`.
     pub kind: u8,
 }

@@ -1,4 +1,4 @@
-//! Datagrams in place: a reader that borrows its input.
+//! A reader of datagrams that borrows its input.
 
 ghost use Rattle.std.specs.Prelude.{◌≡◌, ◌⊎◌, ◌↔◌, ◌≤◌, length, IsOk, IsOkUnless};
 ghost use Rattle.at_base.specs.Reading.{Gives, Reads};
@@ -12,9 +12,8 @@ use at_base::{Addr, Error, sum};
 use byteorder::{BigEndian, ByteOrder};
 use std::marker::Model;
 
-/// A datagram in place, with a long header. It borrows the input; bytes after its length are
-/// padding
-/// and no part of it.
+/// A datagram with a long header, in place. It borrows the input. Bytes after its length are
+/// padding and aren't part of it.
 ///
 /// Inside AppleTalk, the chapter on DDP.
 #[derive(Debug, Drop)]
@@ -33,7 +32,7 @@ impl<'a> Model for View<'a> {
     ghost invariant = { λ v. IsDatagram v.bytes.now };
 }
 
-/// The length of the datagram at the front of the bytes.
+/// The length of the datagram at the front of the bytes. Errors: `Truncated`, `BadLength`.
 fn extent_of(bytes: &[u8]) -> Result<usize, Error>
     ensures { Gives (λ n. n) result (extent bytes.now) }
 {
@@ -53,8 +52,8 @@ fn extent_of(bytes: &[u8]) -> Result<usize, Error>
 impl<'a> View<'a> {
     /// The datagram at the front of the bytes. The two top bits of its first byte are ignored.
     ///
-    /// Errors: `Truncated` where the input ends before the header does, or before the length that
-    /// the header names; `BadLength` where that length isn't 13 to 599 bytes.
+    /// Errors: `Truncated` where the input ends within the header or before the length in the
+    /// header; `BadLength` where that length isn't 13 to 599 bytes.
     pub fn read(bytes: &'a [u8]) -> Result<View<'a>, Error>
         ensures { Reads packets datagram (λ d. d) (λ v. v) bytes.now result }
     {
@@ -66,14 +65,14 @@ impl<'a> View<'a> {
         }
     }
 
-    /// The length of header and data together, 13 to 599 bytes.
+    /// The length of header and data together: 13 to 599 bytes.
     pub fn length(&self) -> u16
         ensures { result ≡ length_of self.now }
     {
         self.bytes.len() as u16
     }
 
-    /// The number of routers that the datagram has come through, 0 to 15.
+    /// The number of routers that the datagram has passed, 0 to 15.
     pub fn hops(&self) -> u8
         ensures value { result ≡ self.now.hops }
         ensures few { self.now.hops ≤ 15 }
@@ -81,14 +80,14 @@ impl<'a> View<'a> {
         self.bytes[0] / 4 % 16
     }
 
-    /// The checksum field, which is 0 where the sender gave none.
+    /// The checksum field; 0 if the sender gave none.
     pub fn checksum(&self) -> u16
         ensures { result ≡ self.now.checksum }
     {
         BigEndian::read_u16(&self.bytes[2..])
     }
 
-    /// The node that the datagram is for.
+    /// The destination node.
     pub fn target(&self) -> Addr
         ensures { result ≡ self.now.target }
     {
@@ -98,7 +97,7 @@ impl<'a> View<'a> {
         }
     }
 
-    /// The node that sent the datagram.
+    /// The sending node.
     pub fn source(&self) -> Addr
         ensures { result ≡ self.now.source }
     {
@@ -108,21 +107,21 @@ impl<'a> View<'a> {
         }
     }
 
-    /// The socket that the datagram is for.
+    /// The destination socket.
     pub fn target_socket(&self) -> u8
         ensures { result ≡ self.now.target_socket }
     {
         self.bytes[10]
     }
 
-    /// The socket that sent the datagram.
+    /// The sending socket.
     pub fn source_socket(&self) -> u8
         ensures { result ≡ self.now.source_socket }
     {
         self.bytes[11]
     }
 
-    /// The protocol whose packet the data is, as in `kind`.
+    /// The protocol of the data, as in `kind`.
     pub fn kind(&self) -> u8
         ensures { result ≡ self.now.kind }
     {
@@ -137,7 +136,7 @@ impl<'a> View<'a> {
         &self.bytes[HEADER_LEN..]
     }
 
-    /// The bytes of the datagram, in place and without padding.
+    /// The bytes of the datagram, in place, without padding.
     pub fn as_bytes(&self) -> &'a [u8]
         ensures value { Spells datagram result.now self.now }
         ensures least { 13 ≤ length result.now }
@@ -145,9 +144,9 @@ impl<'a> View<'a> {
         self.bytes
     }
 
-    /// Whether the checksum is that of the bytes after it.
+    /// Checks that the checksum field is 0 or the sum of the bytes after it.
     ///
-    /// Error: `BadChecksum`, exactly where the field is neither 0 nor the sum.
+    /// Error: `BadChecksum`, exactly where the field is neither.
     pub fn check(&self) -> Result<(), Error>
         ensures ok { IsOk result
             ↔ ((self.now.checksum ≡ 0) ⊎ (self.now.checksum ≡ checksum_of self.now)) }

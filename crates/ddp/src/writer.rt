@@ -1,4 +1,4 @@
-//! The writer of datagrams.
+//! A writer of datagrams.
 
 ghost use Rattle.std.specs.Prelude.{◌≡◌, ◌⊎◌, ◌<◌, ◌≤◌, ◌↔◌, ◌++◌, length, drop, IfOk, IfErr};
 ghost use Rattle.std.specs.Prelude.{IsOkUnless, IsTrue, if◌then◌else◌};
@@ -12,7 +12,7 @@ use at_base::{Bytes, Error, sum};
 use byteorder::{BigEndian, ByteOrder};
 use std::alloc::Global;
 
-/// The bytes of the header, with hop count and checksum 0.
+/// The bytes of the header, with hop count 0 and checksum 0.
 fn header_bytes(header: &Header, payload: &[u8]) -> [u8; HEADER_LEN]
     requires { length payload.now ≤ 586 }
     ensures { Spells datagram (result ++ payload.now) (unsummed header.now payload.now) }
@@ -29,7 +29,7 @@ fn header_bytes(header: &Header, payload: &[u8]) -> [u8; HEADER_LEN]
     bytes
 }
 
-/// The bytes of the datagram, with checksum 0.
+/// The bytes of the datagram, with checksum 0. Error: `Memory`.
 fn unsummed_bytes(alloc: Global, header: &Header, payload: &[u8]) -> Result<Vec<u8>, Error>
     requires { length payload.now ≤ 586 }
     ensures written { IfOk result (λ v. Spells datagram v.items (unsummed header.now payload.now)) }
@@ -42,7 +42,7 @@ fn unsummed_bytes(alloc: Global, header: &Header, payload: &[u8]) -> Result<Vec<
     Ok(bytes)
 }
 
-/// The bytes with the sum of all bytes after the checksum field in it, where the sender wants one.
+/// The bytes; if `summed`, with the sum of all bytes after the checksum field in that field.
 fn with_checksum(summed: bool, mut bytes: Vec<u8>) -> Vec<u8>
     requires { 13 ≤ length bytes.items }
     ensures put { result.items ≡ (if summed then with_sum bytes.items else bytes.items) }
@@ -55,9 +55,8 @@ fn with_checksum(summed: bool, mut bytes: Vec<u8>) -> Vec<u8>
     bytes
 }
 
-/// The bytes of a datagram with this header and data, and hop count 0. Its checksum is the sum
-/// where
-/// the header says so, and otherwise 0. Allocates exactly the datagram's length.
+/// The bytes of a datagram with this header and data, and hop count 0. The checksum is the sum if
+/// the header asks for it, else 0. Allocates exactly the datagram's length.
 ///
 /// Inside AppleTalk, the chapter on DDP.
 ///

@@ -1,4 +1,4 @@
-//! The echo service: what a station sends back.
+//! The echo service: the reply that a station sends back.
 #![tactic(auto)]
 
 ghost use Rattle.std.specs.Prelude.{◌≡◌, ◌≤◌, ◌∷◌, length, IfOk, IfSome, IsOkUnless};
@@ -14,7 +14,7 @@ pub const REQUEST: u8 = 1;
 /// The first data byte of a reply.
 pub const REPLY: u8 = 2;
 
-/// The request's data with the first byte of a reply. Error: `Memory`.
+/// The request's data, with the first byte of a reply. Error: `Memory`.
 fn reply_data(alloc: Global, rest: &[u8]) -> Result<Bytes, Error>
     ensures made { IfOk result (λ answer. answer ≡ 2 ∷ rest.now) }
     ensures refused { IsOkUnless result Error.Memory }
@@ -25,13 +25,13 @@ fn reply_data(alloc: Global, rest: &[u8]) -> Result<Bytes, Error>
     Ok(Bytes::from_vec(data))
 }
 
-/// The data of the reply to an echo request, and nothing for any other datagram. A request has type
-/// 4, target socket 4 and 1 as the first byte of its data. Error: `Memory`.
+/// The data of the reply to an echo request, and `None` for any other datagram. A request has type
+/// 4, target socket 4, and 1 as the first byte of its data. Error: `Memory`.
 ///
 /// Inside AppleTalk, the chapter on AEP.
 pub fn reply(alloc: Global, view: &View<'_>) -> Result<Option<Bytes>, Error>
     ensures made { IfOk result (λ answer. answer ≡ echo_reply view.now) }
-    // It is the data of a datagram.
+    // The data fits in a datagram.
     ensures short { IfOk result (λ answer. IfSome answer (λ bytes. length bytes ≤ 586)) }
     ensures refused { IsOkUnless result Error.Memory }
 {

@@ -17,7 +17,7 @@ use Rattle.station.specs.Hearing.{Hearing}
 use Rattle.station.specs.Ports.{has}
 use Rattle.station.specs.Resolution.{packet_at, wired}
 use Rattle.station.specs.Values.{datagram_at, value_of}
-use Rattle.station.specs.Ways.{checks, replying}
+use Rattle.station.specs.Ways.{checks, is_to, replying}
 use Rattle.station.specs.declared.heard.Kind.{Kind}
 use Rattle.station.specs.declared.heard.Kind.TheVariants.{Ddp, Aarp}
 use Rattle.station.specs.declared.heard.Link.{Link}
@@ -27,10 +27,6 @@ use Rattle.end_node.specs.Holding.{NodeHolding}
 use Rattle.end_node.specs.Lookups.{names_in, told}
 use Rattle.end_node.specs.Ways.{way_back}
 use Rattle.end_node.specs.declared.node.Datagram.{Datagram as Received}
-
--- the datagram is for this socket, and of this type
-abbrev pub is_to : ℕ → ℕ → Datagram → Bool
-is_to kind socket d = d.kind == kind && d.target_socket == socket
 
 -- the target is every node of the node's cable
 abbrev pub is_all : NodeHolding → Addr → Bool

@@ -8,19 +8,19 @@ ghost use Rattle.atp.specs.InPlace.{packet_value};
 ghost use Rattle.atp.specs.Outcomes.{left_open, outcome_of};
 ghost use Rattle.atp.specs.Requesting.{IsNextId, begun, known, open_count, sent};
 ghost use Rattle.end_node.specs.Answers as answers_spec;
-ghost use Rattle.end_node.specs.Answers.{AsksHearOwn, HearsAny};
-ghost use Rattle.end_node.specs.Answers.{transaction_in};
+ghost use Rattle.end_node.specs.Answers.{AsksHearOwn, HearsAny, transaction_in};
 ghost use Rattle.end_node.specs.Asking as asking_spec;
 ghost use Rattle.end_node.specs.Asking.{ask_bytes};
 ghost use Rattle.station.specs.Lawful.{IsNext, PutsOut};
 ghost use Rattle.station.specs.Making.{made};
 
 use crate::node::EndNode;
-use crate::receive::{TRANSACTIONS, is_to};
+use crate::receive::TRANSACTIONS;
 use crate::sending::put_out;
 use at_base::{Addr, Bytes, Error};
 use atp::{Ask, Outcome, Packet, Peer, Requester};
 use ddp::{View, kind as types, socket as sockets};
+use station::ways::is_to;
 use station::{Outputs, Way};
 use std::alloc::Global;
 

@@ -5,8 +5,7 @@ ghost use Rattle.std.specs.Prelude.{IfOk, IsOkUnless, OnOk};
 ghost use Rattle.at_base.specs.Text.{is_only, same_name};
 ghost use Rattle.nbp.specs.Registered.{answers};
 ghost use Rattle.end_node.specs.Lookups as spec;
-ghost use Rattle.end_node.specs.Lookups.{looked_up, names_in, replies};
-ghost use Rattle.end_node.specs.Lookups.{reply_of, told};
+ghost use Rattle.end_node.specs.Lookups.{looked_up, names_in, replies, reply_of, told};
 ghost use Rattle.station.specs.Made.{AreMade, IsWayIn};
 ghost use Rattle.station.specs.Ways.{replying};
 

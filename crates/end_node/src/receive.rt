@@ -5,8 +5,7 @@ ghost use Rattle.std.specs.Prelude.{IfOk, IsOkUnless, OnErr, OnOk};
 ghost use Rattle.echo.specs.Echo.{echo_reply};
 ghost use Rattle.end_node.specs.Answers.{AsksHearDatagram, AsksHearOwn, heard_datagram, heard_own};
 ghost use Rattle.end_node.specs.Answers as answers_spec;
-ghost use Rattle.end_node.specs.Answers.{keeping, keeping_any, kept};
-ghost use Rattle.end_node.specs.Answers.{received_of, served};
+ghost use Rattle.end_node.specs.Answers.{keeping, keeping_any, kept, received_of, served};
 ghost use Rattle.end_node.specs.Taking.{taken_datagram};
 ghost use Rattle.end_node.specs.Ways as ways_spec;
 ghost use Rattle.station.specs.Lawful.{AreLawful, PutsOut};
@@ -19,19 +18,12 @@ use crate::node::{Datagram, EndNode, MAX_RECEIVED};
 use at_base::{Addr, Bytes, Error};
 use ddp::{View, kind, socket};
 use station::making::put_one;
-use station::ways::{EVERY_NODE, checks};
+use station::ways::{EVERY_NODE, checks, is_to};
 use station::{Link, Output, Outputs};
 use std::alloc::Global;
 
 /// The socket from which a node asks in transactions.
 pub(crate) const TRANSACTIONS: u8 = 252;
-
-/// Whether the datagram is of this type and for this socket.
-pub(crate) fn is_to(view: &View<'_>, kind: u8, socket: u8) -> bool
-    ensures { result ≡ answers_spec.is_to kind socket view.now }
-{
-    view.kind() == kind && view.target_socket() == socket
-}
 
 /// Whether the datagram is for one of the sockets at which the node itself listens.
 fn is_served(view: &View<'_>) -> bool

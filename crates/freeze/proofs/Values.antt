@@ -7,7 +7,7 @@ use Rattle.aarp.specs.Choosing.{Choice}
 use Rattle.at_base.specs.declared.address.Addr.{Addr}
 use Rattle.at_base.specs.Grammar.{Grammar}
 use Rattle.at_base.specs.Spelling.{IsValue, ListPasses, bytes_of, list_bytes}
-use Rattle.at_base.specs.Text.{IsName}
+use Rattle.at_base.specs.Text.{IsName, is_entity, is_name}
 use Rattle.end_node.specs.Holding.{NodeHolding}
 use Rattle.freeze.specs.Fits.{FitsCable, FitsList}
 use Rattle.freeze.specs.Freezing.{frozen_list, frozen_name, frozen_node, frozen_port, frozen_ports, frozen_router, frozen_row}
@@ -27,7 +27,6 @@ use Rattle.table_image.specs.declared.cable.Cable.{Cable}
 use Rattle.table_image.specs.declared.node.NodeName.{NodeName}
 use Rattle.table_image.specs.declared.port.Port.{Port}
 use Rattle.table_image.specs.declared.zone_list.ZoneList.{ZoneList}
-use Rattle.at_base.specs.Text.{is_name, is_entity}
 use Rattle.zip_zones.proofs.Tables.{known_ends}
 use Rattle.zip_zones.specs.Zones.{IsZoneMap, Known, are_above as lists_above, are_distinct, is_known}
 use Rattle.at_base.specs.Range.{is_range}

@@ -1,7 +1,6 @@
 -- What a node asks for names is neither a forward request nor a lookup.
 use Rattle.std.proofs.Common.{◌≡◌, ℕ, Bool, true, false, ◌||◌, ◌&&◌, ◌==◌, ◌/◌, ◌%◌, cond, if◌then◌else◌, nat_lt}
-use Rattle.std.proofs.Common.{length, List, [], ◌∷◌, Option, Some, None}
-use Rattle.std.proofs.Common.{Result, Ok, Err, refl, sym, ap, subst, arith}
+use Rattle.std.proofs.Common.{Err, List, None, Ok, Option, Result, Some, [], ap, arith, length, refl, subst, sym, ◌∷◌}
 use Rattle.std.proofs.lemmas.Bool.{le-ltb}
 use Rattle.at_base.proofs.Readers.{begins_read}
 use Rattle.at_base.specs.Grammar.{Grammar, done, field, list, number, one}

@@ -1,6 +1,5 @@
 -- Which entries say that a node sent a forward request or a lookup: only its own sending adds one.
-use Rattle.std.proofs.Common.{◌≡◌, ℕ, ◌+◌, Bool, true, false, not, ◌&&◌, ◌||◌, ◌==◌, cond, List, [], ◌∷◌, ◌++◌}
-use Rattle.std.proofs.Common.{Option, Some, None, is_some}
+use Rattle.std.proofs.Common.{Bool, List, None, Option, Some, [], cond, false, is_some, not, true, ℕ, ◌&&◌, ◌++◌, ◌+◌, ◌==◌, ◌||◌, ◌∷◌, ◌≡◌}
 use Rattle.std.proofs.Common.{refl, sym, ap, ◌∙◌, subst, arith}
 use Rattle.std.specs.List.{AllByRecursion as Each}
 use Rattle.std.proofs.lemmas.Bool.{and_right}
@@ -9,8 +8,7 @@ use Rattle.audit.specs.Routing.{Hand, Here, On, Nowhere, hand, home}
 use Rattle.table_image.specs.Seats.{Seat as PlaceOf, seat_at}
 use Rattle.cable_model.proofs.Counting.{count-append}
 use Rattle.cable_model.specs.Logs.{transcript}
-use Rattle.cable_model.specs.Outcomes.{Places, Sender, leg as leg_on, sent_entries}
-use Rattle.cable_model.specs.Outcomes.{to_other as to_other_on, to_target as to_target_on}
+use Rattle.cable_model.specs.Outcomes.{Places, Sender, leg as leg_on, sent_entries, to_other as to_other_on, to_target as to_target_on}
 use Rattle.cable_model.specs.Pending.{Pair}
 use Rattle.cable_model.specs.Transcript.{Entry, Sent, Took, count, stamps}
 use Rattle.cable_model.specs.declared.resolve.Found.{Found}

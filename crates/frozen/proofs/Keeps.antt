@@ -1,6 +1,5 @@
 -- What an event leaves is still a run over frozen tables.
-use Rattle.std.proofs.Common.{◌≡◌, ℕ, zero, suc, List, [], ◌∷◌, ◌++◌, refl, sym, ap, ◌∙◌, subst, inl, inr, ◌⊎◌, Contains}
-use Rattle.std.proofs.Common.{slice_set}
+use Rattle.std.proofs.Common.{Contains, List, [], ap, inl, inr, refl, slice_set, subst, suc, sym, zero, ℕ, ◌++◌, ◌∙◌, ◌∷◌, ◌≡◌, ◌⊎◌}
 use Rattle.std.proofs.lemmas.List.{length-set}
 use Rattle.std.specs.Option.{unwrap_or}
 use Rattle.audit.proofs.WalkLists.{At}

@@ -1,6 +1,5 @@
 -- What follows of a run over frozen tables.
-use Rattle.std.proofs.Common.{◌≡◌, Bool, true, false, List, ℕ, Option, Some, None, Result, Ok, Err, refl, sym, ap, ◌∙◌}
-use Rattle.std.proofs.Common.{length, arith}
+use Rattle.std.proofs.Common.{Bool, Err, List, None, Ok, Option, Result, Some, ap, arith, false, length, refl, sym, true, ℕ, ◌∙◌, ◌≡◌}
 use Rattle.at_base.specs.declared.error.Error.{Error}
 use Rattle.audit.specs.Routing.{home}
 use Rattle.cable_model.specs.Logs.{transcript}

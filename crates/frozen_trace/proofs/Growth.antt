@@ -12,9 +12,8 @@ use Rattle.cable_model.specs.Transcript.{Entry}
 use Rattle.cable_model.specs.declared.entry.Entry.{Entry as Line}
 use Rattle.events.specs.declared.event.Event.{Event}
 use Rattle.events.specs.declared.event.Event.TheVariants as event
-use Rattle.frozen.specs.Events.{DrainStops, Drained, DrainsTo, Happens, IsRefused, Sends, Taken, Takes, Undrained, refusal}
+use Rattle.frozen.specs.Events.{DrainStops, Drained, DrainsTo, Happens, IsRefused, Sends, Taken, Takes, Undrained, header_for, refusal}
 use Rattle.frozen.specs.Orders.{ask_data, ask_order, send_order}
-use Rattle.frozen.specs.Events.{header_for}
 use Rattle.frozen.specs.Runs.{Running, TakenBy}
 use Rattle.frozen.specs.declared.order.Order.{Order}
 use Rattle.image_stations.specs.Finding.{station_at}

@@ -1,4 +1,4 @@
--- Each station of an internet that passes may have its address on its cable.
+-- Each station of an internet that passes the audit may have its address on its cable.
 use Rattle.std.proofs.Common.{◌≡◌, ℕ, suc, ◌<◌, ◌≤◌, ◌==◌, true, false, not, ◌||◌, take, Option, Some, None, refl, sym, ap, ◌∙◌, arith}
 use Rattle.std.proofs.Common.{slice_get, slice_index, nat_lt}
 use Rattle.std.specs.Prelude.{◌%◌}
@@ -24,11 +24,11 @@ use Rattle.table_image.specs.declared.router.Router.{Router}
 pub is_range_when : (start end : ℕ) → 0 < start → start ≤ end → end ≤ 0xFEFF → is_range start end ≡ true
 is_range_when start end low up high = grind (arith, nat_tests)
 
--- the range of a cable is valid
+-- The range of a cable is valid.
 valid : (i : Internet) (k : ℕ) (c : Cable) → Passes i → At i.cables k c → is_range c.start c.end ≡ true
 valid i k c ok at = let g = cable_good i ok k c at in is_range_when c.start c.end g.low g.up g.high
 
--- an address that isn't bad
+-- An address that the audit accepts may be used on its cable.
 seated : (i : Internet) (cable : ℕ) (a : Addr) (h : Hw) → Passes i → bad_address i cable a h ≡ false → is_seated i.cables cable a ≡ true
 seated i cable a h ok e = by (slice_get i.cables cable) refl (or_parts _ (slice_index h.0 0 % 2 == 1) e).0
   where
@@ -37,7 +37,7 @@ seated i cable a h ok e = by (slice_get i.cables cable) refl (or_parts _ (slice_
     by None at e = cc
     by (Some c) at e = let v = valid i cable c ok at in grind (arith, nat_tests)
 
--- the ports of a router may have their addresses
+-- The ports of a router may have their addresses.
 pub ports_seated : (i : Internet) (r : ℕ) (router : Router) → Passes i → At i.routers r router
     → list_all (is_port_seated i.cables) router.ports ≡ true
 ports_seated i r router ok known = all_when (is_port_seated i.cables) router.ports one
@@ -54,7 +54,7 @@ ports_seated i r router ok known = all_when (is_port_seated i.cables) router.por
         (take r i.routers)) first.0 in
         seated i port.cable port.address port.hardware ok address.0
 
--- a node may have its address
+-- A node may have its address.
 pub node_seated : (i : Internet) (k : ℕ) (node : Node) → Passes i → At i.nodes k node → is_seated i.cables node.cable node.address ≡ true
 node_seated i k node ok known =
     let bad : bad_node i k node ≡ false = sym (ap (λ o. on o (bad_node i k)) known) ∙ ok 2 (place.Node (suc k)) in

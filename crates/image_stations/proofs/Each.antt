@@ -1,4 +1,4 @@
--- What each element of a list passes, all of them pass.
+-- If each element of a list passes a test, all of them do.
 use Rattle.std.proofs.Common.{◌≡◌, suc, Bool, true, ◌&&◌, List, [], ◌∷◌, refl, ap, ◌∙◌}
 use Rattle.std.specs.List.{list_all}
 use Rattle.table_image.specs.Bounds.{Every}

@@ -1,4 +1,4 @@
--- A search of seats, one part after the other.
+-- A search of two lists of seats, one after the other.
 use Rattle.std.proofs.Common.{◌≡◌, ℕ, Bool, true, false, cond, List, [], ◌∷◌, ◌++◌, refl, sym, ap, ◌∙◌, suc, ◌+◌, ◌≤◌, length, map, drop, take, ◌-◌, is_some, nat_lt, slice_index_or, arith}
 use Rattle.std.proofs.lemmas.List.{take_all}
 use Rattle.std.proofs.lemmas.Option.{none-some}
@@ -12,7 +12,7 @@ use Rattle.table_image.specs.Internet.{Internet}
 use Rattle.table_image.specs.declared.router.Router.{Router}
 
 module _ (named : Option ℕ) (a : Addr) where
-  -- what is found in the first part is found in the whole
+  -- A spot that is found in the first list is found in the whole.
   pub found_first : (xs ys : List Seat) (s : Spot) → spot_in xs named a ≡ Some s → spot_in (xs ++ ys) named a ≡ Some s
   found_first [] ys s h = absurd (none-some s h)
   found_first (x ∷ xs) ys s h = by (found_first xs ys s) (is_at named a x) h
@@ -23,7 +23,7 @@ module _ (named : Option ℕ) (a : Addr) where
       by rest true h = h
       by rest false h = rest h
 
-  -- where nothing is found there, what is found in the second part is
+  -- If the first list has none, the result is that of the second list.
   pub found_later : (xs ys : List Seat) → spot_in xs named a ≡ None → spot_in (xs ++ ys) named a ≡ spot_in ys named a
   found_later [] ys h = refl
   found_later (x ∷ xs) ys h = by (found_later xs ys) (is_at named a x) h
@@ -34,7 +34,7 @@ module _ (named : Option ℕ) (a : Addr) where
       by rest true h = absurd (none-some (spot_of x) (sym h))
       by rest false h = rest h
 
--- where nothing is found at the first router, what is found at the others is
+-- If the first router has none, the result is that of the other routers.
 pub routers_later : (named : Option ℕ) (a : Addr) (from : ℕ) (rs : List Router) (d : Router) → 1 ≤ length rs
     → spot_in (map (port_seat from) (slice_index_or rs 0 d).ports) named a ≡ None
     → spot_in (router_seats from rs) named a ≡ spot_in (router_seats (from + 1) (take (length rs - 1) (drop 1 rs))) named a
@@ -45,7 +45,7 @@ routers_later named a from (x ∷ rs) d some h =
     ∙ ap (λ (l : List Router). spot_in (router_seats (from + 1) l) named a)
     (sym (ap (λ n. take n rs) (omega arith) ∙ take_all (length rs) rs (omega arith)))
 
--- a router has the address where a station has it that is one
+-- A router has the address if and only if the station that has it is a router.
 pub router_spot : (i : Internet) (cable : ℕ) (a : Addr) → is_some (owner i cable a) ≡ is_routers i (spot_in (seats i) (Some cable) a)
 router_spot i cable a = by (seat_at i cable a)
   where

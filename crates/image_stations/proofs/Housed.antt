@@ -1,4 +1,4 @@
--- The stations of each cable are those that an internet has there.
+-- The stations of each cable are those that the internet has on it.
 use Rattle.std.proofs.Common.{◌≡◌, ◌⊎◌, ℕ, zero, suc, ◌+◌, inl, inr, Bool, true, false, cond, ◌&&◌, ◌==◌, List, [], ◌∷◌, ◌++◌, length, refl, sym, ap, ◌∙◌, arith, filter, map, find, slice_get}
 use Rattle.std.proofs.Common.{Option, Some, None, option_map}
 use Rattle.at_base.specs.Address.{same_address}
@@ -14,7 +14,7 @@ use Rattle.table_image.specs.Internet.{Internet}
 pub no_homes : (i : Internet) → AreHomes i []
 no_homes i = λ cable homes at. absurd cc
 
--- the homes of the next cable too
+-- The lists of homes with that of the next cable.
 pub next_homes : (i : Internet) (lists : List (List Home)) (homes : List Home) (n : ℕ) → AreHomes i lists → length lists ≡ n
     → homes ≡ homes_on n (seats i) → AreHomes i (lists ++ homes ∷ [])
 next_homes i lists homes n are long is = λ cable hs at. by cable hs (at_append lists (homes ∷ []) cable hs at)
@@ -32,7 +32,7 @@ next_homes i lists homes n are long is = λ cable hs at. by cable hs (at_append 
     by cable hs (inr w) = last cable w.0 hs w.1 w.2
 
 module _ (cable : ℕ) (a : Addr) where
-  -- among the homes on a cable is found what is found among all seats
+  -- A search among the homes of a cable has the result of a search among all seats.
   home_found : (ss : List Seat)
       → found_home (find (has a) (homes_on cable ss)) ≡ found_at (find (λ s. s.cable == cable && same_address s.address a) ss)
   home_found [] = refl

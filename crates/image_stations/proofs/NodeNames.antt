@@ -1,4 +1,4 @@
--- The names of a node of an internet within its limits are those of a node.
+-- The names of a node in an image within its limits are valid names of a node.
 use Rattle.std.proofs.Common.{◌≡◌, ℕ, suc, ◌<◌, true, ◌&&◌, List, [], ◌∷◌, refl, ap, ◌∙◌, arith, map}
 use Rattle.std.proofs.lemmas.Bool.{lt-ltb}
 use Rattle.std.proofs.lemmas.List.{length-map}

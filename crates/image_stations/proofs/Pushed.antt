@@ -1,4 +1,4 @@
--- Stations with one more.
+-- A list of stations with one more.
 use Rattle.std.proofs.Common.{◌≡◌, ◌⊎◌, ℕ, zero, suc, ◌+◌, inl, inr, List, [], ◌∷◌, ◌++◌, refl, subst, arith, length}
 use Rattle.std.proofs.lemmas.List.{length-append}
 use Rattle.audit.proofs.WalkLists.{At, at_append}
@@ -12,7 +12,7 @@ use Rattle.table_image.specs.Internet.{Internet}
 pub none_first : (i : Internet) → AreFirst i 0 []
 none_first i = record { number = refl; each = λ s m at. absurd cc }
 
--- the first stations with the next one
+-- The first stations with the next one.
 pub with_next : (i : Internet) (n : ℕ) (stations : List (Member Holding NodeHolding)) (m : Member Holding NodeHolding)
     → AreFirst i n stations → HoldsStation i n m → AreFirst i (n + 1) (stations ++ m ∷ [])
 with_next i n stations m first holds = record {

@@ -1,4 +1,4 @@
--- Of several refusals, where the others don't come, out of memory is left.
+-- If the other errors are excluded, `Memory` is the only one left.
 use Rattle.std.proofs.Common.{◌≡◌, ◌⊎◌, inl, inr, ap, Result, Ok, Err, IfErr, IsOkUnless}
 use Rattle.at_base.specs.declared.error.Error.{Error}
 use Rattle.at_base.specs.declared.error.Error.TheVariants.{Memory}

@@ -1,4 +1,4 @@
--- The rows of a router, in an internet that passes, are a routing table.
+-- The rows of a router in an internet that passes the audit are a valid routing table.
 use Rattle.std.proofs.Common.{◌≡◌, ℕ, suc, ◌<◌, inl, inr, true, ◌&&◌, List, [], ◌∷◌, Some, refl, sym, ap, ◌∙◌}
 use Rattle.std.proofs.Common.{arith, is_some, length, map, option_map, slice_get, nat_le, nat_lt}
 use Rattle.std.specs.List.{list_all}
@@ -26,7 +26,7 @@ use Rattle.table_image.specs.declared.port.Port.{Port}
 use Rattle.table_image.specs.declared.row.Row.{Row}
 use Rattle.table_image.specs.declared.router.Router.{Router}
 
--- each row ends below the start of a later one, and the first begins above a network
+-- Each row ends below the start of a later one, and the first starts above the network `low`.
 above : (low : ℕ) (rows : List Row) → ((k : ℕ) (row : Row) → At rows k row → low < row.start)
     → ((j k : ℕ) (a b : Row) → At rows j a → At rows k b → j < k → a.end < b.start) → are_above low (map route_row rows) ≡ true
 above low [] first apart = refl
@@ -36,7 +36,7 @@ above low (row ∷ rows) first apart =
     (λ j k a b at_a at_b lt. apart (suc j) (suc k) a b at_a at_b (omega (arith, lt)))
 
 module _ (i : Internet) (ok : Passes i) (r : ℕ) (router : Router) (known : At i.routers r router) where
-  -- a row is for some cable
+  -- A row is for some cable.
   of_cable : (k : ℕ) (row : Row) → At router.rows k row → (c : ℕ) × (cable : Cable) × At i.cables c cable × (is_for row cable ≡ true)
   of_cable k row at =
       let here : at_row i r k (bad_range i) ≡ bad_range i router row =
@@ -46,7 +46,7 @@ module _ (i : Internet) (ok : Passes i) (r : ℕ) (router : Router) (known : At 
       let w = index_at (is_for row) i.cables found.0 found.1 in
       (found.0, w.0, w.1, w.2)
 
-  -- so its range is valid
+  -- The start of each row's range isn't 0.
   low : (k : ℕ) (row : Row) → At router.rows k row → 0 < row.start
   low k row at =
       let w = of_cable k row at in
@@ -66,11 +66,11 @@ module _ (i : Internet) (ok : Passes i) (r : ℕ) (router : Router) (known : At 
       let high = good.high in
       is_range_when row.start row.end (low k row at) (omega (arith, start, end, up)) (omega (arith, end, high))
 
-  -- the range of each row is valid
+  -- The range of each row is valid.
   ranges_valid : have_ranges router.rows ≡ true
   ranges_valid = all_when (λ row. is_range row.start row.end) router.rows has_range
 
-  -- a row ends below the start of a later one, since it does so on the cables
+  -- A row ends below the start of a later one, because the cables do.
   apart : AreRising router.rows → (j k : ℕ) (a b : Row) → At router.rows j a → At router.rows k b → j < k → a.end < b.start
   apart rises j k a b at_a at_b lt =
       let v = of_cable j a at_a in
@@ -94,7 +94,7 @@ module _ (i : Internet) (ok : Passes i) (r : ℕ) (router : Router) (known : At 
             absurd (omega (arith, h, up, starts, start_a, start_b))
       ]
 
-  -- the rows are a routing table
+  -- The rows are a valid routing table.
   pub route_map : IsBounded i → IsRouteMap (map route_row router.rows)
   route_map bounded =
       let limits = bounded.each r router known in
@@ -110,21 +110,21 @@ module _ (i : Internet) (ok : Passes i) (r : ℕ) (router : Router) (known : At 
             omega (arith, few, same);
       }
 
-  -- each row is by one of the router's ports
+  -- The port of each row is one of the router's ports.
   rows_ported : IsBounded i → list_all (λ (row : RouteRow). nat_lt row.port (length router.ports)) (map route_row router.rows) ≡ true
   rows_ported bounded =
       list_all-map (λ (row : RouteRow). nat_lt row.port (length router.ports)) route_row router.rows
       ∙ all_when (λ (row : Row). nat_lt row.port (length router.ports)) router.rows
       (λ k row at. lt-ltb row.port (length router.ports) ((bounded.each r router known).each_row k row at).port)
 
-  -- the same of rows and ports that are equal
+  -- The port of each row is one of the ports, for rows and ports that equal the router's.
   pub are_ported : (ports : List Port) (rows : List RouteRow) → IsBounded i → ports ≡ router.ports → rows ≡ map route_row router.rows
       → list_all (λ (row : RouteRow). nat_lt row.port (length ports)) rows ≡ true
   are_ported ports rows bounded same_ports same_rows =
       ap (λ (all : List Port). list_all (λ (row : RouteRow). nat_lt row.port (length all)) rows) same_ports
       ∙ (ap (list_all (λ (row : RouteRow). nat_lt row.port (length router.ports))) same_rows ∙ rows_ported bounded)
 
--- the rows of a router, by its index
+-- The rows of a router, by its index.
 pub rows_are : (i : Internet) (r : ℕ) (router : Router) (rows : List RouteRow) → At i.routers r router
     → option_map (map route_row) (rows_at r i) ≡ Some rows → rows ≡ map route_row router.rows
 rows_are i r router rows known e =
@@ -137,7 +137,7 @@ ranges_at i r ok there =
     let known = at_below i.routers r there in
     ap (λ o. option_map have_ranges (option_map (λ (x : Router). x.rows) o)) known.1 ∙ ap Some (ranges_valid i ok r known.0 known.1)
 
--- rows of a table have distances that a packet holds
+-- The rows of a valid table have distances that fit into a packet.
 pub near : (rows : List RouteRow) → list_all is_row rows ≡ true → list_all (λ (row : RouteRow). nat_le row.distance 31) rows ≡ true
 near [] h = refl
 near (row ∷ rows) h =

@@ -1,4 +1,4 @@
--- The seats of stations, one after another, are those of their internet.
+-- The seats of stations, in order, are those of their internet.
 use Rattle.std.proofs.Common.{◌≡◌, ℕ, suc, ◌+◌, ◌≤◌, ◌==◌, cond, List, [], ◌∷◌, ◌++◌, length, map, refl, sym, ap, ◌∙◌, arith}
 use Rattle.std.proofs.Common.{Option, Some, None, option_map, slice_get, subst, position, ◌-◌}
 use Rattle.std.proofs.lemmas.Bool.{lt-ltb, le-ltb}
@@ -19,7 +19,7 @@ use Rattle.table_image.specs.declared.port.Port.{Port}
 use Rattle.table_image.specs.declared.router.Router.{Router}
 
 module _ (i : Internet) where
-  -- a seat with a port and a group
+  -- A seat with a port and a group.
   abbrev seat_with : ℕ → Port → ℕ → Option ℕ → Seat
   seat_with r p n g = record { cable = p.cable; station = r; port = n; hw = p.hardware; group = g }
 
@@ -27,7 +27,7 @@ module _ (i : Internet) where
   router_node r x at =
       ap (λ b. cond b None (slice_get i.nodes (r - length i.routers))) (lt-ltb r (length i.routers) (slice_get_within i.routers r x at))
 
-  -- the seat by one of a router's ports
+  -- The seat of one of a router's ports.
   port_is : (r : ℕ) (x : Router) (p : Port) → slice_get i.routers r ≡ Some x → cable_seat i (port_seat r p) ≡ router_seat r x.ports p
   port_is r x p at =
       ap (λ o. seat_with r p (port_on o p.cable) (option_map (λ node. group_of node.zone) (node_of i r))) at
@@ -55,7 +55,7 @@ module _ (i : Internet) where
   node_with s x n o =
       record { cable = x.cable; station = s; port = n; hw = x.hardware; group = option_map (λ node. group_of node.zone) o }
 
-  -- the seat of a node
+  -- The seat of a node.
   node_is : (s k : ℕ) (x : Node) → s ≡ length i.routers + k → slice_get i.nodes k ≡ Some x
       → cable_seat i (record { station = s; cable = x.cable; address = x.address; hardware = x.hardware }) ≡ node_seat s x
   node_is s k x e at =
@@ -73,14 +73,14 @@ module _ (i : Internet) where
       ∙ ap (λ l. node_seat s x ∷ l)
       (nodes_are (suc s) (suc k) ns (omega (arith, e)) (λ j y h. subst (λ n. slice_get i.nodes n ≡ Some y) (omega arith) (at (suc j) y h)))
 
-  -- the seats of an internet
+  -- The seats of an internet.
   pub seats_are : seats_on i ≡ cable_seats i
   seats_are =
       sym (map-append (cable_seat i) (router_seats 0 i.routers) (node_seats (length i.routers) i.nodes)
       ∙ ap (λ l. l ++ map (cable_seat i) (node_seats (length i.routers) i.nodes)) (routers_are 0 i.routers (λ k x h. subst (λ n. slice_get i.routers n ≡ Some x) (omega arith) h))
       ∙ ap (λ l. seats_from 0 i.routers ++ l) (nodes_are (length i.routers) 0 i.nodes (omega arith) (λ j x h. subst (λ n. slice_get i.nodes n ≡ Some x) (omega arith) h)))
 
--- the routers of an internet within its limits have few ports
+-- The routers of an image within its limits have at most 16 ports.
 each_few : (rs : List Router) → ((k : ℕ) (x : Router) → slice_get rs k ≡ Some x → length x.ports ≤ 16)
     → Each (λ (router : Router). length router.ports ≤ 16) rs
 each_few [] few = tt

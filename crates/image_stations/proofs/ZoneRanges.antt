@@ -1,4 +1,4 @@
--- The zone lists of a router, in an internet that passes, are a zone table.
+-- The zone lists of a router in an internet that passes the audit are a valid zone table.
 use Rattle.std.proofs.Common.{◌≡◌, ℕ, suc, ◌<◌, true, ◌&&◌, ◌||◌, not, List, [], ◌∷◌, Some, refl, sym, ap, ◌∙◌, arith, length}
 use Rattle.std.proofs.Common.{nat_lt, option_map, ◌==◌}
 use Rattle.std.proofs.lemmas.Bool.{lt-ltb}
@@ -20,14 +20,14 @@ use Rattle.table_image.specs.declared.router.Router.{Router}
 use Rattle.table_image.specs.declared.zone_list.ZoneList.{ZoneList}
 use Rattle.zip_zones.specs.Zones.{are_above}
 
--- the range of what is known of a complete list
+-- The range in the zone table of a complete list is the list's.
 starts : (l : ZoneList) → l.complete ≡ true → (known_of_list l).range.start ≡ l.start
 starts l e = rw e refl
 
 ends : (l : ZoneList) → l.complete ≡ true → (known_of_list l).range.end ≡ l.end
 ends l e = rw e refl
 
--- each list ends below the start of a later one, and the first begins above a network
+-- Each list ends below the start of a later one, and the first starts above the network `low`.
 above : (low : ℕ) (lists : List ZoneList) → Every (λ (l : ZoneList). l.complete ≡ true) lists
     → ((k : ℕ) (l : ZoneList) → At lists k l → low < l.start)
     → ((j k : ℕ) (a b : ZoneList) → At lists j a → At lists k b → j < k → a.end < b.start) → are_above low (zone_map lists) ≡ true
@@ -75,20 +75,20 @@ module _ (i : Internet) (ok : Passes i) (bounded : IsBounded i) (r : ℕ) (route
       let start = w.2.start in
       omega (arith, h, end, start)
 
-  -- the lists have ranges as a zone table's
+  -- The lists have the ranges of a zone table.
   pub zone_ranges : have_zone_ranges router.lists ≡ true
   zone_ranges =
       ap (λ b. b && are_above 0 (zone_map router.lists)) (all_when (λ (l : ZoneList). is_range l.start l.end) router.lists has_range)
       ∙ above 0 router.lists complete low apart
 
-  -- a zone table has room for them
+  -- A zone table has room for the lists.
   pub few_zones : have_few_zones router.lists ≡ true
   few_zones =
       sym (all_few router.lists (λ k l at. ((bounded.each r router known).each_list k l at).few))
       ∙ all_when (λ (l : ZoneList). l.complete || nat_lt (length l.zones) 64) router.lists
       (λ k l at. ap (λ b. b || nat_lt (length l.zones) 64) (complete k l at))
 
--- so are those of a router by its index
+-- The lists of a router by its index have the ranges of a zone table, which has room for them.
 module _ (i : Internet) (r : ℕ) (ok : Passes i) (bounded : IsBounded i) (there : r < length i.routers) where
   pub zone_ranges_at : option_map have_zone_ranges (lists_at r i) ≡ Some true
   zone_ranges_at =

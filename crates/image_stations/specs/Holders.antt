@@ -1,4 +1,4 @@
--- What the stations of an internet hold whose tables are those of its image. This project's own.
+-- What the stations of an internet hold if their tables are those of its image.
 use Rattle.std.specs.Prelude.{◌≡◌, ℕ, ◌+◌, List, map, length, Option, Some, None, is_some, slice_get}
 use Rattle.aarp.specs.Choosing.{Choice, decided}
 use Rattle.at_base.specs.Range.{Span}
@@ -23,29 +23,30 @@ use Rattle.nbp.specs.declared.names.Named.{Named}
 use Rattle.table_image.specs.declared.node.Node.{Node}
 use Rattle.table_image.specs.declared.node.NodeName.{NodeName}
 
--- what a seat says of its station
+-- The result of a search: the hardware address of the seat, or nobody if there is no seat.
 abbrev pub found_at : Option Seat → Found
 found_at None = Nobody
 found_at (Some s) = At s.hardware
 
--- Where the stations of an internet are, and which networks have a cable: all is known.
+-- Where the stations of an internet are, and which networks have a cable; the hardware address of every station is
+-- known.
 abbrev pub places_of : Internet → Places
 places_of i = record { finds = λ cable a. found_at (seat_at i cable a); lists = λ net. is_some (home i net) }
 
--- the range of a cable, where there is one
+-- The range of a cable, and 0 to 0 if there is no cable.
 abbrev pub range_of : Option Cable → Span
 range_of None = record { start = 0; end = 0 }
 range_of (Some c) = record { start = c.start; end = c.end }
 
--- the choice of a port's address on a cable: it is made
+-- The address choice of a port on a cable, whose address is already settled.
 abbrev pub choice_on : Internet → ℕ → Addr → Hw → Choice
 choice_on i cable a hw = decided (range_of (slice_get i.cables cable)) a hw
 
--- the ports of a router, each with its address
+-- The ports of a router, each with its address.
 abbrev pub ports_of : Internet → List Port → List Choice
 ports_of i ports = map (λ p. choice_on i p.cable p.address p.hardware) ports
 
--- A router holds what the image says of router r: the addresses of its ports, its rows and its zone lists.
+-- A router holds what the image has for router r: the addresses of its ports, its rows and its zone lists.
 pub record HoldsRouter (i : Internet) (r : ℕ) (h : Holding) : Type 0 where
   pub router : Router
   pub known : slice_get i.routers r ≡ Some router
@@ -53,11 +54,11 @@ pub record HoldsRouter (i : Internet) (r : ℕ) (h : Holding) : Type 0 where
   pub routes : h.routes ≡ map route_row router.rows
   pub zones : h.zones ≡ zone_map router.lists
 
--- a name of an image as one of a node
+-- A node's name, from a name in the image.
 abbrev pub named : NodeName → Named
 named n = record { socket = n.socket; enumerator = n.enumerator; object = n.object; kind = n.kind }
 
--- A node holds what the image says of node k: its address, its zone, its router and its names.
+-- A node holds what the image has for node k: its address, its zone, its router and its names.
 pub record HoldsNode (i : Internet) (k : ℕ) (h : NodeHolding) : Type 0 where
   pub node : Node
   pub known : slice_get i.nodes k ≡ Some node
@@ -66,12 +67,13 @@ pub record HoldsNode (i : Internet) (k : ℕ) (h : NodeHolding) : Type 0 where
   pub router : h.router ≡ node.router
   pub names : h.names ≡ map named node.names
 
--- Station s is a router or a node, and holds what the image says of it.
+-- Station s is a router or a node, and holds what the image has for it.
 abbrev pub HoldsStation : Internet → ℕ → Member Holding NodeHolding → Type 0
 HoldsStation i s (member.Router h) = HoldsRouter i s h
 HoldsStation i s (member.Node h) = (k : ℕ) × (s ≡ length i.routers + k) × HoldsNode i k h
 
--- These are the stations of an internet, each of which holds what the image says of it: its routers, then its nodes.
+-- These are the stations of an internet, its routers and then its nodes, each with the contents that the image has for
+-- it.
 pub record HoldStations (i : Internet) (stations : List (Member Holding NodeHolding)) : Type 0 where
   pub number : length stations ≡ length i.routers + length i.nodes
   pub each : (s : ℕ) (m : Member Holding NodeHolding) → slice_get stations s ≡ Some m → HoldsStation i s m

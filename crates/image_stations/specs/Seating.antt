@@ -1,4 +1,4 @@
--- The seats of an internet's stations on its cables, station by station. This project's own.
+-- The seats of an internet's stations on its cables, station by station.
 use Rattle.std.specs.Prelude.{ℕ, suc, ◌==◌, List, [], ◌∷◌, ◌++◌, map, length, position, Some, None}
 use Rattle.std.specs.Option.{unwrap_or}
 use Rattle.cable_model.specs.declared.seat.Seat.{Seat}
@@ -8,7 +8,7 @@ use Rattle.table_image.specs.declared.node.Node.{Node}
 use Rattle.table_image.specs.declared.port.Port.{Port}
 use Rattle.table_image.specs.declared.router.Router.{Router}
 
--- the seat that router r has by a port, one of these
+-- The seat of a port of router r; the port is one of `ports`.
 abbrev pub router_seat : ℕ → List Port → Port → Seat
 router_seat r ports port = record {
   cable = port.cable;
@@ -18,21 +18,21 @@ router_seat r ports port = record {
   group = None;
 }
 
--- the seats of routers that are numbered from r on
+-- The seats of routers that are numbered from r on.
 abbrev pub seats_from : ℕ → List Router → List Seat
 seats_from r [] = []
 seats_from r (router ∷ routers) = map (router_seat r router.ports) router.ports ++ seats_from (suc r) routers
 
--- the seat of a node
+-- The seat of a node whose station is number s.
 abbrev pub node_seat : ℕ → Node → Seat
 node_seat s node =
     record { cable = node.cable; station = s; port = 0; hw = node.hardware; group = Some (group_of node.zone) }
 
--- the seats of nodes whose stations are numbered from s on
+-- The seats of nodes whose stations are numbered from s on.
 abbrev pub node_seats_from : ℕ → List Node → List Seat
 node_seats_from s [] = []
 node_seats_from s (node ∷ nodes) = node_seat s node ∷ node_seats_from (suc s) nodes
 
--- the seats of an internet
+-- The seats of an internet: of its routers, then of its nodes.
 abbrev pub seats_on : Internet → List Seat
 seats_on i = seats_from 0 i.routers ++ node_seats_from (length i.routers) i.nodes

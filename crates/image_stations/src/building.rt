@@ -1,7 +1,6 @@
-//! The stations of an internet, each of which holds what the image says of it.
+//! Builds the stations of an internet, each with the tables that the image has for it.
 
-ghost use Rattle.std.specs.Prelude.{◌≤◌, ◌+◌, length};
-ghost use Rattle.std.specs.Prelude.{IfOk, IsOkUnless, OnOk};
+ghost use Rattle.std.specs.Prelude.{IfOk, IsOkUnless, OnOk, length, ◌+◌, ◌≤◌};
 ghost use Rattle.audit.specs.Rules.{Passes};
 ghost use Rattle.image_stations.specs.Building.{AreFirst};
 ghost use Rattle.image_stations.specs.Holders.{HoldStations};
@@ -16,7 +15,7 @@ use std::alloc::Global;
 use table_image::Image;
 
 #[tactic(auto, using(crate::proofs::Pushed::with_next))]
-/// Appends the routers from an index on.
+/// Appends the routers with indexes from `from` on.
 fn put_routers<T: RouteTable>(
     stations: &mut Vec<Member<Router<T>, EndNode>>,
     image: &Image,
@@ -39,7 +38,7 @@ fn put_routers<T: RouteTable>(
 }
 
 #[tactic(auto, using(crate::proofs::Pushed::with_next))]
-/// Appends the nodes from an index on.
+/// Appends the nodes with indexes from `from` on.
 fn put_nodes<T: RouteTable>(
     stations: &mut Vec<Member<Router<T>, EndNode>>,
     image: &Image,

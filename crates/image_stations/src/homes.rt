@@ -11,7 +11,7 @@ use std::alloc::Global;
 use std::marker::Model;
 use table_image::{Image, Node, Port, Router};
 
-/// A station on a cable: its address there, and its hardware address. This project's own.
+/// The address of a station on a cable, and its hardware address there.
 #[derive(Clone, Copy, Debug, PartialEq, Eq)]
 pub struct Home {
     /// The address.
@@ -36,7 +36,7 @@ impl Model for OnCable {
 }
 
 impl OnCable {
-    /// The station that has the address.
+    /// Finds the station that has the address.
     fn find(&self, addr: Addr) -> Found
         ensures { result ≡ found_home (find (has addr) self.now) }
     {
@@ -47,7 +47,7 @@ impl OnCable {
     }
 }
 
-/// Whether it is the home of the address.
+/// Whether the home has the address.
 fn is_home(home: &Home, addr: Addr) -> bool
     ensures { result ≡ has addr home.now }
 {
@@ -132,8 +132,7 @@ fn on_cable(alloc: Global, image: &Image, cable: u8) -> Result<OnCable, Error>
     Ok(OnCable { homes })
 }
 
-/// The stations on each cable of an internet, so that one is looked for among few. This project's
-/// own.
+/// The stations of each cable of an internet. A search looks only at the stations of one cable.
 #[derive(Debug, Drop)]
 pub struct Homes {
     cables: Vec<OnCable>,
@@ -149,7 +148,7 @@ impl Model for Homes {
 }
 
 impl Homes {
-    /// The stations on each cable of an internet. Error: `Memory`.
+    /// The stations of each cable of an internet. Error: `Memory`.
     pub fn of(alloc: Global, image: &Image) -> Result<Homes, Error>
         ensures ok { IfOk result (AreHomes image.now) }
         ensures refused { IsOkUnless result Error.Memory }
@@ -161,7 +160,7 @@ impl Homes {
         Ok(Homes { cables })
     }
 
-    /// What is known of the station that has the address on a cable, if the cable is one of these.
+    /// Finds the station that has the address on the cable. `None` if the cable isn't in the list.
     /// Allocates nothing.
     pub fn find(&self, cable: u8, addr: Addr) -> Option<Found>
         ensures { result

@@ -1,4 +1,4 @@
-//! The stations of an internet whose tables are those of an image: where they are, and what they
+//! The stations of an internet with the tables of an image: where they are, and which tables they
 //! hold.
 #![tactic(auto)]
 

@@ -1,4 +1,4 @@
-//! Nodes that hold what an image says of them.
+//! Nodes with the contents that an image has for them.
 
 ghost use Rattle.std.specs.Prelude.{◌≡◌, ◌<◌, ◌++◌, ℕ, [], length, map, slice_get, None, Some};
 ghost use Rattle.std.specs.Prelude.{IfOk, IsOkUnless, IsTrue, OnOk};
@@ -16,7 +16,7 @@ use nbp::{Named, Names};
 use std::alloc::Global;
 use table_image::{Image, Node, NodeName};
 
-/// A name of an image as one of a node.
+/// A node's name, from a name in the image.
 fn name_of(name: &NodeName) -> Named
     ensures { result ≡ named name.now }
 {
@@ -28,7 +28,7 @@ fn name_of(name: &NodeName) -> Named
     }
 }
 
-/// Appends names of an image as those of a node.
+/// Appends a node's names, from names in the image.
 fn put_names(names: &mut Vec<Named>, some: &[NodeName]) -> Result<(), Error>
     ensures put { OnOk result (names.new.items ≡ names.old.items ++ map named some.now) }
     ensures refused { IsOkUnless result Error.Memory }
@@ -53,7 +53,7 @@ fn names_of(alloc: Global, some: &[NodeName]) -> Result<Names, Error>
     Names::load(alloc, names.as_slice())
 }
 
-/// A node that holds what the image says of it. Error: `Memory`.
+/// A node with the contents that the image has for it. Error: `Memory`.
 fn node_by(alloc: Global, image: &Image, node: &Node) -> Result<EndNode, Error>
     requires seated { IsTrue (is_seated image.now.cables node.now.cable node.now.address) }
     requires names { IsNames (map named node.now.names) }
@@ -72,7 +72,7 @@ fn node_by(alloc: Global, image: &Image, node: &Node) -> Result<EndNode, Error>
     EndNode::new(alloc, &plan, node.zone, node.router, names)
 }
 
-/// What the image says of a node.
+/// The image's entry for a node.
 fn tables_of(image: &Image, index: u8) -> &Node
     requires { index < length image.now.nodes }
     ensures known { slice_get image.now.nodes index ≡ Some result.now }
@@ -81,13 +81,13 @@ fn tables_of(image: &Image, index: u8) -> &Node
     &image.nodes()[index as usize]
 }
 
-/// A node that holds what an image that passes the audit says of it, by its index from 0. Error:
-/// `Memory`.
+/// A node with the contents that an image that passes the audit has for it. `index` counts the
+/// image's nodes from 0. Error: `Memory`.
 pub fn node_of(alloc: Global, image: &Image, index: u8) -> Result<EndNode, Error>
     requires passes { Passes image.now }
     requires there { index < length image.now.nodes }
     ensures ok { IfOk result (λ node. HoldsNode image.now index node × (node.received ≡ [])) }
-    // It asks for nothing yet.
+    // The node has sent no requests yet.
     ensures first { IfOk result (λ node. node.asks.next ≡ 1) }
     ensures none { IfOk result (λ node. (id : ℕ) → known id node.asks.slots ≡ None) }
     ensures refused { IsOkUnless result Error.Memory }

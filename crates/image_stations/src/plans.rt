@@ -1,7 +1,6 @@
-//! How the ports of stations begin, by an image.
+//! The state in which an image's ports begin.
 
-ghost use Rattle.std.specs.Prelude.{◌≡◌, ◌++◌, map, slice_get, IfOk, IsOkUnless, IsTrue};
-ghost use Rattle.std.specs.Prelude.{OnOk};
+ghost use Rattle.std.specs.Prelude.{IfOk, IsOkUnless, IsTrue, OnOk, map, slice_get, ◌++◌, ◌≡◌};
 ghost use Rattle.std.specs.List.{list_all};
 ghost use Rattle.station.specs.Ports.{is_planned, planned};
 ghost use Rattle.image_stations.specs.Holders.{choice_on, ports_of, range_of};
@@ -21,7 +20,7 @@ fn range_at(cables: &[Cable], cable: u8, address: Addr) -> Range
     Range::new(found.start, found.end).unwrap()
 }
 
-/// A port that has its address.
+/// A port that begins with its address.
 pub(crate) fn plan_of<'a>(image: &Image, cable: u8, address: Addr, hw: Hw) -> PortPlan<'a>
     requires { IsTrue (is_seated image.now.cables cable address) }
     ensures choice { planned result ≡ choice_on image.now cable address hw }
@@ -35,7 +34,7 @@ pub(crate) fn plan_of<'a>(image: &Image, cable: u8, address: Addr, hw: Hw) -> Po
     }
 }
 
-/// Appends ports that have their addresses.
+/// Appends ports that begin with their addresses.
 fn put_plans<'a>(plans: &mut Vec<PortPlan<'a>>, image: &Image, ports: &[Port]) -> Result<(), Error>
     requires { IsTrue (list_all (is_port_seated image.now.cables) ports.now) }
     ensures put { OnOk result (map planned plans.new.items

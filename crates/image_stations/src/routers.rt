@@ -1,4 +1,4 @@
-//! Routers that hold what an image says of them.
+//! Routers with the tables that an image has for them.
 
 ghost use Rattle.std.specs.Prelude.{◌≡◌, ◌<◌, ◌≤◌, [], length, map, nat_lt, slice_get, Some};
 ghost use Rattle.std.specs.Prelude.{option_map, IfOk, IsOkUnless, IsTrue};
@@ -31,7 +31,7 @@ fn rows_of(alloc: Global, image: &Image, index: u8) -> Result<Vec<Row>, Error>
     image.rows_of(alloc, index)
 }
 
-/// A routing table of these rows. Error: `Memory`.
+/// A routing table with these rows. Error: `Memory`.
 fn table_of<T: RouteTable>(alloc: Global, rows: &[Row]) -> Result<T, Error>
     requires { IsRouteMap rows.now }
     ensures ok { IfOk result (λ table. T.rows table ≡ rows.now) }
@@ -50,7 +50,7 @@ fn zones_of(alloc: Global, image: &Image, index: u8) -> Result<ZoneTable, Error>
         (λ zones. option_map zone_map (lists_at index image.now) ≡ Some zones) }
     ensures refused { IsOkUnless result Error.Memory }
 {
-    // Read for the prover alone: the routers of an image are within its limits.
+    // Only the prover needs this read: it shows that the image's routers are within its limits.
     let _routers = image.routers();
     image.zones_of(alloc, index)
 }
@@ -79,7 +79,7 @@ fn router_by<T: RouteTable>(
     Router::new(alloc, plans.as_slice(), routes, zones)
 }
 
-/// What the image says of a router.
+/// The image's entry for a router.
 fn tables_of(image: &Image, index: u8) -> &Tables
     requires { index < length image.now.routers }
     ensures known { slice_get image.now.routers index ≡ Some result.now }
@@ -88,8 +88,8 @@ fn tables_of(image: &Image, index: u8) -> &Tables
     &image.routers()[index as usize]
 }
 
-/// A router that holds what an image that passes the audit says of it, by its index from 0. Error:
-/// `Memory`.
+/// A router with the tables that an image that passes the audit has for it. `index` counts the
+/// image's routers from 0. Error: `Memory`.
 pub fn router_of<T: RouteTable>(alloc: Global, image: &Image, index: u8) -> Result<Router<T>, Error>
     requires passes { Passes image.now }
     requires there { index < length image.now.routers }

@@ -20,7 +20,7 @@ fn port_on(ports: &[Port], cable: u8) -> Option<usize>
     ports.iter().position(|p| p.cable == cable)
 }
 
-/// The number of the first of these ports that is on the cable, and 0 where none is.
+/// The index of the first of these ports that is on the cable, and 0 if none is.
 fn number_on(ports: &[Port], cable: u8) -> u8
     requires { length ports.now ≤ 16 }
     ensures { result ≡ unwrap_or (position (λ p. p.cable == cable) ports.now) 0 }
@@ -31,7 +31,7 @@ fn number_on(ports: &[Port], cable: u8) -> u8
     }
 }
 
-/// The seat that a router has by a port, one of these.
+/// The seat of a router's port. `port` is one of `ports`.
 fn seat_by(router: u16, ports: &[Port], port: &Port) -> Seat
     requires { length ports.now ≤ 16 }
     ensures { result ≡ router_seat router ports.now port.now }
@@ -45,7 +45,7 @@ fn seat_by(router: u16, ports: &[Port], port: &Port) -> Seat
     }
 }
 
-/// Appends the seats that a router has by some of its ports.
+/// Appends the seats of some of a router's ports.
 fn put_ports(seats: &mut Vec<Seat>, router: u16, ports: &[Port], some: &[Port]) -> Result<(), Error>
     requires { length ports.now ≤ 16 }
     ensures put { OnOk result (seats.new.items
@@ -61,7 +61,7 @@ fn put_ports(seats: &mut Vec<Seat>, router: u16, ports: &[Port], some: &[Port]) 
     }
 }
 
-/// Appends the seats of routers that are numbered from an index on.
+/// Appends the seats of routers whose stations are numbered from `from` on.
 fn put_routers(seats: &mut Vec<Seat>, from: u16, routers: &[Router]) -> Result<(), Error>
     requires few { from + length routers.now ≤ 200 }
     requires ports { Each (λ router. length router.ports ≤ 16) routers.now }
@@ -91,7 +91,7 @@ fn seat_of(station: u16, node: &Node) -> Seat
     }
 }
 
-/// Appends the seats of nodes whose stations are numbered from one on.
+/// Appends the seats of nodes whose stations are numbered from `from` on.
 fn put_nodes(seats: &mut Vec<Seat>, from: u16, nodes: &[Node]) -> Result<(), Error>
     requires few { from + length nodes.now ≤ 400 }
     ensures put { OnOk result (seats.new.items ≡ seats.old.items ++ node_seats_from from nodes.now) }
@@ -106,8 +106,8 @@ fn put_nodes(seats: &mut Vec<Seat>, from: u16, nodes: &[Node]) -> Result<(), Err
     }
 }
 
-/// The seats of all stations of an internet: of the routers, then of the nodes, in their order.
-/// Error: `Memory`.
+/// The seats of all stations of an internet, in order: of the routers, then of the nodes. Error:
+/// `Memory`.
 #[tactic(auto, using(crate::proofs::Seating::seats_are, crate::proofs::Seating::few_ports))]
 pub fn seats_of(alloc: Global, image: &Image) -> Result<Vec<Seat>, Error>
     ensures ok { IfOk result (λ seats. seats.items ≡ cable_seats image.now) }

@@ -17,7 +17,7 @@ use std::alloc::Global;
 use std::marker::Model;
 use table_image::{Cable, Image, Node, Port, Router};
 
-/// A station on a cable. Stations and cables are counted from 0. This project's own.
+/// A station on a cable. Stations and cables are numbered from 0.
 #[derive(Clone, Copy, Debug, PartialEq, Eq)]
 pub struct Spot {
     /// The station.
@@ -28,14 +28,14 @@ pub struct Spot {
     pub hardware: Hw,
 }
 
-/// Whether two addresses are the same.
+/// Whether two addresses are equal.
 fn same_address(a: Addr, b: Addr) -> bool
     ensures { result ≡ address_spec.same_address a b }
 {
     a.net == b.net && a.node == b.node
 }
 
-/// Whether no cable is named, or this one.
+/// Whether no cable is named, or this one is.
 fn is_named(named: Option<u8>, cable: u8) -> bool
     ensures { result ≡ spec.is_named named cable }
 {
@@ -66,7 +66,7 @@ fn among_ports(router: u16, ports: &[Port], cable: Option<u8>, addr: Addr) -> Op
 }
 
 #[tactic(auto, using(crate::proofs::Finding::found_first))]
-/// The first port that has the address, of routers that are numbered from one on.
+/// The first port with the address, among the ports of routers that are numbered from `from` on.
 fn among_routers(from: u16, routers: &[Router], cable: Option<u8>, addr: Addr) -> Option<Spot>
     requires few { from + length routers.now ≤ 200 }
     ensures { result ≡ spot_in (router_seats from routers.now) cable addr }
@@ -82,7 +82,7 @@ fn among_routers(from: u16, routers: &[Router], cable: Option<u8>, addr: Addr) -
     }
 }
 
-/// The first node that has the address, of those whose stations are numbered from one on.
+/// The first node with the address, among nodes whose stations are numbered from `from` on.
 fn among_nodes(from: u16, nodes: &[Node], cable: Option<u8>, addr: Addr) -> Option<Spot>
     requires few { from + length nodes.now ≤ 400 }
     ensures { result ≡ spot_in (node_seats from nodes.now) cable addr }
@@ -122,7 +122,7 @@ fn home_of(cables: &[Cable], net: u16) -> Option<usize>
     cables.iter().position(|c| c.start <= net && net <= c.end)
 }
 
-/// An internet, and where its stations are. This project's own.
+/// An internet and the places of its stations.
 #[derive(Debug, Drop)]
 pub struct Whereabouts {
     image: Image,
@@ -141,7 +141,7 @@ impl Model for Whereabouts {
 }
 
 impl Whereabouts {
-    /// Where the stations of the image's internet are. Error: `Memory`.
+    /// The places of the stations of the image's internet. Error: `Memory`.
     pub fn of(alloc: Global, image: Image) -> Result<Whereabouts, Error>
         ensures ok { IfOk result (λ places. places ≡ image) }
         ensures refused { IsOkUnless result Error.Memory }
@@ -176,9 +176,8 @@ impl Whereabouts {
         spot_of(self.image(), None, addr).map(|spot| spot.station)
     }
 
-    /// What is known of the station that has the address on a cable, looked for among those of that
-    /// cable alone. A cable that the image doesn't have is no cable of a station, and is searched for
-    /// among all.
+    /// Finds the station that has the address on a cable, among the stations of that cable only. If
+    /// the image doesn't have the cable, all stations are searched.
     fn find_on(&self, cable: u8, addr: Addr) -> Found
         ensures { result ≡ found_at (seat_at self.now cable addr) }
     {

@@ -5,8 +5,7 @@ ghost use Rattle.std.specs.Prelude.{false, None, IfOk, OnErr, OnOk, IsOk, IsOkUn
 ghost use Rattle.std.specs.List.{list_any};
 ghost use Rattle.learning.specs.Partly.{IsLearnedInPart};
 ghost use Rattle.zip_zones.specs.Answers as spec;
-ghost use Rattle.zip_zones.specs.Answers.{after_list, is_taken};
-ghost use Rattle.zip_zones.specs.Answers.{networks_named, range_heard};
+ghost use Rattle.zip_zones.specs.Answers.{after_list, is_taken, networks_named, range_heard};
 ghost use Rattle.zip_zones.specs.Zones.{set_list, with_known};
 
 use crate::zones::range_of;

@@ -1,7 +1,6 @@
--- What the answers to a taken pair add to the counts of requests.
+-- What a station's answers to a taken pair add to the counts of requests.
 use Rattle.std.proofs.Common.{◌≡◌, ℕ, ◌+◌, ◌<◌, Bool, true, false, not, ◌&&◌, ◌||◌, ◌==◌, List, [], ◌∷◌, Option, Some, None}
-use Rattle.std.proofs.Common.{length, inl, inr, refl, sym, ap, ◌∙◌, subst, arith, true≢false, eqb-true, lt-ltb}
-use Rattle.std.proofs.Common.{is_some}
+use Rattle.std.proofs.Common.{ap, arith, eqb-true, inl, inr, is_some, length, lt-ltb, refl, subst, sym, true≢false, ◌∙◌}
 use Rattle.std.specs.List.{AllByRecursion as Each}
 use Rattle.std.proofs.lemmas.Bool.{and_left, and_parts, and_right, false_from_ne_true, or_cases}
 use Rattle.at_base.specs.Address.{same_address}
@@ -21,8 +20,7 @@ use Rattle.cable_model.specs.Transcript.{Entry, count, one}
 use Rattle.legal_runs.specs.Answers.{Answers, Expanded, IsMade, LookedUp, Others, ends_at, keeps_by}
 use Rattle.legal_runs.specs.Legal.{said}
 use Rattle.legal_runs.specs.Legs.{Leg, is_copy, is_unicast}
-use Rattle.legal_runs.specs.Lookups.{asks, ends_so, forwarded, is_home, is_request, is_routers}
-use Rattle.legal_runs.specs.Lookups.{seeks, waits}
+use Rattle.legal_runs.specs.Lookups.{asks, ends_so, forwarded, is_home, is_request, is_routers, seeks, waits}
 use Rattle.legal_runs.specs.Requests.{is_among, is_broadcast, is_forward, key_in, listing, request, zone_of}
 use Rattle.legal_runs.specs.Stations.{cable_seats, has_address, is_router}
 use Rattle.legal_runs.proofs.Frames.{Framed, target_inside}
@@ -159,7 +157,7 @@ module _ (i : Internet) (ok : Passes i) where
       ends : (is_unicast p.frame.to ≡ true) × (p.seat.station < length i.routers) × (ends_there i p ≡ true)
       ends = ends_parts i p parts.1
 
-      -- it is for any router, so it isn't for the router's own address
+      -- It is for any router, so it isn't for the router's own address.
       other : has_address i p.seat.station p.seat.cable (target p.frame.bytes) ≡ false
       other = no_node p.seat.station p.seat.cable (target p.frame.bytes) (good.seeker parts.0)
         where

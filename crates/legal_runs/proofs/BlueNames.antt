@@ -12,10 +12,9 @@ use Rattle.legal_runs.proofs.ByHand.{fitting, frame, is_body, not_zero, pair}
 use Rattle.legal_runs.specs.Answers.{ByRouter, Expanded, IsBody, IsMade, LookedUp, Others, ToThese}
 use Rattle.legal_runs.specs.Legal.{IsLegal, Begins, Goes, Sends, Takes}
 use Rattle.legal_runs.specs.Legs.{Leg}
-use Rattle.at_base.specs.Multicast.{group_hw}
+use Rattle.at_base.specs.Multicast.{group_hw, group_of}
 use Rattle.legal_runs.specs.LookupExample.{blue, blue_forward, blue_lookup, blue_names, blue_request, lab_reply}
 use Rattle.legal_runs.specs.Requests.{request, zone_of}
-use Rattle.at_base.specs.Multicast.{group_of}
 use Rattle.station.specs.declared.output.Next.TheVariants as next
 
 -- ---- The datagrams

@@ -1,4 +1,4 @@
--- Datagrams and pairs of examples that were worked by hand.
+-- Datagrams and pairs of the examples.
 use Rattle.std.proofs.Common.{◌≡◌, ◌≢◌, ◌<◌, ◌≤◌, ℕ, IsTrue, List, Option, inl, length, nat_lt, refl, arith}
 use Rattle.std.specs.List.{list_all}
 use Rattle.at_base.specs.Spelling.{bytes_of}
@@ -12,11 +12,11 @@ use Rattle.cable_model.specs.Pending.{Pair}
 use Rattle.cable_model.specs.Transcript.{Frame}
 use Rattle.legal_runs.specs.Answers.{IsBody}
 
--- a number that is above 0
+-- A number above 0 isn't 0.
 pub not_zero : (n : ℕ) → 1 ≤ n → n ≢ 0
 not_zero n low = λ z. absurd (omega (arith, low, z))
 
--- a header whose networks are below 256
+-- A header whose numbers are all below 256 fits its fields.
 pub fitting : (h : Header) → h.target.net < 256 → h.target.node < 256 → h.source.net < 256 → h.source.node < 256
     → h.target_socket < 256 → h.source_socket < 256 → h.kind < 256 → Fitting h
 fitting h a b c d e f g = record {
@@ -29,18 +29,18 @@ fitting h a b c d e f g = record {
   kind = g;
 }
 
--- bytes that are those of a header and data
+-- Bytes that are those of a header and data are a body.
 pub is_body : (h : Header) (payload bytes : List ℕ) → Fitting h → length payload ≤ 586 → bytes ≡ bytes_of datagram (unsummed h payload)
     → IsTrue (list_all (λ b. nat_lt b 256) bytes) → IsBody bytes
 is_body h payload bytes fits few same each =
     record { value = unsummed h payload; spelled = (unsummed_value h payload fits few, same); each = each; fresh = refl; sum = inl refl }
 
--- a frame with a datagram
+-- A frame with a datagram.
 abbrev pub frame : ℕ → ℕ → ℕ → Hw → List ℕ → Frame
 frame stamp cable sender to bytes =
     record { stamp = stamp; cable = cable; sender = sender; to = to; kind = Ddp; bytes = bytes }
 
--- a frame and the station that hears it, by a port and the hardware address that ends in this byte
+-- A frame and the station that hears it, at this port and at the hardware address that ends in this byte.
 abbrev pub pair : Frame → ℕ → ℕ → ℕ → Option ℕ → Pair
 pair f station port byte group =
     record { frame = f; seat = record { cable = f.cable; station = station; port = port; hw = hardware byte; group = group } }

@@ -1,4 +1,4 @@
--- What reached a cable was carried by the walk.
+-- A datagram that reached a cable was carried by the routers of its walk.
 use Rattle.std.proofs.Common.{◌≡◌, ℕ, zero, suc, ◌+◌, Bool, true, false, not, cond, List, [], ◌∷◌, ◌++◌, length, refl, sym, ap}
 use Rattle.std.proofs.Common.{◌∙◌, subst, arith, append-nil, append_assoc, length-append}
 use Rattle.std.specs.List.{AllByRecursion as Each}
@@ -26,7 +26,7 @@ use Rattle.legal_runs.proofs.Runs.{Run, made_does, run_is}
 
 -- ---- The chains after entries
 
--- the chains after some entries
+-- The chains after some entries.
 abbrev pub after_all : List Entry → Chains → Chains
 after_all [] w = w
 after_all (e ∷ es) w = after_all es (after e w)
@@ -49,7 +49,7 @@ at_end : {X : Type 0} (xs : List X) (x : X) → At (xs ++ x ∷ []) (length xs) 
 at_end [] x = refl
 at_end (y ∷ xs) x = at_end xs x
 
--- the chains of frames stay
+-- Later entries leave the chains of earlier frames as they are.
 kept : (es : List Entry) (w : Chains) (k : ℕ) (chain : List ℕ) → At w.frames k chain → At (after_all es w).frames k chain
 kept [] w k chain e = e
 kept (Sent s b ∷ es) w k chain e = kept es (after (Sent s b) w) k chain e
@@ -59,7 +59,7 @@ kept (Reached c s how b ∷ es) w k chain e = kept es w k chain e
 kept (Dropped r cause b ∷ es) w k chain e = kept es w k chain e
 kept (Lost p ∷ es) w k chain e = kept es w k chain e
 
--- and each frame has one
+-- Each frame has one chain.
 frames_counted : (es : List Entry) (w : Chains) → length (after_all es w).frames ≡ length w.frames + stamps es
 frames_counted [] w = omega arith
 frames_counted (Sent s b ∷ es) w = let h = frames_counted es (after (Sent s b) w) in omega (arith, h)
@@ -73,13 +73,14 @@ frames_counted (Dropped r cause b ∷ es) w = let h = frames_counted es w in ome
 frames_counted (Lost p ∷ es) w = let h = frames_counted es w in omega (arith, h)
 
 module _ (i : Internet) where
-  -- the chain of a copy leads to its taker
+  -- The chain of a copy leads to the station that takes it.
   abbrev pub HasPath : Chains → Pair → Type 0
   HasPath w p =
       is_copy i p ≡ true → (chain : List ℕ) × At w.frames p.frame.stamp chain × Path i (target p.frame.bytes).net chain p.seat.station
       × (hops p.frame.bytes ≡ length chain)
 
-  -- What entries leave: each was carried, and the chains of their copies lead to the takers.
+  -- The result of some entries: carriage holds of each, and the chains of their copies lead to the stations that take
+  -- them.
   record Leaves (es : List Entry) (w : Chains) : Type 0 where
     carried : AreCarried i w es
     paths : Each (HasPath (after_all es w)) (pairs (cable_seats i) es)
@@ -88,7 +89,7 @@ module _ (i : Internet) where
     abbrev OfNow : Entry → Type 0
     OfNow e = IsOf i (λ c. IsChain i (target d).net c now) d hop e
 
-    -- entries of one datagram, whose chain is this one
+    -- Carriage holds of the entries of one datagram with this chain.
     of_carried : (frames : List (List ℕ)) (es : List Entry) → Each OfNow es → AreCarried i (record { now = now; frames = frames }) es
     of_carried frames [] h = tt
     of_carried frames (Reached c s how b ∷ es) h =
@@ -99,7 +100,7 @@ module _ (i : Internet) where
     of_carried frames (Took p s ∷ es) h = absurd h.0
     of_carried frames (Lost p ∷ es) h = absurd h.0
 
-    -- the frames among them have it
+    -- The frames among the entries have this chain.
     of_frames : (frames : List (List ℕ)) (es : List Entry) → Each OfNow es → AreNumbered (length frames) es
         → Each (λ p. At (after_all es (record { now = now; frames = frames })).frames p.frame.stamp now) (pairs (cable_seats i) es)
     of_frames frames [] h n = tt
@@ -119,7 +120,7 @@ module _ (i : Internet) where
         (each_all _ _ (λ s. there)))
         (of_frames (frames ++ now ∷ []) es h.1 (subst (λ k. AreNumbered k es) next n.1))
 
-    -- so a leg or a fate leaves what its copies need
+    -- A leg or a fate leaves the chains that its copies need.
     does_leave : (stamp : ℕ) (frames : List (List ℕ)) (es : List Entry) → stamp ≡ length frames
         → Does i (λ s. Path i (target d).net now s) (λ c. IsChain i (target d).net c now) stamp d hop es
         → Leaves es (record { now = now; frames = frames })
@@ -176,12 +177,12 @@ module _ (i : Internet) where
       let z = ap one h in
       omega (arith, s, z)
 
-  -- the chains with another name for their `now`
+  -- The chains with another name for their `now`.
   renamed : (es : List Entry) (w : Chains) (now : List ℕ) → w.now ≡ now → Leaves es (record { now = now; frames = w.frames }) → Leaves es w
   renamed es w now e l = subst (λ n. Leaves es (record { now = n; frames = w.frames })) (sym e) l
 
 module _ (i : Internet) (ok : Passes i) where
-  -- datagrams that stations made: their chains are empty
+  -- Datagrams that stations made have empty chains.
   said_carries : (t : List Entry) (stamp : ℕ) (ls : List Leg) → stamp ≡ stamps t → Each (IsMade i) ls → Carries i t → Carries i
       (t ++ said i stamp ls)
   said_carries t stamp [] e made c = subst (Carries i) (sym (append-nil t)) c
@@ -204,7 +205,7 @@ module _ (i : Internet) (ok : Passes i) where
       subst (Carries i) (append_assoc before es fs ∙ append_assoc t (first ∷ []) (es ++ fs))
       (said_carries (before ++ es) (stamp + stamps es) ls more made.1 c2)
 
-  -- the fate of what was taken
+  -- The fate of a pair that was taken.
   fate_leaves : (t : List Entry) (p : Pair) → Framed p.frame.bytes → HopsFine i p → HasPath i (after_all t none_yet) p
       → (stamp : ℕ) → stamp ≡ stamps (t ++ Took p.frame.stamp p.seat.station ∷ [])
       → Leaves i (fate i stamp p) (after_all (t ++ Took p.frame.stamp p.seat.station ∷ []) none_yet) × AreNumbered stamp (fate i stamp p)

@@ -21,11 +21,11 @@ use Rattle.legal_runs.proofs.Runs.{Run, run_is}
 use Rattle.legal_runs.proofs.Seated.{listed_some}
 
 module _ (i : Internet) where
-  -- the same body is at home where the other is
+  -- Equal bodies have the same home.
   home_of : (b d : List ℕ) → same_bytes b d ≡ true → home i (target b).net ≡ home i (target d).net
   home_of b d e = ap (λ x. home i (target x).net) (same_bytes_is b d e)
 
-  -- a body with another home is another
+  -- Bodies with different homes differ.
   other_body : (b d : List ℕ) → home i (target b).net ≢ home i (target d).net → same_bytes b d ≡ false
   other_body b d apart = false_from_ne_true (same_bytes b d) (λ e. apart (home_of b d e))
 
@@ -35,7 +35,7 @@ module _ (i : Internet) where
   some_none : (c : ℕ) → Some c ≡ None → ⊥
   some_none c e = cc
 
-  -- what reached a cable, of a body whose home is o
+  -- A datagram that reached a cable is not this body if the body's home is another.
   reached_is : (b : List ℕ) (o : Option ℕ) (c d : ℕ) (body : List ℕ) → home i (target b).net ≡ o → o ≢ Some d → home i
       (target body).net ≡ Some c
       → (c == d && same_bytes b body) ≡ false
@@ -98,7 +98,7 @@ module _ (i : Internet) where
   no_limit (Dropped s NoRoute body) r = refl
   no_limit (Dropped s HopLimit body) r = absurd r
 
-  -- what holds of entries that are right, of all of a run's
+  -- A property of every right entry holds of all entries of a run.
   all_of : (ok : Passes i) (t : List Entry) → Run i ok t → (P : Entry → Type 0) → ((e : Entry) → IsRight i e → P e) → Each P t
   all_of ok t r P f = each_more (IsRight i) P t f r.right
 

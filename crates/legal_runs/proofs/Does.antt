@@ -1,4 +1,4 @@
--- What the entries of a leg or a fate do to the counts of bodies.
+-- What the entries of a leg or a fate add to the counts of bodies.
 use Rattle.std.proofs.Common.{◌≡◌, ◌≢◌, ℕ, ◌+◌, ◌≤◌, Bool, true, false, not, ◌&&◌, ◌==◌, List, [], ◌∷◌, Some, None, filter}
 use Rattle.std.proofs.Common.{refl, sym, ap, ◌∙◌, subst, arith, append-nil, true≢false}
 use Rattle.at_base.proofs.Texts.{same_bytes_is}
@@ -25,42 +25,42 @@ use Rattle.legal_runs.specs.Stations.{cable_seat, cable_seats, has_address, is_o
 use Rattle.legal_runs.proofs.Frames.{Framed, Whole, body_stays, hops_are, target_stays}
 use Rattle.legal_runs.proofs.Seated.{heard_alone}
 
--- the entry says that the body reached a cable or was dropped
+-- The entry says that the body reached a cable or was dropped.
 abbrev pub is_ended : List ℕ → Entry → Bool
 is_ended b (Reached cable station how d) = same_bytes b d
 is_ended b (Dropped router cause d) = same_bytes b d
 is_ended b _ = false
 
--- the copies of the body among the pairs of entries
+-- How many copies of the body are among the pairs of the entries.
 unfoldable pub copies : Internet → List ℕ → List Entry → ℕ
 copies i b es = count (carries i b) (pairs (cable_seats i) es)
 
--- an entry is right: what reached a cable is at home there, and what was dropped has no home
+-- The entry is right: a datagram that reached a cable is at home there, and one that was dropped has no home.
 abbrev pub IsRight : Internet → Entry → Type 0
 IsRight i (Reached cable station how d) = home i (target d).net ≡ Some cable
 IsRight i (Dropped router NoRoute d) = home i (target d).net ≡ None
 IsRight i (Dropped router HopLimit d) = ⊥
 IsRight i _ = Unit {0}
 
--- a copy to a listed network has hops left
+-- A copy to a listed network has enough hops left.
 abbrev pub HopsFine : Internet → Pair → Type 0
 HopsFine i p =
     (c : ℕ) → is_copy i p ≡ true → home i (target p.frame.bytes).net ≡ Some c
     → hops p.frame.bytes + distance i p.seat.station (target p.frame.bytes).net ≤ 14
 
--- An entry of one datagram: it reached a cable of which A holds, or a station put it on a cable where it is, with so many
--- hops.
+-- An entry of one datagram: it reached a cable of which A holds, or a station put it, with hop count `hop`, on a cable
+-- that the station is on.
 abbrev pub IsOf : Internet → (ℕ → Type 0) → List ℕ → ℕ → Entry → Type 0
 IsOf i A d hop (Reached cable station how b) = (b ≡ d) × A cable
 IsOf i A d hop (Put f) = (is_on i f.sender f.cable ≡ true) × (body f.bytes ≡ d) × (f.kind ≡ Ddp) × (hops f.bytes ≡ hop)
 IsOf i A d hop (Dropped router cause b) = Unit {0}
 IsOf i A d hop _ = ⊥
 
--- a copy of the datagram goes to a router of which N holds
+-- A copy of the datagram goes to a router of which N holds.
 abbrev pub IsNext : Internet → (ℕ → Type 0) → List ℕ → Pair → Type 0
 IsNext i N d p = is_copy i p ≡ true → N p.seat.station × (target p.frame.bytes ≡ target d)
 
--- The entries are those of one datagram on its way: its body ends once, or is under way once, to a router of which N holds.
+-- The entries are those of one datagram: its body ends once, or is under way once to a router of which N holds.
 pub record Does (i : Internet) (N A : ℕ → Type 0) (stamp : ℕ) (d : List ℕ) (hop : ℕ) (es : List Entry) : Type 0 where
   pub adds : (b : List ℕ) → (target b).net ≢ 0 → count (is_ended b) es + copies i b es ≡ one (same_bytes b d)
   pub unsent : (b : List ℕ) → sent b es ≡ 0
@@ -72,7 +72,7 @@ pub record Does (i : Internet) (N A : ℕ → Type 0) (stamp : ℕ) (d : List �
   pub ends_none : Each EndsNone es
   pub numbered : AreNumbered stamp es
 
--- the same bytes have the same target
+-- Equal bytes have the same target.
 same_target : (b d : List ℕ) → (target b).net ≢ 0 → (target d).net ≡ 0 → same_bytes b d ≡ false
 same_target b d some none =
     false_from_ne_true (same_bytes b d) (λ e. some (ap (λ x. (target x).net) (same_bytes_is b d e) ∙ none))
@@ -83,17 +83,17 @@ module _ (i : Internet) (ok : Passes i) (N A : ℕ → Type 0) where
   pairs_put : (f : Frame) → pairs (cable_seats i) (Put f ∷ []) ≡ pairs_of (cable_seats i) (Put f)
   pairs_put f = append-nil (pairs_of (cable_seats i) (Put f))
 
-  -- the frame is no copy for those that hear it
+  -- The frame is no copy for the stations that hear it.
   abbrev pub IsNoCopy : Frame → Type 0
   IsNoCopy f = Each (λ p. is_copy i p ≡ false) (pairs_of (cable_seats i) (Put f))
 
-  -- it is none for any seat
+  -- The frame is no copy for any seat.
   pub none_at_all : (f : Frame) → ((s : Seat) → is_copy i (record { frame = f; seat = s }) ≡ false) → IsNoCopy f
   none_at_all f none =
       each_map (λ p. is_copy i p ≡ false) (λ (s : Seat). record { frame = f; seat = s }) (filter (is_heard f) (cable_seats i))
       (each_all _ _ none)
 
-  -- it is none for the only seat that hears it
+  -- The frame is no copy for the only seat that hears it.
   pub none_alone : (f : Frame) (k : ℕ) (s : PlaceOf) → At (seats i) k s → s.cable ≡ f.cable → s.hardware.0 ≡ f.to.0
       → is_copy i (record { frame = f; seat = cable_seat i s }) ≡ false → IsNoCopy f
   none_alone f k s at cable hw none =
@@ -155,7 +155,7 @@ module _ (i : Internet) (ok : Passes i) (N A : ℕ → Type 0) where
 
   module _ (stamp : ℕ) (l : Leg) (whole : Whole l.body) (few : l.hops ≤ 15)
       (seated : is_on i l.station l.cable ≡ true) where
-    -- the frame of the leg to a hardware address
+    -- The frame of the leg to a hardware address.
     abbrev pub frame_to : Hw → Frame
     frame_to to =
         record { stamp = stamp; cable = l.cable; sender = l.station; to = to; kind = Ddp; bytes = with_hops l.hops l.body }
@@ -170,7 +170,7 @@ module _ (i : Internet) (ok : Passes i) (N A : ℕ → Type 0) where
         (filter (is_heard (frame_to to)) (cable_seats i))
         (each_all _ _ (λ s. record { inside = l.body; count = l.hops; whole = whole; few = few; is = refl })))
 
-    -- whether the frame is a copy, for a seat
+    -- Whether the frame is a copy for a seat.
     pub copy_is : (to : Hw) (s : Seat) → is_copy i (record { frame = frame_to to; seat = s })
         ≡ (is_datagram Ddp && is_unicast to && is_router i s.station && not ((target l.body).net == 0)
         && not (has_address i s.station s.cable (target l.body)))
@@ -178,7 +178,7 @@ module _ (i : Internet) (ok : Passes i) (N A : ℕ → Type 0) where
         ap (λ a. is_datagram Ddp && is_unicast to && is_router i s.station && not (a.net == 0) && not (has_address i s.station s.cable a))
         (target_stays l.hops few l.body)
 
-    -- a frame without copies, after the datagram reached the cable
+    -- A frame without copies, after the datagram reached the cable.
     pub does_arrive : (how : How) (to : Hw) → home i (target l.body).net ≡ Some l.cable → A l.cable
         → IsNoCopy (frame_to to) → Does i N A stamp l.body l.hops (reach how l ∷ put stamp l to ∷ [])
     unfolding copies
@@ -194,7 +194,7 @@ module _ (i : Internet) (ok : Passes i) (N A : ℕ → Type 0) where
       numbered = (tt, ((omega arith), tt));
     }
 
-    -- a frame of a datagram for this cable alone
+    -- A frame whose datagram is for this cable only.
     pub does_stay : (to : Hw) → (target l.body).net ≡ 0 → Does i N A stamp l.body l.hops (put stamp l to ∷ [])
     unfolding copies
     does_stay to zero_net = record {
@@ -224,7 +224,7 @@ module _ (i : Internet) (ok : Passes i) (N A : ℕ → Type 0) where
             (has_address i s.station s.cable (target l.body))) zero_net
             ∙ last (is_datagram Ddp && is_unicast to && is_router i s.station) (not (has_address i s.station s.cable (target l.body)))))
 
-    -- a copy for the router that has this seat
+    -- A copy for the router that has this seat.
     pub does_go : (k : ℕ) (s : PlaceOf) → At (seats i) k s → s.cable ≡ l.cable
         → is_copy i (record { frame = frame_to s.hardware; seat = cable_seat i s }) ≡ true
         → ((c : ℕ) → home i (target l.body).net ≡ Some c → l.hops + distance i s.station (target l.body).net ≤ 14) → N s.station

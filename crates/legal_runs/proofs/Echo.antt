@@ -37,11 +37,11 @@ reply_is_body =
 
 -- ---- The blocks
 
--- the node sends the request to its router
+-- The node sends the request to its router.
 abbrev request_leg : Leg
 request_leg = record { station = 2; cable = 0; next = next.Station (addr 10 1); body = echo_request 0; hops = 0 }
 
--- the printer its reply to its own
+-- The printer sends its reply to its router.
 abbrev reply_leg : Leg
 reply_leg = record { station = 3; cable = 2; next = next.Station (addr 30 1); body = echo_reply 0; hops = 0 }
 

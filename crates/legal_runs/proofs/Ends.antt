@@ -1,4 +1,4 @@
--- Other ends that a datagram may come to are legal, block by block.
+-- The transcripts of datagrams that end in other ways are legal, block by block.
 use Rattle.std.proofs.Common.{ℕ, inr, false, [], ◌∷◌, Some, None, refl, sym, arith, take, drop, codes}
 use Rattle.ddp.specs.declared.header.Header.{Header}
 use Rattle.ddp.specs.Datagram.{datagram, unsummed}
@@ -9,9 +9,8 @@ use Rattle.legal_runs.specs.Answers.{Others, IsBody, IsMade, ByRouter}
 use Rattle.legal_runs.specs.Example.{plain, to_everybody, to_nobody, to_nowhere}
 use Rattle.legal_runs.specs.Legal.{IsLegal, Begins, Goes, Sends, Takes}
 use Rattle.legal_runs.specs.Legs.{Leg}
-use Rattle.at_base.specs.Multicast.{all_hw}
+use Rattle.at_base.specs.Multicast.{all_hw, group_of}
 use Rattle.legal_runs.specs.Requests.{request}
-use Rattle.at_base.specs.Multicast.{group_of}
 use Rattle.legal_runs.proofs.ByHand.{fitting, frame, is_body, not_zero, pair}
 use Rattle.station.specs.declared.output.Next.TheVariants as next
 
@@ -42,7 +41,7 @@ nowhere_is_body =
     (fitting h (omega arith) (omega arith) (omega arith) (omega arith) (omega arith) (omega arith) (omega arith)) (omega arith)
     (sym (bytes_laid (unsummed h []))) refl
 
--- the node sends it to its router
+-- The node sends the datagram to its router.
 abbrev leg_to_router : ℕ → ℕ → Leg
 leg_to_router net node = record { station = 2; cable = 0; next = next.Station (addr 10 1); body = plain 0 net node; hops = 0 }
 

@@ -1,4 +1,4 @@
--- What the fate of a pair counts for requests.
+-- What the fate of a pair adds to the counts of requests.
 use Rattle.std.proofs.Common.{◌+◌, ◌≡◌, ℕ, Bool, true, false, not, ◌&&◌, ◌||◌, ◌==◌, cond, List, [], ◌∷◌, Option, Some, None}
 use Rattle.std.proofs.Common.{refl, sym, ap, ◌∙◌, subst, arith, true≢false}
 use Rattle.std.specs.List.{AllByRecursion as Each}
@@ -43,7 +43,7 @@ module _ (i : Internet) (ok : Passes i) (stamp : ℕ) (p : Pair) (f : Framed p.f
   pub fate_unasked : (k : List ℕ) → count (is_asked i k) (fate i stamp p) ≡ 0
   fate_unasked k = of_unasked i any (body p.frame.bytes) (hops p.frame.bytes + 1) k (fate i stamp p) of
 
-  -- a lookup isn't passed on
+  -- A lookup isn't passed on.
   pub fate_looks : (k : List ℕ) (c : ℕ) → count (looks i k c) (fate i stamp p) ≡ 0
   fate_looks k c = by (is_lookup (request (body p.frame.bytes))) refl
     where
@@ -51,7 +51,7 @@ module _ (i : Internet) (ok : Passes i) (stamp : ℕ) (p : Pair) (f : Framed p.f
       by true e = ap (count (looks i k c)) (not_unicast i ok stamp p f (good.looker e))
       by false e = of_no_lookup i any (body p.frame.bytes) (hops p.frame.bytes + 1) k c (fate i stamp p) e of
 
-  -- a broadcast request that doesn't end waits on
+  -- A broadcast request that doesn't end at the station is still pending afterwards.
   pub fate_waits : (k : List ℕ) → count (waits i k) (pairs (cable_seats i) (fate i stamp p)) ≡ one (waits i k p && not (ends_at i p))
   fate_waits k = by_request (is_request i (body p.frame.bytes)) refl
     where
@@ -84,7 +84,7 @@ module _ (i : Internet) (ok : Passes i) (stamp : ℕ) (p : Pair) (f : Framed p.f
           waits_none i any (body p.frame.bytes) (hops p.frame.bytes + 1) (fate i stamp p) of k none ∙ sym
           (ap one (and_left (waits i k p) _ not_waiting))
 
-  -- a copy of a forward request that doesn't end is passed on as one
+  -- A copy of a forward request that doesn't end at the station is passed on as a forward request.
   seeking : (k : List ℕ) (c : ℕ) → is_forward (request (body p.frame.bytes)) ≡ true → is_copy i p ≡ true → (o : Option ℕ)
       → home i (target p.frame.bytes).net ≡ o → (x : Bool) → ends_at i p ≡ x
       → count (forwarded i k c) (pairs (cable_seats i) (fate_by i stamp p.seat.station p
@@ -149,7 +149,7 @@ module _ (i : Internet) (ok : Passes i) (stamp : ℕ) (p : Pair) (f : Framed p.f
           forwarded_none i any (body p.frame.bytes) (hops p.frame.bytes + 1) (fate i stamp p) of k c q ∙ sym
           (ap one (and_left (forwarded i k c p) _ none))
 
-  -- ---- The pairs of a fate keep to what every pair does
+  -- ---- The pairs of a fate satisfy what every pair does
 
   kind_is : (kind : Kind) → kind ≡ Ddp → is_datagram kind ≡ true
   kind_is kind e = ap is_datagram e

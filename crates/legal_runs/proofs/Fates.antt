@@ -24,7 +24,7 @@ use Rattle.legal_runs.proofs.Seated.{home_holds, port_seated}
 use Rattle.station.specs.declared.output.Next.{Next}
 use Rattle.station.specs.declared.output.Next.TheVariants as next
 
--- what a copy is: its taker is a router, and it isn't for this cable
+-- A copy is taken by a router and isn't for network 0.
 pub copy_router : (i : Internet) (p : Pair) → is_copy i p ≡ true → (p.seat.station < length i.routers) × ((target p.frame.bytes).net ≢ 0)
 copy_router i p e =
     let h = parts (is_datagram p.frame.kind) (is_unicast p.frame.to) (is_router i p.seat.station) ((target p.frame.bytes).net == 0)
@@ -48,7 +48,7 @@ module _ (i : Internet) (ok : Passes i) (N A : ℕ → Type 0) (stamp : ℕ) (p 
   home_same : (o : Option ℕ) → home i (target p.frame.bytes).net ≡ o → home i (target (body p.frame.bytes)).net ≡ o
   home_same o e = ap (λ (a : Addr). home i a.net) same ∙ e
 
-  -- a copy that has hops left, put on its cable, or handed to the next router
+  -- A copy with hops left is put on its cable or handed to the next router.
   passed_on : (r c : ℕ) (whom : Next) → hops p.frame.bytes ≤ 14 → is_on i r c ≡ true → Goes i (passed r p c whom)
       → ((a : Addr) (s d : ℕ) → whom ≡ next.Station a → owner i c a ≡ Some s → same_address (target (body p.frame.bytes)) a ≡ false
       → home i (target (body p.frame.bytes)).net ≡ Some d → (hops p.frame.bytes + 1) + distance i s (target (body p.frame.bytes)).net ≤ 14)
@@ -62,7 +62,7 @@ module _ (i : Internet) (ok : Passes i) (N A : ℕ → Type 0) (stamp : ℕ) (p 
       (sym (ne_eqb (hops p.frame.bytes) 15 (λ e. absurd (omega (arith, e, few)))))
       (leg_does i ok N A stamp (passed r p c whom) (whole_inside p.frame.bytes f) (omega (arith, few)) seated goes near there to)
 
-  -- where it is for: the target's own cable
+  -- A copy that is put on its target's cable.
   arrived : (r c : ℕ) → hops p.frame.bytes ≤ 14 → is_on i r c ≡ true → A c → home i (target p.frame.bytes).net ≡ Some c
       → Does i N A stamp (body p.frame.bytes) (hops p.frame.bytes + 1) (fate_by i stamp r p (Here c))
   arrived r c few seated at home_is =
@@ -105,7 +105,7 @@ module _ (i : Internet) (ok : Passes i) (N A : ℕ → Type 0) (stamp : ℕ) (p 
               ap (same_address (target (body p.frame.bytes))) (sym (same ∙ it)) ∙ same_address_self (target (body p.frame.bytes)) in
               true≢false (sym self ∙ apart)
 
-  -- a copy to a listed network
+  -- A copy to a listed network.
   listed : (c : ℕ) → is_copy i p ≡ true → home i (target p.frame.bytes).net ≡ Some c → HopsFine i p
       → (hand i p.seat.station (target p.frame.bytes).net ≡ Here c → A c)
       → ((s d : ℕ) (a : Addr) → hand i p.seat.station (target p.frame.bytes).net ≡ On s d a → N s)
@@ -150,7 +150,7 @@ module _ (i : Internet) (ok : Passes i) (N A : ℕ → Type 0) (stamp : ℕ) (p 
       (sym (nowhere i ok p.seat.station (target p.frame.bytes).net (copy_router i p copy).0 none))
       (does_drop i ok N A stamp p.seat.station (body p.frame.bytes) (hops p.frame.bytes + 1) (home_same None none))
 
-  -- the fate of a copy is that of its body
+  -- The entries of a copy's fate are the entries of one datagram, that of its body.
   pub fate_does : is_copy i p ≡ true → HopsFine i p
       → ((c : ℕ) → home i (target p.frame.bytes).net ≡ Some c → hand i p.seat.station (target p.frame.bytes).net ≡ Here c → A c)
       → ((s d : ℕ) (a : Addr) → hand i p.seat.station (target p.frame.bytes).net ≡ On s d a → N s)

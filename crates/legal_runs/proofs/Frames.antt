@@ -1,4 +1,4 @@
--- A datagram that is handed on: its hop count changes, and nothing else.
+-- A datagram that is passed on: only its hop count changes.
 use Rattle.std.proofs.Common.{◌≡◌, ℕ, zero, suc, ◌+◌, ◌*◌, ◌/◌, ◌%◌, ◌≤◌, List, [], ◌∷◌, take, slice_index, refl, sym, ap, ◌∙◌}
 use Rattle.std.proofs.Common.{subst, arith, append-nil}
 use Rattle.at_base.specs.Spelling.{Begins, bytes_of}
@@ -8,7 +8,7 @@ use Rattle.ddp.specs.Datagram.{Datagram, datagram}
 use Rattle.ddp.proofs.Agreement.{value_agrees}
 use Rattle.legal_runs.specs.Answers.{IsBody}
 
--- the bytes name a length that a datagram may have
+-- The length field has a valid length of a datagram.
 abbrev pub IsLong : List ℕ → Type 0
 IsLong bytes = 13 ≤ named_length bytes
 
@@ -31,7 +31,7 @@ module _ (n : ℕ) (few : n ≤ 15) where
   without_hops : (b : ℕ) → (b / 64 * 64 + n * 4 + b % 4) / 64 * 64 + 0 * 4 + (b / 64 * 64 + n * 4 + b % 4) % 4 ≡ b / 64 * 64 + 0 * 4 + b % 4
   without_hops b = omega (arith, few)
 
-  -- of the same first bytes, the hop counts left out
+  -- Two datagrams that differ only in their hop counts have the same first bytes without the hop counts.
   taken : (k : ℕ) (b : ℕ) (bytes : List ℕ) → with_hops 0 (take k (with_hops n (b ∷ bytes))) ≡ with_hops 0 (take k (b ∷ bytes))
   taken zero b bytes = refl
   taken (suc k) b bytes = ap (λ (x : ℕ). x ∷ take k bytes) (without_hops b)
@@ -43,7 +43,7 @@ module _ (n : ℕ) (few : n ≤ 15) where
 
 -- ---- Bodies
 
--- what a body is: as many bytes as it names, with hop count 0
+-- A whole body: as many bytes as its length field says, with hop count 0.
 pub record Whole (b : List ℕ) : Type 0 where
   pub long : IsLong b
   pub same : body b ≡ b

@@ -1,4 +1,4 @@
--- The pairs of legs and fates keep to what every pair of a run does.
+-- The pairs of legs and fates satisfy what every pair of a run does.
 use Rattle.std.proofs.Common.{◌≡◌, ℕ, ◌+◌, ◌<◌, Bool, true, false, not, ◌&&◌, cond, List, [], ◌∷◌}
 use Rattle.std.proofs.Common.{inl, inr, refl, sym, ap, ◌∙◌, subst, arith, true≢false, lt-ltb}
 use Rattle.std.specs.List.{AllByRecursion as Each}
@@ -11,18 +11,16 @@ use Rattle.audit.specs.Rules.{Passes}
 use Rattle.station.specs.declared.heard.Kind.TheVariants.{Ddp}
 use Rattle.cable_model.specs.declared.seat.Seat.{Seat}
 use Rattle.cable_model.specs.Pending.{Pair, pairs, pairs_of}
-use Rattle.at_base.specs.Multicast.{is_all}
+use Rattle.at_base.specs.Multicast.{group_hw, group_of, is_all}
 use Rattle.cable_model.specs.Transcript.{Entry, count, one, stamps}
 use Rattle.cable_model.proofs.Counting.{each-append, each_all, each_map, each_more}
 use Rattle.cable_model.proofs.Pairs.{pairs-append}
 use Rattle.legal_runs.specs.Answers.{Expands, IsLookup, IsMade, IsOwn, ends_at, is_other}
 use Rattle.legal_runs.specs.Legal.{said}
 use Rattle.legal_runs.specs.Legs.{Leg, fate, fate_by, is_copy, is_datagram, is_unicast, leg, leg_to, put}
-use Rattle.at_base.specs.Multicast.{group_hw}
 use Rattle.legal_runs.specs.Lookups.{asks, is_request, waits}
 use Rattle.legal_runs.specs.Requests.{is_forward, is_lookup, request, zone_of}
 use Rattle.legal_runs.specs.Stations.{cable_seats}
-use Rattle.at_base.specs.Multicast.{group_of}
 use Rattle.legal_runs.proofs.Does.{Does, HopsFine, IsOf}
 use Rattle.legal_runs.proofs.FateCounts.{pair_good}
 use Rattle.legal_runs.proofs.Fates.{fate_does}
@@ -33,12 +31,12 @@ use Rattle.legal_runs.proofs.Requested.{OnePair, of_bodies, of_kinds, via_one}
 use Rattle.legal_runs.proofs.Runs.{any, made_does}
 use Rattle.legal_runs.proofs.Tallies.{leg_of, no_request, waits_none}
 
--- what holds of each, and something else too
+-- Two properties that each hold of every element hold together.
 each_both : {X : Type 0} (P Q : X → Type 0) (xs : List X) → Each P xs → Each Q xs → Each (λ x. P x × Q x) xs
 each_both P Q [] h g = tt
 each_both P Q (x ∷ xs) h g = ((h.0, g.0), each_both P Q xs h.1 g.1)
 
--- a group's address isn't one station's
+-- A group's address isn't that of one station.
 group_is : (g : ℕ) → g < 253 → is_unicast (group_hw g) ≡ false
 group_is g lt = ap (λ b. not (is_all (group_hw g)) && not (true && b)) (lt-ltb g 253 lt) ∙ last (is_all (group_hw g))
   where
@@ -47,7 +45,7 @@ group_is g lt = ap (λ b. not (is_all (group_hw g)) && not (true && b)) (lt-ltb 
     last false = refl
 
 module _ (i : Internet) (ok : Passes i) where
-  -- entries of a datagram that asks nothing, and isn't a lookup
+  -- Entries of a datagram that is neither a broadcast request nor a lookup.
   of_good : (d : List ℕ) (hop : ℕ) (es : List Entry) → Each (IsOf i any d hop) es → Each (λ p. Framed p.frame.bytes)
       (pairs (cable_seats i) es)
       → is_request i d ≡ false → (is_forward (request d) ≡ true → (target d).node ≡ 0) → is_lookup (request d) ≡ false
@@ -65,7 +63,7 @@ module _ (i : Internet) (ok : Passes i) where
       (each_both (λ p. body p.frame.bytes ≡ d) (λ p. p.frame.kind ≡ Ddp) (pairs (cable_seats i) es) (of_bodies i any d hop es of)
       (of_kinds i any d hop es of)) framed)
 
-  -- one frame to a router
+  -- One frame to a router.
   one_good : (d : List ℕ) (es : List Entry) → OnePair i d es → (is_forward (request d) ≡ true → (target d).node ≡ 0)
       → is_lookup (request d) ≡ false → Each (PairOk i) (pairs (cable_seats i) es)
   one_good d es o seek look =

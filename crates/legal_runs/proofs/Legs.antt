@@ -1,4 +1,4 @@
--- What a leg does, by how it goes.
+-- What a leg adds to the counts, by its receiver.
 use Rattle.std.proofs.Common.{◌≡◌, ℕ, ◌+◌, ◌<◌, ◌≤◌, inl, inr, Bool, true, false, not, ◌&&◌, ◌==◌, cond, [], ◌∷◌, Option, Some, None}
 use Rattle.std.proofs.Common.{length, refl, sym, ap, ◌∙◌, subst, arith, true≢false, eqb-true, eq-eqb, lt-ltb, is_some}
 use Rattle.std.proofs.lemmas.Bool.{and_parts, cases_eq, false_from_ne_true, ne_eqb}
@@ -17,12 +17,10 @@ use Rattle.audit.proofs.WalkFacts.{owner_is}
 use Rattle.audit.proofs.WalkLists.{at_one, find_at}
 use Rattle.cable_model.specs.declared.entry.How.TheVariants as how
 use Rattle.station.specs.declared.heard.Kind.TheVariants.{Ddp}
-use Rattle.at_base.specs.Multicast.{is_all, is_group}
+use Rattle.at_base.specs.Multicast.{all_hw, group_hw, is_all, is_group}
 use Rattle.cable_model.proofs.Counting.{At}
 use Rattle.legal_runs.specs.Answers.{Goes, Straight, ByRouter, ToThem, OnCable, ToThese}
-use Rattle.legal_runs.specs.Legs.{Leg, is_datagram, leg, leg_to, put, reach}
-use Rattle.at_base.specs.Multicast.{all_hw, group_hw}
-use Rattle.legal_runs.specs.Legs.{to_other, to_target}
+use Rattle.legal_runs.specs.Legs.{Leg, is_datagram, leg, leg_to, put, reach, to_other, to_target}
 use Rattle.legal_runs.specs.Stations.{cable_holds, cable_seat, has_address, is_on, is_router}
 use Rattle.legal_runs.proofs.Does.{Does, copy_is, does_arrive, does_go, does_reach, does_stay, none_alone, none_at_all, frame_to}
 use Rattle.legal_runs.proofs.Frames.{Whole}
@@ -30,7 +28,7 @@ use Rattle.legal_runs.proofs.Tests.{all_three, three_are}
 use Rattle.legal_runs.proofs.Seated.{home_is, listed_some, not_all, not_group}
 use Rattle.station.specs.declared.output.Next.TheVariants as next
 
--- ---- Addresses that are one
+-- ---- Equal addresses
 
 abbrev address_of : ℕ → ℕ → Addr
 address_of net node = record { net = net; node = node }
@@ -45,7 +43,7 @@ same_address_is a b e =
 pub same_address_self : (a : Addr) → same_address a a ≡ true
 same_address_self a = ap (λ b. b && a.node == a.node) (eq-eqb a.net _ refl) ∙ eq-eqb a.node _ refl
 
--- a seat of an address on a cable
+-- A seat with this address on a cable.
 pub record SeatThere (i : Internet) (cable : ℕ) (a : Addr) (s : PlaceOf) : Type 0 where
   pub place : ℕ
   pub at : At (seats i) place s
@@ -59,7 +57,7 @@ seat_there i cable a s e =
     record { place = w.0; at = w.1; cable_is = eqb-true _ _ h.0; address = same_address_is s.address a h.1 }
 
 module _ (i : Internet) (ok : Passes i) where
-  -- a seat's address is at home on its cable
+  -- A seat's address is at home on its cable.
   pub seat_home : (cable : ℕ) (a : Addr) (s : PlaceOf) → SeatThere i cable a s → home i a.net ≡ Some cable
   seat_home cable a s w =
       let g = addressed i ok w.place s w.at in
@@ -68,14 +66,14 @@ module _ (i : Internet) (ok : Passes i) where
       let there = home_is i ok s.address.net s.cable holds in
       ap (λ (a : Addr). home i a.net) (sym w.address) ∙ (there ∙ ap Some w.cable_is)
 
-  -- a seat's station has its address there
+  -- A seat's station has the seat's address on that cable.
   pub has_own : (s : PlaceOf) (k : ℕ) → At (seats i) k s → has_address i s.station s.cable s.address ≡ true
   has_own s k at =
       any_from (λ (t : PlaceOf). t.station == s.station && t.cable == s.cable && same_address s.address t.address) (seats i) k s at
       (three_are (s.station == s.station) (s.cable == s.cable) (same_address s.address s.address) (eq-eqb s.station _ refl)
       (eq-eqb s.cable _ refl) (same_address_self s.address))
 
-  -- and no other
+  -- A seat's station has no other address on that cable.
   pub has_no_other : (s : PlaceOf) (k : ℕ) (a : Addr) → At (seats i) k s → same_address a s.address ≡ false
       → has_address i s.station s.cable a ≡ false
   has_no_other s k a at apart =
@@ -89,7 +87,7 @@ module _ (i : Internet) (ok : Passes i) where
 -- ---- Legs
 
 module _ (i : Internet) (ok : Passes i) (N A : ℕ → Type 0) where
-  -- to the station that it is for
+  -- A leg to its target, at a seat that exists.
   to_there : (stamp : ℕ) (l : Leg) (whole : Whole l.body) (few : l.hops ≤ 15) (seated : is_on i l.station l.cable ≡ true) (s : PlaceOf)
       → SeatThere i l.cable (target l.body) s → A l.cable
       → Does i N A stamp l.body l.hops (to_target stamp l (Some s))
@@ -109,7 +107,7 @@ module _ (i : Internet) (ok : Passes i) (N A : ℕ → Type 0) where
           none true = refl
           none false = refl
 
-  -- to its target, which may not be there
+  -- A leg to its target, which may not exist.
   straight : (stamp : ℕ) (l : Leg) (whole : Whole l.body) (few : l.hops ≤ 15) (seated : is_on i l.station l.cable ≡ true) → home i
       (target l.body).net ≡ Some l.cable → A l.cable
       → (o : Option PlaceOf) → seat_at i l.cable (target l.body) ≡ o → Does i N A stamp l.body l.hops (to_target stamp l o)
@@ -118,7 +116,7 @@ module _ (i : Internet) (ok : Passes i) (N A : ℕ → Type 0) where
   straight stamp l whole few seated home_is there (Some s) e =
       to_there stamp l whole few seated s (seat_there i l.cable (target l.body) s e) there
 
-  -- to a router that it isn't for
+  -- A leg to a router that isn't its target.
   onward : (stamp : ℕ) (l : Leg) (whole : Whole l.body) (few : l.hops ≤ 15) (seated : is_on i l.station l.cable ≡ true) (a : Addr)
       (s : PlaceOf) → SeatThere i l.cable a s
       → s.station < length i.routers → same_address (target l.body) a ≡ false

@@ -1,4 +1,4 @@
--- Kinds of requests, and the listing of a zone.
+-- Kinds of requests, and the cables that list a zone.
 use Rattle.std.proofs.Common.{◌≡◌, ℕ, suc, ◌<◌, Bool, true, false, not, ◌&&◌, ◌||◌, ◌==◌, cond, List, [], ◌∷◌, Option, Some, None}
 use Rattle.std.proofs.Common.{refl, sym, ap, ◌∙◌, subst, arith, eq-eqb, inl, inr}
 use Rattle.std.specs.List.{list_any}
@@ -82,7 +82,7 @@ differ_from z k (d ∷ ds) = by (has_zone z d.zones) (differ_from z (suc k) ds)
 pub listed_once : (i : Internet) (z : List ℕ) → AreDifferent (listing i z)
 listed_once i z = differ_from z 0 i.cables
 
--- what is no name is listed by none
+-- No cable lists bytes that are not a valid name.
 none_listed : (z : List ℕ) (k : ℕ) (cs : List Cable) → is_name z ≡ false → listing_from k z cs ≡ []
 none_listed z k [] e = refl
 none_listed z k (c ∷ cs) e =
@@ -92,7 +92,7 @@ none_listed z k (c ∷ cs) e =
 pub no_name_listed : (i : Internet) (z : List ℕ) (c : ℕ) → is_name z ≡ false → is_among c (listing i z) ≡ false
 no_name_listed i z c e = ap (is_among c) (none_listed z 0 i.cables e)
 
--- ---- How often a cable is in a listing
+-- ---- How often a cable is in the list
 
 not_in_none : (c : ℕ) (b : Bool) (cs : List ℕ) → NotAmong c cs → count (λ d. d == c && b) cs ≡ 0
 not_in_none c b [] h = refl

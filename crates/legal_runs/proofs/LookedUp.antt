@@ -1,8 +1,7 @@
--- Each broadcast request that was taken has made one lookup for each cable of its zone, or a forward request to it is
+-- For each broadcast request that was taken, each cable of its zone has had one lookup, or a forward request to it is
 -- under way.
 use Rattle.std.proofs.Common.{◌≡◌, ℕ, ◌+◌, ◌<◌, Bool, true, false, not, ◌&&◌, ◌||◌, List, [], ◌∷◌, ◌++◌}
-use Rattle.std.proofs.Common.{refl, sym, ap, ◌∙◌, subst, arith, append-nil}
-use Rattle.std.proofs.Common.{append_assoc}
+use Rattle.std.proofs.Common.{ap, append-nil, append_assoc, arith, refl, subst, sym, ◌∙◌}
 use Rattle.std.specs.List.{AllByRecursion as Each}
 use Rattle.std.proofs.lemmas.Bool.{or_parts, true_from_ne_false}
 use Rattle.at_base.specs.Text.{is_name}
@@ -31,7 +30,7 @@ use Rattle.legal_runs.proofs.Runs.{Run, any, handled_keeps, run_is, said_keeps}
 use Rattle.legal_runs.proofs.Seated.{one_seat}
 use Rattle.legal_runs.proofs.Tallies.{count_pairs, forwarded_none, leg_of}
 
--- so many where the cable is listed, and else none
+-- n if the cable is listed, and otherwise 0.
 abbrev pub share : Bool → ℕ → ℕ
 share true n = n
 share false n = 0
@@ -73,7 +72,7 @@ module _ (i : Internet) (ok : Passes i) where
     pub balance : (k : List ℕ) → asked i k t ≡ taken i k t + waiting i k t
     pub looked : (k : List ℕ) (c : ℕ) → lookups i k c t + forwards i k c t ≡ share (is_among c (listing i (zone_of k))) (taken i k t)
 
-  -- entries that end nothing
+  -- Entries that end no pair.
   module _ (t es : List Entry) (old : Each (EndsBelow (stamps t)) t) (plain : Each EndsNone es) (new : AreNumbered (stamps t) es) where
     more_pending : (f : Pair → Bool) → count f (pending (cable_seats i) (t ++ es)) ≡ count f (pending (cable_seats i) t) + count f
         (pairs (cable_seats i) es)
@@ -99,7 +98,7 @@ module _ (i : Internet) (ok : Passes i) where
 
   -- ---- Transcripts
 
-  -- a copy of a forward request is for a zone
+  -- A copy of a forward request has a valid zone name.
   named_by : (t : List Entry) (p : Pair) (n : ℕ) → At (pending (cable_seats i) t) n p → Requests t
       → (k : List ℕ) (c : ℕ) → forwarded i k c p ≡ true → is_name (zone_of k) ≡ true
   named_by t p n at r k c e =

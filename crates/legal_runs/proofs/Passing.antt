@@ -37,7 +37,7 @@ use Rattle.station.specs.declared.output.Next.TheVariants as next
 
 -- ---- Parts of tests
 
--- what a copy is
+-- The parts of the test `is_copy`.
 pub record CopyParts (i : Internet) (p : Pair) : Type 0 where
   pub unicast : is_unicast p.frame.to ≡ true
   pub router : p.seat.station < length i.routers
@@ -78,11 +78,11 @@ copy_when i p ek eu er some eh =
     all true true true true h a b c d e = cc
     all true true true false true a b c d e = cc
 
--- the router keeps what a copy holds
+-- The router keeps the datagram of a copy.
 abbrev pub keeps : Internet → Pair → Bool
 keeps i p = keeps_by i p.seat.station (target p.frame.bytes) (hand i p.seat.station (target p.frame.bytes).net)
 
--- where it ends, apart from whom the frame is for
+-- The datagram ends at this station, whatever address the frame has.
 abbrev pub ends_there : Internet → Pair → Bool
 ends_there i p = has_address i p.seat.station p.seat.cable (target p.frame.bytes) || (is_copy i p && keeps i p)
 
@@ -111,8 +111,8 @@ copy_end i p e =
     ends_is i p c.unicast c.router
     ∙ (ap (λ x. x || (is_copy i p && keeps i p)) c.other ∙ ap (λ x. x && keeps i p) e)
 
--- What every pair of a run keeps to: a broadcast request in a frame to one station is for a router; a forward request is for
--- any router of its network; a lookup isn't for one station.
+-- What every pair of a run satisfies: a broadcast request in a frame to one station is for a router; a forward request
+-- is for any router of its network; a lookup isn't in a frame to one station.
 pub record PairOk (i : Internet) (p : Pair) : Type 0 where
   pub asker : is_unicast p.frame.to ≡ true → is_request i (body p.frame.bytes) ≡ true → p.seat.station < length i.routers
   pub seeker : is_forward (request (body p.frame.bytes)) ≡ true → (target p.frame.bytes).node ≡ 0
@@ -144,7 +144,7 @@ module _ (i : Internet) (ok : Passes i) where
         home_is = seat_home i ok w.1.cable a w.1 (record { place = w.0; at = w.2; cable_is = refl; address = same });
       }
 
-  -- the target of a request is listed
+  -- The target of a request is listed.
   pub request_home : (d : List ℕ) → is_request i d ≡ true → (c : ℕ) × (home i (target d).net ≡ Some c)
   request_home d e =
       let h = and_parts (is_broadcast (request d)) (is_routers i (target d) ||
@@ -161,7 +161,7 @@ module _ (i : Internet) (ok : Passes i) where
       let low = listed_some i ok (target d).net h.0 h.1 in
       absurd (omega (arith, low, z))
 
-  -- one that isn't for any router is for a router's address
+  -- A request that isn't for any router is for a router's address.
   only_router : (d : List ℕ) → is_request i d ≡ true → ((target d).node == 0) ≡ false → is_routers i (target d) ≡ true
   only_router d e node =
       let h = and_parts (is_broadcast (request d)) (is_routers i (target d) ||
@@ -172,7 +172,7 @@ module _ (i : Internet) (ok : Passes i) where
         | inr b ↦ absurd (true≢false (sym (and_parts ((target d).node == 0) (is_some (home i (target d).net)) b).0 ∙ node))
       ]
 
-  -- a router's seat is the one that is found at its home
+  -- A router's seat is the one found for its address on its home cable.
   pub router_found : (a : Addr) (c : ℕ) → is_routers i a ≡ true → home i a.net ≡ Some c
       → (s : PlaceOf) × (seat_at i c a ≡ Some s) × (s.station < length i.routers)
   router_found a c e h =
@@ -198,7 +198,7 @@ module _ (i : Internet) (ok : Passes i) where
     same : target (body p.frame.bytes) ≡ target p.frame.bytes
     same = target_inside p.frame.bytes f
 
-    -- on the cable of the router that it is for, it goes to that router
+    -- On the cable of the router that it is for, a request goes to that router.
     at_home : (st c : ℕ) → keeps_by i st (target p.frame.bytes) (Here c) ≡ false → is_request i (body p.frame.bytes) ≡ true
         → home i (target p.frame.bytes).net ≡ Some c → hops p.frame.bytes ≤ 14 → OnePair i (body p.frame.bytes)
         (fate_by i stamp st p (Here c))
@@ -252,7 +252,7 @@ module _ (i : Internet) (ok : Passes i) where
               (omega (arith, few, nearer)) refl own))
         ])
 
-    -- ---- The fate of what was taken
+    -- ---- The fate of a pair that was taken
 
     pub fate_of : HopsFine i p → Each (IsOf i any (body p.frame.bytes) (hops p.frame.bytes + 1)) (fate i stamp p)
     fate_of fine = by (is_copy i p) refl
@@ -263,7 +263,7 @@ module _ (i : Internet) (ok : Passes i) where
             subst (λ b. Each (IsOf i any (body p.frame.bytes) (hops p.frame.bytes + 1))
             (cond b (fate_by i stamp p.seat.station p (hand i p.seat.station (target p.frame.bytes).net)) [])) (sym e) tt
 
-    -- where it ends, nothing is put
+    -- No frame is put for a datagram that ends at the station.
     pub end_none : ends_at i p ≡ true → pairs (cable_seats i) (fate i stamp p) ≡ []
     end_none e = by (is_copy i p) refl
       where
@@ -276,7 +276,7 @@ module _ (i : Internet) (ok : Passes i) where
             ap (λ b. pairs (cable_seats i) (cond b (fate_by i stamp p.seat.station p
             (hand i p.seat.station (target p.frame.bytes).net)) [])) y
 
-    -- and nothing of what isn't for one station
+    -- No frame is put for a frame that isn't for one station.
     pub not_unicast : is_unicast p.frame.to ≡ false → fate i stamp p ≡ []
     not_unicast u =
         ap (λ b. cond b (fate_by i stamp p.seat.station p (hand i p.seat.station (target p.frame.bytes).net)) [])

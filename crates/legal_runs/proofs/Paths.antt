@@ -1,4 +1,4 @@
--- The routers that carried a datagram so far, each handing it on to the next.
+-- The routers that have carried a datagram so far, each handing it to the next.
 use Rattle.std.proofs.Common.{◌≡◌, ℕ, ◌<◌, ◌≤◌, List, [], ◌∷◌, ◌++◌, Some, length, refl, ap, ◌∙◌, arith}
 use Rattle.at_base.specs.declared.address.Addr.{Addr}
 use Rattle.table_image.specs.Internet.{Internet}
@@ -8,17 +8,17 @@ use Rattle.audit.specs.Walks.{IsWalk}
 use Rattle.audit.proofs.WalkHome.{walks_home}
 use Rattle.legal_runs.specs.Carriage.{IsChain}
 
--- the first of the chain, and r where there is none
+-- The first router of the chain, or r if the chain is empty.
 abbrev pub first : List ℕ → ℕ → ℕ
 first [] r = r
 first (a ∷ chain) r = a
 
--- each router of the chain hands on for network n to the next, and the last to r
+-- Each router of the chain hands datagrams for network n to the next, and the last one to r.
 abbrev pub Path : Internet → ℕ → List ℕ → ℕ → Type 0
 Path i n [] r = Unit {0}
 Path i n (a ∷ chain) r = (a < length i.routers) × ((d : ℕ) × (x : Addr) × (hand i a n ≡ On (first chain r) d x) × Path i n chain r)
 
--- one more router
+-- A path with one more router.
 pub path_on : (i : Internet) (n : ℕ) (chain : List ℕ) (r s d : ℕ) (x : Addr) → Path i n chain r → r < length i.routers
     → hand i r n ≡ On s d x → Path i n (chain ++ r ∷ []) s
 path_on i n [] r s d x h within e = (within, (d, x, e, tt))
@@ -34,7 +34,7 @@ path_walk : (i : Internet) (n a : ℕ) (chain : List ℕ) (r c d : ℕ) (x : Add
 path_walk i n a [] r c d x on h e = (d, x, on, e)
 path_walk i n a (b ∷ chain) r c d x on h e = (d, x, on, path_walk i n b chain r c h.1.0 h.1.1 h.1.2 h.1.3 e)
 
--- a walk home has at most 15 routers
+-- A walk to a network's home has at most 15 routers.
 short : (i : Internet) → Passes i → (n r c : ℕ) → home i n ≡ Some c → r < length i.routers → (rest : List ℕ) → IsWalk i n r rest c
     → length (r ∷ rest) ≤ 15
 short i ok n r c listed within rest w =
@@ -43,7 +43,7 @@ short i ok n r c listed within rest w =
     let few = one.short in
     omega (arith, same, few)
 
--- where the last one puts it on its home, the chain is the walk
+-- If the last router puts the datagram on its home cable, the chain is the walk.
 pub path_home : (i : Internet) → Passes i → (n : ℕ) (chain : List ℕ) (r c : ℕ) → home i n ≡ Some c → Path i n chain r
     → r < length i.routers → hand i r n ≡ Here c → IsChain i n c (chain ++ r ∷ [])
 path_home i ok n [] r c listed h within e = (e, short i ok n r c listed within [] e)

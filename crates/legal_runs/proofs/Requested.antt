@@ -1,4 +1,4 @@
--- Which pairs a leg makes, and what no leg of another datagram does.
+-- Which pairs a leg makes, and which it doesn't because they are of another datagram.
 use Rattle.std.proofs.Common.{◌≡◌, ℕ, zero, suc, ◌<◌, ◌≤◌, Bool, true, false, not, ◌&&◌, ◌==◌, cond, List, [], ◌∷◌, ◌++◌}
 use Rattle.std.proofs.Common.{Some, length, filter, map, refl, sym, ap, ◌∙◌, subst, arith, append-nil}
 use Rattle.std.specs.List.{AllByRecursion as Each}
@@ -32,7 +32,7 @@ use Rattle.legal_runs.proofs.Seated.{heard_alone, not_all, not_group}
 use Rattle.station.specs.declared.output.Next.TheVariants as next
 
 module _ (i : Internet) where
-  -- the pair is of a seat of the internet
+  -- The pair's seat is a seat of the internet.
   abbrev pub HasPlace : Pair → Type 0
   HasPlace p = (k : ℕ) × (s : PlaceOf) × At (seats i) k s × (p.seat ≡ cable_seat i s)
 
@@ -44,7 +44,7 @@ module _ (i : Internet) where
         | false ↦ each_filter P t xs h.1
       ]
 
-  -- the seats of a list, each from its own
+  -- Each seat in the list is a seat of the internet.
   seats_from : (xs : List PlaceOf) → ((k : ℕ) (s : PlaceOf) → At xs k s → (j : ℕ) × At (seats i) j s)
       → Each (λ x. (k : ℕ) × (s : PlaceOf) × At (seats i) k s × (x ≡ cable_seat i s)) (map (cable_seat i) xs)
   seats_from [] f = tt
@@ -66,7 +66,7 @@ module _ (i : Internet) where
   -- ---- Entries of one datagram
 
   module _ (A : ℕ → Type 0) (d : List ℕ) (hop : ℕ) where
-    -- the pairs are of its frames
+    -- The pairs are of the datagram's frames.
     pub of_bodies : (es : List Entry) → Each (IsOf i A d hop) es → Each (λ p. body p.frame.bytes ≡ d) (pairs (cable_seats i) es)
     of_bodies [] h = tt
     of_bodies (Put f ∷ es) h =
@@ -79,7 +79,7 @@ module _ (i : Internet) where
     of_bodies (Took p s ∷ es) h = absurd h.0
     of_bodies (Lost p ∷ es) h = absurd h.0
 
-    -- and hold datagrams
+    -- The pairs hold datagrams.
     pub of_kinds : (es : List Entry) → Each (IsOf i A d hop) es → Each (λ p. p.frame.kind ≡ Ddp) (pairs (cable_seats i) es)
     of_kinds [] h = tt
     of_kinds (Put f ∷ es) h =
@@ -91,7 +91,7 @@ module _ (i : Internet) where
     of_kinds (Took p s ∷ es) h = absurd h.0
     of_kinds (Lost p ∷ es) h = absurd h.0
 
-    -- with so many hops
+    -- The pairs have hop count `hop`.
     pub of_hops : (es : List Entry) → Each (IsOf i A d hop) es → Each (λ p. hops p.frame.bytes ≡ hop) (pairs (cable_seats i) es)
     of_hops [] h = tt
     of_hops (Put f ∷ es) h =
@@ -104,7 +104,7 @@ module _ (i : Internet) where
     of_hops (Took p s ∷ es) h = absurd h.0
     of_hops (Lost p ∷ es) h = absurd h.0
 
-    -- a test that passes no frame of it
+    -- A test that no frame of the datagram passes counts 0.
     pub of_none : (f : Pair → Bool) (es : List Entry) → Each (IsOf i A d hop) es → ((p : Pair) → body p.frame.bytes ≡ d → f p ≡ false)
         → count f (pairs (cable_seats i) es) ≡ 0
     of_none f es h never =
@@ -120,7 +120,7 @@ module _ (i : Internet) where
     of_unasked k (Took p s ∷ es) h = absurd h.0
     of_unasked k (Lost p ∷ es) h = absurd h.0
 
-    -- what is no lookup makes none
+    -- A datagram that is no lookup makes no lookup.
     pub of_no_lookup : (k : List ℕ) (c : ℕ) (es : List Entry) → is_lookup (request d) ≡ false → Each (IsOf i A d hop) es → count
         (looks i k c) es ≡ 0
     of_no_lookup k c [] e h = refl
@@ -139,7 +139,7 @@ module _ (i : Internet) where
 
   -- ---- One frame to a router
 
-  -- Entries whose one pair is a frame to a router's seat.
+  -- Entries with exactly one pair, which is a frame to a router's seat.
   pub record OnePair (d : List ℕ) (es : List Entry) : Type 0 where
     pub frame : Frame
     pub place : ℕ
@@ -153,7 +153,7 @@ module _ (i : Internet) where
     pub router : seat.station < length i.routers
 
   module _ (ok : Passes i) where
-    -- a leg to a seat that is there
+    -- A leg to a seat that exists.
     pub to_seat : (stamp : ℕ) (l : Leg) (a : Addr) (s : PlaceOf) → Whole l.body → l.hops ≤ 15 → l.next ≡ next.Station a
         → seat_at i l.cable a ≡ Some s
         → s.station < length i.routers → OnePair l.body (leg i stamp l)
@@ -198,7 +198,7 @@ module _ (i : Internet) where
         let w = owner_is i l.cable a r own in
         to_seat stamp l a w.0.0 whole few next w.0.1 (subst (λ n. n < length i.routers) (sym w.0.2) w.1)
 
-    -- what a router keeps makes no frame
+    -- A datagram that a router keeps makes no frame.
     pub kept_none : (stamp r : ℕ) (p : Pair) (h : Hand) → keeps_by i r (target p.frame.bytes) h ≡ true
         → pairs (cable_seats i) (fate_by i stamp r p h) ≡ []
     kept_none stamp r p Nowhere e = cc

@@ -1,4 +1,4 @@
--- The invariant of a run: of each body, each that was sent ended once or is under way once.
+-- The invariant of a run: each time that a body was sent, it ended once or is under way once.
 use Rattle.std.proofs.Common.{◌≡◌, ◌≢◌, ℕ, ◌+◌, ◌<◌, Bool, true, false, not, ◌&&◌, cond, List, [], ◌∷◌, ◌++◌}
 use Rattle.std.proofs.Common.{refl, sym, ap, ◌∙◌, subst, arith, append_assoc}
 use Rattle.std.specs.List.{AllByRecursion as Each}
@@ -25,7 +25,7 @@ use Rattle.legal_runs.proofs.Seated.{one_seat}
 use Rattle.audit.proofs.WalkFacts.{owner_is}
 use Rattle.audit.proofs.WalkSteps.{near}
 
--- no matter which
+-- A property that holds of every number.
 abbrev pub any : ℕ → Type 0
 any n = Unit {0}
 
@@ -41,7 +41,8 @@ module _ (i : Internet) (ok : Passes i) where
   each_pair P es fs h g =
       subst (Each P) (sym (pairs-append (cable_seats i) es fs)) (each-append P (pairs (cable_seats i) es) (pairs (cable_seats i) fs) h g)
 
-  -- Entries after which each of some bodies was sent once more than it ended or is under way, and the others as often.
+  -- Entries after which each owed body was sent one time fewer than it ended or is under way, and the others equally
+  -- often.
   pub record Keeps (stamp : ℕ) (owed : List ℕ → ℕ) (es : List Entry) : Type 0 where
     pub adds : (b : List ℕ) → (target b).net ≢ 0 → sent b es + owed b ≡ count (is_ended b) es + copies i b es
     pub right : Each (IsRight i) es
@@ -50,7 +51,7 @@ module _ (i : Internet) (ok : Passes i) where
     pub ends_none : Each EndsNone es
     pub numbered : AreNumbered stamp es
 
-  -- nothing owed
+  -- No body is owed.
   abbrev pub nothing : List ℕ → ℕ
   nothing b = 0
 
@@ -58,7 +59,7 @@ module _ (i : Internet) (ok : Passes i) where
   unfolding copies
   keeps_none stamp = record { adds = λ b some. refl; right = tt; hops_left = tt; framed = tt; ends_none = tt; numbered = tt }
 
-  -- one datagram's entries, and others after them
+  -- The entries of one datagram, followed by others.
   keeps_more : (stamp : ℕ) (d : List ℕ) (hop : ℕ) (es fs : List Entry) → Does i any any stamp d hop es → Keeps
       (stamp + stamps es) nothing fs
       → Keeps stamp (λ b. one (same_bytes b d)) (es ++ fs)
@@ -78,7 +79,7 @@ module _ (i : Internet) (ok : Passes i) where
     numbered = numbered-append stamp es fs does.numbered rest.numbered;
   }
 
-  -- a datagram that a station made
+  -- A datagram that a station made.
   pub made_does : (N A : ℕ → Type 0) (stamp : ℕ) (l : Leg) → IsMade i l → ((s : ℕ) → N s) → ((c : ℕ) → A c)
       → Does i N A stamp l.body l.hops (leg i stamp l)
   made_does N A stamp l made to at =
@@ -88,7 +89,7 @@ module _ (i : Internet) (ok : Passes i) where
       let far = near i ok r (target l.body).net c w.1 h in
       omega (arith, fresh, far)) (λ h. at l.cable) (λ a r e own apart. to r)
 
-  -- each datagram that stations made was sent
+  -- Each datagram that stations made was sent.
   pub said_keeps : (stamp : ℕ) (ls : List Leg) → Each (IsMade i) ls → Keeps stamp nothing (said i stamp ls)
   unfolding copies
   said_keeps stamp [] made = keeps_none stamp
@@ -106,7 +107,7 @@ module _ (i : Internet) (ok : Passes i) where
         numbered = (tt, subst (λ n. AreNumbered n (es ++ fs)) (omega arith) rest.numbered);
       }
 
-  -- what is owed after a pair was taken: its body, if it is a copy
+  -- The body that is owed after a pair was taken, if the pair is a copy.
   abbrev pub owed_by : Pair → List ℕ → ℕ
   owed_by p b = one (carries i b p)
 
@@ -159,7 +160,7 @@ module _ (i : Internet) (ok : Passes i) where
     pub below : Each (EndsBelow (stamps t)) t
     pub numbered : AreNumbered 0 t
 
-  -- entries that end nothing
+  -- Adds entries that end no pair.
   pub run_more : (t es : List Entry) (owed : List ℕ → ℕ) → Keeps (stamps t) owed es
       → ((b : List ℕ) → (target b).net ≢ 0 → sent b t ≡ count (is_ended b) t + under_way i b t + owed b)
       → Each (IsRight i) t → Each (HopsFine i) (pairs (cable_seats i) t) → Each (λ p. Framed p.frame.bytes) (pairs (cable_seats i) t)
@@ -186,11 +187,11 @@ module _ (i : Internet) (ok : Passes i) where
     numbered = numbered-append 0 t es numbered (subst (λ n. AreNumbered n es) (omega arith) new.numbered);
   }
 
-  -- nothing happened yet
+  -- The invariant of the empty transcript.
   none_yet : Run []
   none_yet = record { balance = λ b some. refl; right = tt; hops_left = tt; framed = tt; below = tt; numbered = tt }
 
-  -- a station took a frame
+  -- The invariant after a station took a frame.
   run_took : (t : List Entry) (p : Pair) (k : ℕ) (ls : List Leg) → Run t → At (pending (cable_seats i) t) k p → Each (IsMade i) ls
       → Run (t ++ Took p.frame.stamp p.seat.station ∷ handled i (stamps t) p ls)
   run_took t p k ls r at made =

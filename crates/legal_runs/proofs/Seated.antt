@@ -1,4 +1,4 @@
--- Who hears what on the cables of an internet that passes.
+-- Which stations hear which frames on the cables of an internet that passes the audit.
 use Rattle.std.proofs.Common.{◌≡◌, ℕ, zero, suc, ◌+◌, ◌++◌, ◌≤◌, ◌%◌, Bool, true, false, not, ◌||◌, ◌&&◌, ◌==◌, if◌then◌else◌, List, []}
 use Rattle.std.proofs.Common.{◌∷◌, Option, Some, None}
 use Rattle.std.proofs.Common.{length, map, take, refl, sym, ap, ◌∙◌, subst, arith, slice_get, slice_index, eqb-true, eq-eqb, true≢false}
@@ -31,7 +31,7 @@ use Rattle.legal_runs.specs.Stations.{cable_holds, cable_seat, cable_seats, is_o
 
 -- ---- Homes
 
--- the cable whose range holds a network is its home
+-- The cable whose range holds a network is its home.
 pub home_is : (i : Internet) → Passes i → (n c : ℕ) → cable_holds i c n ≡ true → home i n ≡ Some c
 home_is i ok n c h = there (slice_get i.cables c) refl h
   where
@@ -43,13 +43,13 @@ home_is i ok n c h = there (slice_get i.cables c) refl h
         let same = one_cable i ok found.0 c w.0 cable n w.1 e w.2 holds in
         found.1 ∙ ap Some same
 
--- and the other way round
+-- A network is in the range of its home.
 pub home_holds : (i : Internet) (n c : ℕ) → home i n ≡ Some c → cable_holds i c n ≡ true
 home_holds i n c h =
     let w = index_at (λ c. is_between c.start c.end n) i.cables c h in
     ap (λ o. on o (λ c. is_between c.start c.end n)) w.1 ∙ w.2
 
--- ---- A router with a port on a cable is there
+-- ---- A router with a port on a cable is on it
 
 any_left : {X : Type 0} (t : X → Bool) (xs ys : List X) → list_any t xs ≡ true → list_any t (xs ++ ys) ≡ true
 any_left t xs ys e = any-append t xs ys ∙ ap (λ b. b || list_any t ys) e
@@ -90,7 +90,7 @@ port_seated i r cable h =
     (routers_on 0 r h.place cable h.router h.port i.routers h.known h.at h.on))
 
 module _ (i : Internet) (ok : Passes i) where
-  -- a listed network isn't 0
+  -- A listed network isn't 0.
   pub listed_some : (n c : ℕ) → home i n ≡ Some c → 1 ≤ n
   listed_some n c h =
       let w = index_at (λ c. is_between c.start c.end n) i.cables c h in
@@ -100,7 +100,7 @@ module _ (i : Internet) (ok : Passes i) where
 
   -- ---- Seats
 
-  -- a station has one seat at most on a cable
+  -- A station has at most one seat on a cable.
   pub one_seat : (cable station : ℕ) → count (λ s. s.cable == cable && s.station == station) (cable_seats i) ≤ 1
   one_seat cable station =
       let moved = count-map (λ (s : Seat). s.cable == cable && s.station == station) (cable_seat i) (seats i) in
@@ -110,7 +110,7 @@ module _ (i : Internet) (ok : Passes i) where
       (unique i ok).by_station j k s t ej ek (eqb-true _ _ a.1 ∙ sym (eqb-true _ _ b.1)) (eqb-true _ _ a.0 ∙ sym (eqb-true _ _ b.0))) in
       omega (arith, moved, few)
 
-  -- a seat's hardware address is neither that of all stations nor that of a group
+  -- A seat's hardware address is neither the broadcast address nor a group's.
   single_first : (h : Hw) (rest : List ℕ) → (slice_index h.0 0 % 2 == 1) ≡ false → h.0 ≡ 9 ∷ rest → ⊥
   single_first h rest single e =
       let first : slice_index h.0 0 ≡ 9 = ap (λ bytes. slice_index bytes 0) e in
@@ -131,14 +131,14 @@ module _ (i : Internet) (ok : Passes i) where
           let first : b ≡ 9 = ap (λ bytes. slice_index bytes 0) e in
           true≢false (sym (ap (λ n. n % 2 == 1) first) ∙ s)
 
-  -- whom a frame to a single hardware address is for
+  -- A frame to one hardware address is for the seats that have that address.
   pub for_one : (to : Hw) (sender : ℕ) (s : Seat) → is_all to ≡ false → is_group to ≡ false → is_for to sender s ≡ same_bytes s.hw.0 to.0
   for_one to sender s all group =
       ap (λ b. if b then not (s.station == sender) else if is_group to then not (s.station == sender) && listens
       (slice_index to.0 5) s.group else same_bytes s.hw.0 to.0) all
       ∙ ap (λ b. if b then not (s.station == sender) && listens (slice_index to.0 5) s.group else same_bytes s.hw.0 to.0) group
 
-  -- a frame to the hardware address of a seat on its cable is heard there alone
+  -- A frame to the hardware address of a seat on its cable is heard only by that seat.
   pub heard_alone : (f : Frame) (k : ℕ) (s : PlaceOf) → At (seats i) k s → s.cable ≡ f.cable → s.hardware.0 ≡ f.to.0
       → pairs_of (cable_seats i) (Put f) ≡ record { frame = f; seat = cable_seat i s } ∷ []
   heard_alone f k s at cable hw =

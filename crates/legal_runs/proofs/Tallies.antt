@@ -1,4 +1,4 @@
--- The lookups and forward requests that answers make, counted.
+-- Counts the lookups and forward requests that answers make.
 use Rattle.std.proofs.Common.{◌≡◌, ◌≢◌, ℕ, ◌+◌, ◌<◌, Bool, true, false, not, ◌&&◌, ◌==◌, List, [], ◌∷◌, ◌++◌, Some}
 use Rattle.std.proofs.Common.{length, inl, inr, refl, sym, ap, ◌∙◌, subst, arith, lt-ltb}
 use Rattle.std.specs.List.{AllByRecursion as Each}
@@ -40,7 +40,7 @@ and_swap false true = refl
 and_swap false false = refl
 
 module _ (i : Internet) where
-  -- Entries that make n lookups and forward requests, and ask nothing.
+  -- Entries that make n lookups and forward requests, and no broadcast requests.
   pub record Tally (k : List ℕ) (c n : ℕ) (es : List Entry) : Type 0 where
     pub found : count (looks i k c) es + count (forwarded i k c) (pairs (cable_seats i) es) ≡ n
     pub unasked : count (is_asked i k) es ≡ 0
@@ -71,7 +71,7 @@ module _ (i : Internet) where
         omega (arith, p, x, y);
   }
 
-  -- what is no broadcast request asks nothing
+  -- A datagram that is no broadcast request isn't counted as one.
   pub no_request : (d : List ℕ) → is_broadcast (request d) ≡ false → is_request i d ≡ false
   no_request d e = and_left (is_broadcast (request d)) _ e
 
@@ -86,7 +86,7 @@ module _ (i : Internet) where
         of_none i A d hop (forwarded i k c) es of (λ p same.
         and_right (is_copy i p) _ (and_left (is_forward (request (body p.frame.bytes))) _ (ap (λ b. is_forward (request b)) same ∙ e)))
 
-    -- entries of a datagram that is no request
+    -- Entries of a datagram that is no request.
     quiet : (k : List ℕ) (c : ℕ) → is_lookup (request d) ≡ false → is_forward (request d) ≡ false → is_request i d ≡ false → Tally k c 0 es
     quiet k c a b e = record {
       found =
@@ -97,7 +97,7 @@ module _ (i : Internet) where
       no_wait = waits_none k e;
     }
 
-  -- a Sent of what doesn't ask
+  -- A Sent entry of a datagram that is no broadcast request.
   silent : (k : List ℕ) (c s : ℕ) (d : List ℕ) → is_request i d ≡ false → Tally k c 0 (Sent s d ∷ [])
   silent k c s d e = record {
     found = refl;
@@ -106,7 +106,7 @@ module _ (i : Internet) where
   }
 
   module _ (ok : Passes i) where
-    -- the entries of a leg are of its datagram
+    -- The entries of a leg are entries of its datagram.
     pub leg_of : (stamp : ℕ) (l : Leg) → IsMade i l → Each (IsOf i any l.body l.hops) (leg i stamp l)
     leg_of stamp l made = (made_does i ok any any stamp l made (λ s. tt) (λ c. tt)).of
 
@@ -134,7 +134,7 @@ module _ (i : Internet) where
           no_wait = waits_none any l.body l.hops (leg i stamp l) of k none;
         }
 
-    -- whether the pair of a frame to a router is a copy
+    -- Whether the pair of a frame to a router is a copy.
     pub copy_one : (d : List ℕ) (es : List Entry) → (o : OnePair i d es) → (target d).net ≢ 0 → same_address
         (target d) o.seat.address ≡ false
         → is_copy i (record { frame = o.frame; seat = cable_seat i o.seat }) ≡ true
@@ -152,7 +152,7 @@ module _ (i : Internet) where
         all_true kind true true true h ek eu er ez eh = cc
         all_true kind true true false true ek eu er ez eh = cc
 
-    -- a copy of a forward request, counted
+    -- Counts a copy of a forward request.
     pub forward_pair : (k : List ℕ) (c e : ℕ) (d : List ℕ) (es : List Entry) → OnePair i d es → is_forward (request d) ≡ true
         → home i (target d).net ≡ Some e → (target d).node ≡ 0
         → count (forwarded i k c) (pairs (cable_seats i) es) ≡ one (e == c && same_bytes k (key_in (request d)))
@@ -172,7 +172,7 @@ module _ (i : Internet) where
         ∙ (ap (λ x. same_bytes k (key_in (request d)) && is_home x c) h ∙ and_swap (same_bytes k (key_in (request d))) (e == c)))) in
         ap (count (forwarded i k c)) o.only ∙ (let v = ap one value in omega (arith, v))
 
-    -- who hands a datagram to a listed network on hands it to the owner of the address
+    -- A router that hands a datagram to a listed network on hands it to the owner of the next router's address.
     pub on_is : (r n s d : ℕ) (a : Addr) (c : ℕ) → r < length i.routers → home i n ≡ Some c → hand i r n ≡ On s d a → owner i d a ≡ Some s
     on_is r n s d a c within h e =
         elim (steps i ok r n c within h) as (λ _. owner i d a ≡ Some s) [
@@ -217,7 +217,7 @@ module _ (i : Internet) where
     none_said : (k : List ℕ) (c : ℕ) → Tally k c 0 []
     none_said k c = record { found = refl; unasked = refl; no_wait = refl }
 
-    -- the answers to a broadcast request
+    -- The answers to a broadcast request.
     pub expanded : (k : List ℕ) (c stamp : ℕ) (key : List ℕ) (r : ℕ) (cs : List ℕ) (ls : List Leg) → Each (IsMade i) ls → r < length i.routers
         → Expands i key r cs ls → Tally k c (count (λ d. d == c && same_bytes k key) cs) (said i stamp ls)
     expanded k c stamp key r [] [] made within h = none_said k c
@@ -234,14 +234,14 @@ module _ (i : Internet) where
               (forward_leg k c stamp key r d l made.0 within b) (count (λ d. d == c && same_bytes k key) cs) ls rest
         ]
 
-    -- the answer to a forward request
+    -- The answer to a forward request.
     pub looked_up : (k : List ℕ) (c stamp : ℕ) (key : List ℕ) (r d : ℕ) (l : Leg) → IsMade i l → r < length i.routers → IsLookup i key r d l
         → Tally k c (one (d == c && same_bytes k key) + 0) (said i stamp (l ∷ []))
     looked_up k c stamp key r d l made within h =
         one_leg k c stamp (one (d == c && same_bytes k key)) l (no_request l.body (lookup_alone (request l.body) h.kind).0)
         (lookup_leg k c stamp key r d l made within h) 0 [] (none_said k c)
 
-    -- answers that are no requests
+    -- Answers that are no requests.
     pub others_said : (k : List ℕ) (c stamp : ℕ) (ls : List Leg) → Each (IsMade i) ls → Each (λ l. is_other l.body ≡ true) ls → Tally k c 0 (said i stamp ls)
     others_said k c stamp [] made h = none_said k c
     others_said k c stamp (l ∷ ls) made h =

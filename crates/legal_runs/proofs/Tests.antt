@@ -1,4 +1,4 @@
--- Tests that are joined, and their parts.
+-- Tests joined with `&&`, and their parts.
 use Rattle.std.proofs.Common.{◌≡◌, Bool, true, false, ◌&&◌, refl}
 
 pub all_three : (a b c : Bool) → (a && b && c) ≡ true → (a ≡ true) × (b ≡ true) × (c ≡ true)

@@ -1,5 +1,5 @@
--- What stations may send: how a datagram leaves, and which requests a router makes of those that end there.
--- (Inside AppleTalk, the chapters on DDP and NBP)
+-- What stations may send: how a datagram leaves a station, and which requests a router makes from requests that end at
+-- it. Inside AppleTalk, the chapters on DDP and NBP.
 use Rattle.std.specs.Prelude.{◌≡◌, ◌≢◌, ◌<◌, ℕ, true, false, not, ◌&&◌, ◌||◌, ◌==◌, ◌⊎◌, Bool, List, [], ◌∷◌, Some, IsTrue, nat_lt}
 use Rattle.std.specs.List.{list_all, AllByRecursion as Each}
 use Rattle.at_base.specs.Spelling.{Spells}
@@ -16,7 +16,7 @@ use Rattle.legal_runs.specs.Stations.{cable_holds, has_address, is_on, is_router
 use Rattle.at_base.specs.Multicast.{group_of}
 use Rattle.station.specs.declared.output.Next.TheVariants as next
 
--- The bytes are a body: one whole datagram with hop count 0, without a checksum or with the right one, and no more.
+-- The bytes are exactly one whole datagram with hop count 0, and with no checksum or the right one.
 pub record IsBody (bytes : List ℕ) : Type 0 where
   pub value : Datagram
   pub spelled : Spells datagram bytes value
@@ -24,8 +24,9 @@ pub record IsBody (bytes : List ℕ) : Type 0 where
   pub fresh : value.hops ≡ 0
   pub sum : (value.checksum ≡ 0) ⊎ (value.checksum ≡ checksum_of value)
 
--- How a datagram may leave: for a single node of the cable's range, straight to it; for any network but 0, to a router; for
--- all nodes of the cable's range or of network 0, to all; or for all nodes of network 0, to a group.
+-- How a datagram may leave a station: directly to its target node if the network is in the cable's range; to a router
+-- if the network isn't 0; to all stations if the target is all nodes of a network in the cable's range, or of network
+-- 0; to a group if the target is all nodes of network 0.
 pub data Goes (i : Internet) (l : Leg) : Type 0 where
   Straight : l.next ≡ next.Station (target l.body) → cable_holds i l.cable (target l.body).net ≡ true → (target l.body).node ≢ 0
       → (target l.body).node ≢ 255 → Goes i l
@@ -34,7 +35,8 @@ pub data Goes (i : Internet) (l : Leg) : Type 0 where
   OnCable : l.next ≡ next.All → (target l.body).net ≡ 0 → (target l.body).node ≡ 255 → Goes i l
   ToThese : (g : ℕ) → g < 253 → l.next ≡ next.Group g → (target l.body).net ≡ 0 → (target l.body).node ≡ 255 → Goes i l
 
--- A station made the datagram of the leg: it is on the cable, and the datagram is whole, wasn't handed on, and leaves so.
+-- A station made the leg's datagram: it is on the cable, the datagram is whole with hop count 0, and it leaves in a way
+-- that `Goes` allows.
 pub record IsMade (i : Internet) (l : Leg) : Type 0 where
   pub seated : is_on i l.station l.cable ≡ true
   pub whole : IsBody l.body
@@ -43,29 +45,30 @@ pub record IsMade (i : Internet) (l : Leg) : Type 0 where
 
 -- ---- Requests that end at a router
 
--- router r, handing the datagram so, keeps it: it is for any router of the network, or for its address there
+-- With this routing decision for its target, router r keeps the datagram: the target is any router of the network, or
+-- the router's own address there.
 abbrev pub keeps_by : Internet → ℕ → Addr → Hand → Bool
 keeps_by i r a Nowhere = false
 keeps_by i r a (Here c) = a.node == 0 || has_address i r c a
 keeps_by i r a (On s c next) = false
 
--- The datagram came to a router in a frame to it, and ends there.
+-- The frame was sent to a router's own hardware address, and its datagram ends at that router.
 abbrev pub ends_at : Internet → Pair → Bool
 ends_at i p =
     is_unicast p.frame.to && is_router i p.seat.station
     && (has_address i p.seat.station p.seat.cable (target p.frame.bytes)
     || (is_copy i p && keeps_by i p.seat.station (target p.frame.bytes) (hand i p.seat.station (target p.frame.bytes).net)))
 
--- a broadcast request that ends there
+-- The datagram is a broadcast request that ends at the station that takes it.
 abbrev pub asks_here : Internet → Pair → Bool
 asks_here i p = is_broadcast (request (body p.frame.bytes)) && ends_at i p
 
--- a forward request for a zone that ends there
+-- The datagram is a forward request with a valid zone name that ends at the station that takes it.
 abbrev pub seeks_here : Internet → Pair → Bool
 seeks_here i p =
     is_forward (request (body p.frame.bytes)) && is_name (zone_of (key_in (request (body p.frame.bytes)))) && ends_at i p
 
--- a lookup with this key, by router r on cable c, for the group of the zone
+-- The leg is a lookup with this key, sent by router r on cable c to the multicast address of the zone.
 pub record IsLookup (i : Internet) (k : List ℕ) (r c : ℕ) (l : Leg) : Type 0 where
   pub here : l.cable ≡ c
   pub by : l.station ≡ r
@@ -73,7 +76,7 @@ pub record IsLookup (i : Internet) (k : List ℕ) (r c : ℕ) (l : Leg) : Type 0
   pub key : key_in (request l.body) ≡ k
   pub next : l.next ≡ next.Group (group_of (zone_of k))
 
--- a forward request with this key, by router r: to any router of cable c, by way of the next router
+-- The leg is a forward request with this key, to any router of cable c, that router r sends to the next router.
 pub record IsForward (i : Internet) (k : List ℕ) (r c : ℕ) (l : Leg) : Type 0 where
   pub kind : is_forward (request l.body) ≡ true
   pub key : key_in (request l.body) ≡ k
@@ -84,20 +87,20 @@ pub record IsForward (i : Internet) (k : List ℕ) (r c : ℕ) (l : Leg) : Type 
   pub handed : hand i r (target l.body).net ≡ On router l.cable address
   pub next : l.next ≡ next.Station address
 
--- one lookup or forward request for each of these cables, in their order
+-- The legs are one lookup or forward request for each of these cables, in the order of the cables.
 abbrev pub Expands : Internet → List ℕ → ℕ → List ℕ → List Leg → Type 0
 Expands i k r [] [] = Unit {0}
 Expands i k r [] (l ∷ ls) = ⊥
 Expands i k r (c ∷ cs) [] = ⊥
 Expands i k r (c ∷ cs) (l ∷ ls) = (IsLookup i k r c l ⊎ IsForward i k r c l) × Expands i k r cs ls
 
--- the datagram is no request
+-- The datagram is no NBP request.
 abbrev pub is_other : List ℕ → Bool
 is_other b = not (is_broadcast (request b) || is_forward (request b) || is_lookup (request b))
 
--- What the taker of a pair answers: a router at which a broadcast request ends makes one lookup or forward request for each
--- cable that lists the zone; one at which a forward request for a zone ends, the lookup; and nothing else is answered by a
--- request.
+-- What a station sends after it took a pair: for a broadcast request that ends at it, one lookup or forward request for
+-- each cable that lists the zone; for a forward request that ends at it, one lookup on the target's cable; otherwise no
+-- NBP requests.
 pub data Answers (i : Internet) (p : Pair) (ls : List Leg) : Type 0 where
   Expanded : asks_here i p ≡ true
       → Expands i (key_in (request (body p.frame.bytes))) p.seat.station (listing i (zone_of (key_in (request (body p.frame.bytes))))) ls
@@ -106,7 +109,7 @@ pub data Answers (i : Internet) (p : Pair) (ls : List Leg) : Type 0 where
       → IsLookup i (key_in (request (body p.frame.bytes))) p.seat.station c l → Answers i p ls
   Others : asks_here i p ≡ false → seeks_here i p ≡ false → Each (λ (l : Leg). is_other l.body ≡ true) ls → Answers i p ls
 
--- What a node sends unasked: to a router, or on its cable alone.
+-- What a node sends on its own initiative: a datagram to network 0, or one that is handed to a router.
 pub record IsOwn (i : Internet) (l : Leg) : Type 0 where
   pub by_node : is_router i l.station ≡ false
   pub handed : ((target l.body).net ≡ 0) ⊎ ((a : Addr) × (r : ℕ) × (l.next ≡ next.Station a) × (owner i l.cable a ≡ Some r))

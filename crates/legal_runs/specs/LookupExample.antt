@@ -1,5 +1,5 @@
--- A request for names over the three cables: the node on the first asks its router for all names in the zone blue, and the
--- printer on the last replies. (Inside AppleTalk, the chapter on NBP)
+-- A request for names over three cables: the node on the first cable asks its router for all names in the zone blue,
+-- and the printer on the last cable replies. Inside AppleTalk, the chapter on NBP.
 use Rattle.std.specs.Prelude.{ℕ, List, [], ◌∷◌, ◌++◌, codes}
 use Rattle.cable_model.specs.declared.entry.How.TheVariants as how
 use Rattle.station.specs.declared.heard.Kind.TheVariants.{Ddp}
@@ -7,38 +7,39 @@ use Rattle.cable_model.specs.Transcript.{Entry, Sent, Put, Took, Reached}
 use Rattle.legal_runs.specs.Example.{framed}
 use Rattle.at_base.specs.Multicast.{group_hw}
 
--- a request of this function and number of tuples: ID 1, to be answered to 10.7 socket 253, for =:=@blue
+-- An NBP request with this first byte (function and number of tuples): ID 1, replies to 10.7 socket 253, for =:=@blue.
 abbrev pub blue : ℕ → List ℕ
 blue head = head ∷ 1 ∷ 0 ∷ 10 ∷ 7 ∷ 253 ∷ 0 ∷ 1 ∷ 61 ∷ 1 ∷ 61 ∷ 4 ∷ codes "blue"
 
--- the node's broadcast request to a socket of its router, of a type: from 10.7 socket 253 to 10.1
+-- The node's broadcast request from 10.7 socket 253 to this socket of 10.1, with this DDP type.
 abbrev pub blue_to : ℕ → ℕ → List ℕ
 blue_to socket kind = 0 ∷ 29 ∷ 0 ∷ 0 ∷ 0 ∷ 10 ∷ 0 ∷ 10 ∷ 1 ∷ 7 ∷ socket ∷ 253 ∷ kind ∷ blue 17
 
--- the request: to socket 2, of type 2
+-- The node's broadcast request to socket 2, with DDP type 2.
 abbrev pub blue_request : List ℕ
 blue_request = blue_to 2 2
 
--- a lookup by a router whose address on the cable is this network's node 1: to all nodes there
+-- A lookup to all nodes of a cable, by the router whose address there is node 1 of this network.
 abbrev pub blue_lookup : ℕ → List ℕ
 blue_lookup net = 0 ∷ 29 ∷ 0 ∷ 0 ∷ 0 ∷ 0 ∷ 0 ∷ net ∷ 255 ∷ 1 ∷ 2 ∷ 2 ∷ 2 ∷ blue 33
 
--- the first router's forward request: 20.1 socket 2 to any router of network 30
+-- The first router's forward request, from 20.1 socket 2 to any router of network 30.
 abbrev pub blue_forward : List ℕ
 blue_forward = 0 ∷ 29 ∷ 0 ∷ 0 ∷ 0 ∷ 30 ∷ 0 ∷ 20 ∷ 0 ∷ 1 ∷ 2 ∷ 2 ∷ 2 ∷ blue 65
 
--- the printer's reply to 10.7 socket 253, with this first byte: the hop count, times 4
+-- The printer's reply to 10.7 socket 253, with this first byte, which is 4 times the hop count.
 abbrev pub lab_reply : ℕ → List ℕ
 lab_reply first =
     first ∷ 41 ∷ 0 ∷ 0 ∷ 0 ∷ 10 ∷ 0 ∷ 30 ∷ 7 ∷ 5 ∷ 253 ∷ 2 ∷ 2 ∷ 49 ∷ 1 ∷ 0 ∷ 30 ∷ 5 ∷ 129 ∷ 1 ∷ 3
     ∷ (codes "lab" ++ 11 ∷ (codes "LaserWriter" ++ 4 ∷ codes "Blue"))
 
--- a frame for the group of the zone, which is 118
+-- A frame to the multicast address of the zone blue, which is group 118.
 abbrev pub to_blue : ℕ → ℕ → ℕ → List ℕ → Entry
 to_blue stamp cable sender bytes =
     Put (record { stamp = stamp; cable = cable; sender = sender; to = group_hw 118; kind = Ddp; bytes = bytes })
 
--- The request ends at the first router, which looks on the second cable and asks the second router to look on the third.
+-- The whole exchange: the request ends at the first router, which sends a lookup on the second cable and a forward
+-- request to the second router, which sends a lookup on the third cable.
 abbrev pub blue_names : List Entry
 blue_names =
     Sent 2 blue_request ∷ Reached 0 2 how.Station blue_request ∷ framed 0 0 2 1 blue_request

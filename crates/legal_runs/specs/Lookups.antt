@@ -1,4 +1,4 @@
--- Broadcast requests, and the lookups that were made of them, counted by their key. This project's own.
+-- Broadcast requests and the lookups that were made from them, counted by their key.
 use Rattle.std.specs.Prelude.{◌≡◌, ℕ, ◌+◌, Bool, true, false, not, ◌&&◌, ◌||◌, ◌==◌, List, Option, Some, None, is_some}
 use Rattle.std.specs.List.{list_any}
 use Rattle.at_base.specs.Address.{same_address}
@@ -15,83 +15,82 @@ use Rattle.legal_runs.specs.Legs.{is_copy, is_unicast}
 use Rattle.legal_runs.specs.Requests.{request, is_broadcast, is_forward, is_lookup, key_in, listing, is_among, zone_of}
 use Rattle.legal_runs.specs.Stations.{cable_seats, is_router}
 
--- the address is a router's
+-- The address is a router's.
 abbrev pub is_routers : Internet → Addr → Bool
 is_routers i a = list_any (λ s. is_router i s.station && same_address a s.address) (seats i)
 
--- a broadcast request to a router's address, or to any router of a listed network
+-- The datagram is a broadcast request to a router's address, or to any router of a listed network.
 abbrev pub is_request : Internet → List ℕ → Bool
 is_request i b =
     is_broadcast (request b) && (is_routers i (target b) || ((target b).node == 0 && is_some (home i (target b).net)))
 
--- one with this key
+-- The datagram is a broadcast request to a router with this key.
 abbrev pub asks : Internet → List ℕ → List ℕ → Bool
 asks i k b = is_request i b && same_bytes k (key_in (request b))
 
--- the entry says that one with this key was sent
+-- The entry says that a broadcast request with this key was sent.
 abbrev pub is_asked : Internet → List ℕ → Entry → Bool
 is_asked i k (Sent station b) = asks i k b
 is_asked i k _ = false
 
--- the pair is a frame to a router with one
+-- The pair is a frame to one station with a broadcast request that has this key.
 abbrev pub waits : Internet → List ℕ → Pair → Bool
 waits i k p = is_unicast p.frame.to && asks i k (body p.frame.bytes)
 
--- the pair is one that ends where it is taken
+-- The pair holds a broadcast request with this key that ends at the station that takes it.
 abbrev pub ends_so : Internet → List ℕ → Pair → Bool
 ends_so i k p = waits i k p && ends_at i p
 
--- the entry is a router's lookup with this key on the cable
+-- The entry is a router's lookup with this key on the cable.
 abbrev pub looks : Internet → List ℕ → ℕ → Entry → Bool
 looks i k c (Put f) =
     f.cable == c && (is_router i f.sender && (is_lookup (request (body f.bytes)) && same_bytes k (key_in (request (body f.bytes)))))
 looks i k c _ = false
 
--- this cable is home
+-- The home is this cable.
 abbrev pub is_home : Option ℕ → ℕ → Bool
 is_home None c = false
 is_home (Some d) c = d == c
 
--- a forward request with this key, for the cable
+-- The datagram is a forward request with this key to a network on the cable.
 abbrev pub seeks : Internet → List ℕ → ℕ → List ℕ → Bool
 seeks i k c b = is_forward (request b) && (same_bytes k (key_in (request b)) && is_home (home i (target b).net) c)
 
--- the pair is a copy of one
+-- The pair is a forward request with this key to the cable that a router has to pass on or answer.
 abbrev pub forwarded : Internet → List ℕ → ℕ → Pair → Bool
 forwarded i k c p = is_copy i p && seeks i k c (body p.frame.bytes)
 
--- the entry says that a node sent a forward request or a lookup
+-- The entry says that a node sent a forward request or a lookup.
 abbrev pub is_unasked : Internet → Entry → Bool
 is_unasked i (Sent station b) = not (is_router i station) && (is_forward (request b) || is_lookup (request b))
 is_unasked i _ = false
 
--- No node sends a forward request or a lookup: they are the answers of routers.
+-- No node sends a forward request or a lookup: only routers do, in answer to requests.
 abbrev pub NodesOnlyAsk : Internet → List Entry → Type 0
 NodesOnlyAsk i t = count (is_unasked i) t ≡ 0
 
--- how many requests with this key were sent
+-- How many broadcast requests with this key were sent.
 abbrev pub asked : Internet → List ℕ → List Entry → ℕ
 asked i k t = count (is_asked i k) t
 
--- how many are in a frame that is pending
+-- How many broadcast requests with this key are in pending frames.
 abbrev pub waiting : Internet → List ℕ → List Entry → ℕ
 waiting i k t = count (waits i k) (pending (cable_seats i) t)
 
--- how many were taken where they ended
+-- How many broadcast requests with this key were taken by the router at which they end.
 abbrev pub taken : Internet → List ℕ → List Entry → ℕ
 taken i k t = count (λ p. was_ended t p && ends_so i k p) (pairs (cable_seats i) t)
 
--- how many lookups with this key were put on the cable
+-- How many lookups with this key were put on the cable.
 abbrev pub lookups : Internet → List ℕ → ℕ → List Entry → ℕ
 lookups i k c t = count (looks i k c) t
 
--- how many forward requests with it are under way to the cable
+-- How many forward requests with this key are under way to the cable.
 abbrev pub forwards : Internet → List ℕ → ℕ → List Entry → ℕ
 forwards i k c t = count (forwarded i k c) (pending (cable_seats i) t)
 
--- Lookups exactly where the zone is listed: for each broadcast request that was taken, each cable that lists its zone has
--- had one lookup, or a forward request to it is under way, and no other cable has had one. Each that was asked was taken or
--- waits.
+-- Each cable that lists the key's zone has had one lookup, or has a forward request under way, for each request that
+-- was taken; other cables have neither; and each request that was sent was taken or is pending.
 pub record IsLookedUp (i : Internet) (t : List Entry) (k : List ℕ) : Type 0 where
   pub asked_is : asked i k t ≡ taken i k t + waiting i k t
   pub listed : (c : ℕ) → is_among c (listing i (zone_of k)) ≡ true → lookups i k c t + forwards i k c t ≡ taken i k t

@@ -1,5 +1,5 @@
-//! Laws of legal transcripts over the tables of an internet that passes the audit, for the crates
-//! above. The functions do nothing: what they ensure is the law.
+//! Laws of legal transcripts of an internet that passes the audit, for use by other crates. The
+//! functions do nothing: each law is the function's ensures clause.
 
 ghost use Rattle.std.specs.Prelude.{◌≡◌, List, None, true, ℕ};
 ghost use Rattle.table_image.specs.Internet.{Internet};
@@ -7,8 +7,7 @@ ghost use Rattle.audit.specs.Example.{three_cables};
 ghost use Rattle.audit.specs.Rules.{Passes};
 ghost use Rattle.cable_model.specs.Transcript.{Entry};
 ghost use Rattle.legal_runs.specs.Carriage.{AreCarried, none_yet};
-ghost use Rattle.legal_runs.specs.Counts.{HasHopsLeft, IsConserved};
-ghost use Rattle.legal_runs.specs.Counts.{reached, sent, under_way};
+ghost use Rattle.legal_runs.specs.Counts.{HasHopsLeft, IsConserved, reached, sent, under_way};
 ghost use Rattle.legal_runs.specs.Example.{echo, echo_reply, echo_request};
 ghost use Rattle.legal_runs.specs.Example.{to_everybody, to_nobody, to_nowhere};
 ghost use Rattle.legal_runs.specs.Illegal.{asked_alone, dropped_too, gone, looked_elsewhere};
@@ -19,41 +18,40 @@ ghost use Rattle.legal_runs.specs.Illegal.{taken_twice};
 ghost use Rattle.legal_runs.specs.Legal.{IsLegal};
 ghost use Rattle.legal_runs.specs.LookupExample.{blue_names, blue_request, blue_to};
 ghost use Rattle.legal_runs.specs.Lookups as spec;
-ghost use Rattle.legal_runs.specs.Lookups.{IsLookedUp, NodesOnlyAsk};
-ghost use Rattle.legal_runs.specs.Lookups.{taken};
+ghost use Rattle.legal_runs.specs.Lookups.{IsLookedUp, NodesOnlyAsk, taken};
 ghost use Rattle.legal_runs.specs.Requests.{is_broadcast, key_in, request};
 
-/// Conservation: each datagram to a listed network is under way once or has reached its
-/// destination's cable once, and no other; each to a network that is neither listed nor 0 is under
-/// way once or was dropped once. This project's own.
+/// Conservation. A datagram to a listed network is under way once or has reached its destination's
+/// cable once, and has reached no other cable. A datagram to a network that is neither listed nor 0
+/// is under way once or was dropped once. No datagram is dropped because of its hop count.
 pub fn conservation()
     ensures { (i : Internet) (t : List Entry) → Passes i → IsLegal i t → IsConserved i t }
 {}
 
-/// Hops left: a datagram under way to a listed network has hops enough for the routers before it.
-/// This project's own.
+/// Hops left: the hop count of a datagram that is under way to a listed network leaves enough hops
+/// for the routers that remain on its path.
 pub fn hops_left()
     ensures { (i : Internet) (t : List Entry) → Passes i → IsLegal i t → HasHopsLeft i t }
 {}
 
-/// Carriage: what reached a cable was carried by no router or by those of its one walk, at most
-/// 15, over cables that they share; and the hop count of a frame says how many routers carried what
-/// it holds. This project's own.
+/// Carriage. A datagram that reached a cable was carried by no router, or by the routers of its
+/// only walk, at most 15. A station that puts a frame on a cable is on that cable, and the hop
+/// count in the frame is the number of routers that have carried its datagram.
 pub fn carriage()
     ensures { (i : Internet) (t : List Entry) → Passes i → IsLegal i t → AreCarried i none_yet t }
 {}
 
-/// Lookups exactly where the zone is listed, if no node sends a forward request or a lookup: for
-/// each broadcast request that was taken, each cable that lists its zone has had one lookup, or a
-/// forward request to it is under way, and no other cable has had one; and each that was asked was
-/// taken or is still to be taken. This project's own.
+/// Lookups, provided that no node sends a forward request or a lookup. For each broadcast request
+/// that was taken, each cable that lists its zone has had one lookup, or a forward request to it is
+/// under way; no other cable has had a lookup. Each broadcast request that was sent was taken or is
+/// still to be taken.
 pub fn lookups()
     ensures { (i : Internet) (t : List Entry) (k : List ℕ)
         → Passes i → IsLegal i t → NodesOnlyAsk i t → IsLookedUp i t k }
 {}
 
 /// The echo over three cables is legal, and each of its two datagrams has reached its destination's
-/// cable once. This project's own.
+/// cable once.
 pub fn the_echo_is_legal()
     ensures legal { IsLegal three_cables echo }
     ensures asked { (sent (echo_request 0) echo ≡ 1) × (reached (echo_request 0) 2 echo ≡ 1) }
@@ -62,17 +60,17 @@ pub fn the_echo_is_legal()
         × (under_way three_cables (echo_reply 0) echo ≡ 0) }
 {}
 
-/// So are the other ends that a datagram may come to: an address that no station has, all nodes of
-/// a cable, and a network that no cable has. This project's own.
+/// The transcripts of a datagram to an address that no station has, to all nodes of a cable, and to
+/// a network that no cable has are legal.
 pub fn each_end_is_legal()
     ensures nobody { IsLegal three_cables to_nobody }
     ensures everybody { IsLegal three_cables to_everybody }
     ensures nowhere { IsLegal three_cables to_nowhere }
 {}
 
-/// The request for the names in the zone blue over three cables is legal. It was asked and taken
-/// once, has made one lookup on each of the two cables that list the zone, and none on the first.
-/// This project's own.
+/// The request for the names in the zone blue over three cables is legal. It was sent and taken
+/// once, and caused one lookup on each of the two cables that list the zone and none on the first
+/// cable.
 pub fn the_lookup_is_legal()
     ensures legal { IsLegal three_cables blue_names }
     ensures asked { (spec.asked three_cables (key_in (request blue_request)) blue_names ≡ 1)
@@ -82,22 +80,21 @@ pub fn the_lookup_is_legal()
         × (spec.lookups three_cables (key_in (request blue_request)) 2 blue_names ≡ 1) }
 {}
 
-/// A datagram with the same bytes to another socket, or of another type, is no request. This
-/// project's own.
+/// A datagram with the same bytes but to another socket, or of another type, is no request.
 pub fn others_are_no_requests()
     ensures request { is_broadcast (request blue_request) ≡ true }
     ensures socket { request (blue_to 3 2) ≡ None }
     ensures kind { request (blue_to 2 3) ≡ None }
 {}
 
-/// What legal excludes: a datagram that reached a cable and wasn't sent; one that is under way and
-/// reached another cable, or was dropped; a cable that is reached, or a frame put there, by a
-/// station that isn't on it; a frame that one station takes twice; one that a router passes on
-/// though it heard it as one of all; a datagram that is passed on with the hop count that it had, or
-/// that has too many hops for the routers before it; one to an unlisted network that is neither
-/// under way nor dropped, reached a cable, or is dropped for its hop count; a lookup on a cable that
-/// doesn't list the zone, and none on one that does; and a request that is neither taken nor to be
-/// taken. This project's own.
+/// Transcripts that are not legal, so that each part of the laws excludes something. They have a
+/// datagram that reached a cable but was never sent; one under way that reached another cable, or
+/// was dropped; a cable reached, or a frame put on it, by a station that isn't on it; a frame that
+/// one station takes twice; a broadcast frame that a router passes on; a datagram passed on with
+/// its hop count unchanged, or with too many hops for the routers that remain; a datagram to an
+/// unlisted network that is neither under way nor dropped, that reached a cable, or that is dropped
+/// because of its hop count; a lookup on a cable that doesn't list the zone, and none on one that
+/// does; and a request that is neither taken nor to be taken.
 pub fn words_exclude()
     ensures reached { ¬ IsLegal three_cables reached_alone }
     ensures elsewhere { ¬ IsLegal three_cables reached_elsewhere }

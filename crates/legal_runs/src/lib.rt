@@ -1,4 +1,5 @@
-//! Which runs over the frozen tables of an internet are legal, and what holds of each.
+//! Which transcripts of an internet with frozen tables are legal, and laws that hold for each of
+//! them.
 #![tactic(auto)]
 
 mod laws;

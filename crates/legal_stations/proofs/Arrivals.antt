@@ -11,7 +11,7 @@ use Rattle.audit.specs.Rules.{Passes}
 use Rattle.table_image.specs.Seats.{Seat as PlaceOf, seat_at, seats}
 use Rattle.audit.proofs.WalkLists.{at_append, at_map}
 use Rattle.cable_model.specs.Pending.{Pair, is_heard, pairs, pairs_of, pending, was_ended}
-use Rattle.at_base.specs.Multicast.{is_all}
+use Rattle.at_base.specs.Multicast.{all_hw, group_hw, is_all}
 use Rattle.cable_model.specs.Transcript.{Entry, Dropped, Frame, Lost, Put, Reached, Sent, Took, stamps}
 use Rattle.cable_model.specs.declared.entry.How.TheVariants as how
 use Rattle.cable_model.specs.declared.seat.Seat.{Seat}
@@ -19,9 +19,7 @@ use Rattle.cable_model.proofs.Counting.{At, contained_at, each-append, each_at, 
 use Rattle.ddp.specs.Bodies.{body, hops, target}
 use Rattle.legal_runs.specs.Answers.{ByRouter, Goes, IsBody, IsMade, OnCable, Straight, ToThem, ToThese}
 use Rattle.legal_runs.specs.Legal.{Begins, Block, Goes as GoesOn, IsLegal, Sends, Takes, said}
-use Rattle.legal_runs.specs.Legs.{Leg, fate, fate_by, final, is_copy, is_unicast, leg, leg_to, passed, put, to_other}
-use Rattle.at_base.specs.Multicast.{all_hw, group_hw}
-use Rattle.legal_runs.specs.Legs.{to_target}
+use Rattle.legal_runs.specs.Legs.{Leg, fate, fate_by, final, is_copy, is_unicast, leg, leg_to, passed, put, to_other, to_target}
 use Rattle.legal_runs.specs.Stations.{cable_seat, cable_seats, has_address}
 use Rattle.legal_runs.proofs.Frames.{Framed, body_stays, hops_are, target_inside, target_stays, whole}
 use Rattle.legal_runs.proofs.Passing.{copy_parts}

@@ -1,6 +1,5 @@
 -- What a router makes of a request for names that ends at it.
-use Rattle.std.proofs.Common.{◌≡◌, ℕ, Bool, true, false, ◌&&◌, cond, IsTrue, List, [], ◌∷◌, Option, Some, None, refl, sym, ap, ◌∙◌}
-use Rattle.std.proofs.Common.{subst}
+use Rattle.std.proofs.Common.{Bool, IsTrue, List, None, Option, Some, [], ap, cond, false, refl, subst, sym, true, ℕ, ◌&&◌, ◌∙◌, ◌∷◌, ◌≡◌}
 use Rattle.std.specs.List.{All, AllByRecursion as Each, flat_map}
 use Rattle.at_base.specs.Text.{is_name}
 use Rattle.audit.specs.Routing.{home}

@@ -1,7 +1,6 @@
 -- The datagram in a frame: a body with a hop count.
 use Rattle.std.proofs.Common.{◌≡◌, ℕ, zero, suc, inl, inr, true, ◌&&◌, ◌==◌, ◌⊎◌, cond, IsTrue, List, [], ◌∷◌, Option, Some, None, Result}
-use Rattle.std.proofs.Common.{Ok, Err}
-use Rattle.std.proofs.Common.{drop, nat_lt, refl, sym, ap, ◌∙◌, subst, append-nil, eq-eqb}
+use Rattle.std.proofs.Common.{Err, Ok, ap, append-nil, drop, eq-eqb, nat_lt, refl, subst, sym, ◌∙◌}
 use Rattle.std.specs.List.{list_all}
 use Rattle.std.proofs.lemmas.Bool.{and_parts, or_left, or_right}
 use Rattle.at_base.specs.Checksum.{sum_of}

@@ -1,7 +1,6 @@
 -- Datagrams that a station made of a header and data.
 use Rattle.std.proofs.Common.{◌≡◌, ℕ, ◌+◌, ◌*◌, ◌/◌, ◌%◌, ◌<◌, ◌≤◌, ◌⊎◌, inl, inr, Bool, true, false, ◌==◌, cond, if◌then◌else◌, List, []}
-use Rattle.std.proofs.Common.{◌∷◌, ◌++◌}
-use Rattle.std.proofs.Common.{drop, length, refl, sym, ap, ◌∙◌, arith}
+use Rattle.std.proofs.Common.{ap, arith, drop, length, refl, sym, ◌++◌, ◌∙◌, ◌∷◌}
 use Rattle.std.specs.Prelude.{fold}
 use Rattle.std.specs.List.{All, AllByRecursion as Each}
 use Rattle.std.proofs.lemmas.List.Elements.{All-cons, All-nil, All-tail}

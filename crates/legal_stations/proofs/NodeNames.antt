@@ -1,7 +1,6 @@
 -- What a node replies to lookups asks nothing.
 use Rattle.std.proofs.Common.{◌≡◌, ℕ, zero, suc, ◌/◌, ◌<◌, Bool, true, false, ◌&&◌, ◌==◌, cond, IsTrue, List, [], ◌∷◌, ◌++◌, Option, Some}
-use Rattle.std.proofs.Common.{None}
-use Rattle.std.proofs.Common.{Result, Ok, Err, map, refl, sym, ap, ◌∙◌, arith, slice_index, ltb-true}
+use Rattle.std.proofs.Common.{Err, None, Ok, Result, ap, arith, ltb-true, map, refl, slice_index, sym, ◌∙◌}
 use Rattle.std.specs.Int.{byte_at}
 use Rattle.std.specs.List.{AllByRecursion as Each}
 use Rattle.std.proofs.lemmas.Bool.{and_parts}

@@ -15,12 +15,12 @@ use Rattle.ddp.specs.Bodies.{target}
 use Rattle.ddp.specs.Datagram.{Datagram}
 use Rattle.ddp.proofs.Shape.{value_laid}
 use Rattle.echo.specs.Echo.{echo_reply}
-use Rattle.end_node.specs.Answers.{Hears, heard, heard_datagram, heard_kind, heard_own, is_to, served, takes}
+use Rattle.end_node.specs.Answers.{Hears, heard, heard_datagram, heard_kind, heard_own, served, takes}
+use Rattle.station.specs.Ways.{checks, is_summed, is_to, reply_header, replying}
 use Rattle.end_node.specs.Holding.{NodeHolding}
 use Rattle.end_node.specs.Lookups.{answer_header, is_in, looked_up, names_in as node_names, replies, reply_of, told, told_by, told_of}
 use Rattle.end_node.specs.Ways.{reply_way, way_back}
-use Rattle.image_stations.specs.Holders.{HoldsNode}
-use Rattle.image_stations.specs.Holders.{places_of}
+use Rattle.image_stations.specs.Holders.{HoldsNode, places_of}
 use Rattle.legal_stations.proofs.Requested.{requested}
 use Rattle.legal_runs.specs.Answers.{Others, ends_at}
 use Rattle.legal_runs.specs.Legal.{Block, IsLegal}
@@ -33,7 +33,6 @@ use Rattle.nbp.specs.declared.packet.Function.TheVariants.{BroadcastRequest, For
 use Rattle.nbp.specs.declared.tuple.Tuple.{Tuple}
 use Rattle.router.specs.Requests.{names_in}
 use Rattle.station.specs.Lawful.{AreLawful, IsGood}
-use Rattle.station.specs.Ways.{checks, is_summed, reply_header, replying}
 use Rattle.station.specs.declared.output.Output.{Output}
 use Rattle.station.specs.declared.way.Way.{Way}
 use Rattle.table_image.specs.Internet.{Internet}

@@ -15,8 +15,7 @@ use Rattle.ddp.specs.declared.header.Header.{Header}
 use Rattle.ddp.proofs.Written.{Fitting}
 use Rattle.end_node.specs.Holding.{NodeHolding}
 use Rattle.end_node.specs.Ways.{is_near, next_to, reply_way, to_router, way_on}
-use Rattle.image_stations.specs.Holders.{HoldsNode}
-use Rattle.image_stations.specs.Holders.{range_of}
+use Rattle.image_stations.specs.Holders.{HoldsNode, range_of}
 use Rattle.legal_runs.specs.Answers.{ByRouter}
 use Rattle.legal_runs.specs.Stations.{cable_holds, is_on}
 use Rattle.station.specs.Ways.{straight, way_from}

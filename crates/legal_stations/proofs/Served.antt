@@ -16,14 +16,14 @@ use Rattle.ddp.specs.Datagram.{Datagram}
 use Rattle.echo.specs.Echo.{echo_reply}
 use Rattle.image_stations.specs.Holders.{HoldsRouter, range_of}
 use Rattle.legal_runs.specs.Answers.{Others, asks_here, ends_at, seeks_here}
-use Rattle.router.specs.Answers.{handled, is_to, made_for, requests_after, served}
+use Rattle.router.specs.Answers.{handled, made_for, requests_after, served}
+use Rattle.station.specs.Ways.{is_to, replying}
 use Rattle.router.specs.Holding.{Holding}
 use Rattle.router.specs.Requests.{names_in, requests_made}
 use Rattle.router.specs.Ways.{way_back}
 use Rattle.router.specs.Zones.{info, info_way, told_by, transacted, transaction_in, zones_in, zones_told}
 use Rattle.router.specs.declared.course.Ending.{Ending}
 use Rattle.station.specs.Lawful.{IsGood}
-use Rattle.station.specs.Ways.{replying}
 use Rattle.station.specs.declared.output.Output.{Output}
 use Rattle.station.specs.declared.way.Way.{Way}
 use Rattle.table_image.specs.Bounds.{IsBounded}

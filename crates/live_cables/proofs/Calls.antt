@@ -1,8 +1,7 @@
 -- What a whole call on live cables did.
 use Rattle.std.proofs.Common.{◌≡◌, ℕ, ◌+◌, Bool, true, not, IsTrue, List, [], ◌∷◌, ◌++◌, refl, sym, ap, ◌∙◌, subst, arith}
-use Rattle.std.proofs.Common.{append-nil, append_assoc, drop, eq-eqb, length}
+use Rattle.std.proofs.Common.{Err, Ok, append-nil, append_assoc, drop, eq-eqb, inl, inr, length}
 use Rattle.std.specs.Prelude.{◌⊎◌, ◌↔◌, IfErr, OnErr, OnOk, Result}
-use Rattle.std.proofs.Common.{Ok, Err, inl, inr}
 use Rattle.at_base.specs.declared.error.Error.{Error}
 use Rattle.at_base.specs.declared.error.Error.TheVariants.{Full, Memory, NotPending}
 use Rattle.std.specs.List.{All, list_all, list_any, AllByRecursion as Each}

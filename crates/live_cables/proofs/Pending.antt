@@ -1,8 +1,7 @@
 -- What is pending after further entries.
 use Rattle.std.proofs.Common.{◌≡◌, ◌⊎◌, inl, inr, ℕ, zero, suc, ◌+◌, ◌<◌, ◌≤◌, Bool, true, false, not, ◌||◌, ◌==◌, cond, List, [], ◌∷◌, ◌++◌}
-use Rattle.std.proofs.Common.{refl, sym, ap, ◌∙◌, subst, arith, filter, eq-eqb, true≢false}
+use Rattle.std.proofs.Common.{ap, arith, eq-eqb, filter, refl, subst, sym, true≢false, ◌&&◌, ◌∙◌}
 use Rattle.std.specs.List.{list_any}
-use Rattle.std.proofs.Common.{◌&&◌}
 use Rattle.std.proofs.lemmas.Bool.{not-true}
 use Rattle.cable_model.specs.declared.seat.Seat.{Seat}
 use Rattle.cable_model.specs.Pending.{Pair, ends, pairs, pending, was_ended}

@@ -1,11 +1,10 @@
 -- The datagrams for an address, as they are released one by one.
 use Rattle.std.proofs.Common.{◌≡◌, ℕ, suc, ◌+◌, ◌<◌, ◌≤◌, Bool, true, false, List, [], ◌∷◌, length, filter, Option, Some, None, Result, Ok, Err, ◌⊎◌, inl, inr, get_or, refl, sym, ap, ◌∙◌, arith}
-use Rattle.std.specs.Prelude.{not, nat_lt, cond, slice_get, slice_set, option_and_then}
+use Rattle.std.specs.Prelude.{OnOk, cond, nat_lt, not, option_and_then, slice_get, slice_set}
 use Rattle.std.specs.List.{position, position_or_len, remove}
 use Rattle.std.specs.Option.{option_map_or}
 use Rattle.std.proofs.lemmas.Bool.{ltb-true, ltb-false}
 use Rattle.std.proofs.lemmas.Option.{slice_get_cases}
-use Rattle.std.specs.Prelude.{OnOk}
 use Rattle.aarp.specs.Mapping.{Mappings, is_for, learnt, released, without_oldest}
 use Rattle.aarp.specs.declared.held.Held.{Held}
 use Rattle.at_base.specs.declared.address.Addr.{Addr}

@@ -1,5 +1,5 @@
 -- What live cables hold. This project's own.
-use Rattle.std.specs.Prelude.{◌≡◌, ℕ, Bool, false, IsTrue, List, ◌∷◌, ◌++◌, Option, length, slice_get}
+use Rattle.std.specs.Prelude.{Bool, Contains, IsTrue, List, Option, false, length, slice_get, ℕ, ◌++◌, ◌∷◌, ◌≡◌}
 use Rattle.std.specs.Option.{unwrap_or}
 use Rattle.aarp.specs.Mapping.{Mappings, to_ask}
 use Rattle.at_base.specs.Range.{Span}
@@ -15,7 +15,6 @@ use Rattle.live_cables.specs.Steps.{Loses, losses_since}
 use Rattle.live_cables.specs.declared.answer.Answer.{Answer}
 use Rattle.station.specs.Hearing.{Hearing}
 use Rattle.station.specs.declared.output.Output.{Output}
-use Rattle.std.specs.Prelude.{Contains}
 
 -- Cables; for each seat its address, where that is settled, and the mappings that it knows; the ranges of the cables; and
 -- for each cable whether it loses what is put there.

@@ -1,7 +1,6 @@
 //! What a station puts out in a tick.
 
-ghost use Rattle.std.specs.Prelude.{◌≡◌, ◌⊎◌, [], IfErr, OnOk, length};
-ghost use Rattle.std.specs.Prelude.{option_and_then, slice_get};
+ghost use Rattle.std.specs.Prelude.{IfErr, OnOk, [], length, option_and_then, slice_get, ◌≡◌, ◌⊎◌};
 ghost use Rattle.std.specs.List.{AllByRecursion};
 ghost use Rattle.station.specs.Lawful.{IsNext};
 ghost use Rattle.live_cables.specs.Finding as spec;

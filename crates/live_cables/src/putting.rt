@@ -2,8 +2,7 @@
 
 ghost use Rattle.std.specs.Prelude.{◌≡◌, ◌<◌, ◌≤◌, ◌+◌, ◌⊎◌, ◌↔◌, true, length};
 ghost use Rattle.std.specs.Prelude.{IfErr, OnErr, OnOk, slice_get};
-ghost use Rattle.cable_model.specs.Outcomes.{Places};
-ghost use Rattle.cable_model.specs.Outcomes.{is_seated};
+ghost use Rattle.cable_model.specs.Outcomes.{Places, is_seated};
 ghost use Rattle.live_cables.specs.Finding.{own_or_none, request_for};
 ghost use Rattle.station.specs.Lawful.{IsNext};
 ghost use Rattle.live_cables.specs.Putting.{IsAsked, IsPut, IsSent};

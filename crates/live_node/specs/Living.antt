@@ -4,7 +4,8 @@ use Rattle.std.specs.Option.{unwrap_or}
 use Rattle.at_base.specs.Packets.{packets}
 use Rattle.at_base.specs.Reading.{read}
 use Rattle.ddp.specs.Datagram.{Datagram}
-use Rattle.end_node.specs.Answers.{Hears, is_to}
+use Rattle.end_node.specs.Answers.{Hears}
+use Rattle.station.specs.Ways.{is_to}
 use Rattle.end_node.specs.Holding.{NodeHolding}
 use Rattle.end_node.specs.Taking.{taken}
 use Rattle.rtmp.specs.Data.{RoutingData, routing_data}

@@ -1,22 +1,14 @@
 //! What frames teach a live node.
 
 ghost use Rattle.std.specs.Prelude.{◌≡◌};
-ghost use Rattle.end_node.specs.Answers as answers_spec;
 ghost use Rattle.live_node.specs.Living as spec;
-ghost use Rattle.live_node.specs.Living.{informed, routed, routing_in};
-ghost use Rattle.live_node.specs.Living.{taught, told, zones_in};
+ghost use Rattle.live_node.specs.Living.{informed, routed, routing_in, taught, told, zones_in};
 
 use crate::live::LiveNode;
 use ddp::{View, kind, socket};
 use rtmp::DataPacket;
+use station::ways::is_to;
 use zip_zones::{NetInfo, Packet};
-
-/// Whether the datagram is of this type and for this socket.
-fn is_to(view: &View<'_>, kind: u8, socket: u8) -> bool
-    ensures { result ≡ answers_spec.is_to kind socket view.now }
-{
-    view.kind() == kind && view.target_socket() == socket
-}
 
 /// The packet of routing data that a datagram's data is.
 fn read_routing(payload: &[u8]) -> Option<DataPacket<'_>>

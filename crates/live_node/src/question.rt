@@ -3,8 +3,7 @@
 ghost use Rattle.std.specs.Prelude.{◌≡◌, ◌≤◌, length, IfOk, IsOkUnless, OnErr, OnOk, Some};
 ghost use Rattle.at_base.specs.Spelling.{bytes_of};
 ghost use Rattle.live_node.specs.Ticking as spec;
-ghost use Rattle.live_node.specs.Ticking.{asked_after, asked_from};
-ghost use Rattle.live_node.specs.Ticking.{question_way, questions};
+ghost use Rattle.live_node.specs.Ticking.{asked_after, asked_from, question_way, questions};
 ghost use Rattle.live_node.specs.Ticking.{wait_after};
 ghost use Rattle.station.specs.Lawful.{PutsOut};
 ghost use Rattle.zip_zones.specs.Formats as formats_spec;

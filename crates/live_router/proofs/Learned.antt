@@ -6,7 +6,7 @@ use Rattle.aarp.specs.Choosing.{Choice}
 use Rattle.ddp.specs.Datagram.{Datagram}
 use Rattle.live_router.proofs.Seated.{Seated, after_seated}
 use Rattle.live_router.specs.Living.{routes_taught, routes_then, routing_in}
-use Rattle.router.specs.Answers.{is_to}
+use Rattle.station.specs.Ways.{is_to}
 use Rattle.router.specs.Holding.{Holding}
 use Rattle.rtmp.specs.Data.{RoutingData}
 use Rattle.rtmp.specs.declared.row.Row.{Row}

@@ -5,7 +5,8 @@ use Rattle.at_base.specs.Packets.{packets}
 use Rattle.at_base.specs.Reading.{read}
 use Rattle.ddp.specs.Datagram.{Datagram}
 use Rattle.learning.specs.Heard.{routes_after}
-use Rattle.router.specs.Answers.{heard, is_to}
+use Rattle.router.specs.Answers.{heard}
+use Rattle.station.specs.Ways.{is_to}
 use Rattle.router.specs.Ending.{ended}
 use Rattle.router.specs.Holding.{Holding}
 use Rattle.router.specs.Zones.{zones_in}

@@ -7,7 +7,6 @@ ghost use Rattle.learning.specs.Heard.{routes_after};
 ghost use Rattle.live_router.specs.Living.{routes_taught, routes_then, routing_in, taught};
 ghost use Rattle.live_router.specs.Living.{zones_taught, zones_then};
 ghost use Rattle.live_router.specs.Replies as spec;
-ghost use Rattle.router.specs.Answers as answers_spec;
 ghost use Rattle.router.specs.Zones.{zones_in};
 ghost use Rattle.zip_zones.specs.Answers.{after_reply};
 
@@ -17,14 +16,8 @@ use ddp::{View, kind, socket};
 use learning::{learn_routes, learn_zones};
 use router::Router;
 use rtmp::{DataPacket, RouteTable};
+use station::ways::is_to;
 use zip_zones::{Packet, ZoneTable};
-
-/// Whether the datagram is of this type and for this socket.
-fn is_to(view: &View<'_>, kind: u8, socket: u8) -> bool
-    ensures { result ≡ answers_spec.is_to kind socket view.now }
-{
-    view.kind() == kind && view.target_socket() == socket
-}
 
 /// The packet of routing data in the data of a datagram.
 fn read_data(payload: &[u8]) -> Option<DataPacket<'_>>

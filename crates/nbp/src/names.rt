@@ -6,8 +6,7 @@ ghost use Rattle.std.specs.Prelude.{vec_capacity};
 ghost use Rattle.at_base.specs.declared.error.Field.TheVariants.{Taken};
 ghost use Rattle.at_base.specs.declared.error.What.TheVariants.{Name as NoName};
 ghost use Rattle.nbp.specs.Registered as spec;
-ghost use Rattle.nbp.specs.Registered.{IsNames, IsLeastFree};
-ghost use Rattle.nbp.specs.Registered.{free_from, with_name, before};
+ghost use Rattle.nbp.specs.Registered.{IsLeastFree, IsNames, before, free_from, with_name};
 ghost use Rattle.nbp.specs.Registered.{tuple_of, answers};
 
 use crate::matching::{matches, same};

@@ -8,7 +8,7 @@ use Rattle.echo.specs.Echo.{echo_reply}
 use Rattle.station.specs.Hearing.{Hearing}
 use Rattle.station.specs.Resolution.{packet_at}
 use Rattle.station.specs.Values.{datagram_at}
-use Rattle.station.specs.Ways.{checks, replying}
+use Rattle.station.specs.Ways.{checks, is_to, replying}
 use Rattle.station.specs.declared.heard.Kind.{Kind}
 use Rattle.station.specs.declared.heard.Kind.TheVariants.{Ddp, Aarp}
 use Rattle.station.specs.declared.output.Output.{Output}
@@ -20,10 +20,6 @@ use Rattle.router.specs.Ways.{way_back}
 use Rattle.router.specs.Zones.{transacted, transaction_in, zones_in, zones_told}
 use Rattle.router.specs.declared.course.Course.{Course}
 use Rattle.router.specs.declared.course.Ending.{Ending}
-
--- the datagram is for this socket, and of this type
-abbrev pub is_to : ℕ → ℕ → Datagram → Bool
-is_to kind socket d = d.kind == kind && d.target_socket == socket
 
 -- What a router makes of a datagram that ended at it and is of no transaction, by its type and socket: echoes, lookups and
 -- forward requests, and answers about zones.

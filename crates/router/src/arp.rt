@@ -1,7 +1,6 @@
 //! AARP packets that a router hears.
 
-ghost use Rattle.std.specs.Prelude.{◌≡◌, ◌<◌, length, slice_get, Some};
-ghost use Rattle.std.specs.Prelude.{IsOkUnless, OnErr, OnOk};
+ghost use Rattle.std.specs.Prelude.{IsOkUnless, OnErr, OnOk, Some, length, slice_get, ◌<◌, ◌≡◌};
 ghost use Rattle.station.specs.Hearing.{hearing};
 ghost use Rattle.station.specs.Lawful.{PutsOut};
 ghost use Rattle.station.specs.Resolution.{answer_by};

@@ -23,7 +23,7 @@ use ddp::{View, kind, socket};
 use rtmp::RouteTable;
 use station::Output;
 use station::making::{put_all, put_one};
-use station::ways::checks;
+use station::ways::{checks, is_to};
 
 /// The outputs that a router makes of a datagram, and what it learns of it.
 #[derive(Drop)]
@@ -33,13 +33,6 @@ pub(crate) struct Handled {
     pub(crate) responder: Option<Responder>,
     /// The port on whose cable the datagram ended, where it did and its checksum is right.
     pub(crate) ended: Option<u8>,
-}
-
-/// Whether the datagram is of this type and for this socket.
-fn is_to(view: &View<'_>, kind: u8, socket: u8) -> bool
-    ensures { result ≡ answers_spec.is_to kind socket view.now }
-{
-    view.kind() == kind && view.target_socket() == socket
 }
 
 impl<T: RouteTable> Router<T> {

@@ -11,8 +11,7 @@ ghost use Rattle.atp.specs.Responding as responding_spec;
 ghost use Rattle.zip_zones.specs.Answers.{asked_page};
 ghost use Rattle.station.specs.Made.{AreShort};
 ghost use Rattle.router.specs.Zones as spec;
-ghost use Rattle.router.specs.Zones.{listed};
-ghost use Rattle.router.specs.Zones.{transacted, transaction_in};
+ghost use Rattle.router.specs.Zones.{listed, transacted, transaction_in};
 
 use crate::router::Router;
 use at_base::{Bytes, Error};

@@ -8,8 +8,7 @@ ghost use Rattle.at_base.specs.Text.{IsName};
 ghost use Rattle.nbp.specs.Expansion.{IsAskIn};
 ghost use Rattle.station.specs.Made.{AreMade, IsWayIn};
 ghost use Rattle.router.specs.Requests as spec;
-ghost use Rattle.router.specs.Requests.{asked, looked_by, looked_on};
-ghost use Rattle.router.specs.Requests.{looked_up, made_of, names_in};
+ghost use Rattle.router.specs.Requests.{asked, looked_by, looked_on, looked_up, made_of, names_in};
 ghost use Rattle.router.specs.Requests.{requests_made};
 
 use crate::request::Request;

@@ -1,7 +1,6 @@
 //! What a router answers about zones, in packets of ZIP.
 
-ghost use Rattle.std.specs.Prelude.{◌≡◌, ◌<◌, ◌≤◌, ◌+◌, ◌++◌, length, map, Some};
-ghost use Rattle.std.specs.Prelude.{IsOkUnless, OnOk};
+ghost use Rattle.std.specs.Prelude.{IsOkUnless, OnOk, Some, length, map, ◌++◌, ◌+◌, ◌<◌, ◌≡◌, ◌≤◌};
 ghost use Rattle.at_base.specs.Spelling.{bytes_of};
 ghost use Rattle.zip_zones.specs.Answers.{replies};
 ghost use Rattle.zip_zones.specs.Formats as formats_spec;
@@ -9,8 +8,7 @@ ghost use Rattle.station.specs.Made.{AreMade, IsWayIn};
 ghost use Rattle.router.specs.Ways as ways_spec;
 ghost use Rattle.station.specs.Ways.{replying};
 ghost use Rattle.router.specs.Zones as zones_spec;
-ghost use Rattle.router.specs.Zones.{info};
-ghost use Rattle.router.specs.Zones.{zones_in, zones_told};
+ghost use Rattle.router.specs.Zones.{info, zones_in, zones_told};
 
 use crate::router::Router;
 use crate::ways::is_answered;

@@ -1,10 +1,9 @@
 -- The rows that a port sends, one by one, as a loop over the table's indexes finds them.
 use Rattle.std.proofs.Common.{◌≡◌, ℕ, zero, suc, ◌+◌, ◌-◌, ◌<◌, ◌≤◌, Bool, true, false, ◌==◌, List, [], ◌∷◌, ◌++◌, length, map, take, drop}
 use Rattle.std.proofs.Common.{Some, None, refl, sym, ap, ◌∙◌, arith, append_assoc}
-use Rattle.std.specs.Prelude.{◌*◌, ◌||◌, slice_get, not, nat_lt}
+use Rattle.std.specs.Prelude.{nat_le, nat_lt, not, slice_get, ◌*◌, ◌||◌}
 use Rattle.std.specs.List.{list_all}
 use Rattle.std.proofs.lemmas.Bool.{and_parts, leb-true, le-leb, lt-ltb, eq-eqb, ne_eqb}
-use Rattle.std.specs.Prelude.{nat_le}
 use Rattle.at_base.specs.declared.address.Addr.{Addr}
 use Rattle.at_base.specs.Range.{Span, is_range}
 use Rattle.rtmp.specs.declared.row.Row.{Row}

@@ -6,8 +6,7 @@ ghost use Rattle.std.specs.List.{list_all, list_any};
 ghost use Rattle.std.specs.Option.{option_copied};
 ghost use Rattle.at_base.specs.Range.{IsRange, overlaps, is_range};
 ghost use Rattle.rtmp.specs.Routes as spec;
-ghost use Rattle.rtmp.specs.Routes.{are_apart, row_at, beside, added};
-ghost use Rattle.rtmp.specs.Routes.{replaced, IsRouteMap};
+ghost use Rattle.rtmp.specs.Routes.{IsRouteMap, added, are_apart, beside, replaced, row_at};
 ghost use Rattle.rtmp.specs.Updates.{before};
 
 use crate::row::Row;

@@ -5,8 +5,7 @@ ghost use Rattle.std.specs.Prelude.{slice_get, nat_le};
 ghost use Rattle.std.specs.Prelude.{IfOk, IfErr, OnOk, OnErr, IsOk, IsTrue, IsOkUnless};
 ghost use Rattle.std.specs.List.{list_all};
 ghost use Rattle.rtmp.specs.Routes as spec;
-ghost use Rattle.rtmp.specs.Routes.{IsRouteMap, are_apart};
-ghost use Rattle.rtmp.specs.Routes.{beside, directed, heard, aged, poisoned};
+ghost use Rattle.rtmp.specs.Routes.{IsRouteMap, aged, are_apart, beside, directed, heard, poisoned};
 ghost use Rattle.rtmp.specs.declared.table.Change.TheVariants.{Added};
 
 use crate::row::Row;

@@ -7,8 +7,7 @@ ghost use Rattle.rtmp.specs.Bytes as bytes_spec;
 ghost use Rattle.rtmp.specs.Bytes.{head_bytes, tuples_bytes};
 ghost use Rattle.rtmp.specs.Routes.{IsRouteMap};
 ghost use Rattle.rtmp.specs.Sending as sending_spec;
-ghost use Rattle.rtmp.specs.Sending.{packet_numbered, IsPacket};
-ghost use Rattle.rtmp.specs.Sending.{of_other_ports, own_tuple};
+ghost use Rattle.rtmp.specs.Sending.{IsPacket, of_other_ports, own_tuple, packet_numbered};
 
 use crate::row::Row;
 use crate::table::RouteTable;

@@ -6,8 +6,7 @@ ghost use Rattle.at_base.specs.Packets.{packets};
 ghost use Rattle.at_base.specs.Range.{is_range};
 ghost use Rattle.at_base.specs.Reading.{Gives, field_at, read};
 ghost use Rattle.rtmp.specs.Data as spec;
-ghost use Rattle.rtmp.specs.Data.{wrong_third, wrong_extension};
-ghost use Rattle.rtmp.specs.Data.{written_tuple, IsWritten};
+ghost use Rattle.rtmp.specs.Data.{IsWritten, written_tuple, wrong_extension, wrong_third};
 
 use crate::tuple::Tuple;
 use at_base::packet::{byte_at, u16_at};

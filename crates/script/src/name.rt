@@ -1,7 +1,6 @@
 //! The names that a request asks for, as OBJECT:TYPE@ZONE.
 
-ghost use Rattle.std.specs.Prelude.{◌≡◌, ◌<◌, ◌&&◌, None, Some, cond, length, nat_le};
-ghost use Rattle.std.specs.Prelude.{IfSome};
+ghost use Rattle.std.specs.Prelude.{IfSome, None, Some, cond, length, nat_le, ◌&&◌, ◌<◌, ◌≡◌};
 ghost use Rattle.script.specs.Lines as spec;
 ghost use Rattle.script.specs.Lines.{last_place};
 

@@ -1,5 +1,5 @@
 -- The ways of datagrams that a station makes. (Inside AppleTalk, the chapter on DDP)
-use Rattle.std.specs.Prelude.{ℕ, Bool, not, ◌||◌, ◌==◌, cond, List, [], Option, Some, None}
+use Rattle.std.specs.Prelude.{ℕ, Bool, not, ◌&&◌, ◌||◌, ◌==◌, cond, List, [], Option, Some, None}
 use Rattle.at_base.specs.declared.address.Addr.{Addr}
 use Rattle.ddp.specs.Datagram.{Datagram, checksum_of}
 use Rattle.ddp.specs.declared.header.Header.{Header}
@@ -8,6 +8,10 @@ use Rattle.station.specs.declared.output.Next.{Next}
 use Rattle.station.specs.declared.output.Next.TheVariants as next
 use Rattle.station.specs.declared.output.Output.{Output}
 use Rattle.station.specs.declared.way.Way.{Way}
+
+-- the datagram is of this type and for this socket
+abbrev pub is_to : ℕ → ℕ → Datagram → Bool
+is_to kind socket d = d.kind == kind && d.target_socket == socket
 
 -- to whom a datagram goes on the cable of its target
 abbrev pub straight : Addr → Next

@@ -39,6 +39,13 @@ pub fn way_from(own: Option<Addr>, port: u8, next: Next, header: Header) -> Opti
     })
 }
 
+/// Whether the datagram is of this type and for this socket.
+pub fn is_to(view: &View<'_>, kind: u8, socket: u8) -> bool
+    ensures { result ≡ spec.is_to kind socket view.now }
+{
+    view.kind() == kind && view.target_socket() == socket
+}
+
 /// Whether the datagram carries a checksum.
 pub fn is_summed(view: &View<'_>) -> bool
     ensures { result ≡ spec.is_summed view.now }

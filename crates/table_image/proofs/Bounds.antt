@@ -1,6 +1,5 @@
 -- What an image holds is within its limits.
-use Rattle.std.proofs.Common.{◌≡◌, ℕ, zero, suc, ◌+◌, ◌≤◌, ◌<◌, true, ltb, List, [], ◌∷◌, length, Some, None, slice_get}
-use Rattle.std.proofs.Common.{ap, subst, arith}
+use Rattle.std.proofs.Common.{List, None, Some, [], ap, arith, length, ltb, slice_get, subst, suc, true, zero, ℕ, ◌+◌, ◌<◌, ◌∷◌, ◌≡◌, ◌≤◌}
 use Rattle.std.proofs.lemmas.Bool.{ltb-false, ltb-true}
 use Rattle.at_base.specs.declared.error.Cause.TheVariants.{Count, Index, Name, Order, Value}
 use Rattle.at_base.specs.Grammar.{Grammar}
@@ -8,8 +7,7 @@ use Rattle.at_base.specs.Spelling.{ListPasses, IsValue}
 use Rattle.at_base.specs.Text.{is_name, IsName, IsEntity, is_entity}
 use Rattle.at_base.proofs.Fields.{is_right, not_wrong}
 use Rattle.table_image.specs.Internet.{Internet}
-use Rattle.table_image.specs.Bounds.{Every, Rises, AreZones, IsRow, IsNodeName, IsWithinLimits, IsNodeWithinLimits}
-use Rattle.table_image.specs.Bounds.{IsBounded}
+use Rattle.table_image.specs.Bounds.{AreZones, Every, IsBounded, IsNodeName, IsNodeWithinLimits, IsRow, IsWithinLimits, Rises}
 use Rattle.table_image.specs.Limits.{max_cables, max_routers, max_nodes, max_ports, max_rows, max_zone_lists, max_zones, max_names}
 use Rattle.table_image.specs.Limits.{max_text, max_distance}
 use Rattle.table_image.specs.Flaws.{Wrong, Here, Before}

@@ -1,7 +1,7 @@
 -- How far a format reaches: a value takes at most so many bytes, and a flaw is reported at most so many bytes from the start.
 -- So the place of a flaw in an image fits 32 bits.
 use Rattle.std.proofs.Common.{◌≡◌, ℕ, zero, suc, ◌+◌, ◌*◌, ◌≤◌, Bool, true, List, [], ◌∷◌, length, Some, None, Result, Ok, Err, ap, subst}
-use Rattle.std.proofs.Common.{arith, inl, inr}
+use Rattle.std.proofs.Common.{arith, cond, inl, inr}
 use Rattle.std.proofs.lemmas.List.{length-append}
 use Rattle.at_base.specs.Grammar.{Grammar, done, field, part, list, Field, number, run, one}
 use Rattle.at_base.specs.Spelling.{Passes}
@@ -9,7 +9,6 @@ use Rattle.at_base.specs.FirstFault.{field_len}
 use Rattle.at_base.specs.Reading.{read, field_at, list_at, ◌>>=◌}
 use Rattle.at_base.proofs.Fields.{IsBytes, ok, ok_is, bind_ok, bind_err, field_takes, field_fault, length-field_bytes}
 use Rattle.std.proofs.Math.Nat.{mul-le-mul_right}
-use Rattle.std.proofs.Common.{cond}
 use Rattle.at_base.specs.Text.{is_name, is_entity}
 use Rattle.at_base.specs.declared.error.Cause.TheVariants.{Count, Name}
 use Rattle.table_image.specs.Tests.{within}

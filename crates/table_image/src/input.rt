@@ -7,8 +7,7 @@ ghost use Rattle.at_base.specs.Reading.{Gives, bytes_at, field_at, read};
 ghost use Rattle.at_base.specs.Text as spec;
 ghost use Rattle.at_base.specs.Text.{is_name};
 ghost use Rattle.table_image.specs.Flaws.{flaws};
-ghost use Rattle.table_image.specs.Tests.{any, within, below, rising, enumerator};
-ghost use Rattle.table_image.specs.Tests.{is_magic};
+ghost use Rattle.table_image.specs.Tests.{any, below, enumerator, is_magic, rising, within};
 ghost use Rattle.table_image.specs.Spelling.{address_spelling, text_spelling};
 
 use crate::flaw::Flaw;

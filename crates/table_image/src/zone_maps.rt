@@ -2,16 +2,14 @@
 
 ghost use Rattle.std.specs.Prelude.{◌≡◌, ◌≤◌, ◌+◌, ◌⊎◌, ◌↔◌, ◌||◌, ◌++◌, ◌∷◌, [], length};
 ghost use Rattle.std.specs.Prelude.{false, true, nat_lt, option_map, if◌then◌else◌, IfErr, IfOk};
-ghost use Rattle.std.specs.Prelude.{IsOkUnless, OnOk, Some};
-ghost use Rattle.std.specs.Prelude.{is_some, slice_get, IfSome};
+ghost use Rattle.std.specs.Prelude.{IfSome, IsOkUnless, OnOk, Some, is_some, slice_get};
 ghost use Rattle.std.specs.List.{list_all};
 ghost use Rattle.std.specs.Option.{option_copied};
 ghost use Rattle.at_base.specs.Range.{is_range};
 ghost use Rattle.zip_zones.specs.Zones.{IsZoneMap, are_above};
 ghost use Rattle.table_image.specs.Bounds.{Every};
 ghost use Rattle.table_image.specs.ZoneMaps as spec;
-ghost use Rattle.table_image.specs.ZoneMaps.{have_few_zones, have_zone_ranges};
-ghost use Rattle.table_image.specs.ZoneMaps.{lists_at, zone_map};
+ghost use Rattle.table_image.specs.ZoneMaps.{have_few_zones, have_zone_ranges, lists_at, zone_map};
 ghost use Rattle.table_image.specs.declared.zone_list.ZoneList.{ZoneList as ListValue};
 
 use crate::image::Image;

@@ -1,4 +1,4 @@
--- A text that is cut at the first place of a byte.
+-- Text split at the first place of a byte.
 use Rattle.std.proofs.Common.{◌≡◌, ℕ, ◌+◌, ◌≤◌, Bool, true, false, cond, ltb, List, [], ◌∷◌, length, take, drop, Some, None, refl, ap, ◌∙◌, arith}
 use Rattle.std.specs.List.{slice_split, onto_first, position, position_or_len}
 use Rattle.std.proofs.lemmas.Bool.{ltb-true, ltb-false}
@@ -15,7 +15,7 @@ module _ {X : Type 0} (p : X → Bool) where
             rw (slice_split-cons_no p x xs t, split_whole xs (omega (arith, less))) refl
       ]) refl
 
-  -- there is a first part
+  -- splitting gives at least one part
   pub first_part : (xs : List X) → (part : List X) × (parts : List (List X)) × (slice_split p xs ≡ part ∷ parts)
   first_part [] = ([], [], refl)
   first_part (x ∷ xs) =
@@ -25,7 +25,7 @@ module _ {X : Type 0} (p : X → Bool) where
         | false ↦ λ t. (x ∷ more.0, more.1, slice_split-cons_no p x xs t ∙ ap (onto_first x) more.2)
       ]) refl
 
-  -- the text before the first place, and what follows it
+  -- at the first place of the byte, splitting gives the text before it and the parts of the text after it
   pub split_there : (xs : List X) (k : ℕ) (d : X) → position p xs ≡ Some k → slice_split p xs ≡ take k xs ∷ slice_split p (drop (k + 1) xs)
   split_there xs k d = by_place (ltb (position_or_len p xs) (length xs)) refl
     where
@@ -36,7 +36,7 @@ module _ {X : Type 0} (p : X → Bool) where
           slice_split_first p xs d (ltb-true _ _ t) ∙ ap (λ (n : ℕ). take n xs ∷ slice_split p (drop (n + 1) xs)) same
       by_place false t e = cc
 
-  -- a text without that byte is whole
+  -- a text without the byte is one part
   pub not_split : (xs : List X) → position p xs ≡ None → slice_split p xs ≡ xs ∷ []
   not_split xs = by_place (ltb (position_or_len p xs) (length xs)) refl
     where

@@ -1,10 +1,10 @@
--- Texts that are given to be written one after the other.
+-- Texts that are written one after the other.
 use Rattle.std.proofs.Common.{◌≡◌, ℕ, List, [], ◌++◌, Option, Some, None, Result, Ok, Err, OnOk, ap, subst, sym, ◌∙◌}
 use Rattle.std.proofs.lemmas.List.{append_assoc, append-nil}
 use Rattle.std.specs.Io.KnownBytes.{Appends}
 use Rattle.text.specs.Going.{Goes}
 
--- what follows from a fact that holds where there is a value
+-- a fact about a success, weakened
 pub on_ok : {A E : Type 0} {P Q : Type 0} (r : Result A E) → OnOk r P → (P → Q) → OnOk r Q
 on_ok (Ok a) p f = f p
 on_ok (Err e) p f = tt
@@ -19,11 +19,11 @@ pub appends_none : (u : Option (List ℕ)) → Appends u u []
 appends_none None = tt
 appends_none (Some xs) = sym (append-nil xs)
 
--- nothing more
+-- nothing was added or written
 pub goes_none : (u : Option (List ℕ)) (t : List ℕ) → Goes u t [] u t
 goes_none u t = record { gone = []; went = appends_none u; rest = sym (append-nil t) }
 
--- one text after another
+-- one text after another was added
 pub goes_then : (u v w : Option (List ℕ)) (t s r a b : List ℕ) → Goes u t a v s → Goes v s b w r → Goes u t (a ++ b) w r
 goes_then u v w t s r a b x y = record {
   gone = x.gone ++ y.gone;
@@ -33,15 +33,15 @@ goes_then u v w t s r a b x y = record {
       ∙ ap (λ (z : List ℕ). z ++ b) x.rest ∙ append_assoc t a b;
 }
 
--- text was put behind what is left, and then a part of all went
+-- text was appended to the buffer, and then a front of the buffer was written
 pub goes_put : (u v : Option (List ℕ)) (t s r a : List ℕ) → s ≡ t ++ a → Goes u s [] v r → Goes u t a v r
 goes_put u v t s r a e x = record { gone = x.gone; went = x.went; rest = x.rest ∙ append-nil s ∙ e }
 
--- what follows from two facts that hold where there is a value
+-- a fact that follows from two facts about a success
 pub on_both : {A E : Type 0} {P Q R : Type 0} (r : Result A E) → OnOk r P → OnOk r Q → (P → Q → R) → OnOk r R
 on_both (Ok a) p q f = f p q
 on_both (Err e) p q f = tt
 
--- all that was given is written
+-- all text that was added is written
 pub goes_out : (u v w : Option (List ℕ)) (t s a : List ℕ) → Goes u t a v s → Appends v w s → Appends u w (t ++ a)
 goes_out u v w t s a x y = subst (Appends u w) x.rest (appends_then u v w x.gone s x.went y)

@@ -5,7 +5,7 @@ use Rattle.std.proofs.lemmas.Fmt.{decimal_step}
 use Rattle.std.specs.Fmt.{decimal, digit_glyph}
 use Rattle.text.specs.Digits.{hex_text}
 
--- the last digit after those before it
+-- the last digit, appended after the digits before it
 pub decimal_more : (n : ℕ) (old front new : List ℕ) → 10 ≤ n → n < 2 ^ 32 → front ≡ old ++ decimal (n / 10)
     → new ≡ front ++ (48 + n % 10) ∷ [] → new ≡ old ++ decimal n
 decimal_more n old front new low high first last =
@@ -13,7 +13,7 @@ decimal_more n old front new low high first last =
     ∙ append_assoc old (decimal (n / 10)) ((48 + n % 10) ∷ [])
     ∙ ap (λ d. old ++ d) (sym (decimal_step n low (omega arith)))
 
--- two writes in a row, seen from the front
+-- after two writes in a row, the front of the list
 pub take-two_writes : (xs : List ℕ) (o x y : ℕ) → o + 1 < length xs
     → take (o + 2) (slice_set (slice_set xs o x) (o + 1) y) ≡ take o xs ++ (x ∷ y ∷ [])
 take-two_writes xs o x y fits =
@@ -23,13 +23,13 @@ take-two_writes xs o x y fits =
     let first = take_more_set xs o x (omega arith) in
     rw (two, second, first) (append_assoc (take o xs) (x ∷ []) (y ∷ []))
 
--- the digits of what is left, from one byte on
+-- the digits of the bytes from one byte on
 pub hex-drop : (xs : List ℕ) (i : ℕ) → i < length xs
     → hex_text (drop i xs)
     ≡ digit_glyph true (slice_index xs i / 16) ∷ digit_glyph true (slice_index xs i % 16) ∷ hex_text (drop (i + 1) xs)
 hex-drop xs i h = rw (drop_more xs i 0 h) refl
 
--- one byte more is written
+-- the digits of one more byte are written
 pub hex_step : (bytes out : List ℕ) (i x y : ℕ) → i < length bytes → 2 * i + 1 < length out
     → x ≡ digit_glyph true (slice_index bytes i / 16) → y ≡ digit_glyph true (slice_index bytes i % 16)
     → take (2 * i) out ++ hex_text (drop i bytes) ≡ hex_text bytes
@@ -40,7 +40,7 @@ hex_step bytes out i x y h fits ex ey inv =
     let rest = hex-drop bytes i h in
     rw (two, front, append_assoc, ex, ey) (rw rest at inv)
 
--- every byte is written
+-- the digits of all bytes are written
 pub hex_done : (bytes out : List ℕ) (i : ℕ) → length bytes ≤ i → length out ≡ 2 * length bytes
     → take (2 * i) out ++ hex_text (drop i bytes) ≡ hex_text bytes
     → out ≡ hex_text bytes

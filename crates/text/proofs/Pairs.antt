@@ -1,8 +1,8 @@
--- Bytes of pairs of digits, one more pair at a time.
+-- Bytes of pairs of digits, one pair after the other.
 use Rattle.std.proofs.Common.{◌≡◌, ℕ, List, [], ◌∷◌, ◌++◌, Option, Some, None, refl, append_assoc}
 use Rattle.text.specs.Words.{given}
 
--- the bytes so far, and those of the rest
+-- the bytes so far, followed by those of the rest
 abbrev pub after : List ℕ → Option (List ℕ) → Option (List ℕ)
 after bytes rest = given rest (λ more. Some (bytes ++ more))
 

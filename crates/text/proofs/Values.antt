@@ -1,4 +1,4 @@
--- What digits come to, one more at a time.
+-- The value of digits, one digit after the other.
 use Rattle.std.proofs.Common.{◌≡◌, ℕ, ◌+◌, ◌-◌, ◌*◌, ◌<◌, ◌≤◌, false, cond, List, [], ◌∷◌, length, take, drop, get_or, Some, None, refl, sym, ap, ◌∙◌, arith, fold, nat_le}
 use Rattle.std.proofs.lemmas.Bool.Decides.{nat_tests}
 use Rattle.std.proofs.lemmas.List.{take-append-drop}
@@ -12,7 +12,7 @@ grows_from : (n : ℕ) (ds : List ℕ) → n ≤ fold further n ds
 grows_from n [] = omega arith
 grows_from n (d ∷ ds) = let rest = grows_from (further n d) ds in omega arith
 
--- what the first digits come to is at most what all of them do
+-- the value of the first digits is at most the value of all digits
 pub grows : (i : ℕ) (ds : List ℕ) → value (take i ds) ≤ value ds
 grows i ds =
     let whole : value ds ≡ fold further (value (take i ds)) (drop i ds) =
@@ -23,7 +23,7 @@ grows i ds =
 pub one_more : (ds : List ℕ) (i : ℕ) → i < length ds → value (take (i + 1) ds) ≡ value (take i ds) * 10 + (get_or ds i 0 - 48)
 one_more ds i lt = fold_more further 0 ds i 0 lt
 
--- the first digits exceed the most, so all do
+-- if the first digits exceed the maximum, all digits do
 pub exceeds : (max i : ℕ) (ds : List ℕ) → max < value (take i ds) → cond (nat_le (value ds) max) (Some (value ds)) None ≡ None
 exceeds max i ds lt =
     let more = grows i ds in

@@ -1,9 +1,8 @@
--- Text on its way to a writer.
+-- Text that is buffered and then written.
 use Rattle.std.specs.Prelude.{◌≡◌, ℕ, List, ◌++◌, Option}
 use Rattle.std.specs.Io.KnownBytes.{Appends}
 
--- More text was given to be written: what was written is the front of the text that was left and of this one, and the rest
--- of them is left.
+-- Text was added to a buffer: a front of the old and the added text was written, and the rest of it is still buffered.
 pub record Goes (old : Option (List ℕ)) (left : List ℕ) (more : List ℕ) (new : Option (List ℕ)) (kept : List ℕ) : Type 0 where
   pub gone : List ℕ
   pub went : Appends old new gone

@@ -1,4 +1,4 @@
-//! Addresses as words say them.
+//! Addresses written in words.
 
 ghost use Rattle.std.specs.Prelude.{◌≡◌, ◌==◌, ◌∷◌, [], None, IfNone, IfSome};
 ghost use Rattle.std.specs.List.{slice_split};
@@ -8,7 +8,7 @@ use crate::cut::cut;
 use crate::number::{byte, number};
 use at_base::Addr;
 
-/// What one dot separates, if the word has just one.
+/// The two parts of the word, if it has exactly one dot.
 fn halves(word: &[u8]) -> Option<(&[u8], &[u8])>
     ensures some { IfSome result (λ x. slice_split (λ b. b == 46) word.now
         ≡ x.0.now ∷ x.1.now ∷ []) }
@@ -25,7 +25,7 @@ fn halves(word: &[u8]) -> Option<(&[u8], &[u8])>
     }
 }
 
-/// The address that the word is, if it is one: the network and the node, as `10.7`.
+/// The address that the word spells, if any: the network and the node in decimal, as `10.7`.
 pub fn address(word: &[u8]) -> Option<Addr>
     ensures { result ≡ spec.address word.now }
 {

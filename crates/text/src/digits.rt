@@ -1,4 +1,4 @@
-//! Numbers and bytes in digits.
+//! Writing numbers and bytes in digits.
 
 ghost use Rattle.std.specs.Prelude.{◌≡◌, ◌<◌, ◌+◌, ◌*◌, ◌++◌, ◌∷◌, [], true, length, OnOk};
 ghost use Rattle.std.specs.Fmt.{decimal, digit_glyph};
@@ -8,7 +8,7 @@ ghost use Rattle.text.specs.Digits.{hex_text};
 use at_base::Addr;
 use std::alloc::AllocError;
 
-/// Appends a decimal digit.
+/// Appends a decimal digit. Error: `AllocError`.
 fn put_digit(text: &mut Vec<u8>, digit: u8) -> Result<(), AllocError>
     requires { digit < 10 }
     ensures { OnOk result (text.new.items ≡ text.old.items ++ (48 + digit) ∷ []) }
@@ -17,7 +17,8 @@ fn put_digit(text: &mut Vec<u8>, digit: u8) -> Result<(), AllocError>
     Ok(())
 }
 
-/// Appends a number in decimal. Most numbers are short, and take one call.
+/// Appends a number in decimal. Error: `AllocError`. Numbers below 1,000 don't recurse, since most
+/// numbers are short.
 #[tactic(auto, using(std::proofs::lemmas::Fmt::decimal_digit))]
 pub fn put_decimal(text: &mut Vec<u8>, number: u32) -> Result<(), AllocError>
     ensures { OnOk result (text.new.items ≡ text.old.items ++ decimal number) }
@@ -62,8 +63,8 @@ fn write_hex(out: &mut [u8], bytes: &[u8])
     }
 }
 
-/// Appends bytes as pairs of hexadecimal digits: room is made first, so that the loop over them is
-/// one without a branch.
+/// Appends bytes as pairs of hexadecimal digits, in upper case. Error: `AllocError`. Room is made
+/// first, so that the loop over the bytes has no branch for allocation.
 pub fn put_hex(text: &mut Vec<u8>, bytes: &[u8]) -> Result<(), AllocError>
     ensures { OnOk result (text.new.items ≡ text.old.items ++ hex_text bytes.now) }
 {
@@ -80,7 +81,7 @@ pub fn put_hex(text: &mut Vec<u8>, bytes: &[u8]) -> Result<(), AllocError>
     Ok(())
 }
 
-/// Appends an address, as `10.7`.
+/// Appends an address, as `10.7`. Error: `AllocError`.
 pub fn put_address(text: &mut Vec<u8>, address: Addr) -> Result<(), AllocError>
     ensures { OnOk result (text.new.items ≡ text.old.items ++ address_text address) }
 {

@@ -1,4 +1,4 @@
-//! Bytes in hexadecimal digits.
+//! Reading bytes from hexadecimal digits.
 
 ghost use Rattle.std.specs.Prelude.{◌≡◌, ◌<◌, ◌∷◌, None, Some, length};
 ghost use Rattle.std.specs.Prelude.{IfNone, IfOk, IfSome, IsOkUnless};
@@ -8,7 +8,7 @@ ghost use Rattle.text.specs.Words.{given};
 use at_base::{Bytes, Error};
 use std::alloc::Global;
 
-/// The value of a hexadecimal digit of either case, 0 to 15.
+/// The value of a hexadecimal digit, 0 to 15, in either case; `None` for any other byte.
 pub fn nibble(digit: u8) -> Option<u8>
     ensures value { result ≡ spec.nibble digit }
     ensures low { IfSome result (λ n. n < 16) }
@@ -19,7 +19,7 @@ pub fn nibble(digit: u8) -> Option<u8>
     }
 }
 
-/// The byte of the first two digits, and the digits after them.
+/// The byte that the first two digits spell, and the digits after them.
 fn first_pair(digits: &[u8]) -> Option<(u8, &[u8])>
     requires { 0 < length digits.now }
     ensures some { IfSome result (λ x. spec.pairs digits.now
@@ -36,8 +36,8 @@ fn first_pair(digits: &[u8]) -> Option<(u8, &[u8])>
     }
 }
 
-/// The bytes of pairs of hexadecimal digits of either case, if the digits are that; no digits are no
-/// bytes. Error: `Memory`.
+/// The bytes that pairs of hexadecimal digits in either case spell; `None` if the text isn't such
+/// pairs. No digits give no bytes. Error: `Memory`.
 pub fn pairs(alloc: Global, digits: &[u8]) -> Result<Option<Bytes>, Error>
     ensures read { IfOk result (λ x. x ≡ spec.pairs digits.now) }
     ensures refused { IsOkUnless result Error.Memory }

@@ -1,4 +1,5 @@
-//! Text: numbers, addresses and bytes as words say them, the same in digits, and text on its way to a writer.
+//! Text: numbers, addresses and bytes, read from words and written in digits; and a buffered
+//! writer.
 #![tactic(auto)]
 
 mod address;

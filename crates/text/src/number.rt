@@ -1,4 +1,4 @@
-//! Numbers in decimal digits.
+//! Reading numbers from decimal digits.
 
 ghost use Rattle.std.specs.Prelude.{◌≡◌, ◌≤◌, Some, None, cond, nat_le, true, IfSome};
 ghost use Rattle.std.specs.Char.{is_ascii_digit};
@@ -11,7 +11,7 @@ fn all_digits(word: &[u8]) -> bool
     word.iter().all(|b| b.is_ascii_digit())
 }
 
-/// Whether the word is digits alone, without a 0 in front.
+/// Whether the word is only digits, without a leading 0 (except `0` itself).
 fn is_plain(word: &[u8]) -> bool
     ensures { result ≡ spec.is_plain word.now }
 {
@@ -22,7 +22,7 @@ fn is_plain(word: &[u8]) -> bool
     }
 }
 
-/// What the digits come to, if that is at most so much. It stops at the digit that exceeds it.
+/// The value of the digits, if it is at most `max`. Stops at the digit that exceeds `max`.
 fn value_up_to(max: u32, digits: &[u8]) -> Option<u32>
     requires { list_all is_ascii_digit digits.now ≡ true }
     ensures { result ≡ cond (nat_le (spec.value digits.now) max) (Some (spec.value digits.now)) None }
@@ -37,7 +37,7 @@ fn value_up_to(max: u32, digits: &[u8]) -> Option<u32>
     Some(value as u32)
 }
 
-/// The number that the word is, if it is one and at most so much.
+/// The number that the word spells in decimal, if it spells one of at most `max`.
 pub fn number(max: u32, word: &[u8]) -> Option<u32>
     ensures value { result ≡ spec.number max word.now }
     ensures few { IfSome result (λ n. n ≤ max) }
@@ -48,7 +48,7 @@ pub fn number(max: u32, word: &[u8]) -> Option<u32>
     value_up_to(max, word)
 }
 
-/// The number that the word is, if it is one that fits a byte.
+/// The number that the word spells in decimal, if it spells one of at most 255.
 pub fn byte(word: &[u8]) -> Option<u8>
     ensures { result ≡ spec.byte word.now }
 {

@@ -1,4 +1,4 @@
-//! Writing text, so that a writer's failure is known.
+//! A buffered writer of text that records whether a write failed.
 
 ghost use Rattle.std.specs.Prelude.{◌≡◌, ◌<◌, length, true, false, [], ◌∷◌, ◌++◌, ◌⊎◌, OnOk, OnErr, IfErr, IsOkUnless};
 ghost use Rattle.std.specs.Io.KnownBytes.{Appends};
@@ -9,10 +9,10 @@ use std::alloc::Global;
 use std::io;
 use std::io::Write;
 
-/// The number of bytes from which on text is written.
+/// The number of buffered bytes from which on `pass_on` writes.
 const FULL: usize = 65_536;
 
-/// A writer, with the text that is still to be written, and whether a write failed.
+/// A writer, the text that is still to be written, and whether a write failed.
 #[derive(Drop)]
 pub struct Output<W> {
     /// The writer.
@@ -24,7 +24,7 @@ pub struct Output<W> {
 }
 
 impl<W: Write> Output<W> {
-    /// An output of which no write has failed, and with nothing still to be written.
+    /// An output with nothing to be written, and no failed write.
     pub fn new(alloc: Global, writer: W) -> Output<W>
         ensures writer { result.writer ≡ writer }
         ensures empty { result.text.items ≡ [] }
@@ -37,8 +37,8 @@ impl<W: Write> Output<W> {
         }
     }
 
-    /// Writes the text and an end of line, and flushes; what is still to be written stays. Error:
-    /// `WriteFault`, only where the writer failed.
+    /// Writes the text and a line feed to the writer, and flushes. The buffered text isn't written,
+    /// and stays. Error: `WriteFault`, only if the writer failed.
     pub fn write_line(&mut self, text: &[u8]) -> Result<(), Error>
         ensures ok { OnOk result
             (Appends (W.contents self.old.writer) (W.contents self.new.writer)
@@ -57,13 +57,13 @@ impl<W: Write> Output<W> {
         }
     }
 
-    /// Writes what is still to be written, and flushes. Error: `WriteFault`, only where the writer
-    /// failed.
+    /// Writes the buffered text, and flushes. Error: `WriteFault`, only if the writer failed; the
+    /// buffered text then stays.
     pub fn flush(&mut self) -> Result<(), Error>
         ensures ok { OnOk result (Appends (W.contents self.old.writer)
             (W.contents self.new.writer) self.old.text.items) }
         ensures empty { OnOk result (self.new.text.items ≡ []) }
-        // What can't be written is still to be written.
+        // Text that can't be written stays buffered.
         ensures left { OnErr result (self.new.text ≡ self.old.text) }
         ensures fault { OnErr result (self.new.failed ≡ true) }
         ensures refused { IsOkUnless result Error.WriteFault }
@@ -81,8 +81,8 @@ impl<W: Write> Output<W> {
         }
     }
 
-    /// Writes what is still to be written, where that is much: less than 64 KiB are left. Error:
-    /// `WriteFault`, only where the writer failed.
+    /// Writes the buffered text if it has 64 KiB or more, so that less than 64 KiB are left. Error:
+    /// `WriteFault`, only if the writer failed.
     pub fn pass_on(&mut self) -> Result<(), Error>
         ensures little { OnOk result (length self.new.text.items < 65536) }
         ensures gone { OnOk result (Goes (W.contents self.old.writer) self.old.text.items []
@@ -108,7 +108,7 @@ fn put<W: Write>(writer: &mut W, text: &[u8]) -> io::Result<()>
     writer.flush()
 }
 
-/// Writes the text and an end of line, and flushes.
+/// Writes the text and a line feed, and flushes.
 fn put_line<W: Write>(writer: &mut W, text: &[u8]) -> io::Result<()>
     ensures { OnOk result
         (Appends (W.contents writer.old) (W.contents writer.new) (text.now ++ 10 ∷ [])) }

@@ -15,8 +15,8 @@ use Rattle.cable_model.specs.Pending.{Pair, is_heard, pairs, pairs_of, pending, 
 use Rattle.cable_model.specs.Transcript.{Entry, Sent, Put, Took, Reached, Dropped, Lost}
 use Rattle.cable_model.specs.declared.seat.Seat.{Seat}
 use Rattle.ddp.specs.Datagram.{Datagram}
-use Rattle.end_node.specs.Answers.{heard, heard_datagram, heard_kind, heard_own, heard_packet, is_served, is_to, kept, keeping}
-use Rattle.end_node.specs.Answers.{keeping_any, takes}
+use Rattle.end_node.specs.Answers.{heard, heard_datagram, heard_kind, heard_own, heard_packet, is_served, keeping, keeping_any, kept, takes}
+use Rattle.station.specs.Ways.{checks, is_to}
 use Rattle.end_node.specs.Holding.{NodeHolding}
 use Rattle.end_node.specs.Taking.{taken}
 use Rattle.end_node.specs.declared.node.Datagram.{Datagram as Received}
@@ -32,7 +32,6 @@ use Rattle.rtmp.specs.Data.{RoutingData}
 use Rattle.station.specs.Hearing.{Hearing}
 use Rattle.station.specs.Resolution.{packet_at}
 use Rattle.station.specs.Values.{datagram_at}
-use Rattle.station.specs.Ways.{checks}
 use Rattle.station.specs.declared.heard.Kind.{Kind}
 use Rattle.station.specs.declared.heard.Kind.TheVariants.{Ddp, Aarp}
 use Rattle.station.specs.declared.output.Output.{Output}

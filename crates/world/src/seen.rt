@@ -3,8 +3,7 @@
 ghost use Rattle.std.specs.Prelude.{◌≡◌, ◌<◌, length, slice_get, None, Some, IfOk, IsOk};
 ghost use Rattle.std.specs.Prelude.{option_copied, IsOkUnless, OnErr, OnOk};
 ghost use Rattle.world.specs.Seen as spec;
-ghost use Rattle.world.specs.Seen.{emptied_at};
-ghost use Rattle.world.specs.Seen.{received_by};
+ghost use Rattle.world.specs.Seen.{emptied_at, received_by};
 
 use at_base::Error;
 use end_node::{Datagram, EndNode};

@@ -1,6 +1,5 @@
 -- ZIP packets. (Inside AppleTalk, the chapter on ZIP)
-use Rattle.std.specs.Prelude.{◌≡◌, ℕ, ◌+◌, true, not, ◌&&◌, ◌==◌, List, [], length, Option, Some, None, Result, Ok, Err}
-use Rattle.std.specs.Prelude.{if◌then◌else◌}
+use Rattle.std.specs.Prelude.{Err, List, None, Ok, Option, Result, Some, [], if◌then◌else◌, length, not, true, ℕ, ◌&&◌, ◌+◌, ◌==◌, ◌≡◌}
 use Rattle.at_base.specs.declared.error.Error.{Error}
 use Rattle.at_base.specs.declared.error.Error.TheVariants.{BadField, BadName}
 use Rattle.at_base.specs.declared.error.Field.TheVariants.{Network}

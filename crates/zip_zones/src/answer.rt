@@ -12,8 +12,7 @@ ghost use Rattle.zip_zones.specs.Answers.{net_info_reply};
 ghost use Rattle.zip_zones.specs.Formats as formats_spec;
 ghost use Rattle.zip_zones.specs.Formats.{default_zone};
 ghost use Rattle.zip_zones.specs.Written as written_spec;
-ghost use Rattle.zip_zones.specs.Written.{flags_for};
-ghost use Rattle.zip_zones.specs.Written.{zone_group};
+ghost use Rattle.zip_zones.specs.Written.{flags_for, zone_group};
 
 use crate::packet::{Function, NetInfo};
 use crate::page::put_name;

@@ -1,10 +1,8 @@
 //! What is known of the zones of one range.
 
-ghost use Rattle.std.specs.Prelude.{◌≡◌, ◌<◌, ◌≤◌, [], length, true, IfOk, OnErr, OnOk};
-ghost use Rattle.std.specs.Prelude.{IsOkUnless};
+ghost use Rattle.std.specs.Prelude.{IfOk, IsOkUnless, OnErr, OnOk, [], length, true, ◌<◌, ◌≡◌, ◌≤◌};
 ghost use Rattle.zip_zones.specs.Zones as spec;
-ghost use Rattle.zip_zones.specs.Zones.{each_once};
-ghost use Rattle.zip_zones.specs.Zones.{list_of_least, set_list, with_name, with_zone};
+ghost use Rattle.zip_zones.specs.Zones.{each_once, list_of_least, set_list, with_name, with_zone};
 ghost use Rattle.std.specs.Arc.{arc_value};
 
 use crate::zone::Zone;

@@ -6,9 +6,8 @@ ghost use Rattle.at_base.specs.Packets.{packets, text, any};
 ghost use Rattle.at_base.specs.Reading as reading_spec;
 ghost use Rattle.at_base.specs.Reading.{Gives, Reads, field_at};
 ghost use Rattle.zip_zones.specs.Answers.{zone_asked};
-ghost use Rattle.zip_zones.specs.Formats.{body, default_zone, function_of};
+ghost use Rattle.zip_zones.specs.Formats.{body, default_zone, function_of, wrong_function};
 ghost use Rattle.zip_zones.specs.Formats as spec;
-ghost use Rattle.zip_zones.specs.Formats.{wrong_function};
 
 use crate::entries::{Entries, check_entries};
 use crate::entry::{Nets, name_at};

@@ -1,6 +1,5 @@
-use Rattle.std.proofs.Common.{◌≡◌, ◌≤◌, ◌<◌, ℕ, length, true}
+use Rattle.std.proofs.Common.{Some, length, true, ℕ, ◌<◌, ◌≡◌, ◌≤◌}
 use Rattle.std.specs.Option.{IfSome, IfNone}
-use Rattle.std.proofs.Common.{Some}
 use Rattle.slab.specs.Slab.{get}
 use Rattle.atp.specs.declared.transaction.Transaction.{Transaction}
 use Rattle.atp.specs.Requesting.{is_due}

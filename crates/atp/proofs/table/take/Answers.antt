@@ -1,7 +1,6 @@
-use Rattle.std.proofs.Common.{◌≡◌, ◌+◌, Option, Some, None, sym}
+use Rattle.std.proofs.Common.{None, Option, Some, sym, ℕ, ◌+◌, ◌≡◌}
 use Rattle.std.specs.Option.{IfSome, OnSome}
 use Rattle.slab.specs.Slab.{Slab, get, slab_len, Updates}
-use Rattle.std.proofs.Common.{ℕ}
 use Rattle.atp.specs.declared.transaction.Transaction.{Transaction}
 use Rattle.atp.specs.Slots.{IsTable, Put}
 use Rattle.atp.proofs.Slots.{removed}

@@ -1,4 +1,4 @@
--- The words and bytes that were written are those of the header.
+-- The words and bytes that are written are those of the header.
 use Rattle.std.proofs.Common.{arith}
 use Rattle.ddp.proofs.Written.{plain_spelled}
 use Rattle.ddp.proofs.writer.header_bytes.Goals as goal

@@ -1,4 +1,4 @@
--- A checksum is there exactly where the header says so.
+-- The datagram has a checksum exactly if the header asks for one.
 use Rattle.ddp.proofs.Written.{written}
 use Rattle.ddp.proofs.writer.write.Goals as goal
 

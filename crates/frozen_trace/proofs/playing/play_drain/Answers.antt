@@ -1,8 +1,7 @@
 use Rattle.std.proofs.Common.{◌==◌, ◌++◌, Bool, List, ℕ, ap, length, refl, subst, sym, ◌∙◌, arith, true}
 use Rattle.cable_model.specs.Logs.{transcript as said}
 use Rattle.cable_model.specs.Pending.{pending}
-use Rattle.frozen.specs.Events.{DrainsTo}
-use Rattle.frozen.specs.Events.{Undrained}
+use Rattle.frozen.specs.Events.{DrainsTo, Undrained}
 use Rattle.text.proofs.Going.{goes_none, goes_then, on_both, on_ok}
 use Rattle.frozen_trace.proofs.Growth.{drain_full, drain_on, drain_out, drain_stops, drained_grows, prints, told_none, told_then}
 use Rattle.text.specs.Going.{Goes}

@@ -1,4 +1,4 @@
--- The extent that was found is that of the one datagram there, and one that was refused is the first fault.
+-- An extent that is found is that of the one datagram in the bytes; one that is refused is the first fault.
 use Rattle.std.proofs.Common.{arith}
 use Rattle.ddp.proofs.Extents.{extent_found, extent_datagram, extent_read, extent_refused}
 use Rattle.ddp.proofs.view.View.read.Goals as goal
