@@ -1,7 +1,7 @@
 -- What happened on the cables of an internet, in order.
 use Rattle.std.specs.Prelude.{◌≡◌, ℕ, ◌+◌, Bool, true, false, List, [], ◌∷◌}
 use Rattle.at_base.specs.declared.address.Hw.{Hw}
-use Rattle.station.specs.declared.output.Cause.{Cause}
+use Rattle.station.specs.declared.output.DropCause.{DropCause}
 use Rattle.cable_model.specs.declared.entry.How.{How}
 use Rattle.station.specs.declared.heard.Kind.{Kind}
 pub use Rattle.station.specs.Lawful.{count, one}
@@ -24,7 +24,7 @@ pub data Entry : Type 0 where
   Put : (frame : Frame) → Entry
   Took : (stamp station : ℕ) → Entry
   Reached : (cable station : ℕ) (how : How) (body : List ℕ) → Entry
-  Dropped : (router : ℕ) (cause : Cause) (body : List ℕ) → Entry
+  Dropped : (router : ℕ) (cause : DropCause) (body : List ℕ) → Entry
   Lost : (stamp : ℕ) → Entry
 
 -- the entry is a frame

@@ -1,7 +1,7 @@
 //! Entries of a transcript, which name bytes by their number.
 
 use at_base::Hw;
-use station::{Cause, Kind};
+use station::{DropCause, Kind};
 
 /// How a datagram reached the cable of its target.
 #[derive(Clone, Copy, Debug, PartialEq, Eq)]
@@ -51,7 +51,7 @@ pub enum Entry {
     /// A router dropped a datagram.
     Dropped {
         router: u16,
-        cause: Cause,
+        cause: DropCause,
         bytes: u32,
     },
     /// A frame was lost to all who hadn't taken it.

@@ -28,5 +28,5 @@ pub use laws::taking_ends_one_pair;
 pub use resolve::{Found, Resolve};
 pub use seat::Seat;
 pub use seats::Seats;
-pub use station::{Cause, Kind};
+pub use station::{DropCause, Kind};
 pub use waiting::Waiting;

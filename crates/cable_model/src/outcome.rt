@@ -21,7 +21,7 @@ use crate::seating::exit_by;
 use crate::seats::Seats;
 use crate::route::{Route, way_of};
 use at_base::{Bytes, Hw};
-use station::{Cause, Kind, Next, Output, Outputs};
+use station::{DropCause, Kind, Next, Output, Outputs};
 
 /// A station made a datagram, which goes onto a cable.
 pub fn sent<R: Resolve>(
@@ -119,7 +119,7 @@ fn own(log: &mut Log, exit: Outlet, bytes: Bytes)
 }
 
 /// A router drops a datagram.
-fn dropped(log: &mut Log, router: u16, cause: Cause, bytes: Bytes)
+fn dropped(log: &mut Log, router: u16, cause: DropCause, bytes: Bytes)
     requires room { HasRoom log.old 2 1 0 0 }
     ensures grows { (seats : List SeatValue) → IsBook seats log.old
         → Grows log.old log.new (Dropped router cause (body bytes) ∷ []) [] }

@@ -1,7 +1,7 @@
 //! The lines of a world's entries, in which stations are numbers.
 
 use at_base::Hw;
-use cable_model::{Cause, Entry, How};
+use cable_model::{DropCause, Entry, How};
 use rtmp::RouteTable;
 use std::alloc::AllocError;
 use text::{put_decimal, put_hex};
@@ -51,10 +51,10 @@ fn how(how: How) -> &'static [u8] {
 }
 
 /// Why a datagram was dropped.
-fn cause(cause: Cause) -> &'static [u8] {
+fn cause(cause: DropCause) -> &'static [u8] {
     match cause {
-        Cause::NoRoute => b" NoRoute",
-        Cause::HopLimit => b" HopLimit",
+        DropCause::NoRoute => b" NoRoute",
+        DropCause::HopLimit => b" HopLimit",
     }
 }
 

@@ -9,7 +9,7 @@ use Rattle.ddp.specs.Bodies.{target}
 use Rattle.table_image.specs.Internet.{Internet}
 use Rattle.audit.specs.Routing.{home}
 use Rattle.audit.specs.Rules.{Passes}
-use Rattle.station.specs.declared.output.Cause.TheVariants.{NoRoute, HopLimit}
+use Rattle.station.specs.declared.output.DropCause.TheVariants.{NoRoute, HopLimit}
 use Rattle.cable_model.specs.Pending.{pairs, pending, was_ended}
 use Rattle.cable_model.specs.Transcript.{Entry, Sent, Put, Took, Reached, Dropped, Lost}
 use Rattle.cable_model.proofs.Counting.{contained_at, count_agree, count_none, each_at, each_more, filter_at}

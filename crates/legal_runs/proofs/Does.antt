@@ -11,7 +11,7 @@ use Rattle.table_image.specs.Internet.{Internet}
 use Rattle.audit.specs.Routing.{distance, home}
 use Rattle.audit.specs.Rules.{Passes}
 use Rattle.table_image.specs.Seats.{Seat as PlaceOf, seats}
-use Rattle.station.specs.declared.output.Cause.TheVariants.{HopLimit, NoRoute}
+use Rattle.station.specs.declared.output.DropCause.TheVariants.{HopLimit, NoRoute}
 use Rattle.cable_model.specs.declared.entry.How.{How}
 use Rattle.station.specs.declared.heard.Kind.TheVariants.{Ddp}
 use Rattle.cable_model.specs.declared.seat.Seat.{Seat}

@@ -11,7 +11,7 @@ use Rattle.audit.specs.Routing.{hand, home}
 use Rattle.audit.specs.Rules.{Passes}
 use Rattle.audit.specs.Walks.{Stops, Goes as GoesBy}
 use Rattle.audit.proofs.WalkSteps.{nowhere, steps}
-use Rattle.station.specs.declared.output.Cause.TheVariants.{HopLimit}
+use Rattle.station.specs.declared.output.DropCause.TheVariants.{HopLimit}
 use Rattle.station.specs.declared.heard.Kind.{Kind}
 use Rattle.station.specs.declared.heard.Kind.TheVariants.{Ddp}
 use Rattle.cable_model.specs.Pending.{Pair, pairs}

@@ -10,7 +10,7 @@ use Rattle.audit.specs.Routing.{Here, On, distance, hand, home, owner}
 use Rattle.audit.specs.Rules.{Passes}
 use Rattle.audit.specs.Walks.{Stops, Goes as GoesBy}
 use Rattle.audit.proofs.WalkSteps.{nowhere, steps}
-use Rattle.station.specs.declared.output.Cause.TheVariants.{HopLimit}
+use Rattle.station.specs.declared.output.DropCause.TheVariants.{HopLimit}
 use Rattle.cable_model.specs.declared.entry.How.TheVariants as how
 use Rattle.cable_model.specs.Pending.{Pair}
 use Rattle.cable_model.specs.Transcript.{Reached, Dropped}

@@ -16,7 +16,7 @@ use Rattle.audit.proofs.SeatUnique.{addressed, unique}
 use Rattle.audit.proofs.WalkFacts.{some_of}
 use Rattle.audit.proofs.WalkLists.{at_one, find_found}
 use Rattle.audit.proofs.WalkSteps.{steps}
-use Rattle.station.specs.declared.output.Cause.TheVariants.{HopLimit}
+use Rattle.station.specs.declared.output.DropCause.TheVariants.{HopLimit}
 use Rattle.cable_model.specs.declared.entry.How.TheVariants as how
 use Rattle.cable_model.specs.Pending.{Pair, pairs}
 use Rattle.cable_model.specs.Transcript.{Reached, Dropped}

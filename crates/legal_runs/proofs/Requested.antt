@@ -12,7 +12,7 @@ use Rattle.audit.specs.Rules.{Passes}
 use Rattle.table_image.specs.Seats.{Seat as PlaceOf, seat_at, seats}
 use Rattle.audit.proofs.SeatUnique.{addressed}
 use Rattle.audit.proofs.WalkFacts.{owner_is}
-use Rattle.station.specs.declared.output.Cause.TheVariants.{HopLimit}
+use Rattle.station.specs.declared.output.DropCause.TheVariants.{HopLimit}
 use Rattle.cable_model.specs.declared.entry.How.TheVariants as how
 use Rattle.station.specs.declared.heard.Kind.TheVariants.{Ddp}
 use Rattle.cable_model.specs.declared.seat.Seat.{Seat}

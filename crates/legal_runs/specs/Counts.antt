@@ -4,7 +4,7 @@ use Rattle.at_base.specs.Text.{same_bytes}
 use Rattle.ddp.specs.Bodies.{body, hops, target}
 use Rattle.table_image.specs.Internet.{Internet}
 use Rattle.audit.specs.Routing.{distance, home}
-use Rattle.station.specs.declared.output.Cause.TheVariants.{HopLimit}
+use Rattle.station.specs.declared.output.DropCause.TheVariants.{HopLimit}
 use Rattle.cable_model.specs.Pending.{Pair, pending}
 use Rattle.cable_model.specs.Transcript.{Entry, Sent, Reached, Dropped, count}
 use Rattle.legal_runs.specs.Legs.{is_copy}

@@ -2,7 +2,7 @@
 -- replies; and datagrams that end in other ways. Inside AppleTalk, the chapters on DDP and AEP.
 use Rattle.std.specs.Prelude.{ℕ, List, [], ◌∷◌}
 use Rattle.audit.specs.Example.{hardware}
-use Rattle.station.specs.declared.output.Cause.TheVariants.{NoRoute}
+use Rattle.station.specs.declared.output.DropCause.TheVariants.{NoRoute}
 use Rattle.cable_model.specs.declared.entry.How.TheVariants as how
 use Rattle.station.specs.declared.heard.Kind.TheVariants.{Ddp}
 use Rattle.cable_model.specs.Transcript.{Dropped, Entry, Sent, Put, Took, Reached}

@@ -1,6 +1,6 @@
 -- Transcripts that are not legal for the internet of three cables.
 use Rattle.std.specs.Prelude.{ℕ, List, [], ◌∷◌}
-use Rattle.station.specs.declared.output.Cause.TheVariants.{HopLimit, NoRoute}
+use Rattle.station.specs.declared.output.DropCause.TheVariants.{HopLimit, NoRoute}
 use Rattle.cable_model.specs.declared.entry.How.TheVariants as how
 use Rattle.station.specs.declared.heard.Kind.TheVariants.{Ddp}
 use Rattle.cable_model.specs.Transcript.{Dropped, Entry, Sent, Put, Took, Reached}

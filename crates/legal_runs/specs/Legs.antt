@@ -9,7 +9,7 @@ use Rattle.ddp.specs.Bodies.{body, hops, target, with_hops}
 use Rattle.table_image.specs.Internet.{Internet}
 use Rattle.audit.specs.Routing.{Hand, Here, On, Nowhere, hand, home}
 use Rattle.table_image.specs.Seats.{Seat, seat_at}
-use Rattle.station.specs.declared.output.Cause.TheVariants.{NoRoute, HopLimit}
+use Rattle.station.specs.declared.output.DropCause.TheVariants.{NoRoute, HopLimit}
 use Rattle.cable_model.specs.declared.entry.How.{How}
 use Rattle.cable_model.specs.declared.entry.How.TheVariants as how
 use Rattle.station.specs.declared.heard.Kind.{Kind}

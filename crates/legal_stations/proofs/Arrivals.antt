@@ -27,7 +27,7 @@ use Rattle.legal_runs.proofs.Runs.{run_is}
 use Rattle.legal_runs.proofs.Seated.{home_is, listed_some}
 use Rattle.std.specs.Prelude.{Contains}
 use Rattle.station.specs.declared.heard.Kind.TheVariants.{Ddp}
-use Rattle.station.specs.declared.output.Cause.TheVariants.{HopLimit}
+use Rattle.station.specs.declared.output.DropCause.TheVariants.{HopLimit}
 use Rattle.station.specs.declared.output.Next.{Next}
 use Rattle.station.specs.declared.output.Next.TheVariants as next
 use Rattle.table_image.specs.Internet.{Internet}

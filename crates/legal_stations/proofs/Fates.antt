@@ -26,7 +26,7 @@ use Rattle.router.specs.declared.course.Ending.{Ending}
 use Rattle.router.specs.declared.course.Step.TheVariants as step
 use Rattle.station.specs.Ports.{has}
 use Rattle.station.specs.declared.heard.Link.TheVariants as link
-use Rattle.station.specs.declared.output.Cause.TheVariants.{HopLimit, NoRoute}
+use Rattle.station.specs.declared.output.DropCause.TheVariants.{HopLimit, NoRoute}
 use Rattle.station.specs.declared.output.Next.{Next}
 use Rattle.station.specs.declared.output.Next.TheVariants as next
 use Rattle.table_image.specs.Internet.{Internet}

@@ -11,7 +11,7 @@ use Rattle.station.specs.Lawful.{IsNext}
 use Rattle.station.specs.Ports.{has}
 use Rattle.station.specs.declared.heard.Link.{Link}
 use Rattle.station.specs.declared.heard.Link.TheVariants as link
-use Rattle.station.specs.declared.output.Cause.TheVariants.{NoRoute, HopLimit}
+use Rattle.station.specs.declared.output.DropCause.TheVariants.{NoRoute, HopLimit}
 use Rattle.station.specs.declared.output.Next.TheVariants as next
 use Rattle.station.specs.declared.output.Output.{Output}
 use Rattle.station.specs.declared.output.Output.TheVariants.{Passed, Kept, Dropped}

@@ -13,7 +13,7 @@ use aarp::Chooser;
 use at_base::Addr;
 use rtmp::RouteTable;
 use station::ways::EVERY_NODE;
-use station::{Cause, Link, Next};
+use station::{DropCause, Link, Next};
 
 /// The hop count at which a datagram isn't handed on any more.
 ///
@@ -28,7 +28,7 @@ pub enum Step {
     /// The router keeps it, since it ends on the port's cable.
     Keep { port: u8 },
     /// It is dropped.
-    Drop(Cause),
+    Drop(DropCause),
 }
 
 /// How a datagram ended at a router.
@@ -109,7 +109,7 @@ fn arrived(ports: &[Chooser], port: u8, hops: u8, target: Addr) -> Course
         };
     }
     if hops == MAX_HOPS {
-        return goes(Step::Drop(Cause::HopLimit));
+        return goes(Step::Drop(DropCause::HopLimit));
     }
     if target.node == EVERY_NODE {
         return Course {
@@ -133,7 +133,7 @@ fn handed_on(port: u8, router: Addr, hops: u8) -> Course
     ensures inside { hops ≤ 15 → (n : ℕ) → port < n → IsCourse n hops result }
 {
     if hops == MAX_HOPS {
-        return goes(Step::Drop(Cause::HopLimit));
+        return goes(Step::Drop(DropCause::HopLimit));
     }
     let next = Next::Station(router);
     goes(Step::Pass { port, next })
@@ -146,7 +146,7 @@ fn course_by(ports: &[Chooser], hand: Hand, hops: u8, target: Addr) -> Course
     ensures inside { hops ≤ 15 → IsCourse (length ports.now) hops result }
 {
     match hand {
-        Hand::Nowhere => goes(Step::Drop(Cause::NoRoute)),
+        Hand::Nowhere => goes(Step::Drop(DropCause::NoRoute)),
         Hand::Here(port) => arrived(ports, port, hops, target),
         Hand::On(port, router) => handed_on(port, router, hops),
     }

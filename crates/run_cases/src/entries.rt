@@ -1,7 +1,7 @@
 //! Entries of transcripts, in words and as the lines of a trace.
 
 use at_base::Addr;
-use cable_model::{Cause, Entry, How, Kind};
+use cable_model::{DropCause, Entry, How, Kind};
 use case_words::{Answer, Stop, Words, put_hw};
 use std::alloc::{AllocError, Global};
 use table_image::{Image, read};
@@ -27,10 +27,10 @@ fn how(words: &mut Words<'_>) -> Result<How, Stop> {
     })
 }
 
-fn cause(words: &mut Words<'_>) -> Result<Cause, Stop> {
+fn cause(words: &mut Words<'_>) -> Result<DropCause, Stop> {
     match words.word() {
-        "no-route" => Ok(Cause::NoRoute),
-        "hop-limit" => Ok(Cause::HopLimit),
+        "no-route" => Ok(DropCause::NoRoute),
+        "hop-limit" => Ok(DropCause::HopLimit),
         _ => Err(Stop::Unclear),
     }
 }

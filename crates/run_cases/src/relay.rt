@@ -6,7 +6,7 @@ ghost use Rattle.station.specs.Lawful.{AreLawful, IsGood, IsNext, IsWhole, PutsO
 use crate::taking::{TARGET, TARGET_HW};
 use aarp::{Function, Packet};
 use at_base::{Addr, Bytes, Error, Hw};
-use cable_model::Cause;
+use cable_model::DropCause;
 use ddp::View;
 use station::frames::{read_datagram, wire};
 use station::{Heard, Next, Output, Outputs, Station, slices_have_bytes};
@@ -52,7 +52,7 @@ fn one(alloc: Global, act: Act, view: &View<'_>) -> Result<Vec<Output>, Error>
     let output = match act {
         Act::Keep => Output::Kept { port: 1, bytes },
         Act::Drop => Output::Dropped {
-            cause: Cause::NoRoute,
+            cause: DropCause::NoRoute,
             bytes,
         },
         _ => Output::Passed {

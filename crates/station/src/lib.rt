@@ -17,7 +17,7 @@ pub mod ways;
 pub use heard::{Heard, Kind, Link};
 pub use laws::slices_have_bytes;
 pub use member::Member;
-pub use output::{Cause, Next, Output};
+pub use output::{DropCause, Next, Output};
 pub use outputs::Outputs;
 pub use port_plan::PortPlan;
 pub use station::Station;

@@ -19,7 +19,7 @@ pub enum Next {
 ///
 /// Inside AppleTalk, the chapters on DDP and RTMP.
 #[derive(Clone, Copy, Debug, PartialEq, Eq)]
-pub enum Cause {
+pub enum DropCause {
     /// It has no usable row for the target's network.
     NoRoute,
     /// The datagram was handed on 15 times.
@@ -37,7 +37,7 @@ pub enum Output {
     /// A datagram that a router keeps, since it ends on the cable of this port.
     Kept { port: u8, bytes: Bytes },
     /// A datagram that a router drops.
-    Dropped { cause: Cause, bytes: Bytes },
+    Dropped { cause: DropCause, bytes: Bytes },
     /// An AARP packet for this hardware address.
     Wire { port: u8, to: Hw, bytes: Bytes },
 }

@@ -1,7 +1,7 @@
 //! What stations put out, in words.
 
 use case_words::{put_hex, put_hw};
-use station::{Cause, Next, Output, Outputs};
+use station::{DropCause, Next, Output, Outputs};
 use std::alloc::AllocError;
 
 /// The bytes of the fields of a datagram's header: hops and length, checksum, target network, source network, target
@@ -70,10 +70,10 @@ fn put_bytes(text: &mut String, bytes: &[u8], sizes: &[usize]) -> Result<(), All
     Ok(())
 }
 
-fn cause_word(cause: Cause) -> &'static str {
+fn cause_word(cause: DropCause) -> &'static str {
     match cause {
-        Cause::NoRoute => "no route",
-        Cause::HopLimit => "hop limit",
+        DropCause::NoRoute => "no route",
+        DropCause::HopLimit => "hop limit",
     }
 }
 

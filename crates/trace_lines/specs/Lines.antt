@@ -13,8 +13,8 @@ use Rattle.cable_model.specs.declared.entry.Entry.{Entry as Line}
 use Rattle.cable_model.specs.declared.entry.Entry.TheVariants as named
 use Rattle.cable_model.specs.declared.entry.How.{How}
 use Rattle.cable_model.specs.declared.entry.How.TheVariants as how
-use Rattle.station.specs.declared.output.Cause.{Cause}
-use Rattle.station.specs.declared.output.Cause.TheVariants as cause
+use Rattle.station.specs.declared.output.DropCause.{DropCause}
+use Rattle.station.specs.declared.output.DropCause.TheVariants as cause
 use Rattle.text.specs.Digits.{hex_text}
 use Rattle.trace_lines.specs.Stations.{Directory, address_of, address_on, holder}
 
@@ -34,7 +34,7 @@ how_text how.Absent = codes "absent"
 how_text how.Held = codes "held"
 
 -- why a datagram was dropped
-abbrev pub cause_text : Cause → List ℕ
+abbrev pub cause_text : DropCause → List ℕ
 cause_text cause.NoRoute = codes "NoRoute"
 cause_text cause.HopLimit = codes "HopLimit"
 

@@ -14,7 +14,7 @@ use at_base::{Addr, Hw};
 use cable_model::{Entry, How};
 use crate::stations::Stations;
 use crate::words::{put_body, put_cause, put_how, put_who};
-use station::{Cause, Kind};
+use station::{DropCause, Kind};
 use std::alloc::AllocError;
 use text::{put_address, put_decimal, put_hex};
 
@@ -158,7 +158,7 @@ fn put_dropped(
     text: &mut Vec<u8>,
     stations: &Stations,
     router: u16,
-    cause: Cause,
+    cause: DropCause,
     bytes: &[u8],
 ) -> Result<(), AllocError>
     ensures { OnOk result (text.new.items

@@ -9,7 +9,7 @@ ghost use Rattle.text.specs.Digits.{hex_text};
 use at_base::Hw;
 use cable_model::How;
 use crate::stations::Stations;
-use station::Cause;
+use station::DropCause;
 use std::alloc::AllocError;
 use text::{put_address, put_decimal, put_hex};
 
@@ -47,12 +47,12 @@ pub(crate) fn put_how(text: &mut Vec<u8>, how: How) -> Result<(), AllocError>
 }
 
 /// Appends why a datagram was dropped.
-pub(crate) fn put_cause(text: &mut Vec<u8>, cause: Cause) -> Result<(), AllocError>
+pub(crate) fn put_cause(text: &mut Vec<u8>, cause: DropCause) -> Result<(), AllocError>
     ensures { OnOk result (text.new.items ≡ text.old.items ++ cause_text cause) }
 {
     match cause {
-        Cause::NoRoute => text.extend_from_slice(b"NoRoute"),
-        Cause::HopLimit => text.extend_from_slice(b"HopLimit"),
+        DropCause::NoRoute => text.extend_from_slice(b"NoRoute"),
+        DropCause::HopLimit => text.extend_from_slice(b"HopLimit"),
     }
 }
 
