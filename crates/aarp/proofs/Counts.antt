@@ -1,4 +1,4 @@
--- Each address for which a datagram waits was asked for from once to ten times.
+-- The address of each waiting datagram was requested from one to ten times.
 use Rattle.std.proofs.Common.{◌≡◌, ℕ, zero, suc, ◌-◌, Bool, true, false, ◌&&◌, cond, IsTrue, List, [], ◌∷◌, ◌++◌, length, map, filter, take}
 use Rattle.std.proofs.Common.{drop, remove, find, position, Option, Some, None, refl, ◌∙◌, arith}
 use Rattle.std.specs.List.{list_all}
@@ -28,7 +28,7 @@ all_drop (suc n) (x ∷ xs) h = all_drop n xs (both (is_counted x) (list_all is_
 all_append : (xs ys : List Held) → list_all is_counted xs ≡ true → list_all is_counted ys ≡ true → list_all is_counted (xs ++ ys) ≡ true
 all_append xs ys h k = list_all-append is_counted xs ys ∙ rw (h, k) refl
 
--- one that was found is one of them
+-- a datagram that was found in the list passes the test of all
 all_found : (p : Held → Bool) (xs : List Held) (h : Held) → list_all is_counted xs ≡ true → find p xs ≡ Some h → is_counted h ≡ true
 all_found p [] h all e = absurd cc
 all_found p (x ∷ xs) h all e =
@@ -45,14 +45,14 @@ counted_is h xs all = by_case (find (is_for h.next) xs) refl
     by_case None e = rw e refl
     by_case (Some g) e = rw e (all_found (is_for h.next) xs g all e)
 
--- after one more is held
+-- the counts are valid after one more datagram is held
 pub held_counted : (h : Held) (xs : List Held) → IsTrue (list_all is_counted xs)
     → IsTrue (list_all is_counted (keep_last 16 (xs ++ counted h xs ∷ [])))
 held_counted h xs all =
     let last : list_all is_counted (counted h xs ∷ []) ≡ true = rw (counted_is h xs all) refl in
     all_drop (length (xs ++ counted h xs ∷ []) - 16) (xs ++ counted h xs ∷ []) (all_append xs (counted h xs ∷ []) all last)
 
--- after one is released
+-- the counts are valid after a datagram is released
 pub left_counted : (a : Addr) (xs : List Held) → IsTrue (list_all is_counted xs) → IsTrue (list_all is_counted (without_oldest a xs))
 left_counted a xs all = by_case (position (is_for a) xs)
   where
@@ -63,7 +63,7 @@ left_counted a xs all = by_case (position (is_for a) xs)
 more_counted : (h : Held) → is_counted h ≡ true → is_asked_again h ≡ true → is_counted (asked_once_more h) ≡ true
 more_counted h c again = grind arith
 
--- after a tick
+-- the counts are valid after a tick
 pub waited_counted : (xs : List Held) → IsTrue (list_all is_counted xs) → IsTrue (list_all is_counted (waited xs))
 waited_counted [] all = refl
 waited_counted (h ∷ xs) all =

@@ -1,4 +1,4 @@
--- The mappings that are known: what `put` and `peek` of `lru` do, in the words of this crate.
+-- The mappings that are known: the effect of `put` and `peek` of `lru`, in terms of this crate's definitions.
 use Rattle.std.proofs.Common.{◌≡◌, ℕ, zero, suc, ◌<◌, ◌≤◌, ◌-◌, Bool, true, false, cond, not, List, [], ◌∷◌, filter, length, take, Option}
 use Rattle.std.proofs.Common.{Some, None, refl, sym, ap, subst, ◌∙◌, arith}
 use Rattle.std.specs.List.{IsDistinct, AllByRecursion}
@@ -59,7 +59,7 @@ module _ {K V : Type 0} (eq : K → K → Bool) (same : (x y : K) → eq x y ≡
         ≡ (k, v) ∷ others k c.entries = take_all c.cap ((k, v) ∷ others k c.entries) (rw (← p.1) (omega (arith, p.2))) in
         rw (whole, p.1, p.0) refl
 
-    -- what `put` leaves, as a filter and a cut
+    -- the entries after `put`, as a filter and a cut
     pub put_entries-learnt : put_entries eq c k v ≡ take c.cap ((k, v) ∷ filter (λ e. not (eq k e.0)) c.entries)
     put_entries-learnt = by_case (lookup_entry (eq k) c.entries) refl
 

@@ -1,4 +1,4 @@
--- Each part of an AARP packet stands where its projection finds it.
+-- The format of an AARP packet: each projection gives its part.
 use Rattle.std.proofs.Common.{ℕ, refl, arith}
 use Rattle.std.proofs.lemmas.List.{length-append}
 use Rattle.at_base.specs.declared.error.Field.TheVariants.{HardwareType, ProtocolType, Lengths}

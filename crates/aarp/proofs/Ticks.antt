@@ -1,4 +1,4 @@
--- What a tick makes of waiting datagrams, one datagram after another.
+-- The effect of a tick on waiting datagrams, one datagram after another.
 use Rattle.std.proofs.Common.{◌≡◌, ℕ, suc, ◌+◌, ◌<◌, ◌≤◌, Bool, true, false, not, cond, List, [], ◌∷◌, ◌++◌, length, map, filter, take}
 use Rattle.std.proofs.Common.{drop, get_or, slice_get, Some, None, refl, ap, ◌∙◌, arith, append_assoc, append-nil, length-append}
 use Rattle.std.proofs.Common.{length-drop, length-take}
@@ -18,7 +18,7 @@ same_self a = grind arith
 same_is : (a b : Addr) → same_address a b ≡ true → a ≡ b
 same_is a b h = grind arith
 
--- the addresses other than one
+-- the addresses that differ from one
 abbrev others : Addr → List Addr → List Addr
 others x xs = filter (λ b. not (same_address x b)) xs
 
@@ -31,7 +31,7 @@ others_same x b xs h = filter-append (λ c. not (same_address x c)) xs (b ∷ []
 apart : (x b y : Addr) → same_address b x ≡ false → same_address x y ≡ true → same_address b y ≡ false
 apart x b y h e = grind arith
 
--- another address is among these exactly where it is among the others
+-- another address is in the list exactly if it is in the list without x
 any_others : (x b : Addr) (xs : List Addr) → same_address b x ≡ false → list_any (same_address b) (others x xs)
     ≡ list_any (same_address b) xs
 any_others x b [] h = refl
@@ -59,7 +59,7 @@ noted_others x b xs = by_case (same_address b x) (list_any (same_address b) xs) 
     by_case false false e f = let a = any_others x b xs e
         ∙ f in rw (f, e, a) (ap (λ (l : List Addr). x ∷ l) (others_more x b xs (not_other_way x b e)))
 
--- one more address, each once
+-- one more address is noted
 each_once_more : (xs : List Addr) (b : Addr) → each_once (xs ++ b ∷ []) ≡ noted b (each_once xs)
 each_once_more [] b = refl
 each_once_more (x ∷ xs) b = ap (λ (l : List Addr). x ∷ others x l) (each_once_more xs b) ∙ noted_others x b (each_once xs)
@@ -70,7 +70,7 @@ waited_more : (xs : List Held) (h : Held) → waited (xs ++ h ∷ []) ≡ waited
 waited_more xs h = ap (map asked_once_more) (filter-append is_asked_again xs (h ∷ []))
     ∙ map-append asked_once_more (filter is_asked_again xs) (filter is_asked_again (h ∷ []))
 
--- the addresses of those that pass a test
+-- the next addresses of the datagrams that pass a test
 abbrev nexts : (Held → Bool) → List Held → List Addr
 nexts p xs = map (λ h. h.next) (filter p xs)
 
@@ -95,7 +95,7 @@ length-waited (h ∷ xs) = elim (is_asked_again h) as (λ t. length (map asked_o
       | false ↦ (let l = length-waited xs in omega arith)
     ]
 
--- a queue of which the first i were asked for, and the next one, h
+-- a queue whose first i datagrams were handled by the tick, and the next one, h
 pub record Next (old : List Held) (i : ℕ) (h : Held) : Type 0 where
   pub items : drop 1 (drop i old ++ waited (take i old)) ++ waited (h ∷ []) ≡ drop (i + 1) old ++ waited (take (i + 1) old)
   pub ask : to_ask (take (i + 1) old) ≡ cond (is_asked_again h) (noted h.next (to_ask (take i old))) (to_ask (take i old))
@@ -127,14 +127,14 @@ next old i h lt first =
     turned true xs ys = refl
     turned false xs ys = refl
 
--- after the last one
+-- the queue after its last datagram was handled
 pub all_waited : (old : List Held) (i : ℕ) → i ≡ length old → (drop i old ++ waited (take i old) ≡ waited old) × (take i old ≡ old)
 all_waited old i h =
     let t : take i old ≡ old = take_all i old (omega arith) in
     let d : drop i old ≡ [] = drop_all i old (omega arith) in
     (rw (t, d) refl, t)
 
--- a queue of which not all were asked for has a next one
+-- a queue of which not all datagrams were handled has a next one
 pub has_next : (old : List Held) (i : ℕ) → i < length old → slice_get (drop i old ++ waited (take i old)) 0 ≡ None → ⊥
 has_next [] i lt none = absurd (omega arith)
 has_next (x ∷ old) i lt none = let n = rw (drop_more (x ∷ old) i x lt) at none in cc

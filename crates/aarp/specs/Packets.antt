@@ -1,4 +1,4 @@
--- AARP packets: who asks for, answers for or probes an address. (Inside AppleTalk, the chapter on AARP)
+-- AARP packets: requests, responses and probes. (Inside AppleTalk, the chapter on AARP)
 use Rattle.std.specs.Prelude.{ℕ, true, ◌==◌, List, [], ◌∷◌, slice_index, if◌then◌else◌}
 use Rattle.std.specs.Int.{byte_at}
 use Rattle.at_base.specs.declared.address.Addr.{Addr}
@@ -11,13 +11,13 @@ use Rattle.aarp.specs.declared.packet.Function.{Function}
 use Rattle.aarp.specs.declared.packet.Function.TheVariants.{Request, Response, Probe}
 use Rattle.aarp.specs.declared.packet.Packet.{Packet}
 
--- a packet, with the first bytes of its two protocol addresses, which are written as 0 and ignored
+-- a packet, with the first bytes of its two protocol addresses, which are written as 0 and ignored when read
 pub record Whole : Type 0 where
   pub packet : Packet
   pub source_first : ℕ
   pub target_first : ℕ
 
--- a packet, with these first bytes of its protocol addresses
+-- a packet with these first bytes of its protocol addresses
 abbrev pub whole : Packet → ℕ → ℕ → Whole
 whole p source_first target_first = record { packet = p; source_first = source_first; target_first = target_first }
 
@@ -31,8 +31,8 @@ function_number Probe = 3
 abbrev pub function_of : ℕ → Function
 function_of n = if n == 1 then Request else if n == 2 then Response else Probe
 
--- 28 bytes there; hardware type 1, protocol type 809B, lengths 6 and 4, the function; then hardware and protocol
--- address of the source and of the target
+-- the format of a packet: 28 bytes at least; hardware type 1, protocol type 809B, lengths 6 and 4, the function; then
+-- the hardware and protocol addresses of source and target
 unfoldable pub packet : Grammar Error true Whole
 packet =
     room 28 (
@@ -58,15 +58,15 @@ packet =
       target_first = target_first;
     }))))))))))))
 
--- the packet as it is written
+-- the packet as it is written, with 0 as the first byte of each protocol address
 abbrev pub written : Packet → Whole
 written p = whole p 0 0
 
--- the bytes before the source, one by one
+-- the bytes of a packet before the source, one by one
 abbrev pub head_bytes : Function → List ℕ
 head_bytes f = 0 ∷ 1 ∷ 0x80 ∷ 0x9B ∷ 6 ∷ 4 ∷ 0 ∷ function_number f ∷ []
 
--- the bytes of a station, one by one
+-- the bytes of a source or target, one by one: hardware address, 0, address
 abbrev pub station_bytes : Hw → Addr → List ℕ
 station_bytes hw a =
     slice_index hw.0 0 ∷ slice_index hw.0 1 ∷ slice_index hw.0 2 ∷ slice_index hw.0 3 ∷ slice_index hw.0 4 ∷ slice_index hw.0 5

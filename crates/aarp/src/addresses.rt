@@ -7,10 +7,10 @@ ghost use Rattle.at_base.specs.Address.{same_address};
 use at_base::Addr;
 use std::marker::Model;
 
-/// The most addresses of a list.
+/// The most addresses in a list.
 const MAX_ADDRESSES: usize = 16;
 
-/// At most 16 addresses, without memory of their own.
+/// A list of at most 16 addresses, kept inline.
 #[derive(Debug, Drop)]
 pub struct Addresses {
     items: [Addr; MAX_ADDRESSES],
@@ -29,7 +29,7 @@ impl Model for Addresses {
 }
 
 impl Addresses {
-    /// No address.
+    /// An empty list.
     pub fn new() -> Addresses
         ensures { result ≡ [] }
     {
@@ -62,14 +62,14 @@ impl Addresses {
         &self.items[..self.len]
     }
 
-    /// Whether the address is one of these.
+    /// Whether the address is in the list.
     pub fn contains(&self, addr: Addr) -> bool
         ensures { result ≡ list_any (same_address addr) self.now }
     {
         self.as_slice().iter().any(|item| addr == *item)
     }
 
-    /// Adds an address. That there is room for it is the caller's condition.
+    /// Appends an address. The caller ensures that the list has fewer than 16.
     pub fn push(&mut self, addr: Addr)
         requires { length self.old < 16 }
         ensures { self.new ≡ self.old ++ addr ∷ [] }

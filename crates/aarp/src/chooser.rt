@@ -1,4 +1,4 @@
-//! The choice of an address.
+//! The choice of a port's address.
 
 ghost use Rattle.std.specs.Prelude.{◌≡◌, IsTrue, IfOk, IfSome, IsOkUnless};
 ghost use Rattle.std.specs.List.{list_all};
@@ -10,16 +10,16 @@ use at_base::{Addr, Error, Hw, Range};
 use std::alloc::Global;
 use std::marker::Model;
 
-/// The probes that a station sends for an address before it is its own.
+/// The number of probes that a station sends for an address before it uses it.
 const MAX_PROBES: u8 = 10;
 
-/// The last node of a network that a station may have.
+/// The greatest node number that a station may have.
 const LAST_NODE: u8 = 253;
 
-/// The hardware address of nobody, where a packet goes to all.
+/// The target hardware address in a probe: zeros.
 const NOBODY: Hw = Hw([0; 6]);
 
-/// The choice of a port's address, by probes.
+/// The choice of a port's address, by sending probes.
 ///
 /// Inside AppleTalk, the chapter on AARP; the order of the addresses is this project's own.
 #[derive(Debug, Drop)]
@@ -27,7 +27,7 @@ pub struct Chooser {
     range: Range,
     hw: Hw,
     tentative: Addr,
-    // the addresses to try after the first one, and how many of them were tried
+    // The addresses to try after the first one, and the number of them that were tried.
     tries: Vec<Addr>,
     tried: usize,
     probes: u8,
@@ -56,15 +56,15 @@ impl Model for Chooser {
         × (c.probes ≤ 10) };
 }
 
-/// Whether a station on a cable of this range may have each of the addresses: a network of the
-/// range, and a node from 1 to 253. Allocates nothing.
+/// Whether a station on a cable of this range may have each of the addresses: its network is in the
+/// range, and its node is 1 to 253. Allocates nothing.
 pub fn are_on(range: Range, addrs: &[Addr]) -> bool
     ensures { result ≡ list_all (is_on range) addrs.now }
 {
     addrs.iter().all(|addr| range.holds(addr.net) && 1 <= addr.node && addr.node <= LAST_NODE)
 }
 
-/// The address after another, in a range.
+/// The address to try after this one, in the range.
 fn upwards(range: Range, addr: Addr) -> Addr
     ensures next { result ≡ spec.upwards range addr }
     ensures inside { IsTrue (is_on range addr) → IsTrue (is_on range result) }
@@ -83,7 +83,7 @@ fn upwards(range: Range, addr: Addr) -> Addr
     Addr { net, node: 1 }
 }
 
-/// Whether the sender of the packet has the address, or another station probes for it.
+/// Whether the packet shows that another station has the address or is probing for it.
 fn is_conflict(tentative: Addr, hw: Hw, packet: &Packet) -> bool
     ensures { result ≡ spec.is_conflict tentative hw packet.now }
 {
@@ -94,7 +94,8 @@ fn is_conflict(tentative: Addr, hw: Hw, packet: &Packet) -> bool
     }
 }
 
-/// Whether the packet wants an answer of who has its target address.
+/// Whether a packet of this function asks for a response from the station that has its target
+/// address.
 fn wants(function: Function) -> bool
     ensures { result ≡ spec.wants function }
 {
@@ -105,9 +106,9 @@ fn wants(function: Function) -> bool
 }
 
 impl Chooser {
-    /// A choice that begins with the first of these addresses, or with node 1 of the range's start
-    /// where there is none. That a station of the range may have each of them is the caller's
-    /// condition, which `are_on` tests. Error: `Memory`.
+    /// A choice that begins with the first of these addresses, or, if there is none, with node 1 of
+    /// the range's start. The caller ensures that a station of the range may have each of them
+    /// (`are_on`). Error: `Memory`.
     pub fn new(alloc: Global, range: Range, tries: &[Addr], hw: Hw) -> Result<Chooser, Error>
         requires tries { IsTrue (list_all (is_on range) tries.now) }
         ensures ok { IfOk result (λ c. c ≡ begun range tries.now hw) }
@@ -134,9 +135,9 @@ impl Chooser {
         })
     }
 
-    /// A choice that is made: the port has this address, as after eleven ticks in which nobody
-    /// objected to it. That a station of the range may have it is the caller's condition, which
-    /// `are_on` tests. Allocates nothing.
+    /// A choice that is settled: the port has this address, as if eleven ticks had passed without a
+    /// conflict. The caller ensures that a station of the range may have it (`are_on`). Allocates
+    /// nothing.
     pub fn decided(alloc: Global, range: Range, addr: Addr, hw: Hw) -> Chooser
         requires { IsTrue (is_on range addr) }
         ensures { result ≡ spec.decided range addr hw }
@@ -166,7 +167,7 @@ impl Chooser {
         self.hw
     }
 
-    /// The same choice again. Error: `Memory`.
+    /// A copy of the choice. Error: `Memory`.
     pub fn copy(&self) -> Result<Chooser, Error>
         ensures ok { IfOk result (λ c. c ≡ self.now) }
         ensures refused { IsOkUnless result Error.Memory }
@@ -196,8 +197,8 @@ impl Chooser {
         }
     }
 
-    /// A tick passes: a probe to send to all, in ten ticks; in the eleventh the port is settled.
-    /// Allocates nothing.
+    /// Advances the choice by one tick: returns a probe to broadcast in each of ten ticks; in the
+    /// eleventh the port is settled. Allocates nothing.
     pub fn tick(&mut self) -> Option<Packet>
         ensures { (self.new, result) ≡ ticked self.old }
     {
@@ -212,7 +213,7 @@ impl Chooser {
         Some(self.probe())
     }
 
-    /// A packet was heard on the port: where another station has the tentative address or probes
+    /// Handles a packet heard on the port: if another station has the tentative address or probes
     /// for it too, the next address is tried. A settled port keeps its address. Allocates nothing.
     pub fn heard(&mut self, packet: &Packet)
         ensures { self.new ≡ spec.heard packet.now self.old }
@@ -230,7 +231,7 @@ impl Chooser {
         self.probes = 0;
     }
 
-    /// The port's address, once it is settled. Allocates nothing.
+    /// The port's address, if it is settled. Allocates nothing.
     pub fn settled(&self) -> Option<Addr>
         ensures value { result ≡ spec.settled self.now }
         ensures valid { IfSome result (λ a. IsTrue (is_on self.now.range a)) }
@@ -242,7 +243,8 @@ impl Chooser {
         }
     }
 
-    /// The answer of a settled port to a request or a probe for its address. Allocates nothing.
+    /// The response of a settled port to a request or a probe for its address; `None` for any other
+    /// packet. Allocates nothing.
     pub fn answer(&self, packet: &Packet) -> Option<Packet>
         ensures { result ≡ spec.answer self.now packet.now }
     {

@@ -1,16 +1,16 @@
-//! Datagrams that wait for a mapping.
+//! Datagrams that wait for a hardware address.
 
 use at_base::{Addr, Bytes};
 
-/// The most datagrams that a port holds.
+/// The greatest number of datagrams that a port holds.
 pub const MAX_HELD: usize = 16;
 
 /// A datagram that waits until the hardware address of its next station is known.
 #[derive(Debug, Drop)]
 pub struct Held {
-    /// The station that it goes to next, on the port's cable.
+    /// The station that the datagram goes to next, on the port's cable.
     pub next: Addr,
-    /// How often that address has been asked for, 1 to 10. `Mapper::hold` sets it.
+    /// The number of requests for that address, 1 to 10. `Mapper::hold` sets it.
     pub asked: u8,
     /// The datagram.
     pub bytes: Bytes,

@@ -1,4 +1,4 @@
-//! AARP: the choice of a station's address, and the mapping of addresses to hardware addresses.
+//! AARP: the choice of a port's address, and the mapping of addresses to hardware addresses.
 #![tactic(auto)]
 
 mod addresses;

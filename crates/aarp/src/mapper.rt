@@ -1,4 +1,4 @@
-//! The mappings of addresses that a port knows, and the datagrams that it holds.
+//! The address mappings that a port knows, and the datagrams that it holds.
 
 ghost use Rattle.std.specs.Prelude.{◌≡◌, [], IfOk, OnOk, OnErr, IsOk, IsSome, IsOkUnless};
 ghost use Rattle.std.specs.List.{list_any};
@@ -14,10 +14,11 @@ use std::alloc::Global;
 use std::marker::Model;
 use std::num::NonZeroUsize;
 
-/// The most mappings that a port knows.
+/// The greatest number of mappings that a port knows.
 pub const MAX_MAPPINGS: usize = 256;
 
-/// The hardware addresses that a port knows, and the datagrams that wait for one.
+/// The mappings of addresses to hardware addresses that a port knows, and the datagrams that wait
+/// for one.
 ///
 /// Inside AppleTalk, the chapter on AARP; the counts and limits are this project's own.
 #[derive(Drop)]
@@ -41,7 +42,7 @@ impl Model for Mapper {
 }
 
 impl Mapper {
-    /// Knows and holds nothing. Error: `Memory`.
+    /// A mapper without mappings and datagrams. Error: `Memory`.
     pub fn new(alloc: Global) -> Result<Mapper, Error>
         ensures ok { IfOk result (λ m. m ≡ record { known = []; held = [] }) }
         ensures refused { IsOkUnless result Error.Memory }
@@ -52,21 +53,22 @@ impl Mapper {
         Ok(Mapper { known, held })
     }
 
-    /// The hardware address that was last learnt for the address. A look leaves the order in which
-    /// mappings are forgotten. Allocates nothing.
+    /// The hardware address that was last learnt for the address, if any. A lookup doesn't change
+    /// the order in which mappings are discarded. Allocates nothing.
     pub fn look(&self, addr: Addr) -> Option<Hw>
         ensures value { result ≡ mapping_of addr self.now.known }
         ensures valid { IsMappings self.now }
     {
-        // the lengths tell the prover what always holds
+        // The lengths give the prover the invariants.
         let _known = self.known.len();
         let _held = self.held.len();
         self.known.peek(&addr).copied()
     }
 
-    /// Learns a mapping, and forgets the one learnt longest ago where 256 others are known.
+    /// Learns a mapping; if 256 other addresses are known, the mapping learnt longest ago is
+    /// discarded.
     ///
-    /// Error: `Memory`, only for an address that isn't known yet; nothing changes.
+    /// Error: `Memory`, only for an address that isn't known yet; nothing changes then.
     pub fn learn(&mut self, addr: Addr, hw: Hw) -> Result<(), Error>
         ensures ok { OnOk result
             (self.new ≡ record self.old { known = learnt addr hw self.old.known }) }
@@ -86,8 +88,8 @@ impl Mapper {
         waiting::holds(&self.held, addr)
     }
 
-    /// Holds a datagram, and gives the oldest one back where 16 are held. Its count is that of its
-    /// address, 1 where nothing was held for it. Allocates nothing.
+    /// Holds a datagram. If 16 are held already, returns the oldest of them. The datagram's request
+    /// count is that of its address, or 1 if nothing was held for it. Allocates nothing.
     pub fn hold(&mut self, held: Held) -> Option<Held>
         ensures held { self.new ≡ record self.old { held = holding held self.old.held } }
         ensures oldest { result ≡ pushed_out held self.old.held }
@@ -98,7 +100,8 @@ impl Mapper {
         self.held.push_back(held)
     }
 
-    /// The oldest datagram held for the address. The others keep their order. Allocates nothing.
+    /// Takes out the oldest datagram held for the address, if any. The others keep their order.
+    /// Allocates nothing.
     pub fn release(&mut self, addr: Addr) -> Option<Held>
         ensures oldest { result ≡ released addr self.old.held }
         ensures left { self.new ≡ record self.old { held = without_oldest addr self.old.held } }
@@ -106,7 +109,8 @@ impl Mapper {
         waiting::release(&mut self.held, addr)
     }
 
-    /// A tick passes: which addresses to ask for, and which are given up. Allocates nothing.
+    /// Advances by one tick: returns the addresses to request, and those that are given up.
+    /// Allocates nothing.
     pub fn tick(&mut self) -> Asks
         ensures ask { result.ask ≡ to_ask self.old.held }
         ensures given_up { result.given_up ≡ given_up self.old.held }

@@ -14,16 +14,16 @@ use at_base::{Addr, Error, Field, Hw};
 /// The length of an AARP packet, in bytes.
 pub const PACKET_LEN: usize = 28;
 
-/// What an AARP packet is for.
+/// The function of an AARP packet.
 ///
 /// Inside AppleTalk, the chapter on AARP.
 #[derive(Clone, Copy, Debug, PartialEq, Eq)]
 pub enum Function {
-    /// Its sender wants to know who has the target address.
+    /// The sender asks which station has the target address.
     Request,
-    /// Its sender has the source address.
+    /// The sender has the source address.
     Response,
-    /// Its sender would like to have the target address.
+    /// The sender wants to use the target address.
     Probe,
 }
 
@@ -33,17 +33,19 @@ pub enum Function {
 #[derive(Clone, Copy, Debug, PartialEq, Eq)]
 pub struct Packet {
     pub function: Function,
-    /// The hardware address of the sender.
+    /// The sender's hardware address.
     pub source_hw: Hw,
-    /// The sender's address; in a probe, the one that it would like to have.
+    /// The sender's address; in a probe, the one that it wants to use.
     pub source: Addr,
-    /// The hardware address of the station that it is for; zeros in a request and a probe.
+    /// The receiver's hardware address; zeros in a request and a probe.
     pub target_hw: Hw,
-    /// The address that is asked or probed for, or to which the response goes.
+    /// The address that a request or probe is about; in a response, the address that the response
+    /// goes to.
     pub target: Addr,
 }
 
-/// The bytes before the source: the types, the lengths of the two kinds of addresses, the function.
+/// The bytes before the source: hardware and protocol type, the lengths of both kinds of addresses,
+/// and the function.
 fn head(function: Function) -> [u8; 8]
     ensures { result ≡ head_bytes function }
 {
@@ -76,7 +78,7 @@ fn named(number: u16) -> Function
     }
 }
 
-/// A packet, the first bytes of its two protocol addresses, and what follows it.
+/// A packet, the first bytes of its two protocol addresses, and the bytes after the packet.
 #[tactic(auto, unfolding(crate::specs::Packets::packet))]
 fn whole_at(bytes: &[u8]) -> Result<(Packet, u8, u8, &[u8]), Error>
     ensures { Gives (λ x. (whole x.0 x.1 x.2, x.3.now)) result

@@ -1,5 +1,5 @@
-//! Datagrams that wait for a mapping, oldest first: a ring that is turned where one is taken out of
-//! its middle.
+//! The queue of datagrams that wait for a hardware address, oldest first. The queue is rotated to
+//! take one out of its middle.
 
 ghost use Rattle.std.specs.Prelude.{◌≡◌, ◌<◌, ◌≤◌, ◌+◌, ◌++◌, ◌∷◌, [], length, take, drop};
 ghost use Rattle.std.specs.Prelude.{find, position, remove, slice_get, if◌then◌else◌};
@@ -14,15 +14,17 @@ use crate::held::Held;
 use at_base::Addr;
 use circular_buffer::HeapCircularBuffer;
 
-/// How often an address is asked for.
+/// The number of requests for an address before it is given up.
 const MAX_ASKED: u8 = 10;
 
-/// What a tick asks for: lists of at most 16 addresses, each once, the oldest held first.
+/// The addresses of a tick: two lists of at most 16 addresses, each address once, in the order of
+/// the oldest datagram held for it.
 #[derive(Debug, Drop)]
 pub struct Asks {
-    /// To ask for now.
+    /// The addresses to request now.
     pub ask: Addresses,
-    /// Asked for ten times without an answer; what was held for them is gone.
+    /// The addresses that were requested ten times without a response. The datagrams held for them
+    /// are gone.
     pub given_up: Addresses,
 }
 
@@ -33,14 +35,14 @@ pub(crate) fn holds(queue: &HeapCircularBuffer<Held>, addr: Addr) -> bool
     queue.iter().any(|held| held.next == addr)
 }
 
-/// The oldest datagram for the address.
+/// The oldest datagram for the address, if any.
 fn oldest_for(queue: &HeapCircularBuffer<Held>, addr: Addr) -> Option<&Held>
     ensures { option_copied result ≡ find (is_for addr) queue.now.items }
 {
     queue.iter().find(|held| held.next == addr)
 }
 
-/// How often the address was asked for, and 1 where nothing waits for it.
+/// The number of requests for the address, or 1 if nothing waits for it.
 pub(crate) fn asked_for(queue: &HeapCircularBuffer<Held>, addr: Addr) -> u8
     ensures { result ≡ spec.asked_for addr queue.now.items }
 {
@@ -50,14 +52,14 @@ pub(crate) fn asked_for(queue: &HeapCircularBuffer<Held>, addr: Addr) -> u8
     }
 }
 
-/// The place of the oldest datagram for the address.
+/// The index of the oldest datagram for the address, if any.
 fn place_of(queue: &HeapCircularBuffer<Held>, addr: Addr) -> Option<usize>
     ensures { result ≡ position (is_for addr) queue.now.items }
 {
     queue.iter().position(|held| held.next == addr)
 }
 
-/// Puts the oldest datagram after the others.
+/// Moves the oldest datagram to the end of the queue.
 fn turn_once(queue: &mut HeapCircularBuffer<Held>)
     ensures turned { queue.new.items ≡ drop 1 queue.old.items ++ take 1 queue.old.items }
     ensures capacity { queue.new.capacity ≡ queue.old.capacity }
@@ -68,7 +70,7 @@ fn turn_once(queue: &mut HeapCircularBuffer<Held>)
     }
 }
 
-/// Puts the first `count` datagrams after the others.
+/// Moves the first `count` datagrams to the end of the queue.
 fn turn(queue: &mut HeapCircularBuffer<Held>, count: usize)
     requires { count ≤ length queue.old.items }
     ensures turned { queue.new.items ≡ drop count queue.old.items ++ take count queue.old.items }
@@ -80,7 +82,7 @@ fn turn(queue: &mut HeapCircularBuffer<Held>, count: usize)
     }
 }
 
-/// Takes out the datagram at a place, and keeps the order of the others.
+/// Takes out the datagram at an index, and keeps the order of the others.
 fn remove_at(queue: &mut HeapCircularBuffer<Held>, place: usize) -> Option<Held>
     requires { place < length queue.old.items }
     ensures taken { result ≡ slice_get queue.old.items place }
@@ -94,7 +96,7 @@ fn remove_at(queue: &mut HeapCircularBuffer<Held>, place: usize) -> Option<Held>
     taken
 }
 
-/// Takes out the oldest datagram for the address, and keeps the order of the others.
+/// Takes out the oldest datagram for the address, if any, and keeps the order of the others.
 pub(crate) fn release(queue: &mut HeapCircularBuffer<Held>, addr: Addr) -> Option<Held>
     ensures oldest { result ≡ released addr queue.old.items }
     ensures left { queue.new.items ≡ without_oldest addr queue.old.items }
@@ -106,7 +108,7 @@ pub(crate) fn release(queue: &mut HeapCircularBuffer<Held>, addr: Addr) -> Optio
     }
 }
 
-/// Adds the address where it isn't one of these.
+/// Adds the address if it isn't in the list.
 fn note(addresses: &mut Addresses, addr: Addr)
     requires { length addresses.old < 16 }
     ensures noted { addresses.new ≡ noted addr addresses.old }
@@ -117,7 +119,8 @@ fn note(addresses: &mut Addresses, addr: Addr)
     }
 }
 
-/// A datagram that was taken out waits on after the others, or is given up.
+/// Puts a datagram back at the end of the queue, with one more request for its address; after ten
+/// requests it is given up instead.
 fn wait_on(queue: &mut HeapCircularBuffer<Held>, asks: &mut Asks, held: Held)
     requires room { length queue.old.items < queue.old.capacity }
     requires ask_room { length asks.old.ask < 16 }
@@ -141,7 +144,7 @@ fn wait_on(queue: &mut HeapCircularBuffer<Held>, asks: &mut Asks, held: Held)
     }
 }
 
-/// A tick passes: which addresses to ask for, and which are given up.
+/// Advances by one tick: returns the addresses to request, and those that are given up.
 pub(crate) fn wait(queue: &mut HeapCircularBuffer<Held>) -> Asks
     requires { queue.old.capacity ≡ 16 }
     ensures ask { result.ask ≡ to_ask queue.old.items }

@@ -14,14 +14,15 @@ abbrev pub width : Size → Width
 width one = w8
 width two = w16
 
--- A field: a big-endian number, or a run of a given number of bytes. The test of each gives what is wrong with its
--- value, if anything is.
+-- a field, which is a big-endian number or a run of a given number of bytes, with a test that gives what is wrong with
+-- its value, if anything is
 pub data Field (W : Type 0) : Type 0 → Type 1 where
   number : Size → (ℕ → Option W) → Field W ℕ
   run : ℕ → (List ℕ → Option W) → Field W (List ℕ)
 
--- A format of the values of A. Its Bool is true if the format knows its own end, false if it may go on to the end of
--- the input. W describes what is wrong with a field. Each part comes with the projection that gets it from the value.
+-- A format of the values of A, where each part comes with the projection that gets it from the value; its Bool is true
+-- if the format knows its own end, and false if it may go on to the end of the input; W describes what is wrong with a
+-- field.
 pub data Grammar (W : Type 0) : Bool → Type 0 → Type 1 where
   -- the end of the format, with its value
   done : {s : Bool} {A : Type 0} → A → Grammar W s A

@@ -1,5 +1,5 @@
--- The hardware addresses that more than one station of a cable hears, and the group of a zone. (Inside AppleTalk, the chapters
--- on AARP and ZIP; that a group is this sum is this project's own)
+-- The hardware addresses that more than one station of a cable receives, and the group of a zone. (Inside AppleTalk,
+-- the chapters on AARP and ZIP; that a group is this sum is this project's own)
 use Rattle.std.specs.Prelude.{ℕ, Bool, ◌&&◌, ◌%◌, if◌then◌else◌, List, [], ◌∷◌, Option, Some, None, map, nat_lt, take, slice_index}
 use Rattle.std.specs.Char.{to_ascii_uppercase}
 use Rattle.at_base.specs.Checksum.{sum_of}

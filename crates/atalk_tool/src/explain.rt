@@ -1,5 +1,5 @@
-//! What an answer means, for a person at a terminal. All of this runs after the answer was given,
-//! and writes to standard error alone; where it fails, it says nothing.
+//! Explains a result to a person at a terminal. All of this runs after the result was printed, and
+//! writes only to standard error; if a write fails, nothing more is printed.
 
 use image_advice::{explain_bytes, explain_kind, explain_no};
 use at_base::{Error, Part};
@@ -8,27 +8,27 @@ use file_advice::explain_entry;
 use std::io;
 use std::io::ErrorKind;
 
-/// What is known of a run besides its outcome.
+/// Facts about a run of the program besides its outcome.
 #[derive(Drop)]
 pub struct Evidence<'a> {
     /// The input, or the file for the image, that the outcome is about.
     pub source: Option<Source<'a>>,
     /// Why a read failed.
     pub fault: Option<ErrorKind>,
-    /// The bytes of the image, or the text of an internet file that is refused.
+    /// The bytes of the image, or the text of an invalid internet file.
     pub bytes: Option<Vec<u8>>,
     /// The file for the image, if it couldn't be written.
     pub unwritten: Option<&'a str>,
 }
 
-/// Says that the input is read from the terminal.
+/// Prints that the input is read from the terminal.
 pub fn prompt(rt: &impl Eprint, what: &str) {
     let _ = eprintln!(rt;
         "atalk: reading {what} from standard input; Ctrl-C ends it, and atalk --help has help"
     );
 }
 
-/// Explains a no or a refusal on standard error.
+/// Explains a failed audit or an error on standard error.
 pub fn explain(rt: &(impl Eprint + AllocGlobal), outcome: &Outcome, evidence: &Evidence<'_>) {
     let _ = explain_outcome(rt, outcome, evidence);
 }
@@ -54,12 +54,12 @@ fn explain_outcome(
             eprintln!(rt; "cannot be created: {}", explain_kind(*kind))
         }
         Outcome::NoArguments(ErrorKind::OutOfMemory) => eprintln!(rt; "atalk: out of memory"),
-        // Clap's text was printed, or that an argument is no text.
+        // Clap's text was already printed, or that an argument isn't text.
         Outcome::NoArguments(_) | Outcome::NoJob(_, _) => Ok(()),
     }
 }
 
-/// The program's name and that of the input.
+/// Prints the program's name and that of the input.
 fn explain_source(rt: &impl Eprint, evidence: &Evidence<'_>) -> io::Result<()> {
     match evidence.source {
         Some(Source::File(path)) => eprint!(rt; "atalk: {path:?} "),
@@ -67,7 +67,7 @@ fn explain_source(rt: &impl Eprint, evidence: &Evidence<'_>) -> io::Result<()> {
     }
 }
 
-/// Where the fault of an internet file is, and what it is, if the text of the file was kept.
+/// Explains the fault of an internet file and its place, if the text of the file was kept.
 fn explain_file(
     rt: &(impl Eprint + AllocGlobal),
     part: Part,

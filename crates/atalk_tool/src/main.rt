@@ -1,5 +1,5 @@
 //! The program `atalk`: audits an image of an internet's tables, runs scripts over it, and plays
-//! internet files, whose last tables it writes as an image.
+//! internet files, whose final tables it writes as an image.
 #![tactic(auto)]
 
 mod explain;
@@ -12,7 +12,7 @@ use run::{Terminals, run};
 use std::io::IsTerminal;
 use std::process::ExitCode;
 
-// No `Result` here: an `Err` of `main` would end with 1, which says `no`.
+// No `Result` here: an `Err` of `main` would end with status 1, which means that the audit failed.
 fn main(rt: HostRuntime) -> ExitCode {
     let terminals = Terminals {
         input: rt.stdin().is_terminal(),

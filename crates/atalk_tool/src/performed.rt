@@ -1,4 +1,4 @@
-//! What came of a run.
+//! The outcome of a run of the program.
 
 ghost use Rattle.std.specs.Prelude.{◌≡◌};
 
@@ -6,7 +6,7 @@ use crate::explain::Evidence;
 use command_line::{Outcome, Source};
 use std::io;
 
-/// What came of a run, and what explains it.
+/// The outcome of a run of the program, and what explains it.
 #[derive(Drop)]
 pub struct Performed<'a> {
     pub outcome: Outcome,
@@ -14,7 +14,7 @@ pub struct Performed<'a> {
 }
 
 impl<'a> Performed<'a> {
-    /// A run that got to no source of an image.
+    /// A run that ended before it had a source.
     pub fn without_source(outcome: Outcome) -> Performed<'a>
         ensures { result.outcome ≡ outcome }
     {

@@ -26,7 +26,7 @@ pub struct Terminals {
     pub errors: bool,
 }
 
-/// Where the image and the script of a trace are read from.
+/// The sources of the image and the script of a trace.
 #[derive(Clone, Copy)]
 struct Sources<'a> {
     image: Source<'a>,
@@ -38,7 +38,7 @@ fn given_arguments<R: Env + AllocGlobal>(rt: &R) -> io::Result<Vec<String>> {
     Ok(std::env::args(rt)?.collect(rt.alloc())?)
 }
 
-/// Audits what the reader has, and prints the line on standard output.
+/// Audits the image that the reader has, and prints the line on standard output.
 fn audit_reader<'a, R: Print + AllocGlobal, S: Read + Drop>(
     rt: &R,
     source: Source<'a>,
@@ -59,7 +59,7 @@ fn audit_reader<'a, R: Print + AllocGlobal, S: Read + Drop>(
     }
 }
 
-/// Audits the image of the source. That it is read from a terminal is said there.
+/// Audits the image of the source. If it is read from a terminal, a prompt is printed there.
 fn audit_source<'a, R: Files + Input + Print + Eprint + AllocGlobal>(
     rt: &R,
     source: Source<'a>,
@@ -79,7 +79,7 @@ fn audit_source<'a, R: Files + Input + Print + Eprint + AllocGlobal>(
     }
 }
 
-/// Plays the script that one reader has over the image that the other has, and prints the trace on
+/// Runs the script that one reader has over the image that the other has, and prints the trace on
 /// standard output.
 fn trace_readers<'a, R: Print + AllocGlobal, I: Read + Drop, S: Read + Drop>(
     rt: &R,
@@ -94,7 +94,7 @@ fn trace_readers<'a, R: Print + AllocGlobal, I: Read + Drop, S: Read + Drop>(
     let commands::Input { fault, kept, .. } = image;
     let by_script = match answer {
         Err(Error::BadScript(_)) => true,
-        // An image that was read to its end is kept.
+        // An image that was read to its end is kept, so the failed read was that of the script.
         Err(Error::ReadFault) => kept.is_some(),
         _ => false,
     };
@@ -119,7 +119,7 @@ fn trace_readers<'a, R: Print + AllocGlobal, I: Read + Drop, S: Read + Drop>(
     }
 }
 
-/// Plays the script of the source over the image that the reader has.
+/// Runs the script of the source over the image that the reader has.
 fn trace_image<'a, R: Files + Input + Print + AllocGlobal, I: Read + Drop>(
     rt: &R,
     sources: Sources<'a>,
@@ -134,7 +134,7 @@ fn trace_image<'a, R: Files + Input + Print + AllocGlobal, I: Read + Drop>(
     }
 }
 
-/// Plays a script over an image. Both files are opened before one is read.
+/// Runs a script over an image. Both files are opened before either is read.
 fn trace_sources<'a, R: Files + Input + Print + AllocGlobal>(
     rt: &R,
     sources: Sources<'a>,
@@ -148,30 +148,30 @@ fn trace_sources<'a, R: Files + Input + Print + AllocGlobal>(
     }
 }
 
-/// Prints what the arguments got in place of a job: help, the version, or a usage error.
+/// Prints help, the version, or a usage error.
 fn print_answer<'a>(rt: &(impl Print + Eprint), error: &clap::Error) -> Performed<'a>
     ensures { (printed : Bool)
         × (result.outcome ≡ Outcome.NoJob (kind_of error.now) printed) }
 {
     let kind = error.kind();
-    // Where memory ran out, the refusal alone is printed.
+    // If memory ran out, only the number of the error is printed.
     let printed = kind != ParseError::OutOfMemory && error.print(rt).is_ok();
     Performed::without_source(Outcome::NoJob(kind, printed))
 }
 
-/// Prints a refusal's number on standard error, and returns the exit status.
+/// Prints the number of an error on standard error, and returns the exit status.
 fn finish(rt: &impl Eprint, outcome: &Outcome) -> u8
     ensures { result ≡ (exit_at outcome.now).status }
 {
     let exit = exit_of(outcome);
     if let Some(number) = exit.refusal {
-        // Where standard error is closed too, the status alone is left.
+        // If standard error is closed too, there is only the status.
         let _ = eprintln!(rt; "refused: {number}");
     }
     exit.status
 }
 
-/// Gives the answer: the refusal's number, its explanation for a person, and the exit status.
+/// Prints the number of an error and its explanation for a person, and returns the exit status.
 fn answer(rt: &(impl Eprint + AllocGlobal), performed: &Performed<'_>, terminals: Terminals) -> u8
     ensures { result ≡ (exit_at performed.now.outcome).status }
 {
@@ -182,7 +182,7 @@ fn answer(rt: &(impl Eprint + AllocGlobal), performed: &Performed<'_>, terminals
     status
 }
 
-/// The arguments can't be taken: memory ran out, or one of them is no text.
+/// The arguments can't be read: memory ran out, or one of them isn't text.
 fn refuse_arguments<'a>(rt: &impl Eprint, kind: io::ErrorKind) -> Performed<'a>
     ensures { result.outcome ≡ Outcome.NoArguments kind }
 {
@@ -192,7 +192,7 @@ fn refuse_arguments<'a>(rt: &impl Eprint, kind: io::ErrorKind) -> Performed<'a>
     Performed::without_source(Outcome::NoArguments(kind))
 }
 
-/// Does what the arguments ask for, and returns the exit status.
+/// Performs the job that the arguments ask for, and returns the exit status.
 fn run_arguments<R: Files + Input + Print + Eprint + AllocGlobal>(
     rt: &R,
     arguments: &[String],
@@ -215,7 +215,7 @@ fn run_arguments<R: Files + Input + Print + Eprint + AllocGlobal>(
     }
 }
 
-/// Does what the program's arguments ask for, and returns the exit status.
+/// Performs the job that the program's arguments ask for, and returns the exit status.
 pub fn run<R: Env + Files + Input + Print + Eprint + AllocGlobal>(
     rt: &R,
     terminals: Terminals,

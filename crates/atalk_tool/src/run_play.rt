@@ -1,4 +1,4 @@
-//! Plays of internet files, from their sources to where their lines and images go.
+//! Plays internet files, from their sources to the outputs for their lines and images.
 
 use crate::explain::{Evidence, prompt};
 use crate::performed::Performed;
@@ -12,15 +12,15 @@ use std::io;
 use std::io::{Read, Write, writer};
 use std::rt::Files;
 
-/// What is played, and the file that the image goes to, if one is wanted.
+/// The source of a play, and the file for the image, if one is wanted.
 #[derive(Clone, Copy)]
 pub struct PlayJob<'a> {
     pub source: Source<'a>,
     pub image: Option<&'a str>,
 }
 
-/// Plays what the reader has, and prints its lines on standard output; the image goes to a writer.
-/// Where standard error is a terminal, it is said there how far a long play is.
+/// Plays the internet file that the reader has, and prints its lines on standard output; the image
+/// goes to a writer. If standard error is a terminal, the progress of a long play is printed there.
 fn play_reader<'a, R: Print + Eprint + AllocGlobal, S: Read + Drop, I: Write + Drop>(
     rt: &R,
     job: PlayJob<'a>,
@@ -52,7 +52,8 @@ fn play_reader<'a, R: Print + Eprint + AllocGlobal, S: Read + Drop, I: Write + D
     }
 }
 
-/// Plays what the reader has. The file for the image is created before anything is read.
+/// Plays the internet file that the reader has. The file for the image is created before anything
+/// is read.
 fn play_into<'a, R: Files + Print + Eprint + AllocGlobal, S: Read + Drop>(
     rt: &R,
     job: PlayJob<'a>,
@@ -68,7 +69,7 @@ fn play_into<'a, R: Files + Print + Eprint + AllocGlobal, S: Read + Drop>(
     }
 }
 
-/// Plays an internet file. That it is read from a terminal is said there.
+/// Plays an internet file. If it is read from a terminal, a prompt is printed there.
 pub fn play_source<'a, R: Files + Input + Print + Eprint + AllocGlobal>(
     rt: &R,
     job: PlayJob<'a>,

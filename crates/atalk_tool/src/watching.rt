@@ -1,29 +1,30 @@
-//! How far a long play is, for a person at a terminal.
+//! Shows the progress of a long play to a person at a terminal.
 
 use playing::Progress;
 use rtmp::PlainTable;
 use table_image::{Cable, Image, Router};
 use world::World;
 
-/// Plays of more ticks than this are long.
+/// Plays with more ticks than this are long.
 const LONG: u32 = 1_000;
 
-/// How many ticks pass from one line to the next.
+/// The number of ticks from one line to the next.
 const EVERY: u32 = 256;
 
-/// Says on standard error how far a play is, if it is long and someone is watching.
+/// Prints the progress of a play on standard error, if the play is long and standard error is a
+/// terminal.
 #[derive(Drop)]
 pub struct Watching<'a, R> {
     rt: &'a R,
     watched: bool,
-    // how many ticks have passed
+    // The number of ticks so far.
     passed: u32,
-    // whether there is a line to be cleared
+    // Whether a line has to be cleared.
     shown: bool,
 }
 
 impl<'a, R: Eprint> Watching<'a, R> {
-    /// A watch over a play, which has printed nothing.
+    /// An observer of a play, which has printed nothing.
     pub fn new(rt: &'a R, watched: bool) -> Watching<'a, R> {
         Watching {
             rt,
@@ -41,12 +42,12 @@ impl<'a, R: Eprint> Watching<'a, R> {
         }
     }
 
-    /// Says how far the play is.
+    /// Prints the progress of the play.
     fn show(&mut self, world: &World<PlainTable>) {
         let ticks = world.plan().ticks();
         let missing = match world.freeze() {
             Ok(image) => missing_in(&image),
-            // Out of memory: the play will say so.
+            // Out of memory: the play will report it.
             Err(_) => return,
         };
         let tick = self.passed;
@@ -75,7 +76,7 @@ fn has_row(router: &Router, cable: &Cable) -> bool {
     })
 }
 
-/// How many cables there are for which some router has no usable row.
+/// The number of cables for which some router has no usable row.
 fn missing_in(image: &Image) -> usize {
     let mut missing = 0usize;
     for cable in image.cables() {

@@ -1,4 +1,5 @@
--- What a transaction keeps is what came: which parts are missing, and the first copy of each of the others.
+-- The state of a transaction agrees with the packets that it accepted: which parts are missing, and the first copy of
+-- each of the others.
 use Rattle.std.proofs.Common.{◌≡◌, ℕ, zero, suc, ◌+◌, ◌<◌, ◌≤◌, ◌-◌, ◌/◌, ◌%◌, ◌*◌, ◌==◌, ◌&&◌, ◌↔◌}
 use Rattle.std.proofs.Common.{Bool, true, false, cond, not, eqb, ltb, min, List, [], ◌∷◌, ◌++◌, length, map}
 use Rattle.std.proofs.Common.{None, Option, Some, ap, arith, filter_map, get_or, inl, inr, is_some, refl, slice_get, subst, sym, ◌∙◌}
@@ -25,7 +26,7 @@ use Rattle.atp.proofs.Steps.{end_ask, heard_near, part_ask, taken, taken_ask, ti
 abbrev Slots : Type 0
 Slots = List (Option AnswerPart)
 
--- ---- The packets heard, and one more
+-- ---- the packets accepted, and one more
 
 count_more : (asked : ℕ) (heard : List AtpPacket) (p : AtpPacket)
     → part_count asked (heard ++ p ∷ []) ≡ cond (is_end p.control) (min (p.part + 1) (part_count asked heard)) (part_count asked heard)
@@ -57,7 +58,7 @@ copy_more : (i : ℕ) (heard : List AtpPacket) (p : AtpPacket)
     → first_copy i (heard ++ p ∷ []) ≡ option_or (first_copy i heard) (cond (eqb p.part i) (Some p) None)
 copy_more i heard p = find-append (λ (q : AtpPacket). q.part == i) heard (p ∷ [])
 
--- ---- Eight slots, one of which changes, and of which the first stay
+-- ---- eight slots, of which one changes or the first stay
 
 both : {X : Type 0} (b : Bool) (x : X) → x ≡ cond b x x
 both true x = refl
@@ -83,7 +84,7 @@ cut_length none (suc n) [] = refl
 cut_length none zero (x ∷ xs) = ap suc (cut_length none zero xs)
 cut_length none (suc n) (x ∷ xs) = ap suc (cut_length none n xs)
 
--- ---- A packet that is taken
+-- ---- a packet that is accepted
 
 part_missing : (p : AtpPacket) (t : Transaction) → p.part < length t.missing → (i : ℕ)
     → get_or (with_part p t).missing i false ≡ not (eqb p.part i) && get_or t.missing i false
@@ -153,20 +154,20 @@ end_lengths p t = (elim (is_end p.control)
       | false ↦ λ e. rw e (refl, refl)
     ]) refl
 
--- ---- What a transaction keeps
+-- ---- the state of a transaction
 
--- the first copy of a part, where it is one of the parts
+-- the first copy of part i, if i is one of the parts
 abbrev copy_of : ℕ → List AtpPacket → ℕ → Option AnswerPart
 copy_of asked heard i = cond (ltb i (part_count asked heard)) (option_map part_of (first_copy i heard)) None
 
--- the transaction keeps what these packets brought, and knows what is missing
+-- the state of the transaction agrees with the packets accepted
 pub record Keeps (t : Transaction) (heard : List AtpPacket) : Type 0 where
   pub missing : (i : ℕ) → get_or t.missing i false ≡ is_missing t.ask.parts heard i
   pub came : (i : ℕ) → get_or t.came i None ≡ copy_of t.ask.parts heard i
   pub eight_missing : length t.missing ≡ 8
   pub eight_came : length t.came ≡ 8
 
--- whether it does depends on nothing else
+-- the agreement doesn't depend on the other fields
 abbrev with_due : Transaction → Bool → ℕ → ℕ → Bool → Transaction
 with_due t due wait tries failed = record t { due = due; wait = wait; tries = tries; failed = failed }
 
@@ -201,12 +202,12 @@ keeps_status : (p : AtpPacket) (t : Transaction) (heard : List AtpPacket) → Ke
 keeps_status p t heard h = keeps_if (wants_status p.control && is_waiting t && ltb 0 t.tries) (record t { due = true }) t heard
     (keeps_on t heard true t.wait t.tries t.failed h) h
 
--- ---- One packet more
+-- ---- one more packet
 
 ltb_min : (i m n : ℕ) → ltb i (min m n) ≡ ltb i m && ltb i n
 ltb_min i m n = grind arith
 
--- the bound of the parts, by its tests
+-- an index is below the new number of parts, as tests
 bound : (e : Bool) (i k c : ℕ) → ltb i (cond e (min (k + 1) c) c) ≡ cond e (ltb i (k + 1) && ltb i c) (ltb i c)
 bound true i k c = ltb_min i (k + 1) c
 bound false i k c = refl
@@ -264,7 +265,7 @@ copied false k i c p heard e = rest (first_copy i heard)
     rest None = refl
     rest (Some q) = refl
 
--- a packet that is taken is one more that was heard
+-- a packet that is accepted keeps the agreement
 keeps_taken : (p : AtpPacket) (t : Transaction) (heard : List AtpPacket) → p.part < 8 → Keeps t heard
     → Keeps (with_end p (with_part p t)) (heard ++ p ∷ [])
 keeps_taken p t heard near h =
@@ -306,7 +307,7 @@ keeps_taken p t heard near h =
     asked : (with_end p (with_part p t)).ask.parts ≡ t.ask.parts
     asked = ap (λ (a : Ask). a.parts) (end_ask p (with_part p t) ∙ part_ask p t)
 
--- ---- Complete is whole
+-- ---- complete is whole
 
 whole_at : (n : ℕ) (test : ℕ → Bool) → all_below n test ≡ true → (i : ℕ) → i < n → test i ≡ true
 whole_at zero test h i lt = absurd (omega (arith, lt))
@@ -330,7 +331,7 @@ all_clear : (bits : List Bool) → ((i : ℕ) → get_or bits i false ≡ false)
 all_clear [] h = refl
 all_clear (b ∷ bits) h = rw (h 0, all_clear bits (λ i. h (suc i))) refl
 
--- of a whole response nothing is missing
+-- no part of a whole response is missing
 nothing_missing : (asked : ℕ) (heard : List AtpPacket) → is_whole asked heard ≡ true → (i : ℕ) → is_missing asked heard i ≡ false
 nothing_missing asked heard w i =
     (elim (ltb i (part_count asked heard)) as (λ b. ltb i (part_count asked heard) ≡ b → is_missing asked heard i ≡ false) [
@@ -361,7 +362,7 @@ complete_is t heard h = of_any (list_any (λ b. b) t.missing) refl (is_whole t.a
         let r : list_any (λ b. b) t.missing ≡ false = all_clear t.missing (λ i. h.missing i ∙ nothing_missing t.ask.parts heard f i) in
         absurd (let bad = sym e ∙ r in cc)
 
--- ---- Step by step
+-- ---- step by step
 
 keeps_step : (s : Step) (t : Transaction) (heard : List AtpPacket) → t.ask.parts ≤ 8 → Keeps t heard
     → Keeps (after s t) (heard_after s t heard)
@@ -401,7 +402,7 @@ keeps_run (s ∷ steps) t heard few h =
     let same : (after s t).ask.parts ≡ t.ask.parts = ap (λ (a : Ask). a.parts) (step_ask s t) in
     keeps_run steps (after s t) (heard_after s t heard) (omega (arith, same, few)) (keeps_step s t heard few h)
 
--- a transaction that begins
+-- a new transaction
 and_true : (b : Bool) → b ≡ b && true
 and_true true = refl
 and_true false = refl
@@ -429,9 +430,9 @@ keeps_begun id ask few = record {
     nothing : (i : ℕ) → get_or (begun id ask).came i None ≡ None
     nothing i = none_there {X = ℕ} None (0 ∷ 1 ∷ 2 ∷ 3 ∷ 4 ∷ 5 ∷ 6 ∷ 7 ∷ []) i
 
--- ---- The parts of a whole response
+-- ---- the parts of a whole response
 
--- of slots of which the first n are full and the others vacant, the first n
+-- if the first n slots are full and the others vacant, filtering gives the first n
 packed : {X : Type 0} (slots : List (Option X)) (n : ℕ) → n ≤ length slots
     → ((i : ℕ) → i < n → is_some (get_or slots i None) ≡ true) → ((i : ℕ) → n ≤ i → get_or slots i None ≡ None)
     → (length (filter_map (λ slot. slot) slots) ≡ n)
@@ -493,7 +494,7 @@ whole_parts t heard few h w = record { count = all.0; each = each }
         → (p : AtpPacket) × (first_copy i heard ≡ Some p) × (slice_get (parts_of t) i ≡ Some (part_of p))
     each i lt = ((there i lt).0, (there i lt).1, all.1 i lt ∙ kept i lt)
 
--- ---- One complete response
+-- ---- there is one complete response
 
 pub complete_whole : (asked : ℕ) (heard : List AtpPacket) (parts : List AnswerPart) → CompleteResponse asked heard parts
     → is_whole asked heard ≡ true
@@ -520,7 +521,7 @@ one_response asked heard a b c d = same_items a b (c.count ∙ sym d.count) (λ 
         let p : x.0 ≡ y.0 = (let e = sym x.1 ∙ y.1 in cc) in
         x.2 ∙ ap (λ (p : AtpPacket). Some (part_of p)) p ∙ sym y.2
 
--- ---- The bits of a request
+-- ---- the bits of a request
 
 bits_at : (bits : List Bool) (i : ℕ) → bit_at (bitmap bits) i ≡ cond (get_or bits i false) 1 0
 bits_at [] i = bit_at-zero i
@@ -542,7 +543,7 @@ bit_is bits i = ap (λ (n : ℕ). eqb n 1) (bits_at bits i) ∙ one (get_or bits
     one true = refl
     one false = refl
 
--- ---- What became of a transaction
+-- ---- the outcome of a transaction
 
 response : (t : Transaction) (heard : List AtpPacket) → t.ask.parts ≤ 8 → Keeps t heard → (parts : List AnswerPart)
     → (outcome_of t ≡ Complete parts) ↔ ((t.failed ≡ false) × CompleteResponse t.ask.parts heard parts)
@@ -582,7 +583,7 @@ open_still t heard h = (forth t.failed refl (is_complete t) refl, back)
         let g : is_complete t ≡ false = complete_is t heard h ∙ x.1 in
         rw (f, g) refl
 
--- ---- The law
+-- ---- the law
 
 abbrev ends : List Step → ℕ → Ask → Transaction
 ends steps id ask = run steps (begun id ask)

@@ -1,4 +1,4 @@
--- What was heard, and the response that is complete with it.
+-- The packets accepted in the example, and the response that is complete with them.
 use Rattle.std.proofs.Common.{◌≡◌, ℕ, zero, suc, ◌<◌, List, [], ◌∷◌, slice_get, Some, refl, arith}
 use Rattle.atp.specs.declared.ask.AnswerPart.{AnswerPart}
 use Rattle.atp.specs.Packets.{AtpPacket}

@@ -17,7 +17,7 @@ Slots = List (Option Transaction)
 abbrev tally : Option Transaction → ℕ
 tally o = cond (is_some o) 1 0
 
--- one slot more
+-- one more slot
 filled_suc : (n : ℕ) (slots : Slots) → filled (suc n) slots ≡ filled n slots + tally (get_or slots n None)
 filled_suc zero [] = refl
 filled_suc zero (o ∷ slots) = omega arith
@@ -35,7 +35,7 @@ filled_all zero (o ∷ slots) le = absurd (omega (arith, le))
 filled_all (suc n) [] le = refl
 filled_all (suc n) (o ∷ slots) le = let r = filled_all n slots (omega (arith, le)) in omega (arith, r, sum_by-cons tally o slots)
 
--- nothing copied yet
+-- the copy at its start
 pub start : (old copy : Slab Transaction) → copy.slots ≡ [] → 32 ≤ copy.capacity → CopiedTo 0 old copy
 start old copy e room =
     let none : (k : ℕ) → get copy k ≡ None = λ k. subst (λ (s : Slots). get_or s k None ≡ None) (sym e) refl in
@@ -53,7 +53,7 @@ start old copy e room =
       count = len;
     }
 
--- a slot that is vacant
+-- a vacant slot is copied
 pub vacant : (n : ℕ) (old copy : Slab Transaction) → CopiedTo n old copy → get old n ≡ None → CopiedTo (suc n) old copy
 vacant n old copy h e =
     let none : tally (get old n) ≡ 0 = rw e refl in
@@ -67,7 +67,7 @@ vacant n old copy h e =
       count = (let c = h.count in omega (arith, c, filled_suc n old.slots, none));
     }
 
--- the copy has nothing of the ID in the next slot
+-- the copy has no transaction with the ID of the next slot's
 pub fresh : (n : ℕ) (old copy : Slab Transaction) (t : Transaction) → IsTable old → CopiedTo n old copy → get old n ≡ Some t
     → known t.id copy.slots ≡ None
 fresh n old copy t ho h e =
@@ -88,7 +88,7 @@ room n old copy t ho h e =
     let few = ho.few in
     omega (arith, c, few, one, filled_suc n old.slots, filled_few (suc n) old.slots)
 
--- a slot with a transaction
+-- a slot with a transaction is copied
 pub taken : (n : ℕ) (old copy next : Slab Transaction) (t : Transaction) → IsTable old → CopiedTo n old copy → get old n ≡ Some t
     → Put copy next t.id (Some t) → slab_len next ≡ slab_len copy + 1 → CopiedTo (suc n) old next
 taken n old copy next t ho h e put len =
@@ -115,7 +115,7 @@ taken n old copy next t ho h e put len =
       count = (let c = h.count in omega (arith, c, len, filled_suc n old.slots, one));
     }
 
--- all slots
+-- all slots are copied
 pub whole : (n : ℕ) (old copy : Slab Transaction) → IsTable old → CopiedTo n old copy → length old.slots ≤ n → IsCopy old copy
 whole n old copy ho h le = record {
   table = h.table;

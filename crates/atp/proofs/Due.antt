@@ -1,4 +1,4 @@
--- The least ID that is due, from the slots.
+-- The least ID whose request is due, found in the slots.
 use Rattle.std.proofs.Common.{◌≡◌, ℕ, ◌<◌, ◌≤◌, Bool, true, false, List, Option, Some, None, length, get_or, refl, sym, ap, subst, ◌∙◌}
 use Rattle.std.proofs.Common.{inl, inr, arith}
 use Rattle.std.specs.Option.{IfSome, IfNone}
@@ -8,7 +8,7 @@ use Rattle.atp.specs.declared.transaction.Transaction.{Transaction}
 use Rattle.atp.specs.Requesting.{known, is_due, is_due_in, AreApart, IsLeastDue}
 use Rattle.atp.proofs.Known.{known_at, known_is}
 
--- a slot with a value is one of the slots
+-- a slot with a transaction has an index within the slots
 pub inside : (slots : List (Option Transaction)) (k : ℕ) (t : Transaction) → get_or slots k None ≡ Some t → k < length slots
 inside slots k t e =
     elim (cases_lt k (length slots)) [

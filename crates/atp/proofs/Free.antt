@@ -1,4 +1,4 @@
--- Of so many numbers in a row, not all are open where fewer transactions are.
+-- Of more consecutive IDs than there are transactions, at least one isn't open.
 use Rattle.std.proofs.Common.{◌≡◌, ℕ, zero, suc, ◌+◌, ◌-◌, ◌%◌, ◌<◌, ◌≤◌, Bool, true, false, cond, eqb, ltb, List, [], ◌∷◌, Option, Some}
 use Rattle.std.proofs.Common.{None, is_some, count_by, refl, ap, ◌∙◌, arith}
 use Rattle.std.proofs.lemmas.Bool.{eqb-true}
@@ -9,14 +9,14 @@ use Rattle.atp.specs.Requesting.{known}
 abbrev Slots : Type 0
 Slots = List (Option Transaction)
 
--- how far a number is after the first one
+-- the distance of a number from the first one, going upwards modulo 65,536
 abbrev after : ℕ → ℕ → ℕ
 after first id = (id + 65536 - first) % 65536
 
 abbrev bit : Bool → ℕ
 bit b = cond b 1 0
 
--- how many transactions have one of so many numbers
+-- the number of transactions with one of the consecutive IDs
 abbrev hits : ℕ → ℕ → Slots → ℕ
 hits first m [] = 0
 hits first m (None ∷ slots) = hits first m slots

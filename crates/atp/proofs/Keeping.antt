@@ -1,4 +1,4 @@
--- An answer that is kept is there until its release, or until its time is over.
+-- A kept answer lasts until its release, or until its time is over.
 use Rattle.std.proofs.Common.{◌≡◌, ℕ, ◌-◌, ◌==◌, ◌++◌, Bool, true, false, cond, not, eqb, nat_le, nat_lt}
 use Rattle.std.proofs.Common.{List, [], ◌∷◌, filter, map, Option, Some, None, is_some, refl, sym, ap, subst, ◌∙◌, arith}
 use Rattle.std.specs.List.{find}
@@ -20,7 +20,7 @@ use Rattle.atp.specs.Responding.{same_peer, ticked, waits, with_answer, without}
 abbrev Requests : Type 0
 Requests = List Request
 
--- ---- The first that passes, in lists made of others
+-- ---- the first request that passes, in changed lists
 
 found_kept : (q p : Request → Bool) (rs : Requests) (x : Request) → find q rs ≡ Some x → p x ≡ true → find q (filter p rs) ≡ Some x
 found_kept q p [] x e h = absurd cc
@@ -57,7 +57,7 @@ find_first q f h (r ∷ rs) =
       | false ↦ λ t. rw t (rw t (find_first q f h rs))
     ]) refl
 
--- another one changes
+-- another request changes
 find_other : (q p : Request → Bool) (f : Request → Request) → ((r : Request) → q (f r) ≡ q r) → ((r : Request) → q r ≡ true → p r ≡ false)
     → (rs : Requests) → find q (with_first p f rs) ≡ find q rs
 find_other q p f same other [] = refl
@@ -70,7 +70,7 @@ find_other q p f same other (r ∷ rs) =
       ]) refl
     ]) refl
 
--- the one that is found passes
+-- a request that is found passes
 is_found : (q : Request → Bool) (rs : Requests) (x : Request) → find q rs ≡ Some x → q x ≡ true
 is_found q [] x e = absurd cc
 is_found q (r ∷ rs) x e =
@@ -79,7 +79,7 @@ is_found q (r ∷ rs) x e =
       | false ↦ λ t. is_found q rs x (rw t at e)
     ]) refl
 
--- ---- Askers and IDs
+-- ---- askers and IDs
 
 one_peer : (a b : Peer) → same_peer a b ≡ true → a ≡ b
 one_peer a b h =
@@ -90,7 +90,7 @@ one_peer a b h =
     ∙ ap (λ (y : ℕ). made b.addr.net y a.socket) (eqb-true _ _ q.1)
     ∙ ap (λ (z : ℕ). made b.addr.net b.addr.node z) (eqb-true _ _ p.1)
 
--- two that are the same ask for one request
+-- equal askers and IDs are tests for one request
 one_request : (from asker : Peer) (id other : ℕ) → is_same from id asker other ≡ true → is_of asker other ≡ is_of from id
 one_request from asker id other h =
     let p = and_parts (same_peer asker from) (other == id) h in
@@ -102,7 +102,7 @@ itself n = grind arith
 same_itself : (from : Peer) (id : ℕ) → is_same from id from id ≡ true
 same_itself from id = rw (itself from.addr.net, itself from.addr.node, itself from.socket, itself id) refl
 
--- one request isn't of two that differ
+-- a request isn't that of a different asker or ID
 two_requests : (from asker : Peer) (id other : ℕ) → is_same from id asker other ≡ false → (r : Request) → is_of from id r ≡ true
     → is_of asker other r ≡ false
 two_requests from asker id other differs r h = either (is_of asker other r) refl
@@ -118,9 +118,9 @@ two_requests from asker id other differs r h = either (is_of asker other r) refl
         ∙ ap (λ (i : ℕ). is_same from id from i) ids ∙ same_itself from id in
         absurd (let bad : true ≡ false = sym same ∙ differs in cc)
 
--- ---- What is held of a kept answer
+-- ---- a kept answer
 
--- a request is held with this answer, which has this release time and so many ticks left
+-- the responder holds the request with this answer, its release time and the ticks left
 record Held (from : Peer) (id : ℕ) (parts : List AnswerPart) (release left : ℕ) (rs : Requests) : Type 0 where
   request : Request
   found : request_of from id rs ≡ Some request
@@ -128,7 +128,7 @@ record Held (from : Peer) (id : ℕ) (parts : List AnswerPart) (release left : �
   release_is : request.release ≡ release
   left_is : request.left ≡ left
 
--- the same request is found
+-- the same request is found in changed requests
 same_held : (from : Peer) (id : ℕ) (parts : List AnswerPart) (release left : ℕ) (rs new : Requests)
     → request_of from id new ≡ request_of from id rs
     → Held from id parts release left rs → Held from id parts release left new
@@ -145,7 +145,7 @@ of_older from id r = either (is_some r.answer)
 not_over : (n : ℕ) → nat_lt 1 n ≡ true → nat_le n 1 ≡ false
 not_over n h = grind (arith, nat_tests)
 
--- a tick passes
+-- after a tick
 held_passed : (from : Peer) (id : ℕ) (parts : List AnswerPart) (release left : ℕ) (rs : Requests) → nat_lt 1 left ≡ true
     → Held from id parts release left rs → Held from id parts release (left - 1) (ticked rs)
 held_passed from id parts release left rs some h =
@@ -174,7 +174,7 @@ held_passed from id parts release left rs some h =
         ∙ ap (option_map older) (found_kept (is_of from id) (λ r. not (is_over r)) rs h.request h.found stays)
         ∙ rw a refl
 
--- another request comes, is answered, or is forgotten
+-- after another request comes, is answered, or is removed
 held_without : (from asker : Peer) (id other : ℕ) (parts : List AnswerPart) (release left : ℕ) (rs : Requests)
     → is_same from id asker other ≡ false
     → Held from id parts release left rs → Held from id parts release left (without asker other rs)
@@ -239,7 +239,7 @@ held_responded from asker id other parts answer release left rs h = of_same (is_
         let none : waits (request_of asker other rs) ≡ false = rw (found, a) refl in
         rw none h
 
--- the request itself comes again
+-- after the request itself comes again
 held_again : (from asker : Peer) (id : ℕ) (p : AtpPacket) (parts : List AnswerPart) (release left : ℕ) (rs : Requests)
     → is_same from id asker p.id ≡ true
     → is_request p.control ≡ true → Held from id parts release left rs → Held from id parts release release (heard asker p rs).1
@@ -266,7 +266,7 @@ held_heard from asker id p parts release left rs events l h = of_same (is_same f
     of_same true e false f true g = absurd (let bad = (rw (e, f, g) at l) in cc)
     of_same true e false f false g = (left, rw (f, g) h, (rw (e, f, g) at l))
 
--- ---- Through all events
+-- ---- through all events
 
 held_on : (from : Peer) (id : ℕ) (parts : List AnswerPart) (release left : ℕ) (rs : Requests) (events : List Event)
     → lasts from id release left events ≡ true → Held from id parts release left rs

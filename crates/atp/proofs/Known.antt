@@ -1,4 +1,4 @@
--- What is known of an ID, from the slots and back.
+-- From IDs to slots and back.
 use Rattle.std.proofs.Common.{◌≡◌, ◌≢◌, ℕ, zero, suc, true, false, eqb, List, [], ◌∷◌, Option, Some, None, get_or, refl, sym, ap, subst}
 use Rattle.std.proofs.Common.{◌∙◌, inl, inr, arith}
 use Rattle.std.proofs.lemmas.Bool.{cases_eq, eqb-true}
@@ -21,7 +21,7 @@ is_same t id h = grind arith
 is_other : (t : Transaction) (id : ℕ) → t.id ≢ id → eqb t.id id ≡ false
 is_other t id h = grind arith
 
--- what is known stands in a slot
+-- a known transaction is in a slot
 pub known_at : (id : ℕ) (slots : Slots) (t : Transaction) → known id slots ≡ Some t → (k : ℕ) × (get_or slots k None ≡ Some t) × (t.id ≡ id)
 known_at id [] t h = absurd cc
 known_at id (None ∷ slots) t h = let r = known_at id slots t h in (suc r.0, r.1, r.2)
@@ -36,7 +36,7 @@ known_at id (Some u ∷ slots) t h =
           (suc r.0, r.1, r.2)
     ]) refl
 
--- nothing is known of an ID that no slot has
+-- an ID that no slot has isn't known
 pub known_none : (id : ℕ) (slots : Slots) → ((k : ℕ) (t : Transaction) → get_or slots k None ≡ Some t → t.id ≢ id) → known id slots ≡ None
 known_none id [] h = refl
 known_none id (None ∷ slots) h = known_none id slots (λ k. h (suc k))
@@ -45,7 +45,7 @@ known_none id (Some u ∷ slots) h = rw (is_other u id (h 0 u refl)) (known_none
 apart_rest : (o : Option Transaction) (slots : Slots) → AreApart (o ∷ slots) → AreApart slots
 apart_rest o slots h = λ j k t u a b e. (let r = h (suc j) (suc k) t u a b e in omega (arith, r))
 
--- what stands in a slot is known
+-- a transaction in a slot is known
 pub known_is : (slots : Slots) (k : ℕ) (t : Transaction) → AreApart slots → get_or slots k None ≡ Some t → known t.id slots ≡ Some t
 known_is [] k t h e = absurd cc
 known_is (None ∷ slots) zero t h e = absurd cc
@@ -57,7 +57,7 @@ known_is (Some u ∷ slots) (suc k) t h e =
     let differs : u.id ≢ t.id = λ (same : u.id ≡ t.id). (let r = h 0 (suc k) u t refl e same in omega (arith, r)) in
     rw (is_other u t.id differs) (known_is slots k t (apart_rest (Some u) slots h) e)
 
--- an ID of which nothing is known stands in no slot
+-- an ID that isn't known is in no slot
 pub not_known : (id : ℕ) (slots : Slots) (k : ℕ) (t : Transaction) → AreApart slots → known id slots ≡ None → get_or slots k None ≡ Some t
     → t.id ≢ id
 not_known id slots k t apart none e same =
@@ -67,7 +67,7 @@ not_known id slots k t apart none e same =
 
 -- ---- one slot changes
 
--- apart slots stay so, where the new one has an ID of its own
+-- IDs stay apart if the new transaction has an ID of its own
 pub apart_after : (old new : Slab Transaction) (key : ℕ) (u : Transaction) → AreApart old.slots → Updates old new key (Some u)
     → ((k : ℕ) (t : Transaction) → k ≢ key → get old k ≡ Some t → t.id ≢ u.id) → AreApart new.slots
 apart_after old new key u h up fresh j k t v a b same =
@@ -102,7 +102,7 @@ apart_removed old new key h up j k t v a b same =
       ]
     ]
 
--- an ID that neither the old slot nor the new one has
+-- an ID that neither the old nor the new slot has is unchanged
 pub others_known : (old new : Slab Transaction) (key id : ℕ) (slot : Option Transaction) → AreApart old.slots → AreApart new.slots
     → Updates old new key slot
     → ((t : Transaction) → get old key ≡ Some t → t.id ≢ id) → ((t : Transaction) → slot ≡ Some t → t.id ≢ id)

@@ -1,4 +1,4 @@
--- Lists that a loop changes item by item, or at one place.
+-- Lists that a loop changes item by item, or at one index.
 use Rattle.std.proofs.Common.{◌≡◌, ℕ, zero, suc, ◌+◌, ◌<◌, ◌≤◌, Bool, true, false, ltb, List, [], ◌∷◌, ◌++◌, length, map, take, drop}
 use Rattle.std.proofs.Common.{get_or, set, Some, None, cond, refl, sym, ap, subst, arith}
 use Rattle.std.proofs.lemmas.Bool.{ltb-true, ltb-false}
@@ -12,7 +12,7 @@ one_more f [] i d lt = absurd (omega arith)
 one_more f (a ∷ all) zero d lt = refl
 one_more {X} f (a ∷ all) (suc i) d lt = ap (λ (l : List X). f a ∷ l) (one_more f all i d (omega arith))
 
--- one item more is changed
+-- one more item is changed
 pub map_more : {X : Type 0} (f : X → X) (all xs : List X) (i : ℕ) (r d : X) → i < length all → xs ≡ map f (take i all) ++ drop i all
     → r ≡ f (get_or xs i d)
     → set xs i r ≡ map f (take (i + 1) all) ++ drop (i + 1) all
@@ -20,7 +20,7 @@ map_more f all xs i r d lt so_far new =
     let n : i + 1 ≡ suc i = omega arith in
     rw (new, so_far, n) (one_more f all i d lt)
 
--- ---- The first item that passes
+-- ---- the first item that passes
 
 one_on : {X : Type 0} (p : X → Bool) (i : ℕ) (xs : List X) (a x : X) → p a ≡ false → IsPlace p i xs x → IsPlace p (suc i) (a ∷ xs) x
 one_on {X} p i xs a x other h = record {

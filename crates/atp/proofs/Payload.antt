@@ -26,7 +26,7 @@ payload_read low (suc most) (b ∷ bytes) fits le =
 pub whole_read : (bytes : List ℕ) → IsBytes bytes → many_at (λ low. read packets (data_byte low)) (λ b. 0) 0 (length bytes) bytes ≡ Ok bytes
 whole_read bytes fits = payload_read 0 (length bytes) bytes fits (omega arith)
 
--- the bytes of data are that data
+-- the bytes of data are the data itself
 pub payload_bytes : (low : ℕ) (bytes : List ℕ) → IsBytes bytes → list_bytes (λ low. bytes_of (data_byte low)) (λ b. 0) low bytes ≡ bytes
 payload_bytes low [] fits = refl
 payload_bytes low (b ∷ bytes) fits =

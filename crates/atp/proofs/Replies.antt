@@ -1,4 +1,4 @@
--- A new request: it waits when it was heard, and forgetting it leaves what was held before.
+-- A new request waits after it came, and removing it restores the requests before it.
 use Rattle.std.proofs.Common.{◌≡◌, ℕ, ◌++◌, ◌↔◌, Bool, true, false, not, eqb, List, [], ◌∷◌, filter}
 use Rattle.std.proofs.Common.{Option, Some, None, Result, Ok, Err, is_some, refl, sym, ap, ◌∙◌, arith}
 use Rattle.std.specs.List.{find}
@@ -18,7 +18,7 @@ use Rattle.atp.specs.Responding.{answered, asked_by, asked_again, has_room, hear
 abbrev Requests : Type 0
 Requests = List Request
 
--- what is asked anew wasn't held before
+-- the facts about a request that is new
 record IsNew (from : Peer) (p : AtpPacket) (rs held : Requests) : Type 0 where
   unknown : request_of from p.id rs ≡ None
   added : held ≡ rs ++ new_request from p ∷ []
@@ -58,7 +58,7 @@ pub now_asked : (from : Peer) (p : AtpPacket) (rs held : Requests) → (Ask, hel
     → asked_by (request_of from p.id held) ≡ p.part
 now_asked from p rs held e = rw (is_held from p rs held (is_new from p rs held e)) refl
 
--- forgetting what no one asked leaves all requests
+-- removing a request that no one asked before leaves all other requests
 unasked : (q : Request → Bool) (rs : Requests) (r : Request) → find q rs ≡ None → q r ≡ true → filter (λ r. not (q r)) (rs ++ r ∷ []) ≡ rs
 unasked q [] r none last = rw last refl
 unasked q (a ∷ rs) r none last =
@@ -72,7 +72,7 @@ as_before from p rs held e =
     let h = is_new from p rs held e in
     rw h.added (unasked (is_of from p.id) rs (new_request from p) h.unknown (of_itself from p))
 
--- there is room for a new request that wasn't refused
+-- a new request that wasn't refused had room
 pub room : (from : Peer) (p : AtpPacket) (rs : Requests) (r : Result Todo Error) (todo : Todo) → r ≡ Ok todo → (heard from p rs).0 ≡ Ask
     → (r ≡ Err Full) ↔ (((heard from p rs).0 ≡ Ask) × (has_room p rs ≡ false)) → has_room p rs ≡ true
 room from p rs r todo is asks full = either (has_room p rs) refl

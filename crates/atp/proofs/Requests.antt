@@ -1,4 +1,4 @@
--- What each call of a responder leaves of its requests: few of each kind, apart, and each within its time.
+-- Each call of a responder keeps the invariant of its requests.
 use Rattle.std.proofs.Common.{Bool, cond, eqb, false, is_some, min, nat_le, not, suc, true, ℕ, ◌%◌, ◌&&◌, ◌*◌, ◌+◌, ◌-◌, ◌<◌, ◌^◌, ◌≡◌, ◌≤◌}
 use Rattle.std.proofs.Common.{Err, List, None, Ok, Result, Some, [], ap, arith, filter, length, map, refl, ◌++◌, ◌↔◌, ◌∙◌, ◌∷◌}
 use Rattle.std.specs.List.{list_all, list_any, find}
@@ -23,14 +23,14 @@ use Rattle.atp.specs.Responding.{of_kind, older, repeated, request_of, same_peer
 abbrev Requests : Type 0
 Requests = List Request
 
--- whether a request is of a kind
+-- the request is of a kind
 abbrev kind : Bool → Request → Bool
 kind once r = cond once r.once (not r.once)
 
 pub none : IsRequests []
 none = record { once = omega arith; other = omega arith; apart = refl; sound = refl }
 
--- ---- Fewer requests
+-- ---- fewer requests
 
 fewer : (k p : Request → Bool) (rs : Requests) → length (filter k (filter p rs)) ≤ length (filter k rs)
 fewer k p [] = omega arith
@@ -93,9 +93,9 @@ filtered p rs h =
       sound = all_fewer is_sound p rs h.sound;
     }
 
--- ---- The same requests, later
+-- ---- the same requests, later
 
--- a later state of a request: of the same asker, ID and kind, and sound
+-- a later state of a request: it has the same asker, ID and kind, and is sound
 record Later (r s : Request) : Type 0 where
   from : s.from ≡ r.from
   id : s.id ≡ r.id
@@ -172,7 +172,7 @@ map_later : (f : Request → Request) → ((r : Request) → Later r (f r)) → 
 map_later f each [] = tt
 map_later f each (r ∷ rs) = (each r, map_later f each rs)
 
--- ---- What a call makes of a request
+-- ---- the effect of a call on a request
 
 le_itself : (n : ℕ) → nat_le n n ≡ true
 le_itself n = grind (arith, nat_tests)
@@ -212,7 +212,7 @@ older_later r = (elim (is_some r.answer) as (λ b. is_some r.answer ≡ b → La
   | false ↦ λ t. rw t (same r)
 ]) refl
 
--- ---- One request more
+-- ---- one more request
 
 kind_count : (k : Request → Bool) (rs : Requests) (r : Request) → length (filter k (rs ++ r ∷ [])) ≡ length (filter k rs) + cond (k r) 1 0
 kind_count k [] r = (elim (k r) as (λ b. k r ≡ b → length (filter k (r ∷ [])) ≡ 0 + cond (k r) 1 0) [
@@ -243,7 +243,7 @@ peer_comm a b = rw (eqb_comm a.addr.net b.addr.net, eqb_comm a.addr.node b.addr.
 of_comm : (a b : Request) → is_of a.from a.id b ≡ is_of b.from b.id a
 of_comm a b = rw (peer_comm b.from a.from, eqb_comm b.id a.id) refl
 
--- no request passes, where none is found
+-- if no request is found, none passes
 not_found : (q : Request → Bool) (rs : Requests) → find q rs ≡ None → (list_any q rs ≡ false)
 not_found q [] h = refl
 not_found q (a ∷ rs) h =
@@ -260,7 +260,7 @@ apart_more (a ∷ rs) r h none =
     let last : is_of a.from a.id r ≡ false = of_comm a r ∙ o.0 in
     rw (any_more (is_of a.from a.id) rs r (not_any _ p.0) last, apart_more rs r p.1 o.1) refl
 
--- the release times
+-- the release times are at most 2,400 ticks
 ticks_few : (n : ℕ) → n ≤ 4 → 150 * 2 ^ n ≤ 2400
 ticks_few n le = let p : 2 ^ n ≤ 2 ^ 4 = pow-le-pow_right (omega arith) le in omega (arith, p)
 
@@ -299,7 +299,7 @@ appended from p rs new room h = record {
         let count = kind_count (kind once) rs (new_request from p) in
         omega (arith, one, count)
 
--- ---- What each call leaves
+-- ---- each call keeps the invariant
 
 pub forgotten : (from : Peer) (id : ℕ) (rs : Requests) → IsRequests rs → IsRequests (without from id rs)
 forgotten from id rs h = filtered (λ r. not (is_of from id r)) rs h
@@ -321,7 +321,7 @@ passed rs h =
     let left = filter (λ r. not (is_over r)) rs in
     later left (map older left) (map_later older older_later left) (filtered (λ r. not (is_over r)) rs h)
 
--- a request that came again, by what hearing it gives
+-- a request that came again
 pub heard_again : (from : Peer) (id : ℕ) (rs new : Requests) (todo : Todo) (r : Request) → request_of from id rs ≡ Some r
     → IfSome (request_of from id rs) (λ r. (todo, new) ≡ asked_again from id rs r) → IsRequests rs → IsRequests new
 heard_again from id rs new todo r found is h =
@@ -329,7 +329,7 @@ heard_again from id rs new todo r found is h =
     let same : new ≡ (asked_again from id rs r).1 = ap (λ (x : Todo × Requests). x.1) e in
     rw same (asked_anew from id rs r h)
 
--- a new request, by what hearing it gives
+-- a new request
 pub heard_new : (from : Peer) (p : AtpPacket) (rs new : Requests) (r : Result Todo Error) → request_of from p.id rs ≡ None
     → IfOk r (λ todo. (todo ≡ Ask) × (new ≡ rs ++ new_request from p ∷ [])) → (r ≡ Err Full) ↔ (has_room p rs ≡ false)
     → OnErr r (new ≡ rs) → IsRequests rs → IsRequests new

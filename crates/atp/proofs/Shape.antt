@@ -1,4 +1,4 @@
--- The format of a packet: each part stands where its projection finds it; and the bytes of a packet.
+-- The format of a packet: each projection gives its part; and the bytes of a packet.
 use Rattle.std.proofs.Common.{◌≡◌, ℕ, suc, ◌≤◌, ◌<◌, ◌/◌, ◌&&◌, Bool, true, false, IsTrue, eqb, ltb, List, [], ◌∷◌, ◌++◌, length, None}
 use Rattle.std.proofs.Common.{Result, Ok, Err, refl, sym, arith}
 use Rattle.std.specs.Int.{byte_at}
@@ -31,19 +31,19 @@ packet_lawful = (
   ),
 )
 
--- from what reading gives, what the reader promises
+-- the contract of the reader, from the result of reading
 pub reads_of : (bytes : List ℕ) → IsBytes bytes → (r : Result Packet Error)
     → Gives (λ p. (packet_value p, [])) r (read packets packet bytes) → Reads packets packet (λ d. d) packet_value bytes r
 reads_of bytes fits (Ok p) h = reads_ok packets packet (λ d. d) packet_value packet_lawful bytes p (packet_value p) [] fits h refl
 reads_of bytes fits (Err e) h = reads_err {X = Packet} packets packet (λ d. d) packet_value packet_lawful bytes e fits h
 
--- the bytes of a packet
+-- the bytes of a packet, one by one
 pub bytes_laid : (p : AtpPacket) → IsBytes p.payload
     → bytes_of packet p ≡ byte_at 0 p.control ∷ byte_at 0 p.part ∷ byte_at 1 p.id ∷ byte_at 0 p.id ∷ (p.user ++ p.payload)
 unfolding packet
 bytes_laid p fits = rw (payload_bytes 0 p.payload fits) refl
 
--- the bytes as they are written
+-- the bytes of a packet, as they are written
 pub written : (p : AtpPacket) → p.control < 256 → p.part < 256 → IsBytes p.payload
     → (p.control ∷ p.part ∷ byte_at 1 p.id ∷ byte_at 0 p.id ∷ []) ++ p.user ++ p.payload ≡ bytes_of packet p
 written p control part fits =
@@ -51,7 +51,7 @@ written p control part fits =
     let b : byte_at 0 p.part ≡ p.part = omega arith in
     rw (bytes_laid p fits, a, b) refl
 
--- ---- what was written is read back
+-- ---- reading back what was written
 
 all_pass : (low : ℕ) (bytes : List ℕ) → IsBytes bytes → ListPasses (λ low. IsValue (data_byte low)) (λ b. 0) low bytes
 all_pass low [] fits = tt

@@ -1,4 +1,4 @@
--- One slot of the open transactions changes.
+-- Changes of one slot of the open transactions.
 use Rattle.std.proofs.Common.{◌≡◌, ◌≢◌, ℕ, zero, suc, ◌+◌, ◌<◌, ◌≤◌, cond, List, [], ◌∷◌, Option, Some, None, is_some, IsSome, get_or}
 use Rattle.std.proofs.Common.{set, count_by, refl, sym, ap, subst, ◌∙◌, inl, inr, arith}
 use Rattle.std.specs.Option.{option_map}
@@ -15,7 +15,7 @@ use Rattle.atp.proofs.Known.{known_at, known_is, known_none, not_known, apart_af
 abbrev tally : Option Transaction → ℕ
 tally o = cond (is_some o) 1 0
 
--- a value in place of another leaves the count
+-- replacing a transaction keeps the count
 count_set : (slots : List (Option Transaction)) (key : ℕ) (t u : Transaction) → get_or slots key None ≡ Some t
     → count_by is_some (set slots key (Some u)) ≡ count_by is_some slots
 count_set [] key t u e = refl
@@ -54,7 +54,7 @@ sendable_removed old new key h up k v e =
       | inr kn ↦ h k v (sym (up.others k kn) ∙ e)
     ]
 
--- another value in its place
+-- a transaction is replaced
 pub put : (old new : Slab Transaction) (key : ℕ) (t u : Transaction) → IsTable old → get old key ≡ Some t → u.id ≡ t.id → u.ask ≡ t.ask
     → new ≡ with_value old key u → Put old new t.id (Some u)
 put old new key t u h e same asked is =
@@ -81,7 +81,7 @@ put old new key t u h e same asked is =
           (λ v b w. (let vu : v ≡ u = cc in differs (sym w ∙ ap (λ (x : Transaction). x.id) vu ∙ same)));
     }
 
--- a value in a slot that was vacant
+-- a transaction is put into a vacant slot
 pub added : (old new : Slab Transaction) (key : ℕ) (t : Transaction) → IsTable old → slab_len old < 32 → known t.id old.slots ≡ None
     → IsSendable t.ask → get old key ≡ None
     → Updates old new key (Some t) → slab_len new ≡ slab_len old + 1 → old.capacity ≤ new.capacity → Put old new t.id (Some t)
@@ -102,7 +102,7 @@ added old new key t h some fresh ask vacant up len cap =
           (λ v b w. (let vt : v ≡ t = cc in differs (sym w ∙ ap (λ (x : Transaction). x.id) vt)));
     }
 
--- a value that is taken out
+-- a transaction is removed
 pub removed : (old new : Slab Transaction) (key : ℕ) (t : Transaction) → IsTable old → get old key ≡ Some t → Updates old new key None
     → slab_len new + 1 ≡ slab_len old → new.capacity ≡ old.capacity → Put old new t.id None
 removed old new key t h e up len cap =

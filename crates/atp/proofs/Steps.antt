@@ -1,4 +1,4 @@
--- What each step of a transaction leaves as it is.
+-- The parts of a transaction that each step leaves as they are.
 use Rattle.std.proofs.Common.{◌≡◌, ℕ, ◌<◌, ◌==◌, ◌+◌, ◌-◌, Bool, true, false, not, ◌&&◌, cond, ltb, None, Some, get_or, set, refl, ap, ◌∙◌}
 use Rattle.atp.specs.declared.ask.Ask.{Ask}
 use Rattle.atp.specs.declared.transaction.Transaction.{Transaction}
@@ -8,7 +8,7 @@ use Rattle.atp.specs.declared.ask.Peer.{Peer}
 use Rattle.atp.specs.Packets.{AtpPacket, is_response, is_end, wants_status}
 use Rattle.atp.specs.Requesting.{ticked, with_part, with_end, with_status, cut, part_of, is_waiting, is_heard, answers}
 
--- what no step changes
+-- the ID and the request, which no step changes
 abbrev key : Transaction → ℕ × Ask
 key t = (t.id, t.ask)
 
@@ -16,7 +16,7 @@ keeps : (b : Bool) (t u v : Transaction) → key t ≡ key v → key u ≡ key v
 keeps true t u v a b = a
 keeps false t u v a b = b
 
--- a tick, test by test
+-- a tick, written as four tests
 abbrev fourth : Transaction → Transaction
 fourth t = cond (ltb 0 t.tries) (record t { due = true; wait = 0 }) (record t { failed = true; wait = 0 })
 
@@ -39,7 +39,7 @@ ticked_id t = ap (λ (k : ℕ × Ask). k.0) (ticked_key t)
 pub ticked_ask : (t : Transaction) → (ticked t).ask ≡ t.ask
 ticked_ask t = ap (λ (k : ℕ × Ask). k.1) (ticked_key t)
 
--- a transaction that has taken a packet
+-- the transaction after it accepted a packet
 abbrev pub taken : AtpPacket → Transaction → Transaction
 taken p t = with_status p (with_end p (with_part p t))
 
@@ -69,7 +69,7 @@ taken_id p t = ap (λ (k : ℕ × Ask). k.0) (taken_key p t)
 pub taken_ask : (p : AtpPacket) (t : Transaction) → (taken p t).ask ≡ t.ask
 taken_ask p t = ap (λ (k : ℕ × Ask). k.1) (taken_key p t)
 
--- a packet that is heard is for one of the parts that were asked for
+-- a packet that is accepted has the number of a part that was asked for
 pub heard_near : (from : Peer) (p : AtpPacket) (t : Transaction) → is_heard from p t ≡ true → p.part < t.ask.parts
 heard_near from p t h =
     let a = both (is_waiting t) (answers from p t) h in

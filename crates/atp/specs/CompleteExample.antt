@@ -1,4 +1,4 @@
--- A request for three parts, and packets that answer it.
+-- A request for three parts, and its response packets.
 use Rattle.std.specs.Prelude.{ℕ, false, List, [], ◌∷◌}
 use Rattle.at_base.specs.declared.address.Addr.{Addr}
 use Rattle.atp.specs.declared.ask.Ask.{Ask}
@@ -10,15 +10,15 @@ use Rattle.atp.specs.Packets.{AtpPacket}
 abbrev pub server_address : Addr
 server_address = record { net = 10; node = 1 }
 
--- its socket 6, which is asked
+-- socket 6 of that node, which the request goes to
 abbrev pub server : Peer
 server = record { addr = server_address; socket = 6 }
 
--- its socket 7, which is not
+-- socket 7 of that node, which the request doesn't go to
 abbrev pub stranger : Peer
 stranger = record { addr = server_address; socket = 7 }
 
--- three parts are asked for
+-- a request for three parts
 abbrev pub three_parts : Ask
 three_parts = record {
   to = server_address;
@@ -32,17 +32,17 @@ three_parts = record {
   tries = 3;
 }
 
--- a part of the response of transaction 1, with one byte of data
+-- a response packet of transaction 1, with one byte of data
 abbrev pub response : ℕ → ℕ → ℕ → AtpPacket
 response control part byte = record { control = control; part = part; id = 1; user = 8 ∷ 0 ∷ 0 ∷ 1 ∷ []; payload = byte ∷ [] }
 
--- Part 1 comes first, and is marked as the end. Part 1 again, and part 0 from another socket, bring nothing; part 0 from the
--- right one completes the response, so a part 2 after it is late.
+-- Steps in which part 1 comes first, marked as the end; part 1 again, and part 0 from another socket, change nothing;
+-- part 0 from the right socket completes the response, so a part 2 after it is late.
 abbrev pub steps : List Step
 steps =
     Sent ∷ Came server (response 0x90 1 11) ∷ Tick ∷ Came server (response 0x80 1 99) ∷ Came stranger (response 0x80 0 98)
     ∷ Came server (response 0x80 0 10) ∷ Came server (response 0x80 2 12) ∷ []
 
--- the packets that were heard in these steps
+-- the packets that are accepted in these steps
 abbrev pub heard : List AtpPacket
 heard = response 0x90 1 11 ∷ response 0x80 1 99 ∷ response 0x80 0 10 ∷ []

@@ -5,20 +5,20 @@ use Rattle.atp.specs.declared.transaction.Transaction.{Transaction}
 use Rattle.atp.specs.Requesting.{known}
 use Rattle.atp.specs.Slots.{IsTable}
 
--- how many of the first n slots have a transaction
+-- the number of transactions in the first n slots
 abbrev pub filled : ℕ → List (Option Transaction) → ℕ
 filled zero slots = 0
 filled (suc n) [] = 0
 filled (suc n) (slot ∷ slots) = (if is_some slot then 1 else 0) + filled n slots
 
--- The transactions of the first n slots, and no others, are in the copy.
+-- The copy has the transactions of the first n slots, and no others.
 pub record CopiedTo (n : ℕ) (old copy : Slab Transaction) : Type 0 where
   pub table : IsTable copy
   pub before : (k : ℕ) (t : Transaction) → k < n → get old k ≡ Some t → known t.id copy.slots ≡ Some t
   pub from : (id : ℕ) (t : Transaction) → known id copy.slots ≡ Some t → (k : ℕ) × (k < n) × (get old k ≡ Some t)
   pub count : slab_len copy ≡ filled n old.slots
 
--- of each ID the copy has what the other has, and as many transactions
+-- the copy has the same transaction for each ID, and as many transactions
 pub record IsCopy (old copy : Slab Transaction) : Type 0 where
   pub table : IsTable copy
   pub same : (id : ℕ) → known id copy.slots ≡ known id old.slots

@@ -1,4 +1,4 @@
--- Packets in place, as their values.
+-- Packets in place, and their values.
 use Rattle.atp.specs.declared.packet.Packet.{Packet}
 use Rattle.atp.specs.Packets.{AtpPacket}
 

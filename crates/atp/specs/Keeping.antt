@@ -1,5 +1,5 @@
--- How long a responder keeps an answer. (Inside AppleTalk, the chapter on ATP; that the time begins anew with each repeat is
--- this project's own)
+-- The time for which a responder keeps an answer. (Inside AppleTalk, the chapter on ATP; that the time begins anew with
+-- each repeat is this project's own)
 use Rattle.std.specs.Prelude.{ℕ, ◌-◌, Bool, true, not, ◌&&◌, ◌==◌, List, [], ◌∷◌, nat_lt, if◌then◌else◌}
 use Rattle.atp.specs.declared.ask.AnswerPart.{AnswerPart}
 use Rattle.atp.specs.declared.ask.Peer.{Peer}
@@ -7,7 +7,7 @@ use Rattle.atp.specs.declared.request.Request.{Request}
 use Rattle.atp.specs.Packets.{AtpPacket, is_release, is_request}
 use Rattle.atp.specs.Responding.{answered, heard, request_of, same_peer, ticked, waits, without}
 
--- a packet is heard from a socket, the user responds to a request or forgets it, or a tick passes
+-- an event: a packet comes from a socket, the user responds to a request or removes it, or a tick passes
 pub data Event : Type 0 where
   Heard : (from : Peer) (p : AtpPacket) → Event
   Responded : (from : Peer) (id : ℕ) (parts : List AnswerPart) → Event
@@ -21,17 +21,17 @@ held_after (Responded from id parts) requests = if waits (request_of from id req
 held_after (Forgot from id) requests = without from id requests
 held_after Passed requests = ticked requests
 
--- the requests that it holds after some events, the oldest first
+-- the requests that a responder holds after some events, the first of them first
 abbrev pub run : List Event → List Request → List Request
 run [] requests = requests
 run (event ∷ events) requests = run events (held_after event requests)
 
--- the two requests are of one asker and ID
+-- the two requests have the same asker and ID
 abbrev pub is_same : Peer → ℕ → Peer → ℕ → Bool
 is_same from id asker other = same_peer asker from && other == id
 
--- An answer with this release time, of which so many ticks are left, lasts through the events: no release of its request is
--- heard and its user doesn't forget it, and its time, which a repeat of the request begins anew, doesn't end.
+-- An answer with this release time, of which left ticks are left, lasts through the events: no release of its request
+-- comes, its user doesn't remove it, and its time, which a repeat of the request restarts, doesn't end.
 abbrev pub lasts : Peer → ℕ → ℕ → ℕ → List Event → Bool
 lasts from id release left [] = true
 lasts from id release left (Heard asker p ∷ events) =

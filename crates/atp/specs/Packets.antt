@@ -7,7 +7,8 @@ use Rattle.at_base.specs.declared.error.Error.TheVariants.{BadLength, BadField}
 use Rattle.at_base.specs.Packets.{any}
 use Rattle.at_base.specs.Grammar.{Grammar, done, field, room, limit, many, number, run, one, two}
 
--- a packet: its control byte, the bitmap of a request or the part number of a response, and what it carries
+-- a packet: its control byte, the bitmap of a request or the part number of a response, the transaction's ID, user
+-- bytes and data
 pub record AtpPacket : Type 0 where
   pub control : ℕ
   pub part : ℕ
@@ -15,19 +16,20 @@ pub record AtpPacket : Type 0 where
   pub user : List ℕ
   pub payload : List ℕ
 
--- the top two bits of the control byte are not both 0
+-- the test that the top two bits of the control byte aren't both 0
 abbrev pub wrong_control : ℕ → Option Error
 wrong_control control = if control / 64 == 0 then Some (BadField Control) else None
 
--- the part of a response is one of eight
+-- the test that the part number of a response is at most 7
 abbrev pub wrong_part : ℕ → ℕ → Option Error
 wrong_part control part = if control / 64 == 2 && nat_lt 7 part then Some (BadField Sequence) else None
 
--- one byte of data
+-- the format of one byte of data
 abbrev pub data_byte : ℕ → Grammar Error true ℕ
 data_byte low = field (number one any) (λ b. b) (λ b. done b)
 
--- 8 bytes there, and at most 586; control, bitmap or part, transaction ID, user bytes, and data up to the end
+-- the format of a packet: at least 8 and at most 586 bytes; control, bitmap or part number, transaction ID, user bytes,
+-- and data up to the end
 unfoldable pub packet : Grammar Error false AtpPacket
 packet =
     room 8 (limit 586 BadLength (
@@ -43,7 +45,7 @@ packet =
       payload = payload;
     })))))))
 
--- ---- What the control byte says
+-- ---- the control byte
 
 -- the packet is a request
 abbrev pub is_request : ℕ → Bool
@@ -53,19 +55,19 @@ is_request control = control / 64 == 1
 abbrev pub is_response : ℕ → Bool
 is_response control = control / 64 == 2
 
--- the packet says that the whole response has come
+-- the packet is a release, which says that the requester has the whole response
 abbrev pub is_release : ℕ → Bool
 is_release control = control / 64 == 3
 
--- the request is to be carried out once
+-- the responder is to handle the request exactly once
 abbrev pub is_exactly_once : ℕ → Bool
 is_exactly_once control = control / 32 % 2 == 1
 
--- the response is the last part
+-- the packet is the last part of a response
 abbrev pub is_end : ℕ → Bool
 is_end control = control / 16 % 2 == 1
 
--- the responder wants the request again at once, to know what is missing
+-- the responder asks for the request again at once, to learn which parts are missing
 abbrev pub wants_status : ℕ → Bool
 wants_status control = control / 8 % 2 == 1
 
@@ -73,10 +75,10 @@ wants_status control = control / 8 % 2 == 1
 abbrev pub release_ticks : ℕ → ℕ
 release_ticks control = 150 * 2 ^ min 4 (control % 8)
 
--- ---- Which packets may be written
+-- ---- packets that may be written
 
--- A packet that a reader accepts: its numbers fit, its top bits aren't both 0, the part of a response is one of eight,
--- and it has at most 578 bytes of data.
+-- A packet that a reader accepts: its numbers fit their fields, its top bits aren't both 0, the part number of a
+-- response is at most 7, and it has at most 578 bytes of data.
 pub record IsPacket (p : AtpPacket) : Type 0 where
   pub control : p.control < 256
   pub some : 64 ≤ p.control

@@ -1,4 +1,4 @@
-//! Answers that are kept.
+//! Answers that a responder keeps.
 
 ghost use Rattle.std.specs.Prelude.{◌≡◌, ◌<◌, ◌≤◌, IsTrue, length, nat_le, IfOk, IsOkUnless};
 ghost use Rattle.std.specs.Prelude.{vec_len};
@@ -14,13 +14,13 @@ use at_base::{Bytes, Error};
 use std::alloc::Global;
 use std::marker::Model;
 
-/// The control byte of a part of a response.
+/// The control byte of a part of a response, other than the last.
 const RESPONSE: u8 = 0x80;
 
-/// The control byte of its last part.
+/// The control byte of the last part of a response.
 const LAST_RESPONSE: u8 = 0x90;
 
-/// The parts of an answer, which contracts see as a list.
+/// The parts of an answer. Contracts see them as a list.
 #[derive(Debug, Drop)]
 pub(crate) struct Answer {
     parts: Vec<AnswerPart>,
@@ -38,21 +38,21 @@ impl Model for Answer {
     ghost invariant = { λ a. IsTrue (is_answer a.parts.items) };
 }
 
-/// Whether the data of each part is short enough.
+/// Whether each part has at most 578 bytes of data.
 fn all_fit(parts: &[AnswerPart]) -> bool
     ensures { result ≡ list_all (λ part. nat_le (length part.payload) 578) parts.now }
 {
     parts.iter().all(|part| part.payload.len() <= MAX_DATA)
 }
 
-/// Whether there are at most 8 parts of at most 578 bytes.
+/// Whether the answer has at most 8 parts, of at most 578 bytes each.
 pub(crate) fn is_short(parts: &[AnswerPart]) -> bool
     ensures { result ≡ is_answer parts.now }
 {
     parts.len() <= MAX_PARTS && all_fit(parts)
 }
 
-/// A copy of the parts.
+/// A copy of the parts. Error: `Memory`.
 fn copy_parts(alloc: Global, parts: &[AnswerPart]) -> Result<Vec<AnswerPart>, Error>
     ensures ok { IfOk result (λ copies. copies.items ≡ parts.now) }
     ensures err { IsOkUnless result Error.Memory }
@@ -86,7 +86,7 @@ impl Answer {
     }
 }
 
-/// Whether a bitmap asks for a part.
+/// Whether a bitmap asks for the part with this index.
 fn asks_for(bitmap: u8, index: usize) -> bool
     requires { index < 8 }
     ensures { result ≡ spec.asks_for bitmap index }
@@ -94,7 +94,7 @@ fn asks_for(bitmap: u8, index: usize) -> bool
     (bitmap >> index) % 2 == 1
 }
 
-/// The packet of a part of an answer.
+/// The packet of a part of an answer. Error: `Memory`.
 fn packet_of(
     alloc: Global,
     id: u16,
@@ -124,7 +124,7 @@ fn packet_of(
     )
 }
 
-/// The packets of those parts of an answer that a bitmap asks for. Error: `Memory`.
+/// The packets of the parts of an answer that a bitmap asks for. Error: `Memory`.
 pub(crate) fn packets_of(
     alloc: Global,
     id: u16,

@@ -1,4 +1,4 @@
-//! What a requester asks, and what it is answered.
+//! Requests of a requester, and the parts of responses.
 
 ghost use Rattle.std.specs.Prelude.{◌≡◌, IfOk, IsOkUnless};
 
@@ -12,33 +12,34 @@ pub struct Peer {
     pub socket: u8,
 }
 
-/// What a requester asks.
+/// A request, as the user of a requester gives it.
 ///
 /// Inside AppleTalk, the chapter on ATP.
 #[derive(Debug, Drop)]
 pub struct Ask {
-    /// The node that is asked.
+    /// The node that the request goes to.
     pub to: Addr,
-    /// The socket that is asked.
+    /// The socket that the request goes to.
     pub socket: u8,
-    /// For how many parts the response has room: 1 to 8.
+    /// The greatest number of parts that the response may have: 1 to 8.
     pub parts: u8,
-    /// Whether the request is to be carried out once, however often it comes.
+    /// Whether the responder is to handle the request exactly once, even if it comes several times.
     pub exactly_once: bool,
-    /// For how long its answer is to be kept, as in the low bits of a control byte: 0 to 7.
+    /// The time for which the responder keeps its answer, as in the low bits of a control byte: 0
+    /// to 7.
     pub release: u8,
     /// Four bytes for the users of the transaction.
     pub user: [u8; 4],
     /// The data: at most 578 bytes.
     pub payload: Bytes,
-    /// In how many ticks the request is sent again: at least 1.
+    /// The number of ticks after which the request is sent again: at least 1.
     pub every: u16,
-    /// How often it is sent: at least once.
+    /// The number of times that the request is sent at most: at least 1.
     pub tries: u8,
 }
 
 impl Ask {
-    /// A copy of what is asked. Error: `Memory`.
+    /// A copy of the request. Error: `Memory`.
     pub fn copy(&self, alloc: Global) -> Result<Ask, Error>
         ensures ok { IfOk result (λ ask. ask ≡ self.now) }
         ensures err { IsOkUnless result Error.Memory }

@@ -1,5 +1,5 @@
-//! Laws of transactions, for the crates above: each is the contract of a function that does
-//! nothing.
+//! Laws of transactions, for the crates that use this one. Each law is the contract of a function
+//! that does nothing.
 
 ghost use Rattle.std.specs.Prelude.{◌≡◌, ◌↔◌, ◌∷◌, [], List, Some, ℕ, false, true};
 ghost use Rattle.at_base.specs.Spelling.{bytes_of, Begins};
@@ -21,21 +21,21 @@ ghost use Rattle.atp.specs.Requesting.{IsAsk, begun, part_of};
 ghost use Rattle.atp.specs.Responding as responding_spec;
 ghost use Rattle.atp.specs.Responding.{answered, kept, request_of};
 
-/// What was written is read back, where nothing follows it.
+/// A packet that was written is read back, if nothing follows it.
 pub fn written_is_read()
     ensures { (p : AtpPacket) → IsPacket p
         → Begins packet (bytes_of packet p) p
         × ((d : AtpPacket) → Begins packet (bytes_of packet p) d → d ≡ p) }
 {}
 
-/// A response is complete exactly when each of its parts has come: after any steps of a transaction
-/// that may be asked, it is answered with the first copy of each part, up to the least one marked
-/// as the end, of the packets that it heard; it waits while one of these is missing; and its
-/// request asks for those that are.
+/// A response is complete exactly when each of its parts was received. After any steps of a valid
+/// transaction, its result is the first copy of each part, up to the least part marked as the end,
+/// from the packets that it accepted. It waits while one of these parts is missing, and its request
+/// asks for the missing parts.
 ///
-/// The steps are what the calls of a requester do to the transaction of one number, between
-/// `begin`, which leaves it as `begun`, and `result`, which gives its `outcome_of`: `heard` a step
-/// `Came`, `request` a step `Sent`, `tick` a step `Tick`, by their clauses on `known`.
+/// The steps are the effects of a requester's calls on one transaction, between `begin`, which
+/// leaves it as `begun`, and `result`, which returns its `outcome_of`: `heard` is a step `Came`,
+/// `request` a step `Sent`, `tick` a step `Tick`, by their clauses on `known`.
 pub fn complete_response()
     ensures complete { (steps : List Step) (id : ℕ) (ask : Ask) (parts : List AnswerPart)
         → IsAsk ask → let t = run steps (begun id ask) in
@@ -50,8 +50,9 @@ pub fn complete_response()
         ≡ is_missing ask.parts (history steps id ask) i }
 {}
 
-/// An example: of three parts asked for, part 1 is the end. What came twice, from another socket or
-/// late isn't in the response. Without an end, the last part is missing until it comes.
+/// An example: three parts are requested, and part 1 is the end. Packets that come twice, from
+/// another socket or late aren't in the response. Without an end, the last part is missing until it
+/// comes.
 pub fn the_end_may_come_early()
     ensures asked { IsAsk three_parts }
     ensures heard { history steps 1 three_parts ≡ heard }
@@ -61,12 +62,12 @@ pub fn the_end_may_come_early()
         → ¬ CompleteResponse 3 (response 0x80 0 10 ∷ response 0x80 1 11 ∷ []) parts }
 {}
 
-/// An answer to a request that is to be carried out once lasts: after any events before its
-/// release, and before its time is over, that answer is kept, and its asker gets it again for a
-/// request with that number, of whichever kind. So the user isn't asked twice.
+/// An answer to an exactly-once request is kept until it is released or its time is over. Until
+/// then the asker gets it again for a request with the same ID, whichever kind that request is, so
+/// the user isn't asked twice.
 ///
-/// The events are what the calls of a responder do, where they aren't refused: `heard`, `respond`,
-/// `released` and `tick`.
+/// The events are the effects of a responder's calls, where they aren't refused: `heard`,
+/// `respond`, `released` and `tick`.
 pub fn a_kept_answer_lasts()
     ensures kept { (from : Peer) (id : ℕ) (parts : List AnswerPart) (requests : List Request)
         (r : Request) (events : List Event)

@@ -1,4 +1,4 @@
-//! Transactions: packets, a requester and a responder.
+//! ATP, transactions: packets, a requester and a responder.
 #![tactic(auto)]
 
 mod answer;

@@ -1,4 +1,4 @@
-//! What became of a transaction.
+//! Outcomes of transactions.
 
 ghost use Rattle.std.specs.Prelude.{◌≡◌, ◌≤◌, filter_map, length, slice_get};
 ghost use Rattle.std.specs.Option.{option_copied};
@@ -8,7 +8,7 @@ use crate::ask::AnswerPart;
 use crate::transaction::Transaction;
 use std::marker::Model;
 
-/// The parts of a complete response, in order, which contracts see as a list.
+/// The parts of a complete response, in order. Contracts see them as a list.
 #[derive(Debug, Drop)]
 pub struct Response {
     parts: [Option<AnswerPart>; 8],
@@ -23,7 +23,7 @@ impl Model for Response {
     ghost view = { λ r. filter_map (λ part. part) r.parts };
 }
 
-/// The part at an index among those that are there.
+/// The part with an index, counting only the parts that exist.
 fn part_at(parts: &[Option<AnswerPart>], index: usize) -> Option<&AnswerPart>
     ensures { option_copied result ≡ slice_get (filter_map (λ part. part) parts.now) index }
 {
@@ -40,7 +40,7 @@ fn part_at(parts: &[Option<AnswerPart>], index: usize) -> Option<&AnswerPart>
     }
 }
 
-/// How many parts are there.
+/// The number of parts that exist.
 fn count(parts: &[Option<AnswerPart>]) -> usize
     ensures value { result ≡ length (filter_map (λ part. part) parts.now) }
     ensures few { result ≤ length parts.now }
@@ -53,7 +53,7 @@ fn count(parts: &[Option<AnswerPart>]) -> usize
 }
 
 impl Response {
-    /// The part at an index.
+    /// The part with an index, if the response has it.
     pub fn get(&self, index: usize) -> Option<&AnswerPart>
         ensures { option_copied result ≡ slice_get self.now index }
     {
@@ -68,20 +68,20 @@ impl Response {
     }
 }
 
-/// What became of a transaction.
+/// The outcome of a transaction.
 ///
 /// Inside AppleTalk, the chapter on ATP.
 #[derive(Debug, Drop)]
 pub enum Outcome {
-    /// It waits for parts.
+    /// The transaction waits for parts.
     Waiting,
-    /// All parts have come.
+    /// All parts were received.
     Complete(Response),
-    /// It was given up: its last request had no complete response in time.
+    /// The transaction was given up: its last request had no complete response in time.
     Failed,
 }
 
-/// What became of a transaction that is closed.
+/// The outcome of a transaction that was closed.
 pub(crate) fn closed(transaction: Transaction) -> Outcome
     ensures { result ≡ outcome_of transaction }
 {

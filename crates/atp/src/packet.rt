@@ -1,4 +1,4 @@
-//! Packets of transactions: a reader that borrows, and a writer.
+//! ATP packets: a reader that borrows its input, and a writer.
 
 ghost use Rattle.std.specs.Prelude.{◌≡◌, ◌⊎◌, ◌<◌, ◌≤◌, ◌↔◌, [], length, IfOk, IfErr};
 ghost use Rattle.at_base.specs.Grammar.{number, run, one};
@@ -17,10 +17,10 @@ use std::alloc::Global;
 /// The length of the header, in bytes.
 pub const HEADER_LEN: usize = 8;
 
-/// The most bytes of data in a packet.
+/// The greatest number of bytes of data in a packet.
 pub const MAX_DATA: usize = 578;
 
-/// The most parts of a response.
+/// The greatest number of parts of a response.
 pub const MAX_PARTS: usize = 8;
 
 /// A packet in place. It borrows the input.
@@ -28,11 +28,12 @@ pub const MAX_PARTS: usize = 8;
 /// Inside AppleTalk, the chapter on ATP.
 #[derive(Clone, Copy, Debug)]
 pub struct Packet<'a> {
-    /// What kind of packet it is, and how it is to be treated.
+    /// The control byte: the kind of packet, and its flags.
     pub control: u8,
-    /// The parts that a request asks for, bit by bit; or which part a response is.
+    /// In a request, the bitmap of the parts that it asks for; in a response, the number of the
+    /// part.
     pub part: u8,
-    /// The number of the transaction, which its requester chose.
+    /// The ID of the transaction, which its requester chose.
     pub id: u16,
     /// Four bytes for the users of the transaction.
     pub user: [u8; 4],
@@ -52,7 +53,7 @@ fn control_at(bytes: &[u8]) -> Result<(u8, &[u8]), Error>
     Ok((control, rest))
 }
 
-/// The bitmap of a request, or which part a response is: at most 7.
+/// The bitmap of a request, or the part number of a response, which is at most 7.
 fn part_at(control: u8, bytes: &[u8]) -> Result<(u8, &[u8]), Error>
     ensures { Gives (λ x. (x.0, x.1.now)) result
         (field_at packets (number one (wrong_part control)) bytes.now) }
@@ -64,7 +65,7 @@ fn part_at(control: u8, bytes: &[u8]) -> Result<(u8, &[u8]), Error>
     Ok((part, rest))
 }
 
-/// The four bytes of the users.
+/// The four user bytes.
 fn user_at(bytes: &[u8]) -> Result<([u8; 4], &[u8]), Error>
     ensures { Gives (λ x. (x.0, x.1.now)) result (field_at packets (run 4 any) bytes.now) }
 {
@@ -84,7 +85,7 @@ fn data_at(bytes: &[u8]) -> &[u8]
     bytes
 }
 
-/// The fields, and the data in place.
+/// The fields, with the data in place.
 #[tactic(auto, unfolding(crate::specs::Packets::packet))]
 fn parts_of(bytes: &[u8]) -> Result<Packet<'_>, Error>
     ensures { Gives (λ p. (packet_value p, [])) result
@@ -111,59 +112,60 @@ fn parts_of(bytes: &[u8]) -> Result<Packet<'_>, Error>
 }
 
 impl<'a> Packet<'a> {
-    /// The packet that the bytes are. Allocates nothing.
+    /// The packet in the bytes, which goes up to their end. Allocates nothing.
     ///
     /// Errors: `Truncated` below 8 bytes; `BadLength` above 586; `BadField` of `Control` where the
-    /// two top bits of the first byte are 0, and of `Sequence` where a response's part is above 7.
+    /// two top bits of the first byte are 0, and of `Sequence` where a response's part number is
+    /// above 7.
     pub fn read(bytes: &'a [u8]) -> Result<Packet<'a>, Error>
         ensures { Reads packets spec.packet (λ d. d) packet_value bytes.now result }
     {
         parts_of(bytes)
     }
 
-    /// Whether it is a request.
+    /// Whether the packet is a request.
     pub fn is_request(&self) -> bool
         ensures { result ≡ spec.is_request self.now.control }
     {
         self.control / 64 == 1
     }
 
-    /// Whether it is a part of a response.
+    /// Whether the packet is a part of a response.
     pub fn is_response(&self) -> bool
         ensures { result ≡ spec.is_response self.now.control }
     {
         self.control / 64 == 2
     }
 
-    /// Whether it says that the response has come.
+    /// Whether the packet is a release, which says that the requester has the whole response.
     pub fn is_release(&self) -> bool
         ensures { result ≡ spec.is_release self.now.control }
     {
         self.control / 64 == 3
     }
 
-    /// Whether the request is to be carried out once, however often it comes.
+    /// Whether the responder is to handle the request exactly once.
     pub fn is_exactly_once(&self) -> bool
         ensures { result ≡ spec.is_exactly_once self.now.control }
     {
         self.control / 32 % 2 == 1
     }
 
-    /// Whether the response has no part after this one.
+    /// Whether this is the last part of the response.
     pub fn is_end(&self) -> bool
         ensures { result ≡ spec.is_end self.now.control }
     {
         self.control / 16 % 2 == 1
     }
 
-    /// Whether the responder wants the request again at once, to know which parts are missing.
+    /// Whether the responder asks for the request again at once, to learn which parts are missing.
     pub fn wants_status(&self) -> bool
         ensures { result ≡ spec.wants_status self.now.control }
     {
         self.control / 8 % 2 == 1
     }
 
-    /// For how long an answer to the request is kept, in ticks of a fifth of a second.
+    /// The time for which an answer to the request is kept, in ticks of a fifth of a second.
     pub fn release_ticks(&self) -> u16
         ensures { result ≡ spec.release_ticks self.now.control }
     {
@@ -177,7 +179,7 @@ impl<'a> Packet<'a> {
     }
 }
 
-/// The bytes of a packet. Allocates exactly its length.
+/// The bytes of a packet. Allocates exactly the packet's length.
 ///
 /// Inside AppleTalk, the chapter on ATP.
 ///

@@ -1,4 +1,5 @@
-//! What a responder sends for a packet, where its user's answer is at hand.
+//! The packets that a responder sends in reply to a packet, where the user's answer is known
+//! already.
 
 ghost use Rattle.std.specs.Prelude.{◌≡◌, ◌⊎◌, ◌<◌, ◌≤◌, ◌↔◌, false, true, length, IfOk, IfErr};
 ghost use Rattle.std.specs.Prelude.{IsOkUnless, OnErr, OnOk};
@@ -14,7 +15,7 @@ use crate::request::Todo;
 use crate::responder::Responder;
 use at_base::{Bytes, Error};
 
-/// The packets of a kept answer, where a packet asks for one.
+/// The packets of a kept answer, if the packet is a request for it. Error: `Memory`.
 fn kept_packets(responder: &Responder, from: Peer, packet: &Packet<'_>) -> Result<Vec<Bytes>, Error>
     ensures ok { IfOk result (λ packets. packets.items
         ≡ bytes_of_all (spec.kept_packets from (packet_value packet.now) responder.now)) }
@@ -32,7 +33,7 @@ fn kept_packets(responder: &Responder, from: Peer, packet: &Packet<'_>) -> Resul
     }
 }
 
-/// Responds to a request that waits. Where memory is refused, the request is forgotten.
+/// Responds to a request that waits for its answer. Error: `Memory`; the request is removed then.
 fn respond_or_forget(
     responder: &mut Responder,
     from: Peer,
@@ -59,9 +60,9 @@ fn respond_or_forget(
     }
 }
 
-/// The packets that answer a packet from an asker: a new request is answered with the user's parts,
-/// one that came again with what is kept. Nothing is sent for another packet, for a request that
-/// waits, and for a new one where 64 of its kind wait or are kept.
+/// The packets to send in reply to a packet from an asker. A new request is answered with the
+/// user's parts, a repeated one with the kept answer. Nothing is sent for any other packet, for a
+/// request that waits for its answer, and for a new request where 64 of its kind wait or are kept.
 ///
 /// Inside AppleTalk, the chapter on ATP.
 ///
@@ -75,7 +76,7 @@ pub fn reply(
     requires { 0 < length user.now }
     ensures ok { IfOk result (λ packets. packets.items ≡ bytes_of_all
         (spec.reply from (packet_value packet.now) user.now responder.old).0) }
-    // As many as a response has parts.
+    // A response has at most 8 parts.
     ensures few { IfOk result (λ packets. length packets.items ≤ 8) }
     // Each is the data of a datagram.
     ensures short { IfOk result (λ packets. AreShort packets.items) }
@@ -88,7 +89,7 @@ pub fn reply(
     if !is_short(user) {
         return Err(Error::TooLong);
     }
-    // What is kept is read first: a refusal then leaves the time of the answer as it is.
+    // The kept answer is read first, so that a refusal leaves its time as it is.
     let kept = kept_packets(responder, from, packet)?;
     match responder.heard(from, packet) {
         Ok(Todo::Ask) => respond_or_forget(responder, from, packet.id, user),

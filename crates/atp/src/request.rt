@@ -1,4 +1,4 @@
-//! A request that was heard.
+//! A request that a responder received.
 
 ghost use Rattle.std.specs.Prelude.{◌≡◌, is_some, IfOk, IsOkUnless};
 ghost use Rattle.atp.specs.InPlace.{packet_value};
@@ -11,23 +11,23 @@ use crate::packet::Packet;
 use at_base::Error;
 use std::alloc::Global;
 
-/// What is to be done for a packet that a responder heard.
+/// The action for a packet that a responder received.
 ///
 /// Inside AppleTalk, the chapter on ATP.
 #[derive(Clone, Copy, Debug, PartialEq, Eq)]
 pub enum Todo {
-    /// A new request: its answer is wanted.
+    /// A new request: the user is to answer it.
     Ask,
-    /// A request that was answered: the answer that was kept is to be sent again.
+    /// A request that was answered: the kept answer is to be sent again.
     Again,
-    /// A request that waits for its answer already.
+    /// A request that already waits for its answer.
     Wait,
-    /// No request.
+    /// The packet isn't a request.
     Nothing,
 }
 
-/// A request: who asked, by which number, for which parts; and its answer, which is kept for so
-/// many ticks more.
+/// A request: its asker and ID, the parts asked for, the kept answer, and the number of ticks for
+/// which the answer is still kept.
 #[derive(Debug, Drop)]
 pub(crate) struct Request {
     pub(crate) from: Peer,
@@ -39,7 +39,7 @@ pub(crate) struct Request {
     pub(crate) left: u16,
 }
 
-/// Whether the two are one socket.
+/// Whether the sockets are equal.
 fn is_same(a: Peer, b: Peer) -> bool
     ensures { result ≡ same_peer a b }
 {
@@ -47,7 +47,7 @@ fn is_same(a: Peer, b: Peer) -> bool
 }
 
 impl Request {
-    /// A new request, which has no answer yet.
+    /// A new request, without an answer.
     pub(crate) fn new(from: Peer, packet: &Packet<'_>) -> Request
         ensures { result ≡ new_request from (packet_value packet.now) }
     {
@@ -82,28 +82,28 @@ impl Request {
         })
     }
 
-    /// Whether it is of this asker and number.
+    /// Whether the request has this asker and ID.
     pub(crate) fn is_of(&self, from: Peer, id: u16) -> bool
         ensures { result ≡ spec.is_of from id self.now }
     {
         is_same(self.from, from) && self.id == id
     }
 
-    /// Whether it was answered.
+    /// Whether the request was answered.
     pub(crate) fn is_answered(&self) -> bool
         ensures { result ≡ is_some self.now.answer }
     {
         self.answer.is_some()
     }
 
-    /// Begins the time of its answer anew.
+    /// Restarts the time of its answer.
     pub(crate) fn repeat(&mut self)
         ensures { self.new ≡ repeated self.old }
     {
         self.left = self.release;
     }
 
-    /// Keeps its answer.
+    /// Keeps the answer to the request, and starts its time.
     pub(crate) fn keep(&mut self, answer: Answer)
         ensures { self.new ≡ with_answer answer self.old }
     {
@@ -111,14 +111,14 @@ impl Request {
         self.left = self.release;
     }
 
-    /// Whether its answer has one tick left at most.
+    /// Whether its answer has at most one tick left.
     pub(crate) fn is_over(&self) -> bool
         ensures { result ≡ spec.is_over self.now }
     {
         self.answer.is_some() && self.left <= 1
     }
 
-    /// Lets a tick pass, of which its answer has more than one left.
+    /// Advances the time of its answer by one tick. The answer must have more than one tick left.
     pub(crate) fn tick(&mut self)
         ensures { self.new ≡ older self.old }
     {

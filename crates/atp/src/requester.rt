@@ -1,4 +1,5 @@
-//! A requester: it asks, asks again for what is missing, and gives up after so many tries.
+//! A requester: it sends requests, sends them again while parts are missing, and gives up after a
+//! number of tries.
 
 ghost use Rattle.std.specs.Prelude.{◌≡◌, ◌≢◌, ◌⊎◌, ◌↔◌, ◌<◌, ◌≤◌, ◌+◌, ◌%◌, Some, None, true};
 ghost use Rattle.std.specs.Prelude.{false, ℕ, length, IfOk, IfErr, IfNone, IfSome, IsOkUnless};
@@ -25,10 +26,10 @@ use slab::Slab;
 use std::alloc::Global;
 use std::marker::Model;
 
-/// The most transactions that are open at once.
+/// The greatest number of open transactions.
 pub const MAX_OPEN: usize = 32;
 
-/// The transactions that are open, by their numbers.
+/// The open transactions, by their IDs.
 ///
 /// Inside AppleTalk, the chapter on ATP.
 #[derive(Debug, Drop)]
@@ -50,8 +51,8 @@ impl Model for Requester {
 }
 
 impl Requester {
-    /// No transactions; the number of the first one is tried from `first` on. Makes room for all
-    /// that may be open. Error: `Memory`.
+    /// A requester without transactions; the ID of the first one is looked for from `first` on.
+    /// Allocates room for all transactions that may be open. Error: `Memory`.
     pub fn new(alloc: Global, first: u16) -> Result<Requester, Error>
         ensures next { IfOk result (λ r. r.next ≡ first) }
         ensures none { IfOk result (λ r. (id : ℕ) → known id r.slots ≡ None) }
@@ -65,8 +66,8 @@ impl Requester {
         })
     }
 
-    /// A copy: of each number it knows what this one knows, and the next number is the same. Makes
-    /// room for all that may be open. Error: `Memory`.
+    /// A copy, with the same transaction for each ID and the same next ID. Allocates room for all
+    /// transactions that may be open. Error: `Memory`.
     pub fn copy(&self) -> Result<Requester, Error>
         ensures next { IfOk result (λ r. r.next ≡ self.now.next) }
         ensures same { IfOk result (λ r. (id : ℕ) → known id r.slots ≡ known id self.now.slots) }
@@ -81,15 +82,14 @@ impl Requester {
         })
     }
 
-    /// Whether as many transactions are open as there may be. Allocates nothing.
+    /// Whether the greatest number of transactions is open. Allocates nothing.
     pub fn is_full(&self) -> bool
         ensures { result ≡ nat_le 32 (open_count self.now.slots) }
     {
         MAX_OPEN <= self.table.len()
     }
 
-    /// Opens a transaction, whose request is then due. The number of the transaction. Allocates
-    /// nothing.
+    /// Opens a transaction, whose request is then due, and returns its ID. Allocates nothing.
     ///
     /// Errors: `TooLong` above 578 bytes of data, `Full` where 32 are open. A refusal changes
     /// nothing.
@@ -118,7 +118,7 @@ impl Requester {
         Ok(id)
     }
 
-    /// The least number of a transaction whose request is due. Allocates nothing.
+    /// The least ID of a transaction whose request is due, if any. Allocates nothing.
     pub fn due(&self) -> Option<u16>
         ensures some { IfSome result (λ id. IsLeastDue self.now.slots id) }
         ensures none { IfNone result ((id : ℕ) → is_due_in (known id self.now.slots) ≡ false) }
@@ -126,10 +126,9 @@ impl Requester {
         least_due(&self.table)
     }
 
-    /// The bytes of a request that is due, for the parts that are missing. It counts as sent.
+    /// The bytes of a request that is due, for the missing parts. The request then counts as sent.
     ///
-    /// Errors: `NoSuch` where no request of this number is due, `Memory`. A refusal changes
-    /// nothing.
+    /// Errors: `NoSuch` where no request with this ID is due, `Memory`. A refusal changes nothing.
     pub fn request(&mut self, id: u16) -> Result<Bytes, Error>
         ensures ok { IfOk result (λ bytes. IfSome (known id self.old.slots)
             (λ t. bytes ≡ bytes_of spec.packet (request_of t))) }
@@ -153,8 +152,8 @@ impl Requester {
         }
     }
 
-    /// Hears a packet. The bytes of a release, where the packet completes a transaction that is to
-    /// be carried out once.
+    /// Handles a packet. Returns the bytes of a release if the packet completes an exactly-once
+    /// transaction.
     ///
     /// Error: `Memory`. A refusal changes nothing.
     pub fn heard(&mut self, from: Peer, packet: &Packet<'_>) -> Result<Option<Bytes>, Error>
@@ -175,7 +174,7 @@ impl Requester {
         }
     }
 
-    /// Lets a tick pass for each transaction. Allocates nothing.
+    /// Advances each transaction by one tick. Allocates nothing.
     pub fn tick(&mut self)
         ensures ticked { (id : ℕ) → known id self.new.slots
             ≡ option_map ticked (known id self.old.slots) }
@@ -184,9 +183,9 @@ impl Requester {
         tick_all(&mut self.table);
     }
 
-    /// What became of a transaction, which is closed unless it waits. Allocates nothing.
+    /// The outcome of a transaction. The transaction is closed unless it waits. Allocates nothing.
     ///
-    /// Error: `NoSuch` where no transaction of this number is open. A refusal changes nothing.
+    /// Error: `NoSuch` where no transaction with this ID is open. A refusal changes nothing.
     pub fn result(&mut self, id: u16) -> Result<Outcome, Error>
         ensures ok { IfOk result (λ outcome. IfSome (known id self.old.slots)
             (λ t. outcome ≡ outcome_of t)) }

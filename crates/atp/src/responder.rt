@@ -1,4 +1,5 @@
-//! A responder: it keeps what was asked, and the answers to requests that are carried out once.
+//! A responder: it keeps requests until they are answered, and the answers to exactly-once
+//! requests.
 
 ghost use Rattle.std.specs.Prelude.{◌≡◌, ◌⊎◌, ◌<◌, ◌≤◌, ◌↔◌, ◌++◌, ◌∷◌, not, true, false, None, []};
 ghost use Rattle.std.specs.Prelude.{length, filter, map, position, is_some, IfOk, IfErr, IfNone};
@@ -22,10 +23,10 @@ use at_base::{Bytes, Error, What};
 use std::alloc::Global;
 use std::marker::Model;
 
-/// The most requests of each kind: those that are carried out once, and the others.
+/// The greatest number of requests of each kind: exactly-once requests, and the others.
 pub const MAX_REQUESTS: usize = 64;
 
-/// The requests that were heard: those that wait for their answer, and those whose answer is kept.
+/// The requests of a responder: those that wait for an answer, and those whose answer is kept.
 ///
 /// Inside AppleTalk, the chapter on ATP.
 #[derive(Debug, Drop)]
@@ -45,14 +46,14 @@ impl Model for Responder {
     ghost invariant = { λ r. IsRequests r.requests.items };
 }
 
-/// The index of the first request of an asker and number.
+/// The index of the first request with this asker and ID, if any.
 fn position_of(requests: &[Request], from: Peer, id: u16) -> Option<usize>
     ensures { result ≡ position (is_of from id) requests.now }
 {
     requests.iter().position(|request| request.is_of(from, id))
 }
 
-/// The index of the request of an asker and number.
+/// The index of the request with this asker and ID, if any.
 fn place_of(requests: &[Request], from: Peer, id: u16) -> Option<usize>
     ensures none { IfNone result (request_of from id requests.now ≡ None) }
     ensures some { IfSome result (λ place.
@@ -61,7 +62,7 @@ fn place_of(requests: &[Request], from: Peer, id: u16) -> Option<usize>
     position_of(requests, from, id)
 }
 
-/// The number of requests of a kind.
+/// The number of requests of a kind: exactly-once (`once`) or not.
 fn count_of(requests: &[Request], once: bool) -> usize
     ensures { result ≡ of_kind once requests.now }
 {
@@ -71,7 +72,7 @@ fn count_of(requests: &[Request], once: bool) -> usize
         .count()
 }
 
-/// A copy of each request.
+/// A copy of each request. Error: `Memory`.
 fn copy_all(alloc: Global, requests: &[Request]) -> Result<Vec<Request>, Error>
     ensures ok { IfOk result (λ copies. copies.items ≡ requests.now) }
     ensures err { IsOkUnless result Error.Memory }
@@ -83,21 +84,21 @@ fn copy_all(alloc: Global, requests: &[Request]) -> Result<Vec<Request>, Error>
     Ok(copies)
 }
 
-/// Takes out the request of an asker and number.
+/// Removes the request with this asker and ID.
 fn forget(requests: &mut Vec<Request>, from: Peer, id: u16)
     ensures { requests.new.items ≡ without from id requests.old.items }
 {
     requests.retain(|request| !request.is_of(from, id));
 }
 
-/// Takes out the requests whose time is over.
+/// Removes the requests whose time is over.
 fn forget_old(requests: &mut Vec<Request>)
     ensures { requests.new.items ≡ filter (λ r. not (is_over r)) requests.old.items }
 {
     requests.retain(|request| !request.is_over());
 }
 
-/// Lets a tick pass for each of the requests.
+/// Advances each request by one tick.
 fn tick_all(requests: &mut [Request])
     ensures { requests.new ≡ map older requests.old }
 {
@@ -106,7 +107,7 @@ fn tick_all(requests: &mut [Request])
     }
 }
 
-/// Takes out the requests whose time is over, and lets a tick pass for the others.
+/// Removes the requests whose time is over, and advances the others by one tick.
 fn pass_tick(requests: &mut Vec<Request>)
     ensures { requests.new.items ≡ ticked requests.old.items }
 {
@@ -114,14 +115,14 @@ fn pass_tick(requests: &mut Vec<Request>)
     tick_all(requests.as_mut_slice());
 }
 
-/// The request of an asker and number.
+/// The request with this asker and ID, if any.
 fn find(requests: &[Request], from: Peer, id: u16) -> Option<&Request>
     ensures { option_copied result ≡ request_of from id requests.now }
 {
     requests.iter().find(|request| request.is_of(from, id))
 }
 
-/// The index of a request that waits for its answer.
+/// The index of the request with this asker and ID, if it waits for an answer.
 fn waiting_place(requests: &[Request], from: Peer, id: u16) -> Option<usize>
     ensures none { IfNone result (waits (request_of from id requests.now) ≡ false) }
     ensures some { IfSome result (λ place. (r : RequestValue)
@@ -134,7 +135,7 @@ fn waiting_place(requests: &[Request], from: Peer, id: u16) -> Option<usize>
     Some(place)
 }
 
-/// The answer that is kept for an asker and number.
+/// The answer that is kept for this asker and ID, if any.
 fn kept_answer(requests: &[Request], from: Peer, id: u16) -> Option<&Answer>
     ensures { option_copied result ≡ spec.kept (request_of from id requests.now) }
 {
@@ -142,7 +143,8 @@ fn kept_answer(requests: &[Request], from: Peer, id: u16) -> Option<&Answer>
     request.answer.as_ref()
 }
 
-/// Hears a request again: where it was answered, the time of its answer begins anew.
+/// Handles a request that is known already: if it was answered, the time of its answer is
+/// restarted.
 fn hear_again(requests: &mut Vec<Request>, place: usize, from: Peer, id: u16) -> Todo
     requires { (r : RequestValue) × IsPlace (is_of from id) place requests.old.items r }
     ensures { IfSome (request_of from id requests.old.items)
@@ -157,7 +159,7 @@ fn hear_again(requests: &mut Vec<Request>, place: usize, from: Peer, id: u16) ->
     }
 }
 
-/// Hears a new request, where there is room for it.
+/// Handles a new request. Errors: `Full` where 64 of its kind wait or are kept, `Memory`.
 fn hear_new(requests: &mut Vec<Request>, from: Peer, packet: &Packet<'_>) -> Result<Todo, Error>
     ensures ok { IfOk result (λ todo. (todo ≡ Todo.Ask) × (requests.new.items
         ≡ requests.old.items ++ new_request from (packet_value packet.now) ∷ [])) }
@@ -169,13 +171,13 @@ fn hear_new(requests: &mut Vec<Request>, from: Peer, packet: &Packet<'_>) -> Res
     if count_of(requests.as_slice(), packet.is_exactly_once()) >= MAX_REQUESTS {
         return Err(Error::Full);
     }
-    // Room is made first: a refusal then leaves the requests as they are.
+    // Room is made first, so that a refusal leaves the requests as they are.
     requests.reserve(1)?;
     requests.push(Request::new(from, packet)).unwrap();
     Ok(Todo::Ask)
 }
 
-/// Keeps the answer to the request at a place.
+/// Keeps the answer to the request at an index.
 fn keep_at(requests: &mut Vec<Request>, place: usize, from: Peer, id: u16, answer: Answer)
     requires { (r : RequestValue) × IsPlace (is_of from id) place requests.old.items r }
     ensures { requests.new.items
@@ -185,7 +187,7 @@ fn keep_at(requests: &mut Vec<Request>, place: usize, from: Peer, id: u16, answe
 }
 
 impl Responder {
-    /// No requests. Error: `Memory`, which an empty responder never needs.
+    /// A responder without requests. Error: `Memory`, which an empty responder never needs.
     pub fn new(alloc: Global) -> Result<Responder, Error>
         ensures ok { IfOk result (λ responder. responder ≡ []) }
         ensures made { IsOk result }
@@ -196,12 +198,12 @@ impl Responder {
         })
     }
 
-    /// What it takes memory from.
+    /// The allocator of the requests.
     pub(crate) fn allocator(&self) -> Global {
         *self.requests.allocator()
     }
 
-    /// A copy, equal to it. Error: `Memory`.
+    /// A copy of the responder. Error: `Memory`.
     pub fn copy(&self) -> Result<Responder, Error>
         ensures ok { IfOk result (λ responder. responder ≡ self.now) }
         ensures refused { IsOkUnless result Error.Memory }
@@ -212,7 +214,8 @@ impl Responder {
         }
     }
 
-    /// What is to be done for a packet from an asker. A release ends the request that it names.
+    /// Handles a packet from an asker, and returns the action for it. A release removes the request
+    /// that it names.
     ///
     /// Errors: `Full` for a new request where 64 of its kind wait or are kept, `Memory` for a new
     /// request. A refusal changes nothing.
@@ -240,10 +243,10 @@ impl Responder {
         }
     }
 
-    /// Keeps the answer to a request that is to be carried out once, and forgets any other request.
-    /// The packets of the parts that were asked for are the result.
+    /// Answers a request: returns the packets of the parts that were asked for. The answer to an
+    /// exactly-once request is kept; any other request is removed.
     ///
-    /// Errors: `NoSuch` where no request of this asker and number waits for its answer; `TooLong`
+    /// Errors: `NoSuch` where no request with this asker and ID waits for an answer; `TooLong`
     /// above 8 parts, or 578 bytes in a part; `Memory`. A refusal changes nothing.
     pub fn respond(
         &mut self,
@@ -276,7 +279,7 @@ impl Responder {
         let alloc = self.allocator();
         let packets = packets_of(alloc, id, self.requests[place].asked, parts)?;
         if self.requests[place].once {
-            // The copy is made first: a refusal then leaves the request as it is.
+            // The copy is made first, so that a refusal leaves the request as it is.
             let answer = Answer::copy(alloc, parts)?;
             keep_at(&mut self.requests, place, from, id, answer);
         } else {
@@ -285,9 +288,9 @@ impl Responder {
         Ok(packets)
     }
 
-    /// The packets of those parts of a kept answer that a bitmap asks for.
+    /// The packets of the parts of a kept answer that a bitmap asks for.
     ///
-    /// Errors: `NoSuch` where no answer of this asker and number is kept, `Memory`.
+    /// Errors: `NoSuch` where no answer for this asker and ID is kept, `Memory`.
     pub fn parts(&self, from: Peer, id: u16, bitmap: u8) -> Result<Vec<Bytes>, Error>
         ensures ok { IfOk result (λ packets. packets.items ≡ bytes_of_all
             (answer_packets id bitmap
@@ -305,14 +308,15 @@ impl Responder {
         }
     }
 
-    /// Forgets the request of an asker and number. Allocates nothing.
+    /// Removes the request with this asker and ID. Allocates nothing.
     pub fn released(&mut self, from: Peer, id: u16)
         ensures { self.new ≡ without from id self.old }
     {
         forget(&mut self.requests, from, id);
     }
 
-    /// Lets a tick pass, and forgets the answers whose time is over. Allocates nothing.
+    /// Advances the responder by one tick, and removes the answers whose time is over. Allocates
+    /// nothing.
     pub fn tick(&mut self)
         ensures { self.new ≡ ticked self.old }
     {
@@ -320,8 +324,8 @@ impl Responder {
     }
 }
 
-/// Does nothing. Its contract says what holds of the requests of each responder: at most 64 of each
-/// kind, at most one of each asker and number, and each is sound.
+/// Does nothing. Its contract has the invariant of a responder's requests: at most 64 of each kind,
+/// at most one of each asker and ID, and each is sound.
 pub fn requests_are_few(responder: &Responder)
     ensures { IsRequests responder.now }
 {

@@ -1,4 +1,4 @@
-//! Open transactions in the slots of a slab.
+//! Open transactions in a slab.
 
 ghost use Rattle.std.specs.Prelude.{◌≡◌, ◌≢◌, ◌⊎◌, ◌≤◌, ◌<◌, ◌+◌, suc, Some, None, false, true, ℕ};
 ghost use Rattle.std.specs.Prelude.{if◌then◌else◌, IfOk, IfErr, IfNone, IfSome, IsOkUnless, OnErr};
@@ -28,7 +28,7 @@ use at_base::{Bytes, Error, What};
 use slab::Slab;
 use std::alloc::Global;
 
-/// The key of the transaction with this number.
+/// The key of the transaction with this ID, if any.
 pub(crate) fn key_of(table: &Slab<Transaction>, id: u16) -> Option<usize>
     ensures none { IfNone result (known id table.now.slots ≡ None) }
     ensures some { IfSome result (λ key. (t : Value) × (get table.now key ≡ Some t)
@@ -44,7 +44,7 @@ pub(crate) fn key_of(table: &Slab<Transaction>, id: u16) -> Option<usize>
     None
 }
 
-/// The first number from `first` on, and from 0 after 65,535, that no transaction has.
+/// The first ID from `first` on, and after 65,535 from 0 on, that no transaction has.
 pub(crate) fn next_id(table: &Slab<Transaction>, first: u16) -> u16
     requires { slab_len table.now ≤ 32 }
     ensures { IsNextId first table.now.slots result }
@@ -56,11 +56,11 @@ pub(crate) fn next_id(table: &Slab<Transaction>, first: u16) -> u16
             None => return id,
         }
     }
-    // not reached: of 33 numbers at most 32 are open
+    // Not reached: of 33 IDs at most 32 are open.
     first
 }
 
-/// Puts a transaction into a slot that is vacant.
+/// Puts a transaction into a vacant slot.
 pub(crate) fn insert(table: &mut Slab<Transaction>, transaction: Transaction)
     requires table { IsTable table.old }
     requires some { slab_len table.old < 32 }
@@ -72,7 +72,7 @@ pub(crate) fn insert(table: &mut Slab<Transaction>, transaction: Transaction)
     table.insert_reserved(transaction);
 }
 
-/// Copies the transaction at a key, if there is one. Error: `Memory`.
+/// Copies the transaction with this key, if any. Error: `Memory`.
 fn copy_at(
     alloc: Global,
     table: &Slab<Transaction>,
@@ -90,7 +90,7 @@ fn copy_at(
     Ok(())
 }
 
-/// A copy of the transactions, with room for as many as may be open. Error: `Memory`.
+/// A copy of the transactions, with room for all that may be open. Error: `Memory`.
 pub(crate) fn copy_all(alloc: Global, table: &Slab<Transaction>) -> Result<Slab<Transaction>, Error>
     requires { IsTable table.now }
     ensures ok { IfOk result (λ copy. IsCopy table.now copy) }
@@ -103,7 +103,7 @@ pub(crate) fn copy_all(alloc: Global, table: &Slab<Transaction>) -> Result<Slab<
     Ok(copy)
 }
 
-/// Takes the transaction at a key out.
+/// Removes the transaction with this key.
 pub(crate) fn take(table: &mut Slab<Transaction>, key: usize) -> Option<Transaction>
     requires { IsTable table.old }
     ensures value { result ≡ get table.old key }
@@ -113,7 +113,7 @@ pub(crate) fn take(table: &mut Slab<Transaction>, key: usize) -> Option<Transact
     table.try_remove(key)
 }
 
-/// The request of the transaction at a key was sent.
+/// Marks the request of the transaction with this key as sent.
 pub(crate) fn send_at(table: &mut Slab<Transaction>, key: usize)
     requires { IsTable table.old }
     ensures { (t : Value) → get table.old key ≡ Some t
@@ -124,7 +124,7 @@ pub(crate) fn send_at(table: &mut Slab<Transaction>, key: usize)
     }
 }
 
-/// Lets a tick pass for the transaction at a key.
+/// Advances the transaction with this key by one tick.
 fn tick_at(table: &mut Slab<Transaction>, key: usize)
     requires { IsTable table.old }
     ensures table { IsTable table.new }
@@ -136,7 +136,7 @@ fn tick_at(table: &mut Slab<Transaction>, key: usize)
     }
 }
 
-/// Lets a tick pass for each transaction.
+/// Advances each transaction by one tick.
 pub(crate) fn tick_all(table: &mut Slab<Transaction>)
     requires { IsTable table.old }
     ensures table { IsTable table.new }
@@ -148,7 +148,7 @@ pub(crate) fn tick_all(table: &mut Slab<Transaction>)
     }
 }
 
-/// The transaction at a key takes a packet that it hears. Whether it is complete then.
+/// Gives a packet to the transaction with this key, and returns whether it is complete then.
 pub(crate) fn hear_in(
     table: &mut Slab<Transaction>,
     key: usize,
@@ -171,7 +171,7 @@ pub(crate) fn hear_in(
     }
 }
 
-/// The number of the transaction at a key, where its request is due.
+/// The ID of the transaction with this key, if its request is due.
 fn due_at(table: &Slab<Transaction>, key: usize) -> Option<u16>
     ensures none { IfNone result ((t : Value) → get table.now key ≡ Some t → is_due t ≡ false) }
     ensures some { IfSome result (λ id. (t : Value) × (get table.now key ≡ Some t)
@@ -185,7 +185,7 @@ fn due_at(table: &Slab<Transaction>, key: usize) -> Option<u16>
     }
 }
 
-/// The least number of a transaction whose request is due.
+/// The least ID of a transaction whose request is due, if any.
 pub(crate) fn least_due(table: &Slab<Transaction>) -> Option<u16>
     requires { IsTable table.now }
     ensures some { IfSome result (λ id. IsLeastDue table.now.slots id) }
@@ -203,7 +203,8 @@ pub(crate) fn least_due(table: &Slab<Transaction>) -> Option<u16>
     best
 }
 
-/// The bytes of the request at a key, where it is due.
+/// The bytes of the request of the transaction with this key. Errors: `NoSuch` where it isn't due,
+/// `Memory`.
 pub(crate) fn request_at(
     alloc: Global,
     table: &Slab<Transaction>,
@@ -227,7 +228,7 @@ pub(crate) fn request_at(
     }
 }
 
-/// What became of the transaction at a key, which is closed unless it waits.
+/// The outcome of the transaction with this key. The transaction is closed unless it waits.
 pub(crate) fn close_at(table: &mut Slab<Transaction>, key: usize) -> Outcome
     requires { IsTable table.old }
     ensures outcome { (t : Value) → get table.old key ≡ Some t → result ≡ outcome_of t }
@@ -243,7 +244,7 @@ pub(crate) fn close_at(table: &mut Slab<Transaction>, key: usize) -> Outcome
     }
 }
 
-/// Whether the transaction at a key waits for parts.
+/// Whether the transaction with this key waits for parts.
 fn waits_at(table: &Slab<Transaction>, key: usize) -> bool
     ensures { (t : Value) → get table.now key ≡ Some t → result ≡ is_waiting t }
 {
@@ -253,7 +254,7 @@ fn waits_at(table: &Slab<Transaction>, key: usize) -> bool
     }
 }
 
-/// Whether the transaction at a key hears a packet.
+/// Whether the transaction with this key accepts a packet.
 fn hears_at(table: &Slab<Transaction>, key: usize, from: Peer, packet: &Packet<'_>) -> bool
     ensures { (t : Value) → get table.now key ≡ Some t
         → result ≡ is_heard from (packet_value packet.now) t }
@@ -264,7 +265,8 @@ fn hears_at(table: &Slab<Transaction>, key: usize, from: Peer, packet: &Packet<'
     }
 }
 
-/// The bytes of the release of the transaction at a key, where it is to be carried out once.
+/// The bytes of the release of the transaction with this key, if it is exactly-once. Error:
+/// `Memory`.
 fn release_at(alloc: Global, table: &Slab<Transaction>, key: usize) -> Result<Option<Bytes>, Error>
     ensures ok { IfOk result (λ release. (t : Value) → get table.now key ≡ Some t → release
         ≡ (if t.ask.exactly_once then Some (bytes_of spec.packet (release_of t)) else None)) }
@@ -278,7 +280,8 @@ fn release_at(alloc: Global, table: &Slab<Transaction>, key: usize) -> Result<Op
     }
 }
 
-/// The transaction at a key hears a packet. The bytes of a release, where the packet calls for one.
+/// Handles a packet for the transaction with this key. Returns the bytes of a release if the packet
+/// completes an exactly-once transaction. Error: `Memory`; nothing changes then.
 pub(crate) fn hear_at(
     alloc: Global,
     table: &mut Slab<Transaction>,
@@ -301,7 +304,7 @@ pub(crate) fn hear_at(
     if !hears_at(table, key, from, packet) {
         return Ok(None);
     }
-    // Both are made first: a refusal then leaves the transaction as it is.
+    // Both are made first, so that a refusal leaves the transaction as it is.
     let release = release_at(alloc, table, key)?;
     let part = part_from(alloc, packet)?;
     if hear_in(table, key, packet, part) {

@@ -1,4 +1,4 @@
-//! One transaction that a requester has open.
+//! One open transaction of a requester.
 
 ghost use Rattle.std.specs.Prelude.{◌≡◌, ◌≤◌, ◌<◌, ◌+◌, ◌^◌, None, false, length, map};
 ghost use Rattle.std.specs.Prelude.{slice_index_or, take, drop, IfOk, IsOkUnless};
@@ -20,15 +20,15 @@ use std::alloc::Global;
 /// The control byte of a request.
 const REQUEST: u8 = 0x40;
 
-/// The control byte of a request that is to be carried out once.
+/// The control byte of an exactly-once request, without its release time.
 const REQUEST_ONCE: u8 = 0x60;
 
 /// The control byte of a release.
 const RELEASE: u8 = 0xC0;
 
-/// What is known of an open transaction: what was asked; which parts are missing, and those that
-/// came; whether its request is due, and in how many ticks it will be otherwise; how many requests
-/// may still be sent; and whether it was given up.
+/// The state of an open transaction: its ID and request; which parts are missing, and the parts
+/// received; whether the request is due, and otherwise the number of ticks until it is; the number
+/// of requests that may still be sent; and whether the transaction was given up.
 #[derive(Debug, Drop)]
 pub(crate) struct Transaction {
     pub(crate) id: u16,
@@ -41,7 +41,7 @@ pub(crate) struct Transaction {
     pub(crate) failed: bool,
 }
 
-/// The first parts of eight.
+/// The first `count` of eight parts, as flags.
 fn first_parts(count: u8) -> [bool; 8]
     ensures { result ≡ bitmaps_spec.first_parts count }
 {
@@ -57,7 +57,7 @@ fn first_parts(count: u8) -> [bool; 8]
     ]
 }
 
-/// The number of a bitmap.
+/// The bitmap of flags, as a number.
 fn bitmap(bits: &[bool]) -> u8
     requires { length bits.now ≤ 8 }
     ensures value { result ≡ bitmaps_spec.bitmap bits.now }
@@ -69,14 +69,14 @@ fn bitmap(bits: &[bool]) -> u8
     }
 }
 
-/// Whether one of the parts is missing.
+/// Whether one of the flags is set.
 fn is_any(bits: &[bool]) -> bool
     ensures { result ≡ list_any (λ bit. bit) bits.now }
 {
     bits.iter().any(|bit| *bit)
 }
 
-/// Nothing is missing of these parts.
+/// Clears all flags.
 fn clear_bits(bits: &mut [bool])
     ensures { bits.new ≡ map (λ bit. false) bits.old }
 {
@@ -85,7 +85,7 @@ fn clear_bits(bits: &mut [bool])
     }
 }
 
-/// None of these parts is left.
+/// Removes all parts.
 fn clear_parts(parts: &mut [Option<AnswerPart>])
     ensures { parts.new ≡ map (λ part. None) parts.old }
 {
@@ -106,7 +106,7 @@ fn control_of(ask: &Ask) -> u8
     }
 }
 
-/// What a packet brings. Error: `Memory`.
+/// The part that a packet carries. Error: `Memory`.
 pub(crate) fn part_from(alloc: Global, packet: &Packet<'_>) -> Result<AnswerPart, Error>
     ensures ok { IfOk result (λ part. part ≡ part_of (packet_value packet.now)) }
     ensures err { IsOkUnless result Error.Memory }
@@ -117,7 +117,7 @@ pub(crate) fn part_from(alloc: Global, packet: &Packet<'_>) -> Result<AnswerPart
     })
 }
 
-/// A copy of a part, if it is there. Error: `Memory`.
+/// A copy of a part, if it exists. Error: `Memory`.
 fn copy_part(alloc: Global, part: &Option<AnswerPart>) -> Result<Option<AnswerPart>, Error>
     ensures ok { IfOk result (λ copy. copy ≡ part.now) }
     ensures err { IsOkUnless result Error.Memory }
@@ -150,7 +150,7 @@ fn copy_parts(
 }
 
 impl Transaction {
-    /// A copy, equal to it. Error: `Memory`.
+    /// A copy of the transaction. Error: `Memory`.
     pub(crate) fn copy(&self, alloc: Global) -> Result<Transaction, Error>
         ensures ok { IfOk result (λ copy. copy ≡ self.now) }
         ensures err { IsOkUnless result Error.Memory }
@@ -167,7 +167,7 @@ impl Transaction {
         })
     }
 
-    /// A transaction that begins.
+    /// A new transaction.
     pub(crate) fn new(id: u16, ask: Ask) -> Transaction
         ensures { result ≡ begun id ask }
     {
@@ -190,14 +190,14 @@ impl Transaction {
         !is_any(self.missing.as_slice())
     }
 
-    /// Whether it waits for parts.
+    /// Whether the transaction waits for parts.
     pub(crate) fn is_waiting(&self) -> bool
         ensures { result ≡ requesting_spec.is_waiting self.now }
     {
         !self.failed && !self.is_complete()
     }
 
-    /// Whether its request is to be sent now.
+    /// Whether its request is due.
     pub(crate) fn is_due(&self) -> bool
         ensures { result ≡ requesting_spec.is_due self.now }
     {
@@ -229,7 +229,7 @@ impl Transaction {
         write(alloc, RELEASE, 0, self.id, [0; 4], &[])
     }
 
-    /// Its request was sent.
+    /// Marks its request as sent.
     pub(crate) fn send(&mut self)
         ensures { self.new ≡ sent self.old }
     {
@@ -238,7 +238,7 @@ impl Transaction {
         self.tries = self.tries.saturating_sub(1);
     }
 
-    /// Lets a tick pass.
+    /// Advances the transaction by one tick.
     pub(crate) fn tick(&mut self)
         ensures { self.new ≡ ticked self.old }
     {
@@ -257,7 +257,8 @@ impl Transaction {
         }
     }
 
-    /// Whether a packet is a response from whom was asked, for a part that was asked for.
+    /// Whether a packet is a response from the socket that the request went to, for a part that it
+    /// asked for.
     fn is_answered_by(&self, from: Peer, packet: &Packet<'_>) -> bool
         ensures { result ≡ answers from (packet_value packet.now) self.now }
     {
@@ -268,7 +269,7 @@ impl Transaction {
             && packet.part < self.ask.parts
     }
 
-    /// Whether a packet is heard.
+    /// Whether a packet is accepted.
     pub(crate) fn hears(&self, from: Peer, packet: &Packet<'_>) -> bool
         ensures { result ≡ is_heard from (packet_value packet.now) self.now }
     {
@@ -288,7 +289,7 @@ impl Transaction {
         }
     }
 
-    /// Nothing after the last part is missing.
+    /// If the packet is marked as the end, nothing after its part is missing.
     fn end(&mut self, packet: &Packet<'_>)
         requires { packet.now.part < 8 }
         ensures { self.new ≡ with_end (packet_value packet.now) self.old }
@@ -302,7 +303,7 @@ impl Transaction {
         }
     }
 
-    /// Sends its request again at once, where the responder wants it.
+    /// Makes the request due at once, if the responder asks for it.
     fn note_status(&mut self, packet: &Packet<'_>)
         ensures { self.new ≡ with_status (packet_value packet.now) self.old }
     {
@@ -311,7 +312,7 @@ impl Transaction {
         }
     }
 
-    /// Takes a packet that it hears, and what the packet brings.
+    /// Handles a packet that is accepted, with the part that it carries.
     pub(crate) fn hear(&mut self, packet: &Packet<'_>, part: AnswerPart)
         requires near { packet.now.part < 8 }
         requires same { part ≡ part_of (packet_value packet.now) }

@@ -1,4 +1,4 @@
--- Rule C1, and what it gives: cables in rising order.
+-- Rule C1, and its consequence: cables are in rising order.
 use Rattle.std.proofs.Common.{◌≡◌, ℕ, zero, suc, ◌+◌, ◌<◌, inl, inr, true, false, List, Some, None, slice_get, add-one, arith, ap, sym}
 use Rattle.std.proofs.Common.{◌∙◌, ◌&&◌, ◌||◌, ◌==◌, not, length, nat_le}
 use Rattle.std.proofs.lemmas.Bool.{eqb-true, and_parts, or_parts, cases_order, false_from_ne_true}
@@ -16,16 +16,16 @@ use Rattle.audit.proofs.Finding.{first_index}
 use Rattle.audit.proofs.WalkLists.{At, at_within, at_below}
 use Rattle.audit.proofs.WalkFacts.{GoodCable, good_cable}
 
--- what a scan passes on from a cable
+-- the end that a scan passes on from a cable
 pub end_passed : (cables : List Cable) (k : ℕ) (c : Cable) → slice_get cables k ≡ Some c → c.end ≡ end_before cables (k + 1)
 end_passed cables k c at = rw (add-one, at)
 
--- a cable where rule C1 is kept
+-- a cable is good if rule C1 is kept
 pub good_at : (i : Internet) (k : ℕ) (c : Cable) → FirstPlace (c1 i) None → At i.cables k c → GoodCable (end_before i.cables k) c
 good_at i k c kept at =
     good_cable (end_before i.cables k) c (ap (λ o. on o (bad_cable (end_before i.cables k))) (sym at) ∙ kept (place.Cable (suc k)))
 
--- where rule C1 is kept, a cable ends below the start of each later one
+-- if rule C1 is kept, a cable ends below the start of each later one
 pub rising : (i : Internet) → FirstPlace (c1 i) None → (k j : ℕ) (a b : Cable) → slice_get i.cables j ≡ Some a
     → slice_get i.cables k ≡ Some b → j < k → a.end < b.start
 rising i kept zero j a b at_j at_k lt = absurd (omega arith)
@@ -45,7 +45,7 @@ rising i kept (suc k) j a b at_j at_k lt =
       | inr (inr above) ↦ absurd (omega arith)
     ]
 
--- where rule C1 is kept, the cable of a range is the only one
+-- if rule C1 is kept, at most one cable has a range
 pub only_range : (i : Internet) (start end k : ℕ) (c : Cable) → FirstPlace (c1 i) None → slice_get i.cables k ≡ Some c
     → (start == c.start && end == c.end) ≡ true → Some k ≡ index_of (λ (c : Cable). start == c.start && end == c.end) i.cables
 only_range i start end k c kept at for = sym (first_index (λ (c : Cable). start == c.start && end == c.end) i.cables k c at for before)
@@ -62,7 +62,7 @@ only_range i start end k c kept at for = sym (first_index (λ (c : Cable). start
         let its = starts d t in
         omega (arith, apart, up, mine, its))
 
--- where rule C1 is kept, the cable that a row is for is the only one, and so is that of a zone list
+-- if rule C1 is kept, at most one cable is that of a row, and of a zone list
 pub only_cable : (i : Internet) (row : Row) (k : ℕ) (c : Cable) → FirstPlace (c1 i) None → slice_get i.cables k ≡ Some c
     → is_for row c ≡ true → Some k ≡ cable_of i row
 only_cable i row k c kept at for = only_range i row.start row.end k c kept at for
@@ -71,7 +71,7 @@ pub only_list_cable : (i : Internet) (l : ZoneList) (k : ℕ) (c : Cable) → Fi
     → is_list_for l c ≡ true → Some k ≡ index_of (is_list_for l) i.cables
 only_list_cable i l k c kept at for = only_range i l.start l.end k c kept at for
 
--- where rule C1 is kept, a cable has no zone twice
+-- if rule C1 is kept, a cable has no zone twice
 pub no_double : (i : Internet) (k : ℕ) (c : Cable) → FirstPlace (c1 i) None → slice_get i.cables k ≡ Some c → has_double c.zones ≡ false
 no_double i k c kept at =
     let bad = ap (λ o. on o (bad_cable (end_before i.cables k))) (sym at) ∙ kept (place.Cable (suc k)) in

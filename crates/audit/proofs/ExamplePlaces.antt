@@ -1,4 +1,4 @@
--- A rule is kept where a test over the lists says so, which computes at a given internet.
+-- A rule is kept if a test over the lists says so. The test can be computed for a given internet.
 use Rattle.std.proofs.Common.{◌≡◌, ◌≢◌, ℕ, zero, suc, Bool, true, false, ◌||◌, ◌&&◌, not, if◌then◌else◌, List, [], ◌∷◌, Some, None, refl}
 use Rattle.std.proofs.Common.{sym, ap, ◌∙◌, slice_get, nat_lt, ◌==◌, eqb-true}
 use Rattle.std.proofs.lemmas.Bool.{or_parts}
@@ -14,7 +14,7 @@ use Rattle.audit.specs.Rules.{bad_direct, c4, c5, next_router, is_no_other, c6, 
 use Rattle.audit.specs.ZoneLists.{bad_list, lacks_list}
 use Rattle.audit.proofs.WalkLists.{At}
 
--- an element passes the test for its place
+-- an element passes the test for its index
 abbrev pub any_at : {X : Type 0} → (ℕ → X → Bool) → List X → Bool
 any_at test [] = false
 any_at test (x ∷ xs) = test zero x || any_at (λ k. test (suc k)) xs
@@ -34,7 +34,7 @@ on_each xs k test each =
       | Some x ↦ λ e. each x e
     ] refl
 
--- at each place, and at each place of a part
+-- if the test over the list fails, the test fails at each index
 kept_at : {X : Type 0} (test : ℕ → X → Bool) (xs : List X) → any_at test xs ≡ false → (k : ℕ) → on (slice_get xs k) (test k) ≡ false
 kept_at test xs none k = on_each xs k (test k) (none_at test xs none k)
 
@@ -45,7 +45,7 @@ kept_in part test xs none r k =
     on_each xs r (λ x. on (slice_get (part x) k) (test r x k)) (λ x e.
     kept_at (test r x) (part x) (none_at (λ r x. any_at (test r x) (part x)) xs none r x e) k)
 
--- ---- The rules as tests over the lists: whether some place breaks one
+-- ---- the rules as tests over the lists: some place breaks the rule
 
 abbrev pub breaks_one : Internet → Bool
 breaks_one i = any_at (λ k. bad_cable (end_before i.cables k)) i.cables
@@ -183,7 +183,7 @@ nine_kept i none (place.Row r k) = refl
 nine_kept i none (place.Missing r k) = refl
 nine_kept i none (place.List r k) = refl
 
--- all rules but the seventh are kept
+-- all rules but C7 are kept
 pub record KeepsOthers (i : Internet) : Type 0 where
   pub one : breaks_one i ≡ false
   pub two : breaks_two i ≡ false
@@ -198,7 +198,7 @@ choose : (b x y : Bool) → (b ≡ true → x ≡ false) → (b ≡ false → y 
 choose true x y f g = f refl
 choose false x y f g = g refl
 
--- the rules at a place, where the seventh is known to be kept there
+-- the rules at a place, where C7 is known to be kept
 by_rule : (i : Internet) → KeepsOthers i → (rule : ℕ) (p : Place) → ((rule == 7) ≡ true → c7 i p ≡ false) → breaks i rule p ≡ false
 by_rule i kept rule p seven =
     choose (rule == 1) _ _ (λ _. one_kept i kept.one p) (λ _.

@@ -1,4 +1,4 @@
--- The example passes, and the routers that point at each other send a datagram nowhere.
+-- The example passes, and from routers that point at each other no walk ends.
 use Rattle.std.proofs.Common.{◌≡◌, ◌≢◌, ℕ, zero, suc, ◌+◌, List, [], ◌∷◌, Some, slice_get, refl, sym, ◌∙◌, subst, arith}
 use Rattle.audit.specs.Routing.{On, hand, home, distance}
 use Rattle.table_image.specs.declared.port.Port.{Port}
@@ -25,7 +25,7 @@ first_hands_on = refl
 second_hands_on : hand pointing_at_each_other 1 30 ≡ On 0 1 (addr 20 1)
 second_hands_on = refl
 
--- from neither router, whatever routers come next
+-- no walk ends from either router, whatever routers come next
 no_walk : (rest : List ℕ) (c : ℕ) → (IsWalk pointing_at_each_other 30 0 rest c → ⊥) × (IsWalk pointing_at_each_other 30 1 rest c → ⊥)
 no_walk [] c = ((λ w. let e = sym first_hands_on ∙ w in cc), (λ w. let e = sym second_hands_on ∙ w in cc))
 no_walk (s ∷ rest) c =
@@ -60,7 +60,7 @@ no_step (Goes s d a on owner within near port next_port other) =
     subst (λ (s : ℕ). distance pointing_at_each_other s 30 + 1 ≡ distance pointing_at_each_other 0 30) next near in
     cc
 
--- ---- what the words exclude
+-- ---- examples that the definitions exclude
 
 pub comes_back : ¬ AreDifferent (0 ∷ 1 ∷ 0 ∷ [])
 comes_back different = different.0.1.0 refl

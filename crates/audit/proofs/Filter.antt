@@ -1,4 +1,4 @@
--- What a filter that has seen the earlier routers says of an address, and that a new one has no mark.
+-- The answer of a filter that has seen the earlier routers, and that a new address has no mark.
 use Rattle.std.proofs.Common.{◌≡◌, ℕ, ◌+◌, ◌*◌, ◌%◌, inl, inr, ◌||◌, ◌==◌, true, false, List, slice_index, slice_index_or, replicate, take}
 use Rattle.std.proofs.Common.{ap, ◌∙◌, arith}
 use Rattle.std.specs.List.{list_any}
@@ -14,7 +14,7 @@ use Rattle.audit.specs.Seen.{HasSeenBelow, address_slot, hardware_slot, may_have
 use Rattle.audit.specs.declared.seen.Seen.{Seen}
 use Rattle.audit.proofs.Finding.{any_at, from_take}
 
--- a table without a mark
+-- an empty table has no mark
 pub no_mark : (n i : ℕ) → slice_index_or (replicate n false) i false ≡ false
 no_mark n i =
     elim (cases_lt i n) [
@@ -22,11 +22,11 @@ no_mark n i =
       | inr past ↦ let long = length-replicate n false in get_or_past (replicate n false) i false (omega (arith, long, past))
     ]
 
--- two tables without a mark say no of any two places
+-- two empty tables have no mark at any two indices
 pub no_marks : (n m i j : ℕ) → (slice_index_or (replicate n false) i false || slice_index_or (replicate m false) j false) ≡ false
 no_marks n m i j = ap (λ b. b || slice_index_or (replicate m false) j false) (no_mark n i) ∙ no_mark m j
 
--- one address has one mark
+-- equal addresses have the same mark
 same_slots : (a b : Addr) → same_address a b ≡ true → address_slot a ≡ address_slot b
 same_slots a b e =
     let parts = and_parts (a.net == b.net) (a.node == b.node) e in
@@ -36,7 +36,7 @@ same_slots a b e =
 same_hardware_slots : (g h : Hw) → same_hardware g h ≡ true → hardware_slot g ≡ hardware_slot h
 same_hardware_slots g h e = ap (λ l. slice_index l 5 + 256 * slice_index l 4) (same_bytes_is g.0 h.0 e)
 
--- an address without a mark is no earlier router's
+-- an address without a mark isn't that of an earlier router
 pub not_seen : (seen : Seen) (routers : List Router) (r : ℕ) (a : Addr) (h : Hw) → HasSeenBelow seen routers r → may_have seen a h ≡ false
     → list_any (router_has a h) (take r routers) ≡ false
 not_seen seen routers r a h below unmarked = false_from_ne_true (list_any (router_has a h) (take r routers)) (λ any.

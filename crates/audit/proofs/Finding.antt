@@ -1,4 +1,4 @@
--- What a search of a list finds.
+-- The results of searching a list.
 use Rattle.std.proofs.Common.{◌≡◌, ℕ, zero, suc, ◌+◌, ◌<◌, Bool, true, false, cond, ◌||◌, List, [], ◌∷◌, Option, Some, None, length, refl}
 use Rattle.std.proofs.Common.{ap, ◌∙◌, arith, slice_get, option_map, find, position, take}
 use Rattle.std.specs.List.{list_any, position_from}
@@ -18,7 +18,7 @@ from_index test i (x ∷ xs) = one (test x) (index_of test xs) (from_index test 
     one true o e = let s : i ≡ i + 0 = omega arith in ap Some s
     one false o e = e ∙ later o
 
--- the first place is what `position` gives
+-- the first index is the result of `position`
 pub index_position : {X : Type 0} (test : X → Bool) (xs : List X) → position test xs ≡ index_of test xs
 index_position test xs = position_from-zero test xs ∙ (from_index test 0 xs ∙ same (index_of test xs))
   where
@@ -26,7 +26,7 @@ index_position test xs = position_from-zero test xs ∙ (from_index test 0 xs �
     same None = refl
     same (Some j) = let e : 0 + j ≡ j = omega arith in ap Some e
 
--- the first place is one that passes, where none before it does
+-- an index is the first one if its element passes and none before it does
 pub first_index : {X : Type 0} (test : X → Bool) (xs : List X) (k : ℕ) (x : X) → slice_get xs k ≡ Some x → test x ≡ true
     → ((j : ℕ) (y : X) → j < k → slice_get xs j ≡ Some y → test y ≡ false) → index_of test xs ≡ Some k
 first_index test [] k x at t before = cc
@@ -37,7 +37,7 @@ first_index test (y ∷ xs) (suc k) x at t before =
     ap (λ b. cond b (Some zero) (option_map suc (index_of test xs))) (before zero y (omega arith) refl)
     ∙ ap (option_map suc) (first_index test xs k x at t (λ j z lt e. before (suc j) z (omega arith) e))
 
--- the first element that passes is one that does, where none before it does
+-- an element is the first that passes if it passes and none before it does
 pub first_found : {X : Type 0} (test : X → Bool) (xs : List X) (k : ℕ) (x : X) → slice_get xs k ≡ Some x → test x ≡ true
     → ((j : ℕ) (y : X) → j < k → slice_get xs j ≡ Some y → test y ≡ false) → find test xs ≡ Some x
 first_found test [] k x at t before = cc
@@ -49,7 +49,7 @@ first_found test (y ∷ xs) (suc k) x at t before =
     ap (λ b. cond b (Some y) (find test xs)) (before zero y (omega arith) refl)
     ∙ first_found test xs k x at t (λ j z lt e. before (suc j) z (omega arith) e)
 
--- an element that passes, of a list of which some do
+-- an element that passes, of a list with one
 pub any_at : {X : Type 0} (test : X → Bool) (xs : List X) → list_any test xs ≡ true → (k : ℕ) × (x : X) × (slice_get xs k ≡ Some x)
     × (test x ≡ true)
 any_at test [] any = cc
@@ -60,7 +60,7 @@ any_at test (x ∷ xs) any =
       | false ↦ λ t e. let h = any_at test xs e in (suc h.0, h.1, h.2, h.3)
     ] refl any
 
--- where one passes, some do
+-- if an element passes, the test of some element holds
 pub any_from : {X : Type 0} (test : X → Bool) (xs : List X) (k : ℕ) (x : X) → slice_get xs k ≡ Some x → test x ≡ true
     → list_any test xs ≡ true
 any_from test [] k x at t = cc
@@ -71,14 +71,14 @@ any_from test (y ∷ xs) (suc k) x at t = by (test y) (any_from test xs k x at t
     by true e = refl
     by false e = e
 
--- an element of a front
+-- an element of a front of the list
 pub at_take : {X : Type 0} (xs : List X) (n k : ℕ) (x : X) → k < n → slice_get xs k ≡ Some x → slice_get (take n xs) k ≡ Some x
 at_take [] n k x lt at = cc
 at_take (y ∷ xs) zero k x lt at = absurd (omega arith)
 at_take (y ∷ xs) (suc n) zero x lt at = at
 at_take (y ∷ xs) (suc n) (suc k) x lt at = at_take xs n k x (omega arith) at
 
--- the first place is within the list
+-- the first index is within the list
 pub index_within : {X : Type 0} (test : X → Bool) (xs : List X) (k : ℕ) → index_of test xs ≡ Some k → k < length xs
 index_within test [] k e = cc
 index_within test (x ∷ xs) k e =

@@ -1,4 +1,4 @@
--- What hints keep while more are put.
+-- Hints, while more are added.
 use Rattle.std.proofs.Common.{◌≡◌, ◌≢◌, ℕ, ◌+◌, inl, inr, ◌==◌, true, List, Some, slice_get, ap, sym, ◌∙◌, refl, subst, below_more, eq-eqb}
 use Rattle.std.specs.List.{list_any}
 use Rattle.std.proofs.lemmas.Bool.{cases_eq}
@@ -11,7 +11,7 @@ use Rattle.audit.specs.declared.next.Hints.{Hints}
 use Rattle.audit.proofs.Finding.{any_from}
 use Rattle.audit.proofs.Firsts.{on_some}
 
--- what named s still names s after one more hint for s
+-- a hint that names s still does after one more hint for s
 pub still_names : (new old : Hints) (x s : ℕ) → hint_at new x ≡ s → ((slot : ℕ) → slot ≢ x → hint_at new slot ≡ hint_at old slot)
     → (slot : ℕ) → hint_at old slot ≡ s → hint_at new slot ≡ s
 still_names new old x s here others slot was = elim (cases_eq slot x) [
@@ -19,7 +19,7 @@ still_names new old x s here others slot was = elim (cases_eq slot x) [
   | inr other ↦ others slot other ∙ was
 ]
 
--- each hint is as it was at first, or names s, one of whose ports has it
+-- each hint is unchanged, or names s and is that of one of s's ports
 pub first_or_new : (new old first : Hints) (x s : ℕ) (ports : List Port) → hint_at new x ≡ s
     → ((slot : ℕ) → slot ≢ x → hint_at new slot ≡ hint_at old slot) → list_any (λ p. port_slot p == x) ports ≡ true → (slot : ℕ)
     → FirstOr old first s ports slot → FirstOr new first s ports slot
@@ -31,7 +31,7 @@ first_or_new new old first x s ports here others any slot was = elim (cases_eq s
   ]
 ]
 
--- a port has its own hint
+-- a port has the hint at its own index
 pub own_slot : (ports : List Port) (p : ℕ) (port : Port) → slice_get ports p ≡ Some port
     → list_any (λ q. port_slot q == port_slot port) ports ≡ true
 own_slot ports p port at = any_from (λ q. port_slot q == port_slot port) ports p port at (eq-eqb (port_slot port) (port_slot port) refl)
@@ -42,7 +42,7 @@ names_router : (hints : Hints) (routers : List Router) (r : ℕ) (router : Route
 names_router hints routers r router slot at names has =
     ap (λ h. on (slice_get routers h) (has_slot slot)) names ∙ on_some routers r router (has_slot slot) true at has
 
--- a hint stays one, where it is as it was, or names a router with such a port
+-- a hint stays valid if it is unchanged, or names a router with a port at its index
 stays_hint : (new old : Hints) (routers : List Router) (r : ℕ) (router : Router) (slot : ℕ) → slice_get routers r ≡ Some router
     → FirstOr new old r router.ports slot → IsHint old routers slot → IsHint new routers slot
 stays_hint new old routers r router slot at how was = elim how [
@@ -50,7 +50,7 @@ stays_hint new old routers r router slot at how was = elim how [
   | inr by_r ↦ names_router new routers r router slot at by_r.0 by_r.1
 ]
 
--- once router r's ports have hints, all up to it do
+-- after router r's ports have hints, those of all routers up to r do
 pub one_more : (new old : Hints) (routers : List Router) (r : ℕ) (router : Router) → slice_get routers r ≡ Some router
     → Names new r router.ports → ((slot : ℕ) → FirstOr new old r router.ports slot) → HasHintsBelow old routers r
     → HasHintsBelow new routers (r + 1)

@@ -16,9 +16,9 @@ use Rattle.audit.specs.ZoneLists.{has_double, same_zones, is_list_for, bad_list,
 use Rattle.audit.proofs.Firsts.{on_past, part_at}
 use Rattle.audit.proofs.SameZones.{AreZones}
 
--- ---- The test of a list
+-- ---- the test of a list
 
--- what stands at the first index is what a search finds
+-- the element at the first index is the result of a search
 find_at : {X : Type 0} (test : X → Bool) (xs : List X) (k : ℕ) (x : X) → index_of test xs ≡ Some k → slice_get xs k ≡ Some x
     → find test xs ≡ Some x
 find_at test [] k x e at = cc
@@ -52,7 +52,7 @@ turned : (d s : Bool) → not (not d && s) ≡ (d || not s)
 turned true s = refl
 turned false s = refl
 
--- a complete list with a cable is bad where its names aren't that cable's zones
+-- a complete list with a cable is bad if its names aren't that cable's zones
 pub bad_for : (i : Internet) (l : ZoneList) (k : ℕ) (c : Cable) → l.complete ≡ true → index_of (is_list_for l) i.cables ≡ Some k
     → slice_get i.cables k ≡ Some c → not (AreZones c.zones l.zones) ≡ bad_list i l
 bad_for i l k c complete for at =
@@ -71,19 +71,19 @@ bad_nowhere i l none =
     (find_none (is_list_for l) i.cables none)
     ∙ or_true (not l.complete || has_double l.zones))
 
--- a list where no rule is broken
+-- a list of a router that doesn't break the rule is good
 pub good_list : (i : Internet) (s k : ℕ) (router : Router) (l : ZoneList) → slice_get i.routers s ≡ Some router
     → slice_get router.lists k ≡ Some l → c8 i (place.List (suc s) (suc k)) ≡ false → bad_list i l ≡ false
 good_list i s k router l at there kept =
     sym (part_at i.routers s router (λ (router : Router). router.lists) k l (λ router. bad_list i) (bad_list i l) at there refl) ∙ kept
 
--- ---- The order
+-- ---- the order
 
 -- no place of router r breaks the rule
 abbrev pub KeepsLists : Internet → ℕ → Type 0
 KeepsLists i r = (k : ℕ) → (c8 i (place.List (suc r) (suc k)) ≡ false) × (c8 i (place.Missing (suc r) (suc k)) ≡ false)
 
--- no earlier router breaks the rule, and k is the first list of this one that does
+-- k is the first list of router r that breaks the rule, and no earlier router does
 pub first_list_place : (i : Internet) (r k : ℕ) → ((s : ℕ) → s < r → KeepsLists i s)
     → FirstNumber (λ k. c8 i (place.List (suc r) (suc k))) (Some k)
     → FirstPlace (c8 i) (Some (place.List (suc r) (suc k)))
@@ -102,7 +102,8 @@ first_list_place i r k earlier here = (here.0, before)
     before (place.Port s l) h = refl
     before (place.Node l) h = refl
 
--- no earlier router breaks the rule, nor a list of this one, and k is its first cable that does
+-- k is the first cable without a list that breaks the rule at router r; no list of r breaks it, and no earlier router
+-- does
 pub first_lack_place : (i : Internet) (r k : ℕ) → ((s : ℕ) → s < r → KeepsLists i s)
     → ((l : ℕ) → c8 i (place.List (suc r) (suc l)) ≡ false) → FirstNumber (λ k. c8 i (place.Missing (suc r) (suc k))) (Some k)
     → FirstPlace (c8 i) (Some (place.Missing (suc r) (suc k)))
@@ -125,7 +126,7 @@ first_lack_place i r k earlier lists here = (here.0, before)
     before (place.Port s l) h = refl
     before (place.Node l) h = refl
 
--- no router breaks the rule, and n is past the last one
+-- no router breaks the rule, where n is past the last one
 pub no_bad_list : (i : Internet) (n : ℕ) → length i.routers ≤ n → ((s : ℕ) → s < n → KeepsLists i s) → FirstPlace (c8 i) None
 no_bad_list i n past each (place.List zero k) = refl
 no_bad_list i n past each (place.List (suc s) zero) = refl

@@ -1,4 +1,4 @@
--- Where the rule on nodes is kept, each node is served.
+-- If the rule about nodes is kept, each node is served.
 use Rattle.std.proofs.Common.{◌≡◌, ℕ, suc, Bool, true, false, not, Option, Some, None, slice_get, is_some, refl, sym, ap, ◌∙◌}
 use Rattle.std.specs.List.{list_any}
 use Rattle.std.proofs.lemmas.Bool.{or_parts, not-false}
@@ -14,7 +14,7 @@ use Rattle.audit.specs.Rules.{bad_service, has_bad_router, has_its_zone, Passes}
 use Rattle.audit.specs.Served.{IsServed}
 use Rattle.audit.proofs.WalkFacts.{some_of}
 
--- what passes a test stands there
+-- if an element passes a test, it exists
 there : {X : Type 0} (o : Option X) (test : X → Bool) → on o test ≡ true → (x : X) × (o ≡ Some x) × (test x ≡ true)
 there None test e = cc
 there (Some x) test e = (x, refl, e)
@@ -35,7 +35,7 @@ is_served i node good = record { router = its_router; zone = its_zone }
     its_zone = there (slice_get i.cables node.cable) (λ c. list_any (same_name node.zone) c.zones)
         (not-false (has_its_zone i node) parts.1)
 
--- where all rules are kept, nodes are served
+-- if all rules are kept, each node is served
 pub nodes_served : (i : Internet) (k : ℕ) (node : Node) → Passes i → slice_get i.nodes k ≡ Some node → IsServed i node
 nodes_served i k node ok at =
     is_served i node (sym (ap (λ o. on o (bad_service i)) at) ∙ ok 9 (place.Node (suc k)))

@@ -1,4 +1,4 @@
--- The owner of an address on a cable: a router, where one has a port there with the address.
+-- The owner of an address on a cable: the router that has a port there with the address.
 use Rattle.std.proofs.Common.{◌≡◌, ℕ, zero, suc, ◌+◌, ◌<◌, ◌≤◌, ◌&&◌, ◌||◌, ◌==◌, Bool, true, false, cond, List, [], ◌∷◌, ◌++◌, Option}
 use Rattle.std.proofs.Common.{Some, None, length, refl, sym, ap, ◌∙◌, arith, slice_get, option_map, find, map, take, nat_lt, subst}
 use Rattle.std.specs.List.{list_any}
@@ -24,7 +24,7 @@ use Rattle.audit.proofs.Finding.{first_index, any_at, any_from, at_take, index_w
 abbrev pub has_seat : ℕ → Addr → Router → Bool
 has_seat cable a router = list_any (λ p. p.cable == cable && same_address p.address a) router.ports
 
--- two addresses that are one address
+-- two addresses that are equal to the same one are equal
 same_addresses : (x y a : Addr) → same_address x a ≡ true → same_address y a ≡ true → same_address x y ≡ true
 same_addresses x y a e f =
     let g = and_parts _ _ e in
@@ -40,7 +40,7 @@ module _ (cable : ℕ) (a : Addr) where
   abbrev is_port : Port → Bool
   is_port p = p.cable == cable && same_address p.address a
 
-  -- a router that has the address has the first seat of its own
+  -- a router that has the address has a seat that is found
   port_found : (r : ℕ) (ports : List Port) (rest : List Seat) → list_any is_port ports ≡ true → (s : Seat)
       × (find is_seat (map (port_seat r) ports ++ rest) ≡ Some s) × (s.station ≡ r)
   port_found r [] rest any = cc
@@ -51,7 +51,7 @@ module _ (cable : ℕ) (a : Addr) where
         | false ↦ λ e. port_found r ports rest e
       ] any
 
-  -- the seats of a router without the address are passed over
+  -- the seats of a router without the address are skipped
   ports_passed : (r : ℕ) (ports : List Port) (rest : List Seat) → list_any is_port ports ≡ false
       → find is_seat (map (port_seat r) ports ++ rest) ≡ find is_seat rest
   ports_passed r [] rest none = refl
@@ -59,7 +59,7 @@ module _ (cable : ℕ) (a : Addr) where
       let parts = or_parts (is_port p) (list_any is_port ports) none in
       ap (λ b. cond b (Some (port_seat r p)) (find is_seat (map (port_seat r) ports ++ rest))) parts.0 ∙ ports_passed r ports rest parts.1
 
-  -- what the seats of routers give: the first router that has the address, or else what follows
+  -- the seats of routers give the first router that has the address, or else the seats after them
   abbrev Gives : Option ℕ → ℕ → Option Seat → Option Seat → Type 0
   Gives None r found follows = found ≡ follows
   Gives (Some k) r found follows = (s : Seat) × (found ≡ Some s) × (s.station ≡ r + k)
@@ -116,7 +116,7 @@ module _ (cable : ℕ) (a : Addr) where
       (routers_give 0 i.routers (node_seats (length i.routers) i.nodes)) (λ s e. nodes_after (length i.routers) i.nodes s e)
       (λ k e. index_within (has_seat cable a) i.routers k e)
 
-  -- where rule C2 is kept, no two routers have the address
+  -- if rule C2 is kept, no two routers have the address
   not_twice : (i : Internet) (k : ℕ) (router : Router) (j : ℕ) (other : Router) → FirstPlace (c2 i) None
       → slice_get i.routers k ≡ Some router → slice_get i.routers j ≡ Some other → j < k → has_seat cable a router ≡ true
       → has_seat cable a other ≡ true → ⊥
@@ -136,7 +136,7 @@ module _ (cable : ℕ) (a : Addr) where
       let broken = part_at i.routers k router (λ r. r.ports) mine.0 mine.1 (λ r. bad_port i k mine.0 r) true at mine.2 bad in
       both_ways (c2 i (place.Port (suc k) (suc mine.0))) (kept (place.Port (suc k) (suc mine.0))) broken
 
-  -- where rule C2 is kept, a router that has the address is the only one
+  -- if rule C2 is kept, a router that has the address is the only one
   pub only_router : (i : Internet) (k : ℕ) (router : Router) → FirstPlace (c2 i) None → slice_get i.routers k ≡ Some router
       → has_seat cable a router ≡ true → Some k ≡ owner i cable a
   only_router i k router kept at has =

@@ -1,11 +1,11 @@
--- Rows rise, so one at most has a range.
+-- Rows rise, so at most one has a given range.
 use Rattle.std.proofs.Common.{◌≡◌, ℕ, ◌<◌, ◌&&◌, ◌==◌, true, false, List, Some, slice_get, arith, sym, find}
 use Rattle.std.proofs.lemmas.Bool.{eqb-true, and_parts, false_from_ne_true}
 use Rattle.table_image.specs.Bounds.{AreRising}
 use Rattle.table_image.specs.declared.row.Row.{Row}
 use Rattle.audit.proofs.Finding.{first_found}
 
--- of rising rows, the one of a range is the only one
+-- of rising rows, at most one has a given range
 pub only_row : (rows : List Row) (row : Row) (k : ℕ) (other : Row) → AreRising rows → slice_get rows k ≡ Some other
     → (other.start == row.start && other.end == row.end) ≡ true
     → Some other ≡ find (λ (other : Row). other.start == row.start && other.end == row.end) rows

@@ -13,7 +13,7 @@ use Rattle.audit.specs.declared.rule.Rule.TheVariants.{CablesInOrder, StationsAd
 use Rattle.audit.specs.declared.rule.Rule.TheVariants.{NextRoutersExist, DistancesFall, ZoneListsAgree, NodesServed}
 use Rattle.audit.proofs.Firsts.{on_past}
 
--- a place whose router or cable has the number 0 lacks nothing
+-- a place with the router or cable number 0 lacks no row
 no_router : (rule : Rule) (i : Internet) (k : ℕ) → lack_breaks rule i zero k ≡ false
 no_router CablesInOrder i k = refl
 no_router StationsAddressed i k = refl
@@ -36,7 +36,7 @@ no_cable DistancesFall i r = refl
 no_cable ZoneListsAgree i r = refl
 no_cable NodesServed i r = refl
 
--- past the last router nothing is lacking
+-- past the last router, no row is lacking
 past_lack : (rule : Rule) (i : Internet) (r k : ℕ) → length i.routers ≤ r → lack_breaks rule i (suc r) (suc k) ≡ false
 past_lack CablesInOrder i r k past = refl
 past_lack StationsAddressed i r k past = refl
@@ -53,7 +53,8 @@ abbrev pub Keeps : Rule → Internet → ℕ → Type 0
 Keeps rule i r = (k : ℕ) → (breaks_rows rule i (place.Row (suc r) (suc k)) ≡ false)
     × (breaks_rows rule i (place.Missing (suc r) (suc k)) ≡ false)
 
--- no earlier router breaks the rule, nor a row of this one, and k is its first cable that does
+-- k is the first cable without a row that breaks the rule at router r; no row of r breaks it, and no earlier router
+-- does
 pub first_missing_place : (rule : Rule) (i : Internet) (r k : ℕ) → ((s : ℕ) → s < r → Keeps rule i s)
     → ((l : ℕ) → breaks_rows rule i (place.Row (suc r) (suc l)) ≡ false)
     → FirstNumber (λ k. breaks_rows rule i (place.Missing (suc r) (suc k))) (Some k)
@@ -78,7 +79,7 @@ first_missing_place rule i r k earlier rows here = (here.0, before)
     before (place.Port s l) h = refl
     before (place.Node l) h = refl
 
--- no router breaks the rule, and n is past the last one
+-- no router breaks the rule, where n is past the last one
 pub no_bad_row : (rule : Rule) (i : Internet) (n : ℕ) → length i.routers ≤ n → ((s : ℕ) → s < n → Keeps rule i s)
     → FirstPlace (breaks_rows rule i) None
 no_bad_row rule i n past each (place.Row zero k) = refl

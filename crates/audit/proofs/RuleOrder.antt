@@ -13,7 +13,7 @@ use Rattle.audit.specs.Verdicts.{IsFirst}
 abbrev pub KeptBelow : Internet → ℕ → Type 0
 KeptBelow i n = (rule : ℕ) → rule < n → Keeps i rule
 
--- there is no rule 0
+-- no rule has the number 0
 pub none_yet : (i : Internet) → KeptBelow i 1
 none_yet i zero lt p = refl
 none_yet i (suc rule) lt p = absurd (omega arith)
@@ -24,7 +24,7 @@ and_next i n kept here = below_more (Keeps i) n kept here
 otherwise : (b x y z : Bool) → b ≡ false → y ≡ z → cond b x y ≡ z
 otherwise b x y z e f = cond-false b x y e ∙ f
 
--- there is no rule from 10 on
+-- no rule has a number from 10 on
 pub no_more : (i : Internet) (rule : ℕ) (p : Place) → 10 ≤ rule → breaks i rule p ≡ false
 no_more i rule p past =
     otherwise (rule == 1) (c1 i p) _ false (other 1 (omega arith))
@@ -42,7 +42,7 @@ no_more i rule p past =
 pub all_kept : (i : Internet) → KeptBelow i 10 → Passes i
 all_kept i kept rule p = elim (cases_lt rule 10) [ inl lt ↦ kept rule lt p | inr ge ↦ no_more i rule p ge ]
 
--- the first place that breaks a rule, where the rules before it are kept
+-- the first place that breaks a rule is the first fault, if the rules before it are kept
 pub first_fault : (i : Internet) (f : Fault) (rule : ℕ) (place : Place) → f ≡ record { rule = rule; place = place } → KeptBelow i rule
     → FirstPlace (breaks i rule) (Some place) → IsFirst i f
 first_fault i f rule place is kept first = subst (IsFirst i) (sym is) (record { broken = first.0; before = first.1; earlier = kept })

@@ -1,4 +1,4 @@
--- Which zones of a cable were found among the names of a list, and what follows for the two.
+-- The zones of a cable that were found among the names of a list, and the comparison of both.
 use Rattle.std.proofs.Common.{◌≡◌, ◌≢◌, ℕ, zero, suc, ◌<◌, ◌≤◌, Bool, true, false, cond, not, ◌&&◌, ◌||◌, List, [], ◌∷◌, ◌++◌}
 use Rattle.std.proofs.Common.{Option, Some, None, length, take, slice_get, option_map, refl, sym, ap, ◌∙◌, arith, fold}
 use Rattle.std.specs.Prelude.{slice_index_or}
@@ -11,9 +11,9 @@ use Rattle.audit.specs.Places.{index_of}
 use Rattle.audit.specs.ZoneLists.{has_double, are_among}
 use Rattle.audit.proofs.Finding.{first_index, any_from}
 
--- ---- Names of a cable: none is there twice
+-- ---- names of a cable, none of them twice
 
--- the one element that is the same as a name
+-- at most one element equals a name, ignoring case
 pub only_name : (zones : List (List ℕ)) → has_double zones ≡ false → (x : List ℕ) (j k : ℕ) (y z : List ℕ)
     → slice_get zones j ≡ Some y → slice_get zones k ≡ Some z → same_name x y ≡ true → same_name x z ≡ true → j ≡ k
 only_name [] once x j k y z at_j at_k e f = cc
@@ -33,7 +33,7 @@ only_name (w ∷ zones) once x (suc j) zero y z at_j at_k e f =
 only_name (w ∷ zones) once x (suc j) (suc k) y z at_j at_k e f =
     ap suc (only_name zones (or_parts (list_any (same_name w) zones) (has_double zones) once).1 x j k y z at_j at_k e f)
 
--- so the one that was found is the first
+-- the element that was found is the first one
 pub found_first : (zones : List (List ℕ)) → has_double zones ≡ false → (x : List ℕ) (k : ℕ) (z : List ℕ) → slice_get zones k ≡ Some z
     → same_name x z ≡ true → Some k ≡ index_of (same_name x) zones
 found_first zones once x k z at same = sym (first_index (same_name x) zones k z at same before)
@@ -42,7 +42,7 @@ found_first zones once x k z at same = sym (first_index (same_name x) zones k z 
     before j y lt at_j =
         false_from_ne_true (same_name x y) (λ t. let is = only_name zones once x j k y z at_j at t same in omega (arith, lt, is))
 
--- ---- What a first index says
+-- ---- the first index
 
 pub index_none : {X : Type 0} (test : X → Bool) (xs : List X) → index_of test xs ≡ None → list_any test xs ≡ false
 index_none test [] e = refl
@@ -75,7 +75,7 @@ index_at {X} test (x ∷ xs) k e =
       | false ↦ λ t e. later_at test x xs k (index_of test xs) (λ j f. index_at test xs j f) e
     ] refl e
 
--- ---- Lists with one name more
+-- ---- lists with one more name
 
 four : (a b d e : Bool) → ((a || (b || false)) || (d || e)) ≡ ((a || d) || (b || e))
 four true b d e = refl
@@ -101,7 +101,7 @@ or_right : (a b : Bool) → b ≡ true → (a || b) ≡ true
 or_right true b e = refl
 or_right false b e = e
 
--- a double of a front is one of the list
+-- if a front has a name twice, the list has
 double_front : (xs ys : List (List ℕ)) → has_double xs ≡ true → has_double (xs ++ ys) ≡ true
 double_front [] ys e = cc
 double_front (x ∷ xs) ys e =
@@ -111,9 +111,10 @@ double_front (x ∷ xs) ys e =
       | false ↦ λ t e. or_right _ _ (double_front xs ys e)
     ] refl e
 
--- ---- What was found
+-- ---- the zones found
 
--- The zones of a cable that are among the names are marked; each of the names is a zone of the cable, and none is twice.
+-- The zones of a cable that are among the names are marked; each of the names is a zone of the cable, and none is
+-- twice.
 pub record Matches (zones names : List (List ℕ)) (mark : ℕ → Bool) : Type 0 where
   pub among : are_among names zones ≡ true
   pub once : has_double names ≡ false
@@ -124,7 +125,7 @@ both true true e f = refl
 both true false e f = f
 both false b e f = e
 
--- a zone that a name is the same as is marked where the name is among those before it
+-- the zone of a name is marked exactly if the name is among those before it
 mark_of : (zones names : List (List ℕ)) (mark : ℕ → Bool) (x : List ℕ) (k : ℕ) → Matches zones names mark
     → index_of (same_name x) zones ≡ Some k → mark k ≡ list_any (same_name x) names
 mark_of zones names mark x k m at =
@@ -141,7 +142,7 @@ last true b e = refl
 last false true e = e
 last false false e = refl
 
--- a zone is marked where it is among the names, after one more name, that of zone k
+-- after one more name, that of zone k, a zone is marked exactly if it is among the names
 marks_on : (zones names : List (List ℕ)) (mark more : ℕ → Bool) (x : List ℕ) (k : ℕ) (y : List ℕ) → has_double zones ≡ false
     → Matches zones names mark → slice_get zones k ≡ Some y → same_name x y ≡ true → more k ≡ true
     → ((j : ℕ) → j ≢ k → more j ≡ mark j) → (j : ℕ) (z : List ℕ) → slice_get zones j ≡ Some z
@@ -163,7 +164,7 @@ marks_on zones names mark more x k y once m at same marked others j z at_j =
           ∙ last (list_any (same_name z) names) (same_name z x) f)))
     ] refl
 
--- one name more, that of a zone which isn't marked
+-- one more name, that of a zone that isn't marked
 pub one_more : (zones names : List (List ℕ)) (mark more : ℕ → Bool) (x : List ℕ) (k : ℕ) → has_double zones ≡ false
     → Matches zones names mark → index_of (same_name x) zones ≡ Some k → mark k ≡ false → more k ≡ true
     → ((j : ℕ) → j ≢ k → more j ≡ mark j) → Matches zones (names ++ x ∷ []) more
@@ -179,7 +180,7 @@ one_more zones names mark more x k once m at unmarked marked others =
       marks = marks_on zones names mark more x k found.0 once m found.1 found.2 marked others;
     }
 
--- ---- What follows
+-- ---- the result
 
 -- the test of a list: its names are the zones, each once
 abbrev pub AreZones : List (List ℕ) → List (List ℕ) → Bool
@@ -197,7 +198,7 @@ second : (a b : Bool) → b ≡ false → (a && b) ≡ false
 second true b e = e
 second false b e = refl
 
--- a name at index m that no zone has
+-- if a name isn't that of a zone, the test fails
 pub not_among : (zones names : List (List ℕ)) (m : ℕ) (x : List ℕ) → slice_get names m ≡ Some x → index_of (same_name x) zones ≡ None
     → false ≡ AreZones zones names
 not_among zones names m x at none =
@@ -211,7 +212,7 @@ not_among zones names m x at none =
         (index_none (same_name x) zones none)
     fails (n ∷ names) (suc m) e = second (list_any (same_name n) zones) (are_among names zones) (fails names m e)
 
--- a name whose zone is marked
+-- if the zone of a name is marked already, the test fails
 pub found_twice : (zones names rest : List (List ℕ)) (all : List (List ℕ)) (mark : ℕ → Bool) (x : List ℕ) (k : ℕ)
     → Matches zones names mark → index_of (same_name x) zones ≡ Some k → mark k ≡ true → (names ++ x ∷ []) ++ rest ≡ all
     → false ≡ AreZones zones all
@@ -221,7 +222,7 @@ found_twice zones names rest all mark x k m at marked is =
     let double : has_double all ≡ true = ap has_double (sym is) ∙ double_front (names ++ x ∷ []) rest front in
     sym (not_once (has_double all) (are_among all zones && are_among zones all) double)
 
--- at the end: the marks say whether each zone is among the names
+-- at the end, the marks say whether each zone is among the names
 pub at_end : (zones names : List (List ℕ)) (marks : List Bool) → length zones ≤ length marks
     → Matches zones names (λ k. slice_index_or marks k false)
     → list_all (λ b. b) (take (length zones) marks) ≡ AreZones zones names
@@ -238,7 +239,7 @@ at_end zones names marks long m =
         ap (λ a. a && list_all (λ b. b) (take (length zones) marks)) (each zero z refl)
         ∙ ap (λ r. list_any (same_name z) names && r) (all zones marks (omega (arith, long)) (λ k y e. each (suc k) y e))
 
--- the zones themselves
+-- the zones themselves pass the test
 pub the_zones : (zones : List (List ℕ)) → has_double zones ≡ false → true ≡ AreZones zones zones
 the_zones zones once = sym (ap (λ d. not d && (are_among zones zones && are_among zones zones)) once
     ∙ (ap (λ a. a && a) (each zones (λ k z at. any_from (same_name z) zones k z at (is_same_name z z refl)))))
@@ -248,9 +249,9 @@ the_zones zones once = sym (ap (λ d. not d && (are_among zones zones && are_amo
     each [] all = refl
     each (z ∷ front) all = ap (λ b. b && are_among front zones) (all zero z refl) ∙ each front (λ k y at. all (suc k) y at)
 
--- ---- Loops
+-- ---- loops
 
--- a front with the element after it
+-- a front and the element after it
 pub grown : {X : Type 0} (xs : List X) (m : ℕ) (x : X) → slice_get xs m ≡ Some x → take (suc m) xs ≡ take m xs ++ x ∷ []
 grown [] m x at = cc
 grown (y ∷ xs) zero x at = let is : y ≡ x = cc in ap (λ y. y ∷ []) is

@@ -1,4 +1,4 @@
--- Where the seats of an internet stand: each is a port of a router or a node, and its place says which.
+-- The indices of the seats of an internet: each seat is a router's port or a node, and its index says which.
 use Rattle.std.proofs.Common.{◌≡◌, ℕ, zero, suc, ◌+◌, inl, inr, List, [], ◌∷◌, length, map, refl, ap, arith}
 use Rattle.table_image.specs.Internet.{Internet}
 use Rattle.table_image.specs.Seats.{Seat, port_seat, router_seats, node_seats, seats}
@@ -7,13 +7,13 @@ use Rattle.table_image.specs.declared.router.Router.{Router}
 use Rattle.table_image.specs.declared.node.Node.{Node}
 use Rattle.audit.proofs.WalkLists.{At, at_append, at_map}
 
--- how many ports stand before port p of router r
+-- the number of ports before port p of router r
 abbrev pub number_of : List Router → ℕ → ℕ → ℕ
 number_of [] r p = p
 number_of (router ∷ routers) zero p = p
 number_of (router ∷ routers) (suc r) p = length router.ports + number_of routers r p
 
--- the seat at place j, of routers whose stations are numbered from `first` on, is a port
+-- the seat at index j, of routers whose stations are numbered from `first` on, is a port's
 pub record IsPortSeat (first : ℕ) (routers : List Router) (j : ℕ) (s : Seat) : Type 0 where
   pub r : ℕ
   pub p : ℕ
@@ -27,7 +27,7 @@ pub record IsPortSeat (first : ℕ) (routers : List Router) (j : ℕ) (s : Seat)
   pub hardware : s.hardware ≡ port.hardware
   pub number : j ≡ number_of routers r p
 
--- the seat at place k, of nodes whose stations are numbered from `first` on, is a node
+-- the seat at index k, of nodes whose stations are numbered from `first` on, is a node's
 pub record IsNodeSeat (first : ℕ) (nodes : List Node) (k : ℕ) (s : Seat) : Type 0 where
   pub node : Node
   pub known : At nodes k node
@@ -107,7 +107,7 @@ node_seat_is first (node ∷ nodes) (suc k) s e =
       hardware = rest.hardware;
     }
 
--- A seat of an internet is a port, or a node, which comes after all ports.
+-- A seat of an internet is a port's, or a node's, which comes after those of all ports.
 pub data Sits (i : Internet) (j : ℕ) (s : Seat) : Type 0 where
   AtPort : IsPortSeat 0 i.routers j s → Sits i j s
   AtNode : (k : ℕ) → j ≡ length (router_seats 0 i.routers) + k → IsNodeSeat (length i.routers) i.nodes k s → Sits i j s

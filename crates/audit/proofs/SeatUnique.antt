@@ -1,5 +1,5 @@
--- Where the cables stand in order and the stations are addressed, no two seats share an address, and no two on one cable
--- share a hardware address.
+-- If the cables are in order and the stations are addressed, no two seats have the same address, and no two on a cable
+-- the same hardware address.
 use Rattle.std.proofs.Common.{◌≡◌, ℕ, zero, suc, ◌≤◌, ◌<◌, inl, inr, Bool, true, false, ◌||◌, ◌&&◌, List, Option, Some, None, length}
 use Rattle.std.proofs.Common.{ap, arith, eq-eqb, eqb-true, refl, slice_get, subst, sym, take, true≢false, ◌==◌, ◌∙◌}
 use Rattle.std.specs.List.{list_any}
@@ -24,7 +24,7 @@ use Rattle.audit.proofs.WalkLists.{At, at_one, at_within, none_passes, none_befo
 use Rattle.audit.proofs.WalkSteps.{one_cable}
 use Rattle.audit.proofs.SeatPlaces.{number_of, IsPortSeat, IsNodeSeat, Sits, AtPort, AtNode, sits}
 
--- ---- Addresses that are one
+-- ---- equal addresses
 
 same_address_is : (a b : Addr) → same_address a b ≡ true → (a.net ≡ b.net) × (a.node ≡ b.node)
 same_address_is a b e = let h = and_parts _ _ e in (eqb-true _ _ h.0, eqb-true _ _ h.1)
@@ -35,7 +35,7 @@ same_address_when a b e f = ap (λ v. v && a.node == b.node) (eq-eqb _ _ e) ∙ 
 same_bytes_when : (xs ys : List ℕ) → xs ≡ ys → same_bytes xs ys ≡ true
 same_bytes_when xs ys e = sym (ap (same_bytes xs) e) ∙ same_bytes_self xs
 
--- the two seats share an address, or a hardware address on one cable
+-- the two seats have the same address, or the same hardware address on one cable
 data AreAlike (s t : Seat) : Type 0 where
   ByAddress : s.address.net ≡ t.address.net → s.address.node ≡ t.address.node → AreAlike s t
   ByHardware : s.cable ≡ t.cable → s.hardware.0 ≡ t.hardware.0 → AreAlike s t
@@ -44,7 +44,7 @@ alike_back : (s t : Seat) → AreAlike s t → AreAlike t s
 alike_back s t (ByAddress e f) = ByAddress (sym e) (sym f)
 alike_back s t (ByHardware e f) = ByHardware (sym e) (sym f)
 
--- seats that are alike clash
+-- seats that are alike have a common address
 clash : (s t : Seat) (a b : Addr) (g h : Hw) → s.address ≡ a → t.address ≡ b → s.hardware ≡ g → t.hardware ≡ h → AreAlike s t
     → (same_address b a || same_hardware h g) ≡ false → ⊥
 clash s t a b g h sa tb sg th (ByAddress e f) none =
@@ -55,7 +55,7 @@ clash s t a b g h sa tb sg th (ByHardware e f) none =
     let bytes : h.0 ≡ g.0 = sym (ap (λ (h : Hw). h.0) th) ∙ (sym f ∙ ap (λ (h : Hw). h.0) sg) in
     true≢false (sym (same_bytes_when h.0 g.0 bytes) ∙ (or_parts (same_address b a) (same_hardware h g) none).1)
 
--- ---- What the second rule says of a station
+-- ---- rule C2 for a station
 
 on_true : {X : Type 0} (o : Option X) (test : X → Bool) → on o test ≡ true → (x : X) × (o ≡ Some x) × (test x ≡ true)
 on_true None test e = cc
@@ -92,9 +92,9 @@ module _ (i : Internet) (ok : Passes i) where
       let two = or_parts _ _ one.0 in
       (two.1, one.1, two.0)
 
-  -- ---- Two seats that are alike are one
+  -- ---- two seats that are alike are one
 
-  -- a port and one of a later router
+  -- a port isn't like one of a later router
   routers_apart : (j k : ℕ) (s t : Seat) (a : IsPortSeat 0 i.routers j s) (b : IsPortSeat 0 i.routers k t) → AreAlike s t → a.r < b.r → ⊥
   routers_apart j k s t a b alike before =
       let good = port_good b.r b.p b.router b.port b.known b.at in
@@ -114,7 +114,7 @@ module _ (i : Internet) (ok : Passes i) where
       none_before (λ q. q.cable == b.port.cable) b.router.ports b.p good.2 a.p a.port before theirs in
       true≢false (sym (eq-eqb _ _ e) ∙ apart)
 
-  -- and so are their addresses
+  -- two ports of one router aren't alike
   ports_apart : (j k : ℕ) (s t : Seat) (a : IsPortSeat 0 i.routers j s) (b : IsPortSeat 0 i.routers k t) → AreAlike s t → a.r ≡ b.r
       → a.p < b.p → ⊥
   ports_apart j k s t a b alike same before =
@@ -211,7 +211,7 @@ module _ (i : Internet) (ok : Passes i) where
       nonzero zero e = cc
       nonzero (suc n) e = omega arith
 
-  -- ---- Two seats of one station on a cable are one
+  -- ---- two seats of a station on a cable are one
 
   one_there : (j k : ℕ) (s t : Seat) → Sits i j s → Sits i k t → s.station ≡ t.station → s.cable ≡ t.cable → j ≡ k
   one_there j k s t (AtPort a) (AtPort b) station cable =

@@ -3,14 +3,14 @@ use Rattle.std.proofs.Common.{◌≡◌, ℕ, zero, suc, ◌<◌, ◌≤◌, Lis
 use Rattle.table_image.specs.Bounds.{Rises}
 use Rattle.audit.proofs.WalkLists.{At}
 
--- the lists are as long, and R holds of the elements at each place
+-- the lists have the same length, and R holds of the elements at each index
 abbrev pub AreSideBySide : {X Y : Type 0} → (X → Y → Type 0) → List X → List Y → Type 0
 AreSideBySide R [] [] = Unit {0}
 AreSideBySide R [] (y ∷ ys) = ⊥
 AreSideBySide R (x ∷ xs) [] = ⊥
 AreSideBySide R (x ∷ xs) (y ∷ ys) = R x y × AreSideBySide R xs ys
 
--- what holds of the elements at each place
+-- a fact about the elements at each index
 pub and_so : {X Y : Type 0} (R S : X → Y → Type 0) (xs : List X) (ys : List Y) → AreSideBySide R xs ys
     → ((j : ℕ) (x : X) (y : Y) → At xs j x → At ys j y → R x y → S x y) → AreSideBySide S xs ys
 and_so R S [] [] zs each = tt
@@ -19,7 +19,7 @@ and_so R S (x ∷ xs) [] zs each = absurd zs
 and_so R S (x ∷ xs) (y ∷ ys) zs each =
     (each zero x y refl refl zs.0, and_so R S xs ys zs.1 (λ j a b ea eb e. each (suc j) a b ea eb e))
 
--- the element beside another
+-- the element beside another one
 pub beside : {X Y : Type 0} (R : X → Y → Type 0) (xs : List X) (ys : List Y) → AreSideBySide R xs ys → (k : ℕ) (x : X) → At xs k x
     → (y : Y) × At ys k y × R x y
 beside R [] ys zs k x at = cc
@@ -28,7 +28,7 @@ beside R (x ∷ xs) (y ∷ ys) zs zero a at = let same : x ≡ a = cc in (y, ref
 beside R (x ∷ xs) (y ∷ ys) zs (suc k) a at = beside R xs ys zs.1 k a at
 
 module _ {Z : Type 0} (h : Z → ℕ) where
-  -- the first of a rising list is least
+  -- the first element of a rising list is the least
   least : (z : Z) (zs : List Z) (k : ℕ) (b : Z) → Rises h (z ∷ zs) → At (z ∷ zs) k b → h z ≤ h b
   least z zs zero b up at =
       let same : z ≡ b = cc in
@@ -36,7 +36,7 @@ module _ {Z : Type 0} (h : Z → ℕ) where
       omega arith
   least z zs (suc k) b up at = let lt = up zero (suc k) z b refl at (omega arith) in omega arith
 
-  -- what is above the first stands behind it
+  -- an element above the first one comes after it
   later : (z : Z) (zs : List Z) (k : ℕ) (b : Z) → At (z ∷ zs) k b → h z < h b → (m : ℕ) × At zs m b
   later z zs zero b at lt =
       let same : z ≡ b = cc in
@@ -47,7 +47,7 @@ module _ {Z : Type 0} (h : Z → ℕ) where
   rest_rises : (z : Z) (zs : List Z) → Rises h (z ∷ zs) → Rises h zs
   rest_rises z zs up j k a b ea eb lt = up (suc j) (suc k) a b ea eb (omega arith)
 
--- rising lists, each of which has the numbers of the other, have the same numbers at the same places
+-- rising lists, each with the numbers of the other, have the same numbers at the same indices
 pub same_numbers : {X Y : Type 0} (f : X → ℕ) (g : Y → ℕ) (xs : List X) (ys : List Y) → Rises f xs → Rises g ys
     → ((j : ℕ) (x : X) → At xs j x → (k : ℕ) × (y : Y) × At ys k y × (f x ≡ g y))
     → ((k : ℕ) (y : Y) → At ys k y → (j : ℕ) × (x : X) × At xs j x × (f x ≡ g y)) → AreSideBySide (λ x y. f x ≡ g y) xs ys

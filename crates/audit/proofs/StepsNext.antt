@@ -1,4 +1,4 @@
--- Where distances fall, next routers are there: rule C7 says more than rule C6.
+-- If distances fall, next routers exist: rule C7 implies rule C6.
 use Rattle.std.proofs.Common.{◌≡◌, ℕ, zero, suc, ◌+◌, Bool, true, false, not, ◌&&◌, ◌==◌, Option, Some, None, slice_get, refl, sym, ap}
 use Rattle.std.proofs.Common.{◌∙◌, subst, arith, eqb-true, eq-eqb}
 use Rattle.std.proofs.lemmas.Bool.{ne_eqb}
@@ -13,7 +13,7 @@ use Rattle.table_image.specs.declared.router.Router.{Router}
 use Rattle.audit.specs.Rules.{c6, c7, next_router, is_no_other, bad_step, not_one_less, same_row}
 use Rattle.audit.proofs.RowOrder.{only_row}
 
--- a row is its own router's row of its range, which isn't one nearer
+-- a row is its own router's row of its range, and that isn't one nearer
 own_row : (i : Internet) (r : ℕ) (router : Router) (k : ℕ) (row : Row) → slice_get i.routers r ≡ Some router
     → slice_get router.rows k ≡ Some row → AreRising router.rows → bad_step i row (Some r) ≡ true
 own_row i r router k row e f rise =

@@ -1,4 +1,4 @@
--- What a summary adds up.
+-- The counts of a summary.
 use Rattle.std.proofs.Common.{◌≡◌, ℕ, ◌^◌, ◌<◌, ◌≤◌, List, [], ◌∷◌, All, length, map, max, fold, sum_by, get_or, refl, sym, ap, subst, ◌∙◌}
 use Rattle.std.proofs.Common.{arith}
 use Rattle.std.proofs.lemmas.Option.{slice_get-get_or}
@@ -19,7 +19,7 @@ max_assoc a b c = omega arith
 max_zero : (a : ℕ) → a ≡ max a 0
 max_zero a = omega arith
 
--- the greatest so far and the greatest of the rest
+-- the greatest number so far, and the greatest of the rest
 fold_greatest : {X : Type 0} (f : X → ℕ) (a : ℕ) (xs : List X) → fold (λ g x. max g (f x)) a xs ≡ max a (greatest_of (map f xs))
 fold_greatest f a [] = max_zero a
 fold_greatest f a (x ∷ xs) = fold_greatest f (max a (f x)) xs ∙ max_assoc a (f x) (greatest_of (map f xs))
@@ -40,7 +40,7 @@ greatest_is i =
     (λ router. from_zero (λ (row : Row). row.distance) router.rows)
     ∙ from_zero (λ (router : Router). greatest_of (map (λ row. row.distance) router.rows)) i.routers
 
--- an image has few rows
+-- the number of an image's rows is within its limit
 pub few_rows : (i : Internet) (routers : List Router) → routers ≡ i.routers → IsBounded i
     → sum_by (λ router. length router.rows) routers < 2 ^ 32
 few_rows i routers same bounded =
@@ -52,7 +52,7 @@ few_rows i routers same bounded =
     let P : List Router → Type 0 = λ l. sum_by (λ (router : Router). length router.rows) l < 2 ^ 32 in
     subst P (sym same) small
 
--- summaries of the same numbers
+-- summaries of the same numbers are equal
 pub same_summary : {c r n w g c' r' n' w' g' : ℕ} → c ≡ c' → r ≡ r' → n ≡ n' → w ≡ w' → g ≡ g' → made c r n w g ≡ made c' r' n' w' g'
 same_summary {c} {r} {n} {w} {g} {c'} {r'} {n'} {w'} {g'} cables routers nodes rows greatest =
     ap (λ x. made x r n w g) cables ∙ ap (λ x. made c' x n w g) routers ∙ ap (λ x. made c' r' x w g) nodes

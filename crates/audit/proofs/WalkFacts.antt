@@ -1,4 +1,4 @@
--- What the tests of the rules say of one cable, row or address.
+-- The consequences of the rules for one cable, row or address.
 use Rattle.std.proofs.Common.{◌≡◌, ℕ, ◌+◌, ◌<◌, ◌≤◌, Bool, true, false, cond, Option, Some, None, length, refl, sym, ◌∙◌, subst, arith}
 use Rattle.std.proofs.Common.{slice_get, nat_lt, ◌==◌, is_some, option_and_then, eqb-true, true≢false}
 use Rattle.std.proofs.lemmas.Bool.Decides.{nat_tests}

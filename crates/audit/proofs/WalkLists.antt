@@ -1,4 +1,4 @@
--- What stands at places of lists, and what index_of, find and list_any say of it.
+-- The elements of lists by index, and the results of index_of, find and list_any.
 use Rattle.std.proofs.Common.{◌≡◌, ℕ, zero, suc, ◌+◌, ◌<◌, ◌⊎◌, inl, inr, Bool, true, false, cond, ◌||◌, List, [], ◌∷◌, ◌++◌, Option, Some}
 use Rattle.std.proofs.Common.{None, length, take, map, refl, sym, ap, ◌∙◌, arith, slice_get, option_map, find}
 use Rattle.std.specs.List.{list_any}
@@ -6,7 +6,7 @@ use Rattle.std.proofs.lemmas.Bool.{or_parts}
 use Rattle.audit.specs.Places.{index_of}
 use Rattle.audit.proofs.Finding.{at_take}
 
--- x stands at place k
+-- x is the element with index k
 abbrev pub At : {X : Type 0} → List X → ℕ → X → Type 0
 At xs k x = slice_get xs k ≡ Some x
 
@@ -23,7 +23,7 @@ at_below (y ∷ xs) (suc k) h = at_below xs k (omega arith)
 pub at_one : {X : Type 0} (xs : List X) (k : ℕ) (x y : X) → At xs k x → At xs k y → x ≡ y
 at_one xs k x y e f = cc
 
--- ---- The first place where a test holds
+-- ---- the first index that passes
 
 index_step : (o : Option ℕ) (b : Bool) (k : ℕ) → cond b (Some zero) (option_map suc o) ≡ Some k → ((b ≡ true) × (k ≡ 0))
     ⊎ ((b ≡ false) × ((j : ℕ) × (o ≡ Some j) × (k ≡ suc j)))
@@ -31,7 +31,7 @@ index_step o true k e = inl (refl, cc)
 index_step None false k e = cc
 index_step (Some j) false k e = inr (refl, (j, refl, cc))
 
--- what index_of finds is there, and passes
+-- the element at the result of index_of passes
 pub index_at : {X : Type 0} (t : X → Bool) (xs : List X) (k : ℕ) → index_of t xs ≡ Some k → (x : X) × At xs k x × (t x ≡ true)
 index_at t [] k e = cc
 index_at t (x ∷ xs) k e =
@@ -40,7 +40,7 @@ index_at t (x ∷ xs) k e =
       | inr w ↦ let h = index_at t xs w.1.0 w.1.1 in (h.0, ap (slice_get (x ∷ xs)) w.1.2 ∙ h.1, h.2)
     ]
 
--- it finds a place where something passes
+-- if an element passes, index_of finds an index
 pub index_found : {X : Type 0} (t : X → Bool) (xs : List X) (k : ℕ) (x : X) → At xs k x → t x ≡ true → (j : ℕ) × (index_of t xs ≡ Some j)
 index_found t [] k x e p = cc
 index_found t (y ∷ xs) zero x e p =
@@ -52,9 +52,9 @@ index_found t (y ∷ xs) (suc k) x e p =
       | false ↦ (suc h.0, ap (option_map suc) h.1)
     ]
 
--- ---- The first element that passes
+-- ---- the first element that passes
 
--- what find finds is there, and passes
+-- the element that find returns is in the list, and passes
 pub find_at : {X : Type 0} (t : X → Bool) (xs : List X) (x : X) → find t xs ≡ Some x → (k : ℕ) × At xs k x × (t x ≡ true)
 find_at t [] x e = cc
 find_at t (y ∷ xs) x e =
@@ -63,7 +63,7 @@ find_at t (y ∷ xs) x e =
       | false ↦ λ p q. let h = find_at t xs x q in (suc h.0, h.1, h.2)
     ] refl e
 
--- it finds an element where one passes
+-- if an element passes, find returns one
 pub find_found : {X : Type 0} (t : X → Bool) (xs : List X) → list_any t xs ≡ true → (x : X) × (find t xs ≡ Some x)
 find_found t [] e = cc
 find_found t (y ∷ xs) e =
@@ -72,20 +72,20 @@ find_found t (y ∷ xs) e =
       | false ↦ λ q. find_found t xs q
     ] e
 
--- tests that agree at each element find the same
+-- tests that agree for each element find the same element
 pub find_agree : {X : Type 0} (p q : X → Bool) (xs : List X) → ((k : ℕ) (x : X) → At xs k x → p x ≡ q x) → find p xs ≡ find q xs
 find_agree p q [] h = refl
 find_agree p q (y ∷ xs) h =
     ap (λ b. cond b (Some y) (find p xs)) (h zero y refl) ∙ ap (cond (q y) (Some y)) (find_agree p q xs (λ k x e. h (suc k) x e))
 
--- it finds nothing where nothing passes
+-- if no element passes, find returns none
 pub find_none : {X : Type 0} (t : X → Bool) (xs : List X) → ((k : ℕ) (x : X) → At xs k x → t x ≡ false) → find t xs ≡ None
 find_none t [] h = refl
 find_none t (y ∷ xs) h = ap (λ b. cond b (Some y) (find t xs)) (h zero y refl) ∙ find_none t xs (λ k x e. h (suc k) x e)
 
--- ---- Whether an element passes
+-- ---- whether an element passes
 
--- where none passes, an element doesn't
+-- if no element passes, each element fails
 pub none_passes : {X : Type 0} (t : X → Bool) (xs : List X) → list_any t xs ≡ false → (k : ℕ) (x : X) → At xs k x → t x ≡ false
 none_passes t [] none k x e = cc
 none_passes t (y ∷ xs) none zero x e =
@@ -93,14 +93,14 @@ none_passes t (y ∷ xs) none zero x e =
     ap t (sym same) ∙ (or_parts (t y) (list_any t xs) none).0
 none_passes t (y ∷ xs) none (suc k) x e = none_passes t xs (or_parts (t y) (list_any t xs) none).1 k x e
 
--- where none of the first m passes, an element before place m doesn't
+-- if none of the first m elements passes, each of them fails
 pub none_before : {X : Type 0} (t : X → Bool) (xs : List X) (m : ℕ) → list_any t (take m xs) ≡ false → (k : ℕ) (x : X) → k < m → At xs k x
     → t x ≡ false
 none_before t xs m none k x below e = none_passes t (take m xs) none k x (at_take xs m k x below e)
 
--- ---- Lists made of lists
+-- ---- lists made of lists
 
--- an element of two lists, one after the other, is in the first, or at the rest of its index in the second
+-- an element of two lists, one after the other, is in the first, or in the second at the rest of its index
 pub at_append : {X : Type 0} (xs ys : List X) (j : ℕ) (x : X) → At (xs ++ ys) j x → At xs j x ⊎ ((m : ℕ) × (j ≡ length xs + m) × At ys m x)
 at_append [] ys j x e = inr (j, omega arith, e)
 at_append (y ∷ xs) ys zero x e = inl e
@@ -110,7 +110,7 @@ at_append (y ∷ xs) ys (suc j) x e =
       | inr w ↦ inr (w.0, (let far = w.1 in omega arith), w.2)
     ]
 
--- an element of a mapped list comes from the one at its place
+-- an element of a mapped list comes from the one with its index
 pub at_map : {X Y : Type 0} (f : X → Y) (xs : List X) (j : ℕ) (y : Y) → At (map f xs) j y → (x : X) × At xs j x × (y ≡ f x)
 at_map f [] j y e = cc
 at_map f (x ∷ xs) zero y e = (x, refl, cc)

@@ -1,4 +1,4 @@
--- What a router does with a datagram over tables that pass: it stops at the home of the network, or hands on to a
+-- The action of a router for a datagram, over tables that pass: it stops at the home of the network, or hands on to a
 -- router that is one nearer.
 use Rattle.std.proofs.Common.{◌≡◌, ℕ, suc, ◌<◌, ◌≤◌, inl, inr, Bool, true, false, cond, ◌&&◌, not, Some, None, length, refl, sym, ap, ◌∙◌}
 use Rattle.std.proofs.Common.{subst, arith, slice_get, option_and_then, find, nat_lt, ◌==◌, is_some, eqb-true, eq-eqb}
@@ -53,7 +53,7 @@ owner_has_port i c a r e =
     ]
 
 module _ (i : Internet) (ok : Passes i) where
-  -- ---- Cables
+  -- ---- cables
 
   pub cable_good : (k : ℕ) (c : Cable) → At i.cables k c → GoodCable (end_before i.cables k) c
   cable_good k c e = good_at i k c (ok 1) e
@@ -71,14 +71,14 @@ module _ (i : Internet) (ok : Passes i) where
         ]
       ]
 
-  -- ---- The row of a router for a network
+  -- ---- the row of a router for a network
 
   at_row_is : (r k : ℕ) (router : Router) (row : Row) (test : Router → Row → Bool) → At i.routers r router → At router.rows k row
       → at_row i r k test ≡ test router row
   at_row_is r k router row test er ek =
       ap (λ o. on o (λ router. on (slice_get router.rows k) (test router))) er ∙ ap (λ o. on o (test router)) ek
 
-  -- a row is usable, and for some cable
+  -- a row is usable, and for a cable
   row_good : (r k : ℕ) (router : Router) (row : Row) → At i.routers r router → At router.rows k row → (is_usable row.state ≡ true)
       × ((c : ℕ) × (cable : Cable) × At i.cables c cable × (is_for row cable ≡ true))
   row_good r k router row er ek =
@@ -89,7 +89,7 @@ module _ (i : Internet) (ok : Passes i) where
       let w = index_at (is_for row) i.cables known.0 known.1 in
       (parts.0, (known.0, w.0, w.1, w.2))
 
-  -- at a router, the rows that hold n are those for its cable
+  -- the rows of a router that contain n are those for its cable
   agree : (r : ℕ) (router : Router) (n c : ℕ) (cable : Cable) → At i.routers r router → At i.cables c cable
       → is_between cable.start cable.end n ≡ true → (k : ℕ) (row : Row) → At router.rows k row
       → (is_usable row.state && is_between row.start row.end n) ≡ is_for row cable
@@ -168,7 +168,7 @@ module _ (i : Internet) (ok : Passes i) where
       ∙ ap (λ b. cond b (Here port.cable) (hand_to (owner i port.cable row.next) port.cable row.next)) direct in
       by ∙ ap Here on
 
-  -- a router whose row isn't direct hands it to the owner of the row's next address
+  -- a router whose row isn't direct hands the datagram on to the owner of the row's next address
   goes_to : (r : ℕ) (router : Router) (n : ℕ) (row : Row) (port : Port) (s : ℕ) → At i.routers r router → row_for router.rows n ≡ Some row
       → At router.ports row.port port → is_direct row ≡ false → owner i port.cable row.next ≡ Some s
       → hand i r n ≡ On s port.cable row.next
@@ -178,7 +178,7 @@ module _ (i : Internet) (ok : Passes i) where
       ∙ ap (λ b. cond b (Here port.cable) (hand_to (owner i port.cable row.next) port.cable row.next)) indirect in
       by ∙ ap (λ o. hand_to o port.cable row.next) own
 
-  -- ---- What the rules say of a row
+  -- ---- the consequences of the rules for a row
 
   direct_good : (r k : ℕ) (router : Router) (row : Row) (c : ℕ) → At i.routers r router → At router.rows k row → cable_of i row ≡ Some c
       → bad_direct row (port_on router c) ≡ false
@@ -209,7 +209,7 @@ module _ (i : Internet) (ok : Passes i) where
       ∙ ok 7 (place.Row (suc r) (suc k)) in
       ap (λ b. not b && bad_step i row (next_router i router row)) (sym indirect) ∙ rule
 
-  -- the row that another router has for n is the one with the range of a row for n's cable
+  -- the row of another router for n is the one with the range of a row for n's cable
   their_row : (s : ℕ) (router : Router) (n c : ℕ) (cable : Cable) (row other : Row) → At i.routers s router → At i.cables c cable
       → is_between cable.start cable.end n ≡ true → is_for row cable ≡ true → same_row (slice_get i.routers s) row ≡ Some other
       → row_for router.rows n ≡ Some other
@@ -220,9 +220,9 @@ module _ (i : Internet) (ok : Passes i) where
       let theirs : same_row (Some router) row ≡ Some other = ap (λ o. same_row o row) (sym es) ∙ found in
       row_for_is s router n c cable es ec holds ∙ (find_agree _ _ router.rows agrees ∙ theirs)
 
-  -- ---- The laws
+  -- ---- the laws
 
-  -- where the row is direct
+  -- the row is direct
   steps_here : (r : ℕ) (router : Router) (n c : ℕ) (er : At i.routers r router) (t : TheRow r router n c) → is_direct t.row ≡ true
       → Steps i n c r
   steps_here r router n c er t direct =
@@ -234,7 +234,7 @@ module _ (i : Internet) (ok : Passes i) where
       Stops (stops_at r router n row w.0 c er t.found ep direct on) (distance_is r router n row er t.found ∙ d.3)
       (record { router = router; place = row.port; port = w.0; known = er; at = ep; on = on })
 
-  -- where it isn't
+  -- the row isn't direct
   steps_on : (r : ℕ) (router : Router) (n c : ℕ) (er : At i.routers r router) (t : TheRow r router n c) → is_direct t.row ≡ false
       → Steps i n c r
   steps_on r router n c er t indirect =
@@ -278,7 +278,7 @@ module _ (i : Internet) (ok : Passes i) where
       let fits = near_good r t.place_of found.0 t.row found.1 t.at in
       omega arith
 
-  -- a network that isn't listed has no row
+  -- for a network that isn't listed, a router has no row
   pub nowhere : (r n : ℕ) → r < length i.routers → home i n ≡ None → hand i r n ≡ Nowhere
   nowhere r n within unlisted =
       let found = at_below i.routers r within in

@@ -1,4 +1,4 @@
--- Where the rule on zone lists is kept, each router's zone table agrees with the cables.
+-- If the rule about zone lists is kept, each router's zone table agrees with the cables.
 use Rattle.std.proofs.Common.{◌≡◌, ℕ, zero, suc, ◌+◌, ◌==◌, ◌<◌, inl, inr, Bool, true, false, not, ◌||◌, List, [], ◌∷◌, ◌++◌, length}
 use Rattle.std.proofs.Common.{None, Option, Some, ap, arith, eqb-true, filter, fold, if◌then◌else◌, map, refl, slice_get, subst, sym, ◌∙◌}
 use Rattle.std.specs.List.{list_any, list_all}
@@ -25,15 +25,15 @@ use Rattle.audit.proofs.SideBySide.{AreSideBySide, and_so, beside, same_numbers}
 use Rattle.audit.proofs.WalkFacts.{same_bool}
 use Rattle.audit.proofs.WalkLists.{At, at_one, find_at}
 
--- ---- Names without regard to case
+-- ---- names, ignoring case
 
--- an element of a list of which all pass
+-- if all elements pass, each element does
 all_at : {X : Type 0} (t : X → Bool) (xs : List X) (k : ℕ) (x : X) → list_all t xs ≡ true → At xs k x → t x ≡ true
 all_at t [] k x e at = cc
 all_at t (y ∷ ys) zero x e at = let same : y ≡ x = cc in ap t (sym same) ∙ (and_parts (t y) (list_all t ys) e).0
 all_at t (y ∷ ys) (suc k) x e at = all_at t ys k x (and_parts (t y) (list_all t ys) e).1 at
 
--- a zone of names that are among others is one of those
+-- a zone among names that are all among others is among those
 among : (names zones : List (List ℕ)) (z : List ℕ) → are_among names zones ≡ true → list_any (same_name z) names ≡ true
     → list_any (same_name z) zones ≡ true
 among names zones z all any =
@@ -55,7 +55,7 @@ any_last t (y ∷ ys) x = more (t y) (any_last t ys x)
     more true e = refl
     more false e = e
 
--- a name that is put to others, unless it is there, is among them
+-- a name that is added to others, unless it is among them, is among them
 any_with : (z : List ℕ) (names : List (List ℕ)) (name : List ℕ)
     → list_any (same_name z) (with_name names name) ≡ (list_any (same_name z) names || same_name z name)
 any_with z names name = by (list_any (same_name name) names) refl
@@ -88,13 +88,13 @@ any_fold z names (m ∷ more) =
     ∙ (ap (λ b. b || list_any (same_name z) more) (any_with z names m)
     ∙ or_assoc (list_any (same_name z) names) (same_name z m) (list_any (same_name z) more))
 
--- each once are the same names
+-- names taken once each are the same names
 pub any_once : (z : List ℕ) (names : List (List ℕ)) → list_any (same_name z) (each_once names) ≡ list_any (same_name z) names
 any_once z names = any_fold z [] names
 
--- ---- A router's lists and the cables
+-- ---- a router's lists and the cables
 
--- what is known of a complete list: its names
+-- the list of a zone table for a complete list has its names
 known_complete : (l : ZoneList) → l.complete ≡ true → known_of_list l ≡ set_list (range_of l) l.zones
 known_complete l e =
     ap (λ b. if b then set_list (range_of l) l.zones
@@ -103,7 +103,7 @@ known_complete l e =
 module _ (i : Internet) (cables : FirstPlace (c1 i) None) (router : Router) (rise : IsWithinLimits (length i.cables) router)
     (good : (k : ℕ) (l : ZoneList) → At router.lists k l → bad_list i l ≡ false)
     (covered : (j : ℕ) (c : Cable) → At i.cables j c → lacks_list router c ≡ false) where
-  -- a list that isn't bad is one for a cable
+  -- a list that isn't bad is for a cable
   its_cable : (l : ZoneList) (o : Option Cable) → cable_of_list i l ≡ o → l.complete ≡ true → on o (same_zones l) ≡ true
       → (j : ℕ) × (c : Cable) × At i.cables j c × IsListOf l c
   its_cable l None e full h = cc
@@ -142,7 +142,7 @@ module _ (i : Internet) (cables : FirstPlace (c1 i) None) (router : Router) (ris
       let up = (good_at i j a cables at_j).up in
       omega (arith, apart, up)
 
-  -- cables that start alike are one
+  -- cables with the same start are one
   one_cable : (j k : ℕ) (a b : Cable) → At i.cables j a → At i.cables k b → a.start ≡ b.start → a ≡ b
   one_cable j k a b at_j at_k e =
       elim (cases_order j k) as (λ _. a ≡ b) [
@@ -151,7 +151,7 @@ module _ (i : Internet) (cables : FirstPlace (c1 i) None) (router : Router) (ris
         | inr (inr above) ↦ let h = starts_rise k j b a at_k at_j above in absurd (omega (arith, h, e))
       ]
 
-  -- each list is that of the cable of its number
+  -- each list is that of the cable with its number
   pub side_by_side : AreSideBySide IsListOf router.lists i.cables
   side_by_side =
       and_so (λ l c. l.start ≡ c.start) IsListOf router.lists i.cables
@@ -162,9 +162,9 @@ module _ (i : Internet) (cables : FirstPlace (c1 i) None) (router : Router) (ris
       let w = of_cable j l at_l in
       subst (IsListOf l) (one_cable w.0 j w.1 c w.2 at_c (sym w.3.start ∙ e)) w.3)
 
--- ---- The zone table
+-- ---- the zone table
 
--- the ranges of the lists that have the zone are those of the cables that do
+-- the ranges of the lists that have the zone are those of the cables that have it
 same_ranges : (z : List ℕ) (lists : List ZoneList) (cables : List Cable) → AreSideBySide IsListOf lists cables
     → ranges_of z (zone_map lists) ≡ ranges_with z cables
 same_ranges z [] [] zs = refl
@@ -199,7 +199,7 @@ same_ranges z (l ∷ ls) (c ∷ cs) zs =
         by true = ap (λ (s : Span). s ∷ ranges_of z (zone_map ls)) range ∙ ap (λ ss. record { start = c.start; end = c.end } ∷ ss) rest
         by false = rest
 
--- what a router with such lists knows
+-- the zones known to a router with such lists
 pub knows : (i : Internet) (router : Router) → AreSideBySide IsListOf router.lists i.cables → KnowsZones i router
 knows i router zs = record {
   listing = λ z. same_ranges z router.lists i.cables zs;
@@ -207,7 +207,7 @@ knows i router zs = record {
       λ k l at. let w = beside IsListOf router.lists i.cables zs k l at in (w.0, w.1, w.2);
 }
 
--- where all rules are kept, zone lists agree
+-- if all rules are kept, zone lists agree
 pub zones_agree : (i : Internet) → Passes i → IsBounded i → ZonesAgree i
 zones_agree i ok bounded r router known = knows i router (side_by_side i cables router (bounded.each r router known) good covered)
   where

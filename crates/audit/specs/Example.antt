@@ -10,41 +10,41 @@ use Rattle.table_image.specs.declared.row.Row.{Row}
 use Rattle.table_image.specs.declared.zone_list.ZoneList.{ZoneList}
 use Rattle.table_image.specs.declared.router.Router.{Router}
 
--- the address of a network and a node's number there
+-- the address with this network and node number
 abbrev pub addr : ℕ → ℕ → Addr
 addr net node = record { net = net; node = node }
 
--- the hardware address 02:00:00:00:00 and this byte
+-- the hardware address 02:00:00:00:00 followed by this byte
 abbrev pub hardware : ℕ → Hw
 hardware byte = record { 0 = 2 ∷ 0 ∷ 0 ∷ 0 ∷ 0 ∷ byte ∷ [] }
 
--- a port on the cable, by its address, and by the hardware address that ends in this byte
+-- a port on the cable with this address, and with the hardware address that ends in this byte
 abbrev pub port : ℕ → Addr → ℕ → Port
 port cable address byte = record { cable = cable; address = address; hardware = hardware byte }
 
--- the direct row for the networks from start to end, by a port
+-- the direct row for the networks from start to end, on this port
 abbrev pub direct : ℕ → ℕ → ℕ → Row
 direct start end port = record { start = start; end = end; distance = 0; port = port; next = addr 0 0; state = Good }
 
--- the row for the networks from start to end, at distance 1, with this next router
+-- the row for the networks from start to end, at distance 1, through this next router, on this port
 abbrev pub by_way_of : Addr → ℕ → ℕ → ℕ → Row
 by_way_of next start end port = record { start = start; end = end; distance = 1; port = port; next = next; state = Good }
 
--- the networks 10 to 19 in zone Red, 20 to 29 in both, and 30 to 39 in zone Blue
+-- the networks 10 to 19 with zone Red, 20 to 29 with zones Red and Blue, and 30 to 39 with zone Blue
 abbrev pub example_cables : List Cable
 example_cables =
     record { start = 10; end = 19; zones = codes "Red" ∷ [] }
     ∷ record { start = 20; end = 29; zones = codes "Red" ∷ codes "Blue" ∷ [] }
     ∷ record { start = 30; end = 39; zones = codes "Blue" ∷ [] } ∷ []
 
--- the zones of these cables, as each router knows them
+-- the complete zone lists of the example's cables
 abbrev pub example_lists : List ZoneList
 example_lists =
     record { start = 10; end = 19; complete = true; zones = codes "Red" ∷ [] }
     ∷ record { start = 20; end = 29; complete = true; zones = codes "Red" ∷ codes "Blue" ∷ [] }
     ∷ record { start = 30; end = 39; complete = true; zones = codes "Blue" ∷ [] } ∷ []
 
--- a router on the cables 0 and 1, which reaches the third by way of 20.2
+-- a router on cables 0 and 1, which reaches cable 2 through 20.2
 abbrev pub first_router : Router
 first_router = record {
   ports = port 0 (addr 10 1) 1 ∷ port 1 (addr 20 1) 2 ∷ [];
@@ -52,7 +52,7 @@ first_router = record {
   lists = example_lists;
 }
 
--- a router on the cables 1 and 2, which reaches the first by way of 20.1
+-- a router on cables 1 and 2, which reaches cable 0 through 20.1
 abbrev pub second_router : Router
 second_router = record {
   ports = port 1 (addr 20 2) 3 ∷ port 2 (addr 30 1) 4 ∷ [];
@@ -60,7 +60,7 @@ second_router = record {
   lists = example_lists;
 }
 
--- Three cables in a line: two routers join them, and there is a node on the first and one, a printer, on the last.
+-- Three cables in a line: two routers join them, with a node on the first cable, and a printer on the last.
 abbrev pub three_cables : Internet
 three_cables = record {
   cables = example_cables;
@@ -77,7 +77,7 @@ three_cables = record {
       } ∷ [];
 }
 
--- a router on the cable 1 alone, which sends datagrams for the first and for the last by way of 20.1
+-- a router only on cable 1, which sends datagrams for the first and the last cable through 20.1
 abbrev pub turned_router : Router
 turned_router = record {
   ports = port 1 (addr 20 2) 3 ∷ [];
@@ -85,18 +85,19 @@ turned_router = record {
   lists = example_lists;
 }
 
--- The same cables, but neither router is on the last, and each has the other as its next router there.
+-- An internet with the example's cables, where neither router is on the last cable, and each has the other as its next
+-- router for it.
 abbrev pub pointing_at_each_other : Internet
 pointing_at_each_other = record { cables = example_cables; routers = first_router ∷ turned_router ∷ []; nodes = [] }
 
--- the first router beside one with this port alone
+-- an internet with the first router of the example, and a router with only this port
 abbrev pub beside : Port → Internet
 beside p = record { cables = example_cables; routers = first_router ∷ record turned_router { ports = p ∷ [] } ∷ []; nodes = [] }
 
--- two routers with one address
+-- an internet with two routers that have the same address
 abbrev pub same_addresses : Internet
 same_addresses = beside (port 1 (addr 20 1) 3)
 
--- two routers with one hardware address on a cable
+-- an internet with two routers that have the same hardware address on a cable
 abbrev pub same_hardware_addresses : Internet
 same_hardware_addresses = beside (port 1 (addr 20 2) 2)

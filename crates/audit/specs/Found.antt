@@ -1,9 +1,9 @@
--- Which of a cable's zones were found in a list.
+-- The zones of a cable that were found in a list.
 use Rattle.std.specs.Prelude.{ℕ, Bool, false, take, slice_index_or}
 use Rattle.std.specs.List.{list_all}
 use Rattle.audit.specs.declared.zone_sets.Found.{Found}
 
--- the zone of this 0-based index was found
+-- the zone with this 0-based index was found
 abbrev pub is_found : Found → ℕ → Bool
 is_found found k = slice_index_or found.zones k false
 

@@ -10,6 +10,6 @@ use Rattle.audit.specs.ZoneLists.{bad_list}
 abbrev pub AreGood : Internet → List ZoneList → Type 0
 AreGood i lists = (k : ℕ) (l : ZoneList) → slice_get lists k ≡ Some l → bad_list i l ≡ false
 
--- no list of the routers below r breaks the rule
+-- no list of the routers below r breaks rule C8
 abbrev pub AreGoodBelow : Internet → ℕ → Type 0
 AreGoodBelow i r = (s : ℕ) → s < r → (k : ℕ) → c8 i (place.List (suc s) (suc k)) ≡ false

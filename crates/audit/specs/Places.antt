@@ -1,7 +1,7 @@
--- The element at an index of a list, which may have none there.
+-- Elements of a list by index.
 use Rattle.std.specs.Prelude.{ℕ, zero, suc, Bool, false, cond, List, [], ◌∷◌, Option, Some, None, option_map}
 
--- the test of the element, and false without one
+-- the test of the element, or false if there is none
 abbrev pub on : {X : Type 0} → Option X → (X → Bool) → Bool
 on None test = false
 on (Some x) test = test x

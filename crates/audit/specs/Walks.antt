@@ -11,8 +11,8 @@ use Rattle.audit.specs.Rules.{same_hardware}
 use Rattle.table_image.specs.declared.port.Port.{Port}
 use Rattle.table_image.specs.declared.router.Router.{Router}
 
--- The routers r and then those of the list are a walk for network n, which ends at cable c: each but the last hands the
--- datagram on to the one after it, and the last puts it on c.
+-- Router r and then the routers of the list are a walk for network n that ends at cable c: each but the last hands the
+-- datagram on to the next one, and the last puts it on c.
 abbrev pub IsWalk : Internet → ℕ → ℕ → List ℕ → ℕ → Type 0
 IsWalk i n r [] c = hand i r n ≡ Here c
 IsWalk i n r (s ∷ rest) c = (d : ℕ) × (a : Addr) × (hand i r n ≡ On s d a) × IsWalk i n s rest c
@@ -22,13 +22,13 @@ abbrev pub NotAmong : ℕ → List ℕ → Type 0
 NotAmong r [] = Unit {0}
 NotAmong r (s ∷ rest) = (r ≢ s) × NotAmong r rest
 
--- no router stands twice
+-- no router is in the list twice
 abbrev pub AreDifferent : List ℕ → Type 0
 AreDifferent [] = Unit {0}
 AreDifferent (r ∷ rest) = NotAmong r rest × AreDifferent rest
 
--- From router r there is exactly one walk for network n, and it ends at cable c. No router stands in it twice, and it has
--- one router more than r's distance, so at most 15.
+-- From router r there is exactly one walk for network n, which ends at cable c, has no router twice, and has one router
+-- more than r's distance, so at most 15.
 pub record HasOneWalk (i : Internet) (r n c : ℕ) : Type 0 where
   pub rest : List ℕ
   pub walk : IsWalk i n r rest c
@@ -37,7 +37,8 @@ pub record HasOneWalk (i : Internet) (r n c : ℕ) : Type 0 where
   pub long : length rest ≡ distance i r n
   pub short : length (r ∷ rest) ≤ 15
 
--- One walk home: from each router, for each listed network, there is exactly one walk, and it ends at the network's home.
+-- One walk home: from each router, for each listed network, there is exactly one walk, and it ends at the network's
+-- home.
 abbrev pub WalksHome : Internet → Type 0
 WalksHome i = (r n c : ℕ) → r < length i.routers → home i n ≡ Some c → HasOneWalk i r n c
 
@@ -50,14 +51,15 @@ pub record HasPort (i : Internet) (r c : ℕ) : Type 0 where
   pub at : slice_get router.ports place ≡ Some port
   pub on : port.cable ≡ c
 
--- A step of router r for a network n whose home is cable c: it puts the datagram on c at distance 0, and has a port
--- there; or it hands it on to a router that is one nearer, over another cable where both have a port.
+-- A step of router r for a network n whose home is cable c: r puts the datagram on c, at distance 0 and with a port on
+-- c (Stops), or hands it on to a router that is one nearer, over another cable on which both have a port (Goes).
 pub data Steps (i : Internet) (n c r : ℕ) : Type 0 where
   Stops : hand i r n ≡ Here c → distance i r n ≡ 0 → HasPort i r c → Steps i n c r
   Goes : (s d : ℕ) (a : Addr) → hand i r n ≡ On s d a → owner i d a ≡ Some s → s < length i.routers → distance i s n + 1 ≡ distance i r n
       → HasPort i r d → HasPort i s d → d ≢ c → Steps i n c r
 
--- No two seats share an address, no two seats on one cable share a hardware address, and no station has two seats on one.
+-- No two seats have the same address, no two seats on a cable have the same hardware address, and no station has two
+-- seats on a cable.
 pub record SeatsAreUnique (i : Internet) : Type 0 where
   pub by_address : (j k : ℕ) (s t : Seat) → slice_get (seats i) j ≡ Some s → slice_get (seats i) k ≡ Some t
       → same_address s.address t.address ≡ true → j ≡ k
@@ -66,7 +68,8 @@ pub record SeatsAreUnique (i : Internet) : Type 0 where
   pub by_station : (j k : ℕ) (s t : Seat) → slice_get (seats i) j ≡ Some s → slice_get (seats i) k ≡ Some t → s.station ≡ t.station
       → s.cable ≡ t.cable → j ≡ k
 
--- A seat is addressed: its address is on its cable, its node number is 1 to 253, and its hardware address is of one station.
+-- A seat is addressed: its address is on its cable, its node number is 1 to 253, and its hardware address is that of
+-- one station, not of a group.
 pub record IsAddressed (i : Internet) (s : Seat) : Type 0 where
   pub cable : Cable
   pub known : slice_get i.cables s.cable ≡ Some cable

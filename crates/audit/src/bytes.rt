@@ -1,4 +1,4 @@
-//! From the bytes of an image to its verdict.
+//! The verdict for the bytes of an image.
 
 ghost use Rattle.std.specs.Prelude.{◌≡◌, IfOk, IfErr, MatchResult};
 ghost use Rattle.at_base.specs.Spelling.{Spells};
@@ -15,23 +15,23 @@ use at_base::Error;
 use std::alloc::Global;
 use table_image::read;
 
-/// Audits the internet whose image the bytes are (docs/FORMATS.md). Errors: `BadImage`, with the
-/// 0-based offset and the cause of the first fault, where the bytes are no image; `Memory`, only
-/// where they are one.
+/// Audits the internet whose image the bytes spell (docs/FORMATS.md). Errors: `BadImage`, with the
+/// 0-based offset and the cause of the first flaw, where the bytes spell no image; `Memory`, only
+/// where they spell one.
 pub fn audit_bytes(alloc: Global, bytes: &[u8]) -> Result<Verdict, Error>
-    // The verdict is that of the image that the bytes are.
+    // The verdict is that of the image that the bytes spell.
     ensures judged { IfOk result (λ verdict.
         (i : Internet)
         × Spells image_spelling bytes.now i
         × Judges i verdict
         × OnYes verdict (WalksHome i)) }
-    // An image is audited, unless allocation fails.
+    // If the bytes spell an image, it is audited, unless memory runs out.
     ensures only { (i : Internet)
         → Spells image_spelling bytes.now i
         → MatchResult result (Judges i) (λ e. e ≡ Error.Memory) }
-    // Other bytes are refused with their first fault.
+    // Other bytes are refused with their first flaw.
     ensures first { (f : Flaw) → IsFirstFlaw bytes.now f → result ≡ Err (refusal bytes.now f) }
-    // A refusal is the first fault, or out of memory, and that only where the bytes are an image.
+    // An error reports the first flaw, or a failed allocation where the bytes spell an image.
     ensures refused { IfErr result (Refuses bytes.now) }
 {
     let image = read(alloc, bytes)?;

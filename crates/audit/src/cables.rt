@@ -1,4 +1,5 @@
-//! Rule C1: the ranges of the cables are valid and rise, and each cable has zones.
+//! Rule C1: the ranges of the cables are valid and rising, and each cable has zones, none of them
+//! twice.
 
 ghost use Rattle.std.specs.Prelude.{◌≡◌, ◌<◌, suc, IfSome};
 ghost use Rattle.std.specs.List.{list_any};
@@ -50,7 +51,7 @@ fn first_cable(image: &Image) -> Option<usize>
     None
 }
 
-/// The first cable that breaks rule C1, if one does.
+/// The first cable that breaks rule C1, if any.
 pub(crate) fn bad_cable(image: &Image) -> Option<Place>
     ensures { FirstPlace (c1 image.now) result }
 {

@@ -20,15 +20,15 @@ use crate::zone_lists::bad_zone_list;
 use at_base::Place;
 use table_image::Image;
 
-// The first place that breaks C6. A row that breaks C6 breaks C7 too, so the rows are searched once
-// more only where C7 is broken.
+// The first place that breaks C6, if any. A row that breaks C6 breaks C7 too, so the rows are
+// searched again only if C7 is broken.
 fn bad_next(image: &Image, hints: &Hints, steps: Option<Place>) -> Option<Place>
     requires cables { FirstPlace (c1 image.now) None }
     requires stations { FirstPlace (c2 image.now) None }
     requires steps { FirstPlace (c7 image.now) steps }
     ensures { FirstPlace (c6 image.now) result }
 {
-    // For the prover alone: the contract of `routers` says that rows rise, without which C7 doesn't
+    // Only for the prover: the contract of `routers` says that rows rise, without which C7 doesn't
     // imply C6.
     let _routers = image.routers();
     match steps {
@@ -37,17 +37,20 @@ fn bad_next(image: &Image, hints: &Hints, steps: Option<Place>) -> Option<Place>
     }
 }
 
-/// Audits an internet by the rules, in their order: yes with a summary, or the first place that
-/// breaks the first broken rule. It allocates nothing.
+/// Audits an internet: returns yes with a summary, or no with the first broken rule and the first
+/// place that breaks it. Allocates nothing.
 pub fn audit(image: &Image) -> Verdict
-    // The verdict is right: yes exactly where every rule is kept, otherwise the first place that
-    // breaks the first broken rule.
+    // The verdict is right: yes exactly if no place breaks a rule, else no with the first place
+    // that breaks the first broken rule.
     ensures judged { Judges image.now result }
-    // After a yes each datagram to a listed network has exactly one walk, to that network's cable.
+    // If the verdict is yes, each datagram to a listed network has exactly one walk, and it ends at
+    // that network's cable.
     ensures walks { OnYes result (WalksHome image.now) }
-    // After a yes each router's zone table has a zone for exactly the cables that have it.
+    // If the verdict is yes, each router's zone table has a zone for exactly the cables that have
+    // it.
     ensures zones { OnYes result (ZonesAgree image.now) }
-    // After a yes each node's router, if it has one, and its zone are on its cable.
+    // If the verdict is yes, each node's router, if it has one, and each node's zone are on its
+    // cable.
     ensures nodes { OnYes result (NodesAreServed image.now) }
 {
     if let Some(place) = bad_cable(image) {
@@ -79,7 +82,7 @@ pub fn audit(image: &Image) -> Verdict
     if let Some(place) = unserved_node(image, &hints) {
         return Verdict::No(Rule::NodesServed.broken_at(place));
     }
-    // For the prover alone: the contract of `routers` says that zone lists rise.
+    // Only for the prover: the contract of `routers` says that zone lists rise.
     let _routers = image.routers();
     Verdict::Yes(summarize(image))
 }

@@ -1,5 +1,5 @@
-//! The audit of an internet's tables: the rules, the verdict, and what a verdict of yes says about
-//! the routes of datagrams, about zones and about nodes.
+//! The audit of an internet's tables: the rules, the verdict, and what a yes says about the routes
+//! of datagrams, about zones and about nodes.
 #![tactic(auto)]
 
 mod bytes;
@@ -31,5 +31,5 @@ pub use laws::{
 pub use rule::{MAX_DISTANCE, Rule};
 pub use verdict::{Summary, Verdict};
 
-// What the results are made of.
+// Types of the results.
 pub use at_base::{Cause, Error, Fault, Place};

@@ -1,6 +1,6 @@
-//! The look-ups of the rules about rows. Each tries a hint first, an index that is likely to be the
-//! one wanted: where rule C3 is kept, a router's row k is for cable k. A hint is verified before it
-//! is used; a wrong one costs a search, and changes no answer.
+//! Lookups for the rules about rows. Each tries a hint first, an index that is probably the right
+//! one: if rule C3 is kept, a router's row k is for cable k. A hint is verified before it is used.
+//! A wrong hint costs a search, and doesn't change the result.
 
 ghost use Rattle.std.specs.Prelude.{◌≡◌, ◌==◌, ◌&&◌, None, Some, position, find};
 ghost use Rattle.std.specs.List.{list_any};
@@ -28,7 +28,7 @@ fn search_cables(cables: &[Cable], row: &Row) -> Option<usize>
     cables.iter().position(|c| is_for(row, c))
 }
 
-/// The 0-based index of the cable that the row is for.
+/// The 0-based index of the cable that the row is for, if any.
 pub(crate) fn cable_of(image: &Image, hint: usize, row: &Row) -> Option<usize>
     requires { FirstPlace (c1 image.now) None }
     ensures { result ≡ rules_spec.cable_of image.now row.now }
@@ -61,7 +61,7 @@ fn search_ports(ports: &[Port], cable: usize) -> Option<usize>
     ports.iter().position(|p| p.cable as usize == cable)
 }
 
-/// The 0-based index of the router's port on the cable.
+/// The 0-based index of the router's port on the cable, if any.
 pub(crate) fn port_on(router: &Router, cable: usize) -> Option<usize>
     ensures { result ≡ rules_spec.port_on router.now cable }
 {
@@ -81,7 +81,7 @@ fn search_rows<'a>(rows: &'a [Row], row: &Row) -> Option<&'a Row>
     rows.iter().find(|other| same_range(other, row))
 }
 
-/// The router's row of the same range.
+/// The router's row with the same range, if any.
 pub(crate) fn same_row(router: &Router, hint: usize, row: &Row) -> Option<Row>
     requires { AreRising router.now.rows }
     ensures { result ≡ rules_spec.same_row (Some router.now) row.now }
@@ -117,7 +117,7 @@ fn search_routers(routers: &[Router], cable: u8, address: Addr) -> Option<usize>
         .position(|router| has_seat(router, cable, address))
 }
 
-/// The 0-based index of the router that has a port with the address on the cable.
+/// The 0-based index of the router that has a port with the address on the cable, if any.
 pub(crate) fn owner(image: &Image, hint: usize, cable: u8, address: Addr) -> Option<usize>
     requires { FirstPlace (c2 image.now) None }
     ensures { result ≡ routing_spec.owner image.now cable address }

@@ -1,4 +1,4 @@
-//! Next routers: rule C6, that they exist, and rule C7, that they are one router nearer.
+//! Next routers: rule C6 (they exist) and rule C7 (they are one router nearer).
 
 ghost use Rattle.std.specs.Prelude.{◌≡◌, ◌≢◌, ◌<◌, ◌&&◌, ℕ, not, None, length, slice_get};
 ghost use Rattle.table_image.specs.Rows as rows_spec;
@@ -12,9 +12,9 @@ use crate::lookups::{owner, same_row};
 use at_base::Addr;
 use table_image::{Image, Port, Router, Row};
 
-/// For each cable and node number, a router that may have a port with that number there: a hint,
-/// verified before it is used. The network is left out, since a cable seldom has one node number on
-/// two of its networks.
+/// For each cable and node number, a router that may have a port there with that number: a hint,
+/// which is verified before it is used. The network is left out, since a cable seldom has the same
+/// node number on two of its networks.
 #[derive(Drop)]
 pub(crate) struct Hints {
     routers: [u8; 65536],
@@ -46,7 +46,7 @@ impl Hints {
     }
 
     /// The hints for the routers of the image: that of each port names a router with a port on the
-    /// same cable, by the same node number.
+    /// same cable and with the same node number.
     pub(crate) fn of(image: &Image) -> Hints
         ensures { HasHintsBelow result image.now.routers (length image.now.routers) }
     {
@@ -59,7 +59,7 @@ impl Hints {
         hints
     }
 
-    /// The 0-based index of the router that has a port with the address on the cable.
+    /// The 0-based index of the router that has a port with the address on the cable, if any.
     pub(crate) fn owner(&self, image: &Image, cable: u8, address: Addr) -> Option<usize>
         requires { FirstPlace (c2 image.now) None }
         ensures { result ≡ routing_spec.owner image.now cable address }

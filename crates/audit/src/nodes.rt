@@ -1,4 +1,5 @@
-//! Rule C9: the router of each node is a router on its cable, and its zone is one of its cable's.
+//! Rule C9: the router of each node is a router on its cable, and the node's zone is one of its
+//! cable's.
 
 ghost use Rattle.std.specs.Prelude.{◌≡◌, ◌<◌, suc, None, IfSome};
 ghost use Rattle.std.specs.List.{list_any};
@@ -12,7 +13,7 @@ use crate::places::from_one;
 use at_base::{Name, Place};
 use table_image::{Image, Node};
 
-// Whether the node has a router which is no router's port on its cable. A node without a router
+// Whether the node has a router that isn't a router's port on its cable. A node without a router
 // may be on a cable that has one.
 fn has_bad_router(image: &Image, hints: &Hints, node: &Node) -> bool
     requires { FirstPlace (c2 image.now) None }
@@ -59,7 +60,7 @@ fn first_node(image: &Image, hints: &Hints) -> Option<usize>
     None
 }
 
-/// The first node that breaks rule C9, if one does.
+/// The first node that breaks rule C9, if any.
 pub(crate) fn unserved_node(image: &Image, hints: &Hints) -> Option<Place>
     requires { FirstPlace (c2 image.now) None }
     ensures { FirstPlace (c9 image.now) result }

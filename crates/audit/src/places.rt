@@ -1,4 +1,4 @@
-//! Places, as faults name them: by numbers from 1.
+//! The numbers in places, which count from 1.
 
 ghost use Rattle.std.specs.Prelude.{◌≡◌, ◌<◌, suc};
 

@@ -1,5 +1,5 @@
-//! Rows and the cables that they are for: rule C3, that a row is usable and for a cable, and rule
-//! C4, that the rows of a router's own cables are direct, and no others are.
+//! Rows and the cables that they are for: rule C3 (each row is usable and for a cable) and rule C4
+//! (the rows of a router's own cables are direct, and no others).
 
 ghost use Rattle.std.specs.Prelude.{◌≡◌, None};
 ghost use Rattle.audit.specs.Places.{on};

@@ -1,4 +1,4 @@
-//! The rules about rows, C3 to C7: the first place that breaks one.
+//! The rules about rows, C3 to C7.
 
 ghost use Rattle.std.specs.Prelude.{◌≡◌, ◌<◌, suc, None, Some, IfSome, length, slice_get};
 ghost use Rattle.audit.specs.Firsts.{FirstNumber, FirstPlace};
@@ -94,7 +94,7 @@ fn first_missing(image: &Image, rule: Rule, r: usize, router: &Router) -> Option
     }
 }
 
-/// The first place of a row, or of a cable without one, that breaks the rule.
+/// The first row, or cable without a row, that breaks the rule, if any.
 pub(crate) fn bad_row(image: &Image, hints: &Hints, rule: Rule) -> Option<Place>
     requires cables { FirstPlace (c1 image.now) None }
     requires stations { FirstPlace (c2 image.now) None }

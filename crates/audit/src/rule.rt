@@ -5,8 +5,8 @@ ghost use Rattle.audit.specs.Rules.{number_of};
 
 use at_base::{Fault, Place};
 
-/// The greatest distance, in routers, that a row may have: a datagram counts its hops in four bits,
-/// and a router drops it at 15.
+/// The greatest distance, in routers, that a row may have: the hop count of a datagram has four
+/// bits, and a router drops a datagram with 15 hops.
 ///
 /// Inside AppleTalk, the chapter on RTMP.
 pub const MAX_DISTANCE: u8 = 14;
@@ -14,13 +14,14 @@ pub const MAX_DISTANCE: u8 = 14;
 /// A rule of the audit.
 #[derive(Clone, Copy, Debug, PartialEq, Eq)]
 pub enum Rule {
-    /// C1: the cables' ranges are valid and rise, and each cable has zones, none of them twice.
+    /// C1: the ranges of the cables are valid and rising, and each cable has zones, none of them
+    /// twice.
     CablesInOrder,
-    /// C2: each port and node has an address of its cable, and no two have the same.
+    /// C2: each port and node has an address of its cable, and no two stations have the same.
     StationsAddressed,
     /// C3: each row is usable and for a cable, and each router has a row for each cable.
     RowsCoverCables,
-    /// C4: the rows of a router's own cables are direct, at distance 0, and no others are.
+    /// C4: the rows of a router's own cables are direct, with distance 0, and no others are.
     DirectRowsDirect,
     /// C5: no distance is above `MAX_DISTANCE`.
     DistancesFit,
@@ -31,12 +32,13 @@ pub enum Rule {
     /// C8: each zone list is complete and has the zones of its cable, and each router has a list
     /// for each cable.
     ZoneListsAgree,
-    /// C9: the router of each node is a router on its cable, and its zone is one of its cable's.
+    /// C9: the router of each node is a router on its cable, and the node's zone is one of its
+    /// cable's.
     NodesServed,
 }
 
 impl Rule {
-    /// The number by which a fault and the verdict line name the rule: 3 for C3.
+    /// The number of the rule in a fault and in the verdict line: 3 for C3.
     pub fn number(self) -> u8
         ensures { result ≡ number_of self }
     {

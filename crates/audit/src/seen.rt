@@ -1,5 +1,5 @@
-//! A filter of addresses: it says of almost every new address that no earlier station has it, so
-//! that few pairs of stations are compared.
+//! A filter of addresses. For almost every new address it shows that no earlier station has it, so
+//! few pairs of stations are compared.
 
 ghost use Rattle.std.specs.Prelude.{◌≡◌, ◌<◌};
 ghost use Rattle.audit.specs.Seen.{HasSeen, HasSeenNothing, HasSeenPorts, SeesMore};
@@ -9,8 +9,8 @@ ghost use Rattle.audit.specs.Seen.{address_slot, hardware_slot};
 use at_base::{Addr, Hw};
 use table_image::Port;
 
-/// Marks of the addresses and hardware addresses that were seen. Two may share a mark, so a mark
-/// says only that an address may have been seen; one without a mark was not.
+/// Marks of the addresses and hardware addresses seen so far. Two addresses may share a mark, so an
+/// address with a mark may have been seen; one without a mark wasn't.
 #[derive(Drop)]
 pub(crate) struct Seen {
     addresses: [bool; 65536],
@@ -32,7 +32,7 @@ fn hardware_slot_of(h: &Hw) -> usize
 }
 
 impl Seen {
-    /// The filter that has seen nothing.
+    /// An empty filter.
     pub(crate) fn new() -> Seen
         ensures { HasSeenNothing result }
     {

@@ -15,7 +15,7 @@ use crate::seen::Seen;
 use at_base::{Addr, Hw, Place};
 use table_image::{Image, Node, Port, Router};
 
-/// Whether the two are one address.
+/// Whether the addresses are equal.
 pub(crate) fn same_address(a: Addr, b: Addr) -> bool
     ensures { result ≡ address_spec.same_address a b }
 {
@@ -25,7 +25,7 @@ pub(crate) fn same_address(a: Addr, b: Addr) -> bool
 fn same_hardware(a: &Hw, b: &Hw) -> bool
     ensures { result ≡ spec.same_hardware a.now b.now }
 {
-    // The last byte first: hardware addresses of one maker differ there.
+    // The last byte first: it usually differs between hardware addresses of the same manufacturer.
     a.0[5] == b.0[5] && a.0 == b.0
 }
 
@@ -153,7 +153,7 @@ fn first_node(image: &Image, seen: &Seen) -> Option<usize>
     None
 }
 
-/// The first port or node that breaks rule C2, if one does.
+/// The first port or node that breaks rule C2, if any.
 pub(crate) fn bad_station(image: &Image) -> Option<Place>
     ensures { FirstPlace (c2 image.now) result }
 {

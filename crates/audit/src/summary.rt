@@ -1,4 +1,4 @@
-//! The counts of an internet, and its greatest distance.
+//! The counts and the greatest distance of an internet.
 
 ghost use Rattle.std.specs.Prelude.{◌≡◌, ◌<◌, ◌^◌, fold, length, max, sum_by};
 ghost use Rattle.audit.specs.Verdicts.{summary_of};

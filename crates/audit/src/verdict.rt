@@ -1,4 +1,4 @@
-//! Verdicts, and the line that the program prints for one.
+//! Verdicts, and the line that the program prints for a verdict.
 
 ghost use Rattle.std.specs.Prelude.{◌≡◌, IfOk, IsOkUnless, string_bytes};
 ghost use Rattle.audit.specs.Verdicts as spec;
@@ -8,22 +8,22 @@ use at_base::{Error, Fault};
 use std::alloc::Global;
 use std::fmt;
 
-/// How much an internet has, and how far its routers hold its cables to be.
+/// The size of an internet, and the greatest distance in its routing tables.
 #[derive(Clone, Copy, Debug, PartialEq, Eq)]
 pub struct Summary {
-    /// How many cables there are, at most 200.
+    /// The number of cables, at most 200.
     pub cables: u32,
-    /// How many routers there are, at most 200.
+    /// The number of routers, at most 200.
     pub routers: u32,
-    /// How many nodes there are, at most 200.
+    /// The number of nodes, at most 200.
     pub nodes: u32,
-    /// How many rows the routing tables have, those of all routers together, at most 40,000.
+    /// The number of rows in the routing tables of all routers together, at most 40,000.
     pub rows: u32,
     /// The greatest distance of a row, in routers between its router and its cable; 0 without rows.
     pub greatest: u8,
 }
 
-/// What the audit of an internet comes to.
+/// The result of the audit of an internet.
 #[derive(Clone, Copy, Debug, PartialEq, Eq)]
 pub enum Verdict {
     /// Each rule is kept.
@@ -32,10 +32,10 @@ pub enum Verdict {
     No(Fault),
 }
 
-/// The longest line, in bytes: that of a summary with the greatest numbers that its fields have.
+/// The greatest length of a line, in bytes: that of a summary with the greatest numbers.
 const MAX_LINE: usize = 100;
 
-/// The line, as `yes: 3 cables, ..` or `no: C7 router 1 row 3`, without an end of line.
+/// The line, as `yes: 3 cables, ..` or `no: C7 router 1 row 3`, without a line feed.
 impl fmt::Display for Verdict {
     ghost use Rattle.std.specs.Prelude.{Some};
 
@@ -54,15 +54,15 @@ impl fmt::Display for Verdict {
 }
 
 impl Verdict {
-    /// Whether each rule is kept.
+    /// Whether the verdict is yes: each rule is kept.
     pub fn is_yes(&self) -> bool
         ensures { result ≡ spec.is_yes self.now }
     {
         matches!(self, Verdict::Yes(_))
     }
 
-    /// The line of the verdict, without an end of line: at most 100 bytes. It is allocated by one
-    /// request. Error: `Memory`.
+    /// The line of the verdict, without a line feed: at most 100 bytes, in one allocation. Error:
+    /// `Memory`.
     pub fn line(&self, alloc: Global) -> Result<String, Error>
         ensures ok { IfOk result (λ text. string_bytes text ≡ verdict_line self.now) }
         ensures err { IsOkUnless result Error.Memory }

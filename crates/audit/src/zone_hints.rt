@@ -1,5 +1,5 @@
-//! Zones of cables by their names. A hint is an index that is likely to be the one wanted; it is
-//! verified before it is used, so a wrong one costs a search, and changes no answer.
+//! Finding zones of cables by name. A hint is an index that is probably the right one. It is
+//! verified before it is used, so a wrong hint costs a search, and doesn't change the result.
 
 ghost use Rattle.std.specs.Prelude.{◌≡◌, ◌<◌, ◌*◌, false, Some, IfSome, position};
 ghost use Rattle.at_base.specs.Text.{same_name};
@@ -10,32 +10,32 @@ ghost use Rattle.audit.specs.ZoneLists.{has_double};
 use at_base::Name;
 use table_image::{Image, MAX_ZONES};
 
-/// How many zones of a cable may have hints.
+/// The number of zones of a cable that may have hints.
 const ZONES: usize = MAX_ZONES as usize;
 
-/// How many hashes of names there are.
+/// The number of hashes of names.
 const HASHES: usize = 128;
 
-/// The index of no zone.
+/// The index that means no zone.
 const NONE: u8 = 255;
 
-/// For each cable and hash of a name, the index of a zone of the cable whose name may have it; and
-/// for each zone of a cable the index of another.
+/// For each cable and each hash of a name, the index of a zone of the cable whose name may have
+/// this hash; and for each zone of a cable, the index of another such zone.
 #[derive(Drop)]
 pub(crate) struct ZoneHints {
     first: [u8; 256 * HASHES],
     next: [u8; 256 * ZONES],
 }
 
-/// A factor for each byte of a name.
+/// A factor for each byte of a name, for the hash.
 const FACTORS: [u16; 32] = [
     0x9E37, 0x79B9, 0x7F4B, 0xC13D, 0x85EB, 0xCA6B, 0xC2B3, 0xAE35, 0x27D5, 0xEB2F, 0x1657, 0x67B1,
     0x9E39, 0x3779, 0xB979, 0x7F4D, 0x4A7D, 0x1CE5, 0xB9F5, 0xBF59, 0x94D1, 0x49BB, 0x1331, 0x11EB,
     0x5851, 0xF42D, 0x4C95, 0x7F2D, 0x1405, 0x7B7F, 0x2545, 0xF491,
 ];
 
-// The same for names that are equal but for the case of letters, which differ in one bit. A sum of
-// products, so that many bytes are looked at at once.
+// The hash of a name. Names that are equal, ignoring case, have one hash: the two cases of a letter
+// differ in one bit. It is a sum of products, so that many bytes can be handled at once.
 fn hash(name: &Name) -> usize {
     let sum = name
         .as_slice()
@@ -86,7 +86,7 @@ impl ZoneHints {
         hints
     }
 
-    // Goes through the zones of the cable that have the name's hash.
+    // Goes through the zones of the cable whose names have the hash of this one.
     fn hinted(&self, cable: usize, zones: &[Name], name: &Name) -> Option<usize>
         requires { has_double zones.now ≡ false }
         ensures { IfSome result (λ k. Some k ≡ index_of (same_name name.now) zones.now) }
@@ -102,7 +102,7 @@ impl ZoneHints {
         None
     }
 
-    /// The 0-based index of the zone of a cable that has the name.
+    /// The 0-based index of the zone of a cable that has the name, ignoring case, if any.
     pub(crate) fn find(&self, cable: usize, zones: &[Name], name: &Name) -> Option<usize>
         requires { has_double zones.now ≡ false }
         ensures { result ≡ index_of (same_name name.now) zones.now }

@@ -29,7 +29,8 @@ fn search_cables(cables: &[Cable], list: &ZoneList) -> Option<usize>
     cables.iter().position(|c| is_for(list, c))
 }
 
-// The 0-based index of the cable that the list is for. A router's list k is usually for cable k.
+// The 0-based index of the cable that the list is for, if any. A router's list k is usually for
+// cable k.
 fn cable_of(image: &Image, hint: usize, list: &ZoneList) -> Option<usize>
     requires { FirstPlace (c1 image.now) None }
     ensures { result ≡ index_of (spec.is_list_for list.now) image.now.cables }
@@ -43,7 +44,7 @@ fn cable_of(image: &Image, hint: usize, list: &ZoneList) -> Option<usize>
     search_cables(cables, list)
 }
 
-// Whether a complete list is bad that is for cable c.
+// Whether a complete list for cable c is bad.
 fn is_bad_for(image: &Image, hints: &ZoneHints, c: usize, list: &ZoneList) -> bool
     requires cables { FirstPlace (c1 image.now) None }
     requires cable { index_of (spec.is_list_for list.now) image.now.cables ≡ Some c }
@@ -69,7 +70,7 @@ fn is_bad(image: &Image, hints: &ZoneHints, k: usize, list: &ZoneList) -> bool
     }
 }
 
-// Whether the lists are equal, their zones in the same order and spelling.
+// Whether the lists are equal, with their zones in the same order and spelling.
 fn are_equal(a: &ZoneList, b: &ZoneList) -> bool
     ensures { IsTrue result → a.now ≡ b.now }
 {
@@ -79,7 +80,7 @@ fn are_equal(a: &ZoneList, b: &ZoneList) -> bool
         && are_spelled_alike(a.zones.as_slice(), b.zones.as_slice())
 }
 
-// Whether list k is bad, where none of those of the router before is.
+// Whether list k is bad, where no list of the router before is.
 fn is_bad_after(
     image: &Image,
     hints: &ZoneHints,
@@ -151,7 +152,7 @@ fn first_missing(image: &Image, r: usize, router: &Router) -> Option<usize>
     None
 }
 
-// The lists of the router before router r, and none for the first.
+// The lists of the router before router r; none for the first router.
 fn lists_before(image: &Image, r: usize) -> &[ZoneList]
     requires within { r ≤ length image.now.routers }
     requires good { AreGoodBelow image.now r }
@@ -163,7 +164,7 @@ fn lists_before(image: &Image, r: usize) -> &[ZoneList]
     }
 }
 
-/// The first zone list that is bad, or cable that a router has no list for.
+/// The first zone list that is bad, or the first cable for which a router has no list, if any.
 pub(crate) fn bad_zone_list(image: &Image) -> Option<Place>
     requires { FirstPlace (c1 image.now) None }
     ensures { FirstPlace (c8 image.now) result }

@@ -1,4 +1,4 @@
-//! Whether a zone list has the zones of its cable, in any order and case.
+//! Comparing a zone list with the zones of its cable, in any order and case.
 
 ghost use Rattle.std.specs.Prelude.{◌≡◌, ◌≢◌, ◌<◌, ◌≤◌, ◌&&◌, ℕ, not, true, false};
 ghost use Rattle.std.specs.Prelude.{IsTrue, fold, length};
@@ -11,7 +11,7 @@ use crate::zone_hints::ZoneHints;
 use at_base::Name;
 use table_image::MAX_ZONES;
 
-// Goes on to the end where one is false, so that it may look at many at once.
+// Goes on to the end after a false mark, so that many marks can be handled at once.
 fn fold_all(marks: &[bool]) -> bool
     ensures { result ≡ fold (λ all b. all && b) true marks.now }
 {
@@ -24,7 +24,7 @@ fn are_all(marks: &[bool]) -> bool
     fold_all(marks)
 }
 
-/// Which zones of a cable were found in a list, by their indexes.
+/// The zones of a cable that were found in a list, by their indices.
 #[derive(Drop)]
 struct Found {
     zones: [bool; MAX_ZONES as usize],
@@ -64,7 +64,7 @@ impl Found {
     }
 }
 
-/// Whether the names are the others, in the same order and spelling.
+/// Whether the names are equal to the others, in the same order and spelling.
 pub(crate) fn are_spelled_alike(names: &[Name], others: &[Name]) -> bool
     ensures { IsTrue result → names.now ≡ others.now }
 {

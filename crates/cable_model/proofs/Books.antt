@@ -1,4 +1,4 @@
--- What is kept still agrees with itself after each step.
+-- Each step keeps the invariant of a log.
 use Rattle.std.proofs.Common.{◌≡◌, ℕ, zero, suc, ◌+◌, ◌<◌, ◌≤◌, Bool, true, false, not, cond, ◌||◌, ◌&&◌, List, [], ◌∷◌, ◌++◌, Some}
 use Rattle.std.proofs.Common.{ap, append-nil, arith, filter, length, length-append, map, refl, slice_get, subst, sym, ◌∙◌}
 use Rattle.std.specs.List.{AllByRecursion as Each}
@@ -19,7 +19,7 @@ use Rattle.cable_model.specs.declared.seat.Seat.{Seat}
 use Rattle.cable_model.specs.declared.waiting.Waiting.{Waiting}
 use Rattle.ddp.specs.Bodies.{body}
 
--- ---- Elements of a list that grew
+-- ---- elements of a list that grew
 
 get_front : {X : Type 0} (xs ys : List X) (n : ℕ) → n < length xs → slice_get (xs ++ ys) n ≡ slice_get xs n
 get_front [] ys n h = absurd (omega arith)
@@ -38,7 +38,7 @@ get_last (y ∷ xs) x = get_last xs x
 pub bytes_last : (kept : List (List ℕ)) (b : List ℕ) → bytes_at (kept ++ b ∷ []) (length kept) ≡ b
 bytes_last kept b = rw (get_last kept b)
 
--- ---- What numbers of bytes mean, where more are kept
+-- ---- the meaning of byte numbers, when more bytes are stored
 
 module _ (kept more : List (List ℕ)) where
   bytes_same : (n : ℕ) → n < length kept → bytes_at (kept ++ more) n ≡ bytes_at kept n
@@ -72,7 +72,7 @@ names_more n m le (line.Reached c s how k) h = omega arith
 names_more n m le (line.Dropped r cause k) h = omega arith
 names_more n m le (line.Lost p) h = tt
 
--- What was added, and that it names kept bytes.
+-- The entries and waiting datagrams that were added, and that they name stored bytes.
 pub record Extends (old new : Log) (es : List Entry) (hs : List Held) : Type 0 where
   pub grows : Grows old new es hs
   pub named : Each (Names (length new.kept.items)) new.lines.items
@@ -111,7 +111,7 @@ extends seats old new ls bs ws book lines kept waiting names waits =
           book.waits) waits);
     }
 
--- ---- Pairs that are kept by indices, where entries were added
+-- ---- stored pairs, after entries were added
 
 module _ (seats : List Seat) (t es : List Entry) where
   due_one : (d : Due) → IsDue seats t d → IsDue seats (t ++ es) d
@@ -129,7 +129,7 @@ module _ (seats : List Seat) (t es : List Entry) where
   pairs_same [] h = refl
   pairs_same (d ∷ ds) h = let a = pair_one d h.0 in let b = pairs_same ds h.1 in cc
 
--- ---- What is pending after one more entry
+-- ---- the pending pairs after one more entry
 
 filter_agree : {X : Type 0} (t u : X → Bool) (xs : List X) → Each (λ x. t x ≡ u x) xs → filter t xs ≡ filter u xs
 filter_agree t u [] h = refl
@@ -172,7 +172,7 @@ pending_step seats t e n below new =
     shuffle false true = refl
     shuffle false false = refl
 
--- an entry that neither puts a frame nor ends one
+-- an entry that neither puts a frame nor ends a pair
 module _ (seats : List Seat) (kept : List (List ℕ)) (t : List Entry) (n : ℕ) (below : Each (EndsBelow n) t) where
   same_after : (e : Entry) → pending seats (t ++ e ∷ []) ≡ filter (λ q. true) (pending seats t) ++ []
       → pending seats (t ++ e ∷ []) ≡ pending seats t
@@ -212,7 +212,7 @@ quiet_below kept (line.Put stamp cable sender to kind k) n h = absurd h
 quiet_below kept (line.Took p s) n h = absurd h
 quiet_below kept (line.Lost p) n h = absurd h
 
--- ---- The whole
+-- ---- the whole invariant
 
 pub book_after : (seats : List Seat) (old new : Log) (es : List Entry) (hs : List Held) → IsBook seats old → Extends old new es hs
     → new.puts ≡ old.puts + stamps es → AreNumbered old.puts es → Each (EndsBelow new.puts) es
@@ -238,7 +238,7 @@ book_after seats old new es hs book x puts numbered below due pending' =
       pending = subst (λ l. map (pair_at seats l) new.due.items ≡ pending seats l) t pending';
     }
 
--- nothing but bytes and datagrams that wait was added
+-- only bytes and datagrams that wait were added
 pub book_same : (seats : List Seat) (old new : Log) (hs : List Held) → IsBook seats old → Extends old new [] hs → new.puts ≡ old.puts
     → new.due.items ≡ old.due.items → IsBook seats new
 book_same seats old new hs book x puts due =

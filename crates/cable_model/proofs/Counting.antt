@@ -6,11 +6,11 @@ use Rattle.std.proofs.lemmas.Bool.{false_from_ne_true}
 use Rattle.std.proofs.lemmas.Option.{slice_get-get_or}
 use Rattle.cable_model.specs.Transcript.{one, count}
 
--- x stands at an index
+-- x is the element with index k
 abbrev pub At : {X : Type 0} → List X → ℕ → X → Type 0
 At xs k x = slice_get xs k ≡ Some x
 
--- ---- Counts of lists that are made of others
+-- ---- counts of lists made of others
 
 pub count-append : {X : Type 0} (t : X → Bool) (xs ys : List X) → count t (xs ++ ys) ≡ count t xs + count t ys
 count-append t [] ys = omega arith
@@ -28,7 +28,7 @@ count-filter t u (x ∷ xs) =
       | false ↦ let h = count-filter t u xs in omega (arith, h)
     ]
 
--- ---- What holds of each element
+-- ---- facts about each element
 
 pub each_all : {X : Type 0} (P : X → Type 0) (xs : List X) → ((x : X) → P x) → Each P xs
 each_all P [] f = tt
@@ -51,7 +51,7 @@ each_at P [] k x e h = cc
 each_at P (y ∷ xs) zero x e h = let s : y ≡ x = cc in subst P s h.0
 each_at P (y ∷ xs) (suc k) x e h = each_at P xs k x e h.1
 
--- ---- Counts of tests that agree, or that few elements pass
+-- ---- counts of tests that agree, or that few elements pass
 
 pub count_agree : {X : Type 0} (t u : X → Bool) (xs : List X) → Each (λ x. t x ≡ u x) xs → count t xs ≡ count u xs
 count_agree t u [] h = refl
@@ -84,7 +84,7 @@ count_le t u (x ∷ xs) f =
       | false ↦ λ e. omega (arith, rest)
     ]) refl
 
--- one element less, where the key names at most one
+-- the count without an element, where at most one has the key
 pub count_without : {X : Type 0} (key f : X → Bool) (xs : List X) (k : ℕ) (x : X) → count key xs ≤ 1 → At xs k x → key x ≡ true
     → count (λ p. not (key p) && f p) xs + one (f x) ≡ count f xs
 count_without key f [] k x few e p = cc
@@ -115,7 +115,7 @@ count_without key f (y ∷ xs) (suc k) x few e p =
       | false ↦ λ le. let h = count_without key f xs k x (omega (arith, le)) e p in omega (arith, h)
     ]) few
 
--- ---- Filters
+-- ---- filters
 
 filter_none : {X : Type 0} (t : X → Bool) (xs : List X) → count t xs ≡ 0 → filter t xs ≡ []
 filter_none t [] h = refl
@@ -125,7 +125,7 @@ filter_none t (x ∷ xs) h =
       | false ↦ λ e. filter_none t xs (omega (arith, e))
     ]) h
 
--- the only one that passes is all that the filter keeps
+-- if only one element passes, the filter keeps just that one
 pub filter_one : {X : Type 0} (t : X → Bool) (xs : List X) (k : ℕ) (x : X) → count t xs ≤ 1 → At xs k x → t x ≡ true
     → filter t xs ≡ x ∷ []
 filter_one t [] k x few e p = cc
@@ -142,7 +142,7 @@ filter_one t (y ∷ xs) (suc k) x few e p =
       | false ↦ λ le. filter_one t xs k x (omega (arith, le)) e p
     ]) few
 
--- what a filter keeps is in the list, and passes
+-- an element that a filter keeps is in the list, and passes
 pub filter_at : {X : Type 0} (u : X → Bool) (xs : List X) (k : ℕ) (x : X) → At (filter u xs) k x → (j : ℕ) × At xs j x × (u x ≡ true)
 filter_at u [] k x e = cc
 filter_at u (y ∷ xs) k x e =
@@ -157,7 +157,7 @@ filter_at u (y ∷ xs) k x e =
     front u y xs zero x ih p q = let s : y ≡ x = cc in (zero, q, ap u (sym s) ∙ p)
     front u y xs (suc k) x ih p q = let h = ih k q in (suc h.0, h.1, h.2)
 
--- ---- Tests of some element
+-- ---- tests of some element
 
 pub any-append : {X : Type 0} (t : X → Bool) (xs ys : List X) → list_any t (xs ++ ys) ≡ (list_any t xs || list_any t ys)
 any-append t [] ys = refl
@@ -167,11 +167,11 @@ any-append t (x ∷ xs) ys =
       | false ↦ any-append t xs ys
     ]
 
--- what a list contains stands at an index
+-- an element of a list has an index
 pub contained_at : {X : Type 0} (xs : List X) (x : X) → Contains xs x → (k : ℕ) × At xs k x
 contained_at xs x h = (h.0, slice_get-get_or xs h.0 x h.1 ∙ ap Some h.2)
 
--- where those that pass stand at one index, at most one passes
+-- if all elements that pass have the same index, at most one passes
 pub count_one : {X : Type 0} (t : X → Bool) (xs : List X)
     → ((j k : ℕ) (x y : X) → At xs j x → At xs k y → t x ≡ true → t y ≡ true → j ≡ k) → count t xs ≤ 1
 count_one t [] one_index = omega arith

@@ -1,4 +1,4 @@
--- What is kept after a frame was taken or lost.
+-- The log after a frame was taken or lost.
 use Rattle.std.proofs.Common.{◌≡◌, ◌≤◌, Bool, true, false, not, cond, List, [], ◌∷◌, ◌++◌, length, refl, sym, ap}
 use Rattle.std.proofs.Common.{◌∙◌, subst, arith, map, filter, append-nil, slice_get}
 use Rattle.std.specs.List.{AllByRecursion as Each}
@@ -38,11 +38,11 @@ module _ (seats : List Seat) (t : List Entry) (test : Due → Bool) (e : Entry)
       by true h = h
       by false h = ap (λ l. pair_at seats t d ∷ l) h
 
--- the frame of a pair that is kept has its stamp
+-- the frame of a stored pair has the pair's stamp
 pub stamp_is : (seats : List Seat) (t : List Entry) (d : Due) → IsDue seats t d → (frame_of (slice_get t d.put)).stamp ≡ d.stamp
 stamp_is seats t d h = ap (λ o. (frame_of o).stamp) h.put ∙ h.stamp
 
--- an entry that ends pairs and puts none
+-- an entry that ends pairs and puts no frame keeps the invariant
 pub book_ended : (seats : List Seat) (old new : Log) (l : Line) (test : Due → Bool) → IsBook seats old
     → new.lines.items ≡ old.lines.items ++ l ∷ [] → new.kept ≡ old.kept → new.waiting ≡ old.waiting → new.puts ≡ old.puts
     → new.due.items ≡ filter (λ d. not (test d)) old.due.items → Names (length new.kept.items) l

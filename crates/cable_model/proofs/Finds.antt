@@ -1,4 +1,4 @@
--- Pairs that are found by their stamp.
+-- Finding pairs by stamp and station.
 use Rattle.std.proofs.Common.{◌≡◌, ℕ, zero, suc, ◌+◌, ◌<◌, Bool, true, false, ◌||◌, ◌&&◌, ◌==◌, List, [], ◌∷◌, Option, Some, None, refl}
 use Rattle.std.proofs.Common.{sym, ap, ◌∙◌, subst, arith, map, Contains, find, eqb-true, if◌then◌else◌, IfSome, OnSome}
 use Rattle.std.specs.List.{list_any, AllByRecursion as Each}
@@ -15,7 +15,7 @@ use Rattle.cable_model.specs.declared.due.Due.{Due}
 use Rattle.cable_model.specs.declared.log.Log.{Log}
 use Rattle.cable_model.specs.declared.seat.Seat.{Seat}
 
--- ---- Lists
+-- ---- lists
 
 -- a test of mapped elements
 any_map : {X Y : Type 0} (P : X → Type 0) (f : X → Y) (t : X → Bool) (u : Y → Bool) (xs : List X) → ((x : X) → P x → t x ≡ u (f x))
@@ -24,7 +24,7 @@ any_map P f t u [] same h = refl
 any_map P f t u (x ∷ xs) same h =
     ap (λ b. b || list_any t xs) (same x h.0) ∙ ap (λ b. u (f x) || b) (any_map P f t u xs same h.1)
 
--- what is found is in the list, and passes
+-- an element that is found is in the list, and passes
 find_at : {X : Type 0} (t : X → Bool) (xs : List X) (x : X) → find t xs ≡ Some x → (k : ℕ) × At xs k x × (t x ≡ true)
 find_at t [] x e = cc
 find_at t (y ∷ xs) x e = by (find_at t xs x) (t y) refl e
@@ -57,7 +57,7 @@ any_at {X} t (x ∷ xs) e = by (any_at t xs) (t x) refl e
 pub contains_at : {X : Type 0} (xs : List X) (k : ℕ) (x : X) → At xs k x → Contains xs x
 contains_at xs k x e = (k, slice_get_within xs k x e, get_or_from_slice_get xs k x x e)
 
--- ---- Stamps of pairs
+-- ---- stamps of pairs
 
 -- a frame of a numbered transcript has a stamp below the next one
 numbered_at : (n k : ℕ) (t : List Entry) (f : Frame) → AreNumbered n t → At t k (Put f) → f.stamp < n + stamps t
@@ -82,7 +82,7 @@ module _ (seats : List Seat) (log : Log) (book : IsBook seats log) where
       let less = numbered_at 0 d.put (said log) h.frame book.numbered h.put in
       omega (arith, less, h.stamp, book.puts)
 
-  -- a frame of this stamp is pending
+  -- a frame with this stamp is pending, as a test of the stored pairs
   pub stamped : (stamp : ℕ) → list_any (λ d. stamp == d.stamp) log.due.items ≡ list_any (has_stamp stamp) (pending seats (said log))
   stamped stamp =
       any_map (IsDue seats (said log)) (pair_at seats (said log)) (λ d. stamp == d.stamp) (has_stamp stamp) log.due.items
@@ -124,7 +124,7 @@ module _ (seats : List Seat) (log : Log) (book : IsBook seats log) where
         let same = eqb-true stamp d.stamp (and_parts (stamp == d.stamp) (station == (seat_at seats d.seat).station) (found_of d e)).0 in
         omega (arith, less, same)
 
--- What was found, if anything was.
+-- The facts about a search for a pair.
 pub record IsFound (seats : List Seat) (log : Log) (stamp station : ℕ) (r : Option Due) : Type 0 where
   pub value : is_some r ≡ list_any (is_named stamp station) (pending seats (said log))
   pub due : IfSome r (λ d. IsDue seats (said log) d)
@@ -144,9 +144,9 @@ is_found seats log stamp station (Some d) book e = record {
   earlier = found_below seats log book stamp station d (sym e);
 }
 
--- ---- Seats
+-- ---- seats
 
--- on a cable without stations there is none
+-- on a cable without seats no station is seated
 pub none_seated : (seats : List Seat) (cable station : ℕ) → has_cable seats cable ≡ false → is_seated seats cable station ≡ false
 none_seated [] cable station h = refl
 none_seated (s ∷ ss) cable station h = by (none_seated ss cable station) (s.cable == cable) h

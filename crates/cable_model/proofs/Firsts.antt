@@ -1,4 +1,4 @@
--- The first of the pairs that are pending.
+-- The first of the pending pairs.
 use Rattle.std.proofs.Common.{◌≡◌, ℕ, zero, suc, ◌<◌, ◌≤◌, ◌⊎◌, inl, inr, Bool, true, false, cond, ◌||◌, ◌&&◌, ◌==◌, List, [], ◌∷◌, refl}
 use Rattle.std.proofs.Common.{sym, ap, ◌∙◌, subst, arith, map, Contains, nat_lt, eqb-true}
 use Rattle.std.proofs.lemmas.Bool.{eqb-false, ltb-false, ltb-true}
@@ -13,7 +13,7 @@ use Rattle.cable_model.specs.declared.due.Due.{Due}
 use Rattle.cable_model.specs.declared.log.Log.{Log}
 use Rattle.cable_model.specs.declared.seat.Seat.{Seat}
 
--- not after
+-- the pair of numbers doesn't come after x
 abbrev UpTo : ℕ × ℕ → ℕ → ℕ → Type 0
 UpTo r stamp station = (r.0 < stamp) ⊎ ((r.0 ≡ stamp) × (r.1 ≤ station))
 
@@ -50,7 +50,7 @@ module _ (seats : List Seat) where
   abbrev of : Due → ℕ
   of d = (seat_at seats d.seat).station
 
-  -- What the first of all is: the one that was given, or one of the pairs, and none comes before it.
+  -- The facts about the least of all: it is the one that was given, or one of the pairs, and none comes before it.
   record IsFirst (a b : ℕ) (ds : List Due) (r : ℕ × ℕ) : Type 0 where
     there : (r ≡ (a, b)) ⊎ ((k : ℕ) × (d : Due) × At ds k d × (r ≡ (d.stamp, of d)))
     given : UpTo r a b

@@ -1,4 +1,4 @@
--- Going over the seats of a key alone comes to the same as going over all seats.
+-- Looking only at the seats with a key gives the same as looking at all seats.
 use Rattle.std.proofs.Common.{◌≡◌, ℕ, suc, ◌+◌, ◌≤◌, Bool, true, false, not, cond, ◌&&◌, ◌||◌, List, [], ◌∷◌, ◌++◌, Option, Some, None}
 use Rattle.std.proofs.Common.{length, refl, sym, ap, ◌∙◌, subst, arith, slice_get, find, nat_lt}
 use Rattle.std.specs.List.{list_any, position, position_from, position_or_len}
@@ -16,7 +16,7 @@ use Rattle.cable_model.specs.declared.seat.Seat.{Seat}
 pub all_rest : (seats : List Seat) → IsRest seats 0 seats
 all_rest seats = λ i s e. let same : i ≡ 0 + i = omega arith in subst (λ n. slice_get seats n ≡ Some s) same e
 
--- no more seats pass than there are
+-- the number of indices is at most the number of seats
 pub indices_few : (test : Seat → Bool) (k : ℕ) (ss : List Seat) → length (indices test k ss) ≤ length ss
 indices_few test k [] = omega arith
 indices_few test k (s ∷ ss) = by (test s) (indices_few test (k + 1) ss)
@@ -26,7 +26,7 @@ indices_few test k (s ∷ ss) = by (test s) (indices_few test (k + 1) ss)
     by true h = omega (arith, h)
     by false h = omega (arith, h)
 
--- there are indices where one of the seats passes
+-- the list of indices isn't empty exactly if a seat passes
 pub any_there : (test : Seat → Bool) (k : ℕ) (ss : List Seat) → has_some (indices test k ss) ≡ list_any test ss
 any_there test k [] = refl
 any_there test k (s ∷ ss) = by (test s) (any_there test (k + 1) ss)
@@ -37,7 +37,7 @@ any_there test k (s ∷ ss) = by (test s) (any_there test (k + 1) ss)
     by false h = h
 
 module _ (p q : Seat → Bool) (seats : List Seat) where
-  -- the pairs of those that pass both tests
+  -- the pairs of the seats that pass both tests
   pub dues_there : (stamp put k : ℕ) (ss : List Seat) → IsRest seats k ss
       → dues_at q seats stamp put (indices p k ss) ≡ dues (λ s. p s && q s) stamp put k ss
   dues_there stamp put k [] rest = refl
@@ -63,7 +63,7 @@ module _ (p q : Seat → Bool) (seats : List Seat) where
           ∙ (h ∙ sym (ap (λ c. cond c (one ++ more) more) e))
       by false c e h = h
 
-  -- the first that passes both tests
+  -- the first seat that passes both tests
   first_from : (k : ℕ) (ss : List Seat) → IsRest seats k ss
       → first_at q seats (indices p k ss) ≡ position_from (λ s. p s && q s) k ss
   first_from k [] rest = refl
@@ -84,7 +84,7 @@ module _ (p q : Seat → Bool) (seats : List Seat) where
   pub first_there : first_at q seats (indices p 0 seats) ≡ position (λ s. p s && q s) seats
   first_there = first_from 0 seats (all_rest seats) ∙ sym (position_from-zero (λ s. p s && q s) seats)
 
--- what is found is at its position
+-- the seat that is found is the one at its position
 pub find_there : (test : Seat → Bool) (ss : List Seat) → find test ss ≡ option_and_then (slice_get ss) (position test ss)
 find_there test ss = by (nat_lt (position_or_len test ss) (length ss)) refl
   where

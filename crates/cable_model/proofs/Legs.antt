@@ -1,4 +1,4 @@
--- Legs, by the way that a datagram goes; and what outputs need.
+-- The legs of datagrams, by their routes; and the room that outputs need.
 use Rattle.std.proofs.Common.{◌≡◌, ℕ, ◌+◌, ◌*◌, Bool, true, false, not, cond, List, [], ◌∷◌, length, refl, arith, sym, ap, ◌∙◌, subst}
 use Rattle.at_base.specs.Address.{same_address}
 use Rattle.cable_model.specs.Outcomes.{Places, Sender, held_by, held_next, leg, to_other, to_target}
@@ -39,7 +39,7 @@ held_is places cable port (next.Station a) bytes = by (same_address (target byte
 held_is places cable port next.All bytes = refl
 held_is places cable port (next.Group g) bytes = refl
 
--- a datagram left by the way that was found
+-- a datagram left on the route that was found
 pub left_grows : (places : Places) (exit : Outlet) (to : Next) (bytes b : List ℕ) (w : Route) (old new : Log) (n stamp : ℕ)
     → w ≡ way_of places exit.cable to bytes → n ≡ stamp → b ≡ bytes
     → Grows old new (way_entries (sender_at exit n) b w) (way_held exit.port b w)
@@ -63,7 +63,7 @@ nowhere_none s port bytes (way.Target a f) e = cc
 nowhere_none s port bytes (way.All listed) e = cc
 nowhere_none s port bytes (way.Group g) e = cc
 
--- a datagram that goes nowhere leaves no trace
+-- a datagram that goes nowhere changes nothing
 pub nowhere_grows : (places : Places) (exit : Outlet) (to : Next) (bytes : List ℕ) (w : Route) (log : Log) (stamp : ℕ)
     → w ≡ way_of places exit.cable to bytes → is_nowhere_way w ≡ true
     → Grows log log (leg places (sender_at exit stamp) to bytes) (held_next places exit.cable exit.port to bytes)
@@ -74,7 +74,7 @@ nowhere_grows places exit to bytes w log stamp e none =
     (subst (λ hs. Grows log log [] hs) (sym n.1)
     (same_grows log log (record { lines = refl; kept = refl; waiting = refl; due = refl; puts = refl }))))
 
--- What outputs need, by how many of them the station made.
+-- The room that outputs need, given how many of them the station made.
 pub record Needs (os : List Output) : Type 0 where
   pub lines : all_lines os ≡ 3 * count is_made os + 2 * count (λ o. not (is_made o)) os
   pub spare : all_spare os ≡ count (λ o. not (is_made o)) os

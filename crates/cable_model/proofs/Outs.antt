@@ -1,4 +1,4 @@
--- What becomes of outputs, one after another.
+-- The entries of outputs, one output after another.
 use Rattle.std.proofs.Common.{◌≡◌, ℕ, ◌+◌, ◌*◌, ◌≤◌, suc, List, [], ◌∷◌, ◌++◌, refl, arith, sym, ap, ◌∙◌, subst, append-nil, append_assoc}
 use Rattle.std.proofs.Math.Nat.{add-mul}
 use Rattle.cable_model.proofs.Counting.{count-append}
@@ -10,7 +10,7 @@ use Rattle.cable_model.specs.declared.log.Log.{Log}
 use Rattle.cable_model.specs.declared.seat.Seat.{Seat}
 use Rattle.station.specs.declared.output.Output.{Output}
 
--- ---- Stamps and entries
+-- ---- stamps and entries
 
 pub puts_grow : (seats : List Seat) (a b : Log) (es : List Entry) (hs : List Held) → IsBook seats a → IsBook seats b → Grows a b es hs
     → b.puts ≡ a.puts + stamps es
@@ -19,7 +19,7 @@ puts_grow seats a b es hs x y g =
     let sum = count-append is_put (said a) es in
     omega (arith, total, sum, x.puts)
 
--- ---- Room
+-- ---- room
 
 pub room_for : (log : Log) (l k w d l' k' w' d' : ℕ) → HasRoom log l k w d → l' ≤ l → k' ≤ k → w' ≤ w → d' ≤ d → HasRoom log l' k' w' d'
 room_for log l k w d l' k' w' d' r a b e f = record {
@@ -50,9 +50,9 @@ product n s =
     let once : 1 * s ≡ s = omega arith in
     ap (λ k. k * s) next ∙ (add-mul 1 n s ∙ ap (λ k. k + n * s) once)
 
--- ---- So far
+-- ---- the outputs so far
 
--- What was added so far, which makes the whole with what is left.
+-- The entries added so far and those of the outputs that are left are all entries.
 pub record SoFar (places : Places) (seats : List Seat) (station : ℕ) (start log : Log) (all os : List Output) : Type 0 where
   pub es : List Entry
   pub hs : List Held

@@ -1,4 +1,4 @@
--- What entries do to the pairs that are pending, on cables where a station has one seat at most.
+-- The effect of entries on the pending pairs, on cables where a station has at most one seat.
 use Rattle.std.proofs.Common.{Bool, List, [], ap, false, inl, inr, not, refl, sym, true, ℕ, ◌&&◌, ◌++◌, ◌+◌, ◌<◌, ◌||◌, ◌∷◌, ◌≡◌, ◌≤◌}
 use Rattle.std.proofs.Common.{◌∙◌, subst, arith, filter, eqb-true, eq-eqb, ne_eqb, ◌==◌, append-nil, append_assoc}
 use Rattle.std.specs.List.{AllByRecursion as Each}
@@ -11,7 +11,7 @@ use Rattle.cable_model.specs.Transcript.{one, stamps}
 use Rattle.cable_model.proofs.Counting.{At, any-append, count-append, count-filter, count-map, count_agree, count_le, count_none}
 use Rattle.cable_model.proofs.Counting.{count_without, each-append, each_all, each_map, each_more, filter_at}
 
--- ---- Stamps
+-- ---- stamps
 
 pub numbered-append : (k : ℕ) (es fs : List Entry) → AreNumbered k es → AreNumbered (k + stamps es) fs → AreNumbered k (es ++ fs)
 numbered-append k [] fs h g = let e : k + 0 ≡ k = omega arith in subst (λ n. AreNumbered n fs) e g
@@ -71,7 +71,7 @@ module _ (seats : List Seat) where
   pairs-append (e ∷ es) fs =
       ap (λ l. pairs_of seats e ++ l) (pairs-append es fs) ∙ sym (append_assoc (pairs_of seats e) (pairs seats es) (pairs seats fs))
 
-  -- the pairs of numbered frames have their stamps
+  -- the pairs of numbered frames have the stamps of those frames
   pub stamps_from : (k : ℕ) (es : List Entry) → AreNumbered k es → Each (λ p. k ≤ p.frame.stamp) (pairs seats es)
   stamps_from k [] h = tt
   stamps_from k (e ∷ es) h =
@@ -108,7 +108,7 @@ module _ (seats : List Seat) where
   names stamp station p = stamp == p.frame.stamp && station == p.seat.station
 
   module _ (one_seat : (cable station : ℕ) → count (λ s. s.cable == cable && s.station == station) seats ≤ 1) where
-    -- a frame is one pair at most with a station
+    -- a frame has at most one pair with a station
     one_pair : (stamp station : ℕ) (f : Frame)
         → count (λ s. names stamp station (record { frame = f; seat = s })) (filter (is_heard f) seats) ≤ 1
     one_pair stamp station f =
@@ -123,7 +123,7 @@ module _ (seats : List Seat) where
         ap (λ b. b && s.station == station) b.0 ∙ eq-eqb _ _ (sym (eqb-true _ _ c.1))) in
         omega (arith, inside, few, le)
 
-    -- a stamp and a station name one pair at most
+    -- at most one pair has a given stamp and station
     unique : (stamp station k : ℕ) (es : List Entry) → AreNumbered k es → count (names stamp station) (pairs seats es) ≤ 1
     unique stamp station k [] h = omega arith
     unique stamp station k (e ∷ es) h =
@@ -158,12 +158,12 @@ module _ (seats : List Seat) where
                   omega (arith, sum, mapped, none, rest)
             ]
 
-    -- what is pending and passes, counted over all pairs
+    -- the count of pending pairs that pass, over all pairs
     pub pending_is : (f : Pair → Bool) (t : List Entry)
         → count f (pending seats t) ≡ count (λ p. not (was_ended t p) && f p) (pairs seats t)
     pending_is f t = count-filter f (λ p. not (was_ended t p)) (pairs seats t)
 
-    -- entries that end nothing add their pairs
+    -- entries that end no pair add their pairs
     pub pending_more : (f : Pair → Bool) (t es : List Entry) → Each (EndsBelow (stamps t)) t → Each EndsNone es → AreNumbered (stamps t) es
         → count f (pending seats (t ++ es)) ≡ count f (pending seats t) + count f (pairs seats es)
     pending_more f t es old plain new =
@@ -186,7 +186,7 @@ module _ (seats : List Seat) where
         or_none true = refl
         or_none false = refl
 
-    -- a Took of a pending pair ends it, and no other
+    -- an entry Took of a pending pair ends it, and no other pair
     pub pending_less : (f : Pair → Bool) (t : List Entry) (p : Pair) (k : ℕ) → AreNumbered 0 t → At (pending seats t) k p
         → count f (pending seats (t ++ Took p.frame.stamp p.seat.station ∷ [])) + one (f p) ≡ count f (pending seats t)
     pending_less f t p k new at =

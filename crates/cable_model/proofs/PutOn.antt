@@ -1,4 +1,4 @@
--- The pairs that a frame makes, as they are kept.
+-- The stored pairs of a frame that is put on a cable.
 use Rattle.std.proofs.Common.{◌≡◌, ℕ, suc, ◌+◌, ◌<◌, ◌≤◌, Bool, true, false, not, cond, ◌&&◌, ◌==◌, List, [], ◌∷◌, ◌++◌, Some}
 use Rattle.std.proofs.Common.{ap, append-nil, arith, filter, if◌then◌else◌, length, map, refl, slice_get, slice_index, subst, sym, ◌∙◌}
 use Rattle.std.specs.List.{AllByRecursion as Each}
@@ -20,7 +20,7 @@ use Rattle.cable_model.specs.declared.seat.Seat.{Seat}
 use Rattle.station.specs.declared.heard.Kind.{Kind}
 use Rattle.station.specs.declared.heard.Link.TheVariants as link
 
--- for whom a frame is, by its link
+-- the stations that a frame is for, by its link
 pub is_for_is : (to : Hw) (sender : ℕ) (s : Seat) → is_for_as (link_of to) to sender s ≡ is_for to sender s
 is_for_is to sender s = by (is_all to) (is_group to)
   where
@@ -81,7 +81,7 @@ module _ (test : Seat → Bool) (seats : List Seat) (t : List Entry) (f : Frame)
           (record { seat = slice_get_within seats k s (rest_first seats rest s k h); frame = f; put = there; stamp = refl }, e)
       by false e = e
 
--- a frame was put
+-- putting a frame keeps the invariant
 pub book_put : (seats : List Seat) (old new : Log) (cable sender : ℕ) (to : Hw) (kind : Kind) (n : ℕ) → IsBook seats old
     → new.lines.items ≡ old.lines.items ++ line.Put old.puts cable sender to kind n ∷ [] → new.kept ≡ old.kept
     → new.waiting ≡ old.waiting → new.puts ≡ old.puts + 1 → n < length old.kept.items

@@ -1,4 +1,4 @@
--- The pairs that are pending stand in the order of their stamps.
+-- The pending pairs are in the order of their stamps.
 use Rattle.std.proofs.Common.{◌≡◌, ℕ, zero, suc, ◌+◌, ◌<◌, ◌≤◌, Bool, true, false, cond, not, ◌||◌, ◌&&◌, ◌==◌, List, [], ◌∷◌, ◌++◌, Some, None, position, refl}
 use Rattle.std.proofs.Common.{length, sym, ap, ◌∙◌, subst, arith, map, filter, drop, take, get_or, slice_get, nat_lt, eqb-true}
 use Rattle.std.proofs.lemmas.Bool.{and_parts, ltb-false, ltb-true}
@@ -14,9 +14,9 @@ use Rattle.cable_model.specs.declared.due.Due.{Due}
 use Rattle.cable_model.specs.declared.log.Log.{Log}
 use Rattle.cable_model.specs.declared.seat.Seat.{Seat}
 
--- ---- Stamps of pairs
+-- ---- stamps of pairs
 
--- the stamps of pairs begin at this one or later, and never fall
+-- the stamps of the pairs are at least n and never fall
 abbrev PairsRise : ℕ → List Pair → Type 0
 PairsRise n [] = Unit {0}
 PairsRise n (p ∷ ps) = (n ≤ p.frame.stamp) × PairsRise p.frame.stamp ps
@@ -60,20 +60,20 @@ rise_dues seats t n (d ∷ ds) h g =
     let e = stamp_is seats t d h.0 in
     (subst (λ k. n ≤ k) e g.0, rise_dues seats t d.stamp ds h.1 (subst (λ k. PairsRise k (map (pair_at seats t) ds)) e g.1))
 
--- the pairs of a book stand in the order of their stamps
+-- the stored pairs of a log are in the order of their stamps
 pub book_rises : (seats : List Seat) (log : Log) → IsBook seats log → RiseFrom 0 log.due.items
 book_rises seats log book =
     rise_dues seats (said log) 0 log.due.items book.due
     (subst (PairsRise 0) (sym book.pending)
     (rise_filter (λ p. not (was_ended (said log) p)) 0 (pairs seats (said log)) (rise_pairs seats 0 (said log) book.numbered)))
 
--- ---- Pairs behind a stamp
+-- ---- pairs after a stamp
 
 pub dues_sooner : (m n : ℕ) (ds : List Due) → m ≤ n → RiseFrom n ds → RiseFrom m ds
 dues_sooner m n [] le h = tt
 dues_sooner m n (d ∷ ds) le h = (omega (arith, le, h.0), h.1)
 
--- from one of the pairs on
+-- the stamps from one of the pairs on never fall
 pub rise_from : (n k : ℕ) (ds : List Due) (d : Due) → slice_get ds k ≡ Some d → RiseFrom n ds → RiseFrom d.stamp (drop k ds)
 rise_from n k [] d e h = cc
 rise_from n zero (x ∷ ds) d e h =
@@ -86,7 +86,7 @@ later : (n stamp : ℕ) → stamp ≤ n → (n ≡ stamp → ⊥) → suc stamp 
 later n stamp le ne = omega (arith, le, ne)
 
 module _ (seats : List Seat) (stamp : ℕ) where
-  -- no pair of a later stamp comes before these
+  -- pairs with a later stamp don't change the least
   pub least_here : (who : ℕ) (ds : List Due) → RiseFrom (suc stamp) ds → least seats stamp who ds ≡ (stamp, who)
   least_here who [] h = refl
   least_here who (d ∷ ds) h =
@@ -109,7 +109,7 @@ module _ (seats : List Seat) (stamp : ℕ) where
     abbrev others : List Due → List Due
     others ds = filter (λ d. not (is_of seats stamp station d)) ds
 
-    -- none of a later stamp is of this one
+    -- no pair with a later stamp has this stamp
     pub none_later : (ds : List Due) → RiseFrom (suc stamp) ds → others ds ≡ ds
     none_later [] h = refl
     none_later (d ∷ ds) h =
@@ -120,21 +120,21 @@ module _ (seats : List Seat) (stamp : ℕ) where
         by true e rest = let same = eqb-true stamp d.stamp e in absurd (omega (arith, same, h.0))
         by false e rest = ap (λ l. d ∷ l) rest
 
-    -- behind those of the stamp none is of it
+    -- after the pairs with the stamp, none has it
     pub others_stop : (k : ℕ) (ds : List Due) (x : Due) → k < length ds → ((get_or ds k x).stamp ≡ stamp → ⊥)
         → RiseFrom stamp (drop k ds) → ds ≡ take k ds ++ others (drop k ds)
     others_stop k [] x l ne h = absurd (omega arith)
     others_stop zero (d ∷ ds) x l ne h = sym (none_later (d ∷ ds) (later d.stamp stamp h.0 ne, h.1))
     others_stop (suc k) (d ∷ ds) x l ne h = ap (λ l. d ∷ l) (others_stop k ds x (omega (arith, l)) ne h)
 
-    -- one of this stamp and station is put out of the list
+    -- a pair with this stamp and this station is removed
     pub but_removed : (k : ℕ) (ds : List Due) (x : Due) → k < length ds → is_of seats stamp station (get_or ds k x) ≡ true
         → take k (remove ds k) ++ others (drop k (remove ds k)) ≡ take k ds ++ others (drop k ds)
     but_removed k [] x l e = absurd (omega arith)
     but_removed zero (d ∷ ds) x l e = sym (ap (λ b. cond (not b) (d ∷ others ds) (others ds)) e)
     but_removed (suc k) (d ∷ ds) x l e = ap (λ l. d ∷ l) (but_removed k ds x (omega (arith, l)) e)
 
-    -- what stands before the first of this stamp and station stays
+    -- the pairs before the first one with this stamp and this station are unchanged
     pub before_place : (k : ℕ) (ds : List Due) (x : Due) → ((j : ℕ) → j < k → is_of seats stamp station (get_or ds j x) ≡ false)
         → others ds ≡ take k ds ++ others (drop k ds)
     before_place zero ds x f = refl
@@ -143,7 +143,7 @@ module _ (seats : List Seat) (stamp : ℕ) where
         ap (λ b. cond (not b) (d ∷ others ds) (others ds)) (f 0 (omega arith))
         ∙ ap (λ l. d ∷ l) (before_place k ds x (λ j l. f (suc j) (omega (arith, l))))
 
-    -- the first of this stamp and station: those from it on have no less a stamp
+    -- from the first pair with this stamp and this station on, stamps are at least this one
     pub rise_at : (k : ℕ) (ds : List Due) (x : Due) → position (is_of seats stamp station) ds ≡ Some k → RiseFrom 0 ds
         → RiseFrom stamp (drop k ds)
     rise_at k ds x e h =

@@ -1,4 +1,4 @@
--- What stays where room is made, and what adds up.
+-- The effects of making room, and of several steps together.
 use Rattle.std.proofs.Common.{List, [], ap, append-nil, append_assoc, arith, length, map, refl, subst, sym, ℕ, ◌++◌, ◌<◌, ◌∙◌, ◌≡◌}
 use Rattle.std.specs.List.{AllByRecursion as Each}
 use Rattle.cable_model.specs.Books.{EndsBelow, Grows, IsBook, IsDue, IsKept, IsSame, Names, held, pair_at, said}
@@ -9,9 +9,9 @@ use Rattle.cable_model.specs.Transcript.{AreNumbered, Entry, stamps}
 use Rattle.cable_model.specs.declared.log.Log.{Log}
 use Rattle.cable_model.specs.declared.seat.Seat.{Seat}
 
--- ---- Room that was made
+-- ---- making room
 
--- where the same is said, it is kept as before
+-- making room keeps the invariant
 pub same_book : (seats : List Seat) (old new : Log) → IsSame old new → IsBook seats old → IsBook seats new
 same_book seats old new same book =
     let t : said new ≡ said old =
@@ -56,7 +56,7 @@ same_grows old new same = record {
   kept = ([], same.kept ∙ sym (append-nil old.kept.items));
 }
 
--- ---- Growth, step by step
+-- ---- growth, step by step
 
 chained : {X : Type 0} (xs ys zs us vs : List X) → ys ≡ xs ++ us → zs ≡ ys ++ vs → zs ≡ xs ++ (us ++ vs)
 chained xs ys zs us vs e f = f ∙ (ap (λ l. l ++ vs) e ∙ append_assoc xs us vs)
@@ -73,7 +73,7 @@ grows_then a b c es fs hs gs x y = record {
   kept = (x.kept.0 ++ y.kept.0, chained a.kept.items b.kept.items c.kept.items x.kept.0 y.kept.0 x.kept.1 y.kept.1);
 }
 
--- what cables are, by what they keep
+-- the state of cables with these seats, this limit and this log
 abbrev pub cabling : List Seat → ℕ → Log → Cabling
 cabling seats limit log = record {
   seats = seats;

@@ -1,4 +1,4 @@
--- What is kept after a frame was taken or a datagram sent.
+-- The log after a frame was taken or a datagram sent.
 use Rattle.std.proofs.Common.{◌≡◌, ℕ, ◌+◌, ◌-◌, ◌≤◌, Bool, true, false, List, [], ◌∷◌, ◌++◌, length, refl, arith, sym, ap, ◌∙◌, subst, map, slice_get, Some, ◌*◌, vec_capacity}
 use Rattle.std.proofs.Common.{get_or, Contains, vec_len}
 use Rattle.std.proofs.lemmas.List.{length-map}
@@ -44,7 +44,7 @@ pub kept_after : (seats : List Seat) (limit : ℕ) (old new : Log) → IsKept se
 kept_after seats limit old new k book few named =
     record { book = book; few = few; named = named; frames = frames_few seats new book; one_seat = k.one_seat }
 
--- what grew from what is as before
+-- growth after a step that changes nothing is growth from the start
 pub adds_from : (seats : List Seat) (limit : ℕ) (old mid new : Log) (es : List Entry) (hs : List Held)
     → mid.lines.items ≡ old.lines.items → mid.kept.items ≡ old.kept.items → Grows mid new es hs
     → Adds (cabling seats limit old) (cabling seats limit new) es
@@ -59,11 +59,11 @@ adds_from seats limit old mid new es hs lines kept x = record {
   kept = (x.kept.0, x.kept.1 ∙ ap (λ l. l ++ x.kept.0) kept);
 }
 
--- of no datagrams that waited, those wait that were added
+-- if no datagrams waited before, those that wait are the ones that were added
 pub held_from : (mid new : Log) (es : List Entry) (hs : List Held) → mid.waiting.items ≡ [] → Grows mid new es hs → held new ≡ hs
 held_from mid new es hs none x = x.held ∙ ap (λ ws. map (held_at mid.kept.items) ws ++ hs) none
 
--- room stays where the datagrams that wait are forgotten
+-- removing the datagrams that wait keeps the room
 pub room_forgotten : (a b : Log) (l k w d : ℕ) → HasRoom a l k w d → b.lines ≡ a.lines → b.kept ≡ a.kept → b.due ≡ a.due → b.puts ≡ a.puts
     → vec_len b.waiting ≡ 0 → vec_capacity b.waiting ≡ vec_capacity a.waiting → HasRoom b l k w d
 room_forgotten a b l k w d r lines kept due puts none room =
@@ -83,7 +83,7 @@ room_forgotten a b l k w d r lines kept due puts none room =
       stamps = omega (arith, r.stamps, puts);
     }
 
--- at most 257 times as many
+-- n times at most 257 is at most n * 257
 pub few_times : (m n : ℕ) → m ≤ 257 → m * n ≤ n * 257
 few_times m n le =
     let e : m + (257 - m) ≡ 257 = omega (arith, le) in

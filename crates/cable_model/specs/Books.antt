@@ -1,4 +1,4 @@
--- How cables keep what happened, and what is still to be taken.
+-- How cables store their transcript and the pending pairs.
 use Rattle.std.specs.Prelude.{◌≡◌, ℕ, ◌+◌, ◌≤◌, ◌<◌, ◌^◌, Bool, ◌&&◌, ◌==◌, List, [], ◌∷◌, ◌++◌, map, length, slice_get, cond, nat_lt, ◌||◌}
 use Rattle.std.specs.Prelude.{Option, Some, None, vec_len, vec_capacity}
 use Rattle.std.specs.VecDeque.{deque_len, deque_capacity}
@@ -14,20 +14,20 @@ use Rattle.cable_model.specs.Pending.{Pair, pending}
 use Rattle.cable_model.specs.Transcript.{AreNumbered, Entry, Frame, Put, Took, Lost, count, stamps}
 use Rattle.station.specs.declared.heard.Kind.TheVariants.{Ddp}
 
--- the transcript
+-- the transcript of a log
 abbrev pub said : Log → List Entry
 said log = map (entry_at log.kept.items) log.lines.items
 
--- the datagrams that wait
+-- the datagrams of a log that wait
 abbrev pub held : Log → List Held
 held log = map (held_at log.kept.items) log.waiting.items
 
--- the frame that an entry is
+-- the frame of an entry that puts one
 abbrev pub frame_of : Option Entry → Frame
 frame_of (Some (Put f)) = f
 frame_of _ = record { stamp = 0; cable = 0; sender = 0; to = record { 0 = [] }; kind = Ddp; bytes = [] }
 
--- the seat at an index
+-- the seat with an index
 abbrev pub seat_at : List Seat → ℕ → Seat
 seat_at seats k = or_none (slice_get seats k)
   where
@@ -35,32 +35,32 @@ seat_at seats k = or_none (slice_get seats k)
     or_none (Some s) = s
     or_none None = record { cable = 0; station = 0; port = 0; hw = record { 0 = [] }; group = None }
 
--- the pair that is kept by the indices of its frame's entry and of its seat
+-- the pair that is stored by the indices of its frame's entry and of its seat
 abbrev pub pair_at : List Seat → List Entry → Due → Pair
 pair_at seats entries d = record { frame = frame_of (slice_get entries d.put); seat = seat_at seats d.seat }
 
--- a frame of this stamp stands at an index, and a seat at another
+-- the indices of the stored pair are those of a frame with its stamp, and of a seat
 pub record IsDue (seats : List Seat) (entries : List Entry) (d : Due) : Type 0 where
   pub seat : d.seat < length seats
   pub frame : Frame
   pub put : slice_get entries d.put ≡ Some (Put frame)
   pub stamp : frame.stamp ≡ d.stamp
 
--- a station has one seat at most on a cable
+-- each station has at most one seat on a cable
 abbrev pub HasOneSeat : List Seat → Type 0
 HasOneSeat seats = (cable station : ℕ) → count (λ s. s.cable == cable && s.station == station) seats ≤ 1
 
--- the pair is that of this stamp and station
+-- the stored pair has this stamp and this station
 abbrev pub is_of : List Seat → ℕ → ℕ → Due → Bool
 is_of seats stamp station d = stamp == d.stamp && station == (seat_at seats d.seat).station
 
--- the seats from an index on that pass, each with the frame of this stamp and entry
+-- the stored pairs of a frame and the seats that pass a test, where the first seat has the index k
 abbrev pub dues : (Seat → Bool) → ℕ → ℕ → ℕ → List Seat → List Due
 dues test stamp put k [] = []
 dues test stamp put k (s ∷ ss) =
     cond (test s) (record { stamp = stamp; put = put; seat = k } ∷ dues test stamp put (k + 1) ss) (dues test stamp put (k + 1) ss)
 
--- the bytes that an entry names are kept
+-- the bytes that an entry names are among the first k stored ones
 abbrev pub Names : ℕ → Line → Type 0
 Names k (line.Sent station n) = n < k
 Names k (line.Put stamp cable sender to kind n) = n < k
@@ -69,21 +69,21 @@ Names k (line.Reached cable station how n) = n < k
 Names k (line.Dropped router cause n) = n < k
 Names k (line.Lost stamp) = Unit {0}
 
--- the entry neither puts a frame nor ends one
+-- the entry neither puts a frame nor ends a pair
 abbrev pub IsQuiet : Line → Type 0
 IsQuiet (line.Put stamp cable sender to kind n) = ⊥
 IsQuiet (line.Took stamp station) = ⊥
 IsQuiet (line.Lost stamp) = ⊥
 IsQuiet _ = Unit {0}
 
--- the entry ends pairs of earlier frames alone
+-- the entry ends only pairs of frames with stamps below n
 abbrev pub EndsBelow : ℕ → Entry → Type 0
 EndsBelow n (Took stamp station) = stamp < n
 EndsBelow n (Lost stamp) = stamp < n
 EndsBelow n _ = Unit {0}
 
--- What is kept agrees with itself: entries name kept bytes, frames are numbered, and the pairs that are kept are those that
--- are pending, in their order.
+-- The invariant of a log: entries name stored bytes, frames are numbered, and the stored pairs are the pending ones, in
+-- order.
 pub record IsBook (seats : List Seat) (log : Log) : Type 0 where
   pub named : Each (Names (length log.kept.items)) log.lines.items
   pub waits : Each (λ w. w.bytes < length log.kept.items) log.waiting.items
@@ -93,14 +93,14 @@ pub record IsBook (seats : List Seat) (log : Log) : Type 0 where
   pub due : Each (IsDue seats (said log)) log.due.items
   pub pending : map (pair_at seats (said log)) log.due.items ≡ pending seats (said log)
 
--- Entries were added, and datagrams that wait, and nothing else changed.
+-- Entries and datagrams that wait were added to a log, and nothing else changed.
 pub record Grows (old new : Log) (entries : List Entry) (more : List Held) : Type 0 where
   pub said : said new ≡ said old ++ entries
   pub held : held new ≡ held old ++ more
   pub lines : (further : List Line) × (new.lines.items ≡ old.lines.items ++ further)
   pub kept : (further : List (List ℕ)) × (new.kept.items ≡ old.kept.items ++ further)
 
--- room for so many entries, so many bytes, so many datagrams that wait, and so many pairs
+-- the log has room for l entries, k stored bytes, w datagrams that wait, and d pairs
 pub record HasRoom (log : Log) (l k w d : ℕ) : Type 0 where
   pub lines : vec_len log.lines + l ≤ vec_capacity log.lines
   pub kept : vec_len log.kept + k ≤ vec_capacity log.kept
@@ -110,7 +110,7 @@ pub record HasRoom (log : Log) (l k w d : ℕ) : Type 0 where
   pub byte_numbers : vec_len log.kept + k < 2 ^ 32
   pub stamps : log.puts + l < 2 ^ 32
 
--- at most so much of the room was used
+-- at most l entries, k stored bytes, w datagrams that wait and d pairs of the room were used
 pub record Uses (old new : Log) (l k w d : ℕ) : Type 0 where
   pub lines : vec_len new.lines ≤ vec_len old.lines + l
   pub kept : vec_len new.kept ≤ vec_len old.kept + k
@@ -123,7 +123,7 @@ pub record Uses (old new : Log) (l k w d : ℕ) : Type 0 where
   pub due_room : deque_capacity new.due ≡ deque_capacity old.due
   pub grown : vec_len old.lines ≤ vec_len new.lines
 
--- What cables keep, where a station has one seat at most on a cable.
+-- The invariant of cables, where a station has at most one seat on a cable.
 pub record IsKept (seats : List Seat) (limit : ℕ) (log : Log) : Type 0 where
   pub book : IsBook seats log
   pub few : vec_len log.lines ≤ limit
@@ -131,7 +131,7 @@ pub record IsKept (seats : List Seat) (limit : ℕ) (log : Log) : Type 0 where
   pub frames : log.puts ≤ vec_len log.lines
   pub one_seat : HasOneSeat seats
 
--- The same is said, though there may be more room.
+-- The contents of the logs are equal, though their room may differ.
 pub record IsSame (old new : Log) : Type 0 where
   pub lines : new.lines.items ≡ old.lines.items
   pub kept : new.kept.items ≡ old.kept.items
@@ -139,18 +139,18 @@ pub record IsSame (old new : Log) : Type 0 where
   pub due : new.due.items ≡ old.due.items
   pub puts : new.puts ≡ old.puts
 
--- a stamp and a station come before others
+-- the first stamp and station come before the others, by stamp and then by station
 abbrev pub is_before : ℕ → ℕ → ℕ → ℕ → Bool
 is_before stamp station other_stamp other = nat_lt stamp other_stamp || (stamp == other_stamp && nat_lt station other)
 
--- the first of a stamp with a station and of those of pairs
+-- the least of a stamp with a station and of the pairs, by stamp and then by station
 abbrev pub least : List Seat → ℕ → ℕ → List Due → ℕ × ℕ
 least seats stamp station [] = (stamp, station)
 least seats stamp station (d ∷ ds) =
     cond (is_before d.stamp (seat_at seats d.seat).station stamp station) (least seats d.stamp (seat_at seats d.seat).station ds)
     (least seats stamp station ds)
 
--- the stamps of pairs begin at this one or later, and never fall
+-- the stamps of the pairs are at least n and never fall
 abbrev pub RiseFrom : ℕ → List Due → Type 0
 RiseFrom n [] = Unit {0}
 RiseFrom n (d ∷ ds) = (n ≤ d.stamp) × RiseFrom d.stamp ds

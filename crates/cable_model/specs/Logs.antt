@@ -1,4 +1,4 @@
--- Transcripts as they are kept: entries name bytes by number.
+-- Transcripts as they are stored: entries name bytes by number.
 use Rattle.std.specs.Prelude.{List, None, Option, Some, [], map, slice_get, ℕ, ◌++◌, ◌≡◌}
 use Rattle.ddp.specs.Bodies.{body}
 use Rattle.cable_model.specs.declared.entry.Entry.{Entry as Line}
@@ -7,8 +7,8 @@ use Rattle.cable_model.specs.declared.seat.Seat.{Seat}
 use Rattle.cable_model.specs.declared.waiting.Waiting.{Waiting}
 use Rattle.cable_model.specs.Transcript.{Entry, Sent, Put, Took, Reached, Dropped, Lost}
 
--- What cables are: the seats on them, how many entries there may be at most, the entries, the bytes that these name, and
--- the datagrams of the last taking or sending that wait for an address.
+-- The state of cables: the seats on them, the greatest number of entries, the entries, the bytes that these name, and
+-- the datagrams of the last take or send that wait for a hardware address.
 pub record Cabling : Type 0 where
   pub seats : List Seat
   pub limit : ℕ
@@ -16,7 +16,7 @@ pub record Cabling : Type 0 where
   pub kept : List (List ℕ)
   pub waiting : List Waiting
 
--- the bytes of a number, and none for a number that no entry has
+-- the bytes with a number, or none for a number that no entry has
 abbrev pub bytes_at : List (List ℕ) → ℕ → List ℕ
 bytes_at kept n = or_none (slice_get kept n)
   where
@@ -24,7 +24,7 @@ bytes_at kept n = or_none (slice_get kept n)
     or_none None = []
     or_none (Some bytes) = bytes
 
--- what an entry says: a datagram stands in it by its body, and in a frame with all its bytes
+-- the entry with its bytes: a datagram is given by its body, a frame with all its bytes
 abbrev pub entry_at : List (List ℕ) → Line → Entry
 entry_at kept (line.Sent station n) = Sent station (body (bytes_at kept n))
 entry_at kept (line.Put stamp cable sender to kind n) =
@@ -34,11 +34,12 @@ entry_at kept (line.Reached cable station how n) = Reached cable station how (bo
 entry_at kept (line.Dropped router cause n) = Dropped router cause (body (bytes_at kept n))
 entry_at kept (line.Lost stamp) = Lost stamp
 
--- the transcript that cables have kept
+-- the transcript of cables
 abbrev pub transcript : Cabling → List Entry
 transcript c = map (entry_at c.kept) c.lines
 
--- Entries were added, and nothing else changed: the numbers of bytes that there were name the same bytes.
+-- Entries were added to the transcript, and nothing else changed: the numbers of stored bytes still name the same
+-- bytes.
 pub record Adds (old new : Cabling) (entries : List Entry) : Type 0 where
   pub seats : new.seats ≡ old.seats
   pub limit : new.limit ≡ old.limit

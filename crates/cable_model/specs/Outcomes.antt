@@ -1,4 +1,4 @@
--- What becomes of a station's outputs on the cables.
+-- The entries of a station's outputs on the cables.
 use Rattle.std.specs.Prelude.{◌≡◌, ◌⊎◌, ℕ, ◌+◌, ◌<◌, ◌≤◌, Bool, ◌&&◌, ◌==◌, cond, List, [], ◌∷◌, ◌++◌, find, map, slice_index}
 use Rattle.std.specs.Prelude.{Option, Some, None, Contains, if◌then◌else◌, not}
 use Rattle.std.specs.List.{list_any}
@@ -27,7 +27,7 @@ use Rattle.cable_model.specs.Logs.{Adds, Cabling, bytes_at, transcript}
 use Rattle.cable_model.specs.Pending.{Pair, listens, pending}
 use Rattle.cable_model.specs.Transcript.{Entry, Sent, Put, Took, Reached, Dropped, stamps}
 
--- Where stations are: what is known of the station that has an address on a cable, and whether a network is some cable's.
+-- The results of lookups: that of an address on a cable, and whether a network belongs to a cable.
 pub record Places : Type 0 where
   pub finds : ℕ → Addr → Found
   pub lists : ℕ → Bool
@@ -38,24 +38,25 @@ pub record Sender : Type 0 where
   pub cable : ℕ
   pub station : ℕ
 
--- the frame that a sender puts there
+-- the entry of a frame that a sender puts on its cable
 abbrev pub framed : Sender → Hw → Kind → List ℕ → Entry
 framed s to kind bytes =
     Put (record { stamp = s.stamp; cable = s.cable; sender = s.station; to = to; kind = kind; bytes = bytes })
 
--- a datagram goes to the station that it is for
+-- the entries of a datagram sent to the station that it is addressed to
 abbrev pub to_target : Sender → List ℕ → Found → List Entry
 to_target s bytes (At hw) = Reached s.cable s.station how.Station (body bytes) ∷ framed s hw Ddp bytes ∷ []
 to_target s bytes Nobody = Reached s.cable s.station how.Absent (body bytes) ∷ []
 to_target s bytes Later = Reached s.cable s.station how.Held (body bytes) ∷ []
 
--- it goes to another station; no frame is put for one that isn't there
+-- the entries of a datagram sent to another station than the one that it is addressed to; no frame is put if no station
+-- has the address
 abbrev pub to_other : Sender → List ℕ → Found → List Entry
 to_other s bytes (At hw) = framed s hw Ddp bytes ∷ []
 to_other s bytes Nobody = []
 to_other s bytes Later = []
 
--- the leg of a datagram: how it goes onto the sender's cable
+-- the leg of a datagram: its entries on the sender's cable
 abbrev pub leg : Places → Sender → Next → List ℕ → List Entry
 leg places s (next.Station a) bytes =
     cond (same_address (target bytes) a) (to_target s bytes (places.finds s.cable a)) (to_other s bytes (places.finds s.cable a))
@@ -64,7 +65,7 @@ leg places s next.All bytes =
     (framed s all_hw Ddp bytes ∷ [])
 leg places s (next.Group g) bytes = framed s (group_hw g) Ddp bytes ∷ []
 
--- the cable of a station's port
+-- the cable of a station's port, or 0 if the station has no such port
 abbrev pub cable_of : List Seat → ℕ → ℕ → ℕ
 cable_of seats station port = of_seat (find (λ s. s.station == station && s.port == port) seats)
   where
@@ -72,7 +73,7 @@ cable_of seats station port = of_seat (find (λ s. s.station == station && s.por
     of_seat None = 0
     of_seat (Some s) = s.cable
 
--- the sender by a station's port
+-- the sender on a station's port
 abbrev pub sender_by : List Seat → ℕ → ℕ → ℕ → Sender
 sender_by seats station stamp port = record { stamp = stamp; cable = cable_of seats station port; station = station }
 
@@ -87,26 +88,26 @@ entries_of places seats station stamp (output.Dropped cause bytes) = Dropped sta
 entries_of places seats station stamp (output.Wire port to bytes) =
     framed (sender_by seats station stamp port) to Aarp bytes ∷ []
 
--- the entries of its outputs, one after another
+-- the entries of a station's outputs, one after another, where the next frame has this stamp
 abbrev pub all_entries : Places → List Seat → ℕ → ℕ → List Output → List Entry
 all_entries places seats station stamp [] = []
 all_entries places seats station stamp (o ∷ os) =
     entries_of places seats station stamp o
     ++ all_entries places seats station (stamp + stamps (entries_of places seats station stamp o)) os
 
--- A datagram that waits for the hardware address of the next station: by which port, for which address, and its bytes.
+-- A datagram that waits for the hardware address of its next station: its port, the station's address, and its bytes.
 pub record Held : Type 0 where
   pub port : ℕ
   pub next : Addr
   pub bytes : List ℕ
 
--- a datagram waits where nothing is known yet of the station that its next address names
+-- the datagram that waits, if the lookup of its next address isn't answered yet
 abbrev pub held_by : Found → ℕ → Addr → List ℕ → List Held
 held_by Later port a bytes = record { port = port; next = a; bytes = bytes } ∷ []
 held_by (At hw) port a bytes = []
 held_by Nobody port a bytes = []
 
--- the datagram waits, if its next address is such a one
+-- the datagram that waits, if it is for a station whose hardware address isn't known yet
 abbrev pub held_next : Places → ℕ → ℕ → Next → List ℕ → List Held
 held_next places cable port (next.Station a) bytes = held_by (places.finds cable a) port a bytes
 held_next places cable port next.All bytes = []
@@ -120,36 +121,36 @@ held_of places seats station (output.Kept port bytes) = []
 held_of places seats station (output.Dropped cause bytes) = []
 held_of places seats station (output.Wire port to bytes) = []
 
--- those of outputs, in their order
+-- the datagrams of outputs that wait, in order
 abbrev pub all_held : Places → List Seat → ℕ → List Output → List Held
 all_held places seats station [] = []
 all_held places seats station (o ∷ os) = held_of places seats station o ++ all_held places seats station os
 
--- a datagram that waits, whose bytes are kept under a number
+-- the datagram that waits, with its stored bytes
 abbrev pub held_at : List (List ℕ) → Waiting → Held
 held_at kept w = record { port = w.port; next = w.next; bytes = bytes_at kept w.bytes }
 
--- to whom a frame is addressed, for who hears it
+-- the kind of address that a frame is sent to, as its receivers see it
 abbrev pub link_of : Hw → Link
 link_of to = if is_all to then link.All else if is_group to then link.Group (slice_index to.0 5) else link.Own
 
--- a frame with such a link is for the station of a seat
+-- a frame with this link is for the station of a seat on its cable
 abbrev pub is_for_as : Link → Hw → ℕ → Seat → Bool
 is_for_as link.All to sender s = not (s.station == sender)
 is_for_as (link.Group g) to sender s = not (s.station == sender) && listens g s.group
 is_for_as link.Own to sender s = same_bytes s.hw.0 to.0
 
--- what the station of a pair hears
+-- the frame of a pair, as the pair's station receives it
 abbrev pub heard_by : Pair → Hearing
 heard_by p = record { port = p.seat.port; link = link_of p.frame.to; kind = p.frame.kind; bytes = p.frame.bytes }
 
--- The seats of a station with so many ports: each is of one of them, and each port has one.
+-- The seats of a station with this many ports: each is of one of them, and each port has a seat.
 pub record AreSeatsOf (seats : List Seat) (station ports : ℕ) : Type 0 where
   pub inside : (s : Seat) → Contains seats s → s.station ≡ station → s.port < ports
   pub seated : (port : ℕ) → port < ports → (s : Seat) × Contains seats s × (s.station ≡ station) × (s.port ≡ port)
 
--- A station with so many ports took a frame that was pending for it, put out what follows, and is another then. Of its outputs those wait that
--- are for a station of which nothing is known yet.
+-- A station with this many ports took a frame that was pending for it and sent `added`. Datagrams to a station whose
+-- hardware address isn't known yet are in `waiting`.
 pub record IsTaken (places : Places) (ports : ℕ) (old new : Cabling) (stamp station : ℕ)
     (Hears : Hearing → List Output → Type 0) : Type 0 where
   pub pair : Pair
@@ -163,7 +164,7 @@ pub record IsTaken (places : Places) (ports : ℕ) (old new : Cabling) (stamp st
       Adds old new (Took stamp station ∷ all_entries places old.seats station (stamps (transcript old)) added)
   pub waits : map (held_at new.kept) new.waiting ≡ all_held places old.seats station added
 
--- A station hears this of the frame of a stamp that is pending for it.
+-- The frame with this stamp is pending for the station, which receives it as h.
 pub record IsHeard (pairs : List Pair) (stamp station : ℕ) (h : Hearing) : Type 0 where
   pub pair : Pair
   pub was_pending : Contains pairs pair
@@ -171,7 +172,7 @@ pub record IsHeard (pairs : List Pair) (stamp station : ℕ) (h : Hearing) : Typ
   pub of_station : pair.seat.station ≡ station
   pub heard : h ≡ heard_by pair
 
--- The port of a station that is on a cable: that of its seat there.
+-- The port of a station on a cable, or 0 if the station has no seat there.
 abbrev pub port_on : List Seat → ℕ → ℕ → ℕ
 port_on seats cable station = of_seat (find (λ s. s.cable == cable && s.station == station) seats)
   where
@@ -179,13 +180,13 @@ port_on seats cable station = of_seat (find (λ s. s.cable == cable && s.station
     of_seat None = 0
     of_seat (Some s) = s.port
 
--- the entries of a datagram that a station on a cable sends there
+-- the entries of a datagram that a station sends on a cable
 abbrev pub sent_entries : Places → Cabling → ℕ → ℕ → Next → List ℕ → List Entry
 sent_entries places c cable station to bytes =
     Sent station (body bytes)
     ∷ leg places (record { stamp = stamps (transcript c); cable = cable; station = station }) to bytes
 
--- a station has a seat on the cable
+-- the station has a seat on the cable
 abbrev pub is_seated : List Seat → ℕ → ℕ → Bool
 is_seated seats cable station = list_any (λ s. s.cable == cable && s.station == station) seats
 
@@ -193,15 +194,15 @@ is_seated seats cable station = list_any (λ s. s.cable == cable && s.station ==
 abbrev pub has_cable : List Seat → ℕ → Bool
 has_cable seats cable = list_any (λ s. s.cable == cable) seats
 
--- the pair is that of this stamp and station
+-- the pair has this stamp and this station
 abbrev pub is_named : ℕ → ℕ → Pair → Bool
 is_named stamp station p = stamp == p.frame.stamp && station == p.seat.station
 
--- the pair is of the frame of this stamp
+-- the pair has the frame with this stamp
 abbrev pub has_stamp : ℕ → Pair → Bool
 has_stamp stamp p = stamp == p.frame.stamp
 
--- The pair of a stamp and a station is pending, and none is before it by stamp, then by station.
+-- The pair of the stamp and the station is pending, and no other pair comes before it, by stamp and then by station.
 pub record IsLeast (pairs : List Pair) (stamp station : ℕ) : Type 0 where
   pub there : (p : Pair) × Contains pairs p × (p.frame.stamp ≡ stamp) × (p.seat.station ≡ station)
   pub first : (p : Pair) → Contains pairs p

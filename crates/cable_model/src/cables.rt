@@ -1,4 +1,4 @@
-//! Cables: what is put on them, who takes it, and what happened.
+//! Cables, their frames and their transcript.
 
 ghost use Rattle.std.specs.Prelude.{◌≡◌, ◌⊎◌, ◌↔◌, ◌<◌, ◌≤◌, ◌+◌, [], ◌∷◌};
 ghost use Rattle.std.specs.Prelude.{true, false, length, map};
@@ -29,24 +29,24 @@ use station::{Heard, Kind, Next, Outputs, Station as Taker};
 use std::alloc::Global;
 use std::marker::Model;
 
-/// The most entries that one taking of a frame adds: that it was taken; three for each of 256
-/// outputs that the station makes; and two for the datagram that it passes on.
+/// The greatest number of entries that one take adds: one for the frame that is taken; three for
+/// each of 256 outputs that the station makes; and two for the datagram that it forwards.
 pub const TAKE_ROOM: usize = 771;
 
-/// The most entries that one sending adds.
+/// The greatest number of entries that one send adds.
 pub const SEND_ROOM: usize = 3;
 
-/// The most bytes of a frame. Inside AppleTalk, the chapter on DDP.
+/// The greatest length of a frame, in bytes. Inside AppleTalk, the chapter on DDP.
 pub const MAX_FRAME: usize = 599;
 
-/// Cables, the seats on them, and what happened there.
+/// Cables, the seats on them, and the transcript of what happened there.
 #[derive(Drop)]
 pub struct Cables {
     seats: Seats,
     limit: u32,
     log: Log,
-    // what the station that takes a frame puts out: empty between two takings, with the room that
-    // was made for the first one
+    // The outputs of the station that takes a frame. The queue is empty between takes, and keeps
+    // the room that was made for the first take.
     outputs: Outputs,
 }
 
@@ -68,9 +68,8 @@ impl Model for Cables {
 }
 
 impl Cables {
-    /// Cables with these seats on them, where nothing has happened yet, for at most `limit`
-    /// entries. That a station has one seat at most on a cable is the caller's condition. Error:
-    /// `Memory`.
+    /// Cables with these seats and an empty transcript, which may get at most `limit` entries. The
+    /// caller ensures that a station has at most one seat on a cable. Error: `Memory`.
     pub fn new(alloc: Global, seats: &[Seat], limit: u32) -> Result<Cables, Error>
         requires { HasOneSeat seats.now }
         ensures ok { IfOk result (λ cables. cables
@@ -86,7 +85,7 @@ impl Cables {
         })
     }
 
-    /// What happened, in order. Allocates nothing.
+    /// The transcript: the entries, in order. Allocates nothing.
     pub fn transcript(&self) -> &[Entry]
         ensures value { result.now ≡ self.now.lines }
         ensures numbered { AreNumbered 0 (logs_spec.transcript self.now) }
@@ -95,14 +94,15 @@ impl Cables {
         self.log.lines.as_slice()
     }
 
-    /// The bytes of a number that entries name, and none for any other number. Allocates nothing.
+    /// The bytes with the number that entries name, or no bytes for any other number. Allocates
+    /// nothing.
     pub fn bytes(&self, number: u32) -> &[u8]
         ensures { result.now ≡ bytes_at self.now.kept number }
     {
         taking::bytes_of(&self.log.kept, number)
     }
 
-    /// Whether the frame of the stamp is pending for the station. Allocates nothing.
+    /// Whether the frame with this stamp is pending for the station. Allocates nothing.
     pub fn pending(&self, stamp: u32, station: u16) -> bool
         ensures { result ≡ list_any (is_named stamp station)
             (pending_spec.pending self.now.seats (logs_spec.transcript self.now)) }
@@ -110,7 +110,8 @@ impl Cables {
         ending::find_pair(&self.log, self.seats.as_slice(), stamp, station).is_some()
     }
 
-    /// What the station hears of the frame of a stamp, where it is pending for it. Allocates nothing.
+    /// The frame with this stamp as the station receives it, if it is pending for the station.
+    /// Allocates nothing.
     pub fn heard(&self, stamp: u32, station: u16) -> Option<Heard<'_>>
         ensures some { IfSome result (λ h. IsHeard (pending_spec.pending self.now.seats (logs_spec.transcript self.now))
             stamp station (hearing h)) }
@@ -123,7 +124,7 @@ impl Cables {
         }
     }
 
-    /// The least stamp of which a frame is pending, and the least station that it is pending for.
+    /// The least stamp of a pending frame, and the least station that this frame is pending for.
     /// Allocates nothing.
     pub fn first(&self) -> Option<(u32, u16)>
         ensures some { IfSome result (λ pair.
@@ -133,25 +134,26 @@ impl Cables {
         earliest::first_pair(&self.log, self.seats.as_slice())
     }
 
-    /// The number of pairs of a frame and a station that are pending. Allocates nothing.
+    /// The number of pending pairs of a frame and a station. Allocates nothing.
     pub fn pending_count(&self) -> usize
         ensures { result ≡ length (pending_spec.pending self.now.seats (logs_spec.transcript self.now)) }
     {
         self.log.due.len()
     }
 
-    /// The datagrams of the last `take` or `send` that wait for an address. Allocates nothing.
+    /// The datagrams of the last `take` or `send` that wait for a hardware address. Allocates
+    /// nothing.
     pub fn waiting(&self) -> &[Waiting]
         ensures { result.now ≡ self.now.waiting }
     {
         self.log.waiting.as_slice()
     }
 
-    /// A station puts a frame on a cable. The result is its stamp, counted from 0.
+    /// Puts a frame of a station on a cable, and returns its stamp. Stamps count frames from 0.
     ///
-    /// Errors, in this order: `NoSuch(Cable)` where no station is on the cable; `NoSuch(Station)`
-    /// where this one isn't; `TooLong` above 599 bytes; `Full` where the entries are at their
-    /// limit; `Memory`. A refusal changes nothing.
+    /// Errors, in this order: `NoSuch(Cable)` where the cable has no seat; `NoSuch(Station)` where
+    /// this station has no seat on it; `TooLong` above 599 bytes; `Full` where the transcript is at
+    /// its limit; `Memory`. A refusal changes nothing.
     pub fn put(
         &mut self,
         cable: u8,
@@ -195,12 +197,12 @@ impl Cables {
         Ok(stamp)
     }
 
-    /// A station on a cable sends a datagram there. It waits where nothing is known yet of its next
-    /// station. That the bytes are a datagram is the caller's part; a group below 253 is the caller's
-    /// condition.
+    /// Sends a datagram of a station on a cable. The datagram waits if the hardware address of its
+    /// next station isn't known yet. The caller ensures that a group is below 253, and is
+    /// responsible for the bytes being a datagram.
     ///
-    /// Errors, in this order: `NoSuch(Cable)`, `NoSuch(Station)`, `Full` below 3 entries of room,
-    /// `Memory`. A refusal changes nothing.
+    /// Errors, in this order: `NoSuch(Cable)`, `NoSuch(Station)`, `Full` where fewer than 3 entries
+    /// are left, `Memory`. A refusal changes nothing.
     pub fn send<R: Resolve>(
         &mut self,
         station: u16,
@@ -241,11 +243,11 @@ impl Cables {
         Ok(())
     }
 
-    /// A station takes a frame that is pending for it, and what it puts out goes onto its cables.
-    /// That the station's ports are those of its seats is the caller's condition.
+    /// Lets a station take a frame that is pending for it, and puts the station's outputs on its
+    /// cables. The caller ensures that the station's ports are those of its seats.
     ///
-    /// Errors, in this order: `NotPending`; `Full` below 771 entries of room; `Memory`. A refusal
-    /// changes neither the cables nor the station: the frame is still pending.
+    /// Errors, in this order: `NotPending`; `Full` where fewer than 771 entries are left; `Memory`.
+    /// A refusal changes neither the cables nor the station, and the frame is still pending.
     pub fn take<S: Taker, R: Resolve>(
         &mut self,
         stamp: u32,
@@ -297,10 +299,10 @@ impl Cables {
         Ok(())
     }
 
-    /// A frame is lost to all who haven't taken it.
+    /// Loses a frame for all stations that haven't taken it.
     ///
-    /// Errors, in this order: `NotPending` where nobody is to take it; `Full`; `Memory`. A refusal
-    /// changes nothing.
+    /// Errors, in this order: `NotPending` where the frame is pending for no station; `Full`;
+    /// `Memory`. A refusal changes nothing.
     pub fn lose(&mut self, stamp: u32) -> Result<(), Error>
         ensures ok { OnOk result (Adds self.old self.new (Lost stamp ∷ [])) }
         ensures waiting { self.new.waiting ≡ self.old.waiting }
@@ -325,7 +327,7 @@ impl Cables {
     }
 }
 
-/// Takes all outputs out.
+/// Removes all outputs.
 fn empty(outputs: &mut Outputs)
     ensures { outputs.new.items ≡ [] }
 {
@@ -334,7 +336,7 @@ fn empty(outputs: &mut Outputs)
     }
 }
 
-/// No outputs, with room for all that a station puts out. Error: `Memory`.
+/// Empties the queue, and makes room for all outputs of one call of a station. Error: `Memory`.
 fn make_ready(outputs: &mut Outputs) -> Result<(), Error>
     ensures ok { OnOk result (outputs.new.items ≡ []) }
     ensures refused { IsOkUnless result Error.Memory }

@@ -1,12 +1,12 @@
-//! Frames that are still to be taken.
+//! Pending pairs of a frame and a seat.
 
-/// A frame that a seat's station is still to take. It names both by their indices, so that it stays
-/// small.
+/// A frame that is pending for the station of a seat. Both are named by their indices, so that the
+/// pair stays small.
 #[derive(Clone, Copy, Debug)]
 pub struct Due {
     /// The stamp of the frame.
     pub stamp: u32,
-    /// The index of the frame's entry.
+    /// The index of the frame's entry in the transcript.
     pub put: u32,
     /// The index of the seat.
     pub seat: usize,

@@ -1,4 +1,4 @@
-//! Which frame is to be taken first.
+//! The first pending frame.
 
 ghost use Rattle.std.specs.Prelude.{◌≡◌, [], IfNone, IfSome};
 ghost use Rattle.cable_model.specs.Books.{IsBook, RiseFrom, least, said};
@@ -11,8 +11,8 @@ use crate::log::Log;
 use crate::seat::Seat;
 use std::collections::VecDeque;
 
-/// The least station of those of the pairs that begin with this stamp, and of this one. Stamps don't
-/// fall, so that no later pair comes before these.
+/// The least of `station` and the stations of the pairs at the front that have this stamp. Stamps
+/// never fall, so no later pair has it.
 fn least_due(due: &VecDeque<Due>, seats: &[Seat], stamp: u32, station: u16) -> (u32, u16)
     requires rising { RiseFrom stamp due.now.items }
     ensures { result ≡ least seats.now stamp station due.now.items }
@@ -31,7 +31,7 @@ fn least_due(due: &VecDeque<Due>, seats: &[Seat], stamp: u32, station: u16) -> (
     (stamp, who)
 }
 
-/// The least stamp of which a frame is pending, and the least station that it is pending for.
+/// The least stamp of a pending frame, and the least station that this frame is pending for.
 pub fn first_pair(log: &Log, seats: &[Seat]) -> Option<(u32, u16)>
     requires book { IsBook seats.now log.now }
     ensures some { IfSome result (λ pair.

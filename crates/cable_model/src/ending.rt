@@ -18,14 +18,14 @@ use crate::log::Log;
 use crate::seat::Seat;
 use std::collections::VecDeque;
 
-/// Whether the pair is that of a stamp and a station.
+/// Whether the pair has this stamp and this station.
 fn is_due(due: &Due, seats: &[Seat], stamp: u32, station: u16) -> bool
     ensures { result ≡ is_of seats.now stamp station due.now }
 {
     stamp == due.stamp && station == station_at(seats, due.seat)
 }
 
-/// The station at an index.
+/// The station of the seat with an index, or 0 past the end.
 pub fn station_at(seats: &[Seat], index: usize) -> u16
     ensures { result ≡ (seat_at seats.now index).station }
 {
@@ -35,7 +35,7 @@ pub fn station_at(seats: &[Seat], index: usize) -> u16
     }
 }
 
-/// The pair of a stamp and a station, if it is pending.
+/// The pair with this stamp and this station, if it is pending.
 fn find_due(due: &VecDeque<Due>, seats: &[Seat], stamp: u32, station: u16) -> Option<Due>
     ensures { result ≡ find (is_of seats.now stamp station) due.now.items }
 {
@@ -48,7 +48,7 @@ fn find_due(due: &VecDeque<Due>, seats: &[Seat], stamp: u32, station: u16) -> Op
     None
 }
 
-/// The pair of a stamp and a station in a log, if it is pending.
+/// The pair with this stamp and this station in a log, if it is pending.
 pub fn find_pair(log: &Log, seats: &[Seat], stamp: u32, station: u16) -> Option<Due>
     requires book { IsBook seats.now log.now }
     ensures value { is_some result
@@ -62,14 +62,14 @@ pub fn find_pair(log: &Log, seats: &[Seat], stamp: u32, station: u16) -> Option<
     find_due(&log.due, seats, stamp, station)
 }
 
-/// Whether one of the pairs is of the frame of a stamp.
+/// Whether one of the pairs has this stamp.
 fn has_due(due: &VecDeque<Due>, stamp: u32) -> bool
     ensures { result ≡ list_any (λ d. stamp == d.stamp) due.now.items }
 {
     due.iter().any(|d| stamp == d.stamp)
 }
 
-/// Whether the frame of a stamp is pending for anyone.
+/// Whether the frame with this stamp is pending for any station.
 pub fn is_stamped(log: &Log, stamp: u32) -> bool
     ensures value { (seats : List SeatValue) → IsBook seats log.now
         → result ≡ list_any (has_stamp stamp) (pending seats (said log.now)) }
@@ -79,15 +79,15 @@ pub fn is_stamped(log: &Log, stamp: u32) -> bool
     has_due(&log.due, stamp)
 }
 
-/// The place of the pair of a stamp and a station, if it is pending.
+/// The index of the pair with this stamp and this station, if it is pending.
 fn place_of(due: &VecDeque<Due>, seats: &[Seat], stamp: u32, station: u16) -> Option<usize>
     ensures { result ≡ position (is_of seats.now stamp station) due.now.items }
 {
     due.iter().position(|d| is_due(d, seats, stamp, station))
 }
 
-/// Puts the pairs of a stamp and a station out of the list, from a place on where stamps are no less
-/// and don't fall.
+/// Removes the pairs with this stamp and this station, from an index on. From there on, stamps are
+/// at least this stamp and never fall.
 fn remove_from(due: &mut VecDeque<Due>, seats: &[Seat], stamp: u32, station: u16, from: usize)
     requires rising { RiseFrom stamp (drop from due.old.items) }
     ensures items { due.new.items ≡ take from due.old.items
@@ -107,7 +107,7 @@ fn remove_from(due: &mut VecDeque<Due>, seats: &[Seat], stamp: u32, station: u16
     }
 }
 
-/// Puts the pairs of a stamp and a station out of a list whose stamps don't fall.
+/// Removes the pairs with this stamp and this station from a list whose stamps never fall.
 fn remove_due(due: &mut VecDeque<Due>, seats: &[Seat], stamp: u32, station: u16)
     requires rising { RiseFrom 0 due.old.items }
     ensures items { due.new.items
@@ -120,7 +120,7 @@ fn remove_due(due: &mut VecDeque<Due>, seats: &[Seat], stamp: u32, station: u16)
     }
 }
 
-/// A station takes a frame, so that its pair isn't pending any more.
+/// Adds the entry that a station took a frame, and removes the pair of both.
 pub fn took(log: &mut Log, seats: &[Seat], stamp: u32, station: u16)
     requires room { HasRoom log.old 1 0 0 0 }
     requires book { IsBook seats.now log.old }
@@ -137,7 +137,7 @@ pub fn took(log: &mut Log, seats: &[Seat], stamp: u32, station: u16)
     remove_due(&mut log.due, seats, stamp, station);
 }
 
-/// A frame is lost, so that none of its pairs is pending any more.
+/// Adds the entry that a frame was lost, and removes all its pairs.
 pub fn lost(log: &mut Log, seats: &[Seat], stamp: u32)
     requires room { HasRoom log.old 1 0 0 0 }
     requires book { IsBook seats.now log.old }

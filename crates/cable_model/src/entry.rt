@@ -1,4 +1,4 @@
-//! Entries of a transcript, which name bytes by their number.
+//! Entries of a transcript. They name bytes by number.
 
 use at_base::Hw;
 use station::{DropCause, Kind};
@@ -6,20 +6,20 @@ use station::{DropCause, Kind};
 /// How a datagram reached the cable of its target.
 #[derive(Clone, Copy, Debug, PartialEq, Eq)]
 pub enum How {
-    /// In a frame to the station that it is for.
+    /// In a frame to the station that it is addressed to.
     Station,
     /// In a frame to all stations of the cable.
     All,
-    /// By the router that it is for, which keeps it.
+    /// By the router that it is addressed to, which keeps it.
     Own,
-    /// In no frame, since no station there has its address.
+    /// Without a frame, since no station on the cable has its address.
     Absent,
-    /// In no frame yet, since the hardware address of its station isn't known yet.
+    /// Without a frame yet, since the hardware address of its station isn't known yet.
     Held,
 }
 
 /// An entry of a transcript. Cables and stations are counted from 0; `bytes` is the number by which
-/// `Cables::bytes` gives the datagram or packet.
+/// `Cables::bytes` returns the datagram or packet.
 #[derive(Clone, Copy, Debug, PartialEq, Eq)]
 pub enum Entry {
     /// A station made a datagram.
@@ -41,7 +41,7 @@ pub enum Entry {
         stamp: u32,
         station: u16,
     },
-    /// A datagram reached a cable, where this station put or kept it.
+    /// A datagram reached the cable of its target, where this station put or kept it.
     Reached {
         cable: u8,
         station: u16,
@@ -54,7 +54,7 @@ pub enum Entry {
         cause: DropCause,
         bytes: u32,
     },
-    /// A frame was lost to all who hadn't taken it.
+    /// A frame was lost for all stations that hadn't taken it.
     Lost {
         stamp: u32,
     },

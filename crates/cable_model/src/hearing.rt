@@ -1,4 +1,4 @@
-//! Who hears a frame.
+//! The stations that receive a frame.
 
 ghost use Rattle.std.specs.Prelude.{◌≡◌};
 ghost use Rattle.at_base.specs.Text.{same_bytes};
@@ -9,14 +9,14 @@ use crate::seat::Seat;
 use at_base::Hw;
 use station::Link;
 
-/// Whether two hardware addresses are the same.
+/// Whether the hardware addresses are equal.
 pub fn same_hw(a: &Hw, b: &Hw) -> bool
     ensures { result ≡ same_bytes a.now.0 b.now.0 }
 {
     a == b
 }
 
-/// To whom a frame is addressed, for who hears it.
+/// The kind of address that a frame is sent to, as its receivers see it.
 pub fn link_of(to: &Hw) -> Link
     ensures { result ≡ spec.link_of to.now }
 {
@@ -29,7 +29,7 @@ pub fn link_of(to: &Hw) -> Link
     }
 }
 
-/// Whether a frame with this link on a seat's cable is for the station there.
+/// Whether a frame with this link, on the seat's cable, is for the seat's station.
 pub fn is_for(seat: &Seat, sender: u16, to: &Hw, link: Link) -> bool
     ensures { result ≡ is_for_as link to.now sender seat.now }
 {

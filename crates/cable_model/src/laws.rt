@@ -1,5 +1,5 @@
-//! Laws of pending frames, for the crates above. The functions do nothing: what they ensure is the
-//! law.
+//! Laws of pending frames, for the crates that use this one. Each law is the contract of a function
+//! that does nothing.
 
 ghost use Rattle.std.specs.Prelude.{◌≡◌, ◌≤◌, ◌&&◌, ◌==◌, ◌++◌, ◌+◌, ℕ, Bool, List, [], ◌∷◌};
 ghost use Rattle.std.specs.Prelude.{Contains};
@@ -7,9 +7,9 @@ ghost use Rattle.cable_model.specs.declared.seat.Seat.{Seat as SeatValue};
 ghost use Rattle.cable_model.specs.Pending.{Pair, pending};
 ghost use Rattle.cable_model.specs.Transcript.{AreNumbered, Entry, Took, count, one};
 
-/// A station that takes a frame which is pending for it ends that pair and no other: of the pairs
-/// that pass any test, one less is pending where this one passes. Stations have one seat at most on
-/// a cable, and frames are numbered from 0.
+/// A station that takes a pending frame ends the pair of both, and no other pair: for any test of
+/// pairs, the number of pending pairs that pass it falls by one if this pair passes, else it is
+/// unchanged. Stations have at most one seat on a cable, and frames are numbered from 0.
 pub fn taking_ends_one_pair()
     ensures { (seats : List SeatValue) (test : Pair → Bool) (t : List Entry) (p : Pair)
         → ((cable station : ℕ)

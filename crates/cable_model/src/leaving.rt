@@ -1,4 +1,4 @@
-//! Datagrams that go onto a cable.
+//! Putting datagrams on a cable.
 
 ghost use Rattle.std.specs.Prelude.{◌≡◌, ◌<◌, [], ◌∷◌, List, length};
 ghost use Rattle.cable_model.specs.Books.{Grows, HasRoom, IsBook, Uses};
@@ -23,7 +23,7 @@ use crate::route::Route;
 use at_base::{Addr, Hw};
 use station::Kind;
 
-/// Adds that a datagram reached the cable.
+/// Adds the entry that a datagram reached the cable.
 fn reached(log: &mut Log, exit: Outlet, how: How, bytes: u32)
     requires room { HasRoom log.old 1 0 0 0 }
     requires names { bytes < length log.old.kept.items }
@@ -46,7 +46,7 @@ fn reached(log: &mut Log, exit: Outlet, how: How, bytes: u32)
     );
 }
 
-/// A datagram goes to the station that it is for.
+/// Sends a datagram to the station that it is addressed to.
 fn to_target(log: &mut Log, seats: &Seats, exit: Outlet, addr: Addr, found: Found, bytes: u32)
     requires room { HasRoom log.old 2 0 1 (length seats.now) }
     requires book { IsBook seats.now log.old }
@@ -71,7 +71,7 @@ fn to_target(log: &mut Log, seats: &Seats, exit: Outlet, addr: Addr, found: Foun
     }
 }
 
-/// A datagram goes to another station.
+/// Sends a datagram to another station than the one that it is addressed to.
 fn to_other(log: &mut Log, seats: &Seats, exit: Outlet, addr: Addr, found: Found, bytes: u32)
     requires room { HasRoom log.old 1 0 1 (length seats.now) }
     requires book { IsBook seats.now log.old }
@@ -90,7 +90,7 @@ fn to_other(log: &mut Log, seats: &Seats, exit: Outlet, addr: Addr, found: Found
     }
 }
 
-/// A datagram waits for the hardware address of its next station.
+/// Lets a datagram wait for the hardware address of its next station.
 fn wait(log: &mut Log, exit: Outlet, next: Addr, bytes: u32)
     requires room { HasRoom log.old 0 0 1 0 }
     requires names { bytes < length log.old.kept.items }
@@ -108,7 +108,7 @@ fn wait(log: &mut Log, exit: Outlet, next: Addr, bytes: u32)
     hold(log, waiting);
 }
 
-/// A datagram goes to all stations.
+/// Sends a datagram to all stations of the cable.
 fn to_all(log: &mut Log, seats: &Seats, exit: Outlet, listed: bool, bytes: u32)
     requires room { HasRoom log.old 2 0 0 (length seats.now) }
     requires book { IsBook seats.now log.old }
@@ -143,7 +143,7 @@ fn to_all(log: &mut Log, seats: &Seats, exit: Outlet, listed: bool, bytes: u32)
     }
 }
 
-/// A datagram goes onto a cable.
+/// Sends a datagram on a route of the cable.
 pub fn leave(log: &mut Log, seats: &Seats, exit: Outlet, way: Route, bytes: u32)
     requires room { HasRoom log.old 2 0 1 (length seats.now) }
     requires book { IsBook seats.now log.old }

@@ -1,4 +1,4 @@
-//! Cables and what happens on them: who hears a frame, and which frames are still to be taken.
+//! Cables and what happens on them: which stations receive a frame, and which frames are pending.
 #![tactic(auto)]
 
 mod cables;

@@ -1,4 +1,4 @@
-//! What happened on cables, as it is kept in memory.
+//! The transcript of cables as it is stored.
 
 ghost use Rattle.std.specs.Prelude.{◌≡◌, ◌<◌, [], ◌∷◌, List, ℕ, ◌+◌, length, vec_capacity, vec_len};
 ghost use Rattle.cable_model.specs.declared.seat.Seat.{Seat as SeatValue};
@@ -13,14 +13,14 @@ use at_base::Bytes;
 use std::alloc::Global;
 use std::collections::VecDeque;
 
-/// What happened, which bytes it names, who is still to take what, and which datagrams wait.
+/// The entries, the bytes that they name, the pending pairs, and the datagrams that wait.
 #[derive(Drop)]
 pub struct Log {
     /// The entries, in order.
     pub lines: Vec<Entry>,
     /// The bytes that entries and waiting datagrams name, by their numbers.
     pub kept: Vec<Bytes>,
-    /// The pairs of a frame and a seat that are pending, in the order in which they were put.
+    /// The pending pairs of a frame and a seat, in the order in which they were added.
     pub due: VecDeque<Due>,
     /// The number of frames.
     pub puts: u32,
@@ -28,7 +28,7 @@ pub struct Log {
     pub waiting: Vec<Waiting>,
 }
 
-/// A log in which nothing has happened.
+/// An empty log.
 pub fn empty(alloc: Global) -> Log
     ensures empty { (result.lines.items ≡ []) × (result.kept.items ≡ []) × (result.waiting.items ≡ []) }
     ensures kept { (seats : List SeatValue) (limit : ℕ) → HasOneSeat seats
@@ -43,7 +43,7 @@ pub fn empty(alloc: Global) -> Log
     }
 }
 
-/// Keeps bytes, and gives their number.
+/// Stores bytes, and returns their number.
 pub fn keep(log: &mut Log, bytes: Bytes) -> u32
     requires room { HasRoom log.old 0 1 0 0 }
     ensures grows { (seats : List SeatValue) → IsBook seats log.old → Grows log.old log.new [] [] }
@@ -61,7 +61,7 @@ pub fn keep(log: &mut Log, bytes: Bytes) -> u32
     number
 }
 
-/// Adds an entry that neither puts a frame nor ends one.
+/// Adds an entry that neither puts a frame nor ends a pair.
 pub fn note(log: &mut Log, line: Entry)
     requires room { HasRoom log.old 1 0 0 0 }
     requires names { Names (length log.old.kept.items) line }
@@ -77,7 +77,7 @@ pub fn note(log: &mut Log, line: Entry)
     log.lines.push_reserved(line);
 }
 
-/// Adds a datagram that waits.
+/// Adds a datagram that waits for a hardware address.
 pub fn hold(log: &mut Log, waiting: Waiting)
     requires room { HasRoom log.old 0 0 1 0 }
     requires names { waiting.bytes < length log.old.kept.items }
@@ -91,7 +91,7 @@ pub fn hold(log: &mut Log, waiting: Waiting)
     log.waiting.push_reserved(waiting);
 }
 
-/// Forgets which datagrams wait.
+/// Removes all datagrams that wait.
 pub fn forget_waiting(log: &mut Log)
     ensures book { (seats : List SeatValue) → IsBook seats log.old → IsBook seats log.new }
     ensures none { log.new.waiting.items ≡ [] }

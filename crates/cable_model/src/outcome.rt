@@ -1,4 +1,4 @@
-//! What becomes of what a station puts out.
+//! The entries of a station's outputs.
 
 ghost use Rattle.std.specs.Prelude.{◌≡◌, ◌≤◌, ◌+◌, ◌*◌, [], ◌∷◌, List, length, vec_len};
 ghost use Rattle.cable_model.specs.Books.{Grows, HasRoom, IsBook, Uses};
@@ -23,7 +23,7 @@ use crate::route::{Route, way_of};
 use at_base::{Bytes, Hw};
 use station::{DropCause, Kind, Next, Output, Outputs};
 
-/// A station made a datagram, which goes onto a cable.
+/// Sends a datagram that a station made.
 pub fn sent<R: Resolve>(
     log: &mut Log,
     seats: &Seats,
@@ -55,8 +55,8 @@ pub fn sent<R: Resolve>(
     leave(log, seats, exit, way, number);
 }
 
-/// A router passes a datagram on. Where nobody has its next address no entry names it, and its bytes
-/// aren't kept.
+/// Sends a datagram that a router forwards. If no station has its next address, no entry names it,
+/// and its bytes aren't stored.
 fn passed<R: Resolve>(
     log: &mut Log,
     seats: &Seats,
@@ -83,7 +83,7 @@ fn passed<R: Resolve>(
     leave(log, seats, exit, way, number);
 }
 
-/// Whether a datagram of this way is in no entry, and doesn't wait.
+/// Whether a datagram on this route adds no entry and doesn't wait.
 fn is_nowhere(way: Route) -> bool
     ensures { result ≡ is_nowhere_way way }
 {
@@ -96,7 +96,7 @@ fn is_nowhere(way: Route) -> bool
     }
 }
 
-/// A router keeps a datagram.
+/// Adds the entry that a router keeps a datagram.
 fn own(log: &mut Log, exit: Outlet, bytes: Bytes)
     requires room { HasRoom log.old 2 1 0 0 }
     ensures grows { (seats : List SeatValue) → IsBook seats log.old
@@ -118,7 +118,7 @@ fn own(log: &mut Log, exit: Outlet, bytes: Bytes)
     );
 }
 
-/// A router drops a datagram.
+/// Adds the entry that a router drops a datagram.
 fn dropped(log: &mut Log, router: u16, cause: DropCause, bytes: Bytes)
     requires room { HasRoom log.old 2 1 0 0 }
     ensures grows { (seats : List SeatValue) → IsBook seats log.old
@@ -139,7 +139,7 @@ fn dropped(log: &mut Log, router: u16, cause: DropCause, bytes: Bytes)
     );
 }
 
-/// A station puts an AARP packet on a cable.
+/// Puts an AARP packet of a station on a cable.
 fn wire(log: &mut Log, seats: &Seats, exit: Outlet, to: Hw, bytes: Bytes)
     requires room { HasRoom log.old 3 1 0 (length seats.now) }
     requires book { IsBook seats.now log.old }
@@ -154,7 +154,7 @@ fn wire(log: &mut Log, seats: &Seats, exit: Outlet, to: Hw, bytes: Bytes)
     put(log, seats, exit.cable, exit.station, to, Kind::Aarp, number);
 }
 
-/// Adds what becomes of an output.
+/// Adds the entries of an output.
 fn add<R: Resolve>(log: &mut Log, seats: &Seats, resolver: &R, station: u16, output: Output)
     requires room { HasRoom log.old (lines_for output) 1 1 (length seats.now) }
     requires book { IsBook seats.now log.old }
@@ -195,7 +195,7 @@ fn add<R: Resolve>(log: &mut Log, seats: &Seats, resolver: &R, station: u16, out
     }
 }
 
-/// Adds what becomes of outputs, one after another, and leaves none.
+/// Adds the entries of outputs, one after another, and empties the queue.
 pub fn add_all<R: Resolve>(
     log: &mut Log,
     seats: &Seats,

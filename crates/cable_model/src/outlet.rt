@@ -1,4 +1,4 @@
-//! By which port a datagram leaves.
+//! The port on which a datagram leaves.
 
 /// A port of a station, and the cable that it is on.
 #[derive(Clone, Copy, Debug)]

@@ -1,4 +1,4 @@
-//! Frames that are put on a cable.
+//! Putting frames on a cable.
 
 ghost use Rattle.std.specs.Prelude.{◌≡◌, ◌<◌, ◌≤◌, ◌+◌, ◌&&◌, ◌==◌, [], ◌∷◌, ◌++◌, length, slice_get};
 ghost use Rattle.std.specs.Prelude.{vec_len};
@@ -18,7 +18,7 @@ use at_base::Hw;
 use station::{Kind, Link};
 use std::collections::VecDeque;
 
-/// Puts a frame on its cable, for all who hear it there.
+/// Puts a frame on a cable, for all stations that receive it there.
 pub fn put(log: &mut Log, seats: &Seats, cable: u8, sender: u16, to: Hw, kind: Kind, bytes: u32)
     requires room { HasRoom log.old 1 0 0 (length seats.now) }
     requires book { IsBook seats.now log.old }
@@ -47,7 +47,7 @@ pub fn put(log: &mut Log, seats: &Seats, cable: u8, sender: u16, to: Hw, kind: K
     add_dues(&mut log.due, seats, cable, sender, &to, stamp, put);
 }
 
-/// Adds the pair of a frame with the seat at an index, if its station is one that the frame is for.
+/// Adds the pair of a frame and the seat with an index, if the frame is for the seat's station.
 fn add_due(
     due: &mut VecDeque<Due>,
     seats: &[Seat],
@@ -72,7 +72,8 @@ fn add_due(
     }
 }
 
-/// Adds the pairs of a frame with those of the seats at these indices whose stations it is for.
+/// Adds the pairs of a frame and those of the seats with these indices whose stations the frame is
+/// for.
 fn add_those(
     due: &mut VecDeque<Due>,
     seats: &[Seat],
@@ -98,7 +99,7 @@ fn add_those(
     }
 }
 
-/// Adds the pairs of a frame with all who hear it.
+/// Adds the pairs of a frame and all seats that receive it.
 fn add_dues(
     due: &mut VecDeque<Due>,
     seats: &Seats,

@@ -1,4 +1,4 @@
-//! Room that is made before anything changes.
+//! Allocation of room before anything changes.
 
 ghost use Rattle.std.specs.Prelude.{◌≡◌, ◌≤◌, ◌<◌, ◌+◌, ◌*◌, ◌^◌, ◌↔◌, ◌⊎◌, List, length, vec_len, IfErr, OnOk};
 ghost use Rattle.cable_model.specs.declared.seat.Seat.{Seat as SeatValue};
@@ -7,8 +7,9 @@ ghost use Rattle.cable_model.specs.Books.{HasRoom, IsKept, IsSame};
 use crate::log::Log;
 use at_base::Error;
 
-/// Makes room for so many entries, so many bytes and waiting datagrams, and so many pairs. What the
-/// log says stays.
+/// Makes room for `lines` entries, `kept` stored bytes and as many waiting datagrams, and `due`
+/// pairs. The contents of the log don't change. Errors: `Full` where the entries would exceed the
+/// limit; `Memory`.
 pub fn make_room(
     log: &mut Log,
     limit: u32,
@@ -37,7 +38,8 @@ pub fn make_room(
     Ok(())
 }
 
-/// The most pairs that one taking of a frame makes, or a size for which there is never room.
+/// The greatest number of pairs that one take makes, or `usize::MAX`, for which no allocation
+/// succeeds.
 pub fn pairs_of(seats: usize) -> usize
     ensures { result < 2 ^ 63 → result ≡ seats * 257 }
 {

@@ -1,4 +1,4 @@
-//! How a datagram goes onto a cable.
+//! Routes of datagrams on a cable.
 
 ghost use Rattle.std.specs.Prelude.{◌≡◌, ◌<◌, slice_index};
 ghost use Rattle.at_base.specs.Address.{same_address};
@@ -9,27 +9,28 @@ use crate::resolve::{Found, Resolve};
 use at_base::Addr;
 use station::Next;
 
-/// To whom a datagram goes on a cable, and what is known of where that is.
+/// The route of a datagram on a cable: its next station or stations, and the result of their
+/// lookup.
 #[derive(Clone, Copy, Debug)]
 pub enum Route {
-    /// To the station that it is for, at this address.
+    /// To the station that the datagram is addressed to, which has this address.
     Target(Addr, Found),
-    /// To another station, at this address.
+    /// To another station, which has this address.
     Other(Addr, Found),
-    /// To all stations; whether a cable has its target's network.
+    /// To all stations; the flag says whether the target's network belongs to a cable.
     All(bool),
     /// To the stations of a group.
     Group(u8),
 }
 
-/// The byte at an index, and 0 past the end.
+/// The byte at an index, or 0 past the end.
 fn byte_at(bytes: &[u8], index: usize) -> u8
     ensures { result ≡ slice_index bytes.now index }
 {
     if index < bytes.len() { bytes[index] } else { 0 }
 }
 
-/// The target of a datagram.
+/// The target address of a datagram.
 fn target_of(bytes: &[u8]) -> Addr
     ensures { result ≡ bodies_spec.target bytes.now }
 {
@@ -41,14 +42,14 @@ fn target_of(bytes: &[u8]) -> Addr
     }
 }
 
-/// Whether two addresses are the same.
+/// Whether the addresses are equal.
 fn is_same(a: Addr, b: Addr) -> bool
     ensures { result ≡ same_address a b }
 {
     a.net == b.net && a.node == b.node
 }
 
-/// The way of a datagram on a cable.
+/// The route of a datagram on a cable.
 pub fn way_of<R: Resolve>(resolver: &R, cable: u8, next: Next, bytes: &[u8]) -> Route
     ensures { result ≡ spec.way_of (record { finds = R.finds resolver.now; lists = R.lists resolver.now })
         cable next bytes.now }

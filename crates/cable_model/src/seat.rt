@@ -1,9 +1,9 @@
-//! Seats: which station is on which cable.
+//! Seats: a station's place on a cable.
 
 use at_base::Hw;
 
-/// A station's seat on a cable: the port by which it is there, and whom it listens to. Cables,
-/// stations and ports are counted from 0.
+/// A station's seat on a cable: its port there, and the addresses that it receives frames for.
+/// Cables, stations and ports are counted from 0.
 #[derive(Clone, Copy, Debug, PartialEq, Eq)]
 pub struct Seat {
     /// The cable.
@@ -14,6 +14,6 @@ pub struct Seat {
     pub port: u8,
     /// The station's hardware address on the cable.
     pub hw: Hw,
-    /// The group of the station's zone, 0 to 252, where it is a node.
+    /// The group of the station's zone, 0 to 252, if the station is a node.
     pub group: Option<u8>,
 }

@@ -1,4 +1,4 @@
-//! Who is on a cable.
+//! The stations on a cable.
 
 ghost use Rattle.std.specs.Prelude.{◌≡◌, ◌⊎◌, ◌==◌, ◌&&◌, true, false, IfErr, OnOk};
 ghost use Rattle.std.specs.List.{list_any};
@@ -9,14 +9,15 @@ use crate::outlet::Outlet;
 use crate::seats::Seats;
 use at_base::{Error, What};
 
-/// Whether this station is on the cable.
+/// Whether the station has a seat on the cable.
 fn is_seated(seats: &Seats, cable: u8, station: u16) -> bool
     ensures { result ≡ spec.is_seated seats.now cable station }
 {
     seats.seat_on(cable, station).is_some()
 }
 
-/// That the station is on the cable, and an error where it isn't.
+/// Checks that the station has a seat on the cable. Errors: `NoSuch(Cable)` where the cable has no
+/// seat, `NoSuch(Station)` where the station has none on it.
 pub fn check(seats: &Seats, cable: u8, station: u16) -> Result<(), Error>
     ensures ok { OnOk result ((spec.is_seated seats.now cable station ≡ true)
         × (spec.has_cable seats.now cable ≡ true)) }
@@ -33,7 +34,7 @@ pub fn check(seats: &Seats, cable: u8, station: u16) -> Result<(), Error>
     Ok(())
 }
 
-/// The cable of a station's port, and 0 where it has none.
+/// The cable of a station's port, or 0 if the station has no such port.
 fn cable_of(seats: &Seats, station: u16, port: u8) -> u8
     ensures { result ≡ spec.cable_of seats.now station port }
 {
@@ -43,7 +44,7 @@ fn cable_of(seats: &Seats, station: u16, port: u8) -> u8
     }
 }
 
-/// A station's port, with its cable.
+/// A station's port, and the port's cable.
 pub fn exit_by(seats: &Seats, station: u16, port: u8) -> Outlet
     ensures { result ≡ record { cable = spec.cable_of seats.now station port; station = station; port = port } }
 {
@@ -54,7 +55,7 @@ pub fn exit_by(seats: &Seats, station: u16, port: u8) -> Outlet
     }
 }
 
-/// The port of a station that is on a cable, and 0 where it isn't there.
+/// The port of a station on a cable, or 0 if the station has no seat there.
 fn port_on(seats: &Seats, cable: u8, station: u16) -> u8
     ensures { result ≡ spec.port_on seats.now cable station }
 {
@@ -64,7 +65,7 @@ fn port_on(seats: &Seats, cable: u8, station: u16) -> u8
     }
 }
 
-/// A station on a cable, with its port there.
+/// A station on a cable, and its port there.
 pub fn exit_on(seats: &Seats, cable: u8, station: u16) -> Outlet
     ensures { result ≡ record { cable = cable; station = station; port = spec.port_on seats.now cable station } }
 {

@@ -1,4 +1,4 @@
-//! The seats on cables, and which of them are on each cable and of each station.
+//! The seats on cables, with an index by cable and by station.
 
 ghost use Rattle.std.specs.Prelude.{◌≡◌, ◌<◌, ◌≤◌, ◌+◌, ◌^◌, ◌++◌, ◌&&◌, ◌==◌, ℕ, length, slice_get};
 ghost use Rattle.std.specs.Prelude.{find, position, IfOk, IsOkUnless, OnOk};
@@ -12,7 +12,7 @@ use at_base::Error;
 use std::alloc::Global;
 use std::marker::Model;
 
-/// What a seat is looked for by.
+/// A property by which seats are looked up.
 #[derive(Clone, Copy, Debug)]
 pub enum Key {
     /// Its cable.
@@ -23,7 +23,7 @@ pub enum Key {
     Port(u8),
 }
 
-/// The indices of some seats, by rising index.
+/// The indices of some seats, in rising order.
 #[derive(Drop)]
 pub struct Indices {
     items: Vec<usize>,
@@ -38,7 +38,7 @@ impl Model for Indices {
 }
 
 impl Indices {
-    /// The indices, by rising index.
+    /// The indices, in rising order.
     pub fn as_slice(&self) -> &[usize]
         ensures { result.now ≡ self.now }
     {
@@ -46,15 +46,15 @@ impl Indices {
     }
 }
 
-/// The seats on cables, in order. Those of each cable and of each station are kept beside them by
-/// their indices: a frame is offered to the seats of its own cable alone, and a station's seat is
-/// looked for among its own.
+/// The seats on cables, in order. The indices of each cable's and each station's seats are stored
+/// too: a frame is offered only to the seats of its own cable, and a station's seat is looked for
+/// only among its own.
 #[derive(Drop)]
 pub struct Seats {
     items: Vec<Seat>,
-    // of each cable from 0 on
+    // The indices of each cable's seats, for cables from 0 on.
     on: Vec<Indices>,
-    // of each station from 0 on, up to that of the last seat
+    // The indices of each station's seats, for stations from 0 up to that of the last seat.
     of: Vec<Indices>,
 }
 
@@ -81,8 +81,7 @@ fn has(seat: &Seat, key: Key) -> bool
     }
 }
 
-/// Appends the indices of those of the seats that have the key, where they are counted from `from`.
-/// Error: `Memory`.
+/// Appends the indices of the seats that have the key, counted from `from`. Error: `Memory`.
 fn add_indices(list: &mut Vec<usize>, seats: &[Seat], key: Key, from: usize) -> Result<(), Error>
     requires { from + length seats.now < 2 ^ 63 }
     ensures ok { OnOk result
@@ -111,7 +110,7 @@ fn indices_by(alloc: Global, seats: &[Seat], key: Key) -> Result<Indices, Error>
     Ok(Indices { items })
 }
 
-/// The indices of the seats on each cable, by its number. Error: `Memory`.
+/// The indices of the seats on each cable, by the cable's number. Error: `Memory`.
 fn indices_by_cable(alloc: Global, seats: &[Seat]) -> Result<Vec<Indices>, Error>
     requires { length seats.now < 2 ^ 63 }
     ensures ok { IfOk result (λ on. AreLists Cable seats.now on.items × (256 ≤ length on.items)) }
@@ -124,7 +123,7 @@ fn indices_by_cable(alloc: Global, seats: &[Seat]) -> Result<Vec<Indices>, Error
     Ok(on)
 }
 
-/// The number of the last seat's station and 1, or 0 where there is no seat.
+/// The number of the last seat's station plus 1, or 0 without seats.
 fn stations_of(seats: &[Seat]) -> usize
     ensures { result ≤ 65536 }
 {
@@ -134,7 +133,7 @@ fn stations_of(seats: &[Seat]) -> usize
     }
 }
 
-/// The indices of the seats of each station, by its number. Error: `Memory`.
+/// The indices of the seats of each station, by the station's number. Error: `Memory`.
 fn indices_by_station(alloc: Global, seats: &[Seat]) -> Result<Vec<Indices>, Error>
     requires { length seats.now < 2 ^ 63 }
     ensures ok { IfOk result (λ of. AreLists Station seats.now of.items) }
@@ -147,14 +146,14 @@ fn indices_by_station(alloc: Global, seats: &[Seat]) -> Result<Vec<Indices>, Err
     Ok(of)
 }
 
-/// The seat at an index, if there is one.
+/// The seat with an index, if any.
 pub fn seat_at(seats: &[Seat], index: usize) -> Option<Seat>
     ensures { result ≡ slice_get seats.now index }
 {
     seats.get(index).copied()
 }
 
-/// Whether the seat at an index has the key.
+/// Whether the seat with an index has the key.
 fn has_at(seats: &[Seat], index: usize, key: Key) -> bool
     ensures { result ≡ passes (has_key key) (slice_get seats.now index) }
 {
@@ -164,7 +163,7 @@ fn has_at(seats: &[Seat], index: usize, key: Key) -> bool
     }
 }
 
-/// Whether there are indices.
+/// Whether the list isn't empty.
 fn is_any(list: &[usize]) -> bool
     ensures { result ≡ has_some list.now }
 {
@@ -191,7 +190,7 @@ fn first_at(seats: &[Seat], list: &[usize], key: Key) -> Option<usize>
 }
 
 impl Seats {
-    /// These seats. Error: `Memory`.
+    /// The seats, with their indices by cable and by station. Error: `Memory`.
     pub fn of(alloc: Global, seats: &[Seat]) -> Result<Seats, Error>
         ensures ok { IfOk result (λ all. all ≡ seats.now) }
         ensures refused { IsOkUnless result Error.Memory }
@@ -217,14 +216,14 @@ impl Seats {
         self.items.as_slice()
     }
 
-    /// The seat at an index, if there is one.
+    /// The seat with an index, if any.
     pub fn get(&self, index: usize) -> Option<Seat>
         ensures { result ≡ slice_get self.now index }
     {
         seat_at(self.items.as_slice(), index)
     }
 
-    /// The indices of the seats on the cable, by rising index.
+    /// The indices of the seats on the cable, in rising order.
     pub fn on(&self, cable: u8) -> &[usize]
         ensures value { result.now ≡ indices (has_key (Cable cable)) 0 self.now }
         ensures few { length result.now ≤ length self.now }
@@ -232,21 +231,21 @@ impl Seats {
         self.on[cable as usize].as_slice()
     }
 
-    /// Whether there is a seat on the cable.
+    /// Whether the cable has a seat.
     pub fn has_cable(&self, cable: u8) -> bool
         ensures { result ≡ list_any (λ s. s.cable == cable) self.now }
     {
         is_any(self.on(cable))
     }
 
-    /// The index of the first seat of the station on the cable.
+    /// The index of the first seat of the station on the cable, if any.
     pub fn index_on(&self, cable: u8, station: u16) -> Option<usize>
         ensures { result ≡ position (λ s. s.cable == cable && s.station == station) self.now }
     {
         first_at(self.items.as_slice(), self.on(cable), Key::Station(station))
     }
 
-    /// The index of the first seat of the station's port.
+    /// The index of the first seat of the station's port, if any.
     pub fn index_by(&self, station: u16, port: u8) -> Option<usize>
         ensures { result ≡ position (λ s. s.station == station && s.port == port) self.now }
     {
@@ -254,14 +253,14 @@ impl Seats {
             let list = self.of[station as usize].as_slice();
             first_at(self.items.as_slice(), list, Key::Port(port))
         } else {
-            // Seats that don't rise by station may have one past that of the last.
+            // If seats aren't in the order of their stations, this station may have a seat too.
             self.items
                 .iter()
                 .position(|s| s.station == station && s.port == port)
         }
     }
 
-    /// The first seat of the station on the cable.
+    /// The first seat of the station on the cable, if any.
     pub fn seat_on(&self, cable: u8, station: u16) -> Option<Seat>
         ensures { result ≡ find (λ s. s.cable == cable && s.station == station) self.now }
     {
@@ -271,7 +270,7 @@ impl Seats {
         }
     }
 
-    /// The first seat of the station's port.
+    /// The first seat of the station's port, if any.
     pub fn seat_by(&self, station: u16, port: u8) -> Option<Seat>
         ensures { result ≡ find (λ s. s.station == station && s.port == port) self.now }
     {

@@ -1,4 +1,4 @@
-//! What a station hears of a frame that it takes.
+//! The frame that a station takes, as it receives it.
 
 ghost use Rattle.std.specs.Prelude.{◌≡◌, ◌<◌, List};
 ghost use Rattle.cable_model.specs.Books.{IsDue, is_of, pair_at, said, seat_at};
@@ -14,7 +14,7 @@ use crate::seat::Seat;
 use at_base::Bytes;
 use station::{Heard, Kind, Link};
 
-/// The port of a seat, and 0 where there is no such seat.
+/// The port of the seat with an index, or 0 past the end.
 fn port_at(seats: &[Seat], index: usize) -> u8
     ensures { result ≡ (seat_at seats.now index).port }
 {
@@ -24,7 +24,7 @@ fn port_at(seats: &[Seat], index: usize) -> u8
     }
 }
 
-/// The bytes of a number, and none for a number that isn't in use.
+/// The bytes with a number, or no bytes for a number that isn't in use.
 pub fn bytes_of(kept: &[Bytes], number: u32) -> &[u8]
     ensures { result.now ≡ bytes_at kept.now number }
 {
@@ -34,7 +34,7 @@ pub fn bytes_of(kept: &[Bytes], number: u32) -> &[u8]
     }
 }
 
-/// What the seat's station hears of the frame. It borrows the bytes.
+/// The frame as the seat's station receives it. It borrows the bytes.
 pub fn heard_of<'a>(log: &'a Log, seats: &[Seat], due: Due) -> Heard<'a>
     ensures { hearing result ≡ heard_by (pair_at seats.now (said log.now) due) }
 {

@@ -1,14 +1,14 @@
-//! Datagrams whose next station isn't known yet.
+//! Datagrams that wait for a hardware address.
 
 use at_base::Addr;
 
-/// A datagram that a station put out for an address whose hardware address isn't known yet.
+/// A datagram of a station that waits until the hardware address of its next station is known.
 #[derive(Clone, Copy, Debug, PartialEq, Eq)]
 pub struct Waiting {
-    /// The port by which it is to go.
+    /// The port on which the datagram is to leave.
     pub port: u8,
     /// The station that it goes to next, on that port's cable.
     pub next: Addr,
-    /// The number by which `Cables::bytes` gives the datagram.
+    /// The number by which `Cables::bytes` returns the datagram.
     pub bytes: u32,
 }

@@ -1,4 +1,4 @@
--- What a parse gives of arguments that are written out.
+-- The parse of arguments that are written out.
 use Rattle.std.proofs.Common.{◌≡◌, ◌≤◌, ◌&&◌, Bool, Option, Some, List, [], ◌∷◌, None, true, length}
 use Rattle.std.proofs.Common.{codes, slice_index_or, refl, ap, ap₂, subst, ◌∙◌, arith}
 use Rattle.clap.specs.Words.{Row, Shape, Text, built, first_of, is_simple, subcommand_of, takes, fault_of, is_simple_and_free}
@@ -10,7 +10,7 @@ use Rattle.command_line.specs.Arguments.{Audits, IsMeant, Traces, atalk_app, aud
 use Rattle.command_line.specs.declared.arguments.Job.{Job}
 use Rattle.command_line.proofs.Operands.{ends_well, met_in, met_value, passes_in, passes_value, rows_at_end, walk_by}
 
--- the parse of the command is one that clap's specs compute
+-- The parse of the command is one that clap's specs compute.
 pub simple : is_simple atalk_app ≡ true
 unfolding clap_on_literals
 simple = refl
@@ -19,14 +19,14 @@ pub simple_and_free : is_simple_and_free atalk_app ≡ true
 unfolding clap_on_literals
 simple_and_free = refl
 
--- no arguments name no command
+-- Without arguments there is no command.
 pub none_entered : (words : List Text) → length words ≤ 1 → subcommand_of atalk_app words ≡ None
 unfolding clap_on_literals
 none_entered [] short = refl
 none_entered (name ∷ []) short = refl
 none_entered (name ∷ word ∷ words) short = absurd (omega (arith, short))
 
--- no arguments have no fault
+-- Without arguments there is no fault.
 pub none_taken : (words : List Text) → length words ≤ 1 → takes atalk_app words ≡ true
 unfolding clap_on_literals
 none_taken [] short = refl
@@ -49,7 +49,7 @@ pub version_asked : (name : Text) → fault_of atalk_app (name ∷ codes "--vers
 unfolding clap_on_literals
 version_asked name = refl
 
--- `audit`, as a parse has it
+-- The command `audit`, as a parse has it.
 abbrev audit_shape : Shape
 audit_shape = slice_index_or (built atalk_app).subs 0 audit_app.top
 
@@ -65,7 +65,7 @@ file_of_value : (file : Text) → first_of (codes "FILE") (rows_at_end audit_sha
 unfolding clap_on_literals
 file_of_value file = refl
 
--- `audit FILE` means an audit of FILE
+-- `audit FILE` is an audit of FILE.
 pub audit_meant : (name file : Text) (job : Job) → is_operand file ≡ true
     → IsMeant (subcommand_of atalk_app (name ∷ codes "audit" ∷ file ∷ [])) job → Audits (Some file) job
 audit_meant name file job operand meant =
@@ -75,7 +75,7 @@ audit_meant name file job operand meant =
     subst (λ (text : Option Text). Audits text job) (file_of_value file)
     (subst (λ (met : Option (Text × List Row)). IsMeant met job) rows meant)
 
--- the arguments pass, by what the last is to `audit` and whether it passes
+-- The arguments pass, by what `audit` does with the last one and by whether that passes.
 abbrev audit_passes : Text → Bool → Held × Step → Bool
 audit_passes file passes met =
     ((passes && step_passes audit_shape 1 met.0 met.1) && true) && ends_well audit_shape (audit_end file met)
@@ -89,7 +89,7 @@ file_passes : (file : Text) → (audit_passes file true (nothing_held, value) &&
 unfolding clap_on_literals
 file_passes file = refl
 
--- `audit FILE` has no fault
+-- `audit FILE` has no fault.
 pub audit_taken : (name file : Text) → is_operand file ≡ true → takes atalk_app (name ∷ codes "audit" ∷ file ∷ []) ≡ true
 audit_taken name file operand =
     audit_taken_by_met name file
@@ -97,14 +97,14 @@ audit_taken name file operand =
     (passes_value audit_shape nothing_held file operand) (met_value audit_shape 1 nothing_held file operand)
     ∙ file_passes file
 
--- `trace`, as a parse has it
+-- The command `trace`, as a parse has it.
 abbrev trace_shape : Shape
 trace_shape = slice_index_or (built atalk_app).subs 1 trace_app.top
 
 abbrev image_end : Text → Held × Step → Walk
 image_end = walk_by trace_shape (walk_from nothing_held)
 
--- the walk after IMAGE, where that is no flag
+-- The walk after IMAGE, if that is no flag.
 abbrev image_walk : Text → Walk
 image_walk image = image_end image (nothing_held, value)
 
@@ -125,7 +125,7 @@ trace_by_script : (image script : Text) → walked trace_shape.rules [] (image_w
 unfolding clap_on_literals
 trace_by_script image script = refl
 
--- the matches of `trace`, where its operands are no flags
+-- The matches of `trace`, if its operands are no flags.
 abbrev trace_rows : Text → Text → List Row
 trace_rows image script = rows_at_end trace_shape (script_end image script ((image_walk image).held, value))
 
@@ -148,7 +148,7 @@ script_of_values : (image script : Text) → first_of (codes "SCRIPT") (trace_ro
 unfolding clap_on_literals
 script_of_values image script = refl
 
--- `trace IMAGE SCRIPT` means a trace of them
+-- `trace IMAGE SCRIPT` is a trace of them.
 pub trace_meant : (name image script : Text) (job : Job) → is_operand image ≡ true → is_operand script ≡ true
     → IsMeant (subcommand_of atalk_app (name ∷ codes "trace" ∷ image ∷ script ∷ [])) job → Traces (Some image) (Some script) job
 trace_meant name image script job first second meant =
@@ -156,7 +156,7 @@ trace_meant name image script job first second meant =
     (subst (λ (text : Option Text). Traces text (first_of (codes "SCRIPT") (trace_rows image script)) job) (image_of_values image script)
     (subst (λ (met : Option (Text × List Row)). IsMeant met job) (trace_entered name image script first second) meant))
 
--- the arguments pass, by what the first is to `trace` and whether it passes
+-- The arguments pass, by what `trace` does with the first one and by whether that passes.
 abbrev trace_passes : Text → Text → Bool → Held × Step → Bool
 trace_passes image script passes met =
     let walk = image_end image met in
@@ -168,7 +168,7 @@ trace_taken_by_image : (name image script : Text) → takes atalk_app (name ∷ 
 unfolding clap_on_literals
 trace_taken_by_image name image script = refl
 
--- the arguments pass, by what the second is to `trace` and whether it passes
+-- The arguments pass, by what `trace` does with the second one and by whether that passes.
 abbrev script_passes : Text → Text → Bool → Held × Step → Bool
 script_passes image script passes met =
     ((passes && step_passes trace_shape 2 met.0 met.1) && true) && ends_well trace_shape (script_end image script met)
@@ -183,7 +183,7 @@ operands_pass : (image script : Text) → (script_passes image script true ((ima
 unfolding clap_on_literals
 operands_pass image script = refl
 
--- `trace IMAGE SCRIPT` has no fault
+-- `trace IMAGE SCRIPT` has no fault.
 pub trace_taken : (name image script : Text) → is_operand image ≡ true → is_operand script ≡ true
     → takes atalk_app (name ∷ codes "trace" ∷ image ∷ script ∷ []) ≡ true
 trace_taken name image script first second =

@@ -8,7 +8,7 @@ use Rattle.std.specs.Str.{bytes_eq}
 use Rattle.std.specs.List.{list_all}
 use Rattle.command_line.specs.Arguments.{is_operand}
 
--- by the tests of a parse the argument is no flag, nor the end of flags
+-- By the tests of a parse, the argument is neither a flag nor the end of flags.
 abbrev pub IsNoFlag : Text → Type 0
 IsNoFlag word = (long_of word ≡ None) × (short_of word ≡ None) × (bytes_eq word (45 ∷ 45 ∷ []) ≡ false)
 
@@ -28,15 +28,15 @@ no_flag [] operand = (refl, refl, refl)
 no_flag (b ∷ []) operand = no_flag_of_one b (b == 45) refl
 no_flag (b ∷ c ∷ text) operand = no_flag_by_first b (c ∷ text) (false_of_not (b == 45) operand)
 
--- what the next argument is to a command with no commands of its own
+-- The effect of the next argument on a command without subcommands.
 abbrev pub met_in : Shape → ℕ → Held → Text → Held × Step
 met_in shape position held word = word_met shape.rules [] false idle position word held
 
--- the walk of a command after an argument that was met so
+-- The walk of a command after an argument.
 abbrev pub walk_by : Shape → Walk → Text → Held × Step → Walk
 walk_by shape walk word met = after_step shape.rules word walk met.0 met.1
 
--- the argument passes, as far as that goes before it is met
+-- The argument passes the tests that come before it is matched.
 abbrev pub passes_in : Shape → Held → Text → Bool
 passes_in shape held word = word_passes shape [] false idle word held
 
@@ -47,11 +47,11 @@ met_value shape position held word operand = let tests = no_flag word operand in
 pub passes_value : (shape : Shape) (held : Held) (word : Text) → is_operand word ≡ true → passes_in shape held word ≡ true
 passes_value shape held word operand = let tests = no_flag word operand in rw (tests.0, tests.1, tests.2) refl
 
--- a command's matches at the end of its walk
+-- A command's matches at the end of its walk.
 abbrev pub rows_at_end : Shape → Walk → List Row
 rows_at_end shape end = finished shape.rules end.held
 
--- a command's walk ends well
+-- A command's walk ends without a fault.
 abbrev pub ends_well : Shape → Walk → Bool
 ends_well shape end = settle_passes shape.rules shape.args_override_self end.held
     && (list_all default_passes shape.rules && is_valid shape (rows_at_end shape end) false)

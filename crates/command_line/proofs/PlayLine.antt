@@ -1,4 +1,4 @@
--- What a parse gives of the arguments of a play.
+-- The parse of the arguments of a play.
 use Rattle.std.proofs.Common.{◌≡◌, ◌&&◌, ℕ, Bool, false, Option, Some, List, [], ◌∷◌, None, true, codes, slice_index_or, refl, ap, ap₂, subst, ◌∙◌}
 use Rattle.clap.specs.Words.{Row, Shape, Text, built, first_of, subcommand_of, takes}
 use Rattle.clap.specs.Walk.{Held, Step, Walk, value, option, plain_word, word_met, walked, walk_from, nothing_held}
@@ -8,7 +8,7 @@ use Rattle.command_line.specs.Arguments.{IsMeant, Plays, atalk_app, is_operand, 
 use Rattle.command_line.specs.declared.arguments.Job.{Job}
 use Rattle.command_line.proofs.Operands.{ends_well, met_in, met_value, no_flag, passes_in, passes_value, rows_at_end, walk_by}
 
--- `play`, as a parse has it
+-- The command `play`, as a parse has it.
 abbrev play_shape : Shape
 play_shape = slice_index_or (built atalk_app).subs 2 play_app.top
 
@@ -28,14 +28,14 @@ no_out_of_value : (file : Text) → first_of (codes "OUT") (rows_at_end play_sha
 unfolding clap_on_literals
 no_out_of_value file = refl
 
--- what a command of `play` with these matches means
+-- The job of the command `play` with these matches.
 play_of_rows : (rows : List Row) (file out : Option Text) (job : Job) → first_of (codes "FILE") rows ≡ file
     → first_of (codes "OUT") rows ≡ out → IsMeant (Some (codes "play", rows)) job → Plays file out job
 play_of_rows rows file out job is_file is_out meant =
     subst (λ (text : Option Text). Plays file text job) is_out
     (subst (λ (text : Option Text). Plays text (first_of (codes "OUT") rows) job) is_file meant)
 
--- `play FILE` means a play of FILE whose image goes nowhere
+-- `play FILE` is a play of FILE whose image isn't written.
 pub play_meant : (name file : Text) (job : Job) → is_operand file ≡ true
     → IsMeant (subcommand_of atalk_app (name ∷ codes "play" ∷ file ∷ [])) job → Plays (Some file) None job
 play_meant name file job operand meant =
@@ -46,7 +46,7 @@ play_meant name file job operand meant =
     (played_of_value file) (no_out_of_value file)
     (subst (λ (met : Option (Text × List Row)). IsMeant met job) rows meant)
 
--- the arguments pass, by what the last is to `play` and whether it passes
+-- The arguments pass, by what `play` does with the last one and by whether that passes.
 abbrev play_passes : Text → Bool → Held × Step → Bool
 play_passes file passes met =
     ((passes && step_passes play_shape 1 met.0 met.1) && true) && ends_well play_shape (play_end file met)
@@ -60,7 +60,7 @@ played_passes : (file : Text) → (play_passes file true (nothing_held, value) &
 unfolding clap_on_literals
 played_passes file = refl
 
--- `play FILE` has no fault
+-- `play FILE` has no fault.
 pub play_taken : (name file : Text) → is_operand file ≡ true → takes atalk_app (name ∷ codes "play" ∷ file ∷ []) ≡ true
 play_taken name file operand =
     play_taken_by_met name file
@@ -68,18 +68,18 @@ play_taken name file operand =
     (passes_value play_shape nothing_held file operand) (met_value play_shape 1 nothing_held file operand)
     ∙ played_passes file
 
--- the walk after FILE and `--image`, where FILE is no flag
+-- The walk after FILE and `--image`, if FILE is no flag.
 abbrev flag_walk : Text → Walk
 flag_walk file = walked play_shape.rules [] (play_end file (nothing_held, value)) (codes "--image")
 
--- what OUT is then to the command, and the walk after it
+-- The effect of OUT on the command after that, and the walk after it.
 abbrev out_met : Text → Text → Held × Step
 out_met file out = word_met play_shape.rules [] false (option (codes "OUT")) 2 out (flag_walk file).held
 
 abbrev out_end : Text → Text → Held × Step → Walk
 out_end file out = walk_by play_shape (flag_walk file) out
 
--- what it is where it is no flag: the value that the option waits for
+-- The effect of OUT on the command if OUT is no flag: it is the value of the option.
 abbrev out_value : Text → Text → Held × Step
 out_value file out = plain_word play_shape.rules (option (codes "OUT")) out (flag_walk file).held
 
@@ -104,7 +104,7 @@ play_to_by_out : (file out : Text) → walked play_shape.rules [] (flag_walk fil
 unfolding clap_on_literals
 play_to_by_out file out = refl
 
--- the matches of `play`, where its operands are no flags
+-- The matches of `play`, if its operands are no flags.
 abbrev play_rows : Text → Text → List Row
 play_rows file out = rows_at_end play_shape (out_end file out (out_value file out))
 
@@ -127,7 +127,7 @@ out_of_values : (file out : Text) → first_of (codes "OUT") (play_rows file out
 unfolding clap_on_literals
 out_of_values file out = refl
 
--- `play FILE --image OUT` means a play of FILE whose image goes to OUT
+-- `play FILE --image OUT` is a play of FILE whose image is written to OUT.
 pub play_to_meant : (name file out : Text) (job : Job) → is_operand file ≡ true → is_operand out ≡ true
     → IsMeant (subcommand_of atalk_app (name ∷ codes "play" ∷ file ∷ codes "--image" ∷ out ∷ [])) job
     → Plays (Some file) (Some out) job
@@ -135,7 +135,7 @@ play_to_meant name file out job first second meant =
     play_of_rows (play_rows file out) (Some file) (Some out) job (played_of_values file out) (out_of_values file out)
     (subst (λ (met : Option (Text × List Row)). IsMeant met job) (play_to_entered name file out first second) meant)
 
--- the arguments pass, by what FILE is to `play` and whether it passes
+-- The arguments pass, by what `play` does with FILE and by whether that passes.
 abbrev to_passes : Text → Text → Bool → Held × Step → Bool
 to_passes file out passes met =
     let walk = play_end file met in
@@ -148,7 +148,7 @@ play_to_taken_by_file : (name file out : Text)
 unfolding clap_on_literals
 play_to_taken_by_file name file out = refl
 
--- the arguments pass, by what OUT is to `play` and whether it passes
+-- The arguments pass, by what `play` does with OUT and by whether that passes.
 abbrev out_passes : Text → Text → Bool → Held × Step → Bool
 out_passes file out passes met =
     ((passes && step_passes play_shape 2 met.0 met.1) && true) && ends_well play_shape (out_end file out met)
@@ -162,7 +162,7 @@ out_taken : (file out : Text) → (out_passes file out true (out_value file out)
 unfolding clap_on_literals
 out_taken file out = refl
 
--- `play FILE --image OUT` has no fault
+-- `play FILE --image OUT` has no fault.
 pub play_to_taken : (name file out : Text) → is_operand file ≡ true → is_operand out ≡ true
     → takes atalk_app (name ∷ codes "play" ∷ file ∷ codes "--image" ∷ out ∷ []) ≡ true
 play_to_taken name file out first second =

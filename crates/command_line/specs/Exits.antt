@@ -1,4 +1,4 @@
--- How a run ends.
+-- The exit of each outcome.
 use Rattle.std.specs.Prelude.{ℕ, true, false, Ok, Err, Some, None}
 use Rattle.std.specs.declared.io.ErrorKind.TheVariants.{OutOfMemory}
 use Rattle.clap.specs.declared.error.ErrorKind.TheVariants.{DisplayHelp, DisplayVersion, OutOfMemory as ParseOutOfMemory}
@@ -10,15 +10,15 @@ use Rattle.command_line.specs.declared.exit.Exit.{Exit}
 use Rattle.command_line.specs.declared.exit.Outcome.{Outcome}
 use Rattle.command_line.specs.declared.exit.Outcome.TheVariants.{NoArguments, NoJob, NotOpened, NotCreated, Answered}
 
--- the error, and its status
+-- The exit of an error: its status and its number.
 abbrev pub refused : Error → Exit
 refused e = record { status = status_of (Err e); refusal = Some (number_of e) }
 
--- a status alone
+-- An exit with only a status.
 abbrev pub silent : ℕ → Exit
 silent s = record { status = s; refusal = None }
 
--- the exit of each outcome
+-- The exit of an outcome.
 abbrev pub exit_at : Outcome → Exit
 exit_at (NoArguments OutOfMemory) = refused Memory
 exit_at (NoArguments kind) = silent 2

@@ -3,7 +3,8 @@ use Rattle.std.specs.Prelude.{ℕ, Bool, true, false, Result, Ok, Err}
 use Rattle.at_base.specs.declared.error.Error.{Error}
 use Rattle.at_base.specs.declared.error.Error.TheVariants.{Memory, ReadFault, WriteFault}
 
--- the exit status of an answer: yes, no, and what kept the program from either
+-- The exit status of a result: 0 if the image passes the audit, 1 if it fails, 3 if memory, reading or writing failed,
+-- and 2 for any other error.
 abbrev pub status_of : Result Bool Error → ℕ
 status_of (Ok true) = 0
 status_of (Ok false) = 1

@@ -1,4 +1,4 @@
-//! The command line: what its arguments ask for, and the help text.
+//! The command line: reads the arguments, and has the help text.
 
 ghost use Rattle.std.specs.Prelude.{◌≡◌, ◌≢◌, ◌⊎◌, ◌≤◌, ◌∷◌};
 ghost use Rattle.std.specs.Prelude.{List, ℕ, [], None, false, codes, length, map};
@@ -18,21 +18,21 @@ use clap::{Arg, ArgAction, ArgMatches, Command, Error};
 use std::alloc::{AllocError, Global};
 use std::convert::AsStr;
 
-/// Where an image, a script or an internet file is read from.
+/// The source from which an image, a script or an internet file is read.
 #[derive(Clone, Copy, Debug, PartialEq, Eq)]
 pub enum Source<'a> {
     StandardInput,
     File(&'a str),
 }
 
-/// What the command line asks for.
+/// The job that the command line asks for.
 #[derive(Clone, Copy, Debug, PartialEq, Eq)]
 pub enum Job<'a> {
     /// The audit of an image.
     Audit(Source<'a>),
-    /// The run over an image, of a script.
+    /// The run of a script over an image: the image, then the script.
     Trace(Source<'a>, Source<'a>),
-    /// The play of an internet file, and the file that the image goes to, if one is wanted.
+    /// The play of an internet file, and the file for its image, if one is wanted.
     Play(Source<'a>, Option<&'a str>),
 }
 
@@ -82,7 +82,7 @@ const INTERNET: &str = "The internet file; - is standard input";
 
 const OUT: &str = "Where the image of the tables goes";
 
-/// An operand that has to be there.
+/// A required operand.
 fn operand<'a>(alloc: Global, name: &'a str, help: &'a str) -> Arg<'a>
     ensures rule { rule_of result ≡ spec.operand name.entry.now }
     ensures local { result.global ≡ false }
@@ -159,24 +159,24 @@ fn atalk_command<'a>(alloc: Global) -> Result<Command<'a>, AllocError>
     image_commands(alloc)?.subcommand(play_command(alloc)?)
 }
 
-/// Reads the arguments, of which the first is the program's own name.
+/// Reads the arguments. The first one is the program's own name.
 pub fn read_arguments<'a, S: AsStr>(alloc: Global, arguments: &'a [S]) -> Result<Job<'a>, Error>
-    // No arguments ask for an audit of standard input, and that fails only where memory runs out.
+    // Without arguments the job is an audit of standard input; the only error is out of memory.
     ensures alone { length arguments.entry.now ≤ 1
         → IfOk result (λ job. job ≡ Job.Audit Source.StandardInput) }
     ensures alone_err { length arguments.entry.now ≤ 1
         → IfErr result (λ e. kind_of e ≡ OutOfMemory) }
-    // The job is that of the command and its words, in the parse that clap's contracts define.
+    // The job is that of the command and its operands, in the parse that clap's contracts define.
     ensures meant { IfOk result
         (IsMeant (subcommand_of atalk_app (map S.text arguments.entry.now))) }
-    // `audit FILE` asks for an audit of FILE, and fails only where memory runs out.
+    // `audit FILE` is an audit of FILE; the only error is out of memory.
     ensures audit { (name file : List ℕ)
         → map S.text arguments.entry.now ≡ name ∷ codes "audit" ∷ file ∷ []
         → IsTrue (is_operand file) → IfOk result (Audits (Some file)) }
     ensures audit_err { (name file : List ℕ)
         → map S.text arguments.entry.now ≡ name ∷ codes "audit" ∷ file ∷ []
         → IsTrue (is_operand file) → IfErr result (λ e. kind_of e ≡ OutOfMemory) }
-    // `trace IMAGE SCRIPT` asks for a trace of them, and fails only where memory runs out.
+    // `trace IMAGE SCRIPT` is a trace of them; the only error is out of memory.
     ensures trace { (name image script : List ℕ)
         → map S.text arguments.entry.now ≡ name ∷ codes "trace" ∷ image ∷ script ∷ []
         → IsTrue (is_operand image) → IsTrue (is_operand script)
@@ -185,8 +185,8 @@ pub fn read_arguments<'a, S: AsStr>(alloc: Global, arguments: &'a [S]) -> Result
         → map S.text arguments.entry.now ≡ name ∷ codes "trace" ∷ image ∷ script ∷ []
         → IsTrue (is_operand image) → IsTrue (is_operand script)
         → IfErr result (λ e. kind_of e ≡ OutOfMemory) }
-    // `play FILE` asks for a play of FILE whose image goes nowhere, and `play FILE --image OUT` for
-    // one whose image goes to OUT; they fail only where memory runs out.
+    // `play FILE` is a play of FILE whose image isn't written, and `play FILE --image OUT` is one
+    // whose image is written to OUT; the only error is out of memory.
     ensures play { (name file : List ℕ)
         → map S.text arguments.entry.now ≡ name ∷ codes "play" ∷ file ∷ []
         → IsTrue (is_operand file) → IfOk result (Plays (Some file) None) }
@@ -203,7 +203,7 @@ pub fn read_arguments<'a, S: AsStr>(alloc: Global, arguments: &'a [S]) -> Result
         ≡ name ∷ codes "play" ∷ file ∷ codes "--image" ∷ out ∷ []
         → IsTrue (is_operand file) → IsTrue (is_operand out)
         → IfErr result (λ e. kind_of e ≡ OutOfMemory) }
-    // Help and the version are answered as such.
+    // `--help`, `-h`, `--version` and `-V` return the errors `DisplayHelp` and `DisplayVersion`.
     ensures help { (name : List ℕ) → map S.text arguments.entry.now ≡ name ∷ codes "--help" ∷ []
         → IsErrAnd result (λ e. (kind_of e ≡ DisplayHelp) ⊎ (kind_of e ≡ OutOfMemory)) }
     ensures help_short { (name : List ℕ) → map S.text arguments.entry.now ≡ name ∷ codes "-h" ∷ []
@@ -219,7 +219,7 @@ pub fn read_arguments<'a, S: AsStr>(alloc: Global, arguments: &'a [S]) -> Result
     Ok(job_of(&matches))
 }
 
-/// The job that was matched: without a command, an audit of standard input.
+/// The job that was matched. Without a command it is an audit of standard input.
 fn job_of<'a>(matches: &ArgMatches<'a>) -> Job<'a>
     ensures none { subcommand_rows_of matches.now ≡ None → result ≡ Job.Audit Source.StandardInput }
     ensures meant { IsMeant (subcommand_rows_of matches.now) result }
@@ -230,7 +230,7 @@ fn job_of<'a>(matches: &ArgMatches<'a>) -> Job<'a>
     }
 }
 
-/// The job of a command: a trace, a play, or else an audit.
+/// The job of a command: a trace, a play, or otherwise an audit.
 fn job_named<'a>(name: &str, operands: &ArgMatches<'a>) -> Job<'a>
     ensures { IsMeantBy (bytes_eq name.now (codes "trace")) (bytes_eq name.now (codes "play"))
         (rows_of (found_of operands.now)) result }
@@ -244,14 +244,14 @@ fn job_named<'a>(name: &str, operands: &ArgMatches<'a>) -> Job<'a>
     }
 }
 
-/// The source that the operand of this name names.
+/// The source in the operand with this name.
 fn source_in<'a>(operands: &ArgMatches<'a>, name: &str) -> Source<'a>
     ensures { Names (first_of name.now (rows_of (found_of operands.now))) result }
 {
     source_of(operands.get_str(name).unwrap_or("-"))
 }
 
-/// The path that the option of this name has, if it is used.
+/// The path in the option with this name, if the option is used.
 fn path_in<'a>(operands: &ArgMatches<'a>, name: &str) -> Option<&'a str>
     ensures { option_map (λ path. path.now) result
         ≡ first_of name.now (rows_of (found_of operands.now)) }
@@ -259,7 +259,7 @@ fn path_in<'a>(operands: &ArgMatches<'a>, name: &str) -> Option<&'a str>
     operands.get_str(name)
 }
 
-/// The source of this name.
+/// The source with this name.
 fn source_of(text: &str) -> Source<'_>
     ensures input { text.entry.now ≡ codes "-" → result ≡ Source.StandardInput }
     ensures file { text.entry.now ≢ codes "-" → result ≡ Source.File text.entry }

@@ -1,5 +1,4 @@
-//! How a run ends: all that can come of the arguments, of opening the files and of the job, and the
-//! exit of each.
+//! The exit of each outcome: of the arguments, of opening the files and of the job.
 
 ghost use Rattle.std.specs.Prelude.{◌≡◌};
 ghost use Rattle.command_line.specs.Exits as spec;
@@ -10,22 +9,22 @@ use at_base::Error;
 use clap::error::ErrorKind as ParseError;
 use std::io::ErrorKind;
 
-/// What came of a run.
+/// The outcome of the program.
 #[derive(Clone, Copy)]
 pub enum Outcome {
-    /// The arguments couldn't be taken, by this error.
+    /// The arguments couldn't be read, because of this error.
     NoArguments(ErrorKind),
-    /// The arguments ask for no job: clap's reason, and whether its text could be printed.
+    /// The arguments have no job: clap's error, and whether its text could be printed.
     NoJob(ParseError, bool),
-    /// The file couldn't be opened, by this error.
+    /// The file couldn't be opened, because of this error.
     NotOpened(ErrorKind),
-    /// The file for the image couldn't be created, by this error.
+    /// The file for the image couldn't be created, because of this error.
     NotCreated(ErrorKind),
-    /// The audit, the trace or the play gave this answer.
+    /// The result of the audit, the trace or the play.
     Answered(Result<bool, Error>),
 }
 
-/// The exit status, and the number of the refusal that standard error is given, if there is one.
+/// The exit status, and the number of the error that is printed on standard error, if there is one.
 #[derive(Clone, Copy, Debug, PartialEq, Eq)]
 pub struct Exit {
     pub status: u8,

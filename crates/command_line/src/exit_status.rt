@@ -1,11 +1,12 @@
-//! The exit status of an answer.
+//! The exit status of a result.
 
 ghost use Rattle.std.specs.Prelude.{◌≡◌};
 ghost use Rattle.command_line.specs.Status.{status_of};
 
 use at_base::Error;
 
-/// The exit status of an answer: 0 yes, 1 no, 2 refused input, 3 memory, reading or writing.
+/// The exit status of a result: 0 if the image passes the audit, 1 if it fails, 2 for invalid
+/// input, 3 if memory, reading or writing failed.
 pub fn status(answer: &Result<bool, Error>) -> u8
     ensures { result ≡ status_of answer.now }
 {

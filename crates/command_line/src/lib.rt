@@ -1,4 +1,5 @@
-//! The command line of `atalk`: what its arguments ask for, and with which status each answer ends.
+//! The command line of `atalk`: the job that its arguments ask for, and the exit status of each
+//! result.
 #![tactic(auto)]
 
 mod arguments;

@@ -1,4 +1,4 @@
--- What is known of what was read whole.
+-- Facts about input that was read to its end.
 use Rattle.std.proofs.Common.{◌≡◌, ◌⊎◌, ℕ, List, Option, Some, None, Result, Ok, Err, IfErr, IfOk, IfSome, ap, inl, inr, subst, sym, ◌∙◌}
 use Rattle.std.specs.Prelude.{IsErrAnd}
 use Rattle.at_base.specs.declared.error.Error.{Error}
@@ -8,27 +8,27 @@ use Rattle.script.specs.declared.step.Step.{Step}
 use Rattle.table_image.specs.Reading.{IsFirstFlaw, refusal}
 use Rattle.table_image.specs.declared.flaw.Flaw.{Flaw}
 
--- what follows of an error that is there
+-- A consequence of an error that exists.
 pub err_and : {A E : Type 0} {P Q : E → Type 0} (r : Result A E) → IsErrAnd r P → ((e : E) → P e → Q e) → IsErrAnd r Q
 err_and (Ok a) p f = absurd p
 err_and (Err e) p f = f e p
 
--- what is said of bytes that were read, said of those that there were
+-- A property of the bytes that were read is a property of the reader's bytes.
 pub of_read : (P : List ℕ → Type 0) (told : Option (List ℕ)) (bytes : List ℕ) → IfSome told (λ bs. bytes ≡ bs) → P bytes
     → IfSome told P
 of_read P None bytes whole p = tt
 of_read P (Some bs) bytes whole p = subst P whole p
 
--- a script has no bad line
+-- The law that a script has no bad line.
 abbrev pub Law : Type 0
 Law = (text : List ℕ) (steps : List Step) (n : ℕ) → IsScript text steps → IsBadAt text n → ⊥
 
--- there is one first bad line
+-- There is only one first bad line.
 pub one_bad : (text : List ℕ) (m n : ℕ) → IsBadAt text m → IsBadAt text n → m ≡ n
 one_bad text m n a b =
     let same : a.0 ≡ b.0 = (let both = sym a.1 ∙ b.1 in cc) in cc (same, a.2, b.2)
 
--- a text with a bad line is refused by it
+-- A text with a bad line has the error of that line.
 pub bad_refused : {V : Type 0} (items : V → List Step) (text : List ℕ) (n : ℕ) (r : Result V Error) → Law
     → IfOk r (λ v. IsScript text (items v))
     → IfErr r (λ e. ((m : ℕ) × (e ≡ BadScript m) × IsBadAt text m) ⊎ (e ≡ Memory)) → IsBadAt text n
@@ -37,7 +37,7 @@ bad_refused items text n (Ok v) law whole refused bad = absurd (law text (items 
 bad_refused items text n (Err e) law whole (inl at) bad = inl (at.1 ∙ ap BadScript (one_bad text at.0 n at.2 bad))
 bad_refused items text n (Err e) law whole (inr memory) bad = inr (inr memory)
 
--- a script is refused only where memory runs out
+-- A text that is a script has only the error Memory.
 pub good_read : {V : Type 0} (text : List ℕ) (steps : List Step) (r : Result V Error) → Law
     → IfErr r (λ e. ((m : ℕ) × (e ≡ BadScript m) × IsBadAt text m) ⊎ (e ≡ Memory)) → IsScript text steps
     → IfErr r (λ e. (e ≡ Memory) ⊎ (e ≡ ReadFault))
@@ -45,12 +45,12 @@ good_read text steps (Ok v) law refused whole = tt
 good_read text steps (Err e) law (inl at) whole = absurd (law text steps at.0 whole at.2)
 good_read text steps (Err e) law (inr memory) whole = inl memory
 
--- what follows where the bytes are known
+-- A consequence for a reader whose bytes are known.
 pub map_some : {X : Type 0} (P Q : X → Type 0) (told : Option X) → IfSome told P → ((x : X) → P x → Q x) → IfSome told Q
 map_some P Q None p f = tt
 map_some P Q (Some x) p f = f x p
 
--- what holds anyway
+-- A fact that holds for any bytes.
 pub any_some : {X : Type 0} (Q : X → Type 0) (told : Option X) → ((x : X) → Q x) → IfSome told Q
 any_some Q None f = tt
 any_some Q (Some x) f = f x

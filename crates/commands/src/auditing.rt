@@ -1,4 +1,4 @@
-//! From an input to the line of its verdict.
+//! Audits the image in an input, and writes the line of the verdict.
 
 ghost use Rattle.std.specs.Prelude.{◌≡◌, ◌≢◌, ◌⊎◌, ◌∷◌, ◌++◌};
 ghost use Rattle.std.specs.Prelude.{true, false, [], IfOk, IfErr, IfSome, IsErrAnd};
@@ -20,48 +20,47 @@ use text::Output;
 use std::alloc::Global;
 use std::io::{Read, Write};
 
-/// Reads the whole input, and writes the verdict line of the image that it spells. Returns whether
-/// the verdict is a yes, and leaves the bytes in the input. Errors: `ReadFault`, `BadImage`,
+/// Reads the whole input, and writes the line of the verdict on its image. Returns whether the
+/// image passes the audit. The bytes are kept in the input. Errors: `ReadFault`, `BadImage`,
 /// `Memory`, `WriteFault`.
 pub fn audit_file<R: Read, W: Write>(
     alloc: Global,
     input: &mut Input<R>,
     output: &mut Output<W>,
 ) -> Result<bool, Error>
-    // For a reader whose bytes are known: they spell an image, the line of its right verdict and an
-    // end of line are what was written, and the result is whether it is a yes.
+    // For a reader whose bytes are known: they spell an image, the line of its verdict and a line
+    // feed were written, and the result is whether the image passes.
     ensures written { IfOk result (λ yes. IfSome (R.remaining input.old.reader) (λ bytes.
         (i : Internet) × (v : Verdict)
         × Spells image_spelling bytes i × Judges i v × (yes ≡ is_yes v)
         × Appends (W.contents output.old.writer) (W.contents output.new.writer)
         (verdict_line v ++ 10 ∷ []))) }
-    // Bytes that spell no image are refused by their first flaw, unless they can't be read to their
-    // end.
+    // Bytes that spell no image have the error of their first flaw, or `ReadFault` or `Memory`.
     ensures flaw { IfSome (R.remaining input.old.reader) (λ bytes.
         (f : Flaw) → IsFirstFlaw bytes f → IsErrAnd result (λ e.
         (e ≡ refusal bytes f) ⊎ (e ≡ Error.ReadFault) ⊎ (e ≡ Error.Memory))) }
-    // Bytes that spell an image are refused only where memory, the reader or the writer fails.
+    // Bytes that spell an image have only errors of memory, the reader or the writer.
     ensures spelled { IfSome (R.remaining input.old.reader) (λ bytes.
         (i : Internet) → Spells image_spelling bytes i → IfErr result (λ e.
         (e ≡ Error.Memory) ⊎ (e ≡ Error.ReadFault) ⊎ (e ≡ Error.WriteFault))) }
     ensures read_fault { result ≡ Err Error.ReadFault
         → (input.new.failed ≡ true) ⊎ (input.new.reads ≡ READS) }
-    // Where no read failed, the number of reads was at its limit.
+    // If no read failed, the number of reads is at its limit.
     ensures limit { result ≡ Err Error.ReadFault → input.new.failed ≡ false
         → input.new.reads ≡ READS }
     ensures write_fault { result ≡ Err Error.WriteFault → output.new.failed ≡ true }
-    // A refusal that isn't `WriteFault` has written nothing.
+    // After an error other than `WriteFault`, nothing was written.
     ensures nothing_written { IfErr result (λ e. e ≢ Error.WriteFault → output.new ≡ output.old) }
-    // An Ok means that the input was read to its end, and that nothing failed.
+    // After Ok, the input was read to its end, and no read or write failed.
     ensures end { OnOk result (IsAtEnd (R.remaining input.new.reader)) }
     ensures reads_stay { OnOk result (input.new.failed ≡ input.old.failed) }
     ensures writes_stay { OnOk result (output.new.failed ≡ output.old.failed) }
-    // A read that failed has left its reason.
+    // The reason of a failed read is kept.
     ensures reason { input.old.failed ≡ false → input.new.failed ≡ true → IsSome input.new.fault }
-    // A read that failed is told.
+    // A failed read is reported as `ReadFault`.
     ensures told { input.old.failed ≡ false → input.new.failed ≡ true
         → result ≡ Err Error.ReadFault }
-    // What was read to its end is kept, whatever the answer.
+    // Input that was read to its end is kept, whatever the result is.
     ensures kept { result ≢ Err Error.ReadFault → result ≢ Err Error.Memory
         → IsSomeAnd input.new.kept (λ v.
         IfSome (R.remaining input.old.reader) (λ bytes. v.items ≡ bytes)) }

@@ -1,4 +1,4 @@
-//! Reading an input to its end, in a bounded number of reads.
+//! Reads an input to its end, in a bounded number of reads.
 
 ghost use Rattle.std.specs.Prelude.{None, false, length, take, true, ◌++◌, ◌<◌, ◌≡◌, ◌≢◌, ◌≤◌, ◌⊎◌};
 ghost use Rattle.std.specs.Prelude.{IfOk, IfErr, IfSome, IsSome, OnOk, OnErr, IsOkUnless};
@@ -10,11 +10,12 @@ use at_base::Error;
 use std::alloc::{AllocError, Global};
 use std::io::{ErrorKind, Read};
 
-/// The most reads of one input. An input of short reads that never ends is given up there.
+/// The greatest number of reads of one input. An input of short reads that never ends is given up
+/// after them.
 pub const READS: u32 = 16_777_216;
 
-/// The most bytes of one read. No more, since a longer piece is copied by an instruction that is
-/// repeated for each of its bytes.
+/// The greatest number of bytes of one read. It isn't larger, because a longer piece would be
+/// copied by an instruction that is repeated for each of its bytes.
 const PIECE: usize = 8_192;
 
 /// A reader, with the number of its reads and whether one failed.
@@ -23,9 +24,10 @@ pub struct Input<R> {
     pub reader: R,
     pub reads: u32,
     pub failed: bool,
-    /// Why the last read that failed did so.
+    /// The reason of the last read that failed.
     pub fault: Option<ErrorKind>,
-    /// For an explanation of the answer: what was read to the end, or the image of a play.
+    /// The bytes that explain the result: the input that was read to its end, or the image of a
+    /// play.
     pub kept: Option<Vec<u8>>,
     ghost counted: { reads ≤ READS },
 }
@@ -48,24 +50,24 @@ impl<R: Read> Input<R> {
         }
     }
 
-    /// Reads all that is left. Errors: `ReadFault` where the reader failed or after `READS` reads,
-    /// `Memory`.
+    /// Reads the rest of the input. Errors: `ReadFault` if the reader failed or after `READS`
+    /// reads, `Memory`.
     pub fn read_all(&mut self, alloc: Global) -> Result<Vec<u8>, Error>
         ensures ok { IfOk result (λ v.
             IfSome (R.remaining self.old.reader) (λ bytes. v.items ≡ bytes)) }
         ensures end { OnOk result (IsAtEnd (R.remaining self.new.reader)) }
         ensures fault { result ≡ Err Error.ReadFault
             → (self.new.failed ≡ true) ⊎ (self.new.reads ≡ READS) }
-        // Where no read failed, the number of reads was at its limit.
+        // If no read failed, the number of reads is at its limit.
         ensures limit { result ≡ Err Error.ReadFault → self.new.failed ≡ false
             → self.new.reads ≡ READS }
         ensures refused { IfErr result (λ e. (e ≡ Error.ReadFault) ⊎ (e ≡ Error.Memory)) }
-        // Only a read that failed sets `failed`.
+        // Only a failed read sets `failed`.
         ensures stays { result ≢ Err Error.ReadFault → self.new.failed ≡ self.old.failed }
-        // A read that failed has left its reason.
+        // The reason of a failed read is kept.
         ensures reason { self.old.failed ≡ false → self.new.failed ≡ true → IsSome self.new.fault }
         ensures reason_stays { result ≢ Err Error.ReadFault → self.new.fault ≡ self.old.fault }
-        // An input that is given up has no reason: none of its reads failed.
+        // An input that is given up has no reason, because none of its reads failed.
         ensures no_reason { self.new.failed ≡ false → self.new.fault ≡ self.old.fault }
         ensures kept { self.new.kept ≡ self.old.kept }
         ensures counted { self.old.reads ≤ self.new.reads }
@@ -82,7 +84,7 @@ impl<R: Read> Input<R> {
         Err(Error::ReadFault)
     }
 
-    /// Reads once, and again where a read was interrupted.
+    /// Reads once, and again if a read was interrupted.
     fn read(&mut self, buffer: &mut [u8]) -> Result<usize, Error>
         ensures bound { ReadsAtMost result buffer.new }
         ensures ok { IfOk result (λ n. Consumes
@@ -116,8 +118,9 @@ impl<R: Read> Input<R> {
     }
 }
 
-/// Appends the piece. The capacity grows by a quarter: a long input is then moved some 40 times at
-/// most, and takes a quarter more than its length, where a doubled capacity takes up to twice it.
+/// Appends the piece. The capacity grows by a quarter: a long input is then moved at most some 40
+/// times and takes at most a quarter more memory than its length, while doubling would take up to
+/// twice its length.
 pub fn append(bytes: &mut Vec<u8>, piece: &[u8]) -> Result<(), AllocError>
     ensures { OnOk result (bytes.new.items ≡ bytes.old.items ++ piece.now) }
 {

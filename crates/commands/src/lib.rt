@@ -1,5 +1,5 @@
-//! The commands of `atalk`, from readers to writers: an audit, a trace and a play, each with its
-//! input read to the end.
+//! The commands of `atalk`, from readers to writers: an audit, a trace and a play. Each reads its
+//! input to the end.
 #![tactic(auto)]
 
 mod auditing;

@@ -1,4 +1,4 @@
-//! From an internet file to the lines of its play and the image.
+//! Plays an internet file, and writes its lines and its image.
 
 ghost use Rattle.std.specs.Prelude.{◌≡◌, ◌≢◌, ◌⊎◌, ◌++◌, ℕ, Bool, List, [], Some, true, false};
 ghost use Rattle.std.specs.Prelude.{Err, IfOk, IfErr, IfSome, IsOkUnless};
@@ -27,8 +27,8 @@ fn put<W: Write>(writer: &mut W, bytes: &[u8]) -> io::Result<()>
     writer.flush()
 }
 
-/// Writes what is still to be written and then these bytes, and flushes. Error: `WriteFault`, only
-/// where the writer failed.
+/// Writes the buffered text, then these bytes, and flushes. Error: `WriteFault`, only if the writer
+/// failed.
 fn write_bytes<W: Write>(output: &mut Output<W>, bytes: &[u8]) -> Result<(), Error>
     ensures ok { OnOk result (Appends (W.contents output.old.writer) (W.contents output.new.writer)
         (output.old.text.items ++ bytes.now)) }
@@ -47,7 +47,7 @@ fn write_bytes<W: Write>(output: &mut Output<W>, bytes: &[u8]) -> Result<(), Err
     }
 }
 
-/// Keeps the text of a file whose play is refused in the input.
+/// Keeps the text of a file whose play has an error in the input.
 fn keep_text<R>(input: &mut Input<R>, text: Vec<u8>)
     ensures kept { input.new.kept ≡ Some text }
     ensures reader { input.new.reader ≡ input.old.reader }
@@ -58,8 +58,8 @@ fn keep_text<R>(input: &mut Input<R>, text: Vec<u8>)
     input.kept = Some(text);
 }
 
-/// Reads the whole input, and plays the internet file that it is. A text that is refused stays in
-/// the input. Errors: `ReadFault`, `BadFile`, `Full`, `Memory`.
+/// Reads the whole input, and plays it as an internet file. If that has an error, the text is kept
+/// in the input. Errors: `ReadFault`, `BadFile`, `Full`, `Memory`.
 fn read_and_play<R: Read, P: Progress>(
     alloc: Global,
     input: &mut Input<R>,
@@ -79,10 +79,10 @@ fn read_and_play<R: Read, P: Progress>(
     ensures end { OnOk result (IsAtEnd (R.remaining input.new.reader)) }
     ensures stays { OnOk result (input.new.failed ≡ input.old.failed) }
     ensures reason { input.old.failed ≡ false → input.new.failed ≡ true → IsSome input.new.fault }
-    // A read that failed is told.
+    // A failed read is reported as `ReadFault`.
     ensures told { input.old.failed ≡ false → input.new.failed ≡ true
         → result ≡ Err Error.ReadFault }
-    // A text that was read to its end is kept where its play is refused.
+    // A text that was read to its end is kept if its play has an error.
     ensures kept { IfErr result (λ e. e ≢ Error.ReadFault → e ≢ Error.Memory
         → IsSomeAnd input.new.kept (λ v.
         IfSome (R.remaining input.old.reader) (λ text. v.items ≡ text))) }
@@ -108,13 +108,14 @@ fn write_played<W: Write, I: Write>(
     ensures image { OnOk result (Appends (I.contents image.old.writer)
         (I.contents image.new.writer) (image.old.text.items ++ played.now.image.items)) }
     ensures fault { OnErr result ((output.new.failed ≡ true) ⊎ (image.new.failed ≡ true)) }
-    // Which of the writers failed is told apart.
+    // After an error, either the image's writer is untouched, or the writer of the lines hasn't
+    // failed.
     ensures blamed { OnErr result ((image.new ≡ image.old)
         ⊎ (output.new.failed ≡ output.old.failed)) }
     ensures refused { IsOkUnless result Error.WriteFault }
     ensures stays { OnOk result (output.new.failed ≡ output.old.failed) }
     ensures image_stays { OnOk result (image.new.failed ≡ image.old.failed) }
-    // The image isn't touched before all lines are written.
+    // The image isn't written before all lines are.
     ensures order { (image.new ≡ image.old)
         ⊎ Appends (W.contents output.old.writer) (W.contents output.new.writer)
         (output.old.text.items ++ played.now.lines.items) }
@@ -125,7 +126,7 @@ fn write_played<W: Write, I: Write>(
     }
 }
 
-/// Keeps the bytes of a play's image in the input, and says whether its verdict is a yes.
+/// Keeps the bytes of a play's image in the input, and returns whether the image passes the audit.
 fn keep<R>(input: &mut Input<R>, played: Played) -> bool
     ensures yes { result ≡ played.yes }
     ensures kept { input.new.kept ≡ Some played.image }
@@ -139,8 +140,8 @@ fn keep<R>(input: &mut Input<R>, played: Played) -> bool
     yes
 }
 
-/// Writes the lines of a play and then the bytes of its image, which the input keeps. Returns
-/// whether the verdict is a yes. Error: `WriteFault`.
+/// Writes the lines of a play and then the bytes of its image, which are kept in the input. Returns
+/// whether the image passes the audit. Error: `WriteFault`.
 fn hand_over<R, W: Write, I: Write>(
     input: &mut Input<R>,
     played: Played,
@@ -153,7 +154,8 @@ fn hand_over<R, W: Write, I: Write>(
     ensures image { OnOk result (Appends (I.contents image.old.writer)
         (I.contents image.new.writer) (image.old.text.items ++ played.image.items)) }
     ensures fault { OnErr result ((output.new.failed ≡ true) ⊎ (image.new.failed ≡ true)) }
-    // Which of the writers failed is told apart.
+    // After an error, either the image's writer is untouched, or the writer of the lines hasn't
+    // failed.
     ensures blamed { OnErr result ((image.new ≡ image.old)
         ⊎ (output.new.failed ≡ output.old.failed)) }
     ensures refused { IsOkUnless result Error.WriteFault }
@@ -162,7 +164,7 @@ fn hand_over<R, W: Write, I: Write>(
     ensures reason_stays { input.new.fault ≡ input.old.fault }
     ensures stays { OnOk result (output.new.failed ≡ output.old.failed) }
     ensures image_stays { OnOk result (image.new.failed ≡ image.old.failed) }
-    // The image isn't touched before all lines are written.
+    // The image isn't written before all lines are.
     ensures order { (image.new ≡ image.old)
         ⊎ Appends (W.contents output.old.writer) (W.contents output.new.writer)
         (output.old.text.items ++ played.lines.items) }
@@ -178,9 +180,10 @@ fn hand_over<R, W: Write, I: Write>(
     }
 }
 
-/// Reads the whole internet file, plays it, and writes the lines of its play; then the image's
-/// bytes, by a writer of their own. Returns whether the verdict is a yes, and leaves the image's
-/// bytes, or the text where the play is refused, in the input. Errors: `ReadFault`, `BadFile`, `Full`, `Memory`, `WriteFault`.
+/// Reads the whole internet file, plays it, and writes its lines; then writes the bytes of its
+/// image with a second writer. Returns whether the image passes the audit. The bytes of the image,
+/// or the text if its play has an error, are kept in the input. Errors: `ReadFault`, `BadFile`,
+/// `Full`, `Memory`, `WriteFault`.
 pub fn play_bytes<R: Read, W: Write, I: Write, P: Progress>(
     alloc: Global,
     input: &mut Input<R>,
@@ -188,9 +191,9 @@ pub fn play_bytes<R: Read, W: Write, I: Write, P: Progress>(
     image: &mut Output<I>,
     progress: &mut P,
 ) -> Result<bool, Error>
-    // For a reader whose bytes are known: they are a file; what was written by the first writer is
-    // what is printed of its play, and by the second one the bytes of the image, each after what
-    // was still to be written.
+    // For a reader whose bytes are known: they are a file; the lines of its play were written by
+    // the first writer, and the bytes of its image by the second, each after the text that was
+    // buffered.
     ensures printed { IfOk result (λ yes. IfSome (R.remaining input.old.reader) (λ text.
         (lines : List ℕ) × (bytes : List ℕ) × (i : Internet)
         × IsPlay text lines yes i × Spells image_spelling bytes i
@@ -198,36 +201,36 @@ pub fn play_bytes<R: Read, W: Write, I: Write, P: Progress>(
         (output.old.text.items ++ lines)
         × Appends (I.contents image.old.writer) (I.contents image.new.writer)
         (image.old.text.items ++ bytes))) }
-    // A text that is no file is refused by its first fault, unless it can't be read to its end, and
-    // one that is only where its play has no room, or where memory or a writer fails.
+    // A text that is no file has the error of its first fault, or `ReadFault` or `Memory`; a text
+    // that is a file has only `Full` and errors of memory, the reader or a writer.
     ensures refused { IfSome (R.remaining input.old.reader) (λ text. IfErr result (λ e.
         (e ≡ Error.ReadFault) ⊎ IsFileRefused text e
         ⊎ (((plan : Planned) × IsFile text plan)
         × ((e ≡ Error.Full) ⊎ (e ≡ Error.Memory) ⊎ (e ≡ Error.WriteFault))))) }
     ensures read_fault { result ≡ Err Error.ReadFault
         → (input.new.failed ≡ true) ⊎ (input.new.reads ≡ READS) }
-    // Where no read failed, the number of reads was at its limit.
+    // If no read failed, the number of reads is at its limit.
     ensures limit { result ≡ Err Error.ReadFault → input.new.failed ≡ false
         → input.new.reads ≡ READS }
     ensures write_fault { result ≡ Err Error.WriteFault
         → (output.new.failed ≡ true) ⊎ (image.new.failed ≡ true) }
-    // Where the image can't be written, the writer of the lines hasn't failed.
+    // If the image can't be written, the writer of the lines hasn't failed.
     ensures blamed { OnErr result ((image.new ≡ image.old)
         ⊎ (output.new.failed ≡ output.old.failed)) }
-    // A refusal that isn't `WriteFault` has written nothing.
+    // After an error other than `WriteFault`, nothing was written.
     ensures nothing_written { IfErr result (λ e. e ≢ Error.WriteFault
         → (output.new ≡ output.old) × (image.new ≡ image.old)) }
-    // An Ok means that the input was read to its end, and that nothing failed.
+    // After Ok, the input was read to its end, and no read or write failed.
     ensures end { OnOk result (IsAtEnd (R.remaining input.new.reader)) }
     ensures reads_stay { OnOk result (input.new.failed ≡ input.old.failed) }
     ensures writes_stay { OnOk result (output.new.failed ≡ output.old.failed) }
     ensures image_stays { OnOk result (image.new.failed ≡ image.old.failed) }
-    // A read that failed has left its reason.
+    // The reason of a failed read is kept.
     ensures reason { input.old.failed ≡ false → input.new.failed ≡ true → IsSome input.new.fault }
-    // A read that failed is told.
+    // A failed read is reported as `ReadFault`.
     ensures told { input.old.failed ≡ false → input.new.failed ≡ true
         → result ≡ Err Error.ReadFault }
-    // The image isn't touched before all lines of the play are written.
+    // The image isn't written before all lines of the play are.
     ensures order { (image.new ≡ image.old)
         ⊎ IfSome (R.remaining input.old.reader) (λ text.
         (lines : List ℕ) × (yes : Bool) × (i : Internet) × IsPlay text lines yes i
@@ -237,7 +240,7 @@ pub fn play_bytes<R: Read, W: Write, I: Write, P: Progress>(
     ensures kept { OnOk result (IsSomeAnd input.new.kept (λ bytes.
         Appends (I.contents image.old.writer) (I.contents image.new.writer)
         (image.old.text.items ++ bytes.items))) }
-    // A text that was read to its end is kept where its play is refused.
+    // A text that was read to its end is kept if its play has an error.
     ensures kept_text { IfErr result (λ e.
         e ≢ Error.ReadFault → e ≢ Error.Memory → e ≢ Error.WriteFault
         → IsSomeAnd input.new.kept (λ v.

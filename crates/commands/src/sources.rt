@@ -1,4 +1,4 @@
-//! What a trace is made of: an image and a script, each read to its end.
+//! The sources of a trace: an image and a script, each read to its end.
 
 ghost use Rattle.std.specs.Prelude.{◌≡◌, ◌≢◌, ◌⊎◌, ℕ, List, true, false};
 ghost use Rattle.std.specs.Prelude.{IfOk, IfErr, IfSome, IsErrAnd, IsSome, IsSomeAnd, OnOk};
@@ -19,13 +19,12 @@ use std::alloc::Global;
 use std::io::Read;
 use table_image::Image;
 
-/// Reads the whole input, and the image that it spells; leaves its bytes in the input. Errors:
+/// Reads the whole input, and returns its image. The bytes are kept in the input. Errors:
 /// `ReadFault`, `BadImage`, `Memory`.
 pub fn read_image<R: Read>(alloc: Global, input: &mut Input<R>) -> Result<Image, Error>
     ensures found { IfOk result (λ image. IfSome (R.remaining input.old.reader)
         (λ bytes. Spells image_spelling bytes image)) }
-    // Bytes that spell no image are refused by their first flaw, unless they can't be read to their
-    // end.
+    // Bytes that spell no image have the error of their first flaw, or `ReadFault` or `Memory`.
     ensures flaw { IfSome (R.remaining input.old.reader) (λ bytes.
         (f : Flaw) → IsFirstFlaw bytes f → IsErrAnd result (λ e.
         (e ≡ refusal bytes f) ⊎ (e ≡ Error.ReadFault) ⊎ (e ≡ Error.Memory))) }
@@ -38,10 +37,10 @@ pub fn read_image<R: Read>(alloc: Global, input: &mut Input<R>) -> Result<Image,
     ensures end { OnOk result (IsAtEnd (R.remaining input.new.reader)) }
     ensures stays { OnOk result (input.new.failed ≡ input.old.failed) }
     ensures reason { input.old.failed ≡ false → input.new.failed ≡ true → IsSome input.new.fault }
-    // A read that failed is told.
+    // A failed read is reported as `ReadFault`.
     ensures told { input.old.failed ≡ false → input.new.failed ≡ true
         → result ≡ Err Error.ReadFault }
-    // What was read to its end is kept, whatever the answer.
+    // Input that was read to its end is kept, whatever the result is.
     ensures kept { result ≢ Err Error.ReadFault → result ≢ Err Error.Memory
         → IsSomeAnd input.new.kept (λ v.
         IfSome (R.remaining input.old.reader) (λ bytes. v.items ≡ bytes)) }
@@ -52,11 +51,12 @@ pub fn read_image<R: Read>(alloc: Global, input: &mut Input<R>) -> Result<Image,
     image
 }
 
-/// Reads the whole input, and the script that it is. Errors: `ReadFault`, `BadScript`, `Memory`.
+/// Reads the whole input, and returns the steps of its script. Errors: `ReadFault`, `BadScript`,
+/// `Memory`.
 pub fn read_steps<R: Read>(alloc: Global, input: &mut Input<R>) -> Result<Vec<Step>, Error>
     ensures found { IfOk result (λ steps. IfSome (R.remaining input.old.reader)
         (λ text. IsScript text steps.items)) }
-    // A script with a bad line is refused by its first one, unless it can't be read to its end.
+    // A script with a bad line has the error of its first bad line, or `ReadFault` or `Memory`.
     ensures bad_line { IfSome (R.remaining input.old.reader) (λ text.
         (n : ℕ) → IsBadAt text n → IsErrAnd result (λ e.
         (e ≡ Error.BadScript n) ⊎ (e ≡ Error.ReadFault) ⊎ (e ≡ Error.Memory))) }
@@ -69,11 +69,11 @@ pub fn read_steps<R: Read>(alloc: Global, input: &mut Input<R>) -> Result<Vec<St
     ensures end { OnOk result (IsAtEnd (R.remaining input.new.reader)) }
     ensures stays { OnOk result (input.new.failed ≡ input.old.failed) }
     ensures reason { input.old.failed ≡ false → input.new.failed ≡ true → IsSome input.new.fault }
-    // A read that failed is told.
+    // A failed read is reported as `ReadFault`.
     ensures told { input.old.failed ≡ false → input.new.failed ≡ true
         → result ≡ Err Error.ReadFault }
 {
-    // For the prover alone: a script has no bad line.
+    // Only the prover needs this call: a script has no bad line.
     scripts_have_no_bad_line();
     let text = input.read_all(alloc)?;
     script::read(alloc, text.as_slice())

@@ -1,4 +1,4 @@
-//! From an image and a script to the lines of the trace.
+//! Runs a script over an image, and writes the trace.
 
 ghost use Rattle.std.specs.Prelude.{◌≡◌, ◌≢◌, ◌⊎◌, ◌++◌, ℕ, List, true, false};
 ghost use Rattle.std.specs.Prelude.{IfOk, IfErr, IfSome, IsErrAnd, IsSome, IsSomeAnd, OnOk};
@@ -22,18 +22,18 @@ use rtmp::PlainTable;
 use std::alloc::Global;
 use std::io::{Read, Write};
 
-/// Reads the whole image and then the whole script, plays the script over the frozen tables, and
-/// writes its trace; or, where the audit says no, the line of its verdict. Returns whether the
-/// verdict is a yes, and leaves the image's bytes in its input. Errors: `ReadFault`, `BadImage`,
-/// `BadScript`, `Memory`, `WriteFault`.
+/// Reads the whole image and then the whole script, runs the script over the frozen tables, and
+/// writes its trace; if the image fails the audit, writes only the line of the verdict. Returns
+/// whether the image passes the audit. The image's bytes are kept in its input. Errors:
+/// `ReadFault`, `BadImage`, `BadScript`, `Memory`, `WriteFault`.
 pub fn run_frozen<I: Read, S: Read, W: Write>(
     alloc: Global,
     image: &mut Input<I>,
     script: &mut Input<S>,
     output: &mut Output<W>,
 ) -> Result<bool, Error>
-    // For readers whose bytes are known: they spell an image and a script, and what was written is
-    // what is printed of the script's steps over the image, behind what was still to be written.
+    // For readers whose bytes are known: they spell an image and a script, and the trace of the
+    // script's steps over the image was written, after the text that was buffered.
     ensures printed { IfOk result (λ yes.
         IfSome (I.remaining image.old.reader) (λ bytes.
         IfSome (S.remaining script.old.reader) (λ text.
@@ -41,22 +41,22 @@ pub fn run_frozen<I: Read, S: Read, W: Write>(
         × Spells image_spelling bytes i × IsScript text steps × IsPrinted i steps yes lines
         × Appends (W.contents output.old.writer) (W.contents output.new.writer)
         (output.old.text.items ++ lines)))) }
-    // Bytes that spell no image are refused by their first flaw, unless they can't be read to their
-    // end, whatever the script is.
+    // Bytes that spell no image have the error of their first flaw, or `ReadFault` or `Memory`,
+    // whatever the script is.
     ensures flaw { IfSome (I.remaining image.old.reader) (λ bytes.
         (f : Flaw) → IsFirstFlaw bytes f → IsErrAnd result (λ e.
         (e ≡ refusal bytes f) ⊎ (e ≡ Error.ReadFault) ⊎ (e ≡ Error.Memory))) }
-    // The script isn't touched then.
+    // The script isn't read if the image is invalid.
     ensures image_first { IfSome (I.remaining image.old.reader) (λ bytes.
         (f : Flaw) → IsFirstFlaw bytes f → script.new ≡ script.old) }
-    // Then a script with a bad line is refused by its first one.
+    // If the image is valid, a script with a bad line has the error of its first bad line, or
+    // `ReadFault` or `Memory`.
     ensures bad_line { IfSome (I.remaining image.old.reader) (λ bytes.
         IfSome (S.remaining script.old.reader) (λ text.
         (i : Internet) (n : ℕ) → Spells image_spelling bytes i → IsBadAt text n
         → IsErrAnd result (λ e.
         (e ≡ Error.BadScript n) ⊎ (e ≡ Error.ReadFault) ⊎ (e ≡ Error.Memory)))) }
-    // Bytes that spell an image and a script are refused only where memory, a reader or the writer
-    // fails.
+    // Bytes that spell an image and a script have only errors of memory, a reader or the writer.
     ensures good { IfSome (I.remaining image.old.reader) (λ bytes.
         IfSome (S.remaining script.old.reader) (λ text.
         (i : Internet) (steps : List StepValue) → Spells image_spelling bytes i
@@ -66,26 +66,26 @@ pub fn run_frozen<I: Read, S: Read, W: Write>(
         → (image.new.failed ≡ true) ⊎ (image.new.reads ≡ READS)
         ⊎ (script.new.failed ≡ true) ⊎ (script.new.reads ≡ READS) }
     ensures write_fault { result ≡ Err Error.WriteFault → output.new.failed ≡ true }
-    // A refusal that is neither `WriteFault` nor `Memory` has written nothing.
+    // After an error other than `WriteFault` and `Memory`, nothing was written.
     ensures nothing_written { IfErr result (λ e. e ≢ Error.WriteFault → e ≢ Error.Memory
         → output.new ≡ output.old) }
-    // An Ok means that both inputs were read to their ends, and that nothing failed.
+    // After Ok, both inputs were read to their ends, and no read or write failed.
     ensures image_end { OnOk result (IsAtEnd (I.remaining image.new.reader)) }
     ensures script_end { OnOk result (IsAtEnd (S.remaining script.new.reader)) }
     ensures image_reads_stay { OnOk result (image.new.failed ≡ image.old.failed) }
     ensures script_reads_stay { OnOk result (script.new.failed ≡ script.old.failed) }
     ensures writes_stay { OnOk result (output.new.failed ≡ output.old.failed) }
-    // A read that failed has left its reason.
+    // The reason of a failed read is kept.
     ensures image_reason { image.old.failed ≡ false → image.new.failed ≡ true
         → IsSome image.new.fault }
     ensures script_reason { script.old.failed ≡ false → script.new.failed ≡ true
         → IsSome script.new.fault }
-    // A read that failed is told.
+    // A failed read is reported as `ReadFault`.
     ensures image_told { image.old.failed ≡ false → image.new.failed ≡ true
         → result ≡ Err Error.ReadFault }
     ensures script_told { script.old.failed ≡ false → script.new.failed ≡ true
         → result ≡ Err Error.ReadFault }
-    // An image that was read to its end is kept, whatever the answer.
+    // An image that was read to its end is kept, whatever the result is.
     ensures kept { result ≢ Err Error.ReadFault → result ≢ Err Error.Memory
         → IsSomeAnd image.new.kept (λ v.
         IfSome (I.remaining image.old.reader) (λ bytes. v.items ≡ bytes)) }

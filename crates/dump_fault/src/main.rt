@@ -1,4 +1,4 @@
-//! Prints what reading the image on standard input gives: `image`, or the place and the cause of
+//! Prints the result of reading the image on standard input: `image`, or the place and the cause of
 //! its first fault. `scripts/compare` compares that with another reader of images.
 #![tactic(auto)]
 
@@ -6,7 +6,7 @@ use at_base::Error;
 use std::io::Read;
 use table_image::read;
 
-/// Prints the answer as a line.
+/// Prints the result as a line.
 fn print<R: Print>(rt: &R, answer: Result<(), Error>) -> Result<(), std::io::Error> {
     match answer {
         Ok(()) => println!(rt; "image"),

@@ -1,4 +1,4 @@
-//! The lines of a world's entries, in which stations are numbers.
+//! The lines of a world's entries, with numbers for stations.
 
 use at_base::Hw;
 use cable_model::{DropCause, Entry, How};
@@ -7,13 +7,13 @@ use std::alloc::AllocError;
 use text::{put_decimal, put_hex};
 use world::World;
 
-/// Appends a word and a number that counts from 1.
+/// Appends a word and a number, counted from 1.
 fn put_number(text: &mut Vec<u8>, word: &[u8], index: u16) -> Result<(), AllocError> {
     text.extend_from_slice(word)?;
     put_decimal(text, u32::from(index) + 1)
 }
 
-/// Appends a datagram in digits, with hop count 0, and the end of the line.
+/// Appends a datagram in hexadecimal digits, with hop count 0, and a line feed.
 fn put_body(text: &mut Vec<u8>, bytes: &[u8]) -> Result<(), AllocError> {
     text.extend_from_slice(b" ")?;
     match bytes {
@@ -27,7 +27,7 @@ fn put_body(text: &mut Vec<u8>, bytes: &[u8]) -> Result<(), AllocError> {
     text.extend_from_slice(b"\n")
 }
 
-/// Appends whom a frame is for: all, a group, or who has the hardware address.
+/// Appends the receiver of a frame: all, a group, or a hardware address.
 fn put_who(text: &mut Vec<u8>, to: &Hw) -> Result<(), AllocError> {
     if to.is_all() {
         return text.extend_from_slice(b"all");
@@ -39,7 +39,7 @@ fn put_who(text: &mut Vec<u8>, to: &Hw) -> Result<(), AllocError> {
     put_hex(text, &to.0)
 }
 
-/// How a datagram reached a cable.
+/// The word for how a datagram reached a cable.
 fn how(how: How) -> &'static [u8] {
     match how {
         How::Station => b" station",
@@ -50,7 +50,7 @@ fn how(how: How) -> &'static [u8] {
     }
 }
 
-/// Why a datagram was dropped.
+/// The word for why a datagram was dropped.
 fn cause(cause: DropCause) -> &'static [u8] {
     match cause {
         DropCause::NoRoute => b" NoRoute",

@@ -1,5 +1,5 @@
-//! Plays the internet file on standard input to its last tick, and prints all that happened: a line
-//! for each entry of the transcript. `scripts/compare-runs` compares that with another program.
+//! Plays the internet file on standard input to its last tick, and prints its transcript: a line
+//! for each entry. `scripts/compare-runs` compares the lines with those of another program.
 #![tactic(auto)]
 
 mod lines;
@@ -15,7 +15,7 @@ use std::io::{Read, Write, writer};
 use std::process::ExitCode;
 use world::World;
 
-/// Lets all ticks of the plan pass, or those before one that is refused.
+/// Carries out all ticks of the plan, or those before the first that has an error.
 fn play<T: RouteTable>(world: &mut World<T>) -> Result<(), Error> {
     for _tick in 0..world.plan().ticks() {
         match world.tick() {
@@ -26,7 +26,7 @@ fn play<T: RouteTable>(world: &mut World<T>) -> Result<(), Error> {
     Ok(())
 }
 
-/// Prints all that happened in a world.
+/// Prints the transcript of a world.
 fn print<T: RouteTable, W: Write>(world: &World<T>, output: &mut Output<W>) -> Result<(), Error> {
     for entry in world.transcript() {
         put_entry(&mut output.text, world, entry)?;
@@ -35,7 +35,7 @@ fn print<T: RouteTable, W: Write>(world: &World<T>, output: &mut Output<W>) -> R
     output.flush()
 }
 
-/// Plays a file, and prints all that happened, also where a tick is refused.
+/// Plays a file, and prints its transcript, also if a tick has an error.
 fn print_play<W: Write>(alloc: Global, text: &[u8], output: &mut Output<W>) -> Result<(), Error> {
     let plan = read(alloc, text)?;
     let mut world = World::<PlainTable>::new(alloc, plan)?;
@@ -44,7 +44,7 @@ fn print_play<W: Write>(alloc: Global, text: &[u8], output: &mut Output<W>) -> R
     answer
 }
 
-/// Plays what the reader has, and prints it.
+/// Plays the internet file that the reader has, and prints its transcript.
 fn run<R: Print + AllocGlobal + Input>(rt: &R) -> Result<(), Error> {
     let mut bytes = Vec::new(rt.alloc());
     if rt.reader().read_to_end(&mut bytes).is_err() {

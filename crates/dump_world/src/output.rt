@@ -1,10 +1,10 @@
-//! Text that is written in large parts.
+//! A buffered writer of text.
 
 use at_base::Error;
 use std::alloc::Global;
 use std::io::Write;
 
-/// The number of bytes from which on text is written.
+/// The number of buffered bytes from which on text is written.
 const FULL: usize = 65_536;
 
 /// A writer, with the text that is still to be written.
@@ -16,7 +16,7 @@ pub struct Output<W> {
 }
 
 impl<W: Write> Output<W> {
-    /// An output with nothing still to be written.
+    /// An output with an empty buffer.
     pub fn new(alloc: Global, writer: W) -> Output<W> {
         Output {
             writer,
@@ -24,7 +24,7 @@ impl<W: Write> Output<W> {
         }
     }
 
-    /// Writes what is still to be written. Error: `WriteFault`.
+    /// Writes the buffered text. Error: `WriteFault`.
     pub fn flush(&mut self) -> Result<(), Error> {
         if self.writer.write_all(self.text.as_slice()).is_err() || self.writer.flush().is_err() {
             return Err(Error::WriteFault);
@@ -33,7 +33,7 @@ impl<W: Write> Output<W> {
         Ok(())
     }
 
-    /// Writes what is still to be written, where that is much. Error: `WriteFault`.
+    /// Writes the buffered text if it has at least `FULL` bytes. Error: `WriteFault`.
     pub fn pass_on(&mut self) -> Result<(), Error> {
         if self.text.len() >= FULL {
             self.flush()

@@ -1,4 +1,4 @@
-//! What may happen in a run over frozen tables.
+//! The events of a run over frozen tables.
 #![tactic(auto)]
 
 mod event;

@@ -1,4 +1,4 @@
-//! What is wrong with a cable.
+//! Checks cables.
 
 use crate::check::{at, integer, list_at, table_with};
 use crate::fault::Fault;
@@ -15,7 +15,7 @@ fn is_zone(value: &Value) -> bool {
     }
 }
 
-/// That there is the name of a zone at the key.
+/// Checks that the value at the key is the name of a zone.
 pub(crate) fn check_zone(table: &Table, key: Key) -> Result<(), Fault> {
     if is_zone(at(table, key)?) {
         Ok(())
@@ -27,7 +27,7 @@ pub(crate) fn check_zone(table: &Table, key: Key) -> Result<(), Fault> {
     }
 }
 
-/// That there are 1 to 64 names of zones at the key.
+/// Checks that the value at the key is a list of 1 to 64 names of zones.
 fn check_zones(table: &Table, key: Key) -> Result<(), Fault> {
     let zones = list_at(table, key, 1, 64, Must::Zones)?;
     for (index, zone) in zones.iter().enumerate() {
@@ -42,7 +42,7 @@ fn check_zones(table: &Table, key: Key) -> Result<(), Fault> {
     Ok(())
 }
 
-/// The range of a cable's entry, if that is one.
+/// The range in a cable's entry, if it is valid.
 pub(crate) fn range_of(cable: &Value) -> Option<Range> {
     match cable
         .as_table()?
@@ -59,7 +59,7 @@ pub(crate) fn range_of(cable: &Value) -> Option<Range> {
     }
 }
 
-/// What is wrong with a cable.
+/// Checks a cable.
 pub(crate) fn check_cable(cable: &Value) -> Result<(), Fault> {
     let table = table_with(cable, &[Key::Range, Key::Zones])?;
     if range_of(cable).is_none() {

@@ -1,4 +1,4 @@
-//! What stands at the keys of a table.
+//! Checks the keys of a table and their values.
 
 use crate::fault::Fault;
 use crate::key::Key;
@@ -16,7 +16,7 @@ fn is_among(key: &str, named: &[Key]) -> bool {
     false
 }
 
-/// That the table has no keys but these.
+/// Checks that the table has only these keys.
 pub(crate) fn has_only(table: &Table, named: &[Key]) -> Result<(), Fault> {
     for key in table.keys() {
         if !is_among(key.as_str(), named) {
@@ -28,7 +28,7 @@ pub(crate) fn has_only(table: &Table, named: &[Key]) -> Result<(), Fault> {
     Ok(())
 }
 
-/// That the table has each of these keys.
+/// Checks that the table has each of these keys.
 pub(crate) fn has_all(table: &Table, named: &[Key]) -> Result<(), Fault> {
     for key in named {
         if table.get(key.name()).is_none() {
@@ -46,7 +46,7 @@ pub(crate) fn table_of(value: &Value) -> Result<&Table, Fault> {
     }
 }
 
-/// The value as a table that has these keys and no others.
+/// The value as a table that has exactly these keys.
 pub(crate) fn table_with<'a>(value: &'a Value, named: &[Key]) -> Result<&'a Table, Fault> {
     let table = table_of(value)?;
     has_only(table, named)?;
@@ -62,7 +62,7 @@ pub(crate) fn at<'a>(table: &'a Table, key: Key) -> Result<&'a Value, Fault> {
     }
 }
 
-/// The integer that a value is, if it is within these bounds.
+/// The integer of a value, if it is within these bounds.
 pub(crate) fn integer(value: &Value, low: u32, high: u32) -> Option<u32> {
     let number = u32::try_from(value.as_integer()?).ok()?;
     if low <= number && number <= high {
@@ -80,7 +80,7 @@ pub(crate) fn integer_at(table: &Table, key: Key, low: u32, high: u32) -> Result
     }
 }
 
-/// The tick at the key, up to the last one.
+/// The tick at the key, at most the last one.
 pub(crate) fn tick_at(table: &Table, key: Key, ticks: u32) -> Result<u32, Fault> {
     match integer(at(table, key)?, 1, ticks) {
         Some(tick) => Ok(tick),
@@ -88,7 +88,7 @@ pub(crate) fn tick_at(table: &Table, key: Key, ticks: u32) -> Result<u32, Fault>
     }
 }
 
-/// The number at the key of a cable or a node, which there may not be.
+/// The number of a cable or a node at the key; there may be no such cable or node.
 pub(crate) fn number_at(table: &Table, key: Key) -> Result<u32, Fault> {
     match integer(at(table, key)?, 1, u32::MAX) {
         Some(number) => Ok(number),
@@ -99,7 +99,7 @@ pub(crate) fn number_at(table: &Table, key: Key) -> Result<u32, Fault> {
     }
 }
 
-/// The entry of a number that counts from 1.
+/// The entry with this number, counted from 1.
 pub(crate) fn entry_of<'a>(
     entries: &'a [Value],
     what: Key,
@@ -111,7 +111,7 @@ pub(crate) fn entry_of<'a>(
     }
 }
 
-/// The text at the key, of from so many to so many bytes.
+/// The text at the key, of `low` to `high` bytes.
 pub(crate) fn text_at<'a>(
     table: &'a Table,
     key: Key,
@@ -128,7 +128,7 @@ pub(crate) fn text_at<'a>(
     Err(Fault::Wrong { key, must })
 }
 
-/// The values of the list at the key, from so many to so many of them.
+/// The values of the list at the key, which has `low` to `high` values.
 pub(crate) fn list_at<'a>(
     table: &'a Table,
     key: Key,

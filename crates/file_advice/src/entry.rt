@@ -1,4 +1,4 @@
-//! Which entry of a file is at fault, and what is said of it.
+//! Explains the invalid entry of a file.
 
 use crate::cable::check_cable;
 use crate::check::{has_only, integer, integer_at};
@@ -11,17 +11,17 @@ use at_base::Part;
 use std::io;
 use toml::{Table, Value};
 
-/// The lists at the top of a file.
+/// The lists at the top level of a file.
 const LISTS: [Key; 5] = [Key::Cable, Key::Router, Key::Node, Key::Lose, Key::Action];
 
-/// The most ticks of a file.
+/// The greatest number of ticks in a file.
 const MAX_TICKS: u32 = 100_000;
 
-/// What the top of a file has to have.
+/// The keys at the top level of a file, in words.
 const TOP: &str = "needs ticks, from 1 to 100000, and may have only the lists cable, router, node, \
     lose and action beside it";
 
-/// What a text that is no TOML has wrong, and on which line.
+/// Explains why a text isn't TOML, and on which line.
 fn explain_text(rt: &impl Eprint, text: &[u8], fault: &toml::de::Error) -> io::Result<()> {
     eprint!(rt; "is no TOML text")?;
     if let Some(span) = fault.span()
@@ -33,7 +33,7 @@ fn explain_text(rt: &impl Eprint, text: &[u8], fault: &toml::de::Error) -> io::R
     eprintln!(rt; "")
 }
 
-/// What is wrong with the top of a file.
+/// Checks the top level of a file.
 fn check_top(table: &Table) -> Result<(), Fault> {
     has_only(
         table,
@@ -60,7 +60,7 @@ fn check_top(table: &Table) -> Result<(), Fault> {
     Ok(())
 }
 
-/// The key of the list that a part is.
+/// The key of a part that is a list.
 fn list_key(part: Part) -> Option<Key> {
     match part {
         Part::Cable => Some(Key::Cable),
@@ -72,7 +72,7 @@ fn list_key(part: Part) -> Option<Key> {
     }
 }
 
-/// The entries of the list at a key of the top.
+/// The entries of the list at a key of the top level.
 fn entries_at(table: &Table, key: Key) -> &[Value] {
     if let Some(value) = table.get(key.name())
         && let Some(entries) = value.as_array()
@@ -92,7 +92,7 @@ fn ticks_of(table: &Table) -> u32 {
     MAX_TICKS
 }
 
-/// What is wrong with the entry of this number, from 1, in the list at a key of the top.
+/// Checks the entry with this number, from 1, in the list at a key of the top level.
 fn check_entry(table: &Table, key: Key, index: u32) -> Result<(), Placed> {
     if index > 200 && matches!(key, Key::Cable | Key::Router | Key::Node) {
         return Err(Placed::from(Fault::TooMany { what: key }));
@@ -113,7 +113,7 @@ fn check_entry(table: &Table, key: Key, index: u32) -> Result<(), Placed> {
     Ok(())
 }
 
-/// Says where the fault of a file is, and no more.
+/// Prints only the place of a file's fault.
 fn show_place(rt: &impl Eprint, part: Part, index: u32) -> io::Result<()> {
     match list_key(part) {
         Some(key) => eprintln!(rt;
@@ -131,7 +131,7 @@ fn show_place(rt: &impl Eprint, part: Part, index: u32) -> io::Result<()> {
     }
 }
 
-/// Says what is wrong with the top of a file.
+/// Explains the fault at the top level of a file.
 fn explain_top(rt: &impl Eprint, table: &Table) -> io::Result<()> {
     match check_top(table) {
         Ok(()) => eprintln!(rt; "{TOP}"),
@@ -142,7 +142,7 @@ fn explain_top(rt: &impl Eprint, table: &Table) -> io::Result<()> {
     }
 }
 
-/// Says what is wrong with the entry of this number, from 1, in the list at a key of the top.
+/// Explains the fault of the entry with this number, from 1, in the list at a key of the top level.
 fn explain_listed(rt: &impl Eprint, key: Key, index: u32, placed: Placed) -> io::Result<()> {
     eprint!(rt; "has a fault in {} {index}, counted from 1: ", key.name())?;
     if let Some((within, number)) = placed.within {
@@ -151,7 +151,7 @@ fn explain_listed(rt: &impl Eprint, key: Key, index: u32, placed: Placed) -> io:
     show(rt, placed.fault)
 }
 
-/// Says where the fault of a document is, and what it is.
+/// Explains the fault of a document and its place.
 fn explain_document(rt: &impl Eprint, table: &Table, part: Part, index: u32) -> io::Result<()> {
     if part == Part::Top {
         return explain_top(rt, table);
@@ -164,7 +164,7 @@ fn explain_document(rt: &impl Eprint, table: &Table, part: Part, index: u32) -> 
     show_place(rt, part, index)
 }
 
-/// Says which key of the entry at fault is wrong and why, on standard error. This project's own.
+/// Explains on standard error which key of the invalid entry is wrong, and why.
 pub fn explain_entry(
     rt: &(impl Eprint + AllocGlobal),
     text: &[u8],

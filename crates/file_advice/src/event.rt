@@ -1,4 +1,4 @@
-//! What is wrong with a loss or an action.
+//! Checks losses and actions.
 
 use crate::check::{
     at, entry_of, has_all, has_only, integer_at, number_at, table_of, table_with, text_at, tick_at,
@@ -9,7 +9,7 @@ use crate::must::Must;
 use crate::station::{address_of, are_digits};
 use toml::{Table, Value};
 
-/// What is wrong with a loss.
+/// Checks a loss.
 pub(crate) fn check_loss(loss: &Value, ticks: u32, cables: &[Value]) -> Result<(), Fault> {
     let table = table_with(loss, &[Key::Cable, Key::First, Key::Last])?;
     let cable = number_at(table, Key::Cable)?;
@@ -60,7 +60,7 @@ const ACTION_KEYS: [Key; 11] = [
     Key::Zone,
 ];
 
-/// What the word of an action has its node do.
+/// The operation that the word of an action names.
 #[derive(Clone, Copy, Debug, PartialEq, Eq)]
 enum Word {
     Send,
@@ -68,7 +68,7 @@ enum Word {
     Neither,
 }
 
-/// What an action has its node do.
+/// The operation of an action.
 fn word_in(table: &Table) -> Word {
     if let Some(value) = table.get(Key::Do.name())
         && let Some(word) = value.as_str()
@@ -83,7 +83,7 @@ fn word_in(table: &Table) -> Word {
     Word::Neither
 }
 
-/// What is wrong with the keys, the tick or the node of an action; there may be no such node.
+/// Checks the keys, the tick and the node number of an action; there may be no such node.
 fn check_common(action: &Value, named: &[Key], ticks: u32) -> Result<(), Fault> {
     let table = table_with(action, named)?;
     tick_at(table, Key::At, ticks)?;
@@ -91,7 +91,7 @@ fn check_common(action: &Value, named: &[Key], ticks: u32) -> Result<(), Fault> 
     Ok(())
 }
 
-/// What is wrong with an action that sends.
+/// Checks an action that sends.
 fn check_send(action: &Value, table: &Table, ticks: u32) -> Result<(), Fault> {
     check_common(action, &SEND_KEYS, ticks)?;
     if address_of(at(table, Key::To)?).is_none() {
@@ -113,7 +113,7 @@ fn check_send(action: &Value, table: &Table, ticks: u32) -> Result<(), Fault> {
     })
 }
 
-/// What is wrong with an action that looks up names.
+/// Checks an action that looks up names.
 fn check_lookup(action: &Value, table: &Table, ticks: u32) -> Result<(), Fault> {
     check_common(action, &LOOKUP_KEYS, ticks)?;
     integer_at(table, Key::Id, 0, 65535)?;
@@ -123,7 +123,7 @@ fn check_lookup(action: &Value, table: &Table, ticks: u32) -> Result<(), Fault> 
     Ok(())
 }
 
-/// What is wrong with an action whose `do` is neither of the two words.
+/// Checks an action whose `do` is neither of the two words.
 fn check_neither(action: &Value, ticks: u32) -> Result<(), Fault> {
     let table = table_of(action)?;
     has_only(table, &ACTION_KEYS)?;
@@ -136,7 +136,7 @@ fn check_neither(action: &Value, ticks: u32) -> Result<(), Fault> {
     })
 }
 
-/// What is wrong with an action.
+/// Checks an action.
 pub(crate) fn check_action(action: &Value, ticks: u32, nodes: &[Value]) -> Result<(), Fault> {
     let table = table_of(action)?;
     match word_in(table) {

@@ -1,16 +1,16 @@
-//! What is wrong with an entry, and how that is said.
+//! The faults of entries, and how each is printed.
 
 use crate::key::Key;
 use crate::must::Must;
 use at_base::{Addr, Range, Text32};
 use std::io;
 
-/// What is wrong with an entry, or with a table in it.
+/// A fault of an entry, or of a table in it.
 #[derive(Clone, Copy, Debug)]
 pub(crate) enum Fault {
-    /// It is no table.
+    /// It isn't a table.
     NoTable,
-    /// A key isn't named in the format; it is here if it has at most 32 bytes.
+    /// A key isn't in the format. The key is given if it has at most 32 bytes.
     Unknown {
         key: Option<Text32>,
     },
@@ -34,15 +34,15 @@ pub(crate) enum Fault {
         key: Key,
         ticks: u32,
     },
-    /// A value of the list at the key, by its number from 1, isn't what it has to be.
+    /// A value of the list at the key, with this number from 1, isn't what it has to be.
     WrongValue {
         key: Key,
         number: usize,
         must: Must,
     },
-    /// There is no cable or node of this number: its key, the number, and how many there are.
+    /// There is no cable or node with this number: its key, the number, and how many there are.
     Absent(Key, u32, usize),
-    /// The address can't be that of a station of the cable with this number and range.
+    /// The address can't be that of a station on the cable with this number and range.
     Elsewhere(Addr, u32, Range),
     /// The first tick is after the last one.
     Reversed {
@@ -53,19 +53,20 @@ pub(crate) enum Fault {
     Repeated {
         number: usize,
     },
-    /// Two ports of a router, by their numbers from 1, are on cables that have a network in common.
+    /// Two ports of a router, with these numbers from 1, are on cables that have a network in
+    /// common.
     Meeting {
         ports: (usize, usize),
         cables: (u32, u32),
         ranges: (Range, Range),
     },
-    /// The file has more entries of this kind than it may have.
+    /// The file has more entries of this kind than the limit.
     TooMany {
         what: Key,
     },
 }
 
-/// Says that a key isn't named in the format, and which it is if it isn't long.
+/// Prints that a key isn't in the format, with the key if it isn't long.
 fn show_unknown(rt: &impl Eprint, key: Option<Text32>) -> io::Result<()> {
     if let Some(key) = key
         && let Ok(text) = std::str::from_utf8(key.as_slice())
@@ -75,14 +76,14 @@ fn show_unknown(rt: &impl Eprint, key: Option<Text32>) -> io::Result<()> {
     eprintln!(rt; "a key of more than 32 bytes isn't one of its keys")
 }
 
-/// Says that there is no cable or node of this number.
+/// Prints that there is no cable or node with this number.
 fn show_absent(rt: &impl Eprint, what: Key, number: u32, count: usize) -> io::Result<()> {
     let what = what.name();
     let mark = if count == 1 { "" } else { "s" };
     eprintln!(rt; "{what} {number} isn't in the file, which has {count} {what}{mark}")
 }
 
-/// Says that the address can't be that of a station of the cable.
+/// Prints that the address can't be that of a station on the cable.
 fn show_elsewhere(rt: &impl Eprint, address: Addr, cable: u32, range: Range) -> io::Result<()> {
     eprintln!(rt;
         "{address} in try isn't an address on cable {cable}, which has networks {} to {} and nodes \
@@ -92,7 +93,7 @@ fn show_elsewhere(rt: &impl Eprint, address: Addr, cable: u32, range: Range) -> 
     )
 }
 
-/// Says that two ports of a router are on cables that have a network in common.
+/// Prints that two ports of a router are on cables that have a network in common.
 fn show_meeting(
     rt: &impl Eprint,
     ports: (usize, usize),
@@ -114,7 +115,7 @@ fn show_meeting(
     )
 }
 
-/// Says what is wrong, and ends the line.
+/// Prints the fault, and ends the line.
 pub(crate) fn show(rt: &impl Eprint, fault: Fault) -> io::Result<()> {
     match fault {
         Fault::NoTable => eprintln!(rt; "it has to be a table"),

@@ -1,5 +1,5 @@
-//! Which key of an internet file is wrong and why, for a person at a terminal. It writes to
-//! standard error alone, and promises no more than to return.
+//! Explains to a person at a terminal which key of an internet file is wrong, and why. It writes
+//! only to standard error, and promises only to return.
 #![tactic(auto)]
 
 mod cable;

@@ -1,6 +1,6 @@
-//! What the values of an internet file have to be.
+//! The values that the keys of an internet file require.
 
-/// What the value at a key, or a value of a list, has to be.
+/// The requirement on the value at a key, or on a value of a list.
 #[derive(Clone, Copy, Debug, PartialEq, Eq)]
 pub(crate) enum Must {
     Tables,

@@ -1,4 +1,4 @@
-//! What is wrong with a router or a node.
+//! Checks routers and nodes.
 
 use crate::cable::{check_zone, range_of};
 use crate::check::{
@@ -14,7 +14,7 @@ use text::address;
 use text::hex::nibble;
 use toml::{Table, Value};
 
-/// Where a fault of an entry is, and what it is.
+/// A fault of an entry, and its place.
 #[derive(Clone, Copy, Debug)]
 pub(crate) struct Placed {
     /// The table within the entry, if the fault is in one: its name, and its number from 1.
@@ -36,7 +36,7 @@ pub(crate) fn are_digits(text: &[u8]) -> bool {
     text.iter().all(|digit| nibble(*digit).is_some())
 }
 
-/// That there is a hardware address at the key.
+/// Checks that the value at the key is a hardware address.
 fn check_hardware(table: &Table, key: Key) -> Result<(), Fault> {
     let must = Must::Hardware;
     if are_digits(text_at(table, key, 12, 12, must)?) {
@@ -46,12 +46,12 @@ fn check_hardware(table: &Table, key: Key) -> Result<(), Fault> {
     }
 }
 
-/// The address that a value is.
+/// The address of a value.
 pub(crate) fn address_of(value: &Value) -> Option<Addr> {
     address(value.as_str()?.as_bytes())
 }
 
-/// The addresses to try, which may be on another cable.
+/// The addresses to try. They may be on another cable.
 fn tries_at<'a>(table: &'a Table, key: Key) -> Result<&'a [Value], Fault> {
     let tries = list_at(table, key, 0, 16, Must::Addresses)?;
     for (index, value) in tries.iter().enumerate() {
@@ -66,14 +66,14 @@ fn tries_at<'a>(table: &'a Table, key: Key) -> Result<&'a [Value], Fault> {
     Ok(tries)
 }
 
-/// What a port or a node says of where it is.
+/// The cable of a port or a node, and the addresses to try.
 #[derive(Clone, Copy)]
 struct Place<'a> {
     cable: u32,
     tries: &'a [Value],
 }
 
-/// The cable and the addresses to try; the hardware address is looked at too.
+/// The cable and the addresses to try. The hardware address is checked too.
 fn place_in(table: &Table) -> Result<Place<'_>, Fault> {
     let cable = number_at(table, Key::Cable)?;
     check_hardware(table, Key::Hardware)?;
@@ -81,7 +81,7 @@ fn place_in(table: &Table) -> Result<Place<'_>, Fault> {
     Ok(Place { cable, tries })
 }
 
-/// That there is the cable, and that its stations may have the addresses.
+/// Checks that the cable exists, and that its stations may have the addresses.
 fn check_place(place: Place<'_>, cables: &[Value]) -> Result<(), Fault> {
     let cable = place.cable;
     let Some(range) = range_of(entry_of(cables, Key::Cable, cable)?) else {
@@ -97,7 +97,7 @@ fn check_place(place: Place<'_>, cables: &[Value]) -> Result<(), Fault> {
     Ok(())
 }
 
-/// What is wrong with a port of a router.
+/// Checks a port of a router.
 fn check_port(port: &Value, cables: &[Value]) -> Result<(), Fault> {
     let table = table_with(port, &[Key::Cable, Key::Hardware, Key::Try])?;
     check_place(place_in(table)?, cables)
@@ -110,7 +110,7 @@ fn cable_of(port: &Value, cables: &[Value]) -> Option<(u32, Range)> {
     Some((number, range_of(cable)?))
 }
 
-/// That no later port is on a cable which has a network in common with that of the port.
+/// Checks that no later port is on a cable that has a network in common with the port's cable.
 fn check_apart(ports: &[Value], index: usize, port: &Value, cables: &[Value]) -> Result<(), Fault> {
     let Some((cable, range)) = cable_of(port, cables) else {
         return Ok(());
@@ -129,7 +129,7 @@ fn check_apart(ports: &[Value], index: usize, port: &Value, cables: &[Value]) ->
     Ok(())
 }
 
-/// What is wrong with a router.
+/// Checks a router.
 pub(crate) fn check_router(router: &Value, cables: &[Value]) -> Result<(), Placed> {
     let table = table_with(router, &[Key::Port])?;
     let ports = list_at(table, Key::Port, 1, 16, Must::Ports)?;
@@ -179,7 +179,7 @@ fn is_taken(names: &[Value], object: &[u8], kind: &[u8]) -> bool {
     false
 }
 
-/// What is wrong with the names of a node.
+/// Checks the names of a node.
 fn check_names(table: &Table) -> Result<(), Placed> {
     if table.get(Key::Name.name()).is_none() {
         return Ok(());
@@ -203,7 +203,7 @@ fn check_names(table: &Table) -> Result<(), Placed> {
     Ok(())
 }
 
-/// What is wrong with a node.
+/// Checks a node.
 pub(crate) fn check_node(node: &Value, cables: &[Value]) -> Result<(), Placed> {
     let table = table_of(node)?;
     has_only(

@@ -1,4 +1,4 @@
--- What holds of the first element of a list and of the others holds of each.
+-- A property of the first element of a list and of the others is a property of each.
 use Rattle.std.proofs.Common.{◌≡◌, ℕ, ◌+◌, ◌-◌, ◌≤◌, List, [], ◌∷◌, length, ap, ◌∙◌, sym, subst, arith, slice_index_or, take, drop}
 use Rattle.std.specs.List.{AllByRecursion as Each}
 use Rattle.std.proofs.lemmas.List.{take_all}

@@ -1,4 +1,4 @@
--- The list that holds the first network of a list's range is that list.
+-- The list of a zone table that holds the first network of a list's range is that list.
 use Rattle.std.proofs.Common.{◌≡◌, ℕ, zero, suc, ◌<◌, ◌≤◌, Bool, true, false, ◌&&◌, List, [], ◌∷◌, refl, sym, ap, ◌∙◌, subst, arith, nat_lt, nat_le}
 use Rattle.std.specs.Prelude.{Option, Some, None, option_map, option_to_list, slice_get, map}
 use Rattle.std.specs.List.{list_all}
@@ -9,16 +9,16 @@ use Rattle.zip_zones.proofs.Tables.{known_ends}
 use Rattle.freeze.specs.Freezing.{frozen_list}
 use Rattle.zip_zones.specs.Zones.{IsZoneMap, Known, are_above, complete_at, is_complete, is_known, known_of, names_at}
 
--- an empty list has no element
+-- An empty list has no element.
 none : (i : ℕ) {k : Known} → slice_get [] i ≡ Some k → ⊥
 none zero e = cc
 none (suc i) e = cc
 
--- what is there is one thing
+-- Equal options have equal values.
 some_is : {X : Type 0} {a b : X} → Some a ≡ Some b → a ≡ b
 some_is {X} {a} {b} e = ap (λ o. unwrap_or o a) e
 
--- a list in a table whose ranges are above a network begins above it
+-- A list in a table whose ranges are above a network starts above it.
 above : (low : ℕ) (table : List Known) (i : ℕ) (k : Known) → are_above low table ≡ true → list_all is_known table ≡ true
     → slice_get table i ≡ Some k → low < k.range.start
 above low [] i k a known e = elim (none i e) [ ]
@@ -33,7 +33,7 @@ above low (t ∷ table) (suc i) k a known e =
     let ends = (known_ends t q.0).1 in
     omega (arith, further, first, ends)
 
--- a network past the end is not between
+-- A network past the end isn't in the range.
 past : (start end net : ℕ) → end < net → is_between start end net ≡ false
 past start end net h = rw (lt-leb net end h) (last (nat_le start net))
   where
@@ -41,7 +41,7 @@ past start end net h = rw (lt-leb net end h) (last (nat_le start net))
     last true = refl
     last false = refl
 
--- a start that isn't past the end is between
+-- A start that isn't past the end is in the range.
 at_start : (start end : ℕ) → start ≤ end → is_between start end start ≡ true
 at_start start end h = rw (le-leb start start (omega arith), le-leb start end h) refl
 
@@ -57,7 +57,7 @@ own_list low (t ∷ table) (suc i) k a known e =
     rw (past t.range.start t.range.end k.range.start (above t.range.end table i k p.1 q.1 e))
     (own_list t.range.end table i k p.1 q.1 e)
 
--- what is known of the range at an index is the list there
+-- The table's entry for the range at an index is the list at that index.
 pub list_at : (table : List Known) (i : ℕ) (range : Span) → IsZoneMap table
     → option_map (λ k. k.range) (slice_get table i) ≡ Some range → (start end : ℕ) (complete : Bool) (names : List (List ℕ))
     → start ≡ range.start → end ≡ range.end → complete ≡ complete_at start table → names ≡ names_at start table

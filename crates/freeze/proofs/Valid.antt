@@ -1,4 +1,4 @@
--- What stations of a sound plan hold is an image.
+-- The contents of the stations of a sound plan are a valid image.
 use Rattle.std.proofs.Common.{◌≡◌, ℕ, suc, ◌+◌, ◌-◌, ◌≤◌, true, ◌&&◌, IsTrue, List, [], ◌∷◌, ◌++◌, length, map, nat_le, nat_lt}
 use Rattle.std.proofs.Common.{refl, ap, arith, lt-ltb, Ok}
 use Rattle.std.specs.List.{list_all, AllByRecursion as Each}
@@ -33,7 +33,7 @@ pub length-map : {X Y : Type 0} (f : X → Y) (xs : List X) → length (map f xs
 length-map f [] = refl
 length-map f (x ∷ xs) = ap suc (length-map f xs)
 
--- the cables of a router's ports are among so many
+-- The cables of a router's ports are among `count` cables.
 pub cables_on : (count : ℕ) (r : Router) → IsTrue (is_on count r) → IsTrue (list_all (λ c. nat_lt c count) (cables_by r))
 cables_on count r h = by r.port h
   where
@@ -47,7 +47,7 @@ cables_on count r h = by r.port h
 
 -- ---- Sound plans
 
--- a cable that stations may be on is one of the cables
+-- A cable that stations may be on is one of the cables.
 on_one : (cables : List Cable) (k : ℕ) (tries : List Addr) → IsTrue (is_seated cables k tries)
     → IsTrue (nat_lt (k - 1) (length cables))
 on_one cables k tries h =
@@ -85,7 +85,7 @@ nodes_on cables (n ∷ ns) h =
 
 -- ---- Stations
 
--- stations with the planned ports begin with the routers
+-- Stations with the planned ports start with the routers.
 pub have_ports : (rs : List Router) (more : List ℕ) (ms : List (Member Living LivingNode))
     → map ports_of ms ≡ map (λ r. length r.port) rs ++ more → HavePorts rs ms
 have_ports [] more ms e = tt
@@ -111,7 +111,7 @@ passes : {B : Type 0} (g : Grammar Wrong true B) (low : ℕ) (xs : List B) → E
 passes g low [] h = tt
 passes g low (x ∷ xs) h = (h.0, passes g 0 xs h.1)
 
--- parts of an image are one, where there are not too many
+-- Valid parts are a valid image if there are at most 200 of each.
 pub image_value : (i : Internet) → length i.cables ≤ 200 → length i.routers ≤ 200 → length i.nodes ≤ 200
     → Each (λ c. IsValue cable_spelling c) i.cables → AreRouters (length i.cables) i.routers → AreNodes (length i.cables) i.nodes
     → IsValue image_spelling i
@@ -134,6 +134,6 @@ image_value i few_c few_r few_n cables routers nodes =
       refl,
     )).0
 
--- a number that is another one is within its bounds
+-- A number that equals another is within its bounds.
 pub less : {a b c d : ℕ} → a ≡ b → b ≤ c → c ≤ d → a ≤ d
 less {a} {b} {c} {d} e f g = omega (arith, e, f, g)

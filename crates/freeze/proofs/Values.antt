@@ -1,4 +1,4 @@
--- The parts that say what routers and nodes hold are parts of an image.
+-- The parts for the contents of routers and nodes are valid parts of an image.
 use Rattle.std.proofs.Common.{◌≡◌, ℕ, suc, ◌+◌, ◌^◌, ◌<◌, ◌≤◌, Bool, true, ◌&&◌, List, [], ◌∷◌, length, map, Option, Some, None, Ok}
 use Rattle.std.proofs.Common.{refl, sym, ap, ◌∙◌, subst, arith, nat_lt, nat_le, leb-true, ltb-true, IsTrue}
 use Rattle.std.specs.List.{list_all, All, AllByRecursion as Each}
@@ -33,15 +33,15 @@ use Rattle.at_base.specs.Range.{is_range}
 
 -- ---- Values, checked
 
--- where the bytes of a value end that begin at an offset
+-- The end of the bytes of a value that begin at an offset.
 abbrev ends : {A : Type 0} → Grammar Wrong true A → A → ℕ → ℕ
 ends g y at = at + length (bytes_of g y)
 
--- a value passes its check
+-- A valid value passes its check.
 checked : {A : Type 0} (g : Grammar Wrong true A) (y : A) (at : ℕ) → IsValue g y → Checks g y at (Ok (ends g y at))
 checked g y at h = (h, refl)
 
--- items that pass are a list of so many
+-- Items that pass are a valid list with a count.
 pub counted_value : {B : Type 0} (limit : ℕ) (item : ℕ → Grammar Wrong true B) (next : B → ℕ) (xs : List B) → length xs ≤ limit → limit < 256
     → ListPasses (λ low. IsValue (item low)) next 0 xs → IsValue (counted limit item next) xs
 counted_value limit item next xs few small h =
@@ -79,7 +79,7 @@ ports_pass count low (c ∷ cs) (x ∷ xs) below fits =
       ports_pass count 0 cs xs parts.1 fits.1,
     )
 
--- as many ports as cables, where each has one
+-- There are as many ports as cables, if each port has a cable.
 ports_length : (cables : List ℕ) (choices : List Choice) → length cables ≡ length choices
     → length (frozen_ports cables choices) ≡ length choices
 ports_length [] [] e = refl
@@ -138,7 +138,7 @@ lists_pass low above (k ∷ ks) le rise each fits =
 
 -- ---- Routers
 
--- what a router holds is a router of an image, where its ports are on cables that there are
+-- A router's contents are a valid router of an image, if its ports are on cables that exist.
 pub router_value : (count : ℕ) (cables : List ℕ) (h : Holding) → length h.ports ≤ 16
     → IsTrue (list_all (λ r. nat_lt r.port (length h.ports)) h.routes) → IsRouteMap h.routes → IsZoneMap h.zones
     → Each FitsPort (frozen_ports cables h.ports) → Each FitsRow (map frozen_row h.routes) → Each FitsList (map frozen_list h.zones)
@@ -193,7 +193,7 @@ names_pass low above (n ∷ ns) le rise each small =
       names_pass (n.enumerator + 1) n.enumerator ns (omega arith) order.1 (named_tail n ns each) small.1,
     )
 
--- what a node holds is a node of an image, where its port is on a cable that there is
+-- A node's contents are a valid node of an image, if its port is on a cable that exists.
 pub node_value : (count cable : ℕ) (h : NodeHolding) → cable < count → FitsNode (frozen_node cable h) → IsName h.zone
     → IsValue own_router_spelling h.router → IsNames h.names → Each FitsName (map frozen_name h.names)
     → IsValue (node_spelling count) (frozen_node cable h)

@@ -1,4 +1,4 @@
--- The parts of an image that say what cables are, and what routers and nodes hold. This project's own.
+-- The parts of an image for cables, and for the contents of routers and nodes.
 use Rattle.std.specs.Prelude.{ℕ, List, [], ◌∷◌, map}
 use Rattle.std.specs.Option.{unwrap_or}
 use Rattle.aarp.specs.Choosing.{Choice, settled}
@@ -18,25 +18,25 @@ use Rattle.table_image.specs.declared.row.Row.{Row as ImageRow}
 use Rattle.table_image.specs.declared.zone_list.ZoneList.{ZoneList}
 use Rattle.zip_zones.specs.Zones.{Known, is_complete}
 
--- a cable of this range with these zones
+-- The image's cable with this range and these zones.
 abbrev pub frozen_cable : Span → List (List ℕ) → Cable
 frozen_cable range zones = record { start = range.start; end = range.end; zones = zones }
 
--- the address of a port, and 0.0 where it isn't settled
+-- The address of a port, and 0.0 if it isn't settled.
 abbrev pub address_of : Choice → Addr
 address_of c = unwrap_or (settled c) nobody
 
--- a port on a cable
+-- The image's port on this cable.
 abbrev pub frozen_port : ℕ → Choice → Port
 frozen_port cable c = record { cable = cable; address = address_of c; hardware = c.hw }
 
--- ports on these cables
+-- The image's ports on these cables.
 abbrev pub frozen_ports : List ℕ → List Choice → List Port
 frozen_ports [] ports = []
 frozen_ports (cable ∷ cables) [] = []
 frozen_ports (cable ∷ cables) (c ∷ ports) = frozen_port cable c ∷ frozen_ports cables ports
 
--- a row of a routing table
+-- The image's row for a row of a routing table.
 abbrev pub frozen_row : Row → ImageRow
 frozen_row r = record {
   start = r.range.start;
@@ -47,11 +47,11 @@ frozen_row r = record {
   state = r.state;
 }
 
--- a list of zones as it stands
+-- The image's zone list for a list of a zone table.
 abbrev pub frozen_list : Known → ZoneList
 frozen_list k = record { start = k.range.start; end = k.range.end; complete = is_complete k; zones = k.names }
 
--- a router whose ports are on these cables
+-- The image's router whose ports are on these cables.
 abbrev pub frozen_router : List ℕ → Holding → Router
 frozen_router cables h = record {
   ports = frozen_ports cables h.ports;
@@ -59,11 +59,11 @@ frozen_router cables h = record {
   lists = map frozen_list h.zones;
 }
 
--- a name that a node has registered
+-- The image's name for a name that a node has registered.
 abbrev pub frozen_name : Named → NodeName
 frozen_name n = record { socket = n.socket; enumerator = n.enumerator; object = n.object; kind = n.kind }
 
--- a node on a cable
+-- The image's node on this cable.
 abbrev pub frozen_node : ℕ → NodeHolding → Node
 frozen_node cable h = record {
   cable = cable;

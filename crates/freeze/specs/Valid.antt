@@ -1,4 +1,4 @@
--- Which stations give parts of an image. This project's own.
+-- Stations whose image is valid.
 use Rattle.std.specs.Prelude.{◌≡◌, ℕ, ◌-◌, Bool, List, [], ◌∷◌, length, nat_lt}
 use Rattle.std.specs.List.{AllByRecursion as Each, list_all}
 use Rattle.at_base.specs.Spelling.{IsValue}
@@ -12,24 +12,24 @@ use Rattle.table_image.specs.Spelling.{node_spelling, router_spelling}
 use Rattle.table_image.specs.declared.node.Node.{Node as ImageNode}
 use Rattle.table_image.specs.declared.router.Router.{Router as ImageRouter}
 
--- each port of the router is on one of so many cables
+-- Each port of the router is on one of `count` cables.
 abbrev pub is_on : ℕ → Router → Bool
 is_on count r = list_all (λ p. nat_lt (p.cable - 1) count) r.port
 
--- the node is on one of so many cables
+-- The node is on one of `count` cables.
 abbrev pub is_node_on : ℕ → Node → Bool
 is_node_on count n = nat_lt (n.cable - 1) count
 
--- the first of the stations have as many ports as these routers, each
+-- Each of the first stations has as many ports as the planned router at its position.
 abbrev pub HavePorts : List Router → List (Member Living LivingNode) → Type 0
 HavePorts (r ∷ rs) (m ∷ ms) = (ports_of m ≡ length r.port) × HavePorts rs ms
 HavePorts (r ∷ rs) [] = Unit {0}
 HavePorts [] ms = Unit {0}
 
--- each is a router of an image of so many cables
+-- Each is a valid router of an image with `count` cables.
 abbrev pub AreRouters : ℕ → List ImageRouter → Type 0
 AreRouters count rs = Each (λ r. IsValue (router_spelling count) r) rs
 
--- each is a node of an image of so many cables
+-- Each is a valid node of an image with `count` cables.
 abbrev pub AreNodes : ℕ → List ImageNode → Type 0
 AreNodes count ns = Each (λ n. IsValue (node_spelling count) n) ns

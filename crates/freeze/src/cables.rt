@@ -1,4 +1,4 @@
-//! Cables, as an image says them.
+//! The cables of an image.
 
 ghost use Rattle.std.specs.Prelude.{◌≡◌, ◌≤◌, length, IfOk, IsOkUnless};
 ghost use Rattle.at_base.specs.Spelling.{IsValue};
@@ -10,13 +10,11 @@ use at_base::{Error, Name, Range};
 use std::alloc::Global;
 use table_image::{Cable, Listed};
 
-/// What an image says of a cable of this range with these zones, the first of them its default
-/// zone. Error: `Memory`.
-///
-/// This project's own.
+/// The image's cable with this range and these zones; the first zone is the default zone. Error:
+/// `Memory`.
 pub fn freeze_cable(alloc: Global, range: Range, zones: &[Name]) -> Result<Cable, Error>
     ensures ok { IfOk result (λ frozen. frozen ≡ frozen_cable range zones.now) }
-    // Where there are no more zones than an image may have, it is a cable of an image.
+    // With at most 64 zones it is a valid cable of an image.
     ensures valid { length zones.now ≤ 64 → IfOk result (λ frozen. IsValue cable_spelling frozen) }
     ensures refused { IsOkUnless result Error.Memory }
 {

@@ -1,5 +1,6 @@
-//! That the numbers of an image's parts fit their fields. For the prover alone: these functions do
-//! nothing. A field that is read is known to fit its type.
+//! Proofs that the numbers of an image's parts fit their fields. Only the prover needs these
+//! functions: they do nothing. Reading a field shows the prover that the value fits the field's
+//! type.
 
 ghost use Rattle.std.specs.List.{AllByRecursion};
 ghost use Rattle.at_base.specs.Spelling.{IsValue};
@@ -12,7 +13,7 @@ ghost use Rattle.table_image.specs.Spelling.{own_router_spelling};
 use at_base::{Addr, Name};
 use table_image::{Cable, Node, NodeName, Port, Router, Row, ZoneList};
 
-/// The port fits.
+/// The port's numbers fit.
 fn fit_port(port: &Port)
     ensures { FitsPort port.now }
 {
@@ -22,7 +23,7 @@ fn fit_port(port: &Port)
     let _six = port.hardware.as_slice();
 }
 
-/// Each of the ports fits.
+/// The numbers of each port fit.
 fn fit_ports(ports: &[Port])
     ensures { AllByRecursion FitsPort ports.now }
 {
@@ -32,7 +33,7 @@ fn fit_ports(ports: &[Port])
     }
 }
 
-/// The row fits.
+/// The row's numbers fit.
 fn fit_row(row: &Row)
     ensures { FitsRow row.now }
 {
@@ -44,7 +45,7 @@ fn fit_row(row: &Row)
     let _node = row.next.node;
 }
 
-/// Each of the rows fits.
+/// The numbers of each row fit.
 fn fit_rows(rows: &[Row])
     ensures { AllByRecursion FitsRow rows.now }
 {
@@ -54,7 +55,7 @@ fn fit_rows(rows: &[Row])
     }
 }
 
-/// Each of the zones is a name.
+/// Each of the zones is a valid name.
 fn fit_zones(zones: &[Name])
     ensures { AllByRecursion IsName zones.now }
 {
@@ -64,7 +65,7 @@ fn fit_zones(zones: &[Name])
     }
 }
 
-/// The cable and its zones fit.
+/// The cable's numbers and zones fit.
 pub fn fit_cable(cable: &Cable)
     ensures { FitsCable cable.now }
 {
@@ -73,7 +74,7 @@ pub fn fit_cable(cable: &Cable)
     fit_zones(cable.zones.as_slice());
 }
 
-/// The zone list fits.
+/// The zone list's numbers and zones fit.
 fn fit_list(list: &ZoneList)
     ensures { FitsList list.now }
 {
@@ -82,7 +83,7 @@ fn fit_list(list: &ZoneList)
     fit_zones(list.zones.as_slice());
 }
 
-/// Each of the zone lists fits.
+/// The numbers and zones of each zone list fit.
 fn fit_lists(lists: &[ZoneList])
     ensures { AllByRecursion FitsList lists.now }
 {
@@ -92,7 +93,7 @@ fn fit_lists(lists: &[ZoneList])
     }
 }
 
-/// The name fits.
+/// The name's numbers fit.
 fn fit_name(name: &NodeName)
     ensures { FitsName name.now }
 {
@@ -100,7 +101,7 @@ fn fit_name(name: &NodeName)
     let _enumerator = name.enumerator;
 }
 
-/// Each of the names fits.
+/// The numbers of each name fit.
 fn fit_names(names: &[NodeName])
     ensures { AllByRecursion FitsName names.now }
 {
@@ -110,7 +111,7 @@ fn fit_names(names: &[NodeName])
     }
 }
 
-/// The router, if there is one, fits.
+/// The numbers of the router's address, if there is one, fit.
 fn fit_own_router(router: Option<Addr>)
     ensures { IsValue own_router_spelling router }
 {
@@ -123,7 +124,7 @@ fn fit_own_router(router: Option<Addr>)
     }
 }
 
-/// The node and its names fit.
+/// The numbers of the node and of its names fit.
 pub fn fit_node(node: &Node)
     ensures node { FitsNode node.now }
     ensures router { IsValue own_router_spelling node.now.router }
@@ -137,7 +138,7 @@ pub fn fit_node(node: &Node)
     fit_names(node.names.as_slice());
 }
 
-/// The parts of the router fit.
+/// The numbers of the router's ports, rows and zone lists fit.
 pub fn fit_router(router: &Router)
     ensures ports { AllByRecursion FitsPort router.now.ports }
     ensures rows { AllByRecursion FitsRow router.now.rows }

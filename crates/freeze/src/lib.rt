@@ -1,4 +1,5 @@
-//! What stations hold, as an image: its cables, the tables of its routers, and its nodes.
+//! Makes an image from the contents of stations: its cables, the tables of its routers, and its
+//! nodes.
 #![tactic(auto)]
 
 mod cables;

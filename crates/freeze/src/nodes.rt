@@ -1,4 +1,4 @@
-//! Nodes, as an image says them.
+//! The nodes of an image.
 
 ghost use Rattle.std.specs.Prelude.{◌≡◌, ◌<◌, ℕ, map, IfOk, IsOkUnless};
 ghost use Rattle.at_base.specs.Spelling.{IsValue};
@@ -27,7 +27,7 @@ fn names_of(alloc: Global, names: &Names) -> Result<Vec<NodeName>, Error>
     Ok(frozen.collect(alloc)?)
 }
 
-/// What an image says of a node on a cable, part by part.
+/// The image's entry for a node on a cable.
 fn node_of(alloc: Global, node: &EndNode, cable: u8) -> Result<Node, Error>
     ensures ok { IfOk result (λ frozen. frozen ≡ frozen_node cable node.now) }
     ensures refused { IsOkUnless result Error.Memory }
@@ -43,19 +43,17 @@ fn node_of(alloc: Global, node: &EndNode, cable: u8) -> Result<Node, Error>
     })
 }
 
-/// What an image says of a node on a cable, by its index from 0: its address, 0.0 where it isn't
-/// settled, its zone, its router, if it knows one, and its names. Error: `Memory`.
-///
-/// This project's own.
+/// The image's entry for a node on the cable with this index from 0: its address (0.0 if it isn't
+/// settled), its zone, its router if it knows one, and its names. Error: `Memory`.
 pub fn freeze_node(alloc: Global, node: &EndNode, cable: u8) -> Result<Node, Error>
     ensures ok { IfOk result (λ frozen. frozen ≡ frozen_node cable node.now) }
-    // Where there are so many cables that its own is one of them, it is a node of an image.
+    // If the cable is one of `count`, it is a valid node of an image with `count` cables.
     ensures valid { (count : ℕ) → cable < count
         → IfOk result (λ frozen. IsValue (node_spelling count) frozen) }
     ensures refused { IsOkUnless result Error.Memory }
 {
     let frozen = node_of(alloc, node, cable)?;
-    // For the prover alone: the node's parts are as a node has them, and their numbers fit.
+    // Only the prover needs these reads: the node's parts are valid, and their numbers fit.
     let _names = node.names().entries();
     let _zone = node.zone().as_slice();
     fit_node(&frozen);

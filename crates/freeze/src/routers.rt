@@ -1,4 +1,4 @@
-//! Routers, as an image says them.
+//! The routers of an image.
 
 ghost use Rattle.std.specs.Prelude.{◌≡◌, ◌++◌, ℕ, length, map, nat_lt, option_to_list, slice_get};
 ghost use Rattle.std.specs.Prelude.{IfOk, IsOkUnless, IsTrue, OnOk};
@@ -17,7 +17,7 @@ use std::alloc::Global;
 use table_image::{Listed, Port, Row, ZoneList};
 use zip_zones::ZoneTable;
 
-/// The address of a port, and 0.0 where it isn't settled.
+/// The address of a port, and 0.0 if it isn't settled.
 pub(crate) fn address(port: &Chooser) -> Addr
     ensures { result ≡ address_of port.now }
 {
@@ -86,7 +86,7 @@ fn put_list(lists: &mut Vec<ZoneList>, zones: &ZoneTable, index: usize) -> Resul
         ++ map frozen_list (option_to_list (slice_get zones.now index))) }
     ensures refused { IsOkUnless result Error.Memory }
 {
-    // For the prover alone: the lists are those of a map.
+    // Only the prover needs this read: the table is a valid zone table.
     let _len = zones.len();
     if let Some(range) = zones.range_at(index) {
         let start = range.start();
@@ -113,7 +113,7 @@ fn lists_of(alloc: Global, zones: &ZoneTable) -> Result<Vec<ZoneList>, Error>
     Ok(lists)
 }
 
-/// What an image says of a router, part by part.
+/// The image's entry for a router.
 fn router_of<T: RouteTable>(
     alloc: Global,
     router: &Router<T>,
@@ -133,25 +133,23 @@ fn router_of<T: RouteTable>(
     })
 }
 
-/// What an image says of a router whose ports are on these cables, by their indexes from 0: its
-/// ports with their addresses, 0.0 where one isn't settled, its rows and its lists of zones as they
-/// stand. Error: `Memory`.
-///
-/// This project's own.
+/// The image's entry for a router whose ports are on the cables with these indexes from 0: its
+/// ports with their addresses (0.0 for one that isn't settled), its rows and its zone lists,
+/// unchanged. Error: `Memory`.
 pub fn freeze_router<T: RouteTable>(
     alloc: Global,
     router: &Router<T>,
     cables: &[u8],
 ) -> Result<table_image::Router, Error>
     ensures ok { IfOk result (λ frozen. frozen ≡ frozen_router cables.now router.now) }
-    // Where each port is on a cable, and there are so many, it is a router of an image.
+    // If each port has one of `count` cables, it is a valid router of an image with `count` cables.
     ensures valid { (count : ℕ) → IsTrue (list_all (λ c. nat_lt c count) cables.now)
         → length cables.now ≡ length router.now.ports
         → IfOk result (λ frozen. IsValue (router_spelling count) frozen) }
     ensures refused { IsOkUnless result Error.Memory }
 {
     let frozen = router_of(alloc, router, cables)?;
-    // For the prover alone: the tables are maps, and their numbers fit.
+    // Only the prover needs these reads: the tables are valid, and their numbers fit.
     let _ports = router.ports_now();
     let _rows = router.routes().len();
     let _lists = router.zones().len();

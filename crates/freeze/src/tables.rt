@@ -1,4 +1,4 @@
-//! The image of what stations hold.
+//! The image of the contents of a plan's stations.
 
 ghost use Rattle.std.specs.Prelude.{◌≡◌, ◌∷◌, ◌++◌, ◌-◌, ℕ, [], drop, length, map};
 ghost use Rattle.std.specs.Prelude.{IfOk, IsOkUnless, IsTrue, OnOk};
@@ -25,7 +25,7 @@ use station::Member;
 use std::alloc::Global;
 use table_image::Image;
 
-/// Appends cables, as they were planned.
+/// Appends cables, as in the plan.
 fn put_cables(frozen: &mut Vec<table_image::Cable>, cables: &[Cable]) -> Result<(), Error>
     ensures put { OnOk result
         (frozen.new.items ≡ frozen.old.items ++ map frozen_of cables.now) }
@@ -83,7 +83,7 @@ fn indexes_of(alloc: Global, router: &Router) -> Result<Vec<u8>, Error>
     Ok(indexes)
 }
 
-/// Appends the router of a station, if it is one, on the cables that were planned.
+/// Appends the router of a station, if it is a router, on the cables of the plan.
 fn put_router<T: RouteTable>(
     frozen: &mut Vec<table_image::Router>,
     planned: &Router,
@@ -109,7 +109,7 @@ fn put_router<T: RouteTable>(
     }
 }
 
-/// Appends the routers among stations, on the cables that were planned.
+/// Appends the routers among stations. The n-th planned router has the cables of the n-th station.
 fn put_routers<T: RouteTable>(
     frozen: &mut Vec<table_image::Router>,
     planned: &[Router],
@@ -153,7 +153,7 @@ fn routers_of<T: RouteTable>(
     Ok(frozen)
 }
 
-/// Appends the node of a station, if it is one, on the cable that was planned.
+/// Appends the node of a station, if it is a node, on the cable of the plan.
 fn put_node<T: RouteTable>(
     frozen: &mut Vec<table_image::Node>,
     planned: &Node,
@@ -177,7 +177,7 @@ fn put_node<T: RouteTable>(
     }
 }
 
-/// Appends the nodes among stations, on the cables that were planned.
+/// Appends the nodes among stations. The n-th planned node has the cable of the n-th station.
 fn put_nodes<T: RouteTable>(
     frozen: &mut Vec<table_image::Node>,
     planned: &[Node],
@@ -219,14 +219,14 @@ fn nodes_of<T: RouteTable>(
     Ok(frozen)
 }
 
-/// Whether the plan is sound, which each is. Does nothing.
+/// A fact for the prover: every plan is sound. Does nothing.
 fn recall_sound(plan: &Plan)
     ensures { IsSound plan.now }
 {
     let _cables = plan.cables();
 }
 
-/// The routers of a plan, by what its stations hold. Error: `Memory`.
+/// The routers of a plan, with the contents of its stations. Error: `Memory`.
 fn routers_by<T: RouteTable>(
     alloc: Global,
     plan: &Plan,
@@ -253,7 +253,7 @@ fn node_stations<'a, T: RouteTable>(
     &stations[plan.routers().len()..]
 }
 
-/// The nodes of a plan, by what its stations hold. Error: `Memory`.
+/// The nodes of a plan, with the contents of its stations. Error: `Memory`.
 fn nodes_by<T: RouteTable>(
     alloc: Global,
     plan: &Plan,
@@ -279,7 +279,7 @@ fn cables_by(alloc: Global, plan: &Plan) -> Result<Vec<table_image::Cable>, Erro
     cables_of(alloc, plan.cables())
 }
 
-/// The image of what the stations of a plan hold. An address that isn't settled is 0.0. Error:
+/// The image of the contents of a plan's stations. An address that isn't settled is 0.0. Error:
 /// `Memory`.
 pub fn image_of<T: RouteTable>(
     alloc: Global,

@@ -1,4 +1,4 @@
--- What a node asks for names is neither a forward request nor a lookup.
+-- A node's request for names is neither a forward request nor a lookup.
 use Rattle.std.proofs.Common.{◌≡◌, ℕ, Bool, true, false, ◌||◌, ◌&&◌, ◌==◌, ◌/◌, ◌%◌, cond, if◌then◌else◌, nat_lt}
 use Rattle.std.proofs.Common.{Err, List, None, Ok, Option, Result, Some, [], ap, arith, length, refl, subst, sym, ◌∷◌}
 use Rattle.std.proofs.lemmas.Bool.{le-ltb}
@@ -23,14 +23,14 @@ use Rattle.nbp.specs.declared.tuple.Tuple.{Tuple}
 use Rattle.table_image.specs.Internet.{Internet}
 use Rattle.table_image.specs.declared.node.Node.{Node}
 
--- the request in bytes that spell a datagram is the one that the datagram carries
+-- The request in bytes that spell a datagram is the one that the datagram carries.
 pub request_of : (bytes : List ℕ) (d : Datagram) → Spells datagram bytes d → request bytes ≡ packet_in (Some d)
 unfolding request
 request_of bytes d s =
     ap (λ (x : Result (Datagram × List ℕ) Error). packet_in (value_of x))
     (begins_read packets datagram datagram_lawful bytes d (begins_whole bytes d s))
 
--- the packet is neither a forward request nor a lookup
+-- The packet is neither a forward request nor a lookup.
 abbrev pub IsQuiet : Option NbpPacket → Type 0
 IsQuiet o = (is_forward o || is_lookup o) ≡ false
 
@@ -46,7 +46,7 @@ unless_cut : (b : Bool) (r : Result (NbpPacket × List ℕ) Error) → Quiet r �
 unless_cut true r h = refl
 unless_cut false r h = h
 
--- a packet after its first byte
+-- A packet after its first byte.
 abbrev after_head : ℕ → Grammar Error true NbpPacket
 after_head h =
     field (number one any) (λ p. p.id) (λ id.
@@ -64,7 +64,7 @@ after_quiet bytes =
 head_read : (rest : List ℕ) → field_at packets (number one wrong_head) (17 ∷ rest) ≡ Ok (17, rest)
 head_read rest = let e : nat_lt (length (17 ∷ rest)) 1 ≡ false = le-ltb (length (17 ∷ rest)) 1 (omega arith) in rw e refl
 
--- what begins with a broadcast request's first byte is read as one, or not at all
+-- Bytes that begin with a broadcast request's first byte are read as a broadcast request, or can't be read.
 read_quiet : (rest : List ℕ) → Quiet (read packets packet (17 ∷ rest))
 unfolding packet
 read_quiet rest =
@@ -73,12 +73,12 @@ read_quiet rest =
     (subst (λ (r : Result (ℕ × List ℕ) Error). Quiet (r >>= λ x. read packets (after_head x.0) x.1)) (sym (head_read rest))
     (after_quiet rest))
 
--- the first byte of a broadcast request
+-- The first byte of a broadcast request.
 front : (id : ℕ) (t : Tuple) → request_bytes id t ≡ 17 ∷ key (packet_of BroadcastRequest id t)
 unfolding packet
 front id t = refl
 
--- so are the bytes of a broadcast request
+-- The bytes of a broadcast request are neither a forward request nor a lookup.
 asked_quiet : (id : ℕ) (t : Tuple) → IsQuiet (value_of (read packets packet (request_bytes id t)))
 asked_quiet id t =
     subst (λ (b : List ℕ). Quiet (read packets packet b)) (sym (front id t)) (read_quiet (key (packet_of BroadcastRequest id t)))
@@ -98,7 +98,7 @@ data_quiet i a id t = by (node_at i.nodes a)
     by None = nothing_quiet
     by (Some k) = at _
 
--- nor is what carries them
+-- A datagram with the bytes of a broadcast request is neither a forward request nor a lookup.
 pub ask_quiet : (i : Internet) (a : Addr) (id : ℕ) (t : Tuple) (h : Header)
     → IsQuiet (packet_in (Some (datagram_of h (ask_data i a id t))))
 ask_quiet i a id t h =

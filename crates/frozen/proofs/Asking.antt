@@ -1,4 +1,4 @@
--- Which entries say that a node sent a forward request or a lookup: only its own sending adds one.
+-- The entries in which a node sends a forward request or a lookup: only a Send event adds one.
 use Rattle.std.proofs.Common.{Bool, List, None, Option, Some, [], cond, false, is_some, not, true, ℕ, ◌&&◌, ◌++◌, ◌+◌, ◌==◌, ◌||◌, ◌∷◌, ◌≡◌}
 use Rattle.std.proofs.Common.{refl, sym, ap, ◌∙◌, subst, arith}
 use Rattle.std.specs.List.{AllByRecursion as Each}
@@ -37,7 +37,7 @@ module _ (i : Internet) where
   abbrev unasked : List Entry → ℕ
   unasked es = count (is_unasked i) es
 
-  -- ---- Legs and fates say of no sending
+  -- ---- Legs and fates have no such entries
 
   either_none : (b : Bool) (xs ys : List Entry) → unasked xs ≡ 0 → unasked ys ≡ 0 → unasked (cond b xs ys) ≡ 0
   either_none true xs ys h g = h
@@ -78,7 +78,7 @@ module _ (i : Internet) where
 
   -- ---- Answers
 
-  -- the leg is no sending of a forward request or a lookup by a node
+  -- The leg isn't one of a node that sends a forward request or a lookup.
   abbrev IsAsked : Leg → Type 0
   IsAsked l = is_unasked i (Sent l.station l.body) ≡ false
 
@@ -92,7 +92,7 @@ module _ (i : Internet) where
       let none = ap (λ b. count (λ (x : Bool). x) (b ∷ [])) first in
       omega (arith, now, rest, parts, none)
 
-  -- what a router sends isn't a node's
+  -- A datagram that a router sends isn't sent by a node.
   by_router : (s : ℕ) → is_router i s ≡ true → (ls : List Leg) → Each (λ (l : Leg). l.station ≡ s) ls → Each IsAsked ls
   by_router s e [] h = tt
   by_router s e (l ∷ ls) h = (
@@ -105,14 +105,14 @@ module _ (i : Internet) where
   neither true b e f = e
   neither false b e f = f
 
-  -- what is no request is none of these
+  -- A leg that is no request isn't a forward request or a lookup.
   no_request : (ls : List Leg) → Each (λ (l : Leg). is_other l.body ≡ true) ls → Each IsAsked ls
   no_request [] h = tt
   no_request (l ∷ ls) h =
       let e = other_alone l.body h.0 in
       (and_right (not (is_router i l.station)) _ (neither _ _ e.1 e.2), no_request ls h.1)
 
-  -- nothing ends at a node
+  -- Nothing ends at a node.
   no_end : (p : Pair) → is_router i p.seat.station ≡ false → ends_at i p ≡ false
   no_end p = none (is_unicast p.frame.to) (is_router i p.seat.station) _
     where
@@ -135,7 +135,7 @@ module _ (i : Internet) where
       of false e (LookedUp c l here listed is looks) = absurd (apart (seeks_here i p) here (unended i p (no_end p e)).1)
       of false e (Others asks seeks other) = no_request ls other
 
-  -- a taking adds none
+  -- A Take event adds no such entry.
   block_none : (t b : List Entry) → Block i t b → (stamp s : ℕ) (others : List Entry) → b ≡ Took stamp s ∷ others → unasked b ≡ 0
   block_none t b (Sends l made own) stamp s others e = cc
   block_none t b (Takes p ls there made by answers) stamp s others e =
@@ -146,7 +146,7 @@ module _ (i : Internet) where
       let parts = count-append (is_unasked i) fs (said i (stamps t + stamps fs) ls) in
       omega (arith, gone, rest, parts)
 
--- a run in which a taking happened
+-- A run after a Take event.
 pub took_asks : (old new : Running) (stamp s : ℕ) → IsFrozen old → TakenBy old stamp s new → HaveOnlyAsked old → HaveOnlyAsked new
 took_asks old new stamp s frozen taken only =
     let i = old.internet in
@@ -159,7 +159,7 @@ took_asks old new stamp s frozen taken only =
     subst (λ (j : Internet). count (is_unasked j) (transcript new.cabling) ≡ 0) (sym taken.internet)
     (ap (count (is_unasked i)) so.added ∙ after)
 
--- a run in which a node sent what is neither a forward request nor a lookup
+-- A run after a node sent a datagram that is neither a forward request nor a lookup.
 pub sent_asks : (old new : Running) (o : Order) (payload : List ℕ) → SentBy old o payload new → HaveOnlyAsked old
     → is_routers_request (body (bytes_for o payload)) ≡ false → HaveOnlyAsked new
 sent_asks old new o payload by only asks =

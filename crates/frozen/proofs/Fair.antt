@@ -1,4 +1,4 @@
--- What nodes are told to send, they may.
+-- Nodes may send the datagrams that events make them send.
 use Rattle.std.proofs.Common.{◌≡◌, ◌≢◌, ℕ, ◌+◌, true, false, ◌&&◌, ◌==◌, cond, inl, inr, List, Some, None, Option, length, refl, sym, ap, ◌∙◌, subst, arith}
 use Rattle.std.proofs.Common.{IsTrue, Result, Ok, Err, is_some, nat_lt, slice_get, eqb-true, eq-eqb}
 use Rattle.std.proofs.lemmas.Bool.{and_from, and_parts, eqb-false, le-ltb}
@@ -33,7 +33,7 @@ use Rattle.station.specs.declared.output.Next.TheVariants as next
 use Rattle.table_image.specs.Internet.{Internet}
 use Rattle.table_image.specs.declared.node.Node.{Node}
 
--- a datagram of a header and data, once it is written
+-- A datagram of a header and data, after it was written.
 pub sent_whole : (h : Header) (payload bytes : List ℕ) → Spells datagram bytes (datagram_of h payload) → IsTrue (are_bytes bytes)
     → IsSent h payload
 sent_whole h payload bytes s each =
@@ -48,7 +48,7 @@ sent_whole h payload bytes s each =
       kind = v.kind;
     }) (record { value = datagram_of h payload; spelled = (s.0, refl); each = subst (λ b. IsTrue (are_bytes b)) s.1 each })
 
--- what an equation of results says
+-- If two Ok results are equal, so are their values.
 ok_is : {A : Type 0} (a b : A) → ◌≡◌ {A = Result A Error} (Ok a) (Ok b) → a ≡ b
 ok_is a b e = ap (λ r. of a r) e
   where
@@ -59,13 +59,13 @@ ok_is a b e = ap (λ r. of a r) e
 err_ok : {A : Type 0} (e : Error) (a : A) → ◌≡◌ {A = Result A Error} (Err e) (Ok a) → ⊥
 err_ok e a h = cc
 
--- the node's own router is the one that it has
+-- The node's own router is the one that it has.
 own_is : (o : Option Addr) (a : Addr) → own_router o ≡ Ok a → o ≡ Some a
 own_is None a h = absurd (err_ok NoRouter a h)
 own_is (Some b) a h = ap Some (ok_is b a h)
 
 module _ (i : Internet) (ok : Passes i) where
-  -- a router's address on a cable has a network
+  -- A router's address on a cable has a network other than 0.
   owner_net : (c : ℕ) (a : Addr) (r : ℕ) → owner i c a ≡ Some r → a.net ≢ 0
   owner_net c a r own none =
       let w = owner_is i c a r own in
@@ -80,7 +80,7 @@ module _ (i : Internet) (ok : Passes i) where
       omega (arith, low, in_range, same, none)
 
   module _ (k : ℕ) (node : Node) (known : slice_get i.nodes k ≡ Some node) where
-    -- the router that a node sends through is one of its cable
+    -- The router that a node sends through is on its cable.
     routed : (via : Option Addr) (a : Addr) → router_for i node via ≡ Ok a → (r : ℕ) × (owner i node.cable a ≡ Some r)
     routed None a h = (nodes_served i k node ok known).router a (own_is node.router a h)
     routed (Some via) a h =
@@ -105,7 +105,7 @@ module _ (i : Internet) (ok : Passes i) where
     by_node : is_router i station ≡ false
     by_node = le-ltb station (length i.routers) (omega arith)
 
-    -- a node may send by a router that it sends through
+    -- A node may send to a router that it sends through.
     fair_by : (header : Header) (a : Addr) (r : ℕ) → owner i node.cable a ≡ Some r → header.target.net ≢ 0
         → IsFair i (record { station = station; cable = node.cable; next = next.Station a; header = header })
     fair_by header a r own some = record {
@@ -115,7 +115,7 @@ module _ (i : Internet) (ok : Passes i) where
       handed = inr (a, r, refl, own);
     }
 
-    -- a node may send to all on its cable
+    -- A node may send to all stations of its cable.
     fair_here : (header : Header) → header.target.net ≡ 0 → header.target.node ≡ 255
         → IsFair i (record { station = station; cable = node.cable; next = next.All; header = header })
     fair_here header none all = record {
@@ -125,7 +125,7 @@ module _ (i : Internet) (ok : Passes i) where
       handed = inl none;
     }
 
-    -- the order to a station next
+    -- The order for a next receiver.
     order_fair : (header : Header) (len : ℕ) (o : Order) (to : Next)
         → IsFair i (record { station = station; cable = node.cable; next = to; header = header })
         → order_for station node header len (Ok to) ≡ Ok o → IsFair i o
@@ -136,7 +136,7 @@ module _ (i : Internet) (ok : Passes i) where
           | false ↦ λ h. subst (IsFair i) (ok_is _ o h) fair
         ]) h
 
-    -- the order by a router, if there is one
+    -- The order to a router, if there is one.
     by_router : (header : Header) (len : ℕ) (o : Order) (via : Option Addr) → header.target.net ≢ 0
         → (r : Result Addr Error) → router_for i node via ≡ r → order_for station node header len (to_station r) ≡ Ok o → IsFair i o
     by_router header len o via some (Err e) is h = absurd (err_ok e o h)
@@ -144,7 +144,7 @@ module _ (i : Internet) (ok : Passes i) where
         let w = routed via a is in
         order_fair header len o (next.Station a) (fair_by header a w.0 w.1 some) h
 
-    -- what a node is told to send, it may
+    -- A node may send the datagram of a Send event.
     sends_fair : (header : Header) (len : ℕ) (o : Order) (via : Option Addr)
         → order_for station node header len (next_for i node via header.target) ≡ Ok o → IsFair i o
     sends_fair header len o via h =
@@ -160,7 +160,7 @@ module _ (i : Internet) (ok : Passes i) where
           | false ↦ λ some h. by_router header len o via (λ z. eqb-false _ _ some z) (router_for i node via) refl h
         ]) refl h
 
-    -- what a node is told to ask, it may
+    -- A node may send the datagram of a Request event.
     asks_fair : (o : Order) (via : Option Addr) (r : Result Addr Error) → router_for i node via ≡ r → asking_for station node r ≡ Ok o
         → IsFair i o
     asks_fair o via (Err e) is h = absurd (err_ok e o h)
@@ -168,7 +168,7 @@ module _ (i : Internet) (ok : Passes i) where
         let w = routed via a is in
         subst (IsFair i) (ok_is _ o h) (fair_by _ a w.0 w.1 (owner_net node.cable a w.0 w.1))
 
-  -- an order to send may be carried out
+  -- An order to send may be carried out.
   pub send_fair : (a : Addr) (via : Option Addr) (header : Header) (len : ℕ) (o : Order) → send_order i a via header len ≡ Ok o → IsFair i o
   send_fair a via header len o h = by (node_at i.nodes a) h
     where
@@ -180,7 +180,7 @@ module _ (i : Internet) (ok : Passes i) where
       by None h = absurd (err_ok (NoSuch what.Node) o h)
       by (Some k) h = at k (slice_get i.nodes k) refl h
 
-  -- an order to ask may be carried out
+  -- An order to ask may be carried out.
   pub ask_fair : (a : Addr) (via : Option Addr) (o : Order) → ask_order i a via ≡ Ok o → IsFair i o
   ask_fair a via o h = by (node_at i.nodes a) h
     where

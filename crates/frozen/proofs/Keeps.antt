@@ -1,4 +1,4 @@
--- What an event leaves is still a run over frozen tables.
+-- After an event, a run is still a run over frozen tables.
 use Rattle.std.proofs.Common.{Contains, List, [], ap, inl, inr, refl, slice_set, subst, suc, sym, zero, ℕ, ◌++◌, ◌∙◌, ◌∷◌, ◌≡◌, ◌⊎◌}
 use Rattle.std.proofs.lemmas.List.{length-set}
 use Rattle.std.specs.Option.{unwrap_or}
@@ -37,7 +37,7 @@ use Rattle.station.specs.declared.output.Output.{Output}
 use Rattle.table_image.specs.Bounds.{IsBounded}
 use Rattle.table_image.specs.Internet.{Internet}
 
--- an element of a list one of whose elements was changed
+-- An element of a list in which one element was replaced.
 set_at : {X : Type 0} (xs : List X) (s : ℕ) (a : X) (k : ℕ) (m : X) → At (slice_set xs s a) k m
     → ((k ≡ s) × (a ≡ m)) ⊎ At xs k m
 set_at [] s a k m h = inr h
@@ -49,7 +49,7 @@ set_at (x ∷ xs) (suc s) a (suc k) m h = elim (set_at xs s a k m h) [
   | inr e ↦ inr e
 ]
 
--- the stations of an internet, one of which holds something else that its image says of it
+-- The stations of an internet with one replaced by a station that also holds the image's contents.
 hold_with : (i : Internet) (xs : List (Member Holding NodeHolding)) (s : ℕ) (a : Member Holding NodeHolding) → HoldStations i xs
     → HoldsStation i s a → HoldStations i (slice_set xs s a)
 hold_with i xs s a all holds = record {
@@ -60,7 +60,7 @@ hold_with i xs s a all holds = record {
   ];
 }
 
--- what a station does with what it takes is a block, and it holds what the image says still
+-- A station that takes a frame makes a block of a legal transcript and still holds the image's contents.
 member_takes : (i : Internet) (t : List Entry) (p : Pair) (n : ℕ) (old new : Member Holding NodeHolding) (added : List Output)
     → Passes i → IsBounded i → IsLegal i t → Contains (pending (cable_seats i) t) p → HoldsStation i p.seat.station old
     → EitherHears RouterHears NodeHears old (heard_by p) added new → AreLawful n added
@@ -75,7 +75,7 @@ member_takes i t p n (member.Node h) (member.Node g) added ok bounded legal ther
 member_takes i t p n (member.Router h) (member.Node g) added ok bounded legal there holds hears lawful = absurd hears
 member_takes i t p n (member.Node h) (member.Router g) added ok bounded legal there holds hears lawful = absurd hears
 
--- a run over the same tables
+-- A run over the same tables.
 frozen_of : (r : Running) (i : Internet) → r.internet ≡ i → Passes i → IsBounded i → HoldStations i r.stations
     → r.cabling.seats ≡ cable_seats i → IsLegal i (transcript r.cabling) → IsFrozen r
 frozen_of r i e ok bounded holders seats legal = record {
@@ -86,7 +86,7 @@ frozen_of r i e ok bounded holders seats legal = record {
   legal = subst (λ j. IsLegal j (transcript r.cabling)) (sym e) legal;
 }
 
--- a run in which nothing has happened yet
+-- A run with an empty transcript.
 pub begun : (i j : Internet) (stations : List (Member Holding NodeHolding)) (k : Cabling) (seats : List Seat) (limit : ℕ) → j ≡ i
     → k ≡ record { seats = seats; limit = limit; lines = []; kept = []; waiting = [] } → seats ≡ cable_seats i → Passes i
     → IsBounded i → HoldStations i stations → IsFrozen (record { internet = j; stations = stations; cabling = k })
@@ -94,14 +94,14 @@ begun i j stations k seats limit same is on ok bounded holders =
     frozen_of (record { internet = j; stations = stations; cabling = k }) i same ok bounded holders (ap (λ (c : Cabling). c.seats) is ∙ on)
     (subst (λ c. IsLegal i (transcript c)) (sym is) Begins)
 
--- nobody has asked in it
+-- In a run with an empty transcript, no node has asked.
 pub begun_asks : (j : Internet) (stations : List (Member Holding NodeHolding)) (k : Cabling) (seats : List Seat) (limit : ℕ)
     → k ≡ record { seats = seats; limit = limit; lines = []; kept = []; waiting = [] }
     → HaveOnlyAsked (record { internet = j; stations = stations; cabling = k })
 begun_asks j stations k seats limit is =
     subst (λ c. HaveOnlyAsked (record { internet = j; stations = stations; cabling = c })) (sym is) refl
 
--- what was taken of a run, as a block, and what its taker holds then
+-- The block of a take in a run, and the contents of the station afterwards.
 pub record TookSo (old new : Running) (stamp s : ℕ) : Type 0 where
   pub block : List Entry
   pub added : transcript new.cabling ≡ transcript old.cabling ++ block
@@ -135,7 +135,7 @@ took_so old new stamp s frozen taken =
           (hold_with i old.stations s w.after frozen.holders (subst (λ n. HoldsStation i n w.after) x.of_station b.1));
     }
 
--- after a taking
+-- The invariant after a take.
 pub took_keeps : (old new : Running) (stamp s : ℕ) → IsFrozen old → TakenBy old stamp s new → IsFrozen new
 took_keeps old new stamp s frozen taken =
     let so = took_so old new stamp s frozen taken in
@@ -143,7 +143,7 @@ took_keeps old new stamp s frozen taken =
     (taken.taken.taken.entries.seats ∙ frozen.seats)
     (subst (IsLegal old.internet) (sym so.added) (Goes (transcript old.cabling) so.block frozen.legal so.lawful))
 
--- after a sending
+-- The invariant after a datagram was sent.
 pub sent_keeps : (old new : Running) (o : Order) (payload : List ℕ) → IsFrozen old → IsFair old.internet o → IsSent o.header payload
     → SentBy old o payload new → IsFrozen new
 sent_keeps old new o payload frozen fair sent by =

@@ -1,4 +1,4 @@
--- What follows of a run over frozen tables.
+-- Consequences for a run over frozen tables.
 use Rattle.std.proofs.Common.{Bool, Err, List, None, Ok, Option, Result, Some, ap, arith, false, length, refl, sym, true, ℕ, ◌∙◌, ◌≡◌}
 use Rattle.at_base.specs.declared.error.Error.{Error}
 use Rattle.audit.specs.Routing.{home}
@@ -34,10 +34,10 @@ all_carried r f = are_carried r.internet (transcript r.cabling) f.passes f.legal
 pub looks_up : (r : Running) → IsFrozen r → HaveOnlyAsked r → LooksUp r
 looks_up r f only = (only, λ k. are_looked_up r.internet (transcript r.cabling) k f.passes f.legal only)
 
--- ---- Where nothing is pending
+-- ---- If nothing is pending
 
 module _ (r : Running) (frozen : IsFrozen r) (rest : IsAtRest r) where
-  -- what is pending is none of these
+  -- No pending pair passes a test.
   none_left : (f : Pair → Bool) → count f (pending (cable_seats r.internet) (transcript r.cabling)) ≡ 0
   none_left f = ap (λ seats. count f (pending seats (transcript r.cabling))) (sym frozen.seats) ∙ ap (count f) rest
 
@@ -69,7 +69,7 @@ not_looked_up r k c frozen only is =
     let counted = ((looks_up r frozen only).1 k).others c is in
     omega (arith, counted)
 
--- ---- The internet stays
+-- ---- The internet stays the same
 
 sends_stays : (old new : Running) (o : Result Order Error) (payload : List ℕ) → Sends old o payload new
     → new.internet ≡ old.internet

@@ -1,4 +1,4 @@
--- Why a call was refused, and what both of its answers give.
+-- Why a call returned an error, and what follows from both results.
 use Rattle.std.proofs.Common.{◌≡◌, ◌<◌, ◌↔◌, ◌⊎◌, ℕ, Bool, true, false, cond, inl, inr, Option, Some, None, Result, Ok, Err, IfErr, OnOk, OnErr, nat_lt, refl, sym, ap, ◌∙◌, ◌+◌, ◌++◌, ◌∷◌, [], List, take, slice_get}
 use Rattle.std.proofs.lemmas.Bool.{lt-ltb, ltb-true}
 use Rattle.std.proofs.lemmas.List.{take_more}
@@ -7,12 +7,12 @@ use Rattle.at_base.specs.declared.error.Error.{Error}
 use Rattle.frozen.specs.Events.{IsRefused}
 use Rattle.at_base.specs.declared.error.Error.TheVariants.{Full, Memory, NotPending}
 
--- what follows of both answers
+-- A consequence of both results.
 pub of_both : {T : Type 0} (r : Result T Error) (P Q X : Type 0) → OnOk r P → OnErr r Q → (P → X) → (Q → X) → X
 of_both (Ok t) P Q X p q f g = f p
 of_both (Err e) P Q X p q f g = g q
 
--- the error of a refusal
+-- The error of a result.
 error_is : {T : Type 0} {e d : Error} → ◌≡◌ {A = Result T Error} (Err e) (Err d) → e ≡ d
 error_is {T} {e} {d} h = ap (of e) h
   where
@@ -20,15 +20,15 @@ error_is {T} {e} {d} h = ap (of e) h
     of d (Ok t) = d
     of d (Err x) = x
 
--- a refusal with an equal error
+-- A result with an equal error.
 err_is : {T : Type 0} {e d : Error} → e ≡ d → ◌≡◌ {A = Result T Error} (Err e) (Err d)
 err_is h = ap Err h
 
--- the first reason of a refusal
+-- The first error of a take, other than Memory.
 abbrev pub reason : Bool → ℕ → ℕ → Option Error
 reason b limit n = cond b (cond (nat_lt limit n) (Some Full) None) (Some NotPending)
 
--- a refusal is for the first reason, or for want of memory where there is none
+-- A call returns its first error, or Memory if it has no other.
 pub refused_so : {T : Type 0} (r : Result T Error) (b : Bool) (limit n : ℕ)
     → IfErr r (λ e. (e ≡ NotPending) ⊎ (e ≡ Full) ⊎ (e ≡ Memory))
     → ((r ≡ Err NotPending) ↔ (b ≡ false)) → ((r ≡ Err Full) ↔ ((b ≡ true) × (limit < n)))
@@ -36,7 +36,7 @@ pub refused_so : {T : Type 0} (r : Result T Error) (b : Bool) (limit n : ℕ)
 refused_so (Ok t) b limit n h pending full = tt
 refused_so {T} (Err e) b limit n h pending full = of_error h
   where
-    -- where it isn't for one of the first two, it is for neither
+    -- If it has neither of the first two errors, there is no reason.
     passes : (b ≡ true) → (nat_lt limit n ≡ false) → reason b limit n ≡ None
     passes there room = ap (λ c. reason c limit n) there ∙ ap (λ c. cond c (Some Full) None) room
 
@@ -58,12 +58,12 @@ refused_so {T} (Err e) b limit n h pending full = of_error h
         by true true there room = absurd (not_full (sym is ∙ error_is (full.1 (there, ltb-true limit n room))))
         by true false there room = passes there room
 
--- two facts of a refusal
+-- Two facts of an error.
 pub both_err : {T : Type 0} (r : Result T Error) (P Q : Type 0) → OnErr r P → OnErr r Q → OnErr r (P × Q)
 both_err (Ok t) P Q p q = tt
 both_err (Err e) P Q p q = (p, q)
 
--- where there is too little room, or no memory
+-- A call that returns Full or Memory.
 pub room_refused : {T : Type 0} (r : Result T Error) (limit n : ℕ) → IfErr r (λ e. (e ≡ Full) ⊎ (e ≡ Memory))
     → ((r ≡ Err Full) ↔ (limit < n)) → IfErr r (IsRefused (cond (nat_lt limit n) (Some Full) None))
 room_refused (Ok t) limit n h full = tt
@@ -80,7 +80,7 @@ room_refused {T} (Err e) limit n h full = of_error h
     of_error (inl is) = inl (so (full.0 (err_is is)) is)
     of_error (inr is) = by is (nat_lt limit n) refl
 
--- where it isn't refused, there is room
+-- A call that returns Ok has room.
 pub room_ok : {T : Type 0} (r : Result T Error) (limit n : ℕ) → ((r ≡ Err Full) ↔ (limit < n))
     → OnOk r (cond (nat_lt limit n) (Some Full) None ≡ None)
 room_ok (Err e) limit n full = tt
@@ -93,7 +93,7 @@ room_ok {T} (Ok t) limit n full = by (nat_lt limit n) refl
     by true less = absurd (never (full.1 (ltb-true limit n less)))
     by false room = refl
 
--- one event more
+-- One more event.
 pub take_one : {X : Type 0} (xs : List X) (k : ℕ) (x : X) → slice_get xs k ≡ Some x → take (k + 1) xs ≡ take k xs ++ x ∷ []
 take_one xs k x at =
     take_more xs k x (slice_get_within xs k x at) ∙ ap (λ y. take k xs ++ y ∷ []) (get_or_from_slice_get xs k x x at)

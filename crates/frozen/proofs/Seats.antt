@@ -33,14 +33,14 @@ use Rattle.router.specs.Holding.{Holding}
 use Rattle.table_image.specs.Internet.{Internet}
 use Rattle.table_image.specs.declared.port.Port.{Port}
 
--- an index below a list's length has an element
+-- An index below a list's length has an element.
 there : {X : Type 0} (xs : List X) (k : ℕ) → k < length xs → (x : X) × At xs k x
 there xs k below = elim ((slice_get_cases xs k).1) [
   | inl h ↦ (h.0, h.2)
   | inr h ↦ let far = h.0 in absurd (omega (arith, far, below))
 ]
 
--- the seat of an internet with so many routers and nodes is of one of them
+-- The station of a seat of an internet is one of its routers and nodes.
 pub station_within : (i : Internet) (k : ℕ) (s : PlaceOf) → At (seats i) k s → s.station < length i.routers + length i.nodes
 station_within i k s at = elim (sits i k s at) [
   | AtPort w ↦
@@ -53,7 +53,7 @@ station_within i k s at = elim (sits i k s at) [
       omega (arith, here, below)
 ]
 
--- a station that has an address is one of them
+-- A station that has an address is one of the internet's routers and nodes.
 pub found_within : (i : Internet) (a : Addr) (s : ℕ) → station_at i a ≡ Some s → s < length i.routers + length i.nodes
 found_within i a s h = by (find (is_at None a) (seats i)) refl h
   where
@@ -67,7 +67,7 @@ found_within i a s h = by (find (is_at None a) (seats i)) refl h
         subst (λ n. n < length i.routers + length i.nodes) same within
 
 module _ (i : Internet) (ok : Passes i) where
-  -- a router's seats
+  -- A router's seats.
   router_seated : (s : ℕ) (h : Holding) → HoldsRouter i s h → AreSeatsOf (cable_seats i) s (length h.ports)
   router_seated s h holds =
       let few : length h.ports ≡ length holds.router.ports =
@@ -91,7 +91,7 @@ module _ (i : Internet) (ok : Passes i) where
             );
       }
 
-  -- a node's seat
+  -- A node's seat.
   node_seated : (s k : ℕ) (h : NodeHolding) → s ≡ length i.routers + k → HoldsNode i k h → AreSeatsOf (cable_seats i) s 1
   node_seated s k h far holds =
       let zeroth : (c : ℕ) → port_on (slice_get i.routers s) c ≡ 0 =
@@ -115,7 +115,7 @@ module _ (i : Internet) (ok : Passes i) where
             );
       }
 
-  -- the seats of a station
+  -- The seats of a station.
   pub seats_of_station : (stations : List (Member Holding NodeHolding)) → HoldStations i stations → (s : ℕ) (m : Member Holding NodeHolding)
       → slice_get stations s ≡ Some m → AreSeatsOf (cable_seats i) s (ports_of m)
   seats_of_station stations all s (member.Router h) at = router_seated s h (all.each s (member.Router h) at)
@@ -123,7 +123,7 @@ module _ (i : Internet) (ok : Passes i) where
       let w = all.each s (member.Node h) at in
       node_seated s w.0 h w.1 w.2
 
--- a station on a cable has a seat there
+-- A station on a cable has a seat there.
 pub on_seated : (i : Internet) (s c : ℕ) → is_on i s c ≡ true → is_seated (cable_seats i) c s ≡ true
 on_seated i s c h =
     let w = any_at (λ (x : PlaceOf). x.station == s && x.cable == c) (seats i) h in
@@ -137,7 +137,7 @@ seated_cable i s c h =
     let parts = and_parts (w.1.station == s) (w.1.cable == c) w.3 in
     any_from (λ (x : Seat). x.cable == c) (cable_seats i) w.0 (cable_seat i w.1) (map_at (cable_seat i) (seats i) w.0 w.1 w.2) parts.1
 
--- the least station that a frame is pending for is one of the run's
+-- The lowest station for which a frame is pending is one of the run's.
 pub next_within : (r : Running) → IsFrozen r → (stamp s : ℕ) → IsNext r stamp s → s < length r.stations
 next_within r frozen stamp s least =
     let i = r.internet in

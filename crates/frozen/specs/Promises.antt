@@ -1,4 +1,4 @@
--- What a run keeps at every moment, as its calls promise it. This project's own.
+-- Properties of a run that each of its calls promises.
 use Rattle.std.specs.Prelude.{◌≡◌, ℕ, Bool, false, ◌||◌, List, [], Result, Ok, length}
 use Rattle.at_base.specs.declared.error.Error.{Error}
 use Rattle.cable_model.specs.Logs.{transcript}
@@ -16,25 +16,25 @@ use Rattle.legal_runs.specs.Lookups.{IsLookedUp, NodesOnlyAsk}
 use Rattle.legal_runs.specs.Requests.{is_forward, is_lookup, request}
 use Rattle.table_image.specs.Internet.{Internet}
 
--- Each datagram to a listed network is under way once or has reached its destination's cable once, and no other; each to a
--- network that is neither listed nor 0 is under way once or was dropped once.
+-- Each datagram to a listed network is under way once or has reached its destination's cable once, and no other cable;
+-- each to a network that is neither listed nor 0 is under way once or was dropped once.
 abbrev pub IsEachOnce : Running → Type 0
 IsEachOnce r = IsConserved r.internet (transcript r.cabling)
 
--- A datagram that is under way to a listed network has hops enough for the routers before it.
+-- A datagram that is under way to a listed network has enough hops left for the routers that remain on its path.
 abbrev pub HasHops : Running → Type 0
 HasHops r = HasHopsLeft r.internet (transcript r.cabling)
 
--- What reached a cable was carried by at most fifteen routers, each of which shares a cable with the next.
+-- A datagram that reached a cable was carried by at most fifteen routers, each of which shares a cable with the next.
 abbrev pub AreAllCarried : Running → Type 0
 AreAllCarried r = AreCarried r.internet none_yet (transcript r.cabling)
 
--- No node has sent a forward request or a lookup, which are what routers make of requests.
+-- No node has sent a forward request or a lookup, which only routers make from requests.
 abbrev pub HaveOnlyAsked : Running → Type 0
 HaveOnlyAsked r = NodesOnlyAsk r.internet (transcript r.cabling)
 
--- No node has sent a forward request or a lookup, and each broadcast request that was taken has made its lookups or is on its
--- way to them: one on each cable that lists its zone, and none on another.
+-- No node has sent a forward request or a lookup, and each broadcast request that was taken has had one lookup, or has
+-- a forward request under way, on exactly the cables that list its zone.
 abbrev pub LooksUp : Running → Type 0
 LooksUp r = HaveOnlyAsked r × ((k : List ℕ) → IsLookedUp r.internet (transcript r.cabling) k)
 
@@ -44,11 +44,11 @@ IsAtRest r = pending r.cabling.seats (transcript r.cabling) ≡ []
 
 -- ---- Events
 
--- the body is a forward request or a lookup
+-- The body is a forward request or a lookup.
 abbrev pub is_routers_request : List ℕ → Bool
 is_routers_request b = is_forward (request b) || is_lookup (request b)
 
--- The event isn't the sending of a forward request or of a lookup.
+-- The event doesn't send a forward request or a lookup.
 abbrev pub OnlyAsks : Internet → Event → Type 0
 OnlyAsks i (Send node via target target_socket source_socket kind summed payload) =
     (o : Order) → ◌≡◌ {A = Result Order Error}

@@ -1,4 +1,4 @@
--- Runs over the frozen tables of an internet. This project's own.
+-- Runs over the frozen tables of an internet.
 use Rattle.std.specs.Prelude.{◌≡◌, ℕ, ◌+◌, cond, List, Option, Some, None, length, nat_lt, slice_get, slice_set}
 use Rattle.std.specs.List.{list_any}
 use Rattle.at_base.specs.declared.error.Error.{Error}
@@ -19,14 +19,15 @@ use Rattle.router.specs.Holding.{Holding}
 use Rattle.table_image.specs.Bounds.{IsBounded}
 use Rattle.table_image.specs.Internet.{Internet}
 
--- What a run is at a moment: the internet whose tables are frozen, what each station holds, and what happened on the cables.
+-- The state of a run: the internet whose tables are frozen, the contents of each station, and the cables with their
+-- transcript.
 pub record Running : Type 0 where
   pub internet : Internet
   pub stations : List (Member Holding NodeHolding)
   pub cabling : Cabling
 
--- What always holds of a run: the internet passes the audit, the stations hold what its image says of them, their seats are
--- on its cables, and what happened is what the tables allow.
+-- The invariant of a run: the internet passes the audit, the stations hold the image's contents, their seats are on the
+-- cables, and the transcript is legal.
 pub record IsFrozen (r : Running) : Type 0 where
   pub passes : Passes r.internet
   pub bounded : IsBounded r.internet
@@ -34,11 +35,12 @@ pub record IsFrozen (r : Running) : Type 0 where
   pub seats : r.cabling.seats ≡ cable_seats r.internet
   pub legal : IsLegal r.internet (transcript r.cabling)
 
--- how many ports a station has
+-- How many ports a station has.
 abbrev pub ports_of : Member Holding NodeHolding → ℕ
 ports_of m = either (λ (h : Holding). length h.ports) (λ (h : NodeHolding). 1) m
 
--- A station took a frame that was pending for it, put out what it does, and holds what it does then; no other station changed.
+-- Station s took a pending frame, sent the outputs of its definition and holds the contents that follow; no other
+-- station changed.
 pub record TakenFrom (places : Places) (stations : List (Member Holding NodeHolding)) (old : Cabling) (stamp s : ℕ)
     (others : List (Member Holding NodeHolding)) (new : Cabling) : Type 0 where
   pub member : Member Holding NodeHolding
@@ -48,12 +50,13 @@ pub record TakenFrom (places : Places) (stations : List (Member Holding NodeHold
   pub taken :
       IsTaken places (ports_of member) old new stamp s (λ h added. EitherHears RouterHears NodeHears member h added after)
 
--- the same of a run
+-- In a run, station s took a pending frame, and the internet stayed the same.
 pub record TakenBy (old : Running) (stamp s : ℕ) (new : Running) : Type 0 where
   pub internet : new.internet ≡ old.internet
   pub taken : TakenFrom (places_of old.internet) old.stations old.cabling stamp s new.stations new.cabling
 
--- why a station can't take a frame, in this order: it isn't pending for it, or there is too little room for what may follow
+-- Why a station can't take a frame: NotPending if the frame isn't pending for it, otherwise Full if there is room for
+-- fewer than 771 entries.
 abbrev pub take_refusal : Running → ℕ → ℕ → Option Error
 take_refusal r stamp s =
     cond (list_any (is_named stamp s) (pending r.cabling.seats (transcript r.cabling)))

@@ -40,13 +40,13 @@ use std::alloc::Global;
 use std::marker::Model;
 use table_image::Image;
 
-/// A run over the frozen tables of an internet that passes the audit: what its stations hold, and
-/// what happened on its cables. Each call that starts a run or goes on with it says of what it
-/// leaves, also where it refuses, that each datagram to a listed network is under way once or has
-/// reached its destination's cable once (`conserved`), that it has hops enough (`hops`), that at
-/// most fifteen routers carried it (`carried`), and, as long as no node sends a forward request or a
-/// lookup, that each request for names that was taken has made its lookups, or is on its way to
-/// them, on exactly the cables that list its zone (`looked_up`). This project's own.
+/// A run over the frozen tables of an internet that passes the audit: the contents of its stations,
+/// and the transcript of its cables. Four clauses of each call that starts or continues a run hold
+/// of the run after the call, also if the call returns an error. Each datagram to a listed network
+/// is under way once or has reached its destination's cable once (`conserved`); it has enough hops
+/// left (`hops`); at most fifteen routers carried it (`carried`); and, as long as no node sends a
+/// forward request or a lookup, each request for names that was taken has had one lookup, or has a
+/// forward request under way, on exactly the cables that list its zone (`looked_up`).
 #[derive(Drop)]
 pub struct Frozen<T: RouteTable> {
     places: Whereabouts,
@@ -76,10 +76,9 @@ impl<T: RouteTable> Model for Frozen<T> {
 }
 
 impl<T: RouteTable> Frozen<T> {
-    /// A run in which nothing has happened yet, over the tables of an image, for at most `limit`
-    /// entries.
+    /// A run over the tables of an image, with an empty transcript, for at most `limit` entries.
     ///
-    /// Errors: `NotAudited` where the audit says no, with its fault; `Memory`.
+    /// Errors: `NotAudited` with the audit's fault if the image fails the audit; `Memory`.
     pub fn start(alloc: Global, image: Image, limit: u32) -> Result<Frozen<T>, Error>
         ensures started { IfOk result (λ run. (run.internet ≡ image) × (run.cabling ≡ record {
           seats = cable_seats image;
@@ -99,7 +98,7 @@ impl<T: RouteTable> Frozen<T> {
             Verdict::No(fault) => return Err(Error::NotAudited(fault)),
             Verdict::Yes(_) => {}
         }
-        // For the prover alone: the image is within its limits.
+        // Only the prover needs this read: it shows that the image is within its limits.
         let _cables = image.cables();
         let seats = seats_of(alloc, &image)?;
         let cables = Cables::new(alloc, seats.as_slice(), limit)?;
@@ -114,28 +113,28 @@ impl<T: RouteTable> Frozen<T> {
         })
     }
 
-    /// What happened, in order. Allocates nothing.
+    /// The transcript, in order. Allocates nothing.
     pub fn transcript(&self) -> &[Entry]
         ensures { result.now ≡ self.now.cabling.lines }
     {
         self.cables.transcript()
     }
 
-    /// The bytes of a number that entries name, and none for any other number. Allocates nothing.
+    /// The bytes with a number that entries name; empty for any other number. Allocates nothing.
     pub fn bytes(&self, number: u32) -> &[u8]
         ensures { result.now ≡ bytes_at self.now.cabling.kept number }
     {
         self.cables.bytes(number)
     }
 
-    /// The number of pairs of a frame and a station that are pending. Allocates nothing.
+    /// The number of pending pairs of a frame and a station. Allocates nothing.
     pub fn pending_count(&self) -> usize
         ensures { result ≡ length (pending_spec.pending self.now.cabling.seats (logs_spec.transcript self.now.cabling)) }
     {
         self.cables.pending_count()
     }
 
-    /// The internet, as its image says. Allocates nothing.
+    /// The image of the internet. Allocates nothing.
     pub fn image(&self) -> &Image
         ensures value { result.now ≡ self.now.internet }
         ensures frozen { IsFrozen self.now }
@@ -143,7 +142,7 @@ impl<T: RouteTable> Frozen<T> {
         self.places.image()
     }
 
-    /// Whether so many more entries have room.
+    /// Whether the transcript has room for `more` entries.
     fn has_room(&self, more: usize) -> bool
         requires { more ≤ 1000 }
         ensures { result
@@ -152,9 +151,9 @@ impl<T: RouteTable> Frozen<T> {
         self.cables.transcript().len() + more <= self.limit as usize
     }
 
-    /// A node sends a datagram with this data, as it is ordered to.
+    /// A node sends a datagram with this data, by the order.
     ///
-    /// Errors: `Full`, `Memory`. A refusal changes nothing.
+    /// Errors: `Full`, `Memory`. After an error nothing has changed.
     fn carry_out(&mut self, order: &Order, payload: &[u8]) -> Result<(), Error>
         requires next { IsNext order.now.next }
         requires short { length payload.now ≤ 586 }
@@ -183,7 +182,7 @@ impl<T: RouteTable> Frozen<T> {
         }
     }
 
-    /// The node with this address asks a router for names.
+    /// The node with this address sends a broadcast request for names to a router.
     fn ask(&mut self, node: Addr, via: Option<Addr>, id: u8, name: &Tuple) -> Result<(), Error>
         ensures sent { OnOk result (Sends self.old (spec.ask_order self.old.internet node via)
             (spec.ask_data self.old.internet node id name.now) self.new) }
@@ -211,7 +210,7 @@ impl<T: RouteTable> Frozen<T> {
 
     /// A station takes a frame.
     ///
-    /// Errors, in this order: `NotPending`; `Full`; `Memory`. A refusal changes nothing.
+    /// Errors, in this order: `NotPending`; `Full`; `Memory`. After an error nothing has changed.
     fn take(&mut self, stamp: u32, station: u16) -> Result<(), Error>
         requires there { station < length self.old.stations }
         ensures taken { OnOk result (TakenBy self.old stamp station self.new) }
@@ -230,15 +229,15 @@ impl<T: RouteTable> Frozen<T> {
         )
     }
 
-    /// Lets an event happen.
+    /// Carries out an event.
     ///
-    /// Errors of a sending or a request, in this order: `NoSuch(Node)` where no node has the
-    /// address; of a sending to network 0, `NoSuch(Station)` where it isn't for node 255, and of any
-    /// other and of a request `NoRouter` where no router is named and the node has none, and
-    /// `NoSuch(Router)` where the one that is named has no port with that address on the node's cable;
-    /// `TooLong` above 586 bytes of data; `Full` below 3 entries of room; `Memory`. Errors of a
-    /// taking: `NoSuch(Station)` where no station has the address; `NotPending`; `Full` below 771
-    /// entries of room; `Memory`. A refusal changes nothing.
+    /// Errors of `Send` and `Request`, in this order: `NoSuch(Node)` if no node has the address;
+    /// for a datagram to network 0, `NoSuch(Station)` if it isn't for node 255; otherwise
+    /// `NoRouter` if no router is named and the node has none, and `NoSuch(Router)` if the named
+    /// one has no port with that address on the node's cable; `TooLong` above 586 bytes of data;
+    /// `Full` if there is room for fewer than 3 entries; `Memory`. Errors of `Take`:
+    /// `NoSuch(Station)` if no station has the address; `NotPending`; `Full` if there is room for
+    /// fewer than 771 entries; `Memory`. After an error nothing has changed.
     pub fn event(&mut self, event: &Event) -> Result<(), Error>
         ensures happens { OnOk result (Happens self.old event.now self.new) }
         ensures conserved { IsEachOnce self.new }
@@ -287,8 +286,8 @@ impl<T: RouteTable> Frozen<T> {
         }
     }
 
-    /// Lets events happen, one after the other, up to the first that is refused. The error says
-    /// which, counted from 0, and why; the events before it have happened.
+    /// Carries out events, one after the other, up to the first that fails. The error has the index
+    /// of that event, from 0, and its error; the events before it were carried out.
     pub fn run(&mut self, events: &[Event]) -> Result<(), (usize, Error)>
         ensures happened { OnOk result (Happened self.old events.now self.new) }
         ensures conserved { IsEachOnce self.new }
@@ -298,7 +297,7 @@ impl<T: RouteTable> Frozen<T> {
             → LooksUp self.new }
         ensures stopped { IfErr result (λ stop. Stopped self.old events.now stop.0 stop.1 self.new) }
     {
-        // For the prover alone: what the run keeps holds where there are no events, too.
+        // Only the prover needs this read: the run's invariant holds also if there are no events.
         let _ = &self.places;
         let mut done = 0;
         for event in events {
@@ -310,9 +309,9 @@ impl<T: RouteTable> Frozen<T> {
         Ok(())
     }
 
-    /// Lets the least frame that is pending be taken by the least station that it is pending for, and
-    /// so on, at most `most` times. Whether nothing is pending any more. Errors are those of a taking;
-    /// what was taken before it stays.
+    /// Takes pending frames, at most `most` of them: each time the lowest pending stamp, by the
+    /// lowest station for which it is pending. Returns whether no frame is pending any more. The
+    /// errors are those of `Take`; frames taken before an error stay taken.
     pub fn drain(&mut self, most: u32) -> Result<bool, Error>
         ensures drained { IfOk result (λ none_left. DrainsTo self.old most none_left self.new) }
         ensures conserved { IsEachOnce self.new }
@@ -321,7 +320,7 @@ impl<T: RouteTable> Frozen<T> {
         ensures looked_up { LooksUp self.old → LooksUp self.new }
         ensures stopped { IfErr result (λ e. DrainStops self.old most e self.new) }
     {
-        // For the prover alone: what the run keeps holds where nothing is taken, too.
+        // Only the prover needs this read: the run's invariant holds also if nothing is taken.
         let _ = &self.places;
         for _turn in 0..most {
             match self.cables.first() {

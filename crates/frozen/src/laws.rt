@@ -1,5 +1,5 @@
-//! What the audit's yes promises of every run. The function does nothing: what it ensures is the
-//! law.
+//! Laws that hold of every run over an internet that passes the audit. The functions do nothing:
+//! each law is the function's ensures clause.
 
 ghost use Rattle.std.specs.Prelude.{◌≡◌, ◌≢◌, List, Some, ℕ, false, true};
 ghost use Rattle.audit.specs.Routing.{home};
@@ -13,12 +13,11 @@ ghost use Rattle.legal_runs.specs.Counts.{HasHopsLeft, IsConserved, reached, sen
 ghost use Rattle.legal_runs.specs.Lookups.{IsLookedUp, NodesOnlyAsk, asked, lookups, taken};
 ghost use Rattle.legal_runs.specs.Requests.{is_among, listing, zone_of};
 
-/// Whatever happened in a run over frozen tables (`Frozen::image` says that it is one): each
-/// datagram to a listed network is under way once or has reached its destination's cable once; it
-/// has hops enough; it was carried by at most fifteen routers over cables that they share; and,
-/// where no node sends a forward request or a lookup, each request for names that was taken has made
-/// one lookup on exactly the cables that list its zone, or it is under way there. This project's
-/// own.
+/// In every run over frozen tables (`Frozen::image` returns the proof of that): each datagram to a
+/// listed network is under way once or has reached its destination's cable once; it has enough hops
+/// left; it was carried by at most fifteen routers, each of which shares a cable with the next;
+/// and, if no node sends a forward request or a lookup, each request for names that was taken has
+/// had one lookup, or has a forward request under way, on exactly the cables that list its zone.
 pub fn promises_hold()
     ensures conservation { (r : Running) → IsFrozen r → IsConserved r.internet (transcript r.cabling) }
     ensures hops { (r : Running) → IsFrozen r → HasHopsLeft r.internet (transcript r.cabling) }
@@ -29,12 +28,12 @@ pub fn promises_hold()
         → IsLookedUp r.internet (transcript r.cabling) k }
 {}
 
-/// The headline, in one place. In every run over frozen tables, which starts only where the audit
-/// says yes, each datagram to a listed network is under way once or has reached its destination's
-/// cable once, carried by at most fifteen routers over cables that they share; and, when no frame is
-/// pending and no node sent a forward request or a lookup, each broadcast request was taken, and has
-/// made one lookup on each cable that lists its zone, and none on another. Then each datagram to a
-/// listed network has reached its cable as often as it was sent. This project's own.
+/// The main result, in one place. A run over frozen tables starts only if the image passes the
+/// audit. In every such run, each datagram to a listed network is under way once or has reached its
+/// destination's cable once, carried by at most fifteen routers over cables that they share. If no
+/// frame is pending, each datagram to a listed network has reached its cable as often as it was
+/// sent. If also no node sent a forward request or a lookup, each broadcast request was taken and
+/// has had one lookup on each cable that lists its zone, and none on any other cable.
 pub fn the_headline()
     ensures audited { (r : Running) → IsFrozen r → Passes r.internet }
     ensures each_once { (r : Running) → IsFrozen r → IsEachOnce r }

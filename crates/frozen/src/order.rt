@@ -1,17 +1,17 @@
-//! What a node is told to send.
+//! A datagram that an event makes a node send.
 
 use ddp::Header;
 use station::Next;
 
-/// The datagram that a node is to put on its cable, but for its data. This project's own.
+/// A datagram that a node is to put on its cable, without its data.
 #[derive(Clone, Copy, Debug)]
 pub struct Order {
-    /// The node's number as a station.
+    /// The node's station number.
     pub station: u16,
-    /// Its cable.
+    /// The node's cable.
     pub cable: u8,
-    /// Whom the datagram goes to next.
+    /// The next receiver of the datagram.
     pub next: Next,
-    /// Its header.
+    /// The datagram's header.
     pub header: Header,
 }

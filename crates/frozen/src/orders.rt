@@ -1,4 +1,4 @@
-//! What nodes are told to send, and by which router.
+//! The datagrams that events make nodes send, and the router to which each goes.
 
 ghost use Rattle.std.specs.Prelude.{◌≡◌, ◌<◌, ◌≤◌, cond, length, slice_get, Some};
 ghost use Rattle.std.specs.Prelude.{IfOk, IfSome, IsOkUnless};
@@ -18,10 +18,10 @@ use station::ways::EVERY_NODE;
 use std::alloc::Global;
 use table_image::{Image, Node};
 
-/// The socket to which the replies to a node's request for names come.
+/// The socket to which replies to a node's request for names are sent.
 const REPLIES: u8 = 253;
 
-/// Whether two addresses are the same.
+/// Whether two addresses are equal.
 fn same_address(a: Addr, b: Addr) -> bool
     ensures { result ≡ address_spec.same_address a b }
 {
@@ -62,7 +62,7 @@ fn router_for(places: &Whereabouts, node: &Node, via: Option<Addr>) -> Result<Ad
     }
 }
 
-/// Whom a datagram of a node's goes to next.
+/// The next receiver of a datagram that a node sends.
 fn next_for(
     places: &Whereabouts,
     node: &Node,
@@ -86,7 +86,7 @@ fn next_for(
     }
 }
 
-/// The order of node `k` to send so many bytes of data.
+/// The order for node `k` to send `len` bytes of data.
 fn sent_at(
     places: &Whereabouts,
     k: usize,
@@ -116,7 +116,7 @@ fn sent_at(
     }
 }
 
-/// The order of the node with an address to send so many bytes of data.
+/// The order for the node with an address to send `len` bytes of data.
 pub fn send_order(
     places: &Whereabouts,
     node: Addr,
@@ -134,7 +134,7 @@ pub fn send_order(
     sent_at(places, k, via, header, len)
 }
 
-/// The order of node `k` to ask a router for names.
+/// The order for node `k` to ask a router for names.
 fn asked_at(places: &Whereabouts, k: usize, via: Option<Addr>) -> Result<Order, Error>
     requires { k < length places.now.nodes }
     ensures value { result ≡ spec.asked_at places.now k (slice_get places.now.nodes k) via }
@@ -160,7 +160,7 @@ fn asked_at(places: &Whereabouts, k: usize, via: Option<Addr>) -> Result<Order, 
     }
 }
 
-/// The order of the node with an address to ask a router for names.
+/// The order for the node with an address to ask a router for names.
 pub fn ask_order(places: &Whereabouts, node: Addr, via: Option<Addr>) -> Result<Order, Error>
     ensures value { result ≡ spec.ask_order places.now node via }
     ensures next { IfOk result (λ o. IsNext o.next) }
@@ -171,14 +171,14 @@ pub fn ask_order(places: &Whereabouts, node: Addr, via: Option<Addr>) -> Result<
     }
 }
 
-/// Whether the zone of a request stands for that of the node that asks.
+/// Whether the zone of a request means the zone of the node that asks: it is empty or "*".
 fn is_any(zone: &[u8]) -> bool
     ensures { result ≡ lookups_spec.is_any zone.now }
 {
     zone.is_empty() || is_star(zone)
 }
 
-/// Whether the text is a star and nothing else.
+/// Whether the text is exactly "*".
 fn is_star(text: &[u8]) -> bool
     ensures { result ≡ is_only 42 text.now }
 {

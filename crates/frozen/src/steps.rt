@@ -1,4 +1,4 @@
-//! What the events of a run do to its cables and its stations.
+//! The effects of a run's events on its cables and its stations.
 
 ghost use Rattle.std.specs.Prelude.{◌≡◌, ◌<◌, ◌+◌, ◌↔◌, ◌⊎◌, false, length, slice_get, true};
 ghost use Rattle.std.specs.Prelude.{IfErr, OnErr, OnOk, Some};
@@ -24,9 +24,10 @@ use station::Member;
 use router::Router;
 use rtmp::RouteTable;
 
-/// A node sends a datagram, as it is ordered to.
+/// A node sends a datagram, by the order.
 ///
-/// Errors: `Full` below 3 entries of room, `Memory`. A refusal changes nothing.
+/// Errors: `Full` if there is room for fewer than 3 entries; `Memory`. After an error nothing has
+/// changed.
 pub fn send(
     cables: &mut Cables,
     places: &Whereabouts,
@@ -48,8 +49,8 @@ pub fn send(
 
 /// A station takes a frame.
 ///
-/// Errors, in this order: `NotPending`; `Full` below 771 entries of room; `Memory`. A refusal
-/// changes nothing.
+/// Errors, in this order: `NotPending`; `Full` if there is room for fewer than 771 entries;
+/// `Memory`. After an error nothing has changed.
 pub fn take<T: RouteTable>(
     cables: &mut Cables,
     stations: &mut Vec<Member<Router<T>, EndNode>>,

@@ -10,7 +10,7 @@ use Rattle.frozen_trace.specs.Traces.{cables_of}
 use Rattle.trace_lines.specs.Lines.{Printed, cable_of, line, lines}
 use Rattle.trace_lines.specs.Stations.{Directory}
 
--- the lines of entries, and then of more
+-- The lines of entries, followed by those of more entries.
 pub lines_append : (i : Directory) (c : List ℕ) (xs ys : List Entry)
     → lines i c (xs ++ ys) ≡ lines i c xs ++ lines i (c ++ cables_of xs) ys
 lines_append i c [] ys = ap (λ (d : List ℕ). lines i d ys) (sym (append-nil c))
@@ -20,7 +20,7 @@ lines_append i c (e ∷ xs) ys =
     (lines_append i d xs ys ∙ ap (λ (k : List ℕ). lines i d xs ++ lines i k ys) (append_assoc c (cable_of e) (cables_of xs)))
     ∙ sym (append_assoc (line i c e) (10 ∷ lines i d xs) (lines i (c ++ cables_of (e ∷ xs)) ys))
 
--- the lines of entries, and then of one more
+-- The lines of entries, followed by that of one more entry.
 pub lines_one : (i : Directory) (c : List ℕ) (xs : List Entry) (e : Entry)
     → lines i c (xs ++ e ∷ []) ≡ lines i c xs ++ (line i (c ++ cables_of xs) e ++ 10 ∷ [])
 lines_one i c xs e = lines_append i c xs (e ∷ [])
@@ -28,23 +28,23 @@ lines_one i c xs e = lines_append i c xs (e ∷ [])
 pub cables_one : (xs : List Entry) (e : Entry) → cables_of (xs ++ e ∷ []) ≡ cables_of xs ++ cable_of e
 cables_one xs e = flat_map-append cable_of xs (e ∷ []) ∙ ap (λ (z : List ℕ). cables_of xs ++ z) (append-nil (cable_of e))
 
--- what stands at an index
+-- The element at an index.
 pub there : {X : Type 0} (xs : List X) (k : ℕ) (d : X) → k < length xs → slice_get xs k ≡ Some (get_or xs k d)
 there xs k d inside =
     slice_get_read xs (length xs) k (get_or xs k d) refl inside (get_or_default xs k d (get_or xs k d) inside)
 
--- the entries up to one, and that one
+-- The entries up to one, followed by that one.
 pub one_further : (f : Line → Entry) (xs : List Line) (k : ℕ) (x : Line) → slice_get xs k ≡ Some x
     → map f (take (k + 1) xs) ≡ map f (take k xs) ++ f x ∷ []
 one_further f xs k x at = ap (map f) (take_one xs k x at) ∙ map-append f (take k xs) (x ∷ [])
 
--- what is left of entries from one on
+-- The remaining entries from an index on.
 pub from_on : (f : Line → Entry) (xs : List Line) (n : ℕ) → n ≤ length xs
     → map f (take (length xs - n) (drop n xs)) ≡ drop n (map f xs)
 from_on f xs n inside =
     ap (map f) (take_all (length xs - n) (drop n xs) (subst (λ k. k ≤ length xs - n) (sym (length-drop n xs)) (omega arith)))
     ∙ sym (drop-map f n xs)
 
--- what a printer of entries knows
+-- The state of a printer of entries.
 abbrev pub printed : Directory → List ℕ → Printed
 printed i cables = record { directory = i; cables = cables }

@@ -1,4 +1,4 @@
--- Runs grow: entries come after those that there were.
+-- Runs grow: new entries come after the earlier ones.
 use Rattle.std.proofs.Common.{◌≡◌, ◌≢◌, ℕ, ◌+◌, ◌<◌, ◌≤◌, List, [], ◌++◌, Option, Some, None, Result, Ok, Err, inl, inr, true, false, ◌==◌, drop, length, slice_get, take, ap, ap₂, sym, subst, refl, ◌∙◌, arith}
 use Rattle.std.proofs.Math.Seq.{drop-append_seam, take-append_seam}
 use Rattle.std.proofs.lemmas.Grind.{flat_map-append}
@@ -24,7 +24,7 @@ use Rattle.script.specs.declared.step.Step.TheVariants as step
 use Rattle.trace_lines.specs.Lines.{Printed, cable_of, lines}
 use Rattle.trace_lines.specs.Stations.{directory_of}
 
--- the internet stays, and these entries come after those that there were
+-- The internet stays the same, and these entries come after the earlier ones.
 pub record Grows (a b : Running) (more : List Entry) : Type 0 where
   pub internet : b.internet ≡ a.internet
   pub said : transcript b.cabling ≡ transcript a.cabling ++ more
@@ -50,7 +50,7 @@ takes_grow : (old new : Running) (stamp : ℕ) (s : Option ℕ) → Takes old st
 takes_grow old new stamp None t = absurd t
 takes_grow old new stamp (Some s) t = taken_grows old new stamp s t
 
--- what an event adds
+-- The entries that an event adds.
 pub happens_grows : (old new : Running) (e : Event) → Happens old e new → (m : List Entry) × Grows old new m
 happens_grows old new (event.Send node via target target_socket source_socket kind summed payload) h =
     sends_grow old new
@@ -59,7 +59,7 @@ happens_grows old new (event.Request node via id name) h =
     sends_grow old new (ask_order old.internet node via) (ask_data old.internet node id name) h
 happens_grows old new (event.Take stamp station) h = takes_grow old new stamp (station_at old.internet station) h
 
--- what takings add
+-- The entries that takes add.
 pub drained_grows : (old new : Running) (n : ℕ) → Drained old n new → (m : List Entry) × Grows old new m
 drained_grows old new n (Undrained r) = ([], grows_none old)
 drained_grows old new n (Taken a between b k stamp s before next ok taken) =
@@ -67,7 +67,7 @@ drained_grows old new n (Taken a between b k stamp s before next ok taken) =
     let last = taken_grows between new stamp s taken in
     (first.0 ++ last.0, grows_then old between new first.0 last.0 first.1 last.1)
 
--- takings after others
+-- Takes after other takes.
 pub drained_more : (a b c : Running) (k n : ℕ) → Drained a k b → Drained b n c → Drained a (k + n) c
 drained_more a b c k n x (Undrained r) = subst (λ (i : ℕ). Drained a i r) (nothing k) x
   where
@@ -80,7 +80,7 @@ drained_more a b c k n x (Taken o between e j stamp s before next ok taken) =
     one_later : (k j : ℕ) → k + j + 1 ≡ k + (j + 1)
     one_later k j = omega arith
 
--- no taking changes nothing
+-- Without takes, nothing changes.
 pub undrained : (a b : Running) (n : ℕ) → n ≡ 0 → Drained a n b → b ≡ a
 undrained a b n z (Undrained r) = refl
 undrained a b n z (Taken o between e j stamp s before next ok taken) = absurd (not_one j z)
@@ -102,7 +102,7 @@ first_are a b m x =
     ap (λ (l : List Entry). take (length a.cabling.lines) l) x.said
     ∙ ap (λ (n : ℕ). take n (transcript a.cabling ++ m)) (sym (entries_number a)) ∙ take-append_seam (transcript a.cabling) m
 
--- no fewer entries than before
+-- A run doesn't have fewer entries than before.
 pub no_fewer : (a b : Running) (m : List Entry) → Grows a b m → length a.cabling.lines ≤ length b.cabling.lines
 no_fewer a b m x =
     let one : length (transcript b.cabling) ≡ length (transcript a.cabling) + length m =
@@ -111,7 +111,7 @@ no_fewer a b m x =
     (subst (λ n. length (transcript a.cabling) ≤ n) (entries_number b)
     (subst (λ n. length (transcript a.cabling) ≤ n) (sym one) (omega arith)))
 
--- what is told of one growth, and then of another
+-- The lines of one growth, followed by those of another.
 pub told_then : (a b c : Running) (m n : List Entry) → Grows a b m → Grows b c n → told a c ≡ told a b ++ told b c
 told_then a b c m n x y =
     let ca : List ℕ = cables_of (transcript a.cabling) in
@@ -127,7 +127,7 @@ told_then a b c m n x y =
 pub told_none : (a : Running) → told a a ≡ []
 told_none a = ap (lines (directory_of a.internet) (cables_of (transcript a.cabling))) (added_are a a [] (grows_none a))
 
--- what is printed of a growth, by one who has printed what was there before
+-- The lines of a growth, printed after all earlier entries.
 pub record Prints (a b : Running) (known : Printed) (before : List Line) : Type 0 where
   pub inside : length before ≤ length b.cabling.lines
   pub frames : known ≡ printed (directory_of b.internet) (cables_of (take (length before) (transcript b.cabling)))
@@ -146,14 +146,14 @@ prints a b m known before x k l = record {
       ∙ ap (λ (t : List Line). lines (directory_of a.internet) (cables_of (transcript a.cabling)) (drop (length t) (transcript b.cabling))) l;
 }
 
--- an event that is refused for a reason of its own is played so
+-- An event with an error other than Memory.
 pub refusing : (old new : Running) (e : Event) (error : Error) → new ≡ old → IsRefused (refusal old e) error → error ≢ Memory
     → Plays old (step.Event e) (refused_line error) new
 refusing old new e error kept (inl own) other =
     subst (λ (r : Running). Plays old (step.Event e) (refused_line error) r) (sym kept) (Refusing old e error own)
 refusing old new e error kept (inr memory) other = absurd (other memory.0)
 
--- steps up to one, and that one
+-- The steps up to one, followed by that one.
 pub play_one : (old between new : Running) (steps : List Step) (k : ℕ) (s : Step) (text more : List ℕ)
     → slice_get steps k ≡ Some s → PlaysAll old (take k steps) text between → Plays between s more new
     → PlaysAll old (take (k + 1) steps) (text ++ more) new
@@ -161,12 +161,12 @@ play_one old between new steps k s text more at before one =
     subst (λ (l : List Step). PlaysAll old l (text ++ more) new) (sym (take_one steps k s at))
     (Played old between new (take k steps) s text more before one)
 
--- takings up to one that leaves something pending
+-- Takes up to one after which something is pending.
 pub drain_on : (a b c : Running) (k : ℕ) → Drained a k b → DrainsTo b 1 false c → Drained a (k + 1) c
 drain_on a b c k before one =
     subst (λ (n : ℕ). Drained a (k + n) c) (one.all refl) (drained_more a b c k one.number before one.drained)
 
--- takings up to one after which nothing is pending
+-- Takes up to one after which nothing is pending.
 pub drain_out : (a b c : Running) (k most : ℕ) → k < most → Drained a k b → DrainsTo b 1 true c → DrainsTo a most true c
 drain_out a b c k most more before one = record {
   number = k + one.number;
@@ -179,7 +179,7 @@ drain_out a b c k most more before one = record {
     within : (k n most : ℕ) → k < most → n ≤ 1 → k + n ≤ most
     within k n most more few = omega (arith, more, few)
 
--- as many takings as are named
+-- As many takes as the step says.
 pub drain_full : (a b : Running) (k most : ℕ) → k ≡ most → Drained a k b
     → DrainsTo a most (length (pending b.cabling.seats (transcript b.cabling)) == 0) b
 drain_full a b k most full before = record {
@@ -190,7 +190,7 @@ drain_full a b k most full before = record {
   all = λ left. full;
 }
 
--- a taking after others is refused
+-- A take after others has an error.
 pub drain_stops : (a b c : Running) (k most : ℕ) (e : Error) → k < most → Drained a k b → DrainStops b 1 e c
     → (c ≡ b) × DrainStops a most e c
 drain_stops a b c k most e more before stop =

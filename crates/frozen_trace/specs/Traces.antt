@@ -1,4 +1,4 @@
--- What the steps of a script do to a run over frozen tables, and what is printed of it. This project's own.
+-- The effects of a script's steps on a run over frozen tables, and the text that is printed.
 use Rattle.std.specs.Prelude.{◌≡◌, ◌≢◌, ℕ, Bool, true, false, List, [], ◌∷◌, ◌++◌, None, Some, codes, drop, length}
 use Rattle.std.specs.Fmt.{decimal}
 use Rattle.std.specs.List.{flat_map}
@@ -22,33 +22,33 @@ use Rattle.table_image.specs.Internet.{Internet}
 use Rattle.trace_lines.specs.Lines.{Printed, cable_of, lines}
 use Rattle.trace_lines.specs.Stations.{directory_of}
 
--- the cables on which frames were put, one for each frame
+-- The cables of the frames that were put, one for each frame.
 abbrev pub cables_of : List Entry → List ℕ
 cables_of entries = flat_map cable_of entries
 
--- what one knows who has printed all entries of a run
+-- The state of a printer that has printed all entries of a run.
 abbrev pub all_printed : Running → Printed
 all_printed r = record { directory = directory_of r.internet; cables = cables_of (transcript r.cabling) }
 
--- the entries that a run has and another, earlier one hadn't
+-- The entries of a run that an earlier state of it didn't have.
 abbrev pub added : Running → Running → List Entry
 added old new = drop (length old.cabling.lines) (transcript new.cabling)
 
--- the lines of the entries that were added
+-- The lines of the entries that were added.
 abbrev pub told : Running → Running → List ℕ
 told old new = lines (directory_of old.internet) (cables_of (transcript old.cabling)) (added old new)
 
--- the line of a step that is refused
+-- The line of a step that has an error.
 abbrev pub refused_line : Error → List ℕ
 refused_line e = codes "refused " ++ decimal (number_of e) ++ 10 ∷ []
 
--- the last line: how many pairs of a frame and a station are pending
+-- The last line: how many pairs of a frame and a station are pending.
 abbrev pub pending_line : Running → List ℕ
 pending_line r = codes "pending " ++ decimal (length (pending r.cabling.seats (transcript r.cabling))) ++ 10 ∷ []
 
--- What a step does to a run, and the text that is printed of it: an event happens, or is refused for a reason of its own and
--- changes nothing; or frames are taken, as many as are named unless nothing is pending any more, or up to the first taking that
--- is refused.
+-- The effect of a step on a run, and the text that is printed: an event is carried out, or has an error other than
+-- Memory and changes nothing; or frames are taken, as many as the step says unless nothing is pending any more, or up
+-- to the first take that has an error other than Memory.
 pub data Plays : Running → Step → List ℕ → Running → Type 0 where
   Happening : (old new : Running) (e : Event) → refusal old e ≡ None → Happens old e new
       → Plays old (step.Event e) (told old new) new
@@ -59,14 +59,14 @@ pub data Plays : Running → Step → List ℕ → Running → Type 0 where
   Stopping : (old new : Running) (most : ℕ) (error : Error) → error ≢ Memory → DrainStops old most error new
       → Plays old (step.Drain most) (told old new ++ refused_line error) new
 
--- what steps do, one after the other, and the text that is printed of them
+-- The effect of steps, one after the other, and the text that is printed.
 pub data PlaysAll : Running → List Step → List ℕ → Running → Type 0 where
   Unplayed : (r : Running) → PlaysAll r [] [] r
   Played : (old between new : Running) (steps : List Step) (s : Step) (text more : List ℕ) → PlaysAll old steps text between
       → Plays between s more new → PlaysAll old (steps ++ s ∷ []) (text ++ more) new
 
--- The text is the trace of these steps over the frozen tables of an internet: its stations hold what its tables say, nothing
--- has happened, and at most 4,000,000 entries have room; then the steps are played; and last stands how many pairs are pending.
+-- The text is the trace of these steps over the frozen tables of an internet: the run starts with an empty transcript
+-- and room for 4,000,000 entries, the steps are carried out, and the last line has the number of pending pairs.
 pub record IsTrace (i : Internet) (steps : List Step) (text : List ℕ) : Type 0 where
   pub begun : Running
   pub ended : Running
@@ -78,8 +78,8 @@ pub record IsTrace (i : Internet) (steps : List Step) (text : List ℕ) : Type 0
   pub plays : PlaysAll begun steps played ended
   pub whole : text ≡ played ++ pending_line ended
 
--- What is printed of these steps over an internet: where it passes the audit, and the answer is yes, their trace; else the line
--- of the first fault.
+-- The text that is printed for these steps over an internet: if it passes the audit, the result is true and the text is
+-- their trace; otherwise the text is the line of the audit's first fault.
 abbrev pub IsPrinted : Internet → List Step → Bool → List ℕ → Type 0
 IsPrinted i steps true text = Passes i × IsTrace i steps text
 IsPrinted i steps false text = (f : Fault) × IsFirst i f × (text ≡ verdict_line (No f) ++ 10 ∷ [])

@@ -1,4 +1,5 @@
-//! The trace of a script over frozen tables: each step is played, and what it adds is printed.
+//! The trace of a script over frozen tables: carries out each step and prints the entries that it
+//! adds.
 #![tactic(auto)]
 
 mod playing;

@@ -1,4 +1,4 @@
-//! Steps of a script, one at a time.
+//! Carries out the steps of a script, one at a time.
 
 ghost use Rattle.std.specs.Prelude.{◌≡◌, ◌⊎◌, List, ℕ, true, IfErr, OnOk};
 ghost use Rattle.text.specs.Going.{Goes};
@@ -16,7 +16,7 @@ use std::alloc::Global;
 use std::io::Write;
 use trace_lines::Lines;
 
-/// Lets an event happen, and prints what it adds, or that it is refused.
+/// Carries out an event, and prints the entries that it adds, or its error.
 fn play_event<T: RouteTable, W: Write>(
     alloc: Global,
     run: &mut Frozen<T>,
@@ -41,7 +41,8 @@ fn play_event<T: RouteTable, W: Write>(
     }
 }
 
-/// Lets so many frames be taken, and prints what each taking adds; and at last the first refusal.
+/// Takes at most `most` pending frames, and prints the entries that each take adds; after a take
+/// that fails, prints its error and stops.
 fn play_drain<T: RouteTable, W: Write>(
     alloc: Global,
     run: &mut Frozen<T>,
@@ -74,7 +75,7 @@ fn play_drain<T: RouteTable, W: Write>(
     Ok(())
 }
 
-/// Plays a step.
+/// Carries out a step.
 fn play_step<T: RouteTable, W: Write>(
     alloc: Global,
     run: &mut Frozen<T>,
@@ -98,7 +99,7 @@ fn play_step<T: RouteTable, W: Write>(
     }
 }
 
-/// Plays steps, one after the other.
+/// Carries out steps, one after the other.
 pub fn play<T: RouteTable, W: Write>(
     alloc: Global,
     run: &mut Frozen<T>,

@@ -1,4 +1,4 @@
-//! What is printed of a run.
+//! Prints parts of a run.
 
 ghost use Rattle.std.specs.Prelude.{◌≡◌, ◌≢◌, ◌≤◌, ◌⊎◌, true, [], ◌∷◌, ◌++◌, drop, length, map, take};
 ghost use Rattle.std.specs.Prelude.{IfErr, OnOk};
@@ -20,10 +20,10 @@ use std::fmt::Write as _;
 use std::io::Write;
 use trace_lines::Lines;
 
-/// The longest line of a refusal or of what is pending, in bytes.
+/// The longest line of an error or of the pending count, in bytes.
 const MAX_LINE: usize = 32;
 
-/// The bytes of the number that an entry of a run names, and none where it names no number.
+/// The bytes of the number that an entry of a run names, and no bytes if it names no number.
 fn bytes_of<'a, T: RouteTable>(run: &'a Frozen<T>, entry: &Entry) -> &'a [u8]
     ensures { IsNamed run.now.cabling.kept entry.now result.now }
 {
@@ -85,7 +85,7 @@ fn print_entries<T: RouteTable, W: Write>(
     Ok(())
 }
 
-/// Prints the entries of a run from one on, before which all are printed.
+/// Prints the entries of a run from index `from` on. All entries before it were printed.
 pub fn print_from<T: RouteTable, W: Write>(
     run: &Frozen<T>,
     from: usize,
@@ -121,7 +121,7 @@ fn end_line<W: Write>(output: &mut Output<W>, line: &str) -> Result<(), Error>
     output.pass_on()
 }
 
-/// Prints that a step is refused.
+/// Prints the line of a step that has an error.
 fn print_refusal<W: Write>(
     alloc: Global,
     output: &mut Output<W>,
@@ -139,7 +139,7 @@ fn print_refusal<W: Write>(
     end_line(output, &line)
 }
 
-/// Prints that a step is refused, unless memory ran out: then that is the error.
+/// Prints the line of a step that has an error. `Memory` isn't printed: it is returned.
 pub fn refuse<W: Write>(alloc: Global, output: &mut Output<W>, error: &Error) -> Result<(), Error>
     ensures own { OnOk result (error.now ≢ Error.Memory) }
     ensures silent { error.now ≡ Error.Memory → output.new ≡ output.old }

@@ -18,16 +18,16 @@ use std::io::Write;
 use table_image::Image;
 use trace_lines::Lines;
 
-/// The most entries of a run.
+/// The greatest number of entries in a run.
 const LIMIT: u32 = 4_000_000;
 
-/// Plays a script over the frozen tables of an image, and prints its trace: the lines of the entries
-/// that each step adds, `refused N` for each step that is refused, and at last `pending N`. Lines go
-/// out as soon as there are many. Where the audit says no, the line of its verdict is printed alone.
-/// Returns whether the audit says yes.
+/// Carries out a script over the frozen tables of an image, and prints its trace: the lines of the
+/// entries that each step adds, `refused N` for each step that has an error, and finally `pending
+/// N`. Text is written in large pieces. If the image fails the audit, only the line of the audit's
+/// verdict is printed. Returns whether the image passes the audit.
 ///
-/// Errors: `Memory`; `WriteFault`, only where the writer failed. After an error, a part of the trace
-/// may have been written. This project's own.
+/// Errors: `Memory`; `WriteFault`, only if the writer failed. After an error, a part of the trace
+/// may have been written.
 pub fn trace_script<T: RouteTable, W: Write>(
     alloc: Global,
     image: Image,
@@ -58,7 +58,7 @@ pub fn trace_script<T: RouteTable, W: Write>(
     }
 }
 
-/// Plays a script over a run, and prints its trace.
+/// Carries out a script over a run, and prints its trace.
 fn trace_run<T: RouteTable, W: Write>(
     alloc: Global,
     run: &mut Frozen<T>,
@@ -75,7 +75,7 @@ fn trace_run<T: RouteTable, W: Write>(
         (e ≡ Error.Memory) ⊎ ((e ≡ Error.WriteFault) × (output.new.failed ≡ true))) }
     ensures stays { OnOk result (output.new.failed ≡ output.old.failed) }
 {
-    // For the prover alone: a run is one over frozen tables, and stays one.
+    // Only the prover needs these reads: the run is over frozen tables, before and after.
     let _begun = run.image();
     play(alloc, run, steps, lines, output)?;
     print_pending(alloc, run, output)?;

@@ -1,12 +1,12 @@
-//! What a place of an image should have agreed with.
+//! Shows the parts of an image with which a place is compared.
 
 use crate::item::{show_cable, show_no_zone, show_node, show_port, show_row};
 use at_base::{Addr, Hw};
 use std::io;
 use table_image::{Image, Node, Router, Row, ZoneList};
 
-/// The stations before a station that have its address or its hardware address: ports before the
-/// router and port `until`, and as many `nodes` from the first one on.
+/// Shows the stations before a station that have its address or its hardware address: the ports
+/// before port `until.1` of router `until.0`, and the first `nodes` nodes.
 pub(crate) fn show_earlier_stations(
     rt: &impl Eprint,
     image: &Image,
@@ -31,7 +31,7 @@ pub(crate) fn show_earlier_stations(
     Ok(())
 }
 
-/// The cables that share a network with the row.
+/// Shows the cables that share a network with the row.
 pub(crate) fn show_overlaps(rt: &impl Eprint, image: &Image, row: &Row) -> io::Result<()> {
     let mut found = false;
     for (index, cable) in image.cables().iter().enumerate() {
@@ -46,7 +46,7 @@ pub(crate) fn show_overlaps(rt: &impl Eprint, image: &Image, row: &Row) -> io::R
     eprintln!(rt; "  no cable has a network of {}-{}", row.start, row.end)
 }
 
-/// The cable of the row, and the router's port on it.
+/// Shows the cable of the row, and the router's port on it.
 pub(crate) fn show_home(
     rt: &impl Eprint,
     image: &Image,
@@ -73,7 +73,7 @@ pub(crate) fn show_home(
     Ok(())
 }
 
-/// The ports that have the address of the row's next router.
+/// Shows the ports that have the address of the row's next router.
 pub(crate) fn show_next(rt: &impl Eprint, image: &Image, r: usize, row: &Row) -> io::Result<()> {
     let mut found = false;
     for (index, router) in image.routers().iter().enumerate() {
@@ -93,7 +93,7 @@ pub(crate) fn show_next(rt: &impl Eprint, image: &Image, r: usize, row: &Row) ->
     eprintln!(rt; "  no router has a port with the address {}", row.next)
 }
 
-/// The row of the next router for the same range.
+/// Shows the row of the next router for the same range.
 pub(crate) fn show_step(rt: &impl Eprint, image: &Image, row: &Row) -> io::Result<()> {
     for (index, router) in image.routers().iter().enumerate() {
         let mut ports = router.ports.as_slice().iter();
@@ -114,7 +114,7 @@ pub(crate) fn show_step(rt: &impl Eprint, image: &Image, row: &Row) -> io::Resul
     Ok(())
 }
 
-/// The cable of the zone list's range.
+/// Shows the cable with the zone list's range.
 pub(crate) fn show_cable_of_list(
     rt: &impl Eprint,
     image: &Image,
@@ -128,8 +128,8 @@ pub(crate) fn show_cable_of_list(
     eprintln!(rt; "  no cable has the range {}-{}", list.start, list.end)
 }
 
-/// The stations that have the address of a node's router, where no router has a port with it on the
-/// node's cable.
+/// Shows the stations that have the address of a node's router, if no router has a port with it on
+/// the node's cable.
 pub(crate) fn show_own_router(
     rt: &impl Eprint,
     image: &Image,
@@ -163,7 +163,7 @@ pub(crate) fn show_own_router(
     eprintln!(rt; "  no router has a port with the address {address}")
 }
 
-/// That the node's cable doesn't have its zone, where that is so.
+/// Reports that the node's cable doesn't have the node's zone, if it doesn't.
 pub(crate) fn show_own_zone(rt: &impl Eprint, image: &Image, node: &Node) -> io::Result<()> {
     let Some(cable) = image.cables().get(node.cable as usize) else {
         return Ok(());

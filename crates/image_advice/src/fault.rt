@@ -1,4 +1,4 @@
-//! Why an input is refused.
+//! Why an input is invalid.
 
 use at_base::Cause;
 use std::io;
@@ -18,7 +18,7 @@ pub fn explain_kind(kind: ErrorKind) -> &'static str {
     }
 }
 
-/// What is wrong with an image.
+/// The fault of an image, in words.
 fn explain_cause(cause: Cause) -> &'static str {
     match cause {
         Cause::Cut => "it ends within a field; was it cut short?",
@@ -33,7 +33,7 @@ fn explain_cause(cause: Cause) -> &'static str {
     }
 }
 
-/// The place and the cause of an image's first fault, with the byte there.
+/// Prints the place and the cause of an image's first fault, with the byte at that place.
 pub fn explain_bytes(
     rt: &impl Eprint,
     place: u32,

@@ -1,10 +1,11 @@
-//! The parts of an image, each as a line: ranges, addresses and zones as people write them.
+//! Prints the parts of an image, each as a line, with ranges, addresses and zones as people write
+//! them.
 
 use at_base::{Hw, Name};
 use std::io;
 use table_image::{Cable, Node, Port, Row, ZoneList};
 
-/// The part of a number that counts from 1.
+/// The part with this number, counted from 1.
 pub(crate) fn at<T>(parts: &[T], number: u32) -> Option<&T> {
     match number.checked_sub(1) {
         Some(index) => parts.get(index as usize),
@@ -26,7 +27,7 @@ fn show_zones(rt: &impl Eprint, zones: &[Name]) -> io::Result<()> {
     eprintln!(rt; "")
 }
 
-/// A cable: its range and its zones.
+/// Prints a cable: its range and its zones.
 pub(crate) fn show_cable(rt: &impl Eprint, number: usize, cable: &Cable) -> io::Result<()> {
     eprint!(rt; "  cable {number}: {}-{}, zones", cable.start, cable.end)?;
     show_zones(rt, cable.zones.as_slice())
@@ -41,7 +42,7 @@ fn show_hardware(rt: &impl Eprint, hardware: &Hw) -> io::Result<()> {
     eprintln!(rt; "")
 }
 
-/// A port: its address, its cable and its hardware address.
+/// Prints a port: its address, its cable and its hardware address.
 pub(crate) fn show_port(
     rt: &impl Eprint,
     router: usize,
@@ -56,14 +57,14 @@ pub(crate) fn show_port(
     show_hardware(rt, &port.hardware)
 }
 
-/// A node: its address, its cable and its hardware address.
+/// Prints a node: its address, its cable and its hardware address.
 pub(crate) fn show_node(rt: &impl Eprint, number: usize, node: &Node) -> io::Result<()> {
     let cable = u32::from(node.cable) + 1;
     eprint!(rt; "  node {number}: {} on cable {cable}", node.address)?;
     show_hardware(rt, &node.hardware)
 }
 
-/// A node as it is served: its address, its cable, its zone and its router.
+/// Prints a node with its address, its cable, its zone and its router.
 pub(crate) fn show_service(rt: &impl Eprint, number: usize, node: &Node) -> io::Result<()> {
     let cable = u32::from(node.cable) + 1;
     eprint!(rt; "  node {number}: {} on cable {cable}, zone", node.address)?;
@@ -74,14 +75,14 @@ pub(crate) fn show_service(rt: &impl Eprint, number: usize, node: &Node) -> io::
     }
 }
 
-/// That a cable doesn't have the zone.
+/// Prints that a cable doesn't have the zone.
 pub(crate) fn show_no_zone(rt: &impl Eprint, number: usize, zone: &Name) -> io::Result<()> {
     eprint!(rt; "  cable {number} has no zone")?;
     show_zone(rt, zone)?;
     eprintln!(rt; "")
 }
 
-/// A zone list: its range and its zones.
+/// Prints a zone list: its range and its zones.
 pub(crate) fn show_list(
     rt: &impl Eprint,
     router: usize,
@@ -100,7 +101,7 @@ pub(crate) fn show_list(
     show_zones(rt, list.zones.as_slice())
 }
 
-/// A row of a routing table.
+/// Prints a row of a routing table.
 pub(crate) fn show_row(
     rt: &impl Eprint,
     router: usize,

@@ -1,6 +1,6 @@
-//! What a verdict or a refusal means, for a person at a terminal: the rule that is broken, the
-//! place that breaks it beside what it should have agreed with, and what to change. It writes to
-//! standard error alone, and promises no more than to return.
+//! Explains a failed audit or an invalid image to a person at a terminal: the rule that is broken,
+//! the place that breaks it, the parts with which it was compared, and what to change. It writes
+//! only to standard error, and promises only to return.
 #![tactic(auto)]
 
 mod beside;

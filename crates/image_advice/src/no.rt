@@ -1,4 +1,4 @@
-//! Why the verdict on an image is a no.
+//! Explains why an image fails the audit.
 
 use crate::place::explain_place;
 use crate::rule::{meaning, what_to_change};
@@ -6,8 +6,8 @@ use audit::{Verdict, audit};
 use std::io;
 use table_image::read;
 
-/// Judges the bytes of an image again, and explains the place that breaks a rule. Where the bytes
-/// are no image, keep the rules, or can't be read for lack of memory, nothing is written.
+/// Audits the bytes of an image again, and explains the place that breaks a rule. Writes nothing if
+/// the bytes are no image, if the image passes, or if there isn't enough memory to read it.
 pub fn explain_no(rt: &(impl Eprint + AllocGlobal), bytes: &[u8]) -> io::Result<()> {
     let image = match read(rt.alloc(), bytes) {
         Ok(image) => image,

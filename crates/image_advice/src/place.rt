@@ -1,4 +1,4 @@
-//! The place that breaks a rule, and beside it what it should have agreed with.
+//! Shows the place that breaks a rule, and the parts with which it was compared.
 
 use crate::beside::{
     show_cable_of_list, show_earlier_stations, show_home, show_next, show_overlaps,
@@ -9,7 +9,7 @@ use at_base::Place;
 use std::io;
 use table_image::{Image, Node, Row};
 
-/// Shows the place, and what it is compared with.
+/// Shows the place, and the parts with which it was compared.
 pub(crate) fn explain_place(
     rt: &impl Eprint,
     image: &Image,
@@ -33,7 +33,7 @@ pub(crate) fn explain_place(
     }
 }
 
-/// The cable of a number that counts from 1, if there is one.
+/// Shows the cable with this number, counted from 1, if there is one.
 fn show_cable_of(rt: &impl Eprint, image: &Image, number: u32) -> io::Result<()> {
     match at(image.cables(), number) {
         Some(cable) => show_cable(rt, number as usize, cable),
@@ -74,7 +74,8 @@ fn explain_node(rt: &impl Eprint, image: &Image, rule: u8, k: u32) -> io::Result
     show_earlier_stations(rt, image, node.address, &node.hardware, until, nodes)
 }
 
-/// A node that isn't served: its cable, the stations that have its router's address, and its zone.
+/// Shows a node with a wrong router or zone: its cable, the stations that have its router's
+/// address, and its zone.
 fn explain_service(rt: &impl Eprint, image: &Image, k: u32, node: &Node) -> io::Result<()> {
     show_service(rt, k as usize, node)?;
     show_cable_of(rt, image, u32::from(node.cable) + 1)?;
@@ -115,7 +116,7 @@ fn explain_list(rt: &impl Eprint, image: &Image, r: u32, k: u32) -> io::Result<(
     show_cable_of_list(rt, image, list)
 }
 
-/// The cable of the row's port.
+/// Shows the cable of the row's port.
 fn show_cable_of_port(
     rt: &impl Eprint,
     image: &Image,

@@ -1,6 +1,6 @@
-//! The rules, each in a sentence, and what to change where one is broken.
+//! The rules, each in a sentence, and what to change if one is broken.
 
-/// What the rule asks for.
+/// The rule in a sentence.
 pub(crate) fn meaning(rule: u8) -> &'static str {
     match rule {
         1 => {
@@ -38,7 +38,7 @@ pub(crate) fn meaning(rule: u8) -> &'static str {
     }
 }
 
-/// What to change.
+/// What to change if the rule is broken.
 pub(crate) fn what_to_change(rule: u8) -> &'static str {
     match rule {
         1 => {

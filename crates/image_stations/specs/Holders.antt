@@ -1,4 +1,4 @@
--- What the stations of an internet hold if their tables are those of its image.
+-- The contents of the stations of an internet whose tables are those of its image.
 use Rattle.std.specs.Prelude.{◌≡◌, ℕ, ◌+◌, List, map, length, Option, Some, None, is_some, slice_get}
 use Rattle.aarp.specs.Choosing.{Choice, decided}
 use Rattle.at_base.specs.Range.{Span}

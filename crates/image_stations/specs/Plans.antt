@@ -1,4 +1,4 @@
--- What the image has for the ports of stations.
+-- The image's entries for the ports of stations.
 use Rattle.std.specs.Prelude.{ℕ, Bool, ◌&&◌, List, slice_get}
 use Rattle.aarp.specs.Choosing.{is_on}
 use Rattle.at_base.specs.Range.{is_range}

@@ -14,8 +14,8 @@ use rtmp::RouteTable;
 use std::alloc::Global;
 use table_image::Image;
 
-#[tactic(auto, using(crate::proofs::Pushed::with_next))]
 /// Appends the routers with indexes from `from` on.
+#[tactic(auto, using(crate::proofs::Pushed::with_next))]
 fn put_routers<T: RouteTable>(
     stations: &mut Vec<Member<Router<T>, EndNode>>,
     image: &Image,
@@ -37,8 +37,8 @@ fn put_routers<T: RouteTable>(
     }
 }
 
-#[tactic(auto, using(crate::proofs::Pushed::with_next))]
 /// Appends the nodes with indexes from `from` on.
+#[tactic(auto, using(crate::proofs::Pushed::with_next))]
 fn put_nodes<T: RouteTable>(
     stations: &mut Vec<Member<Router<T>, EndNode>>,
     image: &Image,
@@ -59,8 +59,8 @@ fn put_nodes<T: RouteTable>(
     }
 }
 
-#[tactic(auto, using(crate::proofs::Pushed::none_first))]
 /// The stations of an image that passes the audit: its routers, then its nodes. Error: `Memory`.
+#[tactic(auto, using(crate::proofs::Pushed::none_first))]
 pub fn stations_of<T: RouteTable>(
     alloc: Global,
     image: &Image,

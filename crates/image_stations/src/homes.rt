@@ -160,7 +160,7 @@ impl Homes {
         Ok(Homes { cables })
     }
 
-    /// Finds the station that has the address on the cable. `None` if the cable isn't in the list.
+    /// Finds the station that has the address on the cable. `None` if the image has no such cable.
     /// Allocates nothing.
     pub fn find(&self, cable: u8, addr: Addr) -> Option<Found>
         ensures { result

@@ -65,8 +65,8 @@ fn among_ports(router: u16, ports: &[Port], cable: Option<u8>, addr: Addr) -> Op
     }
 }
 
-#[tactic(auto, using(crate::proofs::Finding::found_first))]
 /// The first port with the address, among the ports of routers that are numbered from `from` on.
+#[tactic(auto, using(crate::proofs::Finding::found_first))]
 fn among_routers(from: u16, routers: &[Router], cable: Option<u8>, addr: Addr) -> Option<Spot>
     requires few { from + length routers.now ≤ 200 }
     ensures { result ≡ spot_in (router_seats from routers.now) cable addr }
@@ -103,8 +103,8 @@ fn among_nodes(from: u16, nodes: &[Node], cable: Option<u8>, addr: Addr) -> Opti
     }
 }
 
-#[tactic(auto, using(crate::proofs::Finding::found_first, crate::proofs::Finding::found_later))]
 /// The first station that has the address, on this cable if one is named.
+#[tactic(auto, using(crate::proofs::Finding::found_first, crate::proofs::Finding::found_later))]
 fn spot_of(image: &Image, cable: Option<u8>, addr: Addr) -> Option<Spot>
     ensures { result ≡ spot_in (seats image.now) cable addr }
 {

@@ -1,4 +1,4 @@
--- What follows of values that are there.
+-- Consequences of values that exist.
 use Rattle.std.proofs.Common.{◌≡◌, ℕ, zero, suc, ◌+◌, ◌≤◌, Bool, true, false, ◌&&◌, cond, List, [], ◌∷◌, length, refl, sym, ap, subst, arith, take}
 use Rattle.std.specs.Prelude.{Option, Some, None, Result, Ok, Err, nat_le}
 use Rattle.std.specs.List.{list_all}
@@ -10,39 +10,39 @@ use Rattle.text.specs.Words.{given}
 use Rattle.at_base.specs.declared.error.Error.TheVariants.{BadFile}
 use Rattle.internet_file.specs.Entries.{after, all, before, each, numbered, part, part_up_to}
 
--- what is there is one thing
+-- Equal options have equal values.
 pub some_is : {X : Type 0} {a b : X} → Some a ≡ Some b → a ≡ b
 some_is {X} {a} {b} e = ap (λ o. unwrap_or o a) e
 
--- what was made of something was made of what was there
+-- A result that exists was made from a value that exists.
 pub given_is : {T U : Type 0} (x : Option T) (f : T → Option U) (y : U) → given x f ≡ Some y
     → (v : T) × (x ≡ Some v) × (f v ≡ Some y)
 given_is None f y e = absurd cc
 given_is (Some v) f y e = (v, refl, e)
 
--- what is there on a condition
+-- A conditional value that exists.
 pub cond_is : {T : Type 0} (b : Bool) (x y : T) → cond b (Some x) None ≡ Some y → (b ≡ true) × (x ≡ y)
 cond_is true x y e = (refl, some_is e)
 cond_is false x y e = absurd cc
 
--- entries were read, the first one and then the others
+-- Entries that were read: the first one, then the others.
 before_is : {T : Type 0} (got : Option T) (rest : Result (List T) ℕ) (xs : List T) → before got rest ≡ Ok xs
     → (x : T) × (ys : List T) × (got ≡ Some x) × (rest ≡ Ok ys) × (xs ≡ x ∷ ys)
 before_is None rest xs e = absurd cc
 before_is (Some x) (Ok ys) xs e = (x, ys, refl, refl, sym (some_is (ap result_ok e)))
 before_is (Some x) (Err k) xs e = absurd cc
 
--- as many as values, each of which passes
+-- The list is as long as the list of values, and each of its elements passes the test.
 Passing : {T : Type 0} → (T → Bool) → List Data → List T → Type 0
 Passing test ds xs = (list_all test xs ≡ true) × (length xs ≡ length ds)
 
--- both of two tests pass
+-- Two tests that pass.
 pub joined : (a b : Bool) → a ≡ true → b ≡ true → (a && b) ≡ true
 joined true true e f = refl
 joined true false e f = f
 joined false b e f = e
 
--- each entry that was read passes what each reading passes, and there are as many as values
+-- Each entry that was read passes the test that every read entry passes, and there are as many as values.
 pub each_all : {T : Type 0} (f : Data → Option T) (test : T → Bool)
     → ((d : Data) (x : T) → f d ≡ Some x → test x ≡ true)
     → (ds : List Data) (xs : List T) → each f ds ≡ Ok xs → (list_all test xs ≡ true) × (length xs ≡ length ds)
@@ -54,7 +54,7 @@ each_all {T} f test h (d ∷ ds) xs e =
     subst (λ (all : List T). (list_all test all ≡ true) × (length all ≡ suc (length ds))) (sym b.4)
     (joined (test b.0) (list_all test b.1) (h d b.0 b.2) others.0, ap suc others.1)
 
--- each was read, where all were
+-- If `all` has a result, `each` has the same.
 pub all_is : {T : Type 0} (f : Data → Option T) (ds : List Data) (xs : List T) → all f ds ≡ Some xs → each f ds ≡ Ok xs
 all_is f ds xs e = of (each f ds) e
   where
@@ -66,29 +66,29 @@ numbered_is : {T : Type 0} (p : Part) (r : Result (List T) ℕ) (xs : List T) �
 numbered_is p (Ok ys) xs e = ap Ok (some_is (ap result_ok e))
 numbered_is p (Err k) xs e = absurd cc
 
--- each was read, where the part was
+-- If `part` has a result, `each` has the same.
 pub part_is : {T : Type 0} (p : Part) (f : Data → Option T) (ds : List Data) (xs : List T) → part p f ds ≡ Ok xs
     → each f ds ≡ Ok xs
 part_is p f ds xs e = numbered_is p (each f ds) xs e
 
--- what followed was made of what was there
+-- A result of `after` was made from a first result.
 pub after_is : {T U E : Type 0} (r : Result T E) (f : T → Result U E) (y : U) → after r f ≡ Ok y
     → (v : T) × (r ≡ Ok v) × (f v ≡ Ok y)
 after_is (Ok v) f y e = (v, refl, e)
 after_is (Err k) f y e = absurd cc
 
--- a result on a condition
+-- A conditional result.
 ok_on : {T E : Type 0} (b : Bool) (x y : T) (stop : E) → cond b (Ok x) (Err stop) ≡ Ok y → x ≡ y
 ok_on true x y stop e = some_is (ap result_ok e)
 ok_on false x y stop e = absurd cc
 
--- a front is no longer than what was asked for
+-- The first n elements of a list are at most n.
 front_few : {T : Type 0} (n : ℕ) (xs : List T) → length (take n xs) ≤ n
 front_few zero xs = omega arith
 front_few (suc n) [] = omega arith
 front_few (suc n) (x ∷ xs) = let rest = front_few n xs in omega (arith, rest)
 
--- each entry of a part with a limit passes what each reading passes, and they are no more than the limit
+-- Each entry of a part with a limit passes the test that every read entry passes, and they are within the limit.
 pub part_all : {T : Type 0} (limit : ℕ) (p : Part) (f : Data → Option T) (test : T → Bool)
     → ((d : Data) (x : T) → f d ≡ Some x → test x ≡ true)
     → (ds : List Data) (xs : List T) → part_up_to limit p f ds ≡ Ok xs → (list_all test xs ≡ true) × (length xs ≤ limit)

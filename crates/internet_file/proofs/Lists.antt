@@ -1,4 +1,4 @@
--- Lists of values and tables of members, as the library of TOML sees them.
+-- Lists of values and tables of members, as the TOML library sees them.
 use Rattle.std.proofs.Common.{◌≡◌, ℕ, Bool, ◌&&◌, List, [], ◌∷◌, refl, ap, String, Global, string_bytes}
 use Rattle.std.specs.List.{list_all}
 use Rattle.std.specs.Map.{keys_of}
@@ -8,12 +8,12 @@ use Rattle.toml.specs.View.{items_of, members_view}
 use Rattle.internet_file.specs.Entries.{keys}
 use Rattle.internet_file.specs.Values.{values}
 
--- items made of a list are the list
+-- The items that were made from a list are the list.
 pub values_of_items : (ds : List Data) → values (items_of ds) ≡ ds
 values_of_items [] = refl
 values_of_items (d ∷ ds) = ap (λ l. d ∷ l) (values_of_items ds)
 
--- a test of all keys of a map is one of the keys of its members
+-- A test of all keys of a map is a test of all keys of its members.
 pub all_keys : (test : List ℕ → Bool) (es : List (String Global × Value))
     → list_all (λ k. test (string_bytes k)) (keys_of es) ≡ list_all test (keys (members_view es))
 all_keys test [] = refl

@@ -10,14 +10,14 @@ both : (b : Bool) → b ≡ true → not b ≡ true → ⊥
 both true is isnt = cc isnt
 both false is isnt = cc is
 
--- two numbers that are the least free one are the same
+-- Two numbers that are the lowest free one are equal.
 one_least : (names : List Named) (m n : ℕ) → IsLeastFree names m → IsLeastFree names n → m ≡ n
 one_least names m n a b =
     let upper : (m < n → ⊥) = λ lt. both (has m names) (b.least m a.some lt) a.free in
     let lower : (n < m → ⊥) = λ lt. both (has n names) (a.least n b.some lt) b.free in
     omega (arith, upper, lower)
 
--- the least free enumerator is the one that the definition names
+-- The lowest free enumerator is that of the definition.
 pub registers : (names : List Named) (s : Service) (e : ℕ) → IsNames names → IsLeastFree names e
     → with_name (record { socket = s.socket; enumerator = e; object = s.object; kind = s.kind }) names ≡ with_service names s
 registers names s e are least =

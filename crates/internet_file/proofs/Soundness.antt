@@ -140,7 +140,7 @@ node_is cables d n e =
     let names = given_is (names_in ms.0) _ n z.2 in
     subst (λ (x : Node). is_node cables x ≡ true) (some_is names.2) (in_is cables ms.0 p.0 p.1)
 
--- ---- What happens
+-- ---- Losses and actions
 
 loss_is : (ticks : ℕ) (cables : List Cable) (d : Data) (l : Loss) → loss_of ticks cables d ≡ Some l → is_loss cables l ≡ true
 loss_is ticks cables d l e =

@@ -1,4 +1,4 @@
--- The cables of an internet file. This project's own.
+-- The cables of an internet file.
 use Rattle.std.specs.Prelude.{ℕ, List, [], ◌∷◌, Option, Some, codes}
 use Rattle.toml.specs.Data.{Data}
 use Rattle.text.specs.Words.{given}
@@ -6,11 +6,11 @@ use Rattle.internet_file.specs.Entries.{all, at, entry}
 use Rattle.internet_file.specs.Values.{list_within, range, zone}
 use Rattle.internet_file.specs.declared.cable.Cable.{Cable}
 
--- 1 to 64 names of zones
+-- A list of 1 to 64 names of zones.
 abbrev pub zones : Data → Option (List (List ℕ))
 zones d = given (list_within 1 64 d) (all zone)
 
--- the cable that an entry stands for
+-- The cable in an entry.
 abbrev pub cable_of : Data → Option Cable
 cable_of d =
     given (entry (codes "range" ∷ codes "zones" ∷ []) d) (λ ms.

@@ -1,4 +1,4 @@
--- What holds of each plan. This project's own.
+-- Properties of each plan.
 use Rattle.std.specs.Prelude.{ℕ, ◌≤◌, Bool, false, ◌&&◌, IsTrue, List, Option, Some, None, length}
 use Rattle.std.specs.List.{list_all}
 use Rattle.at_base.specs.Range.{Span, is_between, is_range}
@@ -12,45 +12,45 @@ use Rattle.internet_file.specs.declared.node.Node.{Node}
 use Rattle.internet_file.specs.declared.port.Port.{Port}
 use Rattle.internet_file.specs.declared.router.Router.{Router}
 
--- the range is valid, and there are 1 to 64 zones
+-- The range is valid, and there are 1 to 64 zones.
 abbrev pub is_cable : Cable → Bool
 is_cable c = is_range c.range.start c.range.end && is_between 1 64 (length c.zones)
 
--- a station on a cable of this range may have the address
+-- A station on a cable with this range may try the address.
 abbrev pub may_try : Span → Addr → Bool
 may_try range a = is_between range.start range.end a.net && is_between 1 253 a.node
 
--- the stations of a cable may have each of the addresses
+-- The cable exists, and its stations may try each of the addresses.
 abbrev pub may_try_on : Option Cable → List Addr → Bool
 may_try_on None tries = false
 may_try_on (Some c) tries = list_all (may_try c.range) tries
 
--- there is a cable with this number, and its stations may have each of these addresses
+-- The cable with this number exists, and its stations may try each of these addresses.
 abbrev pub is_seated : List Cable → ℕ → List Addr → Bool
 is_seated cables k tries = is_between 1 (length cables) k && may_try_on (cable_at cables k) tries
 
--- a port of a router
+-- The router's port is on a cable that exists, and may try its addresses.
 abbrev pub is_port : List Cable → Port → Bool
 is_port cables p = is_seated cables p.cable p.tries
 
--- 1 to 16 ports, no two of them on cables that have a network in common
+-- The router has 1 to 16 valid ports, no two of them on cables that have a network in common.
 abbrev pub is_router : List Cable → Router → Bool
 is_router cables r =
     is_between 1 16 (length r.port) && list_all (is_port cables) r.port && are_apart cables r.port
 
--- a node
+-- The node is on a cable that exists, and may try its addresses.
 abbrev pub is_node : List Cable → Node → Bool
 is_node cables n = is_seated cables n.cable n.tries
 
--- there is a cable with the number of the loss
+-- The cable of the loss exists.
 abbrev pub is_loss : List Cable → Loss → Bool
 is_loss cables l = is_between 1 (length cables) l.cable
 
--- there is a node with the number of the action
+-- The node of the action exists.
 abbrev pub is_action : List Node → Action → Bool
 is_action nodes a = is_between 1 (length nodes) a.node
 
--- What each plan keeps: its limits, and what its parts say of one another.
+-- The invariant of a plan: its limits, and that its parts are consistent.
 pub record IsSound (p : Planned) : Type 0 where
   pub few_cables : length p.cables ≤ 200
   pub few_routers : length p.routers ≤ 200

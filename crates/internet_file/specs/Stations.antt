@@ -1,4 +1,4 @@
--- The routers and the nodes of an internet file. This project's own.
+-- The routers and the nodes of an internet file.
 use Rattle.std.specs.Prelude.{ℕ, ◌-◌, Bool, true, false, not, ◌&&◌, cond, List, [], ◌∷◌, Option, Some, None, codes, length}
 use Rattle.std.specs.Prelude.{nat_lt, slice_get}
 use Rattle.std.specs.List.{list_all}
@@ -16,26 +16,26 @@ use Rattle.internet_file.specs.declared.port.Port.{Port}
 use Rattle.internet_file.specs.declared.router.Router.{Router}
 use Rattle.internet_file.specs.declared.service.Service.{Service}
 
--- the cable with this number, from 1
+-- The cable with this number, from 1.
 abbrev pub cable_at : List Cable → ℕ → Option Cable
 cable_at cables k = slice_get cables (k - 1)
 
--- up to 16 addresses to try on the cable with this number
+-- A list of at most 16 addresses to try on the cable with this number.
 abbrev pub tries : List Cable → ℕ → Data → Option (List Addr)
 tries cables k d = given (cable_at cables k) (λ cable. given (list_within 0 16 d) (all (try_of cable.range)))
 
--- the port, of a router or a node, that the members of an entry stand for
+-- The port of a router or a node in the members of an entry.
 abbrev pub port_in : List Cable → Members → Option Port
 port_in cables ms =
     given (at (codes "cable") (one_of cables) ms) (λ k. given (at (codes "hardware") hardware ms) (λ hw.
     given (at (codes "try") (tries cables k) ms) (λ addresses.
     Some (record { cable = k; hardware = hw; tries = addresses }))))
 
--- the port that an entry of a router stands for
+-- The port in an entry of a router.
 abbrev pub port_of : List Cable → Data → Option Port
 port_of cables d = given (entry (codes "cable" ∷ codes "hardware" ∷ codes "try" ∷ []) d) (port_in cables)
 
--- the cables of the two ports have a network in common, as one cable has with itself
+-- The cables of the two ports have a network in common, as a cable has with itself.
 abbrev pub meet : List Cable → Port → Port → Bool
 meet cables p q = of (cable_at cables p.cable) (cable_at cables q.cable)
   where
@@ -43,23 +43,23 @@ meet cables p q = of (cable_at cables p.cable) (cable_at cables q.cable)
     of (Some a) (Some b) = overlaps a.range b.range
     of _ _ = false
 
--- no two of the ports are on cables that have a network in common
+-- No two of the ports are on cables that have a network in common.
 abbrev pub are_apart : List Cable → List Port → Bool
 are_apart cables [] = true
 are_apart cables (p ∷ ports) = list_all (λ q. not (meet cables p q)) ports && are_apart cables ports
 
--- 1 to 16 ports, no two of them on cables that have a network in common
+-- A list of 1 to 16 ports, no two of them on cables that have a network in common.
 abbrev pub ports : List Cable → Data → Option (List Port)
 ports cables d =
     given (list_within 1 16 d) (λ ds. given (all (port_of cables) ds) (λ ps. cond (are_apart cables ps) (Some ps) None))
 
--- the router that an entry stands for
+-- The router in an entry.
 abbrev pub router_of : List Cable → Data → Option Router
 router_of cables d =
     given (entry (codes "port" ∷ []) d) (λ ms. given (at (codes "port") (ports cables) ms) (λ ps.
     Some (record { port = ps })))
 
--- the service that an entry of a node's names stands for
+-- The service in an entry of a node's names.
 abbrev pub service_of : Data → Option Service
 service_of d =
     given (entry (codes "object" ∷ codes "type" ∷ codes "socket" ∷ []) d) (λ ms.
@@ -67,31 +67,31 @@ service_of d =
     given (at (codes "socket") (number 1 254) ms) (λ socket.
     Some (record { object = object; kind = kind; socket = socket })))))
 
--- a node with these names may register the service
+-- A node with these names may register the service.
 abbrev pub may_register : List Named → Service → Bool
 may_register names s =
     is_registrable s.object && is_registrable s.kind && not (is_taken s.object s.kind names) && nat_lt (length names) 32
 
--- the names with that of the service, which has the least free enumerator
+-- The names with that of the service, which has the lowest free enumerator.
 abbrev pub with_service : List Named → Service → List Named
 with_service names s =
     with_name (record { socket = s.socket; enumerator = free_from 1 names; object = s.object; kind = s.kind }) names
 
--- the names of a node with these ones that registers, in turn, the services that entries stand for
+-- The names of a node that has these names and then registers, in order, the services in these entries.
 abbrev pub registered : List Named → List Data → Option (List Named)
 registered names [] = Some names
 registered names (d ∷ ds) =
     given (service_of d) (λ s. cond (may_register names s) (registered (with_service names s) ds) None)
 
--- the names that the members of a node's entry stand for
+-- The names in the members of a node's entry.
 abbrev pub names_in : Members → Option (List Named)
 names_in ms = given (list_at (codes "name") ms) (registered [])
 
--- the keys of a node
+-- The keys of a node.
 abbrev pub node_keys : List (List ℕ)
 node_keys = codes "cable" ∷ codes "hardware" ∷ codes "try" ∷ codes "zone" ∷ codes "name" ∷ []
 
--- the node that an entry stands for
+-- The node in an entry.
 abbrev pub node_of : List Cable → Data → Option Node
 node_of cables d =
     given (entry node_keys d) (λ ms. given (port_in cables ms) (λ p. given (at (codes "zone") zone ms) (λ z.

@@ -1,4 +1,4 @@
-//! What nodes do.
+//! The actions of nodes.
 
 ghost use Rattle.std.specs.Prelude.{◌≡◌, Some, codes, IfOk, IsOkUnless};
 ghost use Rattle.toml.specs.Data.{as_str};
@@ -18,25 +18,25 @@ use at_base::{Addr, Bytes, Error, Text32};
 use std::alloc::Global;
 use toml::{Table, Value};
 
-/// What a node does in an action. This project's own.
+/// An operation of a node.
 #[derive(Debug, Drop)]
 pub enum Do {
-    /// It sends a datagram without a checksum.
+    /// Sends a datagram without a checksum.
     Send {
-        /// Where to: any network, and any node.
+        /// The target: any network, and any node.
         to: Addr,
-        /// The socket there.
+        /// The target socket.
         socket: u8,
-        /// The socket that it is sent from.
+        /// The source socket.
         source: u8,
         /// The type of the datagram.
         kind: u8,
-        /// The data. There may be more than a datagram can have.
+        /// The data. It may be longer than a datagram can carry.
         hex: Bytes,
     },
-    /// It asks for the names that match.
+    /// Asks for the names that match.
     Lookup {
-        /// The number that replies repeat; its low byte is sent.
+        /// The ID that replies repeat; its low byte is sent.
         id: u16,
         /// The object, 1 to 32 bytes.
         object: Text32,
@@ -47,14 +47,14 @@ pub enum Do {
     },
 }
 
-/// An action of a node. This project's own.
+/// An action of a node.
 #[derive(Debug, Drop)]
 pub struct Action {
     /// The tick in which it happens, from 1.
     pub at: u32,
     /// The number of the node, from 1.
     pub node: u16,
-    /// What the node does.
+    /// The operation.
     pub action: Do,
 }
 
@@ -69,7 +69,7 @@ fn hex_at(alloc: Global, table: &Table, key: &str) -> Result<Option<Bytes>, Erro
     }
 }
 
-/// The datagram that an entry stands for, with these bytes.
+/// The datagram in an entry, with these bytes as its data.
 fn send_of(table: &Table, hex: Bytes) -> Option<Do>
     requires { at (codes "hex") spec.hex (table_view table.now) ≡ Some hex }
     ensures { result ≡ sending (table_view table.now) }
@@ -83,7 +83,7 @@ fn send_of(table: &Table, hex: Bytes) -> Option<Do>
     })
 }
 
-/// The datagram that an entry stands for. Error: `Memory`.
+/// The datagram in an entry. Error: `Memory`.
 fn send(alloc: Global, table: &Table) -> Result<Option<Do>, Error>
     ensures read { IfOk result (λ x. x ≡ sending (table_view table.now)) }
     ensures refused { IsOkUnless result Error.Memory }
@@ -94,7 +94,7 @@ fn send(alloc: Global, table: &Table) -> Result<Option<Do>, Error>
     Ok(send_of(table, hex))
 }
 
-/// The lookup that an entry stands for.
+/// The lookup in an entry.
 fn lookup(table: &Table) -> Option<Do>
     ensures { result ≡ looking_up (table_view table.now) }
 {
@@ -112,7 +112,7 @@ fn is_word(word: &[u8], other: &[u8]) -> bool
     word == other
 }
 
-/// What the word has a node do. Error: `Memory`.
+/// The operation that the word names. Error: `Memory`.
 fn done(alloc: Global, table: &Table, word: &[u8]) -> Result<Option<Do>, Error>
     ensures read { IfOk result (λ x. x ≡ doing (table_view table.now) word.now) }
     ensures refused { IsOkUnless result Error.Memory }
@@ -134,7 +134,7 @@ fn done(alloc: Global, table: &Table, word: &[u8]) -> Result<Option<Do>, Error>
     Ok(None)
 }
 
-/// What an action has its node do. Error: `Memory`.
+/// The operation in an action's entry. Error: `Memory`.
 fn do_at(alloc: Global, table: &Table, key: &str) -> Result<Option<Do>, Error>
     ensures read { IfOk result (λ x.
         x ≡ given (at key.now as_str (table_view table.now)) (doing (table_view table.now))) }
@@ -149,7 +149,7 @@ fn do_at(alloc: Global, table: &Table, key: &str) -> Result<Option<Do>, Error>
     }
 }
 
-/// Reads actions of these nodes in so many ticks.
+/// Reads actions of these nodes, in a file with this many ticks.
 #[derive(Clone, Copy)]
 pub(crate) struct Actions<'a> {
     pub(crate) ticks: u32,

@@ -12,7 +12,7 @@ use text::hex::{nibble, pairs};
 use std::alloc::Global;
 use toml::Value;
 
-/// The byte of the first two of some hexadecimal digits, and the digits after them.
+/// The byte of the first two hexadecimal digits, and the digits after them.
 fn first_pair(digits: &[u8]) -> Option<(u8, &[u8])>
     requires { 0 < length digits.now }
     ensures some { IfSome result (λ x.

@@ -16,7 +16,7 @@ use at_base::{Error, Name, Range};
 use std::alloc::Global;
 use toml::{Table, Value};
 
-/// A cable. This project's own.
+/// A cable.
 #[derive(Debug, Drop)]
 pub struct Cable {
     /// The networks of the cable.

@@ -11,21 +11,20 @@ use at_base::{Error, Part};
 use std::alloc::Global;
 use toml::Value;
 
-/// What entries of one kind stand for.
+/// Reads entries of one kind.
 pub(crate) trait Reader {
     type Entry: Drop;
 
-    // What an entry stands for, if anything.
+    // The meaning of an entry, or None if the entry is invalid.
     ghost meaning: { Self → Data → Option Self.Entry };
 
-    /// What the value stands for, if anything. Error: `Memory`.
+    /// Reads the value, and returns `None` if it is invalid. Error: `Memory`.
     fn read_one(&self, alloc: Global, value: &Value) -> Result<Option<Self::Entry>, Error>
         ensures read { IfOk result (λ x. x ≡ meaning self.now (view value.now)) }
         ensures refused { IsOkUnless result Error.Memory };
 }
 
-/// What each of the values stands for, or the index of the first that stands for nothing. Error:
-/// `Memory`.
+/// Reads each of the values, or returns the index of the first invalid one. Error: `Memory`.
 fn each<R: Reader>(
     alloc: Global,
     reader: &R,
@@ -44,7 +43,7 @@ fn each<R: Reader>(
     Ok(Ok(Listed::from_vec(entries)))
 }
 
-/// What each of the values stands for, if each stands for something. Error: `Memory`.
+/// Reads each of the values, and returns `None` if one is invalid. Error: `Memory`.
 pub(crate) fn all<R: Reader>(
     alloc: Global,
     reader: &R,
@@ -59,8 +58,8 @@ pub(crate) fn all<R: Reader>(
     }
 }
 
-/// What the entries of a part stand for. Errors: `BadFile` with the number of the first that stands
-/// for nothing, counted from 1; `Memory`.
+/// Reads the entries of a part. Errors: `BadFile` with the number of the first invalid entry,
+/// counted from 1, at most 4,294,967,295; `Memory`.
 pub(crate) fn part<R: Reader>(
     alloc: Global,
     name: Part,
@@ -86,7 +85,7 @@ pub(crate) fn part<R: Reader>(
     }
 }
 
-/// The values up to a limit.
+/// The first `limit` values, or all if there are fewer.
 fn up_to(limit: u32, values: &[Value]) -> &[Value]
     ensures { map view result.now ≡ take limit (map view values.now) }
 {
@@ -97,8 +96,8 @@ fn up_to(limit: u32, values: &[Value]) -> &[Value]
     }
 }
 
-/// What the entries of a part stand for. Errors: `BadFile` with the number of the first that stands
-/// for nothing, or that of the one past the limit; `Memory`.
+/// Reads the entries of a part with at most `limit` of them. Errors: `BadFile` with the number of
+/// the first invalid entry, counted from 1 (the entry after the limit counts as invalid); `Memory`.
 pub(crate) fn part_up_to<R: Reader>(
     alloc: Global,
     limit: u32,

@@ -1,4 +1,4 @@
-//! What stands at a key of an entry.
+//! Readers for the value at a key of an entry.
 
 ghost use Rattle.std.specs.Prelude.{◌≡◌, ◌≤◌, IfSome, length};
 ghost use Rattle.toml.specs.View.{table_view};
@@ -11,7 +11,7 @@ use crate::value::{any_address, number, one_of, range, short, zone};
 use at_base::{Addr, Hw, Name, Range, Text32};
 use toml::Table;
 
-/// The number at the key, if it is an integer from a low one to a high one.
+/// The number at the key, if it is an integer from `low` to `high`.
 pub(crate) fn number_at(table: &Table, key: &str, low: u32, high: u32) -> Option<u32>
     ensures value { result ≡ at key.now (spec.number low high) (table_view table.now) }
     ensures low { IfSome result (λ n. low ≤ n) }
@@ -27,7 +27,7 @@ pub(crate) fn byte_at(table: &Table, key: &str) -> Option<u8>
     Some(number_at(table, key, 0, 255)? as u8)
 }
 
-/// The number at the key of one of the entries, counted from 1.
+/// The number at the key, counted from 1, of one of the entries.
 pub(crate) fn one_at<T>(table: &Table, key: &str, entries: &[T]) -> Option<u16>
     ensures value { result ≡ at key.now (spec.one_of entries.now) (table_view table.now) }
     ensures low { IfSome result (λ k. 1 ≤ k) }
@@ -36,7 +36,7 @@ pub(crate) fn one_at<T>(table: &Table, key: &str, entries: &[T]) -> Option<u16>
     one_of(entries, get(table, key)?)
 }
 
-/// The text at the key, of at least so many bytes and at most 32.
+/// The text at the key, of at least `low` and at most 32 bytes.
 pub(crate) fn short_at(table: &Table, key: &str, low: usize) -> Option<Text32>
     ensures { result ≡ at key.now (spec.short low) (table_view table.now) }
 {

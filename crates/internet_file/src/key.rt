@@ -1,4 +1,4 @@
-//! What stands at a key of a table.
+//! The keys of a table and their values.
 
 ghost use Rattle.std.specs.Prelude.{◌≡◌, map, Some, None, IfSome, IfNone, bytes_eq, string_bytes};
 ghost use Rattle.std.specs.BTreeMap.{keys as btree_keys};
@@ -10,7 +10,7 @@ ghost use Rattle.internet_file.specs.Entries as spec;
 use crate::value::list;
 use toml::{Table, Value};
 
-/// The value at the key, if there is one.
+/// The value at the key, if the table has the key.
 pub(crate) fn get<'a>(table: &'a Table, key: &str) -> Option<&'a Value>
     ensures some { IfSome result (λ v.
         get_member key.now (table_view table.now) ≡ Some (view v.now)) }
@@ -41,14 +41,14 @@ fn are_among(named: &[&str], table: &Table) -> bool
     table.keys().all(|key| is_among(key.as_str(), named))
 }
 
-/// Whether the table has no keys but these.
+/// Whether the table has only these keys.
 pub(crate) fn has_only(named: &[&str], table: &Table) -> bool
     ensures { result ≡ spec.has_only (map (λ k. k.now) named.now) (table_view table.now) }
 {
     are_among(named, table)
 }
 
-/// The value as a table that has no keys but these.
+/// The value as a table that has only these keys.
 pub(crate) fn entry<'a>(named: &[&str], value: &'a Value) -> Option<&'a Table>
     ensures some { IfSome result (λ t.
         spec.entry (map (λ k. k.now) named.now) (view value.now) ≡ Some (table_view t.now)) }
@@ -62,7 +62,7 @@ pub(crate) fn entry<'a>(named: &[&str], value: &'a Value) -> Option<&'a Table>
     }
 }
 
-/// The values of the list at a key that may be absent.
+/// The values of the list at a key. An absent key is an empty list.
 pub(crate) fn list_at<'a>(table: &'a Table, key: &str) -> Option<&'a [Value]>
     ensures some { IfSome result (λ vs.
         spec.list_at key.now (table_view table.now) ≡ Some (map view vs.now)) }

@@ -1,4 +1,4 @@
-//! Internet files: what a network is made of and what happens in it when, in TOML.
+//! Internet files, in TOML: a network, and what happens in it in each tick.
 #![tactic(auto)]
 
 mod action;

@@ -1,11 +1,10 @@
-//! Lists that own their memory, which contracts see as lists.
+//! Lists that own their memory.
 
 ghost use Rattle.std.specs.Prelude.{◌≡◌, ◌==◌, length};
 
 use std::marker::Model;
 
-/// Values one after the other, which own their memory; contracts see the list of them. This
-/// project's own.
+/// A list of values that owns its memory. Contracts see it as a list.
 #[derive(Debug, Drop)]
 pub struct Listed<T> {
     items: Vec<T>,

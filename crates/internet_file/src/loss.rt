@@ -12,18 +12,18 @@ use at_base::Error;
 use std::alloc::Global;
 use toml::Value;
 
-/// Every frame that is put on a cable in some ticks is lost to all. This project's own.
+/// Every frame that is put on the cable in these ticks is lost for all stations.
 #[derive(Clone, Copy, Debug, PartialEq, Eq)]
 pub struct Loss {
     /// The number of the cable, from 1.
     pub cable: u16,
     /// The first tick, from 1.
     pub first: u32,
-    /// The last tick, which isn't before the first.
+    /// The last tick, not before the first.
     pub last: u32,
 }
 
-/// The loss that an entry stands for.
+/// The loss in an entry.
 fn read_loss(ticks: u32, cables: &[Cable], value: &Value) -> Option<Loss>
     ensures { result ≡ loss_of ticks cables.now (view value.now) }
 {
@@ -34,7 +34,7 @@ fn read_loss(ticks: u32, cables: &[Cable], value: &Value) -> Option<Loss>
     Some(Loss { cable, first, last })
 }
 
-/// Reads losses of these cables in so many ticks.
+/// Reads losses of these cables, in a file with this many ticks.
 #[derive(Clone, Copy)]
 pub(crate) struct Losses<'a> {
     pub(crate) ticks: u32,

@@ -1,4 +1,4 @@
-//! The names of a node, which registers its services in turn.
+//! The names of a node, which registers its services in order.
 
 ghost use Rattle.std.specs.Prelude.{◌≡◌, ◌≤◌, [], true, map, IfOk, IsOkUnless};
 ghost use Rattle.toml.specs.View.{table_view, view};
@@ -11,7 +11,7 @@ use nbp::Names;
 use std::alloc::Global;
 use toml::{Table, Value};
 
-/// Registers the service, if a node with these names may. Error: `Memory`.
+/// Registers the service if a node with these names may. Returns whether it did. Error: `Memory`.
 fn register(names: &mut Names, service: &Service) -> Result<bool, Error>
     requires low { 1 ≤ service.now.socket }
     requires high { service.now.socket ≤ 254 }
@@ -19,7 +19,7 @@ fn register(names: &mut Names, service: &Service) -> Result<bool, Error>
     ensures added { IfOk result (λ b. b ≡ true → names.new ≡ with_service names.old service.now) }
     ensures refused { IsOkUnless result Error.Memory }
 {
-    // Read for the prover alone: what is known of all names is known of these.
+    // Only the prover needs this read: the invariant of all names holds of these.
     let _names = names.entries();
     match names.register(service.object, service.kind, service.socket) {
         Ok(_) => Ok(true),
@@ -28,7 +28,7 @@ fn register(names: &mut Names, service: &Service) -> Result<bool, Error>
     }
 }
 
-/// The names of a node that registers the services of these entries in turn, if it may. Error:
+/// The names of a node that registers the services of these entries in order, if it may. Error:
 /// `Memory`.
 fn registered_of(alloc: Global, values: &[Value]) -> Result<Option<Names>, Error>
     ensures read { IfOk result (λ x. x ≡ registered [] (map view values.now)) }
@@ -46,7 +46,7 @@ fn registered_of(alloc: Global, values: &[Value]) -> Result<Option<Names>, Error
     Ok(Some(names))
 }
 
-/// The names that a node's entry stands for. Error: `Memory`.
+/// The names in a node's entry. Error: `Memory`.
 pub(crate) fn names_at(alloc: Global, table: &Table) -> Result<Option<Names>, Error>
     ensures read { IfOk result (λ x. x ≡ names_in (table_view table.now)) }
     ensures refused { IsOkUnless result Error.Memory }

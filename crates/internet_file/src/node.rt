@@ -14,7 +14,7 @@ use nbp::Names;
 use std::alloc::Global;
 use toml::Value;
 
-/// A node. This project's own.
+/// A node.
 #[derive(Debug, Drop)]
 pub struct Node {
     /// The number of its cable, from 1.
@@ -23,9 +23,9 @@ pub struct Node {
     pub hardware: Hw,
     /// The addresses to try first, at most 16: nodes 1 to 253 of the cable's networks.
     pub tries: Listed<Addr>,
-    /// The zone that it is in.
+    /// Its zone.
     pub zone: Name,
-    /// Its names, as it registers them in turn.
+    /// Its names, registered in order.
     pub name: Names,
 }
 

@@ -16,7 +16,7 @@ use at_base::{Error, Part};
 use std::alloc::Global;
 use toml::Table;
 
-/// The cables, at most 200. Errors: the first at fault; `Memory`.
+/// The cables, at most 200. Errors: that of the first invalid entry; `Memory`.
 #[tactic(auto, unfolding(crate::specs::Files::cables_in))]
 pub(crate) fn read_cables(alloc: Global, table: &Table) -> Result<Listed<Cable>, Error>
     ensures read { IfOk result (λ xs. cables_in (table_view table.now) ≡ Ok xs) }
@@ -26,7 +26,7 @@ pub(crate) fn read_cables(alloc: Global, table: &Table) -> Result<Listed<Cable>,
     part_up_to(alloc, 200, Part::Cable, &Cables, entries_at(table, "cable"))
 }
 
-/// The routers, at most 200. Errors: the first at fault; `Memory`.
+/// The routers, at most 200. Errors: that of the first invalid entry; `Memory`.
 #[tactic(auto, unfolding(crate::specs::Files::routers_in))]
 pub(crate) fn read_routers(
     alloc: Global,
@@ -47,7 +47,7 @@ pub(crate) fn read_routers(
     )
 }
 
-/// The nodes, at most 200. Errors: the first at fault; `Memory`.
+/// The nodes, at most 200. Errors: that of the first invalid entry; `Memory`.
 #[tactic(auto, unfolding(crate::specs::Files::nodes_in))]
 pub(crate) fn read_nodes(
     alloc: Global,
@@ -62,7 +62,7 @@ pub(crate) fn read_nodes(
     part_up_to(alloc, 200, Part::Node, &reader, entries_at(table, "node"))
 }
 
-/// The losses. Errors: the first at fault; `Memory`.
+/// The losses. Errors: that of the first invalid entry; `Memory`.
 #[tactic(auto, unfolding(crate::specs::Files::losses_in))]
 pub(crate) fn read_losses(
     alloc: Global,
@@ -81,7 +81,7 @@ pub(crate) fn read_losses(
     }
 }
 
-/// The actions. Errors: the first at fault; `Memory`.
+/// The actions. Errors: that of the first invalid entry; `Memory`.
 #[tactic(auto, unfolding(crate::specs::Files::actions_in))]
 pub(crate) fn read_actions(
     alloc: Global,

@@ -1,4 +1,4 @@
-//! What an internet file plans.
+//! The plan in an internet file.
 
 ghost use Rattle.std.specs.Prelude.{◌≡◌};
 ghost use Rattle.internet_file.specs.Sound.{IsSound};
@@ -11,7 +11,7 @@ use crate::node::Node;
 use crate::router::Router;
 use std::marker::Model;
 
-/// What an internet file plans: a network, and what happens in it when. This project's own.
+/// The plan in an internet file: a network, and what happens in it in each tick.
 #[derive(Debug, Drop)]
 pub struct Plan {
     pub(crate) ticks: u32,
@@ -48,7 +48,7 @@ impl Model for Plan {
 }
 
 impl Plan {
-    /// How many ticks it takes, 1 to 100,000.
+    /// The number of ticks, 1 to 100,000.
     pub fn ticks(&self) -> u32
         ensures { result ≡ self.now.ticks }
     {

@@ -1,4 +1,4 @@
-//! Ports: where routers and nodes are on cables.
+//! Ports: routers and nodes on cables.
 
 ghost use Rattle.std.specs.Prelude.{◌≡◌, ◌≤◌, IfOk, IsOkUnless};
 ghost use Rattle.toml.specs.View.{table_view};
@@ -17,7 +17,7 @@ use at_base::{Addr, Error, Hw, Range};
 use std::alloc::Global;
 use toml::{Table, Value};
 
-/// A port of a router, or that of a node. This project's own.
+/// A port of a router, or that of a node.
 #[derive(Debug, Drop)]
 pub struct Port {
     /// The number of the cable, from 1.
@@ -44,7 +44,7 @@ impl Reader for Tries {
     }
 }
 
-/// The addresses at the key that are to be tried on a cable. Error: `Memory`.
+/// The addresses at the key, to try on a cable. Error: `Memory`.
 fn tries_at(
     alloc: Global,
     table: &Table,
@@ -69,7 +69,7 @@ fn tries_at(
     all(alloc, &Tries { range: cable.range }, values)
 }
 
-/// The port of which the table has the cable, the hardware address and the addresses to try. Error:
+/// The port in a table with its cable, its hardware address and the addresses to try. Error:
 /// `Memory`.
 pub(crate) fn port_at(alloc: Global, table: &Table, cables: &[Cable]) -> Result<Option<Port>, Error>
     ensures read { IfOk result (λ x. x ≡ port_in cables.now (table_view table.now)) }

@@ -1,4 +1,4 @@
-//! From the text of a file to its plan.
+//! Reads the plan from the text of a file.
 
 ghost use Rattle.std.specs.Prelude.{◌≡◌, ◌⊎◌, Ok, Err, IfOk, IfErr};
 ghost use Rattle.toml.specs.View.{table_view};
@@ -11,7 +11,7 @@ use at_base::{Error, Part};
 use std::alloc::Global;
 use toml::Table;
 
-/// The plan that a document stands for. Errors: its first fault; `Memory`.
+/// The plan in a document. Errors: that of its first fault; `Memory`.
 fn plan(alloc: Global, table: &Table) -> Result<Plan, Error>
     ensures read { IfOk result (λ p. file (table_view table.now) ≡ Ok p) }
     ensures refused { IfErr result (λ e.
@@ -51,13 +51,13 @@ fn plan(alloc: Global, table: &Table) -> Result<Plan, Error>
     })
 }
 
-/// Reads an internet file: TOML with a number of `ticks`, and with the tables `cable`, `router`,
+/// Reads an internet file: TOML with the key `ticks`, and with the tables `cable`, `router`,
 /// `node`, `lose` and `action`, each of which may be absent. docs/FORMATS.md has their keys.
 ///
-/// Errors: `BadFile` with `Text` and 0 where the text is no TOML; with `Top` and 0 where `ticks` is
-/// absent or wrong, a key at the top is none of these, or a table's name is that of no list; with
-/// the part and the number of the first entry at fault, from 1, in the order `Cable`, `Router`,
-/// `Node`, `Lose`, `Action`. `Memory` may come before any of these. This project's own.
+/// Errors: `BadFile` with `Text` and 0 if the text isn't TOML; with `Top` and 0 if `ticks` is
+/// absent or invalid, if the top level has another key, or if one of these tables isn't a list;
+/// with the part and the number of its first invalid entry, from 1, in the order `Cable`, `Router`,
+/// `Node`, `Lose`, `Action`. `Memory` may come before any of these.
 pub fn read(alloc: Global, text: &[u8]) -> Result<Plan, Error>
     ensures plan { IfOk result (λ p. IsFile text.now p) }
     ensures refused { IfErr result (λ e. IsFileRefused text.now e) }

@@ -17,7 +17,7 @@ use at_base::Error;
 use std::alloc::Global;
 use toml::{Table, Value};
 
-/// A router. This project's own.
+/// A router.
 #[derive(Debug, Drop)]
 pub struct Router {
     /// Its ports, 1 to 16, on cables that have no network in common.
@@ -41,7 +41,7 @@ fn meet(cables: &[Cable], port: &Port, other: &Port) -> bool
     }
 }
 
-/// Whether the port is on a cable that has no network in common with those of the others.
+/// Whether the port's cable has no network in common with the cables of the others.
 fn is_apart(cables: &[Cable], port: &Port, others: &[Port]) -> bool
     ensures { result ≡ list_all (λ q. not (spec.meet cables.now port.now q)) others.now }
 {

@@ -17,7 +17,7 @@ pub(crate) struct Service {
     pub(crate) socket: u8,
 }
 
-/// The service that an entry of a node's names stands for.
+/// The service in an entry of a node's names.
 pub(crate) fn service_of(value: &Value) -> Option<Service>
     ensures value { result ≡ spec.service_of (view value.now) }
     ensures low { IfSome result (λ s. 1 ≤ s.socket) }

@@ -1,4 +1,4 @@
-//! The top of a file.
+//! The top level of a file.
 
 ghost use Rattle.std.specs.Prelude.{◌≡◌, map, Ok, Err};
 ghost use Rattle.toml.specs.View.{table_view, view};
@@ -11,14 +11,14 @@ use crate::key::{has_only, list_at};
 use at_base::{Error, Part};
 use toml::{Table, Value};
 
-/// Whether there is a list at the key, or nothing.
+/// Whether the value at the key is a list, or the key is absent.
 fn is_listed(table: &Table, key: &str) -> bool
     ensures { result ≡ spec.is_listed key.now (table_view table.now) }
 {
     list_at(table, key).is_some()
 }
 
-/// Whether the top has no keys but those of a file, and lists where it has tables.
+/// Whether the top level has only the keys of a file, and its tables are lists.
 fn is_top(table: &Table) -> bool
     ensures { result ≡ spec.is_top (table_view table.now) }
 {
@@ -32,7 +32,7 @@ fn is_top(table: &Table) -> bool
         && is_listed(table, "action")
 }
 
-/// How many ticks the file says. Error: `BadFile(Top, 0)` where its top isn't as it is to be.
+/// The number of ticks in the file. Error: `BadFile(Top, 0)` if the top level is invalid.
 #[tactic(auto, unfolding(crate::specs::Files::ticks_of))]
 pub(crate) fn ticks(table: &Table) -> Result<u32, Error>
     ensures { result ≡ ticks_of (table_view table.now) }
@@ -45,7 +45,7 @@ pub(crate) fn ticks(table: &Table) -> Result<u32, Error>
     Err(Error::BadFile(Part::Top, 0))
 }
 
-/// The entries at a key of the top.
+/// The entries at a key of the top level.
 pub(crate) fn entries_at<'a>(table: &'a Table, key: &str) -> &'a [Value]
     ensures { map view result.now ≡ spec.entries_at key.now (table_view table.now) }
 {

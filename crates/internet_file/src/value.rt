@@ -1,4 +1,4 @@
-//! What a value stands for: numbers, texts, addresses, lists.
+//! Readers for values: numbers, texts, addresses, lists.
 
 ghost use Rattle.std.specs.Prelude.{◌≡◌, ◌≤◌, map, length, Some, None, IfSome, IfNone};
 ghost use Rattle.toml.specs.View.{view};
@@ -8,7 +8,7 @@ use at_base::{Addr, Name, Range, Text32};
 use text::address;
 use toml::Value;
 
-/// The number that the value is, if it is an integer from a low one to a high one.
+/// The number of the value, if it is an integer from `low` to `high`.
 pub(crate) fn number(low: u32, high: u32, value: &Value) -> Option<u32>
     ensures value { result ≡ spec.number low high (view value.now) }
     ensures low { IfSome result (λ n. low ≤ n) }
@@ -22,7 +22,7 @@ pub(crate) fn number(low: u32, high: u32, value: &Value) -> Option<u32>
     }
 }
 
-/// The number of one of the entries, counted from 1; there are at most 200.
+/// The number of one of the entries, counted from 1, at most 200.
 pub(crate) fn one_of<T>(entries: &[T], value: &Value) -> Option<u16>
     ensures value { result ≡ spec.one_of entries.now (view value.now) }
     ensures low { IfSome result (λ k. 1 ≤ k) }
@@ -36,7 +36,7 @@ pub(crate) fn one_of<T>(entries: &[T], value: &Value) -> Option<u16>
     }
 }
 
-/// A text of at least so many bytes and at most 32.
+/// A text of at least `low` and at most 32 bytes.
 pub(crate) fn short(low: usize, value: &Value) -> Option<Text32>
     ensures { result ≡ spec.short low (view value.now) }
 {
@@ -61,7 +61,8 @@ pub(crate) fn any_address(value: &Value) -> Option<Addr>
     address(value.as_str()?.as_bytes())
 }
 
-/// An address that a station may try on a cable with this range: a node 1 to 253 of its networks.
+/// An address that a station may try on a cable with this range: node 1 to 253 of one of its
+/// networks.
 pub(crate) fn try_address(range: &Range, value: &Value) -> Option<Addr>
     ensures { result ≡ spec.try_of range.now (view value.now) }
 {
@@ -84,7 +85,7 @@ pub(crate) fn list(value: &Value) -> Option<&[Value]>
     }
 }
 
-/// The values of a list that has from so many to so many of them.
+/// The values of a list with at least `low` and at most `high` values.
 pub(crate) fn list_within(low: usize, high: usize, value: &Value) -> Option<&[Value]>
     ensures some { IfSome result (λ vs.
         spec.list_within low high (view value.now) ≡ Some (map view vs.now)) }
@@ -98,7 +99,7 @@ pub(crate) fn list_within(low: usize, high: usize, value: &Value) -> Option<&[Va
     }
 }
 
-/// A range of networks, given by its first and its last one.
+/// A range of networks, as a list of its first and its last network.
 pub(crate) fn range(value: &Value) -> Option<Range>
     ensures { result ≡ spec.range (view value.now) }
 {

@@ -1,4 +1,4 @@
--- The rows whose lists are asked for, found again by their first networks.
+-- The rows whose lists are asked for are found again by their first networks.
 use Rattle.std.proofs.Common.{◌≡◌, ◌∙◌, ℕ, suc, ◌<◌, ◌≤◌, Bool, true, false, not, ◌&&◌, List, [], ◌∷◌, ◌++◌, flat_map}
 use Rattle.std.proofs.Common.{length, take, refl, sym, ap, arith, nat_le, nat_lt, if◌then◌else◌}
 use Rattle.std.specs.List.{list_all}
@@ -13,7 +13,7 @@ use Rattle.zip_zones.specs.Zones.{Known, due, is_answered}
 use Rattle.learning.specs.declared.query.Query.{Query}
 use Rattle.learning.specs.Queries.{is_asked, queries_of, query_about, query_at}
 
--- the networks lie above a network
+-- the networks are above low
 abbrev AreAbove : ℕ → List ℕ → Type 0
 AreAbove low [] = Unit {0}
 AreAbove low (start ∷ starts) = (low < start) × AreAbove low starts
@@ -28,7 +28,7 @@ one_above : (low : ℕ) (r : Row) (rows : List Row) (zones : List Known) (asked 
 one_above low r rows zones true t first rest = rw t (first, rest)
 one_above low r rows zones false t first rest = rw t rest
 
--- the first networks of rows above a network lie above it
+-- the first networks of rows above a network are above it
 due_above : (low : ℕ) (rows : List Row) (zones : List Known) → list_all is_row rows ≡ true → are_above low rows ≡ true
     → AreAbove low (due rows zones)
 due_above low [] zones each h = tt
@@ -46,7 +46,7 @@ outside r net lt =
     let past : nat_le net r.range.end ≡ false = lt-leb _ _ lt in
     and_right _ _ (and_right (nat_le r.range.start net) _ past)
 
--- a row that ends below a network isn't the network's
+-- a row that ends below a network isn't the network's row
 beyond : (r : Row) (rows : List Row) (net : ℕ) → r.range.end < net → query_at (r ∷ rows) net ≡ query_at rows net
 beyond r rows net lt = rw (outside r net lt) refl
 
@@ -77,7 +77,7 @@ asked_one : (r : Row) (rows : List Row) (zones : List Known) (asked_too : Bool) 
 asked_one r rows zones true t = rw t refl
 asked_one r rows zones false t = rw t refl
 
--- one row more: it is due where it is usable and has no list, and asked for where it isn't direct either
+-- one more row: its network is due if it is usable and has no complete list, and asked for if it isn't direct either
 one_asked : (r : Row) (rows : List Row) (zones : List Known) (usable answered direct : Bool) → is_usable r.state ≡ usable
     → is_answered zones r.range ≡ answered → is_direct r ≡ direct
     → (usable ≡ true → query_at (r ∷ rows) r.range.start ≡ (if direct then [] else query_about r ∷ []))
@@ -121,7 +121,7 @@ asked_above low (r ∷ rows) zones each h =
     (beyond_all r rows (due rows zones) (due_above r.range.end rows zones good.1 apart.1)
     ∙ asked_above r.range.end rows zones good.1 apart.1)
 
--- the rows that are found by the first networks that are due, all of them, are those whose lists are asked for
+-- the rows found by the networks that are due are those whose lists are asked for
 pub asked : (rows : List Row) (zones : List Known) (starts : List ℕ) (i : ℕ) (queries : List Query) → IsRouteMap rows
     → starts ≡ due rows zones → length starts ≤ i → queries ≡ flat_map (query_at rows) (take i starts)
     → queries ≡ queries_of rows zones
@@ -137,7 +137,7 @@ asked_within (r ∷ rows) zones = by (is_asked zones r) refl (asked_within rows 
     by true t rest = rw (asked_one r rows zones true t) (omega arith)
     by false t rest = rw (asked_one r rows zones false t) (omega arith)
 
--- there are no more queries than rows
+-- the number of queries is at most the number of rows
 pub asked_few : (rows : List Row) (zones : List Known) (queries : List Query) → IsRouteMap rows → queries ≡ queries_of rows zones
     → length queries ≤ 200
 asked_few rows zones queries map is = let within = asked_within rows zones in rw is (omega (arith, within, map.few))

@@ -1,4 +1,4 @@
--- The lists that go with their rows, row by row.
+-- The lists that are removed with their rows, row by row.
 use Rattle.std.proofs.Common.{◌≡◌, ◌∙◌, ℕ, ◌+◌, ◌≤◌, Bool, true, false, not, ◌||◌, List, [], ◌∷◌, filter, drop, length, Some}
 use Rattle.std.proofs.Common.{refl, sym, ap, if◌then◌else◌}
 use Rattle.std.specs.Prelude.{slice_get}
@@ -11,7 +11,7 @@ use Rattle.rtmp.proofs.Sent.{row_next}
 use Rattle.zip_zones.specs.Zones.{Known, without}
 use Rattle.learning.specs.Forgetting.{gone, without_gone}
 
--- no row goes
+-- without rows, no list is removed
 none_gone : (table : List Known) → without_gone [] table ≡ table
 none_gone [] = refl
 none_gone (k ∷ table) = ap (λ (t : List Known). k ∷ t) (none_gone table)
@@ -23,13 +23,13 @@ one_twice p q x xs true b t u rest = rw t rest
 one_twice p q x xs false true t u rest = rw (t, u) rest
 one_twice {X = X} p q x xs false false t u rest = rw (t, u) (ap (λ (l : List X). x ∷ l) rest)
 
--- two tests one after the other
+-- two filters, one after the other
 pub filter_twice : {X : Type 0} (p q : X → Bool) (xs : List X)
     → filter (λ x. not (q x)) (filter (λ x. not (p x)) xs) ≡ filter (λ x. not (p x || q x)) xs
 filter_twice p q [] = refl
 filter_twice p q (x ∷ xs) = one_twice p q x xs (p x) (q x) refl refl (filter_twice p q xs)
 
--- one row more
+-- one more row
 gone_next : (r : Row) (rows : List Row) (table : List Known)
     → without_gone rows (if is_over r then without r.range table else table) ≡ without_gone (r ∷ rows) table
 gone_next r rows table = by (is_over r) refl
@@ -39,7 +39,7 @@ gone_next r rows table = by (is_over r) refl
     by true t = rw t (filter_twice (λ k. same_range k.range r.range) (λ k. list_any (same_range k.range) (gone rows)) table)
     by false t = rw t refl
 
--- the same, at an index
+-- the row at an index
 pub gone_at : (rows : List Row) (i : ℕ) (r : Row) (table next left : List Known) → slice_get rows i ≡ Some r
     → next ≡ (if is_over r then without r.range table else table) → without_gone (drop i rows) table ≡ left
     → without_gone (drop (i + 1) rows) next ≡ left

@@ -12,11 +12,11 @@ use Rattle.zip_zones.specs.Zones.{Known}
 use Rattle.learning.proofs.Gone.{filter_twice}
 use Rattle.learning.proofs.Parts.{InPart, next_part}
 
--- none of the entries is of the network
+-- none of the entries before is of the network
 abbrev is_new : List Entry → ℕ → Bool
 is_new seen net = not (list_any (λ e. e.net == net) seen)
 
--- the networks that are named first after these entries
+-- the networks that first appear after these entries
 abbrev pub named_after : List Entry → List Entry → List ℕ
 named_after seen rest = filter (is_new seen) (networks_named rest)
 
@@ -27,7 +27,7 @@ same_swapped a b = by (a == b) refl
     by true e = e ∙ sym (eq-eqb b a (sym (eqb-true a b e)))
     by false e = e ∙ sym (ne_eqb b a (λ s. let bad : true ≡ false = sym (eq-eqb a b (sym s)) ∙ e in cc))
 
--- one entry more
+-- one more entry
 new_next : (seen : List Entry) (e : Entry) (net : ℕ)
     → not (net == e.net || list_any (λ x. x.net == net) seen) ≡ is_new (seen ++ e ∷ []) net
 new_next seen e net =
@@ -47,7 +47,7 @@ others seen e nets =
     ∙ filter_agree (λ net. not (net == e.net || list_any (λ x. x.net == net) seen)) (is_new (seen ++ e ∷ []))
     (new_next seen e) nets
 
--- an entry whose network came before
+-- an entry whose network appeared before
 named_again : (seen : List Entry) (e : Entry) (rest : List Entry) → list_any (λ x. x.net == e.net) seen ≡ true
     → named_after seen (e ∷ rest) ≡ named_after (seen ++ e ∷ []) rest
 named_again seen e rest t = rw t (others seen e (networks_named rest))
@@ -57,7 +57,7 @@ named_new : (seen : List Entry) (e : Entry) (rest : List Entry) → list_any (λ
     → named_after seen (e ∷ rest) ≡ e.net ∷ named_after (seen ++ e ∷ []) rest
 named_new seen e rest t = rw t (ap (λ (l : List ℕ). e.net ∷ l) (others seen e (networks_named rest)))
 
--- ---- At an index
+-- ---- at an index
 
 next : (entries : List Entry) (i : ℕ) (e : Entry) → i < length entries → e ≡ get_or entries i e
     → drop i entries ≡ e ∷ drop (i + 1) entries
@@ -67,7 +67,7 @@ more : (entries : List Entry) (i : ℕ) (e : Entry) → i < length entries → e
     → take i entries ++ e ∷ [] ≡ take (i + 1) entries
 more entries i e lt is = sym (take_more entries i e lt ∙ ap (λ (x : Entry). take i entries ++ x ∷ []) (sym is))
 
--- no entries came before
+-- after no entries, the networks are all networks of the entries
 named_first : (entries : List Entry) → named_after [] entries ≡ networks_named entries
 named_first entries = all (networks_named entries)
   where
@@ -75,9 +75,9 @@ named_first entries = all (networks_named entries)
     all [] = refl
     all (net ∷ nets) = ap (λ (l : List ℕ). net ∷ l) (all nets)
 
--- ---- A fold over the networks
+-- ---- a fold over the networks
 
--- what is left of the networks, at an index, gives so much
+-- the fold over the networks that are left, from an index on, gives the whole result
 abbrev pub Left : (List Known → ℕ → List Known) → List Entry → ℕ → List Known → List Known → Type 0
 Left learn entries i table whole = fold learn table (named_after (take i entries) (drop i entries)) ≡ whole
 
@@ -85,7 +85,7 @@ pub left_first : (learn : List Known → ℕ → List Known) (entries : List Ent
     → Left learn entries 0 table (fold learn table (networks_named entries))
 left_first learn entries table = ap (fold learn table) (named_first entries)
 
--- an entry whose network came before leaves as many
+-- after an entry whose network appeared before, the same networks are left
 same_left : (entries : List Entry) (i : ℕ) (e : Entry) → i < length entries → e ≡ get_or entries i e
     → list_any (λ x. x.net == e.net) (take i entries) ≡ true
     → named_after (take (i + 1) entries) (drop (i + 1) entries) ≡ named_after (take i entries) (drop i entries)
@@ -94,7 +94,7 @@ same_left entries i e lt is came =
     ∙ named_again (take i entries) e (drop (i + 1) entries) came
     ∙ ap (λ (seen : List Entry). named_after seen (drop (i + 1) entries)) (more entries i e lt is))
 
--- one whose network is new leaves one less
+-- after an entry whose network is new, one network less is left
 one_less : (entries : List Entry) (i : ℕ) (e : Entry) → i < length entries → e ≡ get_or entries i e
     → list_any (λ x. x.net == e.net) (take i entries) ≡ false
     → e.net ∷ named_after (take (i + 1) entries) (drop (i + 1) entries) ≡ named_after (take i entries) (drop i entries)
@@ -103,13 +103,13 @@ one_less entries i e lt is came =
     ∙ named_new (take i entries) e (drop (i + 1) entries) came
     ∙ ap (λ (seen : List Entry). e.net ∷ named_after seen (drop (i + 1) entries)) (more entries i e lt is))
 
--- an entry whose network came before
+-- an entry whose network appeared before keeps the fold
 pub left_again : (learn : List Known → ℕ → List Known) (entries : List Entry) (i : ℕ) (e : Entry) (table whole : List Known)
     → i < length entries → e ≡ get_or entries i e → list_any (λ x. x.net == e.net) (take i entries) ≡ true
     → Left learn entries i table whole → Left learn entries (i + 1) table whole
 left_again learn entries i e table whole lt is came before = ap (fold learn table) (same_left entries i e lt is came) ∙ before
 
--- an entry whose network is new, and was learned
+-- an entry whose network is new and was learned keeps the fold
 pub left_new : (learn : List Known → ℕ → List Known) (entries : List Entry) (i : ℕ) (e : Entry) (table after whole : List Known)
     → i < length entries → e ≡ get_or entries i e → list_any (λ x. x.net == e.net) (take i entries) ≡ false
     → after ≡ learn table e.net → Left learn entries i table whole → Left learn entries (i + 1) after whole
@@ -117,9 +117,9 @@ left_new learn entries i e table after whole lt is came learned before =
     ap (λ (known : List Known). fold learn known (named_after (take (i + 1) entries) (drop (i + 1) entries))) learned
     ∙ ap (fold learn table) (one_less entries i e lt is came) ∙ before
 
--- ---- Lists of which only the first were learned
+-- ---- tables after only the first lists were learned
 
--- at an index: those of the networks before it were learned
+-- at an index, the networks before it were learned
 abbrev pub PartOf : (List Known → ℕ → List Known) → List Entry → ℕ → List Known → List Known → Type 0
 PartOf learn entries i old now = InPart learn (networks_named entries) (named_after (take i entries) (drop i entries)) old now
 

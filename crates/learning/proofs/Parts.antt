@@ -1,17 +1,17 @@
--- Names or lists of which only the first were learned.
+-- Tables after only the first names or lists were learned.
 use Rattle.std.proofs.Common.{◌≡◌, List, [], ◌∷◌, ◌++◌, fold, refl, sym, ap, ◌∙◌, append_assoc}
 use Rattle.zip_zones.specs.Zones.{Known}
 use Rattle.learning.specs.Partly.{IsLearnedInPart}
 
 module _ {X : Type 0} (learn : List Known → X → List Known) where
-  -- so many were learned, and these are left
+  -- some elements were learned, and these are left
   abbrev pub InPart : List X → List X → List Known → List Known → Type 0
   InPart all left old now = (first : List X) × (all ≡ first ++ left) × (now ≡ fold learn old first)
 
   pub in_part : (all left : List X) (old now : List Known) → InPart all left old now → IsLearnedInPart learn all old now
   in_part all left old now x = record { first = x.0; left = left; whole = x.1; is = x.2 }
 
-  -- none was learned
+  -- none was learned yet
   pub none_yet : (all : List X) (old now : List Known) → now ≡ old → IsLearnedInPart learn all old now
   none_yet all old now is = record { first = []; left = all; whole = refl; is = is }
 

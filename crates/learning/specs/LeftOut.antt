@@ -1,4 +1,4 @@
--- What of the replies of other routers a router leaves out.
+-- The names of replies that a router leaves out.
 use Rattle.std.specs.Prelude.{ℕ, Bool, true, false, not, List, Option, Some, None}
 use Rattle.at_base.specs.Range.{Span}
 use Rattle.rtmp.specs.declared.row.Row.{Row}
@@ -8,7 +8,7 @@ use Rattle.zip_zones.specs.declared.entry.Entry.{Entry}
 use Rattle.zip_zones.specs.declared.packet.Packet.{Packet}
 use Rattle.zip_zones.specs.declared.packet.Packet.TheVariants as p
 
--- the name of a network with so many zones is left out: no reply is heard for it, or its list isn't taken
+-- the name in an entry is left out: no reply for its network is accepted, or its list isn't
 abbrev pub is_left_out : List Row → ℕ → List Known → Entry → Bool
 is_left_out rows total table e = by_range (range_heard rows e.net)
   where

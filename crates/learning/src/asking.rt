@@ -1,4 +1,4 @@
-//! For which zone lists a router asks, and whom.
+//! The queries for zone lists that a router sends.
 
 ghost use Rattle.std.specs.Prelude.{◌≡◌, ◌≤◌, ◌++◌, length, IfOk, IsOkUnless, OnOk};
 ghost use Rattle.rtmp.specs.Routes.{IsRouteMap};
@@ -10,15 +10,15 @@ use rtmp::RouteTable;
 use std::alloc::Global;
 use zip_zones::ZoneTable;
 
-/// Does nothing: it tells the prover that the table is a map, which only a call can.
+/// Does nothing. It gives the prover the fact that the table is a map, which only a call can.
 fn recall_map<T: RouteTable>(routes: &T)
     ensures { IsRouteMap (T.rows routes.now) }
 {
     let _len = routes.len();
 }
 
-/// Appends the query about the range whose usable row holds the network, unless that row is
-/// direct. Error: `Memory`.
+/// Appends the query for a network, unless the network has no usable row or the row is direct.
+/// Error: `Memory`.
 fn put_query<T: RouteTable>(queries: &mut Vec<Query>, routes: &T, start: u16) -> Result<(), Error>
     ensures put { OnOk result
         (queries.new.items ≡ queries.old.items ++ query_at (T.rows routes.now) start) }
@@ -36,9 +36,9 @@ fn put_query<T: RouteTable>(queries: &mut Vec<Query>, routes: &T, start: u16) ->
     Ok(())
 }
 
-/// The queries by which a router asks for the zone lists that it lacks, in the order of its rows:
-/// one for each usable row that isn't direct and whose range has no complete list. It goes to the
-/// row's next router, by the row's port. Error: `Memory`.
+/// The queries for the zone lists that a router lacks, in the order of its rows: one for each
+/// usable row that isn't direct and whose range has no complete list. A query goes to the row's
+/// next router, on the row's port. Error: `Memory`.
 ///
 /// Inside AppleTalk, the chapter on ZIP.
 pub fn queries<T: RouteTable>(
@@ -47,7 +47,7 @@ pub fn queries<T: RouteTable>(
     zones: &ZoneTable,
 ) -> Result<Vec<Query>, Error>
     ensures ok { IfOk result (λ list. list.items ≡ queries_of (T.rows routes.now) zones.now) }
-    // As many as a routing table has rows.
+    // At most one for each row of a routing table.
     ensures few { IfOk result (λ list. length list.items ≤ 200) }
     ensures refused { IsOkUnless result Error.Memory }
 {

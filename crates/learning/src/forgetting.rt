@@ -1,4 +1,4 @@
-//! What a router forgets when a period passes.
+//! Aging of a router's tables.
 
 ghost use Rattle.std.specs.Prelude.{◌≡◌, if◌then◌else◌};
 ghost use Rattle.rtmp.specs.Routes as spec;
@@ -9,7 +9,7 @@ ghost use Rattle.learning.specs.Forgetting.{without_gone};
 use rtmp::{RouteTable, Row, State};
 use zip_zones::ZoneTable;
 
-/// Whether the row goes when a period passes.
+/// Whether the row is removed by the next aging.
 fn is_over(row: &Row) -> bool
     ensures { result ≡ spec.is_over row.now }
 {
@@ -19,7 +19,7 @@ fn is_over(row: &Row) -> bool
     }
 }
 
-/// Forgets the list of the row's range, where the row goes.
+/// Removes the list of the row's range, if the row is to be removed.
 fn forget_list(zones: &mut ZoneTable, row: &Row)
     ensures { zones.new ≡ (if spec.is_over row.now then without row.now.range zones.old else zones.old) }
 {
@@ -28,7 +28,7 @@ fn forget_list(zones: &mut ZoneTable, row: &Row)
     }
 }
 
-/// Forgets the lists of the ranges whose rows go.
+/// Removes the lists of the ranges whose rows are to be removed.
 fn forget_lists<T: RouteTable>(routes: &T, zones: &mut ZoneTable)
     ensures { zones.new ≡ without_gone (T.rows routes.now) zones.old }
 {
@@ -39,9 +39,9 @@ fn forget_lists<T: RouteTable>(routes: &T, zones: &mut ZoneTable)
     }
 }
 
-/// A period passes. Each row that isn't direct grows older, from good through suspect and bad to
-/// its last state; one that was in its last state is removed, and the zone list of its range with
-/// it. Allocates nothing.
+/// Ages the tables by one period. Each row that isn't direct gets the next state, from good through
+/// suspect and bad to the last; a row in its last state is removed, together with the zone list of
+/// its range. Allocates nothing.
 ///
 /// Inside AppleTalk, the chapters on RTMP and ZIP.
 pub fn forget<T: RouteTable>(routes: &mut T, zones: &mut ZoneTable)

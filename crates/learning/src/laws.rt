@@ -1,5 +1,5 @@
-//! Examples of what a router learns and forgets, computed: each is the contract of a function that
-//! does nothing.
+//! Computed examples of a router's learning and aging. Each is the contract of a function that does
+//! nothing.
 
 ghost use Rattle.std.specs.Prelude.{◌≡◌, ◌∷◌, []};
 ghost use Rattle.rtmp.specs.Routes.{aged};
@@ -9,8 +9,8 @@ ghost use Rattle.learning.specs.Forgetting.{without_gone};
 ghost use Rattle.learning.specs.Heard.{routes_after};
 ghost use Rattle.learning.specs.Queries.{queries_of};
 
-/// Routing data is heard from a router whose network is the cable's, and whose first tuple is the
-/// cable's range.
+/// Routing data is accepted from a router whose network is one of the cable's, if its first tuple
+/// has the cable's range.
 pub fn the_examples_of_routes_heard()
     ensures first { routes_after (span 10 19) 0 (said_by 10 10 19) (own ∷ [])
         ≡ own ∷ row 20 29 Good ∷ [] }
@@ -23,8 +23,8 @@ pub fn the_examples_of_routes_heard()
     ensures end { routes_after (span 10 19) 0 (said_by 10 10 18) (own ∷ []) ≡ own ∷ [] }
 {}
 
-/// A row that isn't direct grows older with each period, and the zone list of one that goes goes
-/// with it.
+/// A row that isn't direct gets the next state in each period. The zone list of a row that is
+/// removed is removed too.
 pub fn the_examples_of_ageing()
     ensures rows { aged five_rows
         ≡ own ∷ row 20 29 Suspect ∷ row 30 39 Bad ∷ row 40 49 Last ∷ [] }
@@ -37,7 +37,7 @@ pub fn the_examples_of_ageing()
         (known 10 19 1 (red ∷ []) ∷ []) ≡ known 10 19 1 (red ∷ []) ∷ [] }
 {}
 
-/// A router asks for the lists of its good and suspect rows that aren't direct, where they aren't
+/// A router asks for the lists of its good and suspect rows that aren't direct, if the lists aren't
 /// complete.
 pub fn the_examples_of_queries()
     ensures all { queries_of five_rows []

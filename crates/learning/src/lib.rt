@@ -1,5 +1,4 @@
-//! What a router learns of its neighbours, and forgets: pure calls on its routing table and its
-//! zone table.
+//! Learning and aging of a router's routing table and zone table, as calls without side effects.
 #![tactic(auto)]
 
 mod asking;

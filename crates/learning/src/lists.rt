@@ -1,4 +1,4 @@
-//! What a router learns from replies that have whole lists.
+//! Learning from replies with complete lists.
 
 ghost use Rattle.std.specs.Prelude.{◌≡◌, ◌==◌, fold, length, if◌then◌else◌};
 ghost use Rattle.std.specs.Prelude.{false, None, IfOk, OnErr, OnOk, IsOk, IsOkUnless};
@@ -14,16 +14,16 @@ use rtmp::RouteTable;
 use std::alloc::Global;
 use zip_zones::{Entries, Entry, ZoneTable};
 
-/// What the table's lists are allocated by. Error: `Memory`, which an empty list never needs.
+/// The allocator of the table's lists. Error: `Memory`, which an empty list never needs.
 fn allocator_of(zones: &ZoneTable) -> Result<Global, Error>
     ensures { IsOkUnless result Error.Memory }
 {
-    // No range holds network 0.
+    // Network 0 is in no range.
     let none = zones.names_of(0)?;
     Ok(*none.allocator())
 }
 
-/// The entries, in order. Error: `Memory`.
+/// The entries, as a vector. Error: `Memory`.
 fn all_of(alloc: Global, entries: Entries<'_>) -> Result<Vec<Entry>, Error>
     ensures ok { IfOk result (λ all. all.items ≡ entries.entry) }
     ensures refused { IsOkUnless result Error.Memory }
@@ -35,7 +35,7 @@ fn all_of(alloc: Global, entries: Entries<'_>) -> Result<Vec<Entry>, Error>
     Ok(all)
 }
 
-/// The names that the entries have for a network. Error: `Memory`.
+/// The names in the entries of a network. Error: `Memory`.
 fn names_for(alloc: Global, entries: &[Entry], net: u16) -> Result<Vec<Name>, Error>
     ensures ok { IfOk result (λ names. names.items ≡ spec.names_for net entries.now) }
     ensures refused { IsOkUnless result Error.Memory }
@@ -51,11 +51,12 @@ fn has_network(entries: &[Entry], net: u16) -> bool
     entries.iter().any(|entry| entry.net == net)
 }
 
-/// Takes the whole list of a range, and leaves it out where there is no room for it.
+/// Sets the complete list of a range, unless the table has no room for it or another range overlaps
+/// it. Error: `Memory`.
 fn take_list(zones: &mut ZoneTable, range: Range, names: &[Name]) -> Result<(), Error>
     ensures ok { OnOk result (zones.new ≡ (if is_taken range (length names.now) zones.old
         then with_known (set_list range names.now) zones.old else zones.old)) }
-    // What is left out needs no memory.
+    // A list that is left out needs no memory.
     ensures left_out { is_taken range (length names.now) zones.old ≡ false → IsOk result }
     ensures stays { OnErr result (zones.new ≡ zones.old) }
     ensures refused { IsOkUnless result Error.Memory }
@@ -66,7 +67,7 @@ fn take_list(zones: &mut ZoneTable, range: Range, names: &[Name]) -> Result<(), 
     }
 }
 
-/// Learns the whole list of a network. Error: `Memory`.
+/// Learns the complete list of a network. Error: `Memory`.
 fn learn_list<T: RouteTable>(
     zones: &mut ZoneTable,
     routes: &T,
@@ -89,7 +90,7 @@ fn learn_list<T: RouteTable>(
     }
 }
 
-/// Learns the list of each network of these entries, where it first comes. Error: `Memory`.
+/// Learns the list of each network of these entries, in order of first appearance. Error: `Memory`.
 fn learn_each<T: RouteTable>(
     zones: &mut ZoneTable,
     routes: &T,
@@ -109,7 +110,7 @@ fn learn_each<T: RouteTable>(
     Ok(())
 }
 
-/// Learns the whole lists of a reply. Error: `Memory`.
+/// Learns the complete lists of a reply. Error: `Memory`.
 pub(crate) fn learn_lists<T: RouteTable>(
     zones: &mut ZoneTable,
     routes: &T,

@@ -1,4 +1,4 @@
-//! What a router learns from packets of routing data.
+//! Learning from packets of routing data.
 
 ghost use Rattle.std.specs.Prelude.{◌≡◌, OnErr, OnOk, IsOkUnless};
 ghost use Rattle.rtmp.specs.Data.{tuples_of};
@@ -15,14 +15,14 @@ fn is_neighbours(range: Range, packet: &DataPacket<'_>) -> bool
     range.holds(packet.router().net) && packet.own() == range
 }
 
-/// Hears a packet of routing data that came in on a port, whose cable has this range: each of its
-/// tuples in turn, but for those for whose ranges there is no room.
+/// Handles a packet of routing data that was received on a port whose cable has this range: each
+/// tuple in turn, except new ranges for which the table has no room.
 ///
-/// A packet whose router's network isn't in the range, or whose first tuple has another range, is
-/// ignored.
+/// A packet is ignored if its router's network isn't in the range, or if its first tuple has
+/// another range.
 ///
 /// Inside AppleTalk, the chapter on RTMP; which packets are ignored is this project's own. Error:
-/// `Memory`, after which only some of the tuples were heard.
+/// `Memory`; only the tuples before it were handled then.
 pub fn learn_routes<T: RouteTable>(
     routes: &mut T,
     range: Range,

@@ -1,4 +1,4 @@
-//! What a router learns from replies to its queries.
+//! Learning from replies to ZIP queries.
 
 ghost use Rattle.std.specs.Prelude.{◌≡◌, false, true, fold, if◌then◌else◌};
 ghost use Rattle.std.specs.Prelude.{OnErr, OnOk, IsOk, IsOkUnless};
@@ -12,7 +12,7 @@ use at_base::{Error, Range};
 use rtmp::RouteTable;
 use zip_zones::{Entries, Entry, Packet, ZoneTable};
 
-/// The range whose list a reply for the network is: that of its usable row, unless that row is
+/// The range that a reply for the network is about: that of its usable row, unless that row is
 /// direct.
 pub(crate) fn range_of<T: RouteTable>(routes: &T, net: u16) -> Option<Range>
     ensures { result ≡ range_heard (T.rows routes.now) net }
@@ -23,11 +23,12 @@ pub(crate) fn range_of<T: RouteTable>(routes: &T, net: u16) -> Option<Range>
     }
 }
 
-/// Takes a name of a range that has so many zones, and leaves it out where there is no room for it.
+/// Adds a name of a range that has `total` zones, unless the table has no room for it or another
+/// range overlaps it. Error: `Memory`.
 fn take_name(zones: &mut ZoneTable, range: Range, total: u8, entry: &Entry) -> Result<(), Error>
     ensures ok { OnOk result (zones.new ≡ (if is_taken range total zones.old
         then heard range total entry.now.name zones.old else zones.old)) }
-    // What is left out needs no memory.
+    // A name that is left out needs no memory.
     ensures left_out { is_taken range total zones.old ≡ false → IsOk result }
     ensures stays { OnErr result (zones.new ≡ zones.old) }
     ensures refused { IsOkUnless result Error.Memory }
@@ -38,7 +39,7 @@ fn take_name(zones: &mut ZoneTable, range: Range, total: u8, entry: &Entry) -> R
     }
 }
 
-/// Learns a name of a network that has so many zones. Error: `Memory`.
+/// Learns a name of a network that has `total` zones. Error: `Memory`.
 fn learn_name<T: RouteTable>(
     zones: &mut ZoneTable,
     routes: &T,
@@ -77,23 +78,22 @@ fn learn_names<T: RouteTable>(
     Ok(())
 }
 
-/// Learns zone lists from a packet of ZIP: only replies teach any. A name is taken for a network
-/// whose usable row isn't direct, as one of that row's range.
+/// Learns zone lists from a ZIP packet. Only replies are used. A name is accepted for a network
+/// whose usable row isn't direct, as a zone of that row's range.
 ///
-/// In a reply of function 2 the names of a network are its whole list. In one of function 8 they
-/// are some of a list that has as many zones as the reply says. What the zone table has no room
-/// for, or what overlaps another range of it, is left out.
+/// In a reply of function 2 the names of a network are its complete list. In one of function 8 they
+/// are some names of a list with as many zones as the reply says. Names and lists for which the
+/// zone table has no room, or whose range overlaps another range of it, are left out.
 ///
-/// Inside AppleTalk, the chapter on ZIP; for which rows replies are taken, and what is left out, is
-/// this project's own. Error: `Memory`, after which only the first of the names, or of the lists,
-/// were taken.
+/// Inside AppleTalk, the chapter on ZIP; for which rows replies are accepted, and what is left out,
+/// is this project's own. Error: `Memory`; only the first names or lists were learned then.
 pub fn learn_zones<T: RouteTable>(
     zones: &mut ZoneTable,
     routes: &T,
     packet: Packet<'_>,
 ) -> Result<(), Error>
     ensures ok { OnOk result (zones.new ≡ after_reply (T.rows routes.now) packet.entry zones.old) }
-    // What is no reply needs no memory.
+    // A packet that isn't a reply needs no memory.
     ensures ignored { is_reply packet.entry ≡ false → IsOk result }
     ensures in_part { OnErr result
         (IsReplyInPart (T.rows routes.now) packet.entry zones.old zones.new) }

@@ -1,4 +1,4 @@
--- What a station's answers to a taken pair add to the counts of requests.
+-- The counts of requests that a station's answers to a taken pair add.
 use Rattle.std.proofs.Common.{◌≡◌, ℕ, ◌+◌, ◌<◌, Bool, true, false, not, ◌&&◌, ◌||◌, ◌==◌, List, [], ◌∷◌, Option, Some, None}
 use Rattle.std.proofs.Common.{ap, arith, eqb-true, inl, inr, is_some, length, lt-ltb, refl, subst, sym, true≢false, ◌∙◌}
 use Rattle.std.specs.List.{AllByRecursion as Each}
@@ -94,7 +94,7 @@ module _ (i : Internet) (ok : Passes i) where
           (ap (λ b. b && same_address (target p.frame.bytes) w.1.address)
           (lt-ltb _ _ (subst (λ n. n < length i.routers) (sym same) within)) ∙ h.2)
 
-  -- ---- What the answers to a taken pair add
+  -- ---- The answers to a taken pair
 
   pub record AnswersDo (p : Pair) (gs : List Entry) : Type 0 where
     pub tally : (k : List ℕ) (c : ℕ) → (n : ℕ) × Tally i k c n gs

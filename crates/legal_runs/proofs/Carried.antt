@@ -144,7 +144,7 @@ module _ (i : Internet) where
 
   -- ---- Transcripts
 
-  -- What holds of the chains of a transcript.
+  -- The chains of a transcript and their properties.
   pub record Carries (t : List Entry) : Type 0 where
     pub numbered : AreNumbered 0 t
     pub carried : AreCarried i none_yet t

@@ -1,4 +1,4 @@
--- What the entries of a leg or a fate add to the counts of bodies.
+-- The counts of bodies that the entries of a leg or a fate add.
 use Rattle.std.proofs.Common.{◌≡◌, ◌≢◌, ℕ, ◌+◌, ◌≤◌, Bool, true, false, not, ◌&&◌, ◌==◌, List, [], ◌∷◌, Some, None, filter}
 use Rattle.std.proofs.Common.{refl, sym, ap, ◌∙◌, subst, arith, append-nil, true≢false}
 use Rattle.at_base.proofs.Texts.{same_bytes_is}
@@ -119,7 +119,7 @@ module _ (i : Internet) (ok : Passes i) (N A : ℕ → Type 0) where
       (each_more (λ p. is_copy i p ≡ false) (IsNext i N d) (pairs_of (cable_seats i) (Put f))
       (λ p e copy. absurd (true≢false (sym copy ∙ e))) none)
 
-  -- ---- What was reached or dropped
+  -- ---- Datagrams that reached a cable or were dropped
 
   pub does_reach : (stamp cable station : ℕ) (how : How) (d : List ℕ) (hop : ℕ) → home i (target d).net ≡ Some cable → A cable
       → Does i N A stamp d hop (Reached cable station how d ∷ [])
@@ -151,7 +151,7 @@ module _ (i : Internet) (ok : Passes i) (N A : ℕ → Type 0) where
     numbered = (tt, tt);
   }
 
-  -- ---- What is put
+  -- ---- Frames that are put
 
   module _ (stamp : ℕ) (l : Leg) (whole : Whole l.body) (few : l.hops ≤ 15)
       (seated : is_on i l.station l.cable ≡ true) where

@@ -1,4 +1,4 @@
--- What becomes of a copy.
+-- The fate of a copy.
 use Rattle.std.proofs.Common.{◌≡◌, ◌≢◌, ℕ, ◌+◌, ◌<◌, ◌≤◌, Bool, true, false, not, ◌&&◌, ◌||◌, ◌==◌, cond, [], ◌∷◌, Option, Some, None}
 use Rattle.std.proofs.Common.{length, refl, sym, ap, ◌∙◌, subst, arith, true≢false, eqb-true, ltb-true}
 use Rattle.std.proofs.lemmas.Bool.{eqb-false, ne_eqb, or_parts}

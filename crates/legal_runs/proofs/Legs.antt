@@ -1,4 +1,4 @@
--- What a leg adds to the counts, by its receiver.
+-- The counts of bodies that a leg adds, by its receiver.
 use Rattle.std.proofs.Common.{◌≡◌, ℕ, ◌+◌, ◌<◌, ◌≤◌, inl, inr, Bool, true, false, not, ◌&&◌, ◌==◌, cond, [], ◌∷◌, Option, Some, None}
 use Rattle.std.proofs.Common.{length, refl, sym, ap, ◌∙◌, subst, arith, true≢false, eqb-true, eq-eqb, lt-ltb, is_some}
 use Rattle.std.proofs.lemmas.Bool.{and_parts, cases_eq, false_from_ne_true, ne_eqb}

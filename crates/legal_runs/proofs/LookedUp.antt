@@ -55,7 +55,7 @@ count_split u f (x ∷ xs) =
     ]
 
 module _ (i : Internet) (ok : Passes i) where
-  -- ---- What was taken
+  -- ---- Requests that were taken
 
   abbrev took_count : (Pair → Bool) → List Entry → ℕ
   took_count f t = count (λ p. was_ended t p && f p) (pairs (cable_seats i) t)

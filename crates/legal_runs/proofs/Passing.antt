@@ -111,8 +111,8 @@ copy_end i p e =
     ends_is i p c.unicast c.router
     ∙ (ap (λ x. x || (is_copy i p && keeps i p)) c.other ∙ ap (λ x. x && keeps i p) e)
 
--- What every pair of a run satisfies: a broadcast request in a frame to one station is for a router; a forward request
--- is for any router of its network; a lookup isn't in a frame to one station.
+-- The invariant of every pair of a run: a broadcast request in a frame to one station is for a router; a forward
+-- request is for any router of its network; a lookup isn't in a frame to one station.
 pub record PairOk (i : Internet) (p : Pair) : Type 0 where
   pub asker : is_unicast p.frame.to ≡ true → is_request i (body p.frame.bytes) ≡ true → p.seat.station < length i.routers
   pub seeker : is_forward (request (body p.frame.bytes)) ≡ true → (target p.frame.bytes).node ≡ 0

@@ -1,5 +1,5 @@
--- What stations may send: how a datagram leaves a station, and which requests a router makes from requests that end at
--- it. Inside AppleTalk, the chapters on DDP and NBP.
+-- The datagrams that stations may send: how each leaves its station, and which requests a router makes from requests
+-- that end at it. Inside AppleTalk, the chapters on DDP and NBP.
 use Rattle.std.specs.Prelude.{◌≡◌, ◌≢◌, ◌<◌, ℕ, true, false, not, ◌&&◌, ◌||◌, ◌==◌, ◌⊎◌, Bool, List, [], ◌∷◌, Some, IsTrue, nat_lt}
 use Rattle.std.specs.List.{list_all, AllByRecursion as Each}
 use Rattle.at_base.specs.Spelling.{Spells}
@@ -45,8 +45,8 @@ pub record IsMade (i : Internet) (l : Leg) : Type 0 where
 
 -- ---- Requests that end at a router
 
--- With this routing decision for its target, router r keeps the datagram: the target is any router of the network, or
--- the router's own address there.
+-- With this routing decision for its target, router r keeps the datagram: the target is on a cable of the router, and
+-- is any router (node 0) or the router's own address there.
 abbrev pub keeps_by : Internet → ℕ → Addr → Hand → Bool
 keeps_by i r a Nowhere = false
 keeps_by i r a (Here c) = a.node == 0 || has_address i r c a
@@ -76,7 +76,8 @@ pub record IsLookup (i : Internet) (k : List ℕ) (r c : ℕ) (l : Leg) : Type 0
   pub key : key_in (request l.body) ≡ k
   pub next : l.next ≡ next.Group (group_of (zone_of k))
 
--- The leg is a forward request with this key, to any router of cable c, that router r sends to the next router.
+-- The leg is a forward request with this key to any router of cable c, and goes to the router to which router r hands
+-- datagrams for c's network.
 pub record IsForward (i : Internet) (k : List ℕ) (r c : ℕ) (l : Leg) : Type 0 where
   pub kind : is_forward (request l.body) ≡ true
   pub key : key_in (request l.body) ≡ k
@@ -98,9 +99,9 @@ Expands i k r (c ∷ cs) (l ∷ ls) = (IsLookup i k r c l ⊎ IsForward i k r c 
 abbrev pub is_other : List ℕ → Bool
 is_other b = not (is_broadcast (request b) || is_forward (request b) || is_lookup (request b))
 
--- What a station sends after it took a pair: for a broadcast request that ends at it, one lookup or forward request for
--- each cable that lists the zone; for a forward request that ends at it, one lookup on the target's cable; otherwise no
--- NBP requests.
+-- The datagrams that a station sends after it took a pair: for a broadcast request that ends at it, one lookup or
+-- forward request for each cable that lists the zone; for a forward request that ends at it, one lookup on the target's
+-- cable; otherwise no NBP requests.
 pub data Answers (i : Internet) (p : Pair) (ls : List Leg) : Type 0 where
   Expanded : asks_here i p ≡ true
       → Expands i (key_in (request (body p.frame.bytes))) p.seat.station (listing i (zone_of (key_in (request (body p.frame.bytes))))) ls
@@ -109,7 +110,7 @@ pub data Answers (i : Internet) (p : Pair) (ls : List Leg) : Type 0 where
       → IsLookup i (key_in (request (body p.frame.bytes))) p.seat.station c l → Answers i p ls
   Others : asks_here i p ≡ false → seeks_here i p ≡ false → Each (λ (l : Leg). is_other l.body ≡ true) ls → Answers i p ls
 
--- What a node sends on its own initiative: a datagram to network 0, or one that is handed to a router.
+-- A datagram that a node sends on its own initiative is to network 0, or is handed to a router.
 pub record IsOwn (i : Internet) (l : Leg) : Type 0 where
   pub by_node : is_router i l.station ≡ false
   pub handed : ((target l.body).net ≡ 0) ⊎ ((a : Addr) × (r : ℕ) × (l.next ≡ next.Station a) × (owner i l.cable a ≡ Some r))

@@ -30,7 +30,7 @@ abbrev pub is_hop_limit : Entry → Bool
 is_hop_limit (Dropped router HopLimit c) = true
 is_hop_limit _ = false
 
--- The pair is a frame with this body that a router has to pass on.
+-- The pair is a copy of this body.
 abbrev pub carries : Internet → List ℕ → Pair → Bool
 carries i b p = is_copy i p && same_bytes b (body p.frame.bytes)
 

@@ -1,4 +1,4 @@
--- Legs: how a station puts a datagram on a cable, and what becomes of a datagram that a router has to pass on. Inside
+-- Legs: how a station puts a datagram on a cable, and the fate of a datagram that a router has to pass on. Inside
 -- AppleTalk, the chapter on DDP; the entries are this project's own.
 use Rattle.std.specs.Prelude.{ℕ, ◌+◌, Bool, true, false, not, ◌&&◌, ◌||◌, ◌==◌, cond, List, [], ◌∷◌, Option, Some, None, is_some}
 use Rattle.at_base.specs.Address.{same_address}
@@ -61,7 +61,7 @@ leg_to i stamp l (next.Group g) = put stamp l (group_hw g) ∷ []
 abbrev pub leg : Internet → ℕ → Leg → List Entry
 leg i stamp l = leg_to i stamp l l.next
 
--- ---- What becomes of a datagram that a router has to pass on
+-- ---- The fate of a datagram that a router has to pass on
 
 -- The hardware address is that of one station.
 abbrev pub is_unicast : Hw → Bool
@@ -72,7 +72,7 @@ abbrev pub is_datagram : Kind → Bool
 is_datagram Ddp = true
 is_datagram _ = false
 
--- A copy: a router took, in a frame to its own hardware address, a datagram that is neither for network 0 nor for the
+-- A copy is a pair of a router and a frame to one station, with a datagram that is neither for network 0 nor for the
 -- router's address on that cable.
 abbrev pub is_copy : Internet → Pair → Bool
 is_copy i p =

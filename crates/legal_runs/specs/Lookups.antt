@@ -56,7 +56,7 @@ is_home (Some d) c = d == c
 abbrev pub seeks : Internet → List ℕ → ℕ → List ℕ → Bool
 seeks i k c b = is_forward (request b) && (same_bytes k (key_in (request b)) && is_home (home i (target b).net) c)
 
--- The pair is a forward request with this key to the cable that a router has to pass on or answer.
+-- The pair is a copy of a forward request with this key to a network on the cable.
 abbrev pub forwarded : Internet → List ℕ → ℕ → Pair → Bool
 forwarded i k c p = is_copy i p && seeks i k c (body p.frame.bytes)
 

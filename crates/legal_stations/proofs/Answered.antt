@@ -1,4 +1,4 @@
--- The datagram of a lookup and that of a forward request, as legs.
+-- The datagrams of a lookup and of a forward request, as legs.
 use Rattle.std.proofs.Common.{option_and_then, ◌≡◌, ℕ, Bool, List, [], ◌∷◌, Some, IsTrue, refl, sym, ap, ◌∙◌, arith}
 use Rattle.at_base.specs.declared.address.Addr.{Addr}
 use Rattle.ddp.specs.declared.header.Header.{Header}
@@ -39,11 +39,11 @@ use Rattle.legal_stations.proofs.RouterPorts.{Fits, IsPort, cable_is, has_port, 
 use Rattle.legal_stations.proofs.Requested.{Requested}
 use Rattle.legal_stations.proofs.Sealed.{body_is, carried, sealed, target_is}
 
--- the leg of a datagram that router r made
+-- The leg of a datagram that router r made.
 abbrev pub leg_by : Internet → ℕ → ℕ → Next → List ℕ → Leg
 leg_by i r port to bytes = record { station = r; cable = cable_of (cable_seats i) r port; next = to; body = bytes; hops = 0 }
 
--- Router r made one datagram, of whose leg a fact holds; and where it is made of bytes it leaves as it may.
+-- Router r made one datagram; `Is` holds of its leg, and it leaves in an allowed way if it consists of bytes.
 pub record Answered (i : Internet) (r : ℕ) (Is : Leg → Type 0) (outputs : List Output) : Type 0 where
   pub port : ℕ
   pub to : Next
@@ -52,11 +52,11 @@ pub record Answered (i : Internet) (r : ℕ) (Is : Leg → Type 0) (outputs : Li
   pub kind : Is (leg_by i r port to bytes)
   pub made : IsTrue (are_bytes bytes) → IsMade i (leg_by i r port to bytes)
 
--- the request of a packet
+-- The request of a packet.
 abbrev pub request_of : Bool → (p : NbpPacket) → Requested p → Request
 request_of summed p it = record { summed = summed; id = p.id; tuple = it.tuple }
 
--- the header of a request, with its source
+-- The header of a request, with its source.
 abbrev header_from : Bool → Addr → Addr → Header
 header_from summed to source =
     record { summed = summed; target = to; source = source; target_socket = 2; source_socket = 2; kind = 2 }
@@ -82,11 +82,11 @@ module _ (i : Internet) (ok : Passes i) (r : ℕ) (h : Holding) (holder : HoldsR
   seated : (q : ℕ) (port : Port) → At holder.router.ports q port → IsPort i r holder.router q port
   seated q port at = record { known = holder.known; at = at }
 
-  -- the request under another function has the packet's key
+  -- The request with another function has the packet's key.
   same : (f : Function) → key (packet_of f p.id it.tuple) ≡ key p
   same f = same_key f p.function p.id it.tuple ∙ ap key (sym it.is)
 
-  -- a lookup by a port on a cable
+  -- A lookup by a port on a cable.
   pub looked : (q c : ℕ) → IsOnCable holder.router q c
       → Answered i r (IsLookup i (key p) r c) (looked_by h (request_of summed p it) q)
   looked q c on =
@@ -120,7 +120,7 @@ module _ (i : Internet) (ok : Passes i) (r : ℕ) (h : Holding) (holder : HoldsR
         };
       }
 
-  -- a forward request to a network of a cable, by way of another router
+  -- A forward request to a network of a cable, by way of another router.
   pub forwarded : (n c s d : ℕ) (a : Addr) → home i n ≡ Some c → hand i r n ≡ On s d a → owner i d a ≡ Some s
       → Answered i r (IsForward i (key p) r c) (asked h (request_of summed p it) (ask.Forward n))
   forwarded n c s d a listed handed own =

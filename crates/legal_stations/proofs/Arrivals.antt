@@ -1,4 +1,4 @@
--- What every frame of a legal transcript is, and who hears it.
+-- Properties of every frame of a legal transcript, and of the stations that hear it.
 use Rattle.std.proofs.Common.{◌≡◌, ◌≢◌, ℕ, suc, ◌+◌, ◌<◌, ◌≤◌, inl, inr, Bool, true, false, not, ◌&&◌, ◌||◌, ◌==◌, cond, List, [], ◌∷◌}
 use Rattle.std.proofs.Common.{Option, Some, None, is_some, filter, refl, sym, ap, ◌∙◌, subst, arith, true≢false, lt-ltb}
 use Rattle.std.specs.List.{AllByRecursion as Each}
@@ -32,13 +32,13 @@ use Rattle.station.specs.declared.output.Next.{Next}
 use Rattle.station.specs.declared.output.Next.TheVariants as next
 use Rattle.table_image.specs.Internet.{Internet}
 
--- The frame has a datagram, whose body is one; and one to a single station isn't for network 0.
+-- The frame has a datagram with a whole body; a datagram in a frame to one station isn't for network 0.
 pub record IsFine (f : Frame) : Type 0 where
   pub kind : f.kind ≡ Ddp
   pub is_body : IsBody (body f.bytes)
   pub some : is_unicast f.to ≡ true → (target f.bytes).net ≢ 0
 
--- what is put is fine
+-- A frame that is put satisfies `IsFine`.
 abbrev AreFine : Entry → Type 0
 AreFine (Put f) = IsFine f
 AreFine _ = Unit {0}
@@ -65,7 +65,7 @@ pair_from seats (Lost t ∷ es) k p e = let h = pair_from seats es k p e in ((su
 
 -- ---- Frames of legs
 
--- whom a leg to this network goes to next: a station where the network isn't 0, all, or a group that there is
+-- The next receiver of a leg to this network: a station if the network isn't 0, all stations, or a valid group.
 abbrev IsNextOf : ℕ → Next → Type 0
 IsNextOf net (next.Station a) = net ≢ 0
 IsNextOf net next.All = Unit {0}
@@ -181,7 +181,8 @@ module _ (i : Internet) (ok : Passes i) where
 
   -- ---- Transcripts
 
-  -- What is known of a frame that a station is to take: its body with a hop count; and the seat is one of the internet's.
+  -- The properties of a pair that a station takes: its frame has a body with a hop count, and its seat is one of the
+  -- internet's.
   pub record Arrives (p : Pair) : Type 0 where
     pub fine : IsFine p.frame
     pub framed : Framed p.frame.bytes

@@ -1,4 +1,4 @@
--- What a router makes of a request for names that ends at it.
+-- The requests that a router makes from a request for names that ends at it.
 use Rattle.std.proofs.Common.{Bool, IsTrue, List, None, Option, Some, [], ap, cond, false, refl, subst, sym, true, ℕ, ◌&&◌, ◌∙◌, ◌∷◌, ◌≡◌}
 use Rattle.std.specs.List.{All, AllByRecursion as Each, flat_map}
 use Rattle.at_base.specs.Text.{is_name}
@@ -40,7 +40,7 @@ use Rattle.legal_stations.proofs.Making.{all_of}
 
 -- ---- Requests are datagrams that the router makes
 
--- the output is a datagram that the station made
+-- The output is a datagram that the station made.
 abbrev IsDatagram : Output → Type 0
 IsDatagram (Made port to bytes) = Unit {0}
 IsDatagram (Passed port to bytes) = ⊥
@@ -90,7 +90,7 @@ leaves_by i s (Kept port bytes ∷ os) d h = absurd d.0
 leaves_by i s (Dropped cause bytes ∷ os) d h = absurd d.0
 leaves_by i s (Wire port to bytes ∷ os) d h = absurd d.0
 
--- nothing is made of functions that nothing is made of
+-- A packet makes no outputs if its function makes none.
 silent : (h : Holding) (d : Datagram) (p : NbpPacket) (f : Function) → p.function ≡ f → ((r : Request) → made_of h f r d.target.net ≡ [])
     → (ts : List Tuple) → made_by h d p ts ≡ []
 silent h d p f e none [] = refl
@@ -99,12 +99,12 @@ silent h d p f e none (t ∷ ts) =
 
 -- ---- Answers
 
--- The outputs leave as they may, and are answers to the pair.
+-- The outputs leave in an allowed way, and are answers to the pair.
 pub record Answered (i : Internet) (p : Pair) (os : List Output) : Type 0 where
   pub leaves : Each (Leaves i p.seat.station) os
   pub answers : Answers i p (legs i p.seat.station os)
 
--- what is no request for cables isn't answered by requests
+-- A packet that is neither a broadcast request nor a forward request isn't answered by requests.
 pub quiet : (i : Internet) (p : Pair) (o : Option NbpPacket) → request (body p.frame.bytes) ≡ o → is_broadcast o ≡ false
     → is_forward o ≡ false
     → (asks_here i p ≡ false) × (seeks_here i p ≡ false)
@@ -113,7 +113,7 @@ quiet i p o req no_broadcast no_forward = (
   ap (λ b. b && is_name (zone_of (key_in (request (body p.frame.bytes)))) && ends_at i p) (ap is_forward req ∙ no_forward),
 )
 
--- nor is what doesn't end there
+-- A datagram that doesn't end at the router isn't answered by requests.
 pub unended : (i : Internet) (p : Pair) → ends_at i p ≡ false → (asks_here i p ≡ false) × (seeks_here i p ≡ false)
 unended i p e = (
   nor (is_broadcast (request (body p.frame.bytes))) (ends_at i p) e,
@@ -133,7 +133,7 @@ none_answered : (i : Internet) (p : Pair) (os : List Output) → os ≡ [] → (
     → Answered i p os
 none_answered i p os e q = subst (Answered i p) (sym e) (record { leaves = tt; answers = Others q.0 q.1 tt })
 
--- the function of a packet
+-- The function of a packet.
 of_function : (p : NbpPacket) (f : Function) → p.function ≡ f → (test : Option NbpPacket → Bool)
     → test (Some p) ≡ test (Some (record p { function = f }))
 of_function p f e test = ap (λ g. test (Some (record p { function = g }))) e
@@ -207,7 +207,7 @@ module _ (i : Internet) (ok : Passes i) (bounded : IsBounded i) (p : Pair) (h : 
         none_answered i p outputs (silent h d q Reply e (λ z. refl) q.tuples)
         (quiet i p (Some q) req (of_function q Reply e is_broadcast) (of_function q Reply e is_forward))
 
-  -- what the router makes of what ended at it for itself
+  -- The requests that the router makes from a datagram that ended at it.
   pub requests_answer : (c : ℕ) → home i (target p.frame.bytes).net ≡ Some c → home i d.target.net ≡ Some c → HasPort i r c
       → (o : Option NbpPacket) → names_in d.payload ≡ o → request (body p.frame.bytes) ≡ o → Each (IsGood n) (requests_made h d o)
       → Answered i p (requests_made h d o)

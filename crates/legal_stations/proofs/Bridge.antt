@@ -1,4 +1,4 @@
--- A leg onto a cable, where stations are found by the seats of the internet.
+-- A leg onto a cable, with stations found by the seats of the internet.
 use Rattle.std.proofs.Common.{◌≡◌, ℕ, ◌+◌, ◌*◌, ◌/◌, ◌%◌, ◌≤◌, cond, List, [], ◌∷◌, Option, Some, None, is_some, take, refl, sym, ap, ◌∙◌}
 use Rattle.std.proofs.Common.{subst, arith, append-nil}
 use Rattle.at_base.specs.Address.{same_address}
@@ -19,7 +19,7 @@ use Rattle.station.specs.declared.output.Next.{Next}
 use Rattle.station.specs.declared.output.Next.TheVariants as next
 use Rattle.table_image.specs.Internet.{Internet}
 
--- who puts the frame of a leg there
+-- The station that puts the frame of a leg on the cable.
 abbrev pub by_leg : ℕ → Leg → Sender
 by_leg stamp l = record { stamp = stamp; cable = l.cable; station = l.station }
 
@@ -49,7 +49,7 @@ module _ (i : Internet) (stamp : ℕ) (l : Leg) where
         (put stamp l all_hw ∷ [])) same
     leg_is (next.Group g) = refl
 
-  -- the frame of a leg goes onto the cable as the leg does
+  -- The cable model enters the same entries for a leg's frame as the leg does.
   pub legs_agree : (bytes : List ℕ) → Whole l.body → l.hops ≤ 15 → bytes ≡ with_hops l.hops l.body
       → leg_on (places_of i) (by_leg stamp l) l.next bytes ≡ leg i stamp l
   legs_agree bytes w few is =
@@ -65,11 +65,11 @@ no_hops_twice (b ∷ bytes) =
     ≡ b / 64 * 64 + 0 * 4 + b % 4 = omega arith in
     ap (λ (x : ℕ). x ∷ bytes) e
 
--- a body has hop count 0
+-- A body has hop count 0.
 pub no_hops : (b : List ℕ) → Whole b → with_hops 0 b ≡ b
 no_hops b w = ap (with_hops 0) (sym w.same) ∙ (no_hops_twice (take (named_length b) b) ∙ w.same)
 
--- a datagram that a station made goes onto the cable as its leg does
+-- The cable model enters the same entries for a datagram that a station made as its leg does.
 pub made_agrees : (i : Internet) (stamp : ℕ) (l : Leg) → IsBody l.body → l.hops ≡ 0
     → leg_on (places_of i) (by_leg stamp l) l.next l.body ≡ leg i stamp l
 made_agrees i stamp l is fresh =

@@ -1,4 +1,4 @@
--- The course of a datagram that a router takes: its fate, and whether it ends there.
+-- The course of a datagram that a router takes: its fate, and whether it ends at the router.
 use Rattle.std.proofs.Common.{◌≡◌, ℕ, Bool, true, false, not, ◌&&◌, ◌||◌, ◌==◌, cond, [], Some, None, length, refl, sym, ap, ◌∙◌}
 use Rattle.std.proofs.Common.{subst, true≢false, lt-ltb, eqb-true}
 use Rattle.at_base.specs.Address.{same_address}
@@ -28,7 +28,7 @@ use Rattle.legal_stations.proofs.Datagrams.{Inside}
 use Rattle.legal_stations.proofs.Fates.{Came, EndsOn, Outcome, came, handed, own_end, own_unicast}
 use Rattle.legal_stations.proofs.Ports.{has_at, has_is, seat_of_port}
 
--- a test of a copy, and of what isn't handed on
+-- The test for a copy agrees with the test for a datagram that is passed on.
 copy_test : (k u r z o : Bool) → k ≡ true → r ≡ true → (k && u && r && not z && not o) ≡ not (not u || z || o)
 copy_test true u true z o ek er = by u z o
   where
@@ -40,7 +40,7 @@ copy_test true u true z o ek er = by u z o
 copy_test false u r z o ek er = cc
 copy_test true u false z o ek er = cc
 
--- a datagram to the station alone that isn't handed on, and isn't for this cable, is for its address
+-- A datagram in a frame to one station that isn't passed on, and isn't for network 0, is for the station's address.
 third : (u z o : Bool) → (not u || z || o) ≡ true → u ≡ true → z ≡ false → o ≡ true
 third true false o e a b = e
 third true true o e a b = cc
@@ -67,7 +67,7 @@ module _ (i : Internet) (ok : Passes i) (p : Pair) (h : Holding) (holds : HoldsR
   abbrev their : Came i ok p h holds a x
   their = came i ok p h holds a x
 
-  -- the router's address on the cable on which the frame came
+  -- The router's address on the cable on which the frame came.
   own_there : has x.d.target (own_at h.ports p.seat.port) ≡ has_address i r p.seat.cable to
   own_there =
       has_at i ok r h holds p.seat.port their.port their.at x.d.target
@@ -79,7 +79,7 @@ module _ (i : Internet) (ok : Passes i) (p : Pair) (h : Holding) (holds : HoldsR
   abbrev at_once : Bool
   at_once = ends_at_once h.ports p.seat.port (link_of p.frame.to) x.d.target
 
-  -- a copy is what is handed on
+  -- A datagram is a copy if and only if it is passed on.
   copy_is : is_copy i p ≡ not at_once
   copy_is =
       copy_test (is_datagram p.frame.kind) (is_unicast p.frame.to) (is_router i r) (to.net == 0) (has_address i r p.seat.cable to)
@@ -88,7 +88,7 @@ module _ (i : Internet) (ok : Passes i) (p : Pair) (h : Holding) (holds : HoldsR
       ∙ (ap (λ (t : Addr). not (not (is_own (link_of p.frame.to)) || t.net == 0 || has_address i r p.seat.cable to)) x.target_is
       ∙ ap (λ o. not (not (is_own (link_of p.frame.to)) || x.d.target.net == 0 || o)) (sym own_there)))
 
-  -- the address of a port is at home on its cable
+  -- The address of a port is at home on its cable.
   home_there : has_address i r p.seat.cable to ≡ true → home i to.net ≡ Some their.port.cable
   home_there e =
       let same : same_address to their.port.address ≡ true =
@@ -102,7 +102,7 @@ module _ (i : Internet) (ok : Passes i) (p : Pair) (h : Holding) (holds : HoldsR
   not_sent_on : is_unicast p.frame.to ≡ false → ends_at i p ≡ false
   not_sent_on u = ap (λ b. b && is_router i r && (has_address i r p.seat.cable to || (is_copy i p && keeps i p))) u
 
-  -- where it ends at once
+  -- A datagram that ends immediately.
   once_ends : (l : Link) → link_of p.frame.to ≡ l → at_once ≡ true
       → (own_end (heard_as p.seat.port l x.d.target) ≡ ends_at i p) × EndsOn i ok p h holds a x (heard_as p.seat.port l x.d.target)
   once_ends link.Own e once =
@@ -127,7 +127,7 @@ module _ (i : Internet) (ok : Passes i) (p : Pair) (h : Holding) (holds : HoldsR
       by false = (sym never, tt)
   once_ends (link.Group g) e once = (sym (not_sent_on (sym (own_unicast p.frame.to) ∙ ap is_own e)), tt)
 
-  -- the course of the datagram
+  -- The course of the datagram.
   abbrev pub the_course : Course
   the_course = course h.ports h.routes p.seat.port (link_of p.frame.to) x.d.hops x.d.target
 

@@ -21,21 +21,21 @@ use Rattle.station.specs.Lawful.{are_bytes}
 use Rattle.station.specs.Values.{datagram_at, value_of}
 use Rattle.station.specs.Ways.{checks}
 
--- the bytes that spell a datagram begin with it
+-- Bytes that spell a datagram begin with it.
 pub begins_whole : (bytes : List ℕ) (d : Datagram) → Spells datagram bytes d → Begins datagram bytes d
 begins_whole bytes d s = subst (λ (b : List ℕ). Begins datagram b d) (append-nil bytes) (spelled_begins datagram bytes [] d s)
 
--- ---- What reading gives
+-- ---- The result of reading
 
 same_value : {E A B : Type 0} (x : Result (A × B) E) → value_in x ≡ value_of x
 same_value (Ok x) = refl
 same_value (Err e) = refl
 
--- the packet of a request in a datagram
+-- The packet of a request in a datagram.
 abbrev pub names_of : Datagram → Option NbpPacket
 names_of d = cond (d.kind == 2 && d.target_socket == 2) (names_in d.payload) None
 
--- the request in bytes that spell a datagram
+-- The request in bytes that spell a datagram.
 pub request_in : (bytes : List ℕ) (d : Datagram) → Spells datagram bytes d → request bytes ≡ names_of d
 unfolding request names_in
 request_in bytes d s =
@@ -47,13 +47,13 @@ at_bytes : (bytes : List ℕ) (d : Datagram) → Spells datagram bytes d → dat
 unfolding datagram_at
 at_bytes bytes d s = ap value_of (begins_read packets datagram datagram_lawful bytes d (begins_whole bytes d s))
 
--- ---- Fields that stay
+-- ---- Fields that stay the same
 
--- the datagram with another hop count
+-- The datagram with another hop count.
 abbrev pub hopped : ℕ → Datagram → Datagram
 hopped n d = record d { hops = n }
 
--- the sum isn't of the hop count
+-- The checksum doesn't depend on the hop count.
 sum_stays : (n : ℕ) (d : Datagram) → checksum_of (hopped n d) ≡ checksum_of d
 sum_stays n d = ap (λ b. sum_of (drop 4 b)) (bytes_laid (hopped n d)) ∙ ap (λ b. sum_of (drop 4 b)) (sym (bytes_laid d))
 
@@ -66,13 +66,13 @@ drop_all zero bytes e = e
 drop_all (suc n) [] e = refl
 drop_all (suc n) (b ∷ bytes) e = drop_all n bytes (and_parts (nat_lt b 256) (list_all (λ b. nat_lt b 256) bytes) e).1
 
--- the data of a datagram are bytes
+-- The data of a datagram are bytes.
 pub data_bytes : (d : Datagram) (bytes : List ℕ) → bytes ≡ laid d → IsTrue (are_bytes bytes) → IsTrue (are_bytes d.payload)
 data_bytes d bytes is each = drop_all 13 (laid d) (subst (λ (b : List ℕ). are_bytes b ≡ true) is each)
 
 -- ---- The datagram of a frame
 
--- The datagram that a station reads of a frame's bytes: it is whole, and agrees with the bytes.
+-- The datagram that a station reads from a frame's bytes: it is whole and agrees with the bytes.
 pub record Inside (bytes : List ℕ) : Type 0 where
   pub d : Datagram
   pub read_is : datagram_at bytes ≡ Some d

@@ -43,17 +43,17 @@ use Rattle.legal_stations.proofs.LookedUp.{bytes_of_made, made_is}
 use Rattle.legal_stations.proofs.Looking.{first_range, of_range, port_there, some_port}
 use Rattle.legal_stations.proofs.Requested.{Requested, requested}
 
--- the range of a cable
+-- The range of a cable.
 abbrev span : Cable → Span
 span c = record { start = c.start; end = c.end }
 
 module _ (i : Internet) (ok : Passes i) (r : ℕ) (h : Holding) (holder : HoldsRouter i r h)
     (summed : Bool) (p : NbpPacket) (it : Requested p) where
-  -- a lookup or a forward request for the cable
+  -- The leg is a lookup or a forward request for the cable.
   abbrev Asks : ℕ → Leg → Type 0
   Asks c l = IsLookup i (key p) r c l ⊎ IsForward i (key p) r c l
 
-  -- what the router makes for one of the things that it asks
+  -- The outputs that the router makes for one question.
   abbrev makes : Ask → List Output
   makes a = asked h (request_of summed p it) a
 
@@ -70,7 +70,7 @@ module _ (i : Internet) (ok : Passes i) (r : ℕ) (h : Holding) (holder : HoldsR
     unfolding test
     own_range = and_from _ _ (eq-eqb cable.start _ refl) (eq-eqb cable.end _ refl)
 
-    -- a range that is the cable's has its start
+    -- The cable's range holds the cable's start.
     same_holds : (s : Span) → test s ≡ true → is_between s.start s.end cable.start ≡ true
     unfolding test
     same_holds s e =
@@ -87,7 +87,7 @@ module _ (i : Internet) (ok : Passes i) (r : ℕ) (h : Holding) (holder : HoldsR
     ports_are : position test (ranges h.ports) ≡ index_of (of_range i test) holder.router.ports
     ports_are = ap (λ ports. position test (ranges ports)) holder.ports ∙ first_range i test holder.router.ports
 
-    -- where no port has the cable's range, a request to its start is handed on
+    -- If no port has the cable's range, a request to its start is passed on.
     passed_on : position test (ranges h.ports) ≡ None → Answered i r (Asks c) (makes (Forward cable.start))
     passed_on none = by (steps i ok r cable.start c (at_within i.routers r holder.router holder.known) listed)
       where
@@ -99,7 +99,7 @@ module _ (i : Internet) (ok : Passes i) (r : ℕ) (h : Holding) (holder : HoldsR
             let m = forwarded i ok r h holder summed p it cable.start c s d a listed handed own in
             record { port = m.port; to = m.to; bytes = m.bytes; is = m.is; kind = inr m.kind; made = m.made }
 
-    -- what the router makes for the cable's range
+    -- The outputs that the router makes for the cable's range.
     answered : Answered i r (Asks c) (makes (ask (ranges h.ports) (span cable)))
     unfolding test
     answered = by (position test (ranges h.ports)) refl
@@ -115,11 +115,11 @@ module _ (i : Internet) (ok : Passes i) (r : ℕ) (h : Holding) (holder : HoldsR
 
   -- ---- All cables
 
-  -- what the router makes for the ranges of these cables that have the zone
+  -- The outputs that the router makes for the ranges of those cables that have the zone.
   abbrev made_for : List ℕ → List Cable → List Output
   made_for z cs = flat_map makes (map (ask (ranges h.ports)) (ranges_with z cs))
 
-  -- the legs are for the cables, and leave as they may
+  -- The legs are for the cables, and leave in an allowed way.
   abbrev Are : List ℕ → List Output → Type 0
   Are cs outputs = Expands i (key p) r cs (legs i r outputs) × Each (IsMade i) (legs i r outputs)
 
@@ -159,14 +159,14 @@ module _ (i : Internet) (ok : Passes i) (r : ℕ) (h : Holding) (holder : HoldsR
           (answered k c here) fine others
       by false fine others = others fine
 
-  -- what is no name is listed by no cable
+  -- No cable lists bytes that are not a valid name.
   none_listed : (z : List ℕ) (k : ℕ) (cs : List Cable) → is_name z ≡ false → listing_from k z cs ≡ []
   none_listed z k [] e = refl
   none_listed z k (c ∷ cs) e =
       ap (λ b. cond (b && list_any (same_name z) c.zones) (k ∷ listing_from (suc k) z cs) (listing_from (suc k) z cs)) e
       ∙ none_listed z (suc k) cs e
 
-  -- what the router makes for a zone
+  -- The outputs that the router makes for a zone.
   pub expands : (n : ℕ) (z : List ℕ) → IsBounded i → All (IsGood n) (flat_map makes (asks (ranges h.ports) z h.zones))
       → Are (listing i z) (flat_map makes (asks (ranges h.ports) z h.zones))
   expands n z bounded good = by (is_name z) refl good
@@ -189,7 +189,7 @@ module _ (i : Internet) (ok : Passes i) (r : ℕ) (h : Holding) (holder : HoldsR
   moved : (z w : List ℕ) (outputs made : List Output) → z ≡ w → outputs ≡ made → Are (listing i w) made → Are (listing i z) outputs
   moved z w outputs made zone same a = subst (λ x. Are (listing i x) outputs) (sym zone) (subst (Are (listing i w)) (sym same) a)
 
--- what a router makes of a broadcast request
+-- The requests that a router makes from a broadcast request.
 pub broadcast_expands : (i : Internet) (r n : ℕ) (h : Holding) (d : Datagram) (p : NbpPacket) → Passes i → IsBounded i → HoldsRouter i r h
     → IsTrue (are_bytes d.payload) → names_in d.payload ≡ Some p → p.function ≡ BroadcastRequest
     → All (IsGood n) (requests_made h d (Some p))

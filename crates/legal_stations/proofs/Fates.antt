@@ -1,4 +1,4 @@
--- What becomes of a datagram that a router takes, as the image says.
+-- The fate of a datagram that a router takes, by the image's tables.
 use Rattle.std.proofs.Common.{◌≡◌, ℕ, ◌+◌, ◌*◌, ◌/◌, ◌%◌, ◌≤◌, Bool, true, false, not, ◌&&◌, ◌||◌, ◌==◌, cond, if◌then◌else◌, List, []}
 use Rattle.std.proofs.Common.{◌∷◌, ◌++◌, Option, Some, None, refl, sym, ap, ◌∙◌, subst, arith, append-nil, true≢false, slice_index}
 use Rattle.std.proofs.lemmas.Bool.{eqb-false}
@@ -37,7 +37,7 @@ use Rattle.legal_stations.proofs.Datagrams.{Inside}
 use Rattle.legal_stations.proofs.Hands.{BothHere, BothNowhere, BothOn, hands_agree}
 use Rattle.legal_stations.proofs.Ports.{cable_is, has_at, port_of}
 
--- a hop count that is set again
+-- Setting the hop count twice is setting it once.
 set_again : (m n : ℕ) → n ≤ 15 → (bytes : List ℕ) → with_hops m (with_hops n bytes) ≡ with_hops m bytes
 set_again m n few [] = refl
 set_again m n few (b ∷ bytes) =
@@ -45,7 +45,7 @@ set_again m n few (b ∷ bytes) =
     omega (arith, few) in
     ap (λ (x : ℕ). x ∷ bytes) e
 
--- a frame is for the station alone where it is to one station
+-- A frame is to the station's own address if and only if it is to one station.
 pub own_unicast : (to : Hw) → is_own (link_of to) ≡ is_unicast to
 own_unicast to = by (is_all to) (is_group to)
   where
@@ -54,7 +54,7 @@ own_unicast to = by (is_all to) (is_group to)
     by false true = refl
     by false false = refl
 
--- it ended as one for the router itself
+-- The datagram ended as one for the router itself.
 abbrev pub own_end : Option Ending → Bool
 own_end None = false
 own_end (Some e) = e.is_own
@@ -67,7 +67,7 @@ module _ (i : Internet) (ok : Passes i) (p : Pair) (h : Holding) (holds : HoldsR
   abbrev to : Addr
   to = target p.frame.bytes
 
-  -- the port of the cable on which the frame came
+  -- The port of the cable on which the frame came.
   pub record Came : Type 0 where
     pub port : Port
     pub at : At holds.router.ports p.seat.port port
@@ -84,13 +84,14 @@ module _ (i : Internet) (ok : Passes i) (p : Pair) (h : Holding) (holds : HoldsR
         cable = ap (λ (s : Seat). s.cable) a.seat_is ∙ of.cable;
       }
 
-  -- where it ended is a port, on the cable that is the network's home where it is for the router itself
+  -- The datagram ended at a port of the router; if it is for the router itself, the port's cable is the home of the
+  -- network.
   abbrev pub EndsOn : Option Ending → Type 0
   EndsOn None = Unit {0}
   EndsOn (Some e) =
       (port : Port) × At holds.router.ports e.port port × (e.is_own ≡ true → home i to.net ≡ Some port.cable)
 
-  -- What a course comes to: these entries, and an end at the router itself or none.
+  -- The result of a course: these entries, and whether the datagram ends at the router itself.
   pub record Outcome (stamp : ℕ) (c : Course) (es : List Entry) (own : Bool) : Type 0 where
     pub fate_is : all_entries (places_of i) (cable_seats i) r stamp (fate c.step x.d) ≡ es
     pub ends : own_end c.ending ≡ own
@@ -112,7 +113,7 @@ module _ (i : Internet) (ok : Passes i) (p : Pair) (h : Holding) (holds : HoldsR
       ∙ ap (with_hops (hops p.frame.bytes + 1)) (sym (inside_is p.frame.bytes a.framed))))
 
   module _ (stamp : ℕ) where
-    -- what is passed on
+    -- The entries of a datagram that is passed on.
     pass_is : (q : ℕ) (port : Port) → At holds.router.ports q port → (whom : Next) → (hops p.frame.bytes == 15) ≡ false
         → leg_on (places_of i) (sender_by (cable_seats i) r stamp q) whom (onward x.d) ++ [] ≡ leg i stamp (passed r p port.cable whom)
     pass_is q port at whom near =
@@ -186,7 +187,7 @@ module _ (i : Internet) (ok : Passes i) (p : Pair) (h : Holding) (holds : HoldsR
         by true e = record { fate_is = ap (λ b. Dropped r HopLimit b ∷ []) body_are; ends = refl; on = tt }
         by false e = record { fate_is = pass_is q port at (next.Station t) e; ends = refl; on = tt }
 
-    -- ---- By where the router hands it on
+    -- ---- By the router's routing decision
 
     abbrev Comes : Course → Hand → Type 0
     Comes c there = Outcome stamp c (fate_by i stamp r p there) (keeps_by i r to there)

@@ -1,4 +1,4 @@
--- Where a router that holds its image's rows hands datagrams on, beside where the image says so.
+-- The next hop of a datagram by a router's rows, compared with the image's.
 use Rattle.std.proofs.Common.{◌≡◌, ℕ, Bool, true, false, cond, ◌&&◌, List, [], ◌∷◌, Option, Some, None, option_map, map, find, refl, sym}
 use Rattle.std.proofs.Common.{ap, ◌∙◌, slice_get}
 use Rattle.at_base.specs.Range.{is_between}
@@ -16,7 +16,7 @@ use Rattle.audit.proofs.WalkLists.{At}
 use Rattle.router.specs.Holding.{hand as router_hand, hand_by as router_hand_by}
 use Rattle.router.specs.declared.hand.Hand.TheVariants as by
 
--- what is found in a mapped list comes from what is found in the list
+-- A search in a mapped list has the mapped result of a search in the list.
 find_map : {X Y : Type 0} (f : X → Y) (t : Y → Bool) (xs : List X) → find t (map f xs) ≡ option_map f (find (λ x. t (f x)) xs)
 find_map f t [] = refl
 find_map f t (x ∷ xs) = one (t (f x)) (find_map f t xs)
@@ -26,11 +26,11 @@ find_map f t (x ∷ xs) = one (t (f x)) (find_map f t xs)
     one true rest = refl
     one false rest = rest
 
--- the row of a routing table is that of the image
+-- The row that a routing table finds is the image's row.
 rows_agree : (rows : List Row) (n : ℕ) → table_row_for n (map route_row rows) ≡ option_map route_row (row_for rows n)
 rows_agree rows n = find_map route_row (λ r. is_usable r.state && is_between r.range.start r.range.end n) rows
 
--- Where the image has the router hand datagrams on to an address over a cable, the router does, by its port there.
+-- If by the image the router hands datagrams to an address over a cable, it does so by its port on that cable.
 pub record HandsOn (router : Router) (n d : ℕ) (a : Addr) : Type 0 where
   pub place : ℕ
   pub port : Port

@@ -1,4 +1,4 @@
--- Where a router hands datagrams for a network on, by its tables and by those of the image.
+-- The next hop for a network, by a router's tables and by the image's.
 use Rattle.std.proofs.Common.{◌≡◌, ℕ, suc, Bool, true, false, ◌&&◌, cond, List, [], ◌∷◌, Option, Some, None, is_some, map, find}
 use Rattle.std.proofs.Common.{refl, sym, ap, ◌∙◌, arith, slice_get, option_map}
 use Rattle.std.proofs.lemmas.Bool.{and_parts, not-false}
@@ -25,7 +25,7 @@ use Rattle.table_image.specs.declared.port.Port.{Port}
 use Rattle.table_image.specs.declared.row.Row.{Row}
 use Rattle.table_image.specs.declared.router.Router.{Router}
 
--- what is found in a mapped list
+-- A search in a mapped list has the mapped result of a search in the list.
 pub find_map : {X Y : Type 0} (f : X → Y) (t : Y → Bool) (xs : List X) → find t (map f xs) ≡ option_map f (find (λ x. t (f x)) xs)
 find_map f t [] = refl
 find_map f t (x ∷ xs) =
@@ -34,8 +34,9 @@ find_map f t (x ∷ xs) =
       | false ↦ find_map f t xs
     ]
 
--- A router that holds the tables of the image hands datagrams for a network on as the image does: neither does; or both on
--- the cable of a port, which is the network's home; or both over the cable of a port to the owner of an address there.
+-- A router with the image's tables makes the image's routing decision for a network: neither has a route; or both put
+-- datagrams on the cable of a port, which is the network's home; or both hand them, over the cable of a port, to the
+-- owner of an address there.
 pub data Agree (i : Internet) (r : ℕ) (router : Router) (h : Holding) (n : ℕ) : Type 0 where
   BothNowhere : hand_in h.routes n ≡ to.Nowhere → hand i r n ≡ Nowhere → Agree i r router h n
   BothHere : (q : ℕ) (port : Port) → At router.ports q port → hand_in h.routes n ≡ to.Here q → hand i r n ≡ Here port.cable
@@ -47,7 +48,7 @@ module _ (i : Internet) (ok : Passes i) (r : ℕ) (h : Holding) (holds : HoldsRo
   abbrev router : Router
   router = holds.router
 
-  -- a row that holds the network is for a cable that does
+  -- A row that holds the network is for a cable that holds it.
   row_listed : (k : ℕ) (row : Row) → At router.rows k row → is_between row.start row.end n ≡ true → (c : ℕ) × (home i n ≡ Some c)
   row_listed k row at within =
       let here : at_row i r k (bad_range i) ≡ bad_range i router row =
@@ -60,7 +61,7 @@ module _ (i : Internet) (ok : Passes i) (r : ℕ) (h : Holding) (holds : HoldsRo
       index_found (λ c. is_between c.start c.end n) i.cables of.0 w.0 w.1
       (is_between_when w.0.start w.0.end n (omega (arith, ends.0, b.0)) (omega (arith, ends.1, b.1)))
 
-  -- the router's hand, by the row that the image has
+  -- The router's decision, by the row that the image has.
   by_row : hand_in h.routes n ≡ hand_of (option_map route_row (row_for router.rows n))
   by_row =
       ap (λ rows. hand_of (route_for n rows)) holds.routes
@@ -69,7 +70,7 @@ module _ (i : Internet) (ok : Passes i) (r : ℕ) (h : Holding) (holds : HoldsRo
   image_row : hand i r n ≡ hand_by i router (row_for router.rows n)
   image_row = ap (λ o. hand_at i o n) holds.known
 
-  -- a listed network is handed on
+  -- There is a route for a listed network.
   not_nowhere : (c : ℕ) → home i n ≡ Some c → hand i r n ≡ Nowhere → ⊥
   not_nowhere c listed e =
       elim (steps i ok r n c (at_within i.routers r router holds.known) listed) as (λ _. ⊥) [
@@ -77,7 +78,7 @@ module _ (i : Internet) (ok : Passes i) (r : ℕ) (h : Holding) (holds : HoldsRo
         | Goes s d a there own less nearer mine its other ↦ (let x : On s d a ≡ Nowhere = sym there ∙ e in cc)
       ]
 
-  -- it is put on its home alone
+  -- A datagram is put only on its home cable.
   put_home : (c d : ℕ) → home i n ≡ Some c → hand i r n ≡ Here d → home i n ≡ Some d
   put_home c d listed e =
       elim (steps i ok r n c (at_within i.routers r router holds.known) listed) as (λ _. home i n ≡ Some d) [

@@ -51,13 +51,13 @@ entries_more i s stamp (x ∷ xs) ys =
     ∙ (sym (append_assoc first rest (all_entries (places_of i) (cable_seats i) s (stamp + stamps first + stamps rest) ys))
     ∙ ap (λ k. (first ++ rest) ++ all_entries (places_of i) (cable_seats i) s k ys) n)
 
--- ---- What stations made
+-- ---- Datagrams that stations made
 
--- the leg of a datagram that a station made
+-- The leg of a datagram that a station made.
 abbrev pub leg_by : Internet → ℕ → ℕ → Next → List ℕ → Leg
 leg_by i s port to bytes = record { station = s; cable = cable_of (cable_seats i) s port; next = to; body = bytes; hops = 0 }
 
--- the station made the output, and it leaves as datagrams may
+-- The station made the output, and it leaves in an allowed way.
 abbrev pub Leaves : Internet → ℕ → Output → Type 0
 Leaves i s (Made port to bytes) = IsMade i (leg_by i s port to bytes)
 Leaves i s (Passed port to bytes) = ⊥
@@ -65,7 +65,7 @@ Leaves i s (Kept port bytes) = ⊥
 Leaves i s (Dropped cause bytes) = ⊥
 Leaves i s (Wire port to bytes) = ⊥
 
--- the output is no request
+-- The output is no request.
 abbrev pub AsksNothing : Output → Type 0
 AsksNothing (Made port to bytes) = is_other bytes ≡ true
 AsksNothing (Passed port to bytes) = Unit {0}
@@ -74,7 +74,7 @@ AsksNothing (Dropped cause bytes) = Unit {0}
 AsksNothing (Wire port to bytes) = Unit {0}
 
 module _ (i : Internet) (s : ℕ) where
-  -- what is entered of what a station made
+  -- The entries of the datagrams that a station made.
   pub said_is : (stamp : ℕ) (os : List Output) → Each (Leaves i s) os
       → all_entries (places_of i) (cable_seats i) s stamp os ≡ said i stamp (legs i s os)
   said_is stamp [] h = refl
@@ -92,7 +92,7 @@ module _ (i : Internet) (s : ℕ) where
   said_is stamp (Dropped cause bytes ∷ os) h = absurd h.0
   said_is stamp (Wire port to bytes ∷ os) h = absurd h.0
 
-  -- what holds of the legs
+  -- The legs of made datagrams leave in an allowed way.
   pub legs_made : (os : List Output) → Each (Leaves i s) os → Each (IsMade i) (legs i s os)
   legs_made [] h = tt
   legs_made (Made port to bytes ∷ os) h = (h.0, legs_made os h.1)
@@ -119,22 +119,22 @@ module _ (i : Internet) (s : ℕ) where
 
 -- ---- Ways
 
--- a packet that is no request
+-- The packet is no request.
 abbrev pub is_quiet : Option NbpPacket → Bool
 is_quiet o = not (is_broadcast o || is_forward o || is_lookup o)
 
--- A way by which datagrams of the station leave as they may.
+-- A way by which datagrams of the station leave in an allowed way.
 pub record IsWay (i : Internet) (s : ℕ) (w : Way) : Type 0 where
   pub fits : Fitting w.header
   pub seated : is_on i s (cable_of (cable_seats i) s w.port) ≡ true
   pub goes : (l : Leg) → l.cable ≡ cable_of (cable_seats i) s w.port → l.next ≡ w.next → target l.body ≡ w.header.target → Goes i l
 
--- the same of a way that there may be
+-- If there is a way, datagrams leave by it in an allowed way.
 abbrev pub MayGo : Internet → ℕ → Option Way → Type 0
 MayGo i s None = Unit {0}
 MayGo i s (Some w) = IsWay i s w
 
--- what goes such a way asks nothing
+-- Data sent by this way, if there is one, are no request.
 abbrev pub IsQuiet : Option Way → List ℕ → Type 0
 IsQuiet None payload = Unit {0}
 IsQuiet (Some w) payload = is_quiet (names_of (datagram_of w.header payload)) ≡ true
@@ -168,7 +168,7 @@ module _ (i : Internet) (s n : ℕ) where
   replies_quiet None is ps h q = tt
   replies_quiet (Some w) is ps h q = all_quiet w is ps h q
 
--- straight to a target on the cable
+-- Directly to a target on the cable.
 pub goes_straight : (i : Internet) (a : Addr) (c : ℕ) → cable_holds i c a.net ≡ true → (a.node == 0) ≡ false → (l : Leg) → l.cable ≡ c
     → l.next ≡ straight a → target l.body ≡ a → Goes i l
 goes_straight i a c holds some l on to for = by (a.node == 255) refl

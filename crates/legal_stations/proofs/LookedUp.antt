@@ -1,4 +1,4 @@
--- A forward request for a zone that ends at a router with a port on its cable: one lookup there.
+-- A forward request for a zone that ends at a router with a port on its cable makes one lookup there.
 use Rattle.std.proofs.Common.{◌≡◌, ℕ, Bool, true, cond, List, [], ◌∷◌, Some, IsTrue, position, sym, ap, ◌∙◌, subst, arith}
 use Rattle.std.specs.List.{All}
 use Rattle.at_base.specs.Range.{Span, is_between}
@@ -29,19 +29,19 @@ use Rattle.legal_stations.proofs.Answered.{leg_by, looked, request_of}
 use Rattle.legal_stations.proofs.Looking.{IsOnCable, first_port, port_there, some_port}
 use Rattle.legal_stations.proofs.Requested.{Requested, requested}
 
--- what a good output that was made holds is made of bytes
+-- A good output that was made consists of bytes.
 pub bytes_of_made : (n : ℕ) (port : ℕ) (to : Next) (bytes : List ℕ) (outputs : List Output) → All (IsGood n) (Made port to bytes ∷ outputs)
     → IsTrue (are_bytes bytes)
 bytes_of_made n port to bytes outputs good = (good 0 (Made port to bytes) (omega arith)).2.each
 
--- what a router makes of a packet of one tuple
+-- The outputs that a router makes from a packet with one tuple.
 pub made_is : (h : Holding) (d : Datagram) (p : NbpPacket) (it : Requested p) (f : Function) → p.function ≡ f
     → requests_made h d (Some p) ≡ made_of h f (request_of (is_summed d) p it) d.target.net
 made_is h d p it f e =
     ap (λ (q : NbpPacket). made_by h d p q.tuples) it.is ∙ ap (λ f. made_of h f (request_of (is_summed d) p it) d.target.net) e
 
 module _ (i : Internet) (ok : Passes i) (r : ℕ) (h : Holding) (holder : HoldsRouter i r h) where
-  -- the port that a router looks up on for a network of its own cable is there
+  -- The router has the port on which it looks up names for a network of its own cable.
   place_is : (n c : ℕ) → home i n ≡ Some c → HasPort i r c → (q : ℕ)
       × (position (λ c. is_between c.range.start c.range.end n) h.ports ≡ Some q) × IsOnCable holder.router q c
   place_is n c listed port =

@@ -20,18 +20,18 @@ index_map : {X Y : Type 0} (f : X → Y) (t : Y → Bool) (xs : List X) → inde
 index_map f t [] = refl
 index_map f t (x ∷ xs) = ap (λ o. cond (t (f x)) (Some zero) (option_map suc o)) (index_map f t xs)
 
--- the range of the port's cable passes
+-- The range of the port's cable passes the test.
 abbrev pub of_range : Internet → (Span → Bool) → Port → Bool
 of_range i test p = test (range_of (slice_get i.cables p.cable))
 
--- the first port whose range passes is the first whose cable's range does
+-- The first port whose range passes is the first whose cable's range passes.
 pub first_port : (i : Internet) (test : Span → Bool) (ports : List Port)
     → position (λ c. test c.range) (ports_of i ports) ≡ index_of (of_range i test) ports
 first_port i test ports =
     index_position (λ c. test c.range) (ports_of i ports)
     ∙ index_map (λ p. choice_on i p.cable p.address p.hardware) (λ c. test c.range) ports
 
--- and so is the first of the ports' ranges that passes
+-- The first of the ports' ranges that passes is that of the first port whose cable's range passes.
 pub first_range : (i : Internet) (test : Span → Bool) (ports : List Port)
     → position test (ranges (ports_of i ports)) ≡ index_of (of_range i test) ports
 first_range i test ports =
@@ -39,14 +39,14 @@ first_range i test ports =
     ∙ (index_map (λ c. c.range) test (ports_of i ports)
     ∙ index_map (λ p. choice_on i p.cable p.address p.hardware) (λ c. test c.range) ports)
 
--- the router's port at that place is on the cable
+-- The router's port with this index is on the cable.
 pub record IsOnCable (router : Router) (place c : ℕ) : Type 0 where
   pub port : Port
   pub at : At router.ports place port
   pub on : port.cable ≡ c
 
 module _ (i : Internet) (router : Router) (c : ℕ) (cable : Cable) (there : At i.cables c cable) (test : Span → Bool) where
-  -- a router with a port on a cable whose range passes has one
+  -- A router with a port on a cable whose range passes has a port whose range passes.
   pub some_port : (r : ℕ) → At i.routers r router → HasPort i r c → test (record { start = cable.start; end = cable.end }) ≡ true
       → (place : ℕ) × (index_of (of_range i test) router.ports ≡ Some place)
   some_port r known h passes =
@@ -55,7 +55,7 @@ module _ (i : Internet) (router : Router) (c : ℕ) (cable : Cable) (there : At 
       let its : slice_get i.cables h.port.cable ≡ Some cable = ap (slice_get i.cables) h.on ∙ there in
       index_found (of_range i test) router.ports h.place h.port at (ap (λ o. test (range_of o)) its ∙ passes)
 
-  -- where only ranges with a network of the cable pass, the port that is found is on the cable
+  -- If only ranges with a network of the cable pass, the port that is found is on the cable.
   pub port_there : Passes i → (net : ℕ) → 1 ≤ net → is_between cable.start cable.end net ≡ true
       → ((s : Span) → test s ≡ true → is_between s.start s.end net ≡ true)
       → (place : ℕ) → index_of (of_range i test) router.ports ≡ Some place → IsOnCable router place c

@@ -1,4 +1,4 @@
--- Datagrams that a station made of a header and data.
+-- Datagrams that a station made from a header and data.
 use Rattle.std.proofs.Common.{◌≡◌, ℕ, ◌+◌, ◌*◌, ◌/◌, ◌%◌, ◌<◌, ◌≤◌, ◌⊎◌, inl, inr, Bool, true, false, ◌==◌, cond, if◌then◌else◌, List, []}
 use Rattle.std.proofs.Common.{ap, arith, drop, length, refl, sym, ◌++◌, ◌∙◌, ◌∷◌}
 use Rattle.std.specs.Prelude.{fold}
@@ -18,7 +18,7 @@ use Rattle.legal_runs.specs.Requests.{request}
 use Rattle.station.specs.Lawful.{IsWhole}
 use Rattle.legal_stations.proofs.Datagrams.{begins_whole, names_of, request_in}
 
--- ---- What holds of each of a list
+-- ---- Properties of each element of a list
 
 pub each_of : {X : Type 0} (P : X → Type 0) (xs : List X) → All P xs → Each P xs
 each_of P [] h = tt
@@ -32,7 +32,7 @@ pub each_front : {X : Type 0} (P : X → Type 0) (xs ys : List X) → Each P (xs
 each_front P [] ys h = h
 each_front P (x ∷ xs) ys h = each_front P xs ys h.1
 
--- ---- The sum
+-- ---- The checksum
 
 step_fits : (sum byte : ℕ) → step sum byte < 65536
 step_fits sum byte =
@@ -45,7 +45,7 @@ folded_fits : (sum : ℕ) (bytes : List ℕ) → sum < 65536 → fold step sum b
 folded_fits sum [] h = h
 folded_fits sum (b ∷ bytes) h = folded_fits (step sum b) bytes (step_fits sum b)
 
--- a checksum fits its field
+-- A checksum fits its field.
 sum_fits : (bytes : List ℕ) → sum_of bytes < 65536
 sum_fits bytes = one (folded bytes) (folded_fits 0 bytes (omega arith))
   where
@@ -54,7 +54,7 @@ sum_fits bytes = one (folded bytes) (folded_fits 0 bytes (omega arith))
 
 -- ---- The datagram
 
--- A datagram of a header and data is a body, for the header's target; and it asks what its data do.
+-- A datagram of a header and data is a body for the header's target, and it is a request if and only if its data are.
 pub record IsSent (h : Header) (payload : List ℕ) : Type 0 where
   pub is_body : IsBody (bytes_of datagram (datagram_of h payload))
   pub target_is : target (bytes_of datagram (datagram_of h payload)) ≡ h.target

@@ -1,4 +1,4 @@
--- What a node replies to lookups asks nothing.
+-- A node's replies to lookups are no requests.
 use Rattle.std.proofs.Common.{◌≡◌, ℕ, zero, suc, ◌/◌, ◌<◌, Bool, true, false, ◌&&◌, ◌==◌, cond, IsTrue, List, [], ◌∷◌, ◌++◌, Option, Some}
 use Rattle.std.proofs.Common.{Err, None, Ok, Result, ap, arith, ltb-true, map, refl, slice_index, sym, ◌∙◌}
 use Rattle.std.specs.Int.{byte_at}
@@ -31,7 +31,7 @@ bytes_fit [] h i = omega arith
 bytes_fit (b ∷ bytes) h zero = ltb-true _ _ (and_parts _ _ h).0
 bytes_fit (b ∷ bytes) h (suc i) = bytes_fit bytes (and_parts _ _ h).1 i
 
--- a packet whose bytes begin as those of a reply is a reply
+-- A packet that begins with the bytes of a reply is a reply.
 reply_is : (id : ℕ) (t : Tuple) (q : NbpPacket) (rest : List ℕ) → IsValue packet q
     → bytes_of packet (packet_of Reply id t) ≡ bytes_of packet q ++ rest
     → q.function ≡ Reply
@@ -42,11 +42,11 @@ reply_is id t q rest (h, (id_good, (len, each, whole))) e =
     let same : head q ≡ 49 = omega (arith, first, small) in
     sym (ap (λ (z : NbpPacket). z.function) whole) ∙ ap (λ n. function_of (n / 16)) same
 
--- a reply is no request
+-- A reply is no request.
 quiet_reply : (q : NbpPacket) → q.function ≡ Reply → is_quiet (Some q) ≡ true
 quiet_reply q e = ap (λ f. is_quiet (Some (record q { function = f }))) e
 
--- bytes of a reply are read as one, or as nothing
+-- The bytes of a reply are read as a reply, or can't be read.
 quiet_bytes : (own : Addr) (zone : List ℕ) (id : ℕ) (t : Tuple) → IsTrue (are_bytes (reply_of own zone id t))
     → is_quiet (names_in (reply_of own zone id t)) ≡ true
 unfolding names_in
@@ -58,7 +58,7 @@ quiet_bytes own zone id t bytes = by (read packets packet (reply_of own zone id 
         let took = read_takes packets packet packet_lawful (reply_of own zone id t) x (bytes_fit (reply_of own zone id t) bytes) is in
         quiet_reply x.0 (reply_is id (record t { at = own; zone = zone }) x.0 x.1 took.1 took.0.parts)
 
--- the replies to a lookup ask nothing
+-- The replies to a lookup are no requests.
 pub quiet_replies : (n : ℕ) (own : Addr) (zone : List ℕ) (id : ℕ) (o : Option Way) (ts : List Tuple)
     → Each (IsGood n) (replying o (map (reply_of own zone id) ts)) → Each (IsQuiet o) (map (reply_of own zone id) ts)
 quiet_replies n own zone id o [] good = tt

@@ -17,14 +17,14 @@ use Rattle.table_image.specs.Internet.{Internet}
 use Rattle.table_image.specs.declared.node.Node.{Node}
 use Rattle.legal_stations.proofs.Ports.{at_right}
 
--- nothing stands past the end
+-- A list has no element past its end.
 pub past_end : {X : Type 0} (xs : List X) (k : ℕ) → slice_get xs (length xs + k) ≡ None
 past_end [] k = refl
 past_end (x ∷ xs) k =
     let n : suc (length xs + k) ≡ suc (length xs) + k = omega arith in
     subst (λ m. slice_get (x ∷ xs) m ≡ None) n (past_end xs k)
 
--- the seat of a station that is a node
+-- The seat of a station that is a node.
 abbrev pub node_seat : ℕ → Node → PlaceOf
 node_seat s node = record { station = s; cable = node.cable; address = node.address; hardware = node.hardware }
 
@@ -50,7 +50,7 @@ module _ (i : Internet) (ok : Passes i) (k s : ℕ) (far : s ≡ length i.router
   port_is : port_on (slice_get i.routers s) node.cable ≡ 0
   port_is = ap (λ n. port_on (slice_get i.routers n) node.cable) far ∙ ap (λ o. port_on o node.cable) (past_end i.routers k)
 
-  -- each of its seats is on its cable
+  -- Each seat of the node is on its cable.
   on_cable : (m : ℕ) (x : PlaceOf) → At (seats i) m x → x.station ≡ s → x.cable ≡ node.cable
   on_cable m x at mine =
       elim (sits i m x at) as (λ _. x.cable ≡ node.cable) [
@@ -69,7 +69,7 @@ module _ (i : Internet) (ok : Passes i) (k s : ℕ) (far : s ≡ length i.router
   seat_on x m y at is station =
       ap (λ (z : Seat). z.cable) is ∙ on_cable m y at (ap (λ (z : Seat). z.station) (sym is) ∙ station)
 
-  -- the cable of its port
+  -- The cable of the node's port.
   pub node_cable : cable_of (cable_seats i) s 0 ≡ node.cable
   node_cable =
       let test : Seat → Bool = λ x. x.station == s && x.port == 0 in
@@ -85,7 +85,7 @@ module _ (i : Internet) (ok : Passes i) (k s : ℕ) (far : s ≡ length i.router
       let cable = seat_on f.0 g.0 y.0 y.1 y.2 (eqb-true f.0.station s parts.0) in
       rw f.1 cable
 
-  -- it is on its cable
+  -- The node is on its cable.
   pub node_on : is_on i s node.cable ≡ true
   node_on =
       let m = seat_of_node in

@@ -1,4 +1,4 @@
--- A node takes a frame: what is entered then is a block of a legal transcript.
+-- If a node takes a frame, the entries that follow are a block of a legal transcript.
 use Rattle.std.proofs.Common.{◌≡◌, ℕ, ◌+◌, ◌<◌, Bool, true, false, not, ◌&&◌, ◌==◌, cond, if◌then◌else◌, List, [], ◌∷◌, Option, Some, None}
 use Rattle.std.proofs.Common.{length, map, refl, sym, ap, ◌∙◌, subst, arith, eqb-true}
 use Rattle.std.specs.Prelude.{Contains, option_to_list}
@@ -46,9 +46,10 @@ use Rattle.legal_stations.proofs.NodeWays.{reply_goes}
 use Rattle.legal_stations.proofs.RouterTakes.{block_is}
 use Rattle.legal_stations.proofs.RouterWays.{Replies, replies_are}
 
--- ---- What a node hears
+-- ---- Frames that a node hears
 
--- What a frame leaves of a node: what it puts out, and what it holds of the image, are what it hears by its definition.
+-- The effect of a frame on a node: its outputs, and what it holds of the image afterwards, are those of the definition
+-- `heard`.
 record HeardSo (old : NodeHolding) (p : Pair) (added : List Output) (new : NodeHolding) : Type 0 where
   outputs : added ≡ (heard old (heard_by p)).0
   port : new.port ≡ (heard old (heard_by p)).1.port
@@ -65,7 +66,7 @@ heard_so old new p added h = record {
   names = ap (λ (y : List Output × NodeHolding). y.1.names) h.0;
 }
 
--- the packet in a datagram's data is the same to nodes and routers
+-- Nodes and routers read the same packet from a datagram's data.
 same_names : (payload : List ℕ) → node_names payload ≡ names_in payload
 unfolding node_names names_in
 same_names payload = refl
@@ -78,7 +79,7 @@ module _ (i : Internet) (ok : Passes i) (p : Pair) (k n : ℕ) (far : p.seat.sta
   no_router : is_router i s ≡ false
   no_router = le-ltb s (length i.routers) (omega (arith, far))
 
-  -- a node passes nothing on
+  -- A node passes nothing on.
   no_fate : (stamp : ℕ) → fate_in i stamp p ≡ []
   no_fate stamp =
       ap (λ b. cond b (fate_by i stamp s p (hand i s (target p.frame.bytes).net)) [])
@@ -99,7 +100,7 @@ module _ (i : Internet) (ok : Passes i) (p : Pair) (k n : ℕ) (far : p.seat.sta
       none false r o e = refl
       none true true o e = cc
 
-  -- what asks nothing
+  -- Outputs that are no requests.
   answered : (os : List Output) → Each (Leaves i s) os → Each AsksNothing os → Answered i p os
   answered os leave quiet =
       let q = unended i p no_end in
@@ -194,9 +195,9 @@ module _ (i : Internet) (ok : Passes i) (p : Pair) (k n : ℕ) (far : p.seat.sta
         by_four true e good = echo_answer e good
         by_four false e good = by_two (is_to 2 2 d) good
 
-    -- ---- By whether the node takes it
+    -- ---- By whether the node accepts it
 
-    -- What is heard: answers, of a node that holds what it held of the image.
+    -- The result of hearing a frame: the outputs are answers, and the node still holds the image's contents.
     record IsHeard (y : List Output × NodeHolding) : Type 0 where
       answer : Each (IsGood n) y.0 → Answered i p y.0
       port : y.1.port ≡ h.port

@@ -25,7 +25,7 @@ use Rattle.legal_stations.proofs.Leaving.{goes_straight}
 use Rattle.legal_stations.proofs.NodeSeats.{node_addressed, node_cable, node_on}
 use Rattle.legal_stations.proofs.RouterWays.{Replies}
 
--- the numbers of a header fit their fields, but for its source
+-- All numbers of a header except its source fit their fields.
 pub record FitsTo (h : Header) : Type 0 where
   pub net : h.target.net < 65536
   pub node : h.target.node < 256
@@ -42,7 +42,7 @@ module _ (i : Internet) (ok : Passes i) (k s : ℕ) (far : s
   abbrev own : Addr
   own = holds.node.address
 
-  -- the header from the node's address fits
+  -- The header from the node's address fits.
   from_own : Fitting (record header { source = own })
   from_own =
       let a = node_addressed i ok k s far holds.node holds.known in
@@ -62,7 +62,7 @@ module _ (i : Internet) (ok : Passes i) (k s : ℕ) (far : s
   its_cable : (c : ℕ) → c ≡ cable → is_on i s c ≡ true
   its_cable c e = ap (is_on i s) e ∙ node_on i ok k s far holds.node holds.known
 
-  -- a network in the range of the node's port
+  -- A network in the range of the node's port.
   near_holds : (n : ℕ) → is_between h.port.range.start h.port.range.end n ≡ cable_holds i cable n
   near_holds n =
       let a = node_addressed i ok k s far holds.node holds.known in

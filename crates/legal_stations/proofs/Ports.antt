@@ -1,4 +1,4 @@
--- The ports of a router that holds what the image says, and its seats.
+-- The ports of a router that holds the image's tables, and its seats.
 use Rattle.std.proofs.Common.{◌≡◌, ℕ, zero, suc, ◌+◌, Bool, true, false, ◌==◌, List, [], ◌∷◌, ◌++◌, Some, length, map}
 use Rattle.std.proofs.Common.{refl, sym, ap, ◌∙◌, subst, arith, slice_get, option_and_then, eq-eqb}
 use Rattle.std.specs.Option.{unwrap_or}
@@ -28,7 +28,7 @@ use Rattle.table_image.specs.Internet.{Internet}
 use Rattle.table_image.specs.declared.port.Port.{Port}
 use Rattle.table_image.specs.declared.router.Router.{Router}
 
--- ---- Where ports have their seats
+-- ---- Where the seats of ports are
 
 pub at_left : {X : Type 0} (xs ys : List X) (k : ℕ) (x : X) → At xs k x → At (xs ++ ys) k x
 at_left [] ys k x e = cc
@@ -60,7 +60,7 @@ seat_among m (suc r) q router port (first ∷ routers) known at =
           (subst (λ z. At (router_seats (suc m) routers) w.0 (port_seat z port)) n w.1),
     )
 
--- the seat of a port
+-- The seat of a port.
 pub seat_of_port : (i : Internet) (r q : ℕ) (router : Router) (port : Port) → At i.routers r router → At router.ports q port
     → (k : ℕ) × At (seats i) k (port_seat r port)
 seat_of_port i r q router port known at =
@@ -72,7 +72,7 @@ seat_of_port i r q router port known at =
     )
 
 module _ (i : Internet) (ok : Passes i) (r : ℕ) (router : Router) (known : At i.routers r router) where
-  -- a port's number is the index of the first port on its cable
+  -- A port's number is the index of the first port on its cable.
   number_is : (q : ℕ) (port : Port) → At router.ports q port → index_of (λ p. p.cable == port.cable) router.ports ≡ Some q
   number_is q port at =
       let here : on (slice_get i.routers r) (λ router. on (slice_get router.ports q) (bad_port i r q router)) ≡ bad_port i r q router port =
@@ -85,7 +85,7 @@ module _ (i : Internet) (ok : Passes i) (r : ℕ) (router : Router) (known : At 
   port_number q port at =
       ap (λ o. port_on o port.cable) known ∙ ap (λ o. unwrap_or o 0) (number_is q port at)
 
-  -- the port of a seat
+  -- The port of a seat.
   pub record PortOf (s : PlaceOf) : Type 0 where
     pub place : ℕ
     pub port : Port
@@ -117,11 +117,11 @@ module _ (i : Internet) (ok : Passes i) (r : ℕ) (router : Router) (known : At 
             absurd (omega (arith, station, mine, within))
       ]
 
-  -- the cable of a port
+  -- The cable of a port.
   pub cable_is : (q : ℕ) (port : Port) → At router.ports q port → cable_of (cable_seats i) r q ≡ port.cable
   cable_is q port at = cable_there i ok r router q port (record { known = known; at = at })
 
-  -- which address the router has there
+  -- Which address the router has on the port's cable.
   pub has_is : (q : ℕ) (port : Port) → At router.ports q port → (a : Addr) → has_address i r port.cable a ≡ same_address a port.address
   has_is q port at a = by (same_address a port.address) refl
     where
@@ -142,10 +142,10 @@ module _ (i : Internet) (ok : Passes i) (r : ℕ) (router : Router) (known : At 
   pub port_addressed : (q : ℕ) (port : Port) → At router.ports q port → IsAddressed i (port_seat r port)
   port_addressed q port at = let k = seat_of_port i r q router port known at in addressed i ok k.0 (port_seat r port) k.1
 
--- ---- What the router holds
+-- ---- The router's contents
 
 module _ (i : Internet) (ok : Passes i) (r : ℕ) (h : Holding) (holds : HoldsRouter i r h) where
-  -- the address of a port
+  -- The address of a port.
   pub own_is : (q : ℕ) (port : Port) → At holds.router.ports q port → own_at h.ports q ≡ Some port.address
   own_is q port at =
       ap (λ ports. own_at ports q) holds.ports

@@ -1,4 +1,4 @@
--- The packet that a datagram carries where it was read: one tuple, whose numbers fit, and the key that names its zone.
+-- The packet that was read from a datagram: it has one tuple, its numbers fit, and its key has the tuple's zone.
 use Rattle.std.proofs.Common.{◌≡◌, ℕ, zero, suc, ◌<◌, List, [], ◌∷◌, ◌++◌, Some, Result, Ok, Err, refl}
 use Rattle.std.proofs.Common.{sym, ap, ◌∙◌, subst, arith, IsTrue, append-nil}
 use Rattle.std.proofs.lemmas.Bool.{and_parts, ltb-true}
@@ -19,13 +19,13 @@ use Rattle.router.specs.Requests.{names_in}
 use Rattle.station.specs.Lawful.{are_bytes}
 use Rattle.station.specs.Values.{value_of as station_value}
 
--- what is made of bytes is made of numbers below 256
+-- A list of bytes is a list of numbers below 256.
 bytes_fit : (bytes : List ℕ) → IsTrue (are_bytes bytes) → IsBytes bytes
 bytes_fit [] h i = omega arith
 bytes_fit (b ∷ bytes) h zero = ltb-true _ _ (and_parts _ _ h).0
 bytes_fit (b ∷ bytes) h (suc i) = bytes_fit bytes (and_parts _ _ h).1 i
 
--- the payload begins with the packet that was read in it
+-- The payload begins with the packet that was read from it.
 begins : (payload : List ℕ) (p : NbpPacket) → IsTrue (are_bytes payload) → names_in payload ≡ Some p → Begins packet payload p
 unfolding names_in
 begins payload p bytes e = by (read packets packet payload) refl e
@@ -50,14 +50,14 @@ tuple_again t v =
     subst (λ b. Begins tuple b t) (sym (append-nil (bytes_of tuple t ++ []))) (spelled_begins tuple (bytes_of tuple t) [] t (v, refl)) in
     ap value_of (begins_read packets tuple tuple_lawful ((bytes_of tuple t ++ []) ++ []) t b)
 
--- the zone of a key is its tuple's
+-- The zone of a key is its tuple's.
 key_zone : (f : Function) (id : ℕ) (t : Tuple) → IsValue packet (packet_of f id t) → zone_of (key (packet_of f id t)) ≡ t.zone
 unfolding packet zone_of
 key_zone f id t (h, (id_good, (len, each, whole))) = ap zone_in (tuple_again t each.0)
 
--- ---- What was read
+-- ---- The packet that was read
 
--- A packet other than a reply: it has one tuple, and its key names the tuple's zone.
+-- A packet other than a reply has one tuple, and its key has the tuple's zone.
 pub record Requested (p : NbpPacket) : Type 0 where
   pub tuple : Tuple
   pub is : p ≡ packet_of p.function p.id tuple

@@ -27,12 +27,12 @@ use Rattle.cable_model.proofs.Counting.{map_at}
 use Rattle.legal_runs.specs.Stations.{cable_seat, cable_seats, port_on}
 use Rattle.legal_runs.proofs.Seated.{port_seated}
 
--- a port of a router of an internet
+-- A port of a router of an internet.
 pub record IsPort (i : Internet) (r : ℕ) (router : Router) (q : ℕ) (port : Port) : Type 0 where
   pub known : At i.routers r router
   pub at : At router.ports q port
 
--- an address whose numbers fit
+-- An address whose numbers fit their fields.
 pub record Fits (a : Addr) : Type 0 where
   pub net : a.net < 65536
   pub node : a.node < 256
@@ -41,7 +41,7 @@ pub has_port : (i : Internet) (r : ℕ) (router : Router) (q : ℕ) (port : Port
 has_port i r router q port h = record { router = router; place = q; port = port; known = h.known; at = h.at; on = refl }
 
 module _ (i : Internet) (ok : Passes i) where
-  -- a port is well addressed, and no port before it is on its cable
+  -- A port has a valid address, and no earlier port is on its cable.
   port_good : (r : ℕ) (router : Router) (q : ℕ) (port : Port) → IsPort i r router q port
       → (bad_address i port.cable port.address port.hardware ≡ false)
       × (list_any (λ p. p.cable == port.cable) (take q router.ports) ≡ false)
@@ -52,7 +52,7 @@ module _ (i : Internet) (ok : Passes i) where
       let one = or_parts _ _ (sym here ∙ ok 2 (place.Port (suc r) (suc q))) in
       ((or_parts _ _ one.0).0, one.1)
 
-  -- the index that a port's cable has among the router's ports
+  -- The index of a port's cable among the router's ports.
   port_on_is : (r : ℕ) (router : Router) (q : ℕ) (port : Port) → IsPort i r router q port
       → port_on (slice_get i.routers r) port.cable ≡ q
   port_on_is r router q port h =
@@ -61,7 +61,7 @@ module _ (i : Internet) (ok : Passes i) where
       (λ j p below there. none_before (λ (p : Port). p.cable == port.cable) router.ports q none j p below there) in
       ap (λ o. port_on o port.cable) h.known ∙ ap (λ o. unwrap_or o 0) found
 
-  -- a seat with the router's port is on the port's cable
+  -- A seat with the router's port is on the port's cable.
   module _ (r : ℕ) (router : Router) (q : ℕ) (port : Port) (h : IsPort i r router q port) where
     is_its : Seat → Bool
     is_its s = s.station == r && s.port == q
@@ -97,7 +97,7 @@ module _ (i : Internet) (ok : Passes i) where
         any_from is_its (cable_seats i) w.0 (cable_seat i w.1) (map_at (cable_seat i) (seats i) w.0 w.1 w.2)
         (and_from _ _ parts.0 (eq-eqb _ _ number))
 
-    -- the cable of the router's port, by its seats
+    -- The cable of the router's port, by its seats.
     pub cable_is : cable_of (cable_seats i) r q ≡ port.cable
     unfolding is_its
     cable_is =
@@ -112,7 +112,7 @@ module _ (i : Internet) (ok : Passes i) where
 
   -- ---- Numbers that fit
 
-  -- a network that is listed fits
+  -- A listed network fits its field.
   pub listed_fits : (n c : ℕ) → home i n ≡ Some c → n < 65536
   listed_fits n c e =
       let w = index_at (λ c. is_between c.start c.end n) i.cables c e in
@@ -120,7 +120,7 @@ module _ (i : Internet) (ok : Passes i) where
       let within = between_is w.0.start w.0.end n w.2 in
       omega (arith, high, within.1)
 
-  -- and so does the address of a port
+  -- The address of a port fits its fields.
   pub port_fits : (r : ℕ) (router : Router) (q : ℕ) (port : Port) → IsPort i r router q port → Fits port.address
   port_fits r router q port h = good (port_good r router q port h).0
     where

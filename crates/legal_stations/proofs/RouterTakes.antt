@@ -1,4 +1,4 @@
--- A router takes a frame: what is entered then is a block of a legal transcript.
+-- If a router takes a frame, the entries that follow are a block of a legal transcript.
 use Rattle.std.proofs.Common.{◌≡◌, ℕ, ◌+◌, List, ◌∷◌, ◌++◌, sym, ap, ◌∙◌, subst}
 use Rattle.std.specs.Prelude.{Contains}
 use Rattle.std.specs.List.{AllByRecursion as Each}
@@ -27,7 +27,7 @@ use Rattle.legal_stations.proofs.Leaving.{entries_more, legs_here, legs_made, sa
 use Rattle.legal_stations.proofs.Making.{each_front, each_of}
 use Rattle.legal_stations.proofs.Served.{ending_answer}
 
--- the entries of a fate, and of what was made after it
+-- The entries of a fate, followed by those of the made datagrams.
 pub entries_are : (i : Internet) (p : Pair) (stamp : ℕ) (front made : List Output)
     → all_entries (places_of i) (cable_seats i) p.seat.station stamp front ≡ fate_in i stamp p → Answered i p made
     → all_entries (places_of i) (cable_seats i) p.seat.station stamp (front ++ made)
@@ -39,7 +39,7 @@ entries_are i p stamp front made fate_is w =
     ∙ (ap (λ es. es ++ after (stamp + stamps es) made) fate_is
     ∙ ap (λ es. fate_in i stamp p ++ es) (said_is i r (stamp + stamps (fate_in i stamp p)) made w.leaves))
 
--- the block of a station that takes a frame, with its fate and its answers
+-- The block of a station that takes a frame, with the frame's fate and the station's answers.
 pub block_is : (i : Internet) (t : List Entry) (p : Pair) (added front made : List Output)
     → Contains (pending (cable_seats i) t) p → added ≡ front ++ made
     → all_entries (places_of i) (cable_seats i) p.seat.station (stamps t) front ≡ fate_in i (stamps t) p → Answered i p made

@@ -38,12 +38,12 @@ use Rattle.legal_stations.proofs.Hands.{BothHere, BothNowhere, BothOn, hands_agr
 use Rattle.legal_stations.proofs.Leaving.{AsksNothing, IsQuiet, IsWay, Leaves, MayGo, goes_straight, is_quiet, replies_leave, replies_quiet}
 use Rattle.legal_stations.proofs.Ports.{cable_is, own_is, port_addressed, seated}
 
--- the way is one for datagrams of this type, if there is one
+-- If there is a way, it is one for datagrams of this type.
 abbrev pub Replies : Internet → ℕ → ℕ → Option Way → Type 0
 Replies i s kind None = Unit {0}
 Replies i s kind (Some w) = IsWay i s w × (w.header.kind ≡ kind)
 
--- replies of a type that isn't that of names leave as they may, and ask nothing
+-- Replies of a type other than NBP leave in an allowed way and are no requests.
 pub replies_are : (i : Internet) (s n kind : ℕ) → (kind == 2) ≡ false → (o : Option Way) → Replies i s kind o → (ps : List (List ℕ))
     → Each (IsGood n) (replying o ps) → Each (Leaves i s) (replying o ps) × Each AsksNothing (replying o ps)
 replies_are i s n kind other o is ps good = (
@@ -70,7 +70,7 @@ replies_are i s n kind other o is ps good = (
             ap (λ b. is_quiet (cond (b && h.target_socket == 2) (names_of (record
             (datagram_of h p) { kind = 2; target_socket = 2 })) None)) other
 
--- an address that is replied to has a network and a node
+-- An address that gets a reply has a network and a node.
 answered : (net node : ℕ) (mine : Bool) → (not (net == 0) && not (node == 0) && not mine) ≡ true
     → ((net == 0) ≡ false) × ((node == 0) ≡ false)
 answered net node mine e = by (net == 0) (node == 0) mine e
@@ -81,7 +81,7 @@ answered net node mine e = by (net == 0) (node == 0) mine e
     by false true c e = cc
 
 module _ (i : Internet) (ok : Passes i) (r : ℕ) (h : Holding) (holds : HoldsRouter i r h) (d : Datagram) (v : IsValue datagram d) where
-  -- the header of a reply fits
+  -- The header of a reply fits.
   reply_fits : (to : Addr) → to.net < 65536 → to.node < 256 → (q : ℕ) (port : Port) → At holds.router.ports q port
       → Fitting (record (reply_header d to) { source = port.address })
   reply_fits to net node q port at =
@@ -104,7 +104,7 @@ module _ (i : Internet) (ok : Passes i) (r : ℕ) (h : Holding) (holds : HoldsRo
   abbrev back : Hand → Option Addr → Option Way
   back to source = way_by to (λ leaving. source) (reply_header d d.source)
 
-  -- the way back, from the address of a port
+  -- The way back, from the address of a port.
   back_goes : (q : ℕ) (port : Port) → At holds.router.ports q port → (d.source.net == 0) ≡ false → (d.source.node == 0) ≡ false
       → Replies i r d.kind (back (hand_in h.routes d.source.net) (Some port.address))
   back_goes q port at some single =
@@ -147,16 +147,16 @@ module _ (i : Internet) (ok : Passes i) (r : ℕ) (h : Holding) (holds : HoldsRo
           (back_goes q port at w.0 w.1)
       by false e = tt
 
-  -- ---- What a node is told of its cable
+  -- ---- Replies to a node about its cable
 
-  -- the choice of a port
+  -- The address choice of a port.
   pub choice_is : (q : ℕ) (port : Port) → At holds.router.ports q port
       → slice_get h.ports q ≡ Some (choice_on i port.cable port.address port.hardware)
   choice_is q port at =
       ap (λ ports. slice_get ports q) holds.ports
       ∙ map_at (λ (p : Port). choice_on i p.cable p.address p.hardware) holds.router.ports q port at
 
-  -- a network in the range of a port's cable
+  -- A network in the range of a port's cable.
   range_holds : (q : ℕ) (port : Port) → At holds.router.ports q port → (n : ℕ)
       → is_between (range_of (slice_get i.cables port.cable)).start (range_of (slice_get i.cables port.cable)).end n
       ≡ cable_holds i port.cable n

@@ -1,4 +1,4 @@
--- A request in its datagram: what the bytes say of it, and that they are a body.
+-- A request in its datagram: the bytes carry the request, and they are a body.
 use Rattle.std.proofs.Common.{◌≡◌, ℕ, ◌+◌, ◌*◌, ◌/◌, ◌%◌, ◌<◌, ◌≤◌, ◌⊎◌, inl, inr, Bool, true, false, cond, ◌==◌, List, [], ◌∷◌, ◌++◌}
 use Rattle.std.proofs.Common.{drop, length, Some, Result, refl, sym, ap, subst, ◌∙◌, arith, append-nil, IsTrue}
 use Rattle.std.specs.Prelude.{fold}
@@ -24,7 +24,7 @@ use Rattle.nbp.specs.Packets.{IsTuple, front_bytes, packet, packet_of}
 use Rattle.nbp.proofs.Shape.{packet_lawful, read_back, written as packet_written}
 use Rattle.station.specs.Lawful.{are_bytes}
 
--- the bytes of a request fit into a datagram
+-- The bytes of a request fit into a datagram.
 request_few : (f : Function) (id : ℕ) (t : Tuple) → id < 256 → IsTuple t → length (bytes_of packet (packet_of f id t)) ≤ 586
 request_few f id t small h =
     let same = packet_written f id t small h.at_node h.socket h.enumerator h.object_few h.kind_few h.zone_few in
@@ -37,7 +37,7 @@ request_few f id t small h =
     let z = h.zone_few in
     subst (λ (l : List ℕ). length l ≤ 586) same (omega (arith, a, b, c, o, k, z))
 
--- ---- The sum
+-- ---- The checksum
 
 step_fits : (sum byte : ℕ) → step sum byte < 65536
 step_fits sum byte =
@@ -50,14 +50,14 @@ folded_fits : (sum : ℕ) (bytes : List ℕ) → sum < 65536 → fold step sum b
 folded_fits sum [] h = h
 folded_fits sum (b ∷ bytes) h = folded_fits (step sum b) bytes (step_fits sum b)
 
--- a checksum fits its field
+-- A checksum fits its field.
 sum_fits : (bytes : List ℕ) → sum_of bytes < 65536
 sum_fits bytes = by (folded bytes) (folded_fits 0 bytes (omega arith))
   where
     by : (n : ℕ) → n < 65536 → cond (n == 0) 65535 n < 65536
     by n h = grind arith
 
--- the checksum is no part of what is summed
+-- The checksum isn't computed over the checksum field.
 same_sum : (d : Datagram) (n : ℕ) → checksum_of (record d { checksum = n }) ≡ checksum_of d
 same_sum d n =
     let sum : List ℕ → ℕ = λ b. sum_of (drop 4 b) in
@@ -78,7 +78,7 @@ sum_right h payload = by h.summed
 -- ---- A request in its datagram
 
 module _ (h : Header) (f : Function) (id : ℕ) (t : Tuple) (fits : Fitting h) (small : id < 256) (good : IsTuple t) where
-  -- the datagram's bytes
+  -- The datagram's bytes.
   abbrev pub sealed : List ℕ
   sealed = bytes_of datagram (datagram_of h (bytes_of packet (packet_of f id t)))
 
@@ -94,7 +94,7 @@ module _ (h : Header) (f : Function) (id : ℕ) (t : Tuple) (fits : Fitting h) (
       let d = datagram_of h (bytes_of packet (packet_of f id t)) in
       subst (λ b. Begins datagram b d) (append-nil sealed) (spelled_begins datagram sealed [] d spelled)
 
-  -- the bytes carry the request
+  -- The bytes carry the request.
   pub carried : h.kind ≡ 2 → h.target_socket ≡ 2 → request sealed ≡ Some (packet_of f id t)
   unfolding request
   carried kind socket =
@@ -109,11 +109,11 @@ module _ (h : Header) (f : Function) (id : ℕ) (t : Tuple) (fits : Fitting h) (
           → packet_in (Some d) ≡ Some (packet_of f id t)
       carries d a b e = rw (a, b) e
 
-  -- they are for the target
+  -- The bytes are for the target.
   pub target_is : target sealed ≡ h.target
   target_is = (value_agrees sealed _ begins).1
 
-  -- they are a body
+  -- The bytes are a body.
   pub body_is : IsTrue (are_bytes sealed) → IsBody sealed
   body_is bytes = record {
     value = datagram_of h (bytes_of packet (packet_of f id t));

@@ -1,4 +1,4 @@
--- What a router makes of a datagram that ended at it.
+-- The outputs that a router makes from a datagram that ended at it.
 use Rattle.std.proofs.Common.{◌≡◌, ℕ, Bool, true, false, ◌&&◌, ◌==◌, cond, if◌then◌else◌, List, [], Option, Some, None, slice_get}
 use Rattle.std.proofs.Common.{refl, sym, ap, ◌∙◌, subst, map, eqb-true}
 use Rattle.std.specs.Prelude.{option_to_list}
@@ -49,7 +49,7 @@ module _ (i : Internet) (ok : Passes i) (bounded : IsBounded i) (p : Pair) (h : 
   abbrev d : Datagram
   d = x.d
 
-  -- what isn't of names' type and socket asks nothing
+  -- A datagram that isn't of NBP's type and socket is no request.
   not_names : is_to 2 2 d ≡ false → (asks_here i p ≡ false) × (seeks_here i p ≡ false)
   not_names e = quiet i p None (x.asks ∙ ap (λ b. cond b (names_in d.payload) None) e) refl refl
 
@@ -59,7 +59,7 @@ module _ (i : Internet) (ok : Passes i) (bounded : IsBounded i) (p : Pair) (h : 
   not_two : (d.kind == 2) ≡ false → is_to 2 2 d ≡ false
   not_two e = ap (λ b. b && d.target_socket == 2) e
 
-  -- replies that aren't about names
+  -- Replies other than NBP's.
   replied : (d.kind == 2) ≡ false → (o : Option Way) → Replies i r d.kind o → (ps : List (List ℕ)) → Each (IsGood n) (replying o ps)
       → Answered i p (replying o ps)
   replied other o is ps good =
@@ -145,7 +145,7 @@ module _ (i : Internet) (ok : Passes i) (bounded : IsBounded i) (p : Pair) (h : 
     made_answer : Each (IsGood n) (made_for h e d) → Answered i p (made_for h e d)
     made_answer good = by_three (is_to 3 6 d) refl good
 
-  -- what is made of a datagram, by how it ended
+  -- The outputs that are made from a datagram, by how it ended.
   pub ending_answer : (o : Option Ending) → own_end o ≡ ends_at i p → EndsOn i ok p h holds a x o → Each (IsGood n) (handled h o d).0
       → Answered i p (handled h o d).0
   ending_answer None ends on good = nothing (unended i p (sym ends))

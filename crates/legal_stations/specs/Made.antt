@@ -1,4 +1,4 @@
--- The datagrams that stations make, as legs over cables. This project's own.
+-- The datagrams that stations make, as legs over cables.
 use Rattle.std.specs.Prelude.{ℕ, List, [], ◌∷◌}
 use Rattle.std.specs.List.{flat_map}
 use Rattle.cable_model.specs.Outcomes.{cable_of}
@@ -9,7 +9,8 @@ use Rattle.station.specs.declared.output.Output.{Output}
 use Rattle.station.specs.declared.output.Output.TheVariants.{Made, Passed, Kept, Dropped, Wire}
 use Rattle.table_image.specs.Internet.{Internet}
 
--- the leg of an output: of a datagram that the station made, over the cable of its port
+-- The leg of an output: over the cable of the output's port if the station made the datagram, and no leg for other
+-- outputs.
 abbrev pub leg_of : List Seat → ℕ → Output → List Leg
 leg_of seats s (Made port to bytes) = record { station = s; cable = cable_of seats s port; next = to; body = bytes; hops = 0 } ∷ []
 leg_of seats s (Passed port to bytes) = []
@@ -17,10 +18,10 @@ leg_of seats s (Kept port bytes) = []
 leg_of seats s (Dropped cause bytes) = []
 leg_of seats s (Wire port to bytes) = []
 
--- the legs of outputs, in their order
+-- The legs of a list of outputs, in order.
 abbrev pub legs_of : List Seat → ℕ → List Output → List Leg
 legs_of seats s outputs = flat_map (leg_of seats s) outputs
 
--- the legs of what a station of an internet put out
+-- The legs of the outputs of a station of an internet.
 abbrev pub legs : Internet → ℕ → List Output → List Leg
 legs i s outputs = legs_of (cable_seats i) s outputs

@@ -1,4 +1,5 @@
-//! That what the stations of an internet that passes the audit do is what a legal transcript allows.
+//! Laws: a legal transcript allows everything that the stations of an internet that passes the
+//! audit do.
 #![tactic(auto)]
 
 mod requests;

@@ -1,5 +1,5 @@
-//! Laws of routers that hold the tables of an internet that passes the audit, for the crates above.
-//! The functions do nothing: what they ensure is the law.
+//! Laws of routers that hold the tables of an internet that passes the audit, for use by other
+//! crates. The functions do nothing: each law is the function's ensures clause.
 
 ghost use Rattle.std.specs.Prelude.{◌≡◌, ℕ, [], ◌∷◌, IsTrue, Some, true};
 ghost use Rattle.std.specs.List.{All, AllByRecursion as Each};
@@ -21,9 +21,10 @@ ghost use Rattle.station.specs.Lawful.{IsGood, are_bytes};
 ghost use Rattle.table_image.specs.Bounds.{IsBounded};
 ghost use Rattle.table_image.specs.Internet.{Internet};
 
-/// What a router makes of a broadcast request that ends at it: for each cable that lists the zone,
-/// by rising range, one lookup there or one forward request to it, with the request's key; each is
-/// whole and leaves as datagrams may. Inside AppleTalk, the chapter on NBP.
+/// The requests that a router makes from a broadcast request that ends at it: for each cable that
+/// lists the zone, in increasing order of ranges, one lookup on that cable or one forward request
+/// to it, with the request's key. Each is a whole datagram and leaves in an allowed way. Inside
+/// AppleTalk, the chapter on NBP.
 pub fn broadcast_requests_expand()
     ensures { (i : Internet) (r n : ℕ) (h : Holding) (d : Datagram) (p : NbpPacket)
         → Passes i → IsBounded i → HoldsRouter i r h
@@ -34,9 +35,9 @@ pub fn broadcast_requests_expand()
         × Each (IsMade i) (legs i r (requests_made h d (Some p))) }
 {}
 
-/// What a router makes of a forward request for a zone that ends at it, for a cable that it has a
-/// port on: one lookup there, with the request's key, which is whole and leaves as datagrams may.
-/// Inside AppleTalk, the chapter on NBP.
+/// The request that a router makes from a forward request for a zone that ends at it, if the router
+/// has a port on the target's cable: one lookup on that cable, with the request's key. It is a
+/// whole datagram and leaves in an allowed way. Inside AppleTalk, the chapter on NBP.
 pub fn forward_requests_are_looked_up()
     ensures { (i : Internet) (r n c : ℕ) (h : Holding) (d : Datagram) (p : NbpPacket)
         → Passes i → IsBounded i → HoldsRouter i r h

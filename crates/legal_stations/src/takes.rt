@@ -1,5 +1,5 @@
-//! Laws of stations that hold the tables of an internet that passes the audit, for the crates above.
-//! The functions do nothing: what they ensure is the law.
+//! Laws of stations that hold the tables of an internet that passes the audit, for use by other
+//! crates. The functions do nothing: each law is the function's ensures clause.
 
 ghost use Rattle.std.specs.Prelude.{◌≡◌, ◌+◌, ◌∷◌, ℕ, List, Contains, length};
 ghost use Rattle.audit.specs.Rules.{Passes};
@@ -21,8 +21,8 @@ ghost use Rattle.station.specs.declared.output.Output.{Output};
 ghost use Rattle.table_image.specs.Bounds.{IsBounded};
 ghost use Rattle.table_image.specs.Internet.{Internet};
 
-/// A router that holds what the image says takes a frame that is pending: what is entered then is a
-/// block of a legal transcript, and the router holds what the image says still. This project's own.
+/// If a router with the image's tables takes a pending frame, the entries that follow are a block
+/// of a legal transcript, and the router still holds the image's tables.
 pub fn routers_takes_are_legal()
     ensures { (i : Internet) (t : List Entry) (p : Pair) (n : ℕ) (old new : Holding)
         (added : List Output)
@@ -33,8 +33,8 @@ pub fn routers_takes_are_legal()
         × HoldsRouter i p.seat.station new }
 {}
 
-/// A node that holds what the image says takes a frame that is pending: what is entered then is a
-/// block of a legal transcript, and the node holds what the image says still. This project's own.
+/// If a node with the image's contents takes a pending frame, the entries that follow are a block
+/// of a legal transcript, and the node still holds the image's contents.
 pub fn nodes_takes_are_legal()
     ensures { (i : Internet) (t : List Entry) (p : Pair) (k n : ℕ) (old new : NodeHolding)
         (added : List Output)
@@ -46,8 +46,8 @@ pub fn nodes_takes_are_legal()
         × HoldsNode i k new }
 {}
 
-/// A node sends a datagram of its own: what is entered then is a block of a legal transcript. This
-/// project's own.
+/// If a node sends a datagram on its own initiative, the entries that follow are a block of a legal
+/// transcript.
 pub fn sendings_are_legal()
     ensures { (i : Internet) (t : List Entry) (l : Leg) → IsMade i l → IsOwn i l
         → Block i t (Sent l.station l.body ∷ outcomes_spec.leg (places_of i)

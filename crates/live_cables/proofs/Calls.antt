@@ -1,4 +1,4 @@
--- What a whole call on live cables did.
+-- The effect of a whole call on live cables.
 use Rattle.std.proofs.Common.{◌≡◌, ℕ, ◌+◌, Bool, true, not, IsTrue, List, [], ◌∷◌, ◌++◌, refl, sym, ap, ◌∙◌, subst, arith}
 use Rattle.std.proofs.Common.{Err, Ok, append-nil, append_assoc, drop, eq-eqb, inl, inr, length}
 use Rattle.std.specs.Prelude.{◌⊎◌, ◌↔◌, IfErr, OnErr, OnOk, Result}
@@ -27,7 +27,7 @@ use Rattle.station.specs.Lawful.{IsGood}
 use Rattle.station.specs.declared.output.Output.{Output}
 use Rattle.station.specs.declared.output.Output.TheVariants as output
 
--- ---- Entries that end no pair, and losses at the end
+-- ---- Entries that end no pair, followed by losses
 
 module _ (seats : List Seat) (losing : ℕ → Bool) where
   quiet_due : (t es : List Entry) → are_quiet es ≡ true → AreDue seats t es
@@ -79,7 +79,7 @@ module _ (seats : List Seat) (losing : ℕ → Bool) where
   lost_puts ss (Dropped r c x ∷ es) h = cc
   lost_puts ss (Took p s ∷ es) h = cc
 
-  -- the losses of a call put nothing on cables
+  -- The losses of a call put no frames on cables.
   same_losses : (a ls : List Entry) → IsTrue (list_all (is_loss (losses losing a)) ls) → losses losing (a ++ ls) ≡ losses losing a
   same_losses a ls h =
       losses-append losing a ls
@@ -115,9 +115,9 @@ lost_takes ss (Reached c s w x ∷ es) h = cc
 lost_takes ss (Dropped r c x ∷ es) h = cc
 lost_takes ss (Took p s ∷ es) h = cc
 
--- ---- A call up to its losses
+-- ---- A call before its losses
 
--- What was put in a call until its losses: so many frames were taken.
+-- The entries of a call before its losses, with `taken` takes.
 pub record Midst (losing : ℕ → Bool) (taken : ℕ) (old mid : Cabling) : Type 0 where
   pub added : List Entry
   pub grown : transcript mid ≡ transcript old ++ added
@@ -136,7 +136,7 @@ midst_put losing old mid x = record {
   limit = x.limit;
 }
 
--- a frame was taken, and further entries end no pair
+-- A frame was taken, and further entries end no pair.
 took_played : (seats : List Seat) (losing : ℕ → Bool) (t es : List Entry) (stamp station : ℕ)
     → AreNumbered 0 (t ++ Took stamp station ∷ es) → IsDueThen seats t (Took stamp station) → are_quiet es ≡ true
     → IsPlayed seats losing t (Took stamp station ∷ es)
@@ -232,7 +232,7 @@ module _ (taken : ℕ) (old new : Wires) (mid : Cabling) (front : List Line) (lo
             (l.seats ∙ m.seats) gone));
       }
 
--- a call that stopped before its losses
+-- A call that stopped before its losses.
 pub plays_midst : (taken : ℕ) (old new : Wires) → Stays old new → Midst (loses old) taken old.cabling new.cabling → Plays old new
 plays_midst taken old new stays m = record {
   added = m.added;
@@ -245,7 +245,7 @@ plays_midst taken old new stays m = record {
   losing = stays.losing;
 }
 
--- a call that changed nothing
+-- A call that changed nothing.
 pub plays_kept : (old new : Wires) → Stays old new → new.cabling ≡ old.cabling → Plays old new
 plays_kept old new stays e = record {
   added = [];
@@ -258,7 +258,7 @@ plays_kept old new stays e = record {
   losing = stays.losing;
 }
 
--- a frame was taken in it
+-- A frame was taken in the call.
 pub taken_by : (old new : Wires) (first mid : Cabling) (ss : List ℕ) (stamp station : ℕ) (Hears : Hearing → List Output → Type 0)
     → Takes old.cabling first stamp station Hears → Puts first mid → Loses ss mid new.cabling → IsTakenBy old new stamp station Hears
 taken_by old new first mid ss stamp station Hears x y z = record {
@@ -280,7 +280,7 @@ taken_by old new first mid ss stamp station Hears x y z = record {
 
 -- ---- Outputs
 
--- what a station may put out can be sent
+-- The outputs of a lawful station can be sent.
 pub sendable : (n : ℕ) (os : List Output) → All (IsGood n) os → Each IsSendable os
 sendable n [] h = tt
 sendable n (o ∷ os) h = (one o (h 0 o (omega arith)), sendable n os (All-tail (IsGood n) o os h))
@@ -294,7 +294,7 @@ sendable n (o ∷ os) h = (one o (h 0 o (omega arith)), sendable n os (All-tail 
 
 -- ---- Errors
 
--- where it was pending, no other error says that it wasn't
+-- If the frame was pending, the call doesn't return NotPending.
 pub never_says : (r : Result (Unit {0}) Error) (P : Type 0) → IfErr r (λ e. (e ≡ Full) ⊎ (e ≡ Memory)) → (P → ⊥)
     → (r ≡ Err NotPending) ↔ P
 never_says r P h never = (λ q. absurd (differs r h q), λ p. absurd (never p))

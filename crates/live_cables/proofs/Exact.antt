@@ -1,4 +1,4 @@
--- What a whole call on live cables did, exactly.
+-- The exact effect of a whole call on live cables.
 use Rattle.std.proofs.Common.{◌≡◌, ℕ, Bool, List, ◌++◌, Option, length, slice_get, take, subst, ◌∙◌, ap}
 use Rattle.std.proofs.Math.Seq.{take-append_seam}
 use Rattle.aarp.specs.Mapping.{Mappings, to_ask}
@@ -14,11 +14,11 @@ use Rattle.live_cables.specs.declared.answer.Answer.{Answer}
 use Rattle.station.specs.Hearing.{Hearing}
 use Rattle.station.specs.declared.output.Output.{Output}
 
--- what a slice of a whole vector becomes is what the vector becomes
+-- A slice of a whole vector grows as the vector does.
 pub whole : {X : Type 0} (xs ys : List X) (n : ℕ) → n ≡ length xs → take n (xs ++ ys) ≡ xs
 whole xs ys n e = ap (λ k. take k (xs ++ ys)) e ∙ take-append_seam xs ys
 
--- what is kept of cables before a call, by the names that the call gives it
+-- The state of cables before a call, under the names that the call gives its parts.
 pub record AreNow (old : Wires) (seats : List Seat) (maps : List Mappings) (lines : List Line) (losing : List Bool) : Type 0 where
   pub seats_are : seats ≡ old.cabling.seats
   pub maps_are : maps ≡ old.maps

@@ -31,7 +31,7 @@ loses_one stamp old new x = record {
   limit = x.limit;
 }
 
--- a loss of one of these frames is a loss of one of more
+-- A loss of one of these frames is a loss of one of a longer list.
 loss_of : (xs ys : List ℕ) → ((s : ℕ) → is_in xs s ≡ true → is_in ys s ≡ true) → (es : List Entry)
     → IsTrue (list_all (is_loss xs) es) → IsTrue (list_all (is_loss ys) es)
 loss_of xs ys f [] h = refl
@@ -182,7 +182,7 @@ losses_of_lines losing kept (line.Lost p ∷ ls) = losses_of_lines losing kept l
 losses_of_lines losing kept (line.Put stamp cable sender to kind n ∷ ls) =
     ap (λ l. cond (losing cable) (stamp ∷ l) l) (losses_of_lines losing kept ls)
 
--- no cable loses
+-- No cable loses frames.
 none_loses : (losing : List Bool) (k : ℕ) → list_any (λ b. b) losing ≡ false → unwrap_or (slice_get losing k) false ≡ false
 none_loses [] k h = refl
 none_loses (true ∷ bs) k h = cc
@@ -201,7 +201,7 @@ nothing_lost losing (Put f ∷ es) h =
     let rest = losses (λ k. unwrap_or (slice_get losing k) false) es in
     ap (λ b. cond b (f.stamp ∷ rest) rest) (none_loses losing f.cable h) ∙ nothing_lost losing es h
 
--- the stamps that were found are those of the frames that are lost
+-- The stamps that were found are those of the frames that are lost.
 pub stamps_are : (losing : ℕ → Bool) (kept : List (List ℕ)) (lines : List Line) (from : ℕ)
     → line_losses losing (drop from lines) ≡ losses losing (drop from (map (entry_at kept) lines))
 stamps_are losing kept lines from =

@@ -1,4 +1,4 @@
--- What is pending after further entries.
+-- Pending pairs after further entries.
 use Rattle.std.proofs.Common.{◌≡◌, ◌⊎◌, inl, inr, ℕ, zero, suc, ◌+◌, ◌<◌, ◌≤◌, Bool, true, false, not, ◌||◌, ◌==◌, cond, List, [], ◌∷◌, ◌++◌}
 use Rattle.std.proofs.Common.{ap, arith, eq-eqb, filter, refl, subst, sym, true≢false, ◌&&◌, ◌∙◌}
 use Rattle.std.specs.List.{list_any}
@@ -16,7 +16,7 @@ both true true x y = refl
 both true false x y = cc
 both false b x y = cc
 
--- the list has the element
+-- The list has the element.
 abbrev pub Has : {X : Type 0} → List X → X → Type 0
 Has xs x = (k : ℕ) × At xs k x
 
@@ -42,7 +42,7 @@ has_any t xs x h e = at xs h.0 h.1
         by true g = refl
         by false g = g
 
--- no element passes
+-- No element passes the test.
 pub none_any : {X : Type 0} (t : X → Bool) (xs : List X) → ((x : X) → Has xs x → t x ≡ true → ⊥) → list_any t xs ≡ false
 none_any t xs f = by (list_any t xs) refl
   where
@@ -94,14 +94,14 @@ either_false true b e = cc
 either_false false b e = (refl, e)
 
 module _ (seats : List Seat) where
-  -- a pair that is pending has the stamp of a frame that was put
+  -- A pending pair has the stamp of a frame that was put.
   pub pending_below : (t : List Entry) (p : Pair) → AreNumbered 0 t → Has (pending seats t) p → p.frame.stamp < stamps t
   pending_below t p n h =
       let w = filter_at (λ p. not (was_ended t p)) (pairs seats t) h.0 p h.1 in
       let s = each_at (λ (p : Pair). p.frame.stamp < 0 + stamps t) (pairs seats t) w.0 p w.1 (stamps_below seats 0 t n) in
       omega (arith, s)
 
-  -- what is pending later and wasn't put since, was pending before
+  -- A pair that is pending later and wasn't put since was pending before.
   pub pending_since : (t b : List Entry) (p : Pair) → (Has (pairs seats b) p → ⊥) → Has (pending seats (t ++ b)) p → Has (pending seats t) p
   pending_since t b p new h =
       let w = filter_at (λ p. not (was_ended (t ++ b) p)) (pairs seats (t ++ b)) h.0 p h.1 in
@@ -112,7 +112,7 @@ module _ (seats : List Seat) where
       on (inl g) e = has_kept (λ p. not (was_ended t p)) (pairs seats t) p g (ap not e)
       on (inr g) e = absurd (new g)
 
-  -- so it is where its frame was put before
+  -- A pending pair whose frame was put before was pending before.
   pub pending_before : (t b : List Entry) (p : Pair) → AreNumbered 0 (t ++ b) → p.frame.stamp < stamps t
       → Has (pending seats (t ++ b)) p → Has (pending seats t) p
   pending_before t b p n less h =
@@ -122,7 +122,7 @@ module _ (seats : List Seat) where
       (stamps_from seats (0 + stamps t) b (numbered_back 0 t b n)) in
       absurd (omega (arith, s, less))) h
 
-  -- a frame that is lost is pending for nobody, whatever follows
+  -- A frame that is lost isn't pending for any station, whatever follows.
   pub lost_ends : (t b : List Entry) (stamp : ℕ) (p : Pair) → p.frame.stamp ≡ stamp → Has (pending seats ((t ++ Lost stamp ∷ []) ++ b)) p → ⊥
   lost_ends t b stamp p e h =
       let whole = (t ++ Lost stamp ∷ []) ++ b in

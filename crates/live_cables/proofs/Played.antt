@@ -1,4 +1,4 @@
--- What was played in parts was played as a whole.
+-- Entries that are allowed in parts are allowed as a whole.
 use Rattle.std.proofs.Common.{◌≡◌, ℕ, ◌+◌, ◌<◌, ◌≤◌, Bool, true, false, not, ◌||◌, ◌==◌, cond, IsTrue, List, [], ◌∷◌}
 use Rattle.std.proofs.Common.{◌++◌, refl, sym, ap, ◌∙◌, subst, arith, append-nil, append_assoc, eqb-true, true≢false}
 use Rattle.std.specs.List.{list_all, list_any}
@@ -36,7 +36,7 @@ module _ (losing : ℕ → Bool) where
       by true h = ap (λ l. f.stamp ∷ l) h
       by false h = h
 
-  -- what is lost was put in these entries
+  -- The frames that are lost were put in these entries.
   pub losses_from : (k : ℕ) (es : List Entry) (s : ℕ) → AreNumbered k es → is_in (losses losing es) s ≡ true
       → (k ≤ s) × (s < k + stamps es)
   losses_from k [] s n h = cc
@@ -61,7 +61,7 @@ module _ (losing : ℕ → Bool) where
       by rest true g = first rest (f.stamp == s) refl g
       by rest false g = later rest g
 
--- ---- Entries that may be
+-- ---- Entries that are allowed
 
 in_either : (xs ys : List ℕ) (s : ℕ) → is_in xs s ≡ false → is_in ys s ≡ false → is_in (xs ++ ys) s ≡ false
 in_either xs ys s x y = any-append (λ n. n == s) xs ys ∙ (ap (λ b. b || is_in ys s) x ∙ y)
@@ -84,14 +84,14 @@ not_in xs s f = by (is_in xs s) refl
     by false e = refl
 
 module _ (seats : List Seat) where
-  -- the pair that a taking is of
+  -- The pair that a take ends.
   taken : (t : List Entry) (stamp station : ℕ) → IsDueThen seats t (Took stamp station)
       → (p : Pair) × Has (pending seats t) p × (stamp ≡ p.frame.stamp)
   taken t stamp station h =
       let w = any_has (is_named stamp station) (pending seats t) h in
       (w.0, w.1, eqb-true _ _ (and_parts (stamp == w.0.frame.stamp) (station == w.0.seat.station) w.2).0)
 
-  -- the entries that came first, where more is lost later
+  -- The earlier entries stay allowed if more frames are lost later.
   first_stay : (t a : List Entry) (xs ys : List ℕ) → AreNumbered 0 (t ++ a) → AreDue seats t a
       → ((s : ℕ) → is_in ys s ≡ true → stamps (t ++ a) ≤ s) → IsTrue (list_all (may_be xs) a) → IsTrue (list_all (may_be (xs ++ ys)) a)
   first_stay t [] xs ys n due later h = refl
@@ -116,7 +116,7 @@ module _ (seats : List Seat) where
           ap not (in_either xs ys stamp (not-true (is_in xs stamp) m)
           (not_in ys stamp (λ g. let late = later stamp g in absurd (omega (arith, late, below, w.2, sum)))))
 
-  -- the entries that came later, where what was lost before is pending for nobody
+  -- The later entries stay allowed if the frames that were lost before aren't pending.
   later_stay : (t m b : List Entry) (xs ys : List ℕ) → AreNumbered 0 ((t ++ m) ++ b) → AreDue seats (t ++ m) b
       → ((s : ℕ) → is_in xs s ≡ true → s < stamps t) → ((p : Pair) → Has (pending seats t) p → is_in xs p.frame.stamp ≡ true → ⊥)
       → IsTrue (list_all (may_be ys) b) → IsTrue (list_all (may_be (xs ++ ys)) b)
@@ -152,7 +152,7 @@ module _ (seats : List Seat) where
 -- ---- The whole
 
 module _ (seats : List Seat) (losing : ℕ → Bool) where
-  -- nothing that was put on a cable that loses is pending
+  -- No frame that was put on a cable that loses frames is pending.
   not_pending : (t a : List Entry) → IsTrue (are_lost seats losing t a)
       → (p : Pair) → Has (pending seats (t ++ a)) p → is_in (losses losing a) p.frame.stamp ≡ true → ⊥
   not_pending t a h p g e =

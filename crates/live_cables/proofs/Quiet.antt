@@ -17,14 +17,14 @@ use Rattle.station.specs.declared.output.Output.{Output}
 use Rattle.station.specs.declared.output.Output.TheVariants as output
 use Rattle.live_cables.specs.Steps.{Puts, Takes, is_quiet}
 
--- these entries end no pair
+-- These entries end no pair.
 abbrev pub are_quiet : List Entry → Bool
 are_quiet es = list_all is_quiet es
 
 pub quiet-append : (a b : List Entry) → are_quiet a ≡ true → are_quiet b ≡ true → are_quiet (a ++ b) ≡ true
 quiet-append a b x y = list_all-append is_quiet a b ∙ (ap (λ t. t && are_quiet b) x ∙ y)
 
--- ---- What a station puts out
+-- ---- The outputs of a station
 
 target_quiet : (s : Sender) (bytes : List ℕ) (f : Found) → are_quiet (to_target s bytes f) ≡ true
 target_quiet s bytes (At hw) = refl
@@ -92,7 +92,7 @@ pub puts_sends : (places : Places) (old new : Cabling) (cable station : ℕ) (to
 puts_sends places old new cable station to bytes x =
     puts_adds old new (sent_entries places old cable station to bytes) x (sending_quiet places old cable station to bytes)
 
--- a frame that was taken
+-- A frame that was taken.
 pub takes_of : (places : Places) (ports : ℕ) (old new : Cabling) (stamp station : ℕ) (Hears : Hearing → List Output → Type 0)
     → IsTaken places ports old new stamp station Hears → Takes old new stamp station Hears
 takes_of places ports old new stamp station Hears x = record {

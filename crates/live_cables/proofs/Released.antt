@@ -16,7 +16,7 @@ use Rattle.live_cables.specs.Putting.{ArePut, IsLearntBy, IsPut}
 use Rattle.live_cables.specs.declared.answer.Answer.{Answer}
 use Rattle.station.specs.declared.heard.Kind.TheVariants.{Ddp}
 
--- none passes
+-- No element passes.
 none_pass : {X : Type 0} (p : X → Bool) (xs : List X) → length xs ≤ position_or_len p xs → filter p xs ≡ []
 none_pass p [] h = refl
 none_pass p (x ∷ xs) h =
@@ -35,7 +35,7 @@ all_fail p (x ∷ xs) h =
       | false ↦ λ e n. ap (λ l. x ∷ l) (all_fail p xs (omega arith))
     ]) refl h
 
--- the first one that passes
+-- The first element that passes.
 first_passes : {X : Type 0} (p : X → Bool) (xs : List X) (h : X) → slice_get xs (position_or_len p xs) ≡ Some h
     → filter p xs ≡ h ∷ filter p (remove xs (position_or_len p xs))
 first_passes p [] h e = absurd cc
@@ -63,9 +63,9 @@ others_stay p (x ∷ xs) h e =
           rw s (rw t (ap (λ l. x ∷ l) (others_stay p xs h n2)))
     ]) refl e
 
--- ---- The same of a position
+-- ---- The position of the first element that passes
 
--- there is none, or it is the first one that passes
+-- No element passes, or the position is that of the first that does.
 found_at : {X : Type 0} (p : X → Bool) (xs : List X) (G : Option ℕ → Type 0) → (length xs ≤ position_or_len p xs → G None)
     → ((x : X) → slice_get xs (position_or_len p xs) ≡ Some x → G (Some (position_or_len p xs))) → G (position p xs)
 found_at p xs G none some = by (nat_lt (position_or_len p xs) (length xs)) refl
@@ -83,7 +83,7 @@ found_at p xs G none some = by (nat_lt (position_or_len p xs) (length xs)) refl
     by true t = at (ltb-true (position_or_len p xs) (length xs) t)
     by false t = none (ltb-false (position_or_len p xs) (length xs) t)
 
--- no datagram is held for an address
+-- No datagram is held for an address.
 pub none_for : (a : Addr) (xs : List Held) → released a xs ≡ None → filter (is_for a) xs ≡ []
 none_for a xs e = found_at (is_for a) xs (λ o. option_and_then (slice_get xs) o ≡ None → filter (is_for a) xs ≡ [])
     (λ n u. none_pass (is_for a) xs n) (λ x t n. absurd cc) e
@@ -96,7 +96,7 @@ pub none_gone : (a : Addr) (xs : List Held) → released a xs ≡ None → witho
 none_gone a xs e = found_at (is_for a) xs (λ o. option_and_then (slice_get xs) o ≡ None → option_map_or (remove xs) o xs ≡ xs)
     (λ n u. refl) (λ x t n. absurd cc) e
 
--- the oldest one is released
+-- The oldest datagram is released.
 pub first_for : (a : Addr) (xs : List Held) (h : Held) → released a xs ≡ Some h
     → filter (is_for a) xs ≡ h ∷ filter (is_for a) (without_oldest a xs)
 first_for a xs h e = found_at (is_for a) xs
@@ -110,7 +110,7 @@ others_left a xs h e = found_at (is_for a) xs
     → filter (λ h. not (is_for a h)) (option_map_or (remove xs) o xs) ≡ filter (λ h. not (is_for a h)) xs)
     (λ n u. absurd cc) (λ x t n. others_stay (is_for a) xs h n) e
 
--- ---- What is put for it
+-- ---- Putting the released datagrams
 
 pub put_first : (s : Seat) (to : Hw) (h : Held) (more all : List Held) (a b c : Cabling) (r : Result (Unit {0}) Error)
     → all ≡ h ∷ more → IsPut s to Ddp h.bytes a b → OnOk r (ArePut s to more b c) → OnOk r (ArePut s to all a c)
@@ -122,7 +122,7 @@ pub left_then : (n : Mappings) (more all : List Held) (known before : List (Addr
 left_then n more all known before (Ok u) e k is = rw (← e) (rw (← k) is)
 left_then n more all known before (Err x) e k is = is
 
--- ---- What is learnt
+-- ---- Learning a mapping
 
 pub learnt_by : (seats : List Seat) (o : Option ℕ) (i : ℕ) (s : Seat) (m m1 m2 : Mappings) (answer : Answer) (a b : Cabling)
     (maps : List Mappings) (r : Result (Unit {0}) Error) → o ≡ Some i → slice_get seats i ≡ Some s → slice_get maps i ≡ Some m

@@ -1,4 +1,4 @@
--- What a station on live cables knows of the others. This project's own.
+-- A station's knowledge of the other stations on live cables.
 use Rattle.std.specs.Prelude.{ℕ, Bool, false, ◌&&◌, ◌==◌, not, List, [], Option, Some, None, if◌then◌else◌, position, slice_get}
 use Rattle.std.specs.List.{list_any}
 use Rattle.aarp.specs.Choosing.{nobody}
@@ -20,26 +20,26 @@ use Rattle.station.specs.Resolution.{packet_at}
 use Rattle.station.specs.declared.heard.Kind.{Kind}
 use Rattle.station.specs.declared.heard.Kind.TheVariants.{Ddp, Aarp}
 
--- the index of a station's seat on a cable
+-- The index of a station's seat on a cable.
 abbrev pub seat_on : List Seat → ℕ → ℕ → Option ℕ
 seat_on seats cable station = position (λ s. s.cable == cable && s.station == station) seats
 
--- the index of the seat of a station's port
+-- The index of the seat of a station's port.
 abbrev pub seat_by : List Seat → ℕ → ℕ → Option ℕ
 seat_by seats station port = position (λ s. s.station == station && s.port == port) seats
 
--- a settled address is this one
+-- The seat has a settled address, which is this one.
 abbrev pub is_own : Option (Option Addr) → Addr → Bool
 is_own None a = false
 is_own (Some None) a = false
 is_own (Some (Some own)) a = same_address own a
 
--- the hardware address of a seat
+-- The hardware address of a seat, and Later if there is no seat.
 abbrev pub hw_of : Option Seat → Found
 hw_of None = Later
 hw_of (Some s) = At s.hw
 
--- what a seat's mappings say of an address
+-- The hardware address of an address by a seat's mappings, and Later if they don't have it.
 abbrev pub mapped : Option Mappings → Addr → Found
 mapped None a = Later
 mapped (Some m) a = known (mapping_of a m.known)
@@ -48,17 +48,18 @@ mapped (Some m) a = known (mapping_of a m.known)
     known None = Later
     known (Some hw) = At hw
 
--- what is known at a seat of the station that has an address there: its own hardware address where the address is its own
+-- The hardware address of an address as a seat knows it: its own hardware address for its settled address, and
+-- otherwise by its mappings.
 abbrev pub found_at : List Seat → List (Option Addr) → List Mappings → Option ℕ → Addr → Found
 found_at seats own maps None a = Later
 found_at seats own maps (Some k) a =
     if is_own (slice_get own k) a then hw_of (slice_get seats k) else mapped (slice_get maps k) a
 
--- one of the ranges has the network, which isn't 0
+-- One of the ranges holds the network, which isn't 0.
 abbrev pub is_listed : List Span → ℕ → Bool
 is_listed ranges net = not (net == 0) && list_any (λ r. is_between r.start r.end net) ranges
 
--- what an AARP packet says that is a response
+-- The content of an AARP packet that is a response.
 abbrev pub said : ℕ → Option Packet → Option Answer
 said port None = None
 said port (Some p) = by p.function
@@ -68,7 +69,7 @@ said port (Some p) = by p.function
     by Response = Some (record { port = port; source = p.source; source_hw = p.source_hw })
     by Probe = None
 
--- what a response says that a station hears
+-- The content of a response that a station hears.
 abbrev pub answer_of : Hearing → Option Answer
 answer_of h = by h.kind
   where
@@ -76,7 +77,7 @@ answer_of h = by h.kind
     by Ddp = None
     by Aarp = said h.port (packet_at h.bytes)
 
--- the datagrams that are held at a seat
+-- The datagrams that are held at a seat.
 abbrev pub held_at : List Mappings → ℕ → List Held
 held_at maps k = of (slice_get maps k)
   where
@@ -84,17 +85,17 @@ held_at maps k = of (slice_get maps k)
     of None = []
     of (Some m) = m.held
 
--- a settled address, and 0.0 where there is none
+-- The settled address of a seat, and 0.0 if it has none.
 abbrev pub own_or_none : Option (Option Addr) → Addr
 own_or_none None = record { net = 0; node = 0 }
 own_or_none (Some None) = record { net = 0; node = 0 }
 own_or_none (Some (Some own)) = own
 
--- the request of a station for the hardware address of an address
+-- The AARP request of a seat for the hardware address of an address.
 abbrev pub request_for : Hw → Addr → Addr → Packet
 request_for hw own a = record { function = Request; source_hw = hw; source = own; target_hw = nobody; target = a }
 
--- nothing is held yet at a seat for an address
+-- There is such a seat, and no datagram is held at it for the address.
 abbrev pub is_first_for : List Mappings → ℕ → Addr → Bool
 is_first_for maps k a = of (slice_get maps k)
   where

@@ -1,4 +1,4 @@
--- What live cables hold. This project's own.
+-- The contents of live cables.
 use Rattle.std.specs.Prelude.{Bool, Contains, IsTrue, List, Option, false, length, slice_get, ℕ, ◌++◌, ◌∷◌, ◌≡◌}
 use Rattle.std.specs.Option.{unwrap_or}
 use Rattle.aarp.specs.Mapping.{Mappings, to_ask}
@@ -16,8 +16,8 @@ use Rattle.live_cables.specs.declared.answer.Answer.{Answer}
 use Rattle.station.specs.Hearing.{Hearing}
 use Rattle.station.specs.declared.output.Output.{Output}
 
--- Cables; for each seat its address, where that is settled, and the mappings that it knows; the ranges of the cables; and
--- for each cable whether it loses what is put there.
+-- The state of live cables: the cables; for each seat its settled address, if it has one, and its mappings; the ranges
+-- of the cables; and whether each cable loses frames.
 pub record Wires : Type 0 where
   pub cabling : Cabling
   pub own : List (Option Addr)
@@ -25,22 +25,22 @@ pub record Wires : Type 0 where
   pub ranges : List Span
   pub losing : List Bool
 
--- the cable loses what is put there
+-- The cable loses the frames that are put on it.
 abbrev pub loses : Wires → ℕ → Bool
 loses w cable = unwrap_or (slice_get w.losing cable) false
 
--- what happened
+-- The transcript.
 abbrev pub happened : Wires → List Entry
 happened w = transcript w.cabling
 
--- The addresses of the seats, the ranges, and which cables lose, stay.
+-- The addresses of the seats, the ranges, and which cables lose frames stay the same.
 pub record Stays (old new : Wires) : Type 0 where
   pub own : new.own ≡ old.own
   pub ranges : new.ranges ≡ old.ranges
   pub losing : new.losing ≡ old.losing
 
--- Further entries were played, of which so many are takings; the seats, the room, the ranges, and which cables lose,
--- stay.
+-- Entries were added that are allowed on cables that lose frames; the seats, their addresses, the limit, the ranges,
+-- and which cables lose frames stay the same.
 pub record Plays (old new : Wires) : Type 0 where
   pub added : List Entry
   pub grown : happened new ≡ happened old ++ added
@@ -51,13 +51,14 @@ pub record Plays (old new : Wires) : Type 0 where
   pub ranges : new.ranges ≡ old.ranges
   pub losing : new.losing ≡ old.losing
 
--- The same, done to its end: so many frames were taken, and what was put on cables that lose is lost.
+-- A call added allowed entries and finished: `taken` frames were taken, and all frames that were put on cables that
+-- lose frames are lost.
 pub record PlaysOn (taken : ℕ) (old new : Wires) : Type 0 where
   pub plays : Plays old new
   pub takes : count is_took plays.added ≡ taken
   pub lost : IsTrue (are_lost old.cabling.seats (loses old) (happened old) plays.added)
 
--- A station heard the frame of a stamp, which was pending for it.
+-- A station heard the frame with this stamp, which was pending for it.
 pub record IsHeardFrom (w : Wires) (stamp station : ℕ) (Hears : Hearing → List Output → Type 0) : Type 0 where
   pub pair : Pair
   pub was_pending : Contains (pending w.cabling.seats (happened w)) pair
@@ -66,13 +67,14 @@ pub record IsHeardFrom (w : Wires) (stamp station : ℕ) (Hears : Hearing → Li
   pub put_out : List Output
   pub hears : Hears (heard_by pair) put_out
 
--- A station took the frame of a stamp, which was pending for it, before anything else happened.
+-- A station took the frame with this stamp, which was pending for it, as the first added entry.
 pub record IsTakenBy (old new : Wires) (stamp station : ℕ) (Hears : Hearing → List Output → Type 0) : Type 0 where
   pub heard : IsHeardFrom old stamp station Hears
   pub rest : List Entry
   pub first : happened new ≡ happened old ++ Took stamp station ∷ rest
 
--- A station put these outputs out, and what was put on cables that lose was lost.
+-- A station's outputs were sent, and then only losses were added, of frames that this call put on cables that lose
+-- frames.
 abbrev pub GivesOut : ℕ → List Output → Wires → Wires → Type 0
 GivesOut station outputs old new =
     (mid : Cabling × List Mappings)
@@ -80,8 +82,9 @@ GivesOut station outputs old new =
     × Loses (losses_since old.losing (length old.cabling.lines) mid.0) mid.0 new.cabling × (new.maps ≡ mid.1)
     × Stays old new
 
--- A station took a frame, knowing of others what its mappings say, and put out what follows; what waits then was held, what the frame
--- answered was learnt, and what was put on cables that lose was lost.
+-- A station took a frame, resolving addresses by its own mappings, and its outputs were sent; then the waiting
+-- datagrams were held, and the mapping of an AARP response was learnt; then only losses were added, of frames that this
+-- call put on cables that lose frames.
 abbrev pub TakesIn : ℕ → ℕ → ℕ → (Hearing → List Output → Type 0) → Wires → Wires → Type 0
 TakesIn stamp station ports Hears old new =
     (taken : Cabling)
@@ -91,7 +94,8 @@ TakesIn stamp station ports Hears old new =
     × Loses (losses_since old.losing (length old.cabling.lines) mid.0) mid.0 new.cabling × (new.maps ≡ mid.1)
     × Stays old new
 
--- A tick passed for the mappings of a seat, whose station asked for addresses again, and what was put on cables that lose was lost.
+-- The mappings of a seat advanced by a tick, and AARP requests were sent again; then only losses were added, of frames
+-- that this call put on cables that lose frames.
 abbrev pub PassesFor : ℕ → Wires → Wires → Type 0
 PassesFor seat old new =
     (asked : Cabling)

@@ -1,4 +1,4 @@
--- What is put on cables for a seat, and what is held there. This project's own.
+-- The frames that a seat's station puts on its cable, and the datagrams that are held there.
 use Rattle.std.specs.Prelude.{◌≡◌, ◌⊎◌, ◌<◌, ℕ, Bool, true, false, not, List, [], ◌∷◌, length, filter, map, Option, Some, None, slice_get, slice_set, option_and_then}
 use Rattle.std.specs.List.{list_any}
 use Rattle.aarp.specs.Mapping.{Mappings, holding, is_for, learnt, waited}
@@ -24,30 +24,30 @@ use Rattle.station.specs.declared.output.Next.{Next}
 use Rattle.station.specs.declared.output.Output.{Output}
 use Rattle.station.specs.declared.output.Output.TheVariants.{Made, Wire}
 
--- no seat of its station is on the seat's cable
+-- The seat's station has no seat on the seat's cable, or there is no such cable.
 abbrev pub IsNowhere : Seat → Cabling → Type 0
 IsNowhere s c = (has_cable c.seats s.cable ≡ false) ⊎ (is_seated c.seats s.cable s.station ≡ false)
 
--- A frame was put on the cable of a seat; or nothing changed, where that can't be or the frame is too long.
+-- A frame was put on the cable of a seat; or nothing changed, because the station isn't on it or the frame is too long.
 abbrev pub IsPut : Seat → Hw → Kind → List ℕ → Cabling → Cabling → Type 0
 IsPut s to kind bytes old new =
     Adds old new (framed (record { stamp = stamps (transcript old); cable = s.cable; station = s.station }) to kind bytes ∷ [])
     ⊎ ((new ≡ old) × (IsNowhere s old ⊎ (599 < length bytes)))
 
--- A datagram was sent by a seat, or waits; or nothing changed, where that can't be.
+-- A datagram was sent by a seat, or waits; or nothing changed, because the station isn't on the cable.
 abbrev pub IsSent : Places → Seat → Next → List ℕ → Cabling → Cabling → Type 0
 IsSent places s next bytes old new =
     (Adds old new (sent_entries places old s.cable s.station next bytes)
     × (map (held_at new.kept) new.waiting ≡ held_next places s.cable (port_on old.seats s.cable s.station) next bytes))
     ⊎ ((new ≡ old) × IsNowhere s old)
 
--- A seat's station asked on its cable for the hardware address of an address; without a seat nothing changed.
+-- A seat's station sent an AARP request for an address on its cable; if there is no seat, nothing changed.
 abbrev pub IsAsked : Option Seat → Option (Option Addr) → Addr → Cabling → Cabling → Type 0
 IsAsked None own a old new = new ≡ old
 IsAsked (Some s) own a old new =
     (bytes : List ℕ) × Spells packet bytes (written (request_for s.hw (own_or_none own) a)) × IsPut s all_hw Aarp bytes old new
 
--- the mappings after a datagram is held at a seat for an address
+-- The mappings after a datagram is held at a seat for an address.
 abbrev pub with_held : List Mappings → ℕ → Addr → List ℕ → List Mappings
 with_held maps k a bytes = by (slice_get maps k)
   where
@@ -55,7 +55,7 @@ with_held maps k a bytes = by (slice_get maps k)
     by None = maps
     by (Some m) = slice_set maps k (record m { held = holding (record { next = a; asked = 1; bytes = bytes }) m.held })
 
--- the mappings after a tick passed for those of a seat
+-- The mappings after those of a seat advanced by a tick.
 abbrev pub with_tick : List Mappings → ℕ → List Mappings
 with_tick maps k = by (slice_get maps k)
   where
@@ -63,8 +63,8 @@ with_tick maps k = by (slice_get maps k)
     by None = maps
     by (Some m) = slice_set maps k (record m { held = waited m.held })
 
--- A datagram was held at a seat for an address, which was asked for where nothing was held for it before; without a seat nothing
--- changed.
+-- A datagram was held at a seat for an address, and an AARP request was sent if it was the first for that address; if
+-- there is no seat, nothing changed.
 abbrev pub IsHeld : List Seat → List (Option Addr) → Option ℕ → Addr → List ℕ → Cabling × List Mappings → Cabling × List Mappings
     → Type 0
 IsHeld seats own None a bytes old new = (new.0 ≡ old.0) × (new.1 ≡ old.1)
@@ -83,18 +83,18 @@ AreHeld seats own station (w ∷ ws) old new =
     × IsHeld seats own (seat_by seats station w.port) w.next (bytes_at old.0.kept w.bytes) old mid
     × AreHeld seats own station ws mid new
 
--- A seat's station asked for each of these addresses, in their order.
+-- A seat's station sent an AARP request for each of these addresses, in order.
 abbrev pub AreAsked : Option Seat → Option (Option Addr) → List Addr → Cabling → Cabling → Type 0
 AreAsked seat own [] old new = new ≡ old
 AreAsked seat own (a ∷ more) old new = (mid : Cabling) × IsAsked seat own a old mid × AreAsked seat own more mid new
 
--- These datagrams were put on the cable of a seat for one station, in their order.
+-- These datagrams were put on the cable of a seat, in order, for one hardware address.
 abbrev pub ArePut : Seat → Hw → List Held → Cabling → Cabling → Type 0
 ArePut s to [] old new = new ≡ old
 ArePut s to (h ∷ hs) old new = (mid : Cabling) × IsPut s to Ddp h.bytes old mid × ArePut s to hs mid new
 
--- A response was learnt at a seat: the mapping is known, and what was held for the address was put on the cable. Nothing changed
--- where there is no such seat.
+-- A response was learnt at a seat: its mapping is known, and the datagrams that were held for the address were put on
+-- the cable; if there is no such seat, nothing changed.
 abbrev pub IsLearnt : Option Seat → Option Mappings → ℕ → Answer → Cabling × List Mappings → Cabling × List Mappings → Type 0
 IsLearnt None m k answer old new = (new.0 ≡ old.0) × (new.1 ≡ old.1)
 IsLearnt (Some s) None k answer old new = (new.0 ≡ old.0) × (new.1 ≡ old.1)
@@ -105,25 +105,25 @@ IsLearnt (Some s) (Some m) k answer old new =
       held = filter (λ h. not (is_for answer.source h)) m.held;
     }))
 
--- The same at the seat of the port on which it came.
+-- A response was learnt at the seat of the port on which it came; if there is no such seat, nothing changed.
 abbrev pub IsLearntBy : List Seat → Option ℕ → Answer → Cabling × List Mappings → Cabling × List Mappings → Type 0
 IsLearntBy seats None answer old new = (new.0 ≡ old.0) × (new.1 ≡ old.1)
 IsLearntBy seats (Some k) answer old new = IsLearnt (slice_get seats k) (slice_get old.1 k) k answer old new
 
--- what a station's resolver knows of others
+-- A station's knowledge of others, by its seats' mappings, and which networks have a range.
 abbrev pub places_of : List Seat → List (Option Addr) → List Mappings → List Span → ℕ → Places
 places_of seats own maps ranges station =
     record { finds = λ cable a. found_at seats own maps (seat_on seats cable station) a; lists = λ net. is_listed ranges net }
 
--- A seat's station sent a datagram that it made, and held it where it waits.
+-- A seat's station sent a datagram that it made; the datagram was held if it has to wait.
 abbrev pub IsMade : List Seat → List (Option Addr) → List Span → Seat → Next → List ℕ → Cabling × List Mappings
     → Cabling × List Mappings → Type 0
 IsMade seats own ranges s next bytes old new =
     (sent : Cabling) × IsSent (places_of seats own old.1 ranges s.station) s next bytes old.0 sent
     × AreHeld seats own s.station sent.waiting (sent, old.1) new
 
--- A station put something out by a seat: a datagram that it made, or a frame of AARP. Nothing changed where it has no such seat, or
--- where the output is none of these.
+-- An output of a station was sent: a datagram that it made, or an AARP frame; nothing changed if it has no seat for the
+-- port, or if the output is of another kind.
 abbrev pub IsGiven : List Seat → List (Option Addr) → List Span → ℕ → Output → Cabling × List Mappings → Cabling × List Mappings
     → Type 0
 IsGiven seats own ranges station (Made port next bytes) old new = by (option_and_then (slice_get seats) (seat_by seats station port))
@@ -138,24 +138,25 @@ IsGiven seats own ranges station (Wire port to bytes) old new = by (option_and_t
     by (Some s) = IsPut s to Aarp bytes old.0 new.0 × (new.1 ≡ old.1)
 IsGiven seats own ranges station _ old new = (new.0 ≡ old.0) × (new.1 ≡ old.1)
 
--- A station put these outputs out, in their order.
+-- The outputs of a station were sent, in order.
 abbrev pub AreGiven : List Seat → List (Option Addr) → List Span → ℕ → List Output → Cabling × List Mappings
     → Cabling × List Mappings → Type 0
 AreGiven seats own ranges station [] old new = (new.0 ≡ old.0) × (new.1 ≡ old.1)
 AreGiven seats own ranges station (o ∷ os) old new =
     (mid : Cabling × List Mappings) × IsGiven seats own ranges station o old mid × AreGiven seats own ranges station os mid new
 
--- What a station was answered was learnt, if it was.
+-- The response was learnt, if there was one.
 abbrev pub IsTold : List Seat → ℕ → Option Answer → Cabling × List Mappings → Cabling × List Mappings → Type 0
 IsTold seats station None old new = (new.0 ≡ old.0) × (new.1 ≡ old.1)
 IsTold seats station (Some answer) old new = IsLearntBy seats (seat_by seats station answer.port) answer old new
 
--- What waited after a station took a frame was held, and what it was answered was learnt.
+-- The datagrams that waited after a station took a frame were held, and the response was learnt, if the frame was one.
 abbrev pub IsFollowed : List Seat → List (Option Addr) → ℕ → Option Answer → Cabling × List Mappings → Cabling × List Mappings → Type 0
 IsFollowed seats own station answer old new =
     (mid : Cabling × List Mappings) × AreHeld seats own station old.0.waiting old mid × IsTold seats station answer mid new
 
--- This is what a frame that is pending for a station says as a response, if it is one.
+-- This is the content of the AARP response in a frame that is pending for a station, or None if the frame is no
+-- response or isn't pending.
 abbrev pub IsAnswer : Cabling → ℕ → ℕ → Option Answer → Type 0
 IsAnswer c stamp station answer =
     ((h : Hearing) × IsHeard (pending c.seats (transcript c)) stamp station h × (answer ≡ answer_of h))

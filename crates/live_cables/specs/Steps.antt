@@ -1,4 +1,4 @@
--- The steps of one call on live cables. This project's own.
+-- The steps of one call on live cables.
 use Rattle.std.specs.Prelude.{◌≡◌, ◌<◌, ◌+◌, ℕ, Bool, true, false, not, cond, drop, length, slice_get, Contains, IsTrue, List, [], ◌∷◌, ◌++◌}
 use Rattle.std.specs.List.{list_all, list_any}
 use Rattle.std.specs.Option.{unwrap_or}
@@ -14,17 +14,17 @@ use Rattle.station.specs.Lawful.{IsNext}
 use Rattle.station.specs.declared.output.Output.{Output}
 use Rattle.station.specs.declared.output.Output.TheVariants.{Made}
 
--- There is no room for so many more entries.
+-- The limit leaves no room for `more` further entries.
 abbrev pub HasNoRoom : ℕ → Cabling → Type 0
 HasNoRoom more c = c.limit < length c.lines + more
 
--- the entry ends no pair
+-- The entry ends no pair.
 abbrev pub is_quiet : Entry → Bool
 is_quiet (Took stamp station) = false
 is_quiet (Lost stamp) = false
 is_quiet _ = true
 
--- Entries were added that end no pair; the seats and the room stay.
+-- Entries were added that end no pair; the seats and the limit stay the same.
 pub record Puts (old new : Cabling) : Type 0 where
   pub added : List Entry
   pub grown : transcript new ≡ transcript old ++ added
@@ -32,12 +32,12 @@ pub record Puts (old new : Cabling) : Type 0 where
   pub seats : new.seats ≡ old.seats
   pub limit : new.limit ≡ old.limit
 
--- the entry is the loss of one of these frames
+-- The entry is the loss of one of these frames.
 abbrev pub is_loss : List ℕ → Entry → Bool
 is_loss stamps (Lost stamp) = is_in stamps stamp
 is_loss stamps _ = false
 
--- Entries were added that are losses of these frames; the seats and the room stay.
+-- Entries were added that are losses of these frames; the seats and the limit stay the same.
 pub record Loses (stamps : List ℕ) (old new : Cabling) : Type 0 where
   pub added : List Entry
   pub grown : transcript new ≡ transcript old ++ added
@@ -45,32 +45,32 @@ pub record Loses (stamps : List ℕ) (old new : Cabling) : Type 0 where
   pub seats : new.seats ≡ old.seats
   pub limit : new.limit ≡ old.limit
 
--- none of these frames is pending
+-- None of these frames is pending.
 abbrev pub are_gone : List ℕ → Cabling → Bool
 are_gone stamps c = not (list_any (λ p. is_in stamps p.frame.stamp) (pending c.seats (transcript c)))
 
--- whether a cable loses what is put there; one that isn't named loses nothing
+-- The cable loses the frames that are put on it; a cable past the end of the list loses none.
 abbrev pub loses_by : List Bool → ℕ → Bool
 loses_by losing cable = unwrap_or (slice_get losing cable) false
 
--- the stamps of the frames that were put on cables that lose, in the entries from an index on
+-- The stamps of the frames that the entries from an index on put on cables that lose frames.
 abbrev pub losses_since : List Bool → ℕ → Cabling → List ℕ
 losses_since losing from c = losses (loses_by losing) (drop from (transcript c))
 
--- the stamps of the frames that were put on cables that lose, as they are kept
+-- The stamps of the frames that the kept lines put on cables that lose frames.
 abbrev pub line_losses : (ℕ → Bool) → List Line → List ℕ
 line_losses losing [] = []
 line_losses losing (line.Put stamp cable sender to kind n ∷ ls) =
     cond (losing cable) (stamp ∷ line_losses losing ls) (line_losses losing ls)
 line_losses losing (l ∷ ls) = line_losses losing ls
 
--- a datagram that a station made names a group that there is
+-- The next receiver of a datagram that a station made is valid: a group's number is below 253.
 abbrev pub IsSendable : Output → Type 0
 IsSendable (Made port next bytes) = IsNext next
 IsSendable _ = Unit {0}
 
--- A station took a frame that was pending for it and put out what follows, and the further entries end no pair;
--- the seats and the room stay.
+-- A station took a frame that was pending for it and sent its outputs, and the further entries end no pair; the seats
+-- and the limit stay the same.
 pub record Takes (old new : Cabling) (stamp station : ℕ) (Hears : Hearing → List Output → Type 0) : Type 0 where
   pub pair : Pair
   pub was_pending : Contains (pending old.seats (transcript old)) pair

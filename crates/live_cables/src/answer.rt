@@ -1,4 +1,4 @@
-//! Answers to who has an address.
+//! The content of AARP responses.
 
 ghost use Rattle.std.specs.Prelude.{◌≡◌, Some};
 ghost use Rattle.live_cables.specs.Finding.{answer_of, said};
@@ -9,7 +9,7 @@ use at_base::{Addr, Hw};
 use station::frames::read_packet;
 use station::{Heard, Kind};
 
-/// What a response says that came on a port: who has an address.
+/// The content of a response that came on a port: an address and its hardware address.
 #[derive(Clone, Copy, Debug)]
 pub struct Answer {
     pub port: u8,
@@ -17,7 +17,7 @@ pub struct Answer {
     pub source_hw: Hw,
 }
 
-/// What a packet says, if it is a response.
+/// The content of a packet that is a response.
 fn answer_by(port: u8, packet: &Packet) -> Option<Answer>
     ensures { result ≡ said port (Some packet.now) }
 {
@@ -31,7 +31,7 @@ fn answer_by(port: u8, packet: &Packet) -> Option<Answer>
     }
 }
 
-/// What a response says that a station hears.
+/// The content of a response that a station hears. `None` if the frame is no response.
 pub fn answer_in(heard: &Heard<'_>) -> Option<Answer>
     ensures { result ≡ answer_of (hearing heard.now) }
 {

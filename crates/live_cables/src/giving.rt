@@ -1,4 +1,4 @@
-//! What a station puts out in a tick.
+//! Sends a station's outputs of a tick.
 
 ghost use Rattle.std.specs.Prelude.{IfErr, OnOk, [], length, option_and_then, slice_get, ◌≡◌, ◌⊎◌};
 ghost use Rattle.std.specs.List.{AllByRecursion};
@@ -28,8 +28,8 @@ fn seat_of(ports: &Ports, station: u16, port: u8) -> Option<Seat>
     }
 }
 
-/// A station sends a datagram that it made, which is held where nothing is known yet of its next
-/// station. Errors: `Full`, `Memory`.
+/// Sends a datagram that a station made. It is held if the hardware address of its next station
+/// isn't known. Errors: `Full`, `Memory`.
 fn made(
     alloc: Global,
     cables: &mut Cables,
@@ -59,8 +59,8 @@ fn made(
     hold_from(alloc, cables, ports, mappers, seat.station, 0)
 }
 
-/// A station puts something out. What no station puts out in a tick is dropped. Errors: `Full`,
-/// `Memory`.
+/// Sends an output of a station. Outputs that a station doesn't make in a tick are ignored. Errors:
+/// `Full`, `Memory`.
 fn give(
     alloc: Global,
     cables: &mut Cables,
@@ -90,7 +90,7 @@ fn give(
     }
 }
 
-/// A station puts outputs out, from the oldest on. Errors: `Full`, `Memory`.
+/// Sends the outputs of a station, the oldest first. Errors: `Full`, `Memory`.
 pub fn give_all(
     alloc: Global,
     cables: &mut Cables,

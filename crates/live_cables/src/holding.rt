@@ -17,8 +17,8 @@ use cable_model::{Cables, Seat, Waiting};
 use station::Kind;
 use std::alloc::Global;
 
-/// Holds a datagram at a seat, whether it is the first one for its address. The oldest goes where
-/// 16 are held.
+/// Holds a datagram at a seat. Returns whether it is the first one for its address. If 16 are held,
+/// the oldest is dropped.
 fn hold_at(mappers: &mut [Mapper], seat: usize, next: Addr, bytes: Bytes) -> bool
     ensures first { result ≡ is_first_for mappers.old seat next }
     ensures held { mappers.new ≡ with_held mappers.old seat next bytes }
@@ -36,8 +36,8 @@ fn hold_at(mappers: &mut [Mapper], seat: usize, next: Addr, bytes: Bytes) -> boo
     is_first
 }
 
-/// Holds a datagram that waits, and asks for its address where none was held for it. Errors:
-/// `Full`, `Memory`.
+/// Holds a waiting datagram, and sends an AARP request for its address if no other datagram is held
+/// for that address. Errors: `Full`, `Memory`.
 fn hold(
     alloc: Global,
     cables: &mut Cables,
@@ -70,7 +70,7 @@ fn hold(
     }
 }
 
-/// Holds the datagrams that wait since the last sending or taking of a station, from an index on.
+/// Holds the datagrams that wait since the station's last send or take, from index `from` on.
 /// Errors: `Full`, `Memory`.
 pub fn hold_from(
     alloc: Global,
@@ -98,8 +98,8 @@ pub fn hold_from(
     hold_from(alloc, cables, ports, mappers, station, from + 1)
 }
 
-/// Puts what is held for an address on the cable of a seat, the oldest first, and holds nothing for
-/// it any more. Errors: `Full`, `Memory`.
+/// Puts the datagrams that are held for an address on the cable of a seat, the oldest first, and
+/// removes them. Errors: `Full`, `Memory`.
 fn release(
     cables: &mut Cables,
     seat: Seat,
@@ -126,8 +126,8 @@ fn release(
     release(cables, seat, mapper, addr, hw)
 }
 
-/// Learns what a response says, and puts what was held for its sender on the cable. Errors: `Full`,
-/// `Memory`.
+/// Learns the mapping in a response, and puts the datagrams that were held for its sender on the
+/// cable. Errors: `Full`, `Memory`.
 pub fn learn(
     cables: &mut Cables,
     ports: &Ports,

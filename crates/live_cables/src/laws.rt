@@ -1,13 +1,13 @@
-//! Laws of what is played on cables where frames are lost, for the crates above. The functions do
-//! nothing: what they ensure is the law.
+//! Laws of entries on cables where frames are lost, for use by other crates. The functions do
+//! nothing: each law is the function's ensures clause.
 
 ghost use Rattle.std.specs.Prelude.{◌≡◌, ◌++◌, Bool, IsTrue, List, [], ℕ};
 ghost use Rattle.cable_model.specs.declared.seat.Seat.{Seat as SeatValue};
 ghost use Rattle.cable_model.specs.Transcript.{AreNumbered, Entry};
 ghost use Rattle.live_cables.specs.Playing.{IsPlayed, are_lost};
 
-/// What was played in two parts, with all losses of the first done, was played as a whole. Frames
-/// are numbered from 0. This project's own.
+/// If `a` may follow `t`, all losses of `a` happened, and `b` may follow both, then `a` followed by
+/// `b` may follow `t`. Frames are numbered from 0.
 pub fn plays_then()
     ensures { (seats : List SeatValue) (losing : ℕ → Bool) (t a b : List Entry)
         → AreNumbered 0 (t ++ (a ++ b)) → IsPlayed seats losing t a
@@ -15,15 +15,14 @@ pub fn plays_then()
         → IsPlayed seats losing t (a ++ b) }
 {}
 
-/// Where what was put in each of two parts on cables that lose is lost, so it is in the whole. This
-/// project's own.
+/// If all losses of each of two parts happened, all losses of the whole did.
 pub fn losses_then()
     ensures { (seats : List SeatValue) (losing : ℕ → Bool) (t a b : List Entry)
         → AreNumbered 0 (t ++ (a ++ b)) → IsTrue (are_lost seats losing t a)
         → IsTrue (are_lost seats losing (t ++ a) b) → IsTrue (are_lost seats losing t (a ++ b)) }
 {}
 
-/// No entries are played, and all their losses are done. This project's own.
+/// No entries may follow any transcript, and all their losses happened.
 pub fn nothing_plays()
     ensures { (seats : List SeatValue) (losing : ℕ → Bool) (t : List Entry)
         → IsPlayed seats losing t [] × IsTrue (are_lost seats losing t []) }

@@ -31,15 +31,13 @@ use std::alloc::Global;
 use std::marker::Model;
 
 /// Cables on which stations find each other by AARP, and where frames may be lost.
-///
-/// This project's own.
 #[derive(Drop)]
 pub struct LiveCables {
     cables: Cables,
     ports: Ports,
-    // of each seat, in the order of the seats
+    // The mappings of each seat, in the order of the seats.
     mappers: Vec<Mapper>,
-    // of each cable, whether it loses what is put there in this tick
+    // Whether each cable loses the frames that are put on it in this tick.
     losing: Vec<bool>,
     alloc: Global,
 }
@@ -63,14 +61,14 @@ impl Model for LiveCables {
         × (length c.mappers.items ≡ length c.cables.seats) };
 }
 
-/// Recalls that frames are numbered from 0. Does nothing.
+/// A fact for the prover: frames are numbered from 0. Does nothing.
 fn recall_numbered(cables: &Cables)
     ensures { AreNumbered 0 (logs_spec.transcript cables.now) }
 {
     let _len = cables.transcript().len();
 }
 
-/// Adds mappings for each of these seats, which know nothing yet. Error: `Memory`.
+/// Adds empty mappings for each of these seats. Error: `Memory`.
 fn add_mappers(alloc: Global, mappers: &mut Vec<Mapper>, seats: &[Seat]) -> Result<(), Error>
     ensures ok { OnOk result (mappers.new.items
         ≡ mappers.old.items ++ map (λ s. record { known = []; held = [] }) seats.now) }
@@ -85,7 +83,7 @@ fn add_mappers(alloc: Global, mappers: &mut Vec<Mapper>, seats: &[Seat]) -> Resu
     }
 }
 
-/// Adds an address that isn't settled for each of these seats. Error: `Memory`.
+/// Adds an unsettled address for each of these seats. Error: `Memory`.
 fn add_unsettled(own: &mut Vec<Option<Addr>>, seats: &[Seat]) -> Result<(), Error>
     ensures ok { OnOk result (own.new.items ≡ own.old.items ++ map (λ s. None) seats.now) }
     ensures refused { IsOkUnless result Error.Memory }
@@ -100,9 +98,9 @@ fn add_unsettled(own: &mut Vec<Option<Addr>>, seats: &[Seat]) -> Result<(), Erro
 }
 
 impl LiveCables {
-    /// Cables with these seats and ranges, where nothing has happened yet, for at most `limit`
-    /// entries. No address is settled or known, and no cable loses anything. That a station has one
-    /// seat at most on a cable is the caller's condition. Error: `Memory`.
+    /// Cables with these seats and ranges, with an empty transcript and room for at most `limit`
+    /// entries. No address is settled or known, and no cable loses frames. The caller must ensure
+    /// that a station has at most one seat on a cable. Error: `Memory`.
     pub fn new(
         alloc: Global,
         seats: &[Seat],
@@ -143,7 +141,7 @@ impl LiveCables {
         })
     }
 
-    /// What happened, in order. Allocates nothing.
+    /// The transcript, in order. Allocates nothing.
     pub fn transcript(&self) -> &[Entry]
         ensures value { result.now ≡ self.now.cabling.lines }
         ensures numbered { AreNumbered 0 (happened self.now) }
@@ -152,15 +150,14 @@ impl LiveCables {
         self.cables.transcript()
     }
 
-    /// The bytes of a number that entries name, and none for any other number. Allocates nothing.
+    /// The bytes with a number that entries name; empty for any other number. Allocates nothing.
     pub fn bytes(&self, number: u32) -> &[u8]
         ensures { result.now ≡ bytes_at self.now.cabling.kept number }
     {
         self.cables.bytes(number)
     }
 
-    /// The least stamp of which a frame is pending, and the least station that it is pending for.
-    /// Allocates nothing.
+    /// The lowest pending stamp, and the lowest station for which it is pending. Allocates nothing.
     pub fn first(&self) -> Option<(u32, u16)>
         ensures some { IfSome result (λ pair.
             IsLeast (pending_spec.pending self.now.cabling.seats (happened self.now)) pair.0 pair.1) }
@@ -169,22 +166,22 @@ impl LiveCables {
         self.cables.first()
     }
 
-    /// The number of pairs of a frame and a station that are pending. Allocates nothing.
+    /// The number of pending pairs of a frame and a station. Allocates nothing.
     pub fn pending_count(&self) -> usize
         ensures { result ≡ length (pending_spec.pending self.now.cabling.seats (happened self.now)) }
     {
         self.cables.pending_count()
     }
 
-    /// Says of each cable whether it loses what is put there from now on. Cables that aren't named
-    /// lose nothing.
+    /// Sets for each cable whether it loses the frames that are put on it from now on. Cables past
+    /// the end of the list lose nothing.
     pub fn set_losing(&mut self, losing: Vec<bool>)
         ensures { self.new ≡ record self.old { losing = losing.items } }
     {
         self.losing = losing;
     }
 
-    /// Says which address of a seat is settled, if one is. Nothing changes where there is no such
+    /// Sets the settled address of a seat, or that it has none. Does nothing if there is no such
     /// seat.
     pub fn set_own(&mut self, seat: usize, own: Option<Addr>)
         ensures { self.new ≡ record self.old { own = slice_set self.old.own seat own } }
@@ -194,11 +191,11 @@ impl LiveCables {
         }
     }
 
-    /// Gives out what a station made of its own, in a tick or for its user. What it sends to an
-    /// address of which nothing is known yet is held, and the address is asked for. Outputs that no
-    /// station makes of its own are dropped.
+    /// Sends what a station made in a tick or at its user's request. A datagram to a station whose
+    /// hardware address isn't known is held, and an AARP request is sent for the address. Outputs
+    /// of other kinds are ignored.
     ///
-    /// Errors: `Full`, `Memory`. What was done so far then stays.
+    /// Errors: `Full`, `Memory`. After an error, what was done so far stays done.
     pub fn give(&mut self, station: u16, outputs: &mut Outputs) -> Result<(), Error>
         requires lawful { (n : ℕ) × AreLawful n outputs.old.items }
         ensures plays { Plays self.old self.new }
@@ -224,13 +221,13 @@ impl LiveCables {
         lose_from(self.alloc, &mut self.cables, &self.losing, from)
     }
 
-    /// A station takes a frame that is pending for it, and what it puts out goes onto its cables.
-    /// What it sends to an address of which nothing is known yet is held, and the address is asked
-    /// for; a response gives out what is held for its sender. That the station's ports are those of
-    /// its seats is the caller's condition.
+    /// A station takes a frame that is pending for it, and its outputs go onto its cables. A
+    /// datagram to a station whose hardware address isn't known is held, and an AARP request is
+    /// sent for the address; an AARP response releases the datagrams that are held for its sender.
+    /// The caller must ensure that the station's ports are those of its seats.
     ///
-    /// Errors: `NotPending`, which changes nothing; `Full`, `Memory`. What was done so far then
-    /// stays.
+    /// Errors: `NotPending`, which changes nothing; `Full`, `Memory`. After `Full` or `Memory`,
+    /// what was done so far stays done.
     pub fn take<S: Taker>(&mut self, stamp: u32, station: u16, taker: &mut S) -> Result<(), Error>
         requires { AreSeatsOf self.old.cabling.seats station (S.ports_of taker.old) }
         ensures plays { Plays self.old self.new }
@@ -276,11 +273,11 @@ impl LiveCables {
         lose_from(self.alloc, &mut self.cables, &self.losing, from)
     }
 
-    /// A tick passes for the mappings of a seat: addresses that nobody answered for are asked for
-    /// again. The result is those that were asked for ten times in vain; what was held for them is
-    /// dropped.
+    /// Advances the mappings of a seat by a tick: AARP requests without a response are sent again.
+    /// Returns the addresses for which ten requests had no response; the datagrams that were held
+    /// for them are dropped.
     ///
-    /// Errors: `Full`, `Memory`. What was done so far then stays.
+    /// Errors: `Full`, `Memory`. After an error, what was done so far stays done.
     pub fn pass(&mut self, seat: usize) -> Result<Addresses, Error>
         ensures plays { Plays self.old self.new }
         ensures passed { OnOk result (PassesFor seat self.old self.new) }

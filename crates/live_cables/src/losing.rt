@@ -1,4 +1,4 @@
-//! Frames that are lost, since they were put on cables that lose.
+//! Frames that are lost because they were put on cables that lose frames.
 
 ghost use Rattle.std.specs.Prelude.{◌≡◌, ◌⊎◌, ◌↔◌, ◌++◌, ◌∷◌, []};
 ghost use Rattle.std.specs.Prelude.{IfErr, IsOkUnless, IsTrue, OnErr, OnOk, drop, true};
@@ -13,7 +13,7 @@ use at_base::Error;
 use cable_model::{Cables, Entry};
 use std::alloc::Global;
 
-/// Whether the cable loses what is put there.
+/// Whether the cable loses the frames that are put on it.
 fn loses(losing: &[bool], cable: u8) -> bool
     ensures { result ≡ loses_by losing.now cable }
 {
@@ -23,14 +23,14 @@ fn loses(losing: &[bool], cable: u8) -> bool
     }
 }
 
-/// Whether a cable loses what is put there.
+/// Whether any cable loses frames.
 fn has_loss(losing: &[bool]) -> bool
     ensures { result ≡ list_any (λ loses. loses) losing.now }
 {
     losing.iter().any(|loses| *loses)
 }
 
-/// Adds the stamps of the frames that were put on cables that lose. Error: `Memory`.
+/// Appends the stamps of the frames that were put on cables that lose frames. Error: `Memory`.
 fn add_stamps(stamps: &mut Vec<u32>, entries: &[Entry], losing: &[bool]) -> Result<(), Error>
     ensures ok { OnOk result (stamps.new.items ≡ stamps.old.items
         ++ line_losses (loses_by losing.now) entries.now) }
@@ -49,7 +49,7 @@ fn add_stamps(stamps: &mut Vec<u32>, entries: &[Entry], losing: &[bool]) -> Resu
     }
 }
 
-/// Loses a frame, unless nobody is to take it. Errors: `Full`, `Memory`.
+/// Loses a frame, unless it is pending for no station. Errors: `Full`, `Memory`.
 fn lose(cables: &mut Cables, stamp: u32) -> Result<(), Error>
     ensures loses { Loses (stamp ∷ []) cables.old cables.new }
     ensures gone { OnOk result (IsTrue (are_gone (stamp ∷ []) cables.new)) }
@@ -66,7 +66,7 @@ fn lose(cables: &mut Cables, stamp: u32) -> Result<(), Error>
     }
 }
 
-/// Loses these frames, but for those that nobody is to take. Errors: `Full`, `Memory`.
+/// Loses those of these frames that are pending. Errors: `Full`, `Memory`.
 fn lose_all(cables: &mut Cables, stamps: &[u32]) -> Result<(), Error>
     ensures loses { Loses stamps.now cables.old cables.new }
     ensures gone { OnOk result (IsTrue (are_gone stamps.now cables.new)) }
@@ -85,8 +85,8 @@ fn lose_all(cables: &mut Cables, stamps: &[u32]) -> Result<(), Error>
     }
 }
 
-/// Loses what was put on cables that lose, in the entries from an index on. Errors: `Full`,
-/// `Memory`.
+/// Loses the frames that the entries from index `from` on put on cables that lose frames. Errors:
+/// `Full`, `Memory`.
 pub fn lose_from(
     alloc: Global,
     cables: &mut Cables,
@@ -110,7 +110,7 @@ pub fn lose_from(
     lose_all(cables, &stamps)
 }
 
-/// The entries from an index on.
+/// The entries from index `from` on.
 fn entries_from(entries: &[Entry], from: usize) -> &[Entry]
     ensures { result.now ≡ drop from entries.now }
 {

@@ -1,4 +1,4 @@
-//! Ticks that pass for mappings.
+//! Ticks of mappings.
 
 ghost use Rattle.std.specs.Prelude.{◌≡◌, ◌⊎◌, IfErr, OnOk, length, slice_get};
 ghost use Rattle.aarp.specs.Mapping as spec;
@@ -14,7 +14,7 @@ use at_base::{Addr, Error};
 use cable_model::Cables;
 use std::alloc::Global;
 
-/// A tick passes for the mappings of a seat, if it is one.
+/// Advances the mappings of a seat by a tick. Does nothing if there is no such seat.
 pub fn tick(mappers: &mut [Mapper], seat: usize) -> Asks
     ensures ask { result.ask ≡ to_ask (held_at mappers.old seat) }
     ensures given_up { result.given_up ≡ spec.given_up (held_at mappers.old seat) }
@@ -30,7 +30,8 @@ pub fn tick(mappers: &mut [Mapper], seat: usize) -> Asks
     mappers[seat].tick()
 }
 
-/// Asks on the cable of a seat for each of the addresses. Errors: `Full`, `Memory`.
+/// Sends an AARP request for each of the addresses on the cable of a seat. Errors: `Full`,
+/// `Memory`.
 pub fn ask_all(
     alloc: Global,
     cables: &mut Cables,

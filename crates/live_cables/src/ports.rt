@@ -1,4 +1,4 @@
-//! The ports of stations: their seats, and the addresses that they have.
+//! The ports of stations: their seats and their addresses.
 
 ghost use Rattle.std.specs.Prelude.{◌≡◌, slice_get};
 ghost use Rattle.std.specs.List.{list_any};
@@ -37,14 +37,15 @@ pub fn hw_at(seats: &Seats, seat: usize) -> Found
     }
 }
 
-/// Whether one of the ranges has the network. No range has 0, which many datagrams name.
+/// Whether one of the ranges holds the network. No range holds 0, so 0, which is the network of
+/// many datagrams, isn't searched for.
 pub fn is_listed(ranges: &[Range], net: u16) -> bool
     ensures { result ≡ spec.is_listed ranges.now net }
 {
     net != 0 && has_range(ranges, net)
 }
 
-/// Whether one of the ranges has the network.
+/// Whether one of the ranges holds the network.
 fn has_range(ranges: &[Range], net: u16) -> bool
     ensures { result ≡ list_any (λ r. is_between r.start r.end net) ranges.now }
 {

@@ -15,10 +15,11 @@ use cable_model::{Cables, Resolve, Seat};
 use station::{Kind, Next};
 use std::alloc::Global;
 
-/// The hardware address of nobody, where a packet goes to all.
+/// The target hardware address in an AARP request: 0, because it isn't known.
 const NOBODY: Hw = Hw([0; 6]);
 
-/// The error of a call that stops what is done. Those that say that nothing is to be done don't.
+/// The result for an error of the cables: `Full` and `Memory` stay errors, and every other error
+/// means that there is nothing to do.
 pub fn stop(error: Error) -> Result<(), Error>
     ensures refused { IfErr result (λ e. (e ≡ Error.Full) ⊎ (e ≡ Error.Memory)) }
     ensures full { (result ≡ Err Error.Full) ↔ (error ≡ Error.Full) }
@@ -31,7 +32,7 @@ pub fn stop(error: Error) -> Result<(), Error>
     }
 }
 
-/// Puts a frame on the cable of a seat. What is too long for a frame isn't put. Errors: `Full`,
+/// Puts a frame on the cable of a seat, unless it is too long for a frame. Errors: `Full`,
 /// `Memory`.
 pub fn put(cables: &mut Cables, seat: Seat, to: Hw, kind: Kind, bytes: Bytes) -> Result<(), Error>
     ensures put { OnOk result (IsPut seat to kind bytes cables.old cables.new) }
@@ -73,7 +74,7 @@ pub fn send<R: Resolve>(
     }
 }
 
-/// The settled address of a seat, and 0.0 where it has none.
+/// The settled address of a seat, and 0.0 if it has none.
 fn own_at(own: &[Option<Addr>], seat: usize) -> Addr
     ensures { result ≡ own_or_none (slice_get own.now seat) }
 {
@@ -83,7 +84,7 @@ fn own_at(own: &[Option<Addr>], seat: usize) -> Addr
     }
 }
 
-/// The request of a seat for the hardware address of an address.
+/// The AARP request of a seat for the hardware address of an address.
 fn request(hw: Hw, own: Addr, addr: Addr) -> Packet
     ensures { result ≡ request_for hw own addr }
 {
@@ -96,7 +97,7 @@ fn request(hw: Hw, own: Addr, addr: Addr) -> Packet
     }
 }
 
-/// Asks on the cable of a seat for the hardware address of an address. Errors: `Full`, `Memory`.
+/// Sends an AARP request for an address on the cable of a seat. Errors: `Full`, `Memory`.
 pub fn ask(
     alloc: Global,
     cables: &mut Cables,

@@ -1,4 +1,4 @@
-//! What a station knows of the others on its cables.
+//! Finds hardware addresses of stations, as one station knows them.
 
 ghost use Rattle.std.specs.Prelude.{◌≡◌, slice_get};
 ghost use Rattle.live_cables.specs.Finding.{found_at, mapped};
@@ -8,7 +8,7 @@ use aarp::Mapper;
 use at_base::Addr;
 use cable_model::{Found, Resolve};
 
-/// What a station knows.
+/// A station's seats, settled addresses and mappings.
 #[derive(Clone, Copy)]
 pub struct Resolver<'a> {
     pub station: u16,
@@ -16,7 +16,7 @@ pub struct Resolver<'a> {
     pub mappers: &'a [Mapper],
 }
 
-/// What a seat's mappings say of an address.
+/// The hardware address of an address, by a seat's mappings.
 fn mapping_at(mappers: &[Mapper], seat: usize, addr: Addr) -> Found
     ensures { result ≡ mapped (slice_get mappers.now seat) addr }
 {
@@ -29,7 +29,7 @@ fn mapping_at(mappers: &[Mapper], seat: usize, addr: Addr) -> Found
     }
 }
 
-/// What is known at a seat of the station that has an address there.
+/// The hardware address of an address, as a seat knows it.
 fn find_at(ports: &Ports, mappers: &[Mapper], seat: Option<usize>, addr: Addr) -> Found
     ensures { result
         ≡ found_at ports.now.seats ports.now.own.items mappers.now seat addr }

@@ -1,4 +1,4 @@
-//! A frame that a station takes.
+//! A station takes a frame.
 
 ghost use Rattle.std.specs.Prelude.{◌≡◌, ◌⊎◌, ◌↔◌, false, IfErr, OnErr, OnOk, length};
 ghost use Rattle.std.specs.List.{list_any};
@@ -17,8 +17,8 @@ use cable_model::{Cables, Resolve};
 use station::Station as Taker;
 use std::alloc::Global;
 
-/// A station takes a frame, and what it puts out goes onto its cables. Errors: `NotPending`,
-/// `Full`, `Memory`. A refusal changes nothing.
+/// A station takes a frame, and its outputs go onto its cables. Errors: `NotPending`, `Full`,
+/// `Memory`. After an error nothing has changed.
 pub fn take<S: Taker, R: Resolve>(
     cables: &mut Cables,
     resolver: &R,
@@ -44,7 +44,7 @@ pub fn take<S: Taker, R: Resolve>(
     cables.take(stamp, station, taker, resolver)
 }
 
-/// What a response says that a station is to take, if it is one.
+/// The content of the frame that a station is about to take, if the frame is an AARP response.
 pub fn answer_of(cables: &Cables, stamp: u32, station: u16) -> Option<Answer>
     ensures { IsAnswer cables.now stamp station result }
 {
@@ -54,8 +54,8 @@ pub fn answer_of(cables: &Cables, stamp: u32, station: u16) -> Option<Answer>
     }
 }
 
-/// Holds what waits after a station took a frame, and learns what it was answered. Errors: `Full`,
-/// `Memory`.
+/// Holds the datagrams that wait after a station took a frame, and learns the mapping of a
+/// response. Errors: `Full`, `Memory`.
 pub fn follow(
     alloc: Global,
     cables: &mut Cables,

@@ -1,4 +1,4 @@
--- Tuples in place: the first of so many, and the others after it.
+-- Tuples in place: the first one, and those after it.
 use Rattle.std.proofs.Common.{◌≡◌, ℕ, suc, List, [], ◌∷◌, Ok, Err, refl, sym, ◌∙◌}
 use Rattle.at_base.specs.declared.error.Error.{Error}
 use Rattle.at_base.specs.Packets.{packets}
@@ -20,7 +20,7 @@ pub none_left : (bytes : List ℕ) → tuples_in 0 bytes ≡ []
 unfolding tuples_read
 none_left bytes = refl
 
--- what is left after the first tuple
+-- the facts about the tuples after the first one
 pub record Step (n : ℕ) (bytes : List ℕ) (t : Tuple) (after : List ℕ) : Type 0 where
   pub is : tuples_in (suc n) bytes ≡ t ∷ tuples_in n after
   pub rest : BeginWith n after

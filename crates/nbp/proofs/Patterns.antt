@@ -1,4 +1,4 @@
--- Patterns: where the first wildcard is, and that the test of a name says whether it matches.
+-- Patterns: the place of the first wildcard, and that the test of a match is right.
 use Rattle.std.proofs.Common.{◌≡◌, ℕ, suc, ◌+◌, ◌-◌, ◌<◌, ◌≤◌, Bool, true, false, cond, ◌||◌, ◌==◌, ltb, List, [], ◌∷◌, ◌++◌, length, map}
 use Rattle.std.proofs.Common.{take, drop, Option, Some, None, inl, inr, refl, sym, ap, ◌∙◌, arith, append_assoc, nat_le}
 use Rattle.std.specs.Prelude.{IsTrue, ◌↔◌, option_map}
@@ -11,12 +11,12 @@ use Rattle.at_base.specs.Text.{is_only, same_name, SameName}
 use Rattle.at_base.proofs.Texts.{same_name_is, is_same_name}
 use Rattle.nbp.specs.Matching.{split_at_wildcard, Matches, IsLike, is_around, is_like, matches}
 
--- ---- The first wildcard
+-- ---- the first wildcard
 
 abbrev is_wildcard : ℕ → Bool
 is_wildcard b = b == 0xC5
 
--- the parts by the number of the bytes before the wildcard
+-- the parts of a pattern around the byte with this index
 abbrev pub split_after : ℕ → List ℕ → List ℕ × List ℕ
 split_after n bytes = (take n bytes, drop (n + 1) bytes)
 
@@ -48,7 +48,7 @@ not_split (b ∷ bytes) le =
           rw (t, not_split bytes (omega (arith, less))) refl
     ]) refl
 
--- the parts by the index of the first wildcard
+-- the parts of a pattern around its first wildcard
 pub split_at : (bytes : List ℕ) → split_at_wildcard bytes ≡ option_map (λ i. split_after i bytes) (position is_wildcard bytes)
 split_at bytes = by_place (ltb (position_or_len is_wildcard bytes) (length bytes)) refl
   where
@@ -57,11 +57,11 @@ split_at bytes = by_place (ltb (position_or_len is_wildcard bytes) (length bytes
     by_place true t = split_there bytes (ltb-true _ _ t)
     by_place false t = not_split bytes (ltb-false _ _ t)
 
--- all that is left after some bytes
+-- the rest of a list after its first bytes
 pub rest_of : (n : ℕ) (bytes : List ℕ) → take (length bytes - n) (drop n bytes) ≡ drop n bytes
 rest_of n bytes = ap (λ (k : ℕ). take k (drop n bytes)) (sym (length-drop n bytes)) ∙ take-length (drop n bytes)
 
--- ---- The test says whether a name matches
+-- ---- the test of a match is right
 
 abbrev lower : List ℕ → List ℕ
 lower = map to_ascii_lowercase
@@ -69,7 +69,7 @@ lower = map to_ascii_lowercase
 drop_more : (m n : ℕ) (bytes : List ℕ) → drop n (drop m bytes) ≡ drop (m + n) bytes
 drop_more m n bytes = drop-drop n m bytes
 
--- what a wildcard between the two stands for in the name
+-- the bytes of the name that a wildcard between the two parts matches
 abbrev run_in : List ℕ → List ℕ → List ℕ → List ℕ
 run_in before after name = take (length name - length after - length before) (drop (length before) name)
 
@@ -141,7 +141,7 @@ or_right : (a b : Bool) → b ≡ true → (a || b) ≡ true
 or_right true b h = refl
 or_right false b h = h
 
--- the test says whether the name matches
+-- the test holds exactly if the pattern matches the name
 pub decides : (pattern name : List ℕ) → IsTrue (matches pattern name) ↔ Matches pattern name
 decides pattern name = (there (is_only 61 pattern) refl, back)
   where

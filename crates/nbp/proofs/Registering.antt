@@ -1,4 +1,4 @@
--- Registered names: the least free enumerator, and what a name more or less leaves of them.
+-- Registered names: the least free enumerator, and the effects of adding and removing a name.
 use Rattle.std.proofs.Common.{◌≡◌, ℕ, zero, suc, ◌+◌, ◌<◌, ◌≤◌, Bool, true, false, not, ◌||◌, ◌==◌, List, [], ◌∷◌, length, filter, insert}
 use Rattle.std.proofs.Common.{refl, ap, arith, nat_lt, nat_le}
 use Rattle.std.specs.List.{All}
@@ -8,7 +8,7 @@ use Rattle.at_base.specs.Text.{IsEntity, is_entity}
 use Rattle.nbp.specs.declared.names.Named.{Named}
 use Rattle.nbp.specs.Registered.{IsNamed, IsNames, IsLeastFree, are_above, is_registrable, has, free_from, with_name, without, before}
 
--- ---- Names above a number
+-- ---- names above a number
 
 above_lower : (low high : ℕ) (names : List Named) → low ≤ high → are_above high names ≡ true → are_above low names ≡ true
 above_lower low high [] le h = refl
@@ -17,7 +17,7 @@ above_lower low high (n ∷ names) le h =
     let first : nat_lt low n.enumerator ≡ true = lt-ltb _ _ (omega (arith, ltb-true _ _ p.0)) in
     rw (first, p.1) refl
 
--- no name has a number that all are above
+-- no name has a number that all names are above
 none_has : (m low : ℕ) (names : List Named) → m ≤ low → are_above low names ≡ true → has m names ≡ false
 none_has m low [] le h = refl
 none_has m low (n ∷ names) le h =
@@ -26,9 +26,9 @@ none_has m low (n ∷ names) le h =
     let other : (n.enumerator == m) ≡ false = ne_eqb n.enumerator m (λ e. omega (arith, e, lt, le)) in
     rw (other, none_has m n.enumerator names (omega (arith, lt, le)) p.1) refl
 
--- ---- The least free enumerator
+-- ---- the least free enumerator
 
--- what is known of a number of which a search says that it is the first free one above a low one
+-- the facts about the first free number from low on
 record IsFirstFree (low n : ℕ) (names : List Named) : Type 0 where
   some : low < n
   free : has n names ≡ false
@@ -84,9 +84,9 @@ least_free names h =
       least = λ m some lt. f.least m (omega (arith, some)) lt;
     }
 
--- ---- Names with one more
+-- ---- names with one more
 
--- a name that is put in its place
+-- inserting a name at its place
 pub put_at : (name : Named) (names : List Named) → insert names (before name.enumerator names) name ≡ with_name name names
 put_at name [] = refl
 put_at name (n ∷ names) =
@@ -140,7 +140,7 @@ each_with name (n ∷ names) new each =
       | false ↦ λ t. rw t (all_cons name (n ∷ names) new each)
     ]) refl
 
--- a name with an enumerator that none has
+-- names with one more are valid if its enumerator is free
 pub names_with : (name : Named) (names : List Named) → IsNamed name → has name.enumerator names ≡ false → length names < 32 → IsNames names
     → IsNames (with_name name names)
 names_with name names new free room h = record {
@@ -149,7 +149,7 @@ names_with name names new free room h = record {
   each = each_with name names new h.each;
 }
 
--- a text that may be registered
+-- a text that may be registered is an object or a type
 pub entity_of : (text : List ℕ) → is_registrable text ≡ true → length text ≤ 32 → IsEntity text
 entity_of text h few =
     let p = and_parts (nat_le 1 (length text)) (is_entity text) h in
@@ -162,7 +162,7 @@ not_free names n h = by (has n names) h.free
     by true e = absurd cc
     by false e = refl
 
--- a name that is registered with the least free enumerator
+-- a name registered with the least free enumerator keeps the names valid
 pub registered : (name : Named) (names : List Named) → 1 ≤ name.socket → name.socket ≤ 254 → is_registrable name.object ≡ true
     → is_registrable name.kind ≡ true → length name.object ≤ 32 → length name.kind ≤ 32 → name.enumerator ≡ free_from 1 names
     → length names < 32 → IsNames names → IsNames (with_name name names)
@@ -177,7 +177,7 @@ registered name names low high object kind few_object few_kind is room h =
       kind = entity_of name.kind kind few_kind;
     }) free room h
 
--- ---- Names without one
+-- ---- names with one less
 
 above_filter : (p : Named → Bool) (low : ℕ) (names : List Named) → are_above low names ≡ true → are_above low (filter p names) ≡ true
 above_filter p low [] h = refl

@@ -1,5 +1,5 @@
--- The format of a packet: each part stands where its projection finds it; the bytes of a packet of one tuple; and that
--- they are read back.
+-- The format of an NBP packet: each projection gives its part; the bytes of a packet with one tuple; and that they are
+-- read back.
 use Rattle.std.proofs.Common.{◌≡◌, ℕ, zero, suc, ◌+◌, ◌*◌, ◌/◌, ◌<◌, ◌≤◌, Bool, true, false, cond, List, [], ◌∷◌, ◌++◌, length, Some, None}
 use Rattle.std.proofs.Common.{refl, sym, ap, ◌∙◌, arith, append_assoc}
 use Rattle.std.specs.Prelude.{nat_lt, ◌||◌, ◌==◌, ◌%◌}
@@ -20,7 +20,7 @@ use Rattle.nbp.specs.declared.packet.Function.TheVariants.{BroadcastRequest, Loo
 use Rattle.nbp.specs.declared.tuple.Tuple.{Tuple}
 use Rattle.nbp.specs.Packets.{NbpPacket, IsTuple, tuple, packet, packet_of, front_bytes, key, number_of, function_of, is_function, is_count}
 
--- ---- Each part stands where its projection finds it
+-- ---- each projection gives its part
 
 pub tuple_lawful : IsLawful tuple
 unfolding tuple
@@ -67,7 +67,7 @@ packet_lawful = (
   ),
 )
 
--- ---- The bytes of a packet of one tuple
+-- ---- the bytes of a packet with one tuple
 
 no_more : (o k z : List ℕ) (m n : ℕ) → ((o ++ []) ++ (m ∷ ((k ++ []) ++ (n ∷ ((z ++ []) ++ []))))) ++ [] ++ [] ≡ o ++ (m ∷ (k ++ (n ∷ z)))
 no_more o k z m n =
@@ -93,7 +93,7 @@ function_small Lookup = omega arith
 function_small Reply = omega arith
 function_small ForwardRequest = omega arith
 
--- the bytes as they are written
+-- the bytes of a packet with one tuple, as they are written
 pub written : (f : Function) (id : ℕ) (t : Tuple) → id < 256 → t.at.node < 256 → t.socket < 256 → t.enumerator < 256
     → length t.object ≤ 32 → length t.kind ≤ 32 → length t.zone ≤ 32
     → front_bytes f id t.at t.socket t.enumerator ++ (length t.object ∷ t.object) ++ (length t.kind ∷ t.kind) ++ (length t.zone ∷ t.zone)
@@ -113,7 +113,7 @@ written f id t small node socket enumerator object kind zone =
     append_assoc t.object (length t.kind ∷ t.kind) (length t.zone ∷ t.zone) in
     rw (laid f id t, a, b, c, d, e, o, k, z, parts) refl
 
--- ---- What was written is read back
+-- ---- reading back what was written
 
 right_length : (least n : ℕ) → least ≤ n → n ≤ 32 → within least 32 NameLength n ≡ None
 right_length least n some few =
@@ -155,7 +155,7 @@ read_back f id t rest small h =
     let b = spelled_begins packet (bytes_of packet (packet_of f id t)) rest (packet_of f id t) (packet_value f id t small h, refl) in
     (b, λ p c. begins_one packets packet packet_lawful (bytes_of packet (packet_of f id t) ++ rest) (packet_of f id t) p b c)
 
--- ---- A request has one tuple
+-- ---- a request has one tuple
 
 right_count : (b c : Bool) (v w : Error) → cond b (cond c None (Some v)) (Some w) ≡ None → c ≡ true
 right_count true true v w h = refl
@@ -196,7 +196,7 @@ is_tuple t (((net, good_net), ((node, good_node), at)), ((socket, good), ((enume
   zone_few = (text_bounds 0 t.zone zone).1;
 }
 
--- a list of one
+-- a list of length 1 that passes has one valid tuple
 only_one : (f : Function) (id : ℕ) (tuples : List Tuple) → length tuples ≡ 1 → ListPasses (λ low. IsValue tuple) (λ t. 0) 0 tuples
     → (t : Tuple) × IsTuple t × (record { function = f; id = id; tuples = tuples } ≡ packet_of f id t)
 only_one f id [] one each = absurd (omega arith)
@@ -220,14 +220,14 @@ pub one_tuple : (p : NbpPacket) (bytes : List ℕ) → Begins packet bytes p →
     → (t : Tuple) × IsTuple t × (p ≡ packet_of p.function p.id t)
 one_tuple p bytes (rest, parts, h, f) other = one_in p.function p.id p.tuples other h
 
--- ---- The key of a request
+-- ---- the key of a request
 
--- the first byte alone has the function
+-- only the first byte depends on the function
 pub same_key : (f g : Function) (id : ℕ) (t : Tuple) → key (packet_of f id t) ≡ key (packet_of g id t)
 unfolding packet
 same_key f g id t = refl
 
--- bytes that follow the packet are no part of it
+-- bytes after the packet aren't part of its key
 pub key_alone : (p q : NbpPacket) (bytes rest : List ℕ) → Begins packet bytes p → Begins packet (bytes ++ rest) q → key q ≡ key p
 key_alone p q bytes rest (after, parts, h, f) c =
     let b : Begins packet (bytes ++ rest) p = (

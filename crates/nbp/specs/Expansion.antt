@@ -1,4 +1,5 @@
--- What a router asks where it is asked for names in a zone. (Inside AppleTalk, the chapter on NBP)
+-- The lookups and forwarded requests that a router sends for a request for names in a zone. (Inside AppleTalk, the
+-- chapter on NBP)
 use Rattle.std.specs.Prelude.{ℕ, ◌<◌, List, [], map, Option, Some, None, position, if◌then◌else◌}
 use Rattle.at_base.specs.Range.{Span, same_range}
 use Rattle.at_base.specs.Text.{is_name}
@@ -6,24 +7,26 @@ use Rattle.zip_zones.specs.Zones.{Known, ranges_of}
 use Rattle.nbp.specs.declared.expansion.Ask.{Ask}
 use Rattle.nbp.specs.declared.expansion.Ask.TheVariants.{Lookup, Forward}
 
--- the ranges whose lists have the zone, rising: none for the star, for nothing and for what is no zone's name
+-- the ranges whose lists have the zone, in rising order: none for `*`, an empty text and any other text that isn't a
+-- zone name
 abbrev pub listing : List ℕ → List Known → List Span
 listing zone table = if is_name zone then ranges_of zone table else []
 
--- a lookup by the port of the range, where there is one, and else a request forwarded to the range's first network
+-- a lookup on a port, if there is one, else a request forwarded to the range's first network
 abbrev pub ask_by : Span → Option ℕ → Ask
 ask_by range None = Forward range.start
 ask_by range (Some port) = Lookup port
 
--- what a router whose ports have these ranges asks for a range: a lookup by the first port that has it
+-- the packet that a router whose ports have these ranges sends for a range: a lookup on the first port with that range,
+-- else a forwarded request
 abbrev pub ask : List Span → Span → Ask
 ask ports range = ask_by range (position (same_range range) ports)
 
--- what a router whose ports have these ranges asks for a zone
+-- the packets that a router whose ports have these ranges sends for a request for names in a zone
 abbrev pub asks : List Span → List ℕ → List Known → List Ask
 asks ports zone table = map (ask ports) (listing zone table)
 
--- a lookup is by one of so many ports
+-- a lookup is on one of the first `ports` ports
 abbrev pub IsAskIn : ℕ → Ask → Type 0
 IsAskIn ports (Lookup port) = port < ports
 IsAskIn ports (Forward net) = Unit {0}

@@ -14,13 +14,13 @@ use Rattle.nbp.specs.declared.tuple.Tuple.{Tuple}
 use Rattle.nbp.specs.declared.packet.Function.{Function}
 use Rattle.nbp.specs.declared.packet.Function.TheVariants.{BroadcastRequest, Lookup, Reply, ForwardRequest}
 
--- a packet: what it is for, the ID by which its asker knows the replies, and its tuples
+-- a packet: its function, the ID by which a node matches replies with its request, and its tuples
 pub record NbpPacket : Type 0 where
   pub function : Function
   pub id : ℕ
   pub tuples : List Tuple
 
--- a tuple: who has the name or asks for it, and the name's object, type and zone
+-- the format of a tuple: the node that has the name or asks for it, and the name's object, type and zone
 unfoldable pub tuple : Grammar Error true Tuple
 tuple =
     part address (λ t. t.at) (λ at.
@@ -38,29 +38,29 @@ number_of Lookup = 2
 number_of Reply = 3
 number_of ForwardRequest = 4
 
--- the function of a number from 1 to 4
+-- the function with a number from 1 to 4
 abbrev pub function_of : ℕ → Function
 function_of n = if n == 1 then BroadcastRequest else if n == 2 then Lookup else if n == 3 then Reply else ForwardRequest
 
--- there is a function of this number
+-- a function has this number
 abbrev pub is_function : ℕ → Bool
 is_function f = nat_le 1 f && nat_le f 4
 
--- one tuple, and in a reply 1 to 15
+-- a packet with function number f may have n tuples: 1, or in a reply 1 to 15
 abbrev pub is_count : ℕ → ℕ → Bool
 is_count f n = n == 1 || (f == 3 && nat_le 1 n)
 
--- a function that there is, and a count that it may have
+-- the test of the first byte: its function exists, and may have its number of tuples
 abbrev pub wrong_head : ℕ → Option Error
 wrong_head b =
     if is_function (b / 16) then (if is_count (b / 16) (b % 16) then None else Some (BadField Count))
     else Some (BadField FunctionField)
 
--- the function and the number of the tuples, four bits each
+-- the first byte of a packet: the function and the number of the tuples, four bits each
 abbrev pub head : NbpPacket → ℕ
 head p = number_of p.function * 16 + length p.tuples
 
--- two bytes there; function and count, ID, so many tuples
+-- the format of a packet: two bytes at least; function and count, ID, and as many tuples as the count
 unfoldable pub packet : Grammar Error true NbpPacket
 packet =
     room 2 (field (number one wrong_head) head (λ h.
@@ -68,13 +68,13 @@ packet =
     list (λ low. tuple) (λ t. 0) (h % 16) (λ p. p.tuples) (λ tuples.
     done (record { function = function_of (h / 16); id = id; tuples = tuples })))))
 
--- ---- Packets in place
+-- ---- packets in place
 
--- what reading gives of so many tuples with which the bytes begin
+-- the result of reading count tuples at the front of the bytes
 unfoldable pub tuples_read : ℕ → List ℕ → Result (List Tuple × List ℕ) Error
 tuples_read count bytes = list_at (λ low. read packets tuple) (λ t. 0) 0 count bytes
 
--- the tuples with which the bytes begin, so many of them
+-- the count tuples at the front of the bytes
 abbrev pub tuples_in : ℕ → List ℕ → List Tuple
 tuples_in count bytes = found (tuples_read count bytes)
   where
@@ -82,31 +82,32 @@ tuples_in count bytes = found (tuples_read count bytes)
     found (Ok x) = x.0
     found (Err e) = []
 
--- the bytes begin with so many tuples
+-- the bytes begin with count tuples
 pub record BeginWith (count : ℕ) (bytes : List ℕ) : Type 0 where
   pub rest : List ℕ
   pub read : tuples_read count bytes ≡ Ok (tuples_in count bytes, rest)
 
--- the packet whose tuples are in place
+-- the packet with tuples in these bytes
 abbrev pub packet_in : Function → ℕ → ℕ → List ℕ → NbpPacket
 packet_in function id count bytes = record { function = function; id = id; tuples = tuples_in count bytes }
 
--- ---- Packets of one tuple
+-- ---- packets with one tuple
 
--- a packet of one tuple
+-- a packet with one tuple
 abbrev pub packet_of : Function → ℕ → Tuple → NbpPacket
 packet_of f id t = record { function = f; id = id; tuples = t ∷ [] }
 
--- the bytes of a packet of one tuple before its texts
+-- the bytes of a packet with one tuple, before its texts
 abbrev pub front_bytes : Function → ℕ → Addr → ℕ → ℕ → List ℕ
 front_bytes f id at socket enumerator =
     (number_of f * 16 + 1) ∷ id ∷ byte_at 1 at.net ∷ byte_at 0 at.net ∷ at.node ∷ socket ∷ enumerator ∷ []
 
--- what a request keeps from router to router: the ID and the bytes of its tuples
+-- the part of a request that routers don't change: the ID and the bytes of its tuples
 abbrev pub key : NbpPacket → List ℕ
 key p = drop 1 (bytes_of packet p)
 
--- A tuple that a packet may have: its numbers fit, its object and its type have 1 to 32 bytes, its zone at most 32.
+-- A tuple that a packet may have: its numbers fit their fields, its object and its type have 1 to 32 bytes, and its
+-- zone has at most 32.
 pub record IsTuple (t : Tuple) : Type 0 where
   pub at_net : t.at.net < 65536
   pub at_node : t.at.node < 256

@@ -1,4 +1,5 @@
-//! What a router asks where it is asked for names in a zone.
+//! The expansion of a request for names in a zone: the lookups and forwarded requests that a router
+//! sends.
 
 ghost use Rattle.std.specs.Prelude.{◌≡◌, ◌≤◌, length, map, position, IfOk, IsOkUnless};
 ghost use Rattle.std.specs.List.{All};
@@ -10,16 +11,17 @@ use at_base::{Error, Name, Range, is_zone_name};
 use std::alloc::Global;
 use zip_zones::ZoneTable;
 
-/// What a router asks for one cable of the zone that it was asked for.
+/// A packet that a router sends for one cable of the requested zone.
 #[derive(Clone, Copy, Debug, PartialEq, Eq)]
 pub enum Ask {
-    /// A lookup by the port of this index.
+    /// A lookup, sent on the port with this index.
     Lookup(usize),
     /// A request forwarded to the routers of this network.
     Forward(u16),
 }
 
-/// The ranges of the cables that have the zone. Error: `Memory`.
+/// The ranges of the cables that have the zone, in rising order; none if the text isn't a zone
+/// name. Error: `Memory`.
 fn listing(alloc: Global, zone: &[u8], table: &ZoneTable) -> Result<Vec<Range>, Error>
     ensures ok { IfOk result (λ ranges. ranges.items ≡ spec.listing zone.now table.now) }
     ensures few { IfOk result (λ ranges. length ranges.items ≤ 200) }
@@ -31,14 +33,14 @@ fn listing(alloc: Global, zone: &[u8], table: &ZoneTable) -> Result<Vec<Range>, 
     table.cables_of(&Name::of(zone))
 }
 
-/// The index of the port of a range.
+/// The index of the port with a range, if any.
 fn port_of(range: Range, ports: &[Range]) -> Option<usize>
     ensures { result ≡ position (same_range range) ports.now }
 {
     ports.iter().position(|port| range == *port)
 }
 
-/// What is asked for a range.
+/// The lookup or forwarded request for a range.
 fn ask_of(range: Range, ports: &[Range]) -> Ask
     ensures value { result ≡ spec.ask ports.now range }
     ensures inside { IsAskIn (length ports.now) result }
@@ -49,7 +51,7 @@ fn ask_of(range: Range, ports: &[Range]) -> Ask
     }
 }
 
-/// What is asked for each of the ranges. Error: `Memory`.
+/// The lookup or forwarded request for each of the ranges. Error: `Memory`.
 fn asks_of(alloc: Global, ranges: &[Range], ports: &[Range]) -> Result<Vec<Ask>, Error>
     ensures ok { IfOk result (λ made. made.items ≡ map (spec.ask ports.now) ranges.now) }
     ensures inside { IfOk result (λ made. All (IsAskIn (length ports.now)) made.items) }
@@ -62,10 +64,11 @@ fn asks_of(alloc: Global, ranges: &[Range], ports: &[Range]) -> Result<Vec<Ask>,
     Ok(asked)
 }
 
-/// What a router whose ports have these ranges asks where it is asked for names in a zone: for each
-/// range whose list has the zone, complete or not, in any case of its letters and by rising range, a
-/// lookup by the port of that very range, and where no port has it, a request forwarded to the
-/// range's first network. The star and what is no zone's name ask for nothing.
+/// The lookups and forwarded requests of a router whose ports have these ranges, for a request for
+/// names in a zone. They are for each range whose list has the zone, ignoring case, by rising
+/// range; the list needn't be complete. If a port has exactly the range, it is a lookup on that
+/// port, else a request forwarded to the range's first network. `*` and texts that aren't zone
+/// names give none.
 ///
 /// Inside AppleTalk, the chapter on NBP. Error: `Memory`.
 pub fn expand(

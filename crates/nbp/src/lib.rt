@@ -1,5 +1,5 @@
-//! Names of services: the packets that ask for them and answer, when a name matches a pattern, the
-//! names that a node has registered, and what a router asks for a zone.
+//! NBP, the names of services: packets, matching of names and patterns, the names registered on a
+//! node, and a router's expansion of requests.
 #![tactic(auto)]
 
 mod expansion;

@@ -1,4 +1,4 @@
-//! When a name matches a pattern.
+//! Matching names with patterns.
 
 ghost use Rattle.std.specs.Prelude.{◌≡◌, ◌↔◌, ◌==◌, IsTrue, option_map};
 ghost use Rattle.std.specs.List.{position};
@@ -6,7 +6,7 @@ ghost use Rattle.at_base.specs.Text.{is_only, same_name};
 ghost use Rattle.nbp.specs.Matching as spec;
 ghost use Rattle.nbp.specs.Matching.{Matches, is_around};
 
-/// The byte of a pattern that stands for any bytes.
+/// The byte of a pattern that matches any run of bytes.
 const WILDCARD: u8 = 0xC5;
 
 fn is_equals(pattern: &[u8]) -> bool
@@ -18,14 +18,14 @@ fn is_equals(pattern: &[u8]) -> bool
     }
 }
 
-/// Whether the texts are equal but for the case of letters.
+/// Whether the texts are equal, ignoring case.
 pub(crate) fn same(a: &[u8], b: &[u8]) -> bool
     ensures { result ≡ same_name a.now b.now }
 {
     a.eq_ignore_ascii_case(b)
 }
 
-/// Whether the name begins with `before`, and the rest of it ends with `after`.
+/// Whether the name begins with `before`, and the rest of it ends with `after`, ignoring case.
 fn is_between(before: &[u8], after: &[u8], name: &[u8]) -> bool
     ensures { result ≡ is_around before.now after.now name.now }
 {
@@ -41,7 +41,7 @@ fn wildcard_in(pattern: &[u8]) -> Option<usize>
     pattern.iter().position(|b| *b == WILDCARD)
 }
 
-/// The bytes before the first wildcard and those after it.
+/// The bytes before the first wildcard and those after it, if the pattern has one.
 fn split_at_wildcard(pattern: &[u8]) -> Option<(&[u8], &[u8])>
     ensures { option_map (λ x. (x.0.now, x.1.now)) result ≡ spec.split_at_wildcard pattern.now }
 {
@@ -49,7 +49,7 @@ fn split_at_wildcard(pattern: &[u8]) -> Option<(&[u8], &[u8])>
     Some((&pattern[..at], &pattern[at + 1..]))
 }
 
-/// Whether a pattern that isn't `=` alone matches the name.
+/// Whether a pattern other than `=` matches the name.
 fn is_like(pattern: &[u8], name: &[u8]) -> bool
     ensures { result ≡ spec.is_like pattern.now name.now (spec.split_at_wildcard pattern.now) }
 {
@@ -59,9 +59,9 @@ fn is_like(pattern: &[u8], name: &[u8]) -> bool
     }
 }
 
-/// Whether the name matches the pattern, without case of ASCII letters: `=` matches every name; a
-/// pattern without the byte C5 matches itself; in one with that byte, the first C5 stands for any
-/// bytes, and all others stand for themselves. Allocates nothing.
+/// Whether the pattern matches the name, ignoring the case of ASCII letters. `=` matches every
+/// name. A pattern without the byte C5 matches only itself. In a pattern with C5, the first C5
+/// matches any run of bytes, and any other C5 matches itself. Allocates nothing.
 ///
 /// Inside AppleTalk, the chapter on NBP.
 pub fn matches(pattern: &[u8], name: &[u8]) -> bool

@@ -1,4 +1,4 @@
-//! The names that a node has registered.
+//! The names registered on a node.
 
 ghost use Rattle.std.specs.Prelude.{◌≡◌, ◌↔◌, ◌≤◌, ◌<◌, ◌&&◌, ◌⊎◌, [], length, true, false, not};
 ghost use Rattle.std.specs.Prelude.{IsTrue, IfOk, IfErr, OnOk, OnErr, IsOkUnless, vec_len};
@@ -15,25 +15,25 @@ use at_base::{Addr, Error, Field, Text32, What, is_entity};
 use std::alloc::Global;
 use std::marker::Model;
 
-/// The most names of a node.
+/// The greatest number of names on a node.
 pub const MAX_NAMES: usize = 32;
 
-/// A name that a node has registered for one of its sockets. Its zone is the node's.
+/// A name registered for one of a node's sockets. Its zone is the node's.
 ///
 /// Inside AppleTalk, the chapter on NBP.
 #[derive(Clone, Copy, Debug, PartialEq, Eq)]
 pub struct Named {
-    /// The number of the socket, 1 to 254.
+    /// The socket number, 1 to 254.
     pub socket: u8,
-    /// The number that tells the names of a node apart, from 1.
+    /// The enumerator, from 1, which is unique among the node's names.
     pub enumerator: u8,
-    /// The object: 1 to 32 bytes, none of them the wildcard C5, and not `=` alone.
+    /// The object: 1 to 32 bytes, without the wildcard C5, and not just `=`.
     pub object: Text32,
-    /// The type, of which the same holds.
+    /// The type: 1 to 32 bytes, without the wildcard C5, and not just `=`.
     pub kind: Text32,
 }
 
-/// The names that a node has registered, which contracts see as a list.
+/// The names registered on a node. Contracts see them as a list.
 #[derive(Debug, Drop)]
 pub struct Names {
     names: Vec<Named>,
@@ -51,7 +51,7 @@ impl Model for Names {
     ghost invariant = { λ n. IsNames n.names.items };
 }
 
-/// Whether the text may be the object or the type of a name.
+/// Whether the text may be the object or the type of a registered name.
 fn is_registrable(text: &Text32) -> bool
     ensures value { result ≡ spec.is_registrable text.now }
     ensures few { length text.now ≤ 32 }
@@ -60,17 +60,17 @@ fn is_registrable(text: &Text32) -> bool
     1 <= text.len() && is_entity(text)
 }
 
-/// Whether a name may have this object and this type.
+/// Whether a registered name may have this object and this type.
 fn are_registrable(object: &Text32, kind: &Text32) -> bool
     ensures value { result ≡ (spec.is_registrable object.now && spec.is_registrable kind.now) }
     ensures few { (length object.now ≤ 32) × (length kind.now ≤ 32) }
 {
-    // Both are looked at always, so that both are known to be short.
+    // Both are always checked, so that both are known to be short.
     let is_kind = is_registrable(kind);
     is_registrable(object) && is_kind
 }
 
-/// Whether a name has this object and this type, whatever the case of their letters.
+/// Whether a name has this object and this type, ignoring case.
 fn is_taken(names: &[Named], object: &Text32, kind: &Text32) -> bool
     ensures { result ≡ spec.is_taken object.now kind.now names.now }
 {
@@ -87,7 +87,7 @@ fn has(names: &[Named], enumerator: u8) -> bool
     names.iter().any(|name| name.enumerator == enumerator)
 }
 
-/// The least enumerator from 1 that none of the names has, which rise by enumerator.
+/// The least enumerator, from 1, that none of the names has. The names rise by enumerator.
 fn least_free(names: &[Named]) -> u8
     requires few { length names.now ≤ 32 }
     ensures value { result ≡ free_from 1 names.now }
@@ -118,7 +118,7 @@ fn place_for(names: &[Named], enumerator: u8) -> usize
     index
 }
 
-/// Adds the name, where there is room for it.
+/// Inserts the name at its place. The vector must have room for it.
 fn put(names: &mut Vec<Named>, name: Named)
     requires { vec_len names.old < vec_capacity names.old }
     ensures { names.new.items ≡ with_name name names.old.items }
@@ -127,21 +127,21 @@ fn put(names: &mut Vec<Named>, name: Named)
     names.insert(index, name).unwrap();
 }
 
-/// Takes out the name with this enumerator.
+/// Removes the name with this enumerator.
 fn take_out(names: &mut Vec<Named>, enumerator: u8)
     ensures { names.new.items ≡ spec.without enumerator names.old.items }
 {
     names.retain(|name| name.enumerator != enumerator);
 }
 
-/// Whether the name's object and type match these patterns.
+/// Whether these patterns match the name's object and type.
 fn is_asked_for(object: &[u8], kind: &[u8], name: &Named) -> bool
     ensures { result ≡ spec.is_asked_for object.now kind.now name.now }
 {
     matches(object, name.object.as_slice()) && matches(kind, name.kind.as_slice())
 }
 
-/// The tuple that answers for a name, without an address and a zone.
+/// The tuple of a name for a reply, without an address and a zone.
 fn answer_for(name: &Named) -> Tuple
     ensures { result ≡ tuple_of name.now }
 {
@@ -155,7 +155,7 @@ fn answer_for(name: &Named) -> Tuple
     }
 }
 
-/// The tuples that answer for those of the names that both patterns match.
+/// The tuples of the names whose object and type match the patterns. Error: `Memory`.
 fn answers_of(
     alloc: Global,
     names: &[Named],
@@ -175,7 +175,7 @@ fn answers_of(
 }
 
 impl Names {
-    /// No names. Error: `Memory`.
+    /// An empty list of names. Error: `Memory`.
     pub fn new(alloc: Global) -> Result<Names, Error>
         ensures ok { IfOk result (λ names. names ≡ []) }
         ensures refused { IsOkUnless result Error.Memory }
@@ -185,8 +185,8 @@ impl Names {
         })
     }
 
-    /// These names, as they are given: at most 32 that a node may have, strictly rising by
-    /// enumerator; an object and a type may be there twice. Error: `Memory`.
+    /// The names as given: at most 32 valid names, strictly rising by enumerator. Two of them may
+    /// have the same object and type. Error: `Memory`.
     pub fn load(alloc: Global, names: &[Named]) -> Result<Names, Error>
         requires { IsNames names.now }
         ensures ok { IfOk result (λ loaded. loaded ≡ names.now) }
@@ -204,7 +204,7 @@ impl Names {
         self.names.as_slice()
     }
 
-    /// The same names. Error: `Memory`.
+    /// A copy of the names. Error: `Memory`.
     pub fn copy(&self) -> Result<Names, Error>
         ensures ok { IfOk result (λ names. names ≡ self.now) }
         ensures refused { IsOkUnless result Error.Memory }
@@ -213,11 +213,12 @@ impl Names {
         Ok(Names { names })
     }
 
-    /// Registers a name for a socket, and gives it the least free enumerator from 1.
+    /// Registers a name for a socket, with the least free enumerator from 1, and returns the
+    /// enumerator.
     ///
-    /// Errors: `BadName` where the object or the type is empty, is `=` alone or has a wildcard C5;
-    /// `BadField(Taken)` where the object and the type are registered, whatever the case of their
-    /// letters; `Full` where there are 32 names; `Memory`. A refusal changes nothing.
+    /// Errors: `BadName` where the object or the type is empty, is just `=` or has a wildcard C5;
+    /// `BadField(Taken)` where the object and the type are registered already, ignoring case;
+    /// `Full` where the node has 32 names; `Memory`. A refusal changes nothing.
     pub fn register(&mut self, object: Text32, kind: Text32, socket: u8) -> Result<u8, Error>
         requires low { 1 ≤ socket }
         requires high { socket ≤ 254 }
@@ -250,7 +251,7 @@ impl Names {
         if self.names.len() >= MAX_NAMES {
             return Err(Error::Full);
         }
-        // Room is made first: a refusal then leaves the names as they are.
+        // Room is made first, so that a refusal leaves the names as they are.
         self.names.reserve(1)?;
         let enumerator = least_free(self.names.as_slice());
         let name = Named {
@@ -263,9 +264,9 @@ impl Names {
         Ok(enumerator)
     }
 
-    /// Takes out the name with this enumerator. Allocates nothing.
+    /// Removes the name with this enumerator. Allocates nothing.
     ///
-    /// Error: `NoSuch(Name)` where there is none; nothing changes then.
+    /// Error: `NoSuch(Name)` where no name has it; nothing changes then.
     pub fn remove(&mut self, enumerator: u8) -> Result<(), Error>
         ensures removed { OnOk result (self.new ≡ spec.without enumerator self.old) }
         ensures unknown { (result ≡ Err (Error.NoSuch NoName))
@@ -280,8 +281,8 @@ impl Names {
         Ok(())
     }
 
-    /// What answers a lookup: the names whose object and type match these patterns, by rising
-    /// enumerator, each without an address and a zone. Error: `Memory`.
+    /// The tuples for the replies to a lookup: the names whose object and type match these
+    /// patterns, by rising enumerator, each without an address and a zone. Error: `Memory`.
     pub fn answer(&self, object: &[u8], kind: &[u8]) -> Result<Vec<Tuple>, Error>
         ensures ok { IfOk result (λ tuples. tuples.items ≡ answers object.now kind.now self.now) }
         ensures refused { IsOkUnless result Error.Memory }

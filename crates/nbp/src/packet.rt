@@ -1,4 +1,4 @@
-//! Packets that ask for names or answer: a reader that borrows, and a writer.
+//! NBP packets: a reader that borrows its input, and a writer.
 
 ghost use Rattle.std.specs.Prelude.{◌≡◌, ◌≢◌, ◌<◌, ◌≤◌, ◌∷◌, ◌++◌, ◌*◌, ◌+◌, ◌-◌, ◌/◌, ◌%◌, List};
 ghost use Rattle.std.specs.Prelude.{[], length, IfOk, IfNone, IfSome, IsOkUnless};
@@ -19,22 +19,22 @@ use at_base::{Addr, Bytes, Error, Field, Text32};
 use std::alloc::Global;
 use std::marker::Model;
 
-/// What a packet is for.
+/// The function of an NBP packet.
 ///
 /// Inside AppleTalk, the chapter on NBP.
 #[derive(Clone, Copy, Debug, PartialEq, Eq)]
 pub enum Function {
-    /// A node asks a router for the names of a zone.
+    /// A node asks a router to look up names in a zone.
     BroadcastRequest,
-    /// The nodes of a cable's zone are asked for their names.
+    /// The nodes of a zone on a cable are asked for their names.
     Lookup,
-    /// A node answers with names of its own.
+    /// A node replies with its names.
     Reply,
     /// A router asks the routers of another cable to look up names there.
     ForwardRequest,
 }
 
-/// The function of a number from 1 to 4.
+/// The function with a number from 1 to 4.
 fn named(number: u8) -> Function
     ensures { result ≡ function_of number }
 {
@@ -46,7 +46,7 @@ fn named(number: u8) -> Function
     }
 }
 
-/// The first byte: a function that there is, and a number of tuples that it may have.
+/// The first byte: a valid function, and a valid number of tuples for it.
 fn head_at(bytes: &[u8]) -> Result<(u8, &[u8]), Error>
     ensures read { Gives (λ x. (x.0, x.1.now)) result
         (field_at packets (number one wrong_head) bytes.now) }
@@ -65,7 +65,7 @@ fn head_at(bytes: &[u8]) -> Result<(u8, &[u8]), Error>
     Ok((head, rest))
 }
 
-/// Goes through so many tuples, and gives the bytes after them.
+/// Checks `count` tuples, and returns the bytes after them.
 fn check_tuples(count: u8, bytes: &[u8]) -> Result<&[u8], Error>
     ensures { Gives (λ rest. (tuples_in count bytes.now, rest.now)) result
         (tuples_read count bytes.now) }
@@ -80,7 +80,7 @@ fn check_tuples(count: u8, bytes: &[u8]) -> Result<&[u8], Error>
     Ok(rest)
 }
 
-/// The function, the ID, and the number of the tuples, which are in place.
+/// The packet, with its tuples in place, and the bytes after it.
 #[tactic(auto, unfolding(crate::specs::Packets::packet, crate::specs::Packets::tuples_read))]
 fn parts_of(bytes: &[u8]) -> Result<(Packet<'_>, &[u8]), Error>
     ensures { Gives (λ x. (x.0, x.1.now)) result (reading_spec.read packets spec.packet bytes.now) }
@@ -101,7 +101,7 @@ fn parts_of(bytes: &[u8]) -> Result<(Packet<'_>, &[u8]), Error>
     Ok((packet, rest))
 }
 
-/// A packet in place, which contracts see as a packet. It borrows the input.
+/// A packet in place. It borrows the input. Contracts see it as an `NbpPacket`.
 ///
 /// Inside AppleTalk, the chapter on NBP.
 #[derive(Debug, Drop)]
@@ -127,13 +127,13 @@ impl<'a> Model for Packet<'a> {
 }
 
 impl<'a> Packet<'a> {
-    /// The packet with which the bytes begin; what follows its tuples is ignored. Allocates
-    /// nothing.
+    /// The packet at the front of the bytes. Bytes after its tuples are ignored. Allocates nothing.
     ///
-    /// Errors, from left to right: `Truncated` below 2 bytes; `BadField` of `Function` where that
-    /// isn't 1 to 4, and of `Count` where there isn't one tuple, or in a reply at least one; then
-    /// `Truncated` where the input ends within a part, and `BadField(NameLength)` where an object
-    /// or a type hasn't 1 to 32 bytes, or a zone has more than 32.
+    /// Errors, from left to right: `Truncated` below 2 bytes; `BadField` of `Function` where the
+    /// function isn't 1 to 4, and of `Count` where the number of tuples isn't 1, or in a reply
+    /// isn't at least 1; then `Truncated` where the input ends within a part, and
+    /// `BadField(NameLength)` where an object or a type hasn't 1 to 32 bytes, or a zone has more
+    /// than 32.
     pub fn read(bytes: &'a [u8]) -> Result<Packet<'a>, Error>
         ensures { Reads packets spec.packet (λ d. d) (λ p. p) bytes.now result }
     {
@@ -143,21 +143,21 @@ impl<'a> Packet<'a> {
         }
     }
 
-    /// What it is for.
+    /// The function of the packet.
     pub fn function(&self) -> Function
         ensures { result ≡ self.now.function }
     {
         self.function
     }
 
-    /// The ID by which the asker knows the replies to its request.
+    /// The ID by which a node matches replies with its request.
     pub fn id(&self) -> u8
         ensures { result ≡ self.now.id }
     {
         self.id
     }
 
-    /// The first tuple; each packet has one.
+    /// The first tuple; every packet has one.
     pub fn first(&self) -> TupleView<'a>
         ensures first { (rest : List TupleValue) × (self.now.tuples ≡ result ∷ rest) }
         ensures alone { self.now.function ≢ Reply → self.now.tuples ≡ result ∷ [] }
@@ -179,7 +179,7 @@ impl<'a> Packet<'a> {
     }
 }
 
-/// The first of so many tuples with which the bytes begin, and the bytes after it.
+/// The first of the `left` tuples at the front of the bytes, and the bytes after it.
 fn next_in(left: u8, bytes: &[u8]) -> Option<(TupleView<'_>, &[u8])>
     requires { BeginWith left bytes.now }
     ensures none { IfNone result (left ≡ 0) }
@@ -197,7 +197,7 @@ fn next_in(left: u8, bytes: &[u8]) -> Option<(TupleView<'_>, &[u8])>
     }
 }
 
-/// The tuples of a packet that are left, which contracts see as a list.
+/// An iterator over the tuples that are left in a packet. Contracts see it as a list.
 #[derive(Debug, Drop)]
 pub struct Tuples<'a> {
     left: u8,
@@ -239,7 +239,7 @@ impl<'a> Iterator for Tuples<'a> {
     }
 }
 
-/// The first byte of a packet of one tuple.
+/// The first byte of a packet with one tuple.
 fn head(function: Function) -> u8
     ensures { result ≡ number_of function * 16 + 1 }
 {
@@ -251,7 +251,7 @@ fn head(function: Function) -> u8
     }
 }
 
-/// The bytes before the texts.
+/// The bytes of a packet with one tuple before its texts.
 fn front(function: Function, id: u8, at: Addr, socket: u8, enumerator: u8) -> [u8; 7]
     ensures bytes { result ≡ front_bytes function id at socket enumerator }
     ensures fits { (at.node < 256) × (socket < 256) × (enumerator < 256) }
@@ -260,7 +260,7 @@ fn front(function: Function, id: u8, at: Addr, socket: u8, enumerator: u8) -> [u
     [head(function), id, high, low, at.node, socket, enumerator]
 }
 
-/// Writes a text after its length.
+/// Appends a length-prefixed text. Error: `Memory`.
 fn put_text(bytes: &mut Vec<u8>, text: &Text32) -> Result<(), Error>
     ensures put { IfOk result (λ _. bytes.new.items
         ≡ bytes.old.items ++ (length text.now ∷ text.now)) }
@@ -273,7 +273,7 @@ fn put_text(bytes: &mut Vec<u8>, text: &Text32) -> Result<(), Error>
     Ok(())
 }
 
-/// The bytes of a packet of one tuple. Allocates exactly its length.
+/// The bytes of a packet with one tuple. Allocates exactly the packet's length.
 ///
 /// Inside AppleTalk, the chapter on NBP.
 ///
@@ -281,7 +281,7 @@ fn put_text(bytes: &mut Vec<u8>, text: &Text32) -> Result<(), Error>
 pub fn write(alloc: Global, function: Function, id: u8, tuple: &Tuple) -> Result<Bytes, Error>
     ensures ok { IfOk result (λ bytes. bytes
         ≡ bytes_of spec.packet (packet_of function id tuple.now)) }
-    // The first 7 bytes, and three texts of at most 33 each.
+    // The packet has 7 bytes, and three texts of at most 33 bytes each.
     ensures short { IfOk result (λ bytes. length bytes ≤ 106) }
     ensures refused { IsOkUnless result Error.Memory }
 {

@@ -1,4 +1,4 @@
-//! Tuples of packets: a name, and who has it or asks for it.
+//! Tuples of NBP packets: a name, and the node that has it or asks for it.
 
 ghost use Rattle.std.specs.Prelude.{◌≡◌, ◌≤◌, length, IfOk};
 ghost use Rattle.at_base.specs.Packets.{packets, any, text};
@@ -9,26 +9,26 @@ use at_base::packet::{address_at, byte_at, text_at};
 use at_base::{Addr, Error, Text32};
 use std::marker::Model;
 
-/// A name, and who has it or asks for it.
+/// A name, and the node that has it or asks for it.
 ///
 /// Inside AppleTalk, the chapter on NBP.
 #[derive(Clone, Copy, Debug, PartialEq, Eq)]
 pub struct Tuple {
     /// The address of the node.
     pub at: Addr,
-    /// The number of its socket.
+    /// The number of the node's socket.
     pub socket: u8,
-    /// The number that tells names of one socket apart; 0 in a request.
+    /// The number that distinguishes the names of one socket; 0 in a request.
     pub enumerator: u8,
     /// The object, or a pattern for it.
     pub object: Text32,
     /// The type, or a pattern for it.
     pub kind: Text32,
-    /// The zone. In a lookup, an empty one and `*` stand for that of whoever hears it.
+    /// The zone. In a lookup, an empty zone and `*` mean the zone of the receiving node.
     pub zone: Text32,
 }
 
-/// A tuple in place, which contracts see as a tuple. It borrows the input.
+/// A tuple in place. It borrows the input. Contracts see it as a tuple.
 #[derive(Debug, Drop)]
 pub struct TupleView<'a> {
     at: Addr,
@@ -69,14 +69,14 @@ impl<'a> TupleView<'a> {
         self.at
     }
 
-    /// The number of its socket.
+    /// The number of the node's socket.
     pub fn socket(&self) -> u8
         ensures { result ≡ self.now.socket }
     {
         self.socket
     }
 
-    /// The number that tells names of one socket apart; 0 in a request.
+    /// The number that distinguishes the names of one socket; 0 in a request.
     pub fn enumerator(&self) -> u8
         ensures { result ≡ self.now.enumerator }
     {
@@ -101,7 +101,7 @@ impl<'a> TupleView<'a> {
         self.kind
     }
 
-    /// The zone. In a lookup, an empty one and `*` stand for that of whoever hears it.
+    /// The zone. In a lookup, an empty zone and `*` mean the zone of the receiving node.
     pub fn zone(&self) -> &'a [u8]
         ensures value { result.now ≡ self.now.zone }
         ensures few { length self.now.zone ≤ 32 }
@@ -109,7 +109,7 @@ impl<'a> TupleView<'a> {
         self.zone
     }
 
-    /// The tuple. Allocates nothing.
+    /// A copy of the tuple that owns its texts. Allocates nothing.
     pub fn copy(&self) -> Tuple
         ensures { result ≡ self.now }
     {
@@ -124,7 +124,7 @@ impl<'a> TupleView<'a> {
     }
 }
 
-/// A text after its length, in place: from `least` to 32 bytes.
+/// A length-prefixed text of `least` to 32 bytes, in place.
 fn name_at(bytes: &[u8], least: u8) -> Result<(&[u8], &[u8]), Error>
     ensures read { Gives (λ x. (x.0.now, x.1.now)) result
         (read packets (text least any) bytes.now) }

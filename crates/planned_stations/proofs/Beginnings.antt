@@ -1,4 +1,4 @@
--- A router's table takes the lists of its cables.
+-- A router's zone table accepts the lists of its cables.
 use Rattle.std.proofs.Common.{◌≡◌, ◌⊎◌, inl, inr, ℕ, suc, ◌+◌, ◌-◌, ◌<◌, ◌≤◌, Bool, true, false, not, ◌||◌, IsTrue, List, [], ◌∷◌, length}
 use Rattle.std.proofs.Common.{Option, Some, None, drop, take, slice_index_or, refl, sym, ap, ◌∙◌, subst, arith, nat_lt, nat_le, if◌then◌else◌}
 use Rattle.std.proofs.Common.{◌↔◌, ◌++◌, IfErr, IsOkUnless, OnOk, Ok, Err, Result, append_assoc, leb-true, map, slice_get, zero}
@@ -39,7 +39,7 @@ not_is : (b : Bool) → IsTrue (not b) → b ≡ false
 not_is true h = absurd cc
 not_is false h = refl
 
--- what holds of no list of a table and not of a further one holds of none of the table with it
+-- A property of no list of a table and not of a further list is a property of none of the table with that list.
 none_with : (f : Known → Bool) (known : Known) (table : List Known) → f known ≡ false → list_any f table ≡ false
     → list_any f (with_known known table) ≡ false
 none_with f known [] e none = rw e refl
@@ -57,7 +57,7 @@ none_with f known (k ∷ table) e none =
           ]
     ]
 
--- a range that meets no list overlaps no other one
+-- A range that overlaps no list of a table overlaps no other list of it.
 pub no_other : (range : Span) (table : List Known) → list_any (λ k. overlaps k.range range) table ≡ false
     → overlaps_another range table ≡ false
 no_other range [] none = refl
@@ -69,7 +69,7 @@ no_other range (k ∷ table) none =
 
 -- ---- The ports after the first
 
--- the cables of further ports are as free as they were, where none of them meets the first one's
+-- The cables of the remaining ports stay free, because none of them overlaps the first port's cable.
 free_after : (cables : List Cable) (table : List Known) (p : Port) (ps : List Port)
     → IsTrue (list_all (λ q. not (meet cables p q)) ps) → IsTrue (are_free cables table ps)
     → IsTrue (are_free cables (with_cable table (cable_at cables p.cable)) ps)
@@ -92,7 +92,7 @@ free_after cables table p (q ∷ ps) apart free =
         rw (none_with (λ k. overlaps k.range c.range) (set_list d.range d.zones) table away
         (not_is (list_any (λ k. overlaps k.range c.range) table) free)) refl
 
--- what is wanted of ports and of a table that takes the lists of their cables
+-- The ports are valid, and the table accepts the lists of their cables.
 abbrev pub Fit : List Cable → List Known → List Port → Type 0
 Fit cables table ports =
     IsTrue (list_all (is_port cables) ports)
@@ -129,7 +129,7 @@ pub rest_shorter : {X : Type 0} (xs : List X) → 1 ≤ length xs → length (ta
 rest_shorter [] some = absurd (omega (arith, some))
 rest_shorter (x ∷ xs) some = subst (λ l. length l < suc (length xs)) (sym (others x xs)) (omega arith)
 
--- ---- A table that takes a list
+-- ---- A table that accepts a list
 
 pub at_index : {X : Type 0} (xs : List X) (i : ℕ) (x : X) → i < length xs → x ≡ slice_index_or xs i x → slice_get xs i ≡ Some x
 at_index [] i x lt is = absurd (omega (arith, lt))
@@ -142,7 +142,7 @@ all_index f [] i x lt is h = absurd (omega (arith, lt))
 all_index f (y ∷ ys) zero x lt is h = subst (λ z. IsTrue (f z)) (sym is) (and_parts (f y) (list_all f ys) h).0
 all_index f (y ∷ ys) (suc i) x lt is h = all_index f ys i x (omega (arith, lt)) is (and_parts (f y) (list_all f ys) h).1
 
--- the number of a port's cable is that of one of the cables
+-- The number of a port's cable is that of one of the cables.
 pub port_there : (cables : List Cable) (p : Port) → IsTrue (is_port cables p) → p.cable - 1 < length cables
 port_there cables p h =
     let number = and_parts (is_between 1 (length cables) p.cable) (may_try_on (cable_at cables p.cable) p.tries) h in
@@ -156,7 +156,7 @@ few_zones c h =
     let parts = and_parts (is_range c.range.start c.range.end) (is_between 1 64 (length c.zones)) h in
     leb-true (length c.zones) 64 (and_parts (nat_le 1 (length c.zones)) (nat_le (length c.zones) 64) parts.1).1
 
--- a list of a cable of which the table has no network is refused for memory alone
+-- Setting the list of a cable, of which the table has no network, can only fail because of memory.
 pub set_for_memory : (r : Result (Unit {0}) Error) (c : Cable) (names : List (List ℕ)) (table : List Known)
     → IfErr r (λ e. (e ≡ BadRange) ⊎ (e ≡ Full) ⊎ (e ≡ Memory))
     → (r ≡ Err BadRange) ↔ (overlaps_another c.range table ≡ true)
@@ -182,7 +182,7 @@ set_for_memory (Err e) c names table which range full same valid free room =
         let most = leb-true 200 (length t) parts.1 in
         absurd (omega (arith, most, room))
 
--- an empty table has no network of any cable
+-- An empty table has no network of any cable.
 pub all_free : (cables : List Cable) (ports : List Port) → IsTrue (are_free cables [] ports)
 all_free cables [] = refl
 all_free cables (p ∷ ps) =
@@ -192,9 +192,9 @@ all_free cables (p ∷ ps) =
     one None = refl
     one (Some c) = refl
 
--- ---- Nodes that begin
+-- ---- Nodes before the first tick
 
--- stations, with nodes that begin as is planned
+-- The stations, followed by nodes as they are before the first tick.
 abbrev pub WithNodes : List Cable → List Node → List (Member Living LivingNode) → List (Member Living LivingNode) → Type 0
 WithNodes cables nodes before new = (lives : List LivingNode) × AreNodesBegun cables nodes lives × (new ≡ before ++ map member.Node lives)
 
@@ -232,6 +232,6 @@ all_ports cables (r ∷ rs) ns ls h =
     (length-map (port_begun cables) r.port)
     ∙ ap (λ ps. length r.port ∷ ps) (all_ports cables rs ns ls h)
 
--- stations that begin have the ports that are planned
+-- The stations before the first tick have the ports of the plan.
 pub begun_ports : (p : Planned) (ms : List (Member Living LivingNode)) → AreBegun p ms → map ports_of ms ≡ planned_ports p
 begun_ports p ms h = ap (map ports_of) h.are ∙ all_ports p.cables p.routers p.nodes h.nodes h.each

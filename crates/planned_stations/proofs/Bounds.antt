@@ -1,4 +1,4 @@
--- The numbers of a sound plan fit where seats and images have them.
+-- The numbers of a sound plan fit into seats and images.
 use Rattle.std.proofs.Common.{◌≡◌, ℕ, ◌≤◌, true, ◌&&◌, IsTrue, List, [], ◌∷◌, length, nat_le, refl, arith, leb-true, le-leb}
 use Rattle.std.specs.List.{list_all}
 use Rattle.std.proofs.lemmas.Bool.{and_parts, and_from}

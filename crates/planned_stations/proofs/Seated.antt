@@ -23,19 +23,19 @@ use Rattle.planned_stations.specs.Seating.{node_seats, plan_seats, port_seats, r
 
 -- ---- Seats, station by station
 
--- These are the seats of a station with so many ports, in any order, at most one on a cable.
+-- The seats are those of a station with this many ports, in any order, at most one on a cable.
 record IsRow (station ports : ℕ) (seats : List Seat) : Type 0 where
   inside : Each (λ s. (s.station ≡ station) × (s.port < ports)) seats
   seated : (q : ℕ) → q < ports → (k : ℕ) × (s : Seat) × At seats k s × (s.port ≡ q)
   one : (c : ℕ) → count (λ s. s.cable == c) seats ≤ 1
 
--- these are the seats of stations that are numbered from one on and have so many ports
+-- The seats are those of stations that are numbered from `station` on and have these numbers of ports.
 abbrev Laid : ℕ → List ℕ → List Seat → Type 0
 Laid station [] seats = seats ≡ []
 Laid station (n ∷ ns) seats =
     (mine : List Seat) × (rest : List Seat) × (seats ≡ mine ++ rest) × IsRow station n mine × Laid (station + 1) ns rest
 
--- the first stations, and further ones
+-- The seats of the first stations, followed by those of further ones.
 laid-append : (station : ℕ) (ns ms : List ℕ) (xs ys : List Seat) → Laid station ns xs → Laid (station + length ns) ms ys
     → Laid station (ns ++ ms) (xs ++ ys)
 laid-append station [] ms xs ys h g =
@@ -50,7 +50,7 @@ laid-append station (n ∷ ns) ms xs ys h g = (
 
 -- ---- Elements of two lists
 
--- an element of one of two lists
+-- An element of one of two lists.
 at_either : {X : Type 0} (xs ys : List X) (k : ℕ) (x : X) → At (xs ++ ys) k x → ((j : ℕ) × At xs j x) ⊎ ((j : ℕ) × At ys j x)
 at_either [] ys k x h = inr (k, h)
 at_either (y ∷ xs) ys zero x h = inl (zero, h)
@@ -68,9 +68,9 @@ at_second : {X : Type 0} (xs ys : List X) (k : ℕ) (x : X) → At ys k x → (j
 at_second [] ys k x h = (k, h)
 at_second (y ∷ xs) ys k x h = let r = at_second xs ys k x h in (suc r.0, r.1)
 
--- ---- What holds of such seats
+-- ---- Properties of such seats
 
--- each is of one of these stations
+-- Each seat is of one of these stations.
 laid_within : (station : ℕ) (ns : List ℕ) (xs : List Seat) → Laid station ns xs
     → Each (λ s. (station ≤ s.station) × (s.station < station + length ns)) xs
 laid_within station [] xs h = subst (Each (λ s. (station ≤ s.station) × (s.station < station + 0))) (sym h) tt
@@ -84,7 +84,7 @@ laid_within station (n ∷ ns) xs h =
     (λ s p. let low = p.0 in let high = p.1 in (omega (arith, low), omega (arith, high)))
     (laid_within (station + 1) ns h.1 h.4)))
 
--- those of one of them
+-- The seats of one of these stations.
 laid_each : (station : ℕ) (ns : List ℕ) (xs : List Seat) (j n : ℕ) → Laid station ns xs → At ns j n
     → Each (λ s. s.station ≡ station + j → s.port < n) xs
     × ((q : ℕ) → q < n → (k : ℕ) × (s : Seat) × At xs k s × (s.station ≡ station + j) × (s.port ≡ q))
@@ -123,7 +123,7 @@ laid_each station (m ∷ ns) xs (suc j) n h at =
           let is = w.3 in (k.0, w.1, subst (λ l. At l k.0 w.1) (sym h.2) k.1, omega (arith, is), w.4),
     )
 
--- the seats of a station
+-- The seats of a station.
 laid_seats : (ns : List ℕ) (xs : List Seat) → Laid 0 ns xs → AreSeated xs ns
 laid_seats ns xs h = record {
   each = λ k n at.
@@ -142,7 +142,7 @@ laid_seats ns xs h = record {
       omega (arith, is);
 }
 
--- a station has one seat at most on a cable
+-- A station has at most one seat on a cable.
 laid_one : (station : ℕ) (ns : List ℕ) (xs : List Seat) → Laid station ns xs → HasOneSeat xs
 laid_one station [] xs h c k = subst (λ l. count (λ (s : Seat). s.cable == c && s.station == k) l ≤ 1) (sym h) (omega arith)
 laid_one station (n ∷ ns) xs h c k = by (laid_one (station + 1) ns h.1 h.4 c k) (k == station) refl
@@ -185,7 +185,7 @@ module _ (cables : List Cable) (valid : IsTrue (list_all is_cable cables)) where
   all_at t (y ∷ xs) zero x h at = let is : y ≡ x = cc in subst (λ z. IsTrue (t z)) is (and_parts (t y) (list_all t xs) h).0
   all_at t (y ∷ xs) (suc k) x h at = all_at t xs k x (and_parts (t y) (list_all t xs) h).1 at
 
-  -- a cable's range has a network in common with itself
+  -- A cable's range has a network in common with itself.
   with_itself : (c : Cable) → IsTrue (is_cable c) → overlaps c.range c.range ≡ true
   with_itself c h =
       let valid = and_parts (is_range c.range.start c.range.end) (is_between 1 64 (length c.zones)) h in
@@ -193,7 +193,7 @@ module _ (cables : List Cable) (valid : IsTrue (list_all is_cable cables)) where
       let mid = (and_parts (nat_le 1 c.range.start) (nat_le c.range.start c.range.end) low.0).1 in
       and_from (nat_le c.range.start c.range.end) (nat_le c.range.start c.range.end) mid mid
 
-  -- two ports of one cable meet
+  -- The cables of two ports of one cable have a network in common.
   meets : (p q : Port) → IsTrue (is_port cables p) → p.cable - 1 ≡ q.cable - 1 → meet cables p q ≡ true
   meets p q h same = by (cable_at cables p.cable) refl (cable_at cables q.cable) refl
       (and_parts (nat_le 1 p.cable && nat_le p.cable (length cables)) (may_try_on (cable_at cables p.cable) p.tries) h).1
@@ -206,7 +206,7 @@ module _ (cables : List Cable) (valid : IsTrue (list_all is_cable cables)) where
           let one = all_at is_cable cables (p.cable - 1) c valid e in
           rw e (rw other (with_itself c one))
 
-  -- the ports that follow are on other cables
+  -- The ports that follow are on other cables.
   none_there : (station q c : ℕ) (p : Port) (ps : List Port) → IsTrue (is_port cables p) → p.cable - 1 ≡ c
       → IsTrue (list_all (λ r. not (meet cables p r)) ps) → Each (λ (s : Seat). (s.cable == c) ≡ false) (port_seats station q ps)
   none_there station q c p [] h is apart = tt
@@ -238,7 +238,7 @@ module _ (cables : List Cable) (valid : IsTrue (list_all is_cable cables)) where
           omega (arith, none, is)
       by first others rest false e = let is = ap one e in omega (arith, rest, is)
 
-  -- the ports are those of the router, by their numbers
+  -- The ports are those of the router, by their numbers.
   ports_inside : (station q : ℕ) (ps : List Port)
       → Each (λ s. (s.station ≡ station) × (s.port < q + length ps)) (port_seats station q ps)
   ports_inside station q [] = tt
@@ -277,7 +277,7 @@ module _ (cables : List Cable) (valid : IsTrue (list_all is_cable cables)) where
       by rest true e = (zero, _, refl, eqb-true q r e)
       by rest false e = let w = rest (apart_from q r low e) in (suc w.0, w.1, w.2, w.3)
 
-  -- the seats of a router
+  -- The seats of a router.
   router_row : (station : ℕ) (r : Router) → IsTrue (is_router cables r) → IsRow station (length r.port) (port_seats station 0 r.port)
   router_row station r h =
       let parts = and_parts (is_between 1 16 (length r.port) && list_all (is_port cables) r.port) (are_apart cables r.port) h in
@@ -298,7 +298,7 @@ module _ (cables : List Cable) (valid : IsTrue (list_all is_cable cables)) where
 
 -- ---- A node
 
--- the seat of a node
+-- The seat of a node.
 node_row : (station : ℕ) (s : Seat) → s.station ≡ station → s.port ≡ 0 → IsRow station 1 (s ∷ [])
 node_row station s here port = record {
   inside = ((here, omega (arith, port)), tt);

@@ -1,4 +1,4 @@
--- The stations of a plan: their ports, and the seats that these need. This project's own.
+-- The stations of a plan: their ports, and the seats that these need.
 use Rattle.std.specs.Prelude.{◌≡◌, ℕ, ◌<◌, Bool, ◌&&◌, List, ◌++◌, Contains, length, map, nat_le, slice_get, Some}
 use Rattle.std.specs.List.{list_all}
 use Rattle.cable_model.specs.Outcomes.{AreSeatsOf}
@@ -12,27 +12,27 @@ use Rattle.internet_file.specs.declared.router.Router.{Router}
 use Rattle.live_node.specs.Living.{LivingNode}
 use Rattle.live_router.specs.Living.{Living}
 
--- the number of the port's cable is one of at most 200
+-- The number of the port's cable is at most 200.
 abbrev pub is_low_port : Port → Bool
 is_low_port p = nat_le p.cable 200
 
--- the router has at most 16 ports, with such numbers
+-- The router has at most 16 ports, whose cable numbers are at most 200.
 abbrev pub is_low_router : Router → Bool
 is_low_router r = nat_le (length r.port) 16 && list_all is_low_port r.port
 
--- the number of the node's cable is one of at most 200
+-- The number of the node's cable is at most 200.
 abbrev pub is_low_node : Node → Bool
 is_low_node n = nat_le n.cable 200
 
--- how many ports the stations of a plan have: the routers, then the nodes
+-- The number of ports of each station of a plan: of the routers, then of the nodes.
 abbrev pub planned_ports : Planned → List ℕ
 planned_ports p = map (λ r. length r.port) p.routers ++ map (λ n. 1) p.nodes
 
--- Stations with so many ports, each, have these seats.
+-- The seats are those of stations that have these numbers of ports.
 pub record AreSeated (seats : List Seat) (ports : List ℕ) : Type 0 where
   pub each : (k n : ℕ) → slice_get ports k ≡ Some n → AreSeatsOf seats k n
   pub within : (s : Seat) → Contains seats s → s.station < length ports
 
--- the number of a station's ports
+-- The number of a station's ports.
 abbrev pub ports_of : Member Living LivingNode → ℕ
 ports_of m = either (λ l. length l.router.ports) (λ n. 1) m

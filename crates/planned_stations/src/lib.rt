@@ -1,4 +1,4 @@
-//! The stations that a file plans, before anything has happened, and their seats on its cables.
+//! The stations of an internet file before its first tick, and their seats on its cables.
 #![tactic(auto)]
 
 mod plans;

@@ -1,4 +1,4 @@
-//! From a plan to the stations.
+//! Makes the stations of a plan.
 
 ghost use Rattle.std.specs.Prelude.{◌≡◌, ◌<◌, ◌≤◌, ◌+◌, ◌++◌, [], List, length, map, option_copied};
 ghost use Rattle.std.specs.Prelude.{IfOk, IsOkUnless, IsTrue, OnOk};
@@ -65,7 +65,8 @@ fn put_plans<'a>(
     }
 }
 
-/// Enters the zones of a port's cable, of which the table has no network. Error: `Memory`.
+/// Enters the zones of a port's cable into a table that has no network of that cable. Error:
+/// `Memory`.
 fn put_zones(zones: &mut ZoneTable, cables: &[Cable], port: &Port) -> Result<(), Error>
     requires there { IsTrue (is_port cables.now port.now) }
     requires cables { IsTrue (list_all is_cable cables.now) }
@@ -79,7 +80,8 @@ fn put_zones(zones: &mut ZoneTable, cables: &[Cable], port: &Port) -> Result<(),
     zones.set(cable.range, cable.zones.as_slice())
 }
 
-/// Enters the zones of the cables of ports, of which the table has no network. Error: `Memory`.
+/// Enters the zones of the cables of ports into a table that has no network of those cables. Error:
+/// `Memory`.
 fn put_all_zones(zones: &mut ZoneTable, cables: &[Cable], ports: &[Port]) -> Result<(), Error>
     requires there { IsTrue (list_all (is_port cables.now) ports.now) }
     requires cables { IsTrue (list_all is_cable cables.now) }
@@ -110,7 +112,7 @@ fn zones_of(alloc: Global, cables: &[Cable], router: &Router) -> Result<ZoneTabl
     Ok(zones)
 }
 
-/// The router that is planned, before anything has happened.
+/// A router of the plan, before the first tick.
 fn router_of<T: RouteTable>(
     alloc: Global,
     cables: &[Cable],
@@ -142,7 +144,7 @@ fn node_plan<'a>(cables: &[Cable], node: &'a Node) -> PortPlan<'a>
     }
 }
 
-/// The node that is planned.
+/// A node of the plan, before the first tick.
 fn node_of(alloc: Global, cables: &[Cable], node: &Node) -> Result<LiveNode, Error>
     requires { IsTrue (is_node cables.now node.now) }
     ensures ok { IfOk result (λ live. IsNodeBegun cables.now node.now live) }
@@ -152,7 +154,7 @@ fn node_of(alloc: Global, cables: &[Cable], node: &Node) -> Result<LiveNode, Err
     LiveNode::new(alloc, &plan, node.zone, node.name.copy()?)
 }
 
-/// Appends the routers that are planned.
+/// Appends the routers of the plan.
 fn put_routers<T: RouteTable>(
     stations: &mut Vec<Member<LiveRouter<T>, LiveNode>>,
     cables: &[Cable],
@@ -174,7 +176,7 @@ fn put_routers<T: RouteTable>(
     }
 }
 
-/// Appends the nodes that are planned.
+/// Appends the nodes of the plan.
 fn put_nodes<T: RouteTable>(
     stations: &mut Vec<Member<LiveRouter<T>, LiveNode>>,
     cables: &[Cable],
@@ -195,7 +197,7 @@ fn put_nodes<T: RouteTable>(
     }
 }
 
-/// The stations of a plan, as they begin. Error: `Memory`.
+/// The stations of a plan before the first tick. Error: `Memory`.
 fn stations_begun<T: RouteTable>(
     alloc: Global,
     plan: &Plan,
@@ -209,8 +211,8 @@ fn stations_begun<T: RouteTable>(
     Ok(stations)
 }
 
-/// The stations of a plan: the routers, then the nodes, in their order. Their ports have yet to
-/// choose their addresses; routers know no route, and the zones of their cables. Error: `Memory`.
+/// The stations of a plan, in order: the routers, then the nodes. Their ports haven't chosen
+/// addresses yet; routers have no routes, and know the zones of their cables. Error: `Memory`.
 pub fn stations_of<T: RouteTable>(
     alloc: Global,
     plan: &Plan,

@@ -11,7 +11,7 @@ use cable_model::Seat;
 use internet_file::{Cable, Node, Plan, Port, Router};
 use std::alloc::Global;
 
-/// Appends the seats of a router's ports, which are numbered from one on.
+/// Appends the seats of a router's ports, which are numbered from `from` on.
 fn put_ports(seats: &mut Vec<Seat>, station: u16, from: u8, ports: &[Port]) -> Result<(), Error>
     requires low { IsTrue (list_all is_low_port ports.now) }
     requires few { from + length ports.now ≤ 16 }
@@ -34,7 +34,7 @@ fn put_ports(seats: &mut Vec<Seat>, station: u16, from: u8, ports: &[Port]) -> R
     }
 }
 
-/// Appends the seats of routers that are numbered from one on.
+/// Appends the seats of routers that are numbered from `from` on.
 fn put_routers(seats: &mut Vec<Seat>, from: u16, routers: &[Router]) -> Result<(), Error>
     requires low { IsTrue (list_all is_low_router routers.now) }
     requires few { from + length routers.now ≤ 400 }
@@ -51,7 +51,7 @@ fn put_routers(seats: &mut Vec<Seat>, from: u16, routers: &[Router]) -> Result<(
     }
 }
 
-/// Appends the seats of nodes whose stations are numbered from one on.
+/// Appends the seats of nodes whose stations are numbered from `from` on.
 fn put_nodes(seats: &mut Vec<Seat>, from: u16, nodes: &[Node]) -> Result<(), Error>
     requires low { IsTrue (list_all is_low_node nodes.now) }
     requires few { from + length nodes.now ≤ 400 }
@@ -74,7 +74,7 @@ fn put_nodes(seats: &mut Vec<Seat>, from: u16, nodes: &[Node]) -> Result<(), Err
     }
 }
 
-/// The routers of a plan, whose ports name cables that there may be.
+/// The routers of a plan, at most 200, whose cable numbers are at most 200.
 pub fn routers_in(plan: &Plan) -> &[Router]
     ensures value { result.now ≡ plan.now.routers }
     ensures few { length result.now ≤ 200 }
@@ -83,7 +83,7 @@ pub fn routers_in(plan: &Plan) -> &[Router]
     plan.routers()
 }
 
-/// The nodes of a plan, whose ports name cables that there may be.
+/// The nodes of a plan, at most 200, whose cable numbers are at most 200.
 pub fn nodes_in(plan: &Plan) -> &[Node]
     ensures value { result.now ≡ plan.now.nodes }
     ensures few { length result.now ≤ 200 }
@@ -92,7 +92,7 @@ pub fn nodes_in(plan: &Plan) -> &[Node]
     plan.nodes()
 }
 
-/// The seats of all stations of a plan, in their order. Error: `Memory`.
+/// The seats of all stations of a plan, in order. Error: `Memory`.
 pub fn seats_of(alloc: Global, plan: &Plan) -> Result<Vec<Seat>, Error>
     ensures ok { IfOk result (λ seats. seats.items ≡ plan_seats plan.now) }
     ensures refused { IsOkUnless result Error.Memory }

@@ -1,4 +1,4 @@
--- An internet file is refused neither as one that can't be read or written nor as one that is full.
+-- Reading an internet file returns none of the errors ReadFault, WriteFault and Full.
 use Rattle.std.proofs.Common.{◌≡◌, ◌≢◌, ℕ, Bool, true, false, cond, List, Option, Some, None, Result, Ok, Err, IfErr, codes}
 use Rattle.std.proofs.Common.{length, nat_le, take, refl, subst, sym, inl, inr}
 use Rattle.toml.specs.Data.{Data, Members}
@@ -15,7 +15,7 @@ use Rattle.internet_file.specs.Files.{routers_in, ticks_of}
 use Rattle.internet_file.specs.Stations.{node_of, router_of}
 use Rattle.internet_file.specs.Values.{number}
 
--- the error is none of these
+-- The error is none of these.
 abbrev pub IsOther : Error → Type 0
 IsOther e = (e ≢ ReadFault) × (e ≢ WriteFault) × (e ≢ Full)
 

@@ -1,4 +1,4 @@
--- What is taken from one node leaves the others as they are.
+-- Removing the received datagrams of one node leaves those of the others.
 use Rattle.std.proofs.Common.{◌≡◌, ◌≢◌, ℕ, zero, suc, ◌+◌, ◌-◌, ◌<◌, ◌≤◌, ◌==◌, List, [], ◌∷◌, ◌++◌, Option, Some, None, cond}
 use Rattle.std.proofs.Common.{Bool, false, slice_get, slice_set, refl, ap, ap₂, ◌∙◌, arith}
 use Rattle.std.proofs.lemmas.Bool.{ne_eqb}
@@ -25,12 +25,12 @@ station_stays ms s k apart = by (slice_get ms s)
     by None = refl
     by (Some m) = other_stays ms s k (emptied m) apart
 
--- where there is a number, something is taken out
+-- For a number other than 0, received datagrams are removed.
 taken_at : (w : Worldly) (a : ℕ) → (a == 0) ≡ false
     → taken_out w a ≡ record w { stations = emptied_at w.stations (station_of w a) }
 taken_at w a some = ap (λ (none : Bool). cond none w (record w { stations = emptied_at w.stations (station_of w a) })) some
 
--- a later node is as it was
+-- A later node stays the same.
 node_stays : (w : Worldly) (a b : ℕ) → 1 ≤ a → a < b → node_at (taken_out w a) b ≡ node_at w b
 node_stays w a b low less =
     let apart : station_of w a ≢ station_of w b = (λ same. absurd (omega (arith, same, low, less))) in
@@ -39,14 +39,14 @@ node_stays w a b low less =
     ∙ ap (λ (o : Option (Member Living LivingNode)). cond (b == 0) None (node_of o))
     (station_stays w.stations (station_of w a) (station_of w b) apart)
 
--- and so is what later nodes received
+-- The received datagrams of later nodes stay the same.
 received_stays : (w : Worldly) (a b n : ℕ) → 1 ≤ a → a < b → all_received (taken_out w a) b n ≡ all_received w b n
 received_stays w a b zero low less = refl
 received_stays w a b (suc n) low less =
     ap₂ (λ (node : Option NodeHolding) (more : List ℕ). received_lines b (received_by node) ++ more) (node_stays w a b low less)
     (received_stays w a (b + 1) n low (omega (arith, less)))
 
--- the lines of what nodes received, when the first one's is taken out
+-- The lines of the datagrams that nodes received, when those of the first node are removed.
 pub received_in_turn : (w : Worldly) (number left : ℕ) → 1 ≤ number → left ≢ 0
     → received_lines number (received_by (node_at w number)) ++ all_received (taken_out w number) (number + 1) (left - 1)
     ≡ all_received w number left

@@ -1,4 +1,4 @@
--- How a world comes to be as it is: it begins as it is planned, and its ticks pass one after the other. This project's own.
+-- The history of a world: it starts as its plan says, and its ticks follow one after the other.
 use Rattle.std.specs.Prelude.{◌≡◌, ◌+◌, ◌<◌, []}
 use Rattle.internet_file.specs.Files.{Planned}
 use Rattle.live_cables.specs.Living.{Wires}
@@ -8,17 +8,17 @@ use Rattle.world.specs.Scheduling.{IsSchedule}
 use Rattle.world.specs.Ticking.{IsTick}
 use Rattle.world.specs.Worlds.{Ticks, TicksOn, Worldly, wires_begun}
 
--- A world that began as planned, and whose ticks passed to their ends.
+-- The world started as its plan says, and each of its ticks finished.
 pub data Lives : Worldly → Type 0 where
-  -- the stations and cables are those of the plan, its actions are scheduled, and nothing has happened
+  -- The stations and cables are those of the plan, its actions are scheduled, and nothing has happened.
   Begun : (w : Worldly) → AreBegun w.plan w.stations → IsSchedule w.plan.actions w.schedule → w.now ≡ 0 → w.refused ≡ []
       → w.wires ≡ wires_begun w.plan → Lives w
-  -- a tick passed to its end: it did what a tick does
+  -- A tick finished with the effect of a tick.
   Passed : (old new : Worldly) → Lives old → new.plan ≡ old.plan → new.now ≡ old.now + 1
       → TicksOn old.plan new.now old.wires new.wires → IsTick old new → Lives new
 
--- A plan whose play finds no room: the ticks before one of its ticks passed to their ends, and of what happens in that one so much
--- was added that less than 771 of the 4,000,000 entries are left, as many as one frame that is taken may need.
+-- A plan for whose play the transcript has no room: the ticks before one of its ticks finished, and after some entries
+-- of that tick, fewer than 771 of the 4,000,000 entries are free, as many as one take may need.
 pub record Fills (plan : Planned) : Type 0 where
   pub before : Worldly
   pub of : before.plan ≡ plan

@@ -1,4 +1,4 @@
-//! The end of a play: the verdict on its tables, and their bytes.
+//! The end of a play: the audit of its tables, and the bytes of the image.
 
 ghost use Rattle.std.specs.Prelude.{◌≡◌, ◌++◌, ◌∷◌, [], IfOk, IsOkUnless, OnOk};
 ghost use Rattle.at_base.specs.Spelling.{Spells};
@@ -11,7 +11,7 @@ use audit::{Verdict, audit};
 use std::alloc::Global;
 use table_image::{Image, write};
 
-/// Appends the line of the verdict and an end of line. Error: `Memory`.
+/// Appends the line of the verdict and a line feed. Error: `Memory`.
 fn put_verdict(alloc: Global, text: &mut Vec<u8>, verdict: &Verdict) -> Result<(), Error>
     ensures ok { OnOk result
         (text.new.items ≡ text.old.items ++ verdict_line verdict.now ++ 10 ∷ []) }
@@ -23,7 +23,7 @@ fn put_verdict(alloc: Global, text: &mut Vec<u8>, verdict: &Verdict) -> Result<(
     Ok(())
 }
 
-/// Audits the image, and ends the lines with that of its verdict. Error: `Memory`.
+/// Audits the image, and appends the line of the verdict to the lines. Error: `Memory`.
 pub fn judge(alloc: Global, mut lines: Vec<u8>, image: &Image) -> Result<Played, Error>
     ensures judged { IfOk result (λ p. (v : Verdict) × Judges image.now v × (p.yes ≡ is_yes v)
         × (p.lines.items ≡ lines.items ++ verdict_line v ++ 10 ∷ [])) }

@@ -1,4 +1,4 @@
-//! A play: from the text of an internet file to the lines that are printed, and the image.
+//! A play: from the text of an internet file to its printed lines and the image.
 #![tactic(auto)]
 
 mod judging;

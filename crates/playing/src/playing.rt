@@ -1,4 +1,4 @@
-//! A play from its text to its end.
+//! A play, from the text of its file to its end.
 
 ghost use Rattle.std.specs.Prelude.{◌≡◌, ◌≢◌, ◌<◌, ◌⊎◌, ◌+◌, ◌++◌, None, IfErr, IfOk, OnOk};
 ghost use Rattle.std.specs.Prelude.{IsOkUnless, length};
@@ -23,34 +23,34 @@ use std::alloc::Global;
 use table_image::Image;
 use world::World;
 
-/// What came of a play. This project's own.
+/// The result of a play.
 #[derive(Drop)]
 pub struct Played {
-    /// The lines that are printed: the actions that were refused, what the nodes received, and the
-    /// verdict.
+    /// The printed lines: the actions that had an error, the datagrams that the nodes received, and
+    /// the verdict.
     pub lines: Vec<u8>,
-    /// Whether the verdict is a yes.
+    /// Whether the image passes the audit.
     pub yes: bool,
     /// The bytes of the image.
     pub image: Vec<u8>,
 }
 
-/// What is left of a world at its end.
+/// The result of a world after its last tick.
 #[derive(Drop)]
 struct Ended {
-    // the lines before that of the verdict
+    // The lines before that of the verdict.
     lines: Vec<u8>,
     image: Image,
 }
 
-/// Recalls what a world keeps. Does nothing.
+/// A fact for the prover: the properties of a world. Does nothing.
 fn recall_lived(world: &World<PlainTable>)
     ensures { IsWorld world.now }
 {
     let _entries = world.transcript();
 }
 
-/// Lets the next tick pass. Errors: `Full`, `Memory`.
+/// Carries out the next tick. Errors: `Full`, `Memory`.
 fn play_tick(world: &mut World<PlainTable>) -> Result<(), Error>
     requires unstopped { world.old.stopped ≡ None }
     ensures plan { world.new.plan ≡ world.old.plan }
@@ -62,12 +62,12 @@ fn play_tick(world: &mut World<PlainTable>) -> Result<(), Error>
     ensures refused { IfErr result (λ e. (e ≡ Error.Full) ⊎ (e ≡ Error.Memory)) }
 {
     let ticked = world.tick();
-    // For the prover alone: what the world keeps.
+    // Only the prover needs this call: it shows the properties of the world.
     recall_lived(world);
     ticked
 }
 
-/// Lets all ticks of the plan pass. Errors: `Full`, `Memory`.
+/// Carries out all ticks of the plan. Errors: `Full`, `Memory`.
 fn play_ticks<P: Progress>(world: &mut World<PlainTable>, progress: &mut P) -> Result<(), Error>
     requires unstopped { world.old.stopped ≡ None }
     requires fresh { world.old.now ≡ 0 }
@@ -88,7 +88,7 @@ fn play_ticks<P: Progress>(world: &mut World<PlainTable>, progress: &mut P) -> R
     Ok(())
 }
 
-/// The world of a plan, in which nothing has happened yet. Error: `Memory`.
+/// The world of a plan, before its first tick. Error: `Memory`.
 fn begin(alloc: Global, plan: Plan) -> Result<World<PlainTable>, Error>
     ensures plan { IfOk result (λ w. w.plan ≡ plan) }
     ensures fresh { IfOk result (λ w. (w.now ≡ 0) × (w.stopped ≡ None)) }
@@ -98,7 +98,7 @@ fn begin(alloc: Global, plan: Plan) -> Result<World<PlainTable>, Error>
     World::<PlainTable>::new(alloc, plan)
 }
 
-/// Plays what is planned to the last tick. Errors: `Full`, `Memory`.
+/// Carries out a plan to its last tick. Errors: `Full`, `Memory`.
 fn play_plan<P: Progress>(
     alloc: Global,
     plan: Plan,
@@ -121,7 +121,7 @@ fn play_plan<P: Progress>(
     }
 }
 
-/// The lines of a world before its verdict, and its tables as they stand. Error: `Memory`.
+/// The lines of a world before its verdict, and the image of its tables. Error: `Memory`.
 fn end(alloc: Global, mut world: World<PlainTable>) -> Result<Ended, Error>
     ensures lines { IfOk result (λ e. e.lines.items ≡ refused_lines world.refused
         ++ all_received world 1 (length world.plan.nodes)) }
@@ -133,25 +133,26 @@ fn end(alloc: Global, mut world: World<PlainTable>) -> Result<Ended, Error>
         Err(error) => return Err(error),
     };
     let mut lines = Vec::new(alloc);
-    // What nodes received is taken from them, which the tables were frozen before.
+    // `put_world` removes received datagrams from nodes, so the tables are frozen first.
     match put_world(&mut lines, &mut world) {
         Ok(()) => Ok(Ended { lines, image }),
         Err(error) => Err(error),
     }
 }
 
-/// Reads an internet file, plays what it plans to the last tick, freezes the tables into an image,
+/// Reads an internet file, carries out its plan to the last tick, freezes the tables into an image,
 /// and audits it.
 ///
-/// Errors: `BadFile` as `internet_file::read`; `Full` where the transcript has no room for all that
-/// happens; `Memory`. This project's own.
+/// Errors: `BadFile` as in `internet_file::read`; `Full` if the transcript has no room for all
+/// entries; `Memory`.
 pub fn play_text<P: Progress>(alloc: Global, text: &[u8], progress: &mut P) -> Result<Played, Error>
     ensures played { IfOk result (λ p. (i : Internet)
         × IsPlay text.now p.lines.items p.yes i × Spells image_spelling p.image.items i) }
-    // A text that is no file is refused by its first fault, and one that is by nothing but these.
+    // A text that is no file has the error of its first fault, or `Memory`; a text that is a file
+    // has no error but `Full` and `Memory`.
     ensures refused { IfErr result (λ e. IsFileRefused text.now e
         ⊎ (((plan : Planned) × IsFile text.now plan) × ((e ≡ Error.Full) ⊎ (e ≡ Error.Memory)))) }
-    // A play is full only where a tick of it has no room.
+    // The error is `Full` only if one of the plan's ticks has no room.
     ensures full { (result ≡ Err Error.Full)
         → ((plan : Planned) × IsFile text.now plan × Fills plan) }
     ensures others { IfErr result (λ e. (e ≢ Error.ReadFault) × (e ≢ Error.WriteFault)) }
@@ -164,7 +165,7 @@ pub fn play_text<P: Progress>(alloc: Global, text: &[u8], progress: &mut P) -> R
         Ok(world) => world,
         Err(error) => return Err(error),
     };
-    // For the prover alone: what the world keeps.
+    // Only the prover needs this call: it shows the properties of the world.
     recall_lived(&world);
     match end(alloc, world) {
         Ok(Ended { lines, image }) => judge(alloc, lines, &image),

@@ -1,4 +1,4 @@
-//! What is printed of a world.
+//! Prints the results of a world.
 
 ghost use Rattle.std.specs.Prelude.{◌≡◌, ◌≤◌, ◌+◌, ◌++◌, IsOkUnless, OnOk, length};
 ghost use Rattle.playing.specs.Lines.{received_lines, refused_lines};
@@ -11,7 +11,7 @@ use at_base::Error;
 use rtmp::PlainTable;
 use world::World;
 
-/// Takes what a node received, and appends its lines. Error: `Memory`.
+/// Removes the datagrams that a node received, and appends their lines. Error: `Memory`.
 fn put_node(text: &mut Vec<u8>, world: &mut World<PlainTable>, number: u16) -> Result<(), Error>
     ensures lines { OnOk result (text.new.items
         ≡ text.old.items ++ received_lines number (received_by (node_at world.old number))) }
@@ -23,7 +23,8 @@ fn put_node(text: &mut Vec<u8>, world: &mut World<PlainTable>, number: u16) -> R
     Ok(())
 }
 
-/// Takes what so many nodes received, from one number on, and appends its lines. Error: `Memory`.
+/// Removes the datagrams that the `left` nodes from `number` on received, and appends their lines.
+/// Error: `Memory`.
 fn put_nodes(
     text: &mut Vec<u8>,
     world: &mut World<PlainTable>,
@@ -43,7 +44,7 @@ fn put_nodes(
     put_nodes(text, world, number + 1, left - 1)
 }
 
-/// How many nodes a world has.
+/// The number of a world's nodes.
 fn nodes_of(world: &World<PlainTable>) -> u16
     ensures number { result ≡ length world.now.plan.nodes }
     ensures few { result ≤ 200 }
@@ -51,8 +52,8 @@ fn nodes_of(world: &World<PlainTable>) -> u16
     world.plan().nodes().len() as u16
 }
 
-/// Appends the lines of the actions that were refused; takes what the nodes received, and appends its
-/// lines. Error: `Memory`.
+/// Appends the lines of the actions that had an error; removes the datagrams that the nodes
+/// received, and appends their lines. Error: `Memory`.
 pub fn put_world(text: &mut Vec<u8>, world: &mut World<PlainTable>) -> Result<(), Error>
     ensures lines { OnOk result (text.new.items ≡ text.old.items ++ refused_lines world.old.refused
         ++ all_received world.old 1 (length world.old.plan.nodes)) }

@@ -1,15 +1,15 @@
-//! Who is told how far a play is.
+//! Observers of a play's progress.
 
 use rtmp::PlainTable;
 use world::World;
 
-/// Is told how far a play is, and can't change what comes of it. This project's own.
+/// Observes a play's progress. It cannot affect the result.
 pub trait Progress {
-    /// A tick has passed.
+    /// A tick has finished.
     fn passed(&mut self, world: &World<PlainTable>);
 }
 
-/// Says nothing.
+/// An observer that does nothing.
 #[derive(Clone, Copy, Debug)]
 pub struct Silent;
 

@@ -7,7 +7,7 @@ use end_node::Datagram;
 use std::alloc::AllocError;
 use text::{put_address, put_decimal, put_hex};
 
-/// Appends data in hexadecimal, and a dash for none.
+/// Appends data in hexadecimal digits, or a dash if there is none.
 fn put_data(text: &mut Vec<u8>, payload: &[u8]) -> Result<(), AllocError>
     ensures { OnOk result (text.new.items ≡ text.old.items ++ data_text payload.now) }
 {
@@ -38,8 +38,8 @@ fn put_line(text: &mut Vec<u8>, node: u16, datagram: &Datagram) -> Result<(), Al
 }
 
 /// Appends a line for each datagram that a node received, the oldest first: `node K received SOURCE
-/// SOCKET TYPE DATA`, where nodes are counted from 1, SOCKET is the one that it was for, and DATA is
-/// in hexadecimal, a dash where there is none.
+/// SOCKET TYPE DATA`. Nodes are counted from 1, SOCKET is the target socket, and DATA is in
+/// hexadecimal digits, or a dash if there is none.
 pub fn put_received(text: &mut Vec<u8>, node: u16, datagrams: &[Datagram]) -> Result<(), AllocError>
     ensures { OnOk result
         (text.new.items ≡ text.old.items ++ received_lines node datagrams.now) }

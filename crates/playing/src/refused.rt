@@ -6,7 +6,8 @@ ghost use Rattle.playing.specs.Lines.{refused_line, refused_lines};
 use std::alloc::AllocError;
 use text::put_decimal;
 
-/// Appends the line of an action that was refused: its number, from 1, and that of the error.
+/// Appends the line of an action that had an error: its number, from 1, and the number of the
+/// error.
 fn put_line(text: &mut Vec<u8>, refused: (u32, u8)) -> Result<(), AllocError>
     ensures { OnOk result (text.new.items ≡ text.old.items ++ refused_line refused) }
 {
@@ -18,8 +19,8 @@ fn put_line(text: &mut Vec<u8>, refused: (u32, u8)) -> Result<(), AllocError>
     Ok(())
 }
 
-/// Appends a line for each action that was refused, in their order: `action K refused N`, where
-/// actions are counted from 1, and N is the number of the error.
+/// Appends a line for each action that had an error, in order: `action K refused N`, where actions
+/// are counted from 1, and N is the number of the error.
 pub fn put_refused(text: &mut Vec<u8>, refused: &[(u32, u8)]) -> Result<(), AllocError>
     ensures { OnOk result (text.new.items ≡ text.old.items ++ refused_lines refused.now) }
 {

@@ -1,4 +1,4 @@
--- What hearing of a range leaves of a table.
+-- The table after a range was heard.
 use Rattle.std.proofs.Common.{◌≡◌, ℕ, ◌+◌, ◌<◌, ◌≤◌, Bool, true, false, cond, not, ◌&&◌, ◌||◌, ◌==◌, List, [], ◌∷◌, length, find, Some}
 use Rattle.std.proofs.Common.{None, refl, sym, ap, ◌∙◌, arith, nat_le}
 use Rattle.std.specs.List.{list_all, list_any}
@@ -23,12 +23,12 @@ found_row p (r ∷ rows) row each h =
       | false ↦ λ t. found_row p rows row e.1 (rw t at h)
     ]) refl
 
--- a row that was heard is one
+-- the row of a range that was heard is valid
 pub heard_good : (range : Span) (t : ℕ) (s : Addr) (port : ℕ) → is_range range.start range.end ≡ true → t ≤ 14
     → is_row (heard_row range t s port) ≡ true
 heard_good range t s port valid near = let far : nat_le (t + 1) 31 ≡ true = le-leb _ _ (omega arith) in rw (valid, far) refl
 
--- what hearing leaves of a row: a row, whose range isn't new
+-- a row after hearing is a valid row of the same range, and isn't added
 pub record Keeps (row : Row) (after : Row × Change) : Type 0 where
   pub good : is_row after.0 ≡ true
   pub old : after.1 ≡ Added → ⊥
@@ -52,7 +52,7 @@ hearing_keeps row t s port good =
     step false false nearer true e = record { good = good; old = λ h. cc }
     step false false nearer false e = record { good = good; old = λ h. cc }
 
--- a range that has a row
+-- the facts about a range that has a row
 pub record There (range : Span) (t : ℕ) (s : Addr) (port : ℕ) (rows : List Row) (row : Row) : Type 0 where
   pub is : heard range t s port rows ≡ (replaced (after_hearing row t s port).0 rows, (after_hearing row t s port).1)
   pub map : IsRouteMap (replaced (after_hearing row t s port).0 rows)
@@ -69,12 +69,12 @@ there range t s port rows row h found =
       old = λ a. k.old (sym (ap (λ (x : List Row × Change). x.1) e) ∙ a);
     }
 
--- a range that has none, and isn't added
+-- a range without a row that isn't added leaves the table as it is
 pub ignored : (range : Span) (t : ℕ) (s : Addr) (port : ℕ) (rows : List Row) → row_at range rows ≡ None → is_new range t rows ≡ false
     → heard range t s port rows ≡ (rows, Ignored)
 ignored range t s port rows none new = rw (none, new) refl
 
--- a range that is added
+-- a range without a row that is added
 pub new : (range : Span) (t : ℕ) (s : Addr) (port : ℕ) (rows : List Row) → row_at range rows ≡ None → is_new range t rows ≡ true
     → heard range t s port rows ≡ (added (heard_row range t s port) rows, Added)
 new range t s port rows none is = rw (none, is) refl

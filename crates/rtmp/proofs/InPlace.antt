@@ -21,7 +21,7 @@ pub none_left : (low : ℕ) → written_in low [] ≡ []
 unfolding written_in
 none_left low = refl
 
--- what is left after the first tuple
+-- the facts about the tuples after the first one
 pub record Step (low : ℕ) (bytes : List ℕ) (t : Written) (after : List ℕ) : Type 0 where
   pub rest : IsTuples 1 after
   pub is : written_in low bytes ≡ t ∷ written_in 1 after
@@ -46,7 +46,7 @@ not_refused low bytes e some whole h =
 
 -- ---- The first tuple
 
--- what the first tuple's test lets pass is extended
+-- a tuple that passes the first tuple's test is extended
 first_extended : (t : Written) → IsValue (written_tuple 0) t → (x : Tuple) × (tuple_of t ≡ Some x)
 unfolding written_tuple
 first_extended t h =
@@ -60,7 +60,7 @@ first_extended t h =
     said None e = absurd cc
     said (Some e) p = (_, refl)
 
--- tuples begin with an extended one
+-- the tuples of a packet begin with an extended one
 pub first_there : (bytes : List ℕ) → IsBytes bytes → IsTuples 0 bytes → tuples_of (written_in 0 bytes) ≡ [] → bytes ≡ []
 first_there [] fits whole none = refl
 first_there (b ∷ bytes) fits whole none = absurd (

@@ -1,4 +1,4 @@
--- Finite maps as rows by rising range: what filters, updates of rows and a new row leave of them.
+-- Finite maps as rows by rising range: the effects of filters, of updates of rows and of a new row.
 use Rattle.std.proofs.Common.{◌≡◌, ℕ, zero, suc, ◌+◌, ◌<◌, ◌≤◌, Bool, true, false, cond, not, ◌&&◌, ◌==◌, List, [], ◌∷◌, ◌++◌, length, map}
 use Rattle.std.proofs.Common.{Some, None, filter, take, drop, set, insert, get_or, refl, sym, ap, ◌∙◌, arith, nat_lt, nat_le}
 use Rattle.std.specs.List.{list_all, list_any}
@@ -55,7 +55,7 @@ all_filter p (r ∷ rows) each =
       | false ↦ λ t. rw t rest
     ]) refl
 
--- updates that leave ranges alone
+-- updates that don't change ranges keep rows above a network
 pub above_map : (f : Row → Row) → ((r : Row) → (f r).range ≡ r.range) → (low : ℕ) (rows : List Row)
     → are_above low (map f rows) ≡ are_above low rows
 above_map f same low [] = refl
@@ -68,9 +68,9 @@ all_map f good (r ∷ rows) each =
     let e = and_parts (is_row r) (list_all is_row rows) each in
     rw (good r e.0, all_map f good rows e.1) refl
 
--- ---- A row more
+-- ---- one more row
 
--- the ranges don't overlap
+-- the two ranges don't overlap
 pub apart : (r row : Row) → overlaps r.range row.range ≡ false → is_row r ≡ true → is_row row ≡ true
     → (r.range.start < row.range.start → r.range.end < row.range.start) × (row.range.start ≤ r.range.start → row.range.end < r.range.start)
 apart r row none good new =
@@ -113,7 +113,7 @@ length_added row (r ∷ rows) =
       | false ↦ λ t. rw t refl
     ]) refl
 
--- a row that is put in its place
+-- inserting a row before the first one that doesn't start below it adds the row
 pub put_at : (row : Row) (rows : List Row) → insert rows (before row.range.start rows) row ≡ added row rows
 put_at row [] = refl
 put_at row (r ∷ rows) =
@@ -123,9 +123,9 @@ put_at row (r ∷ rows) =
       | false ↦ λ t. rw t refl
     ]) refl
 
--- ---- A row in the place of the one of its range
+-- ---- a row that replaces the one of its range
 
--- rows above a network have no range that starts there or below
+-- rows above a network have no range that starts at or below it
 none_above : (row : Row) (low : ℕ) (rows : List Row) → row.range.start ≤ low → list_all is_row rows ≡ true → are_above low rows ≡ true
     → replaced row rows ≡ rows
 none_above row low [] le each h = refl
@@ -137,7 +137,7 @@ none_above row low (r ∷ rows) le each h =
     let other : (r.range.start == row.range.start) ≡ false = ne_eqb _ _ (λ same. absurd (omega (arith, same, over, le))) in
     rw other (ap (λ (l : List Row). r ∷ l) (none_above row r.range.end rows (omega (arith, ends.1, over, le)) e.1 q.1))
 
--- the row of the range, if there is one, is the first that doesn't start below it
+-- the row of the range, if any, is the first that doesn't start below it
 pub replace_at : (row d : Row) (low : ℕ) (rows : List Row) → list_all is_row rows ≡ true → are_above low rows ≡ true
     → before row.range.start rows < length rows → same_range (get_or rows (before row.range.start rows) d).range row.range ≡ true
     → set rows (before row.range.start rows) row ≡ replaced row rows
@@ -160,7 +160,7 @@ replace_at row d low (r ∷ rows) each h less same =
           rw same (ap (λ (l : List Row). row ∷ l) (sym (none_above row r.range.end rows (omega (arith, starts, ends.1)) e.1 q.1)))
     ]) refl less same
 
--- where the first row that doesn't start below it is another range's, no row is of the range
+-- if the first row that doesn't start below it has another range, no row has the range
 pub none_at : (row d : Row) (low : ℕ) (rows : List Row) → list_all is_row rows ≡ true → are_above low rows ≡ true
     → (before row.range.start rows < length rows → same_range (get_or rows (before row.range.start rows) d).range row.range ≡ false)
     → rows ≡ replaced row rows
@@ -183,9 +183,9 @@ none_at row d low (r ∷ rows) each h other =
           rw (other (omega arith)) (ap (λ (l : List Row). r ∷ l) (sym (none_above row r.range.end rows (omega (arith, le, ends.1)) e.1 q.1)))
     ]) refl other
 
--- ---- Which rows start below a network
+-- ---- the rows that start below a network
 
--- rows above a network rise by their starts
+-- the starts of rows above a network rise
 pub rows_rise : (low : ℕ) (rows : List Row) → list_all is_row rows ≡ true → are_above low rows ≡ true
     → rise (λ (r : Row). r.range.start) low rows ≡ true
 rows_rise low [] each h = refl
@@ -195,7 +195,7 @@ rows_rise low (r ∷ rows) each h =
     let rest = rise_lower (λ (r : Row). r.range.start) r.range.start r.range.end rows (row_ends r e.0).1 (rows_rise r.range.end rows e.1 q.1) in
     rw (q.0, rest) refl
 
--- rows above a network have no range that starts there or below
+-- rows above a network don't include a range that starts at or below it
 no_row_above : (range : Span) (low : ℕ) (rows : List Row) → range.start ≤ low → list_all is_row rows ≡ true → are_above low rows ≡ true
     → row_at range rows ≡ None
 no_row_above range low [] le each h = refl
@@ -207,7 +207,7 @@ no_row_above range low (r ∷ rows) le each h =
     let other : (r.range.start == range.start) ≡ false = ne_eqb _ _ (λ same. absurd (omega (arith, same, over, le))) in
     rw other (no_row_above range r.range.end rows (omega (arith, ends.1, over, le)) e.1 q.1)
 
--- the row of a range is the first that doesn't start below it
+-- the row of a range is the first that doesn't start below the range's start
 pub row_found : (range : Span) (d : Row) (rows : List Row)
     → before range.start rows < length rows → same_range (get_or rows (before range.start rows) d).range range ≡ true
     → row_at range rows ≡ Some (get_or rows (before range.start rows) d)
@@ -225,7 +225,7 @@ row_found range d (r ∷ rows) less same =
       | false ↦ λ t less same. rw same refl
     ]) refl less same
 
--- and where that is another range's, there is none
+-- if the first row that doesn't start below a range's start has another range, the range has no row
 pub row_missing : (range : Span) (d : Row) (low : ℕ) (rows : List Row) → list_all is_row rows ≡ true → are_above low rows ≡ true
     → (before range.start rows < length rows → same_range (get_or rows (before range.start rows) d).range range ≡ false)
     → row_at range rows ≡ None
@@ -257,7 +257,7 @@ one_more f [] i d lt = absurd (omega arith)
 one_more f (a ∷ all) zero d lt = refl
 one_more f (a ∷ all) (suc i) d lt = ap (λ (l : List Row). f a ∷ l) (one_more f all i d (omega arith))
 
--- one row more is updated
+-- one more row is updated
 pub map_more : (f : Row → Row) (all rows : List Row) (i : ℕ) (r d : Row) → i < length all → rows ≡ map f (take i all) ++ drop i all
     → r ≡ f (get_or rows i d)
     → set rows i r ≡ map f (take (i + 1) all) ++ drop (i + 1) all
@@ -265,7 +265,7 @@ map_more f all rows i r d lt so_far new =
     let n : i + 1 ≡ suc i = omega arith in
     rw (new, so_far, n) (one_more f all i d lt)
 
--- two ranges with the same ends are one
+-- two ranges with the same ends are equal
 one_range : (a b : Span) → same_range a b ≡ true → a ≡ b
 one_range a b h =
     let e = and_parts (a.start == b.start) (a.end == b.end) h in
@@ -274,7 +274,7 @@ one_range a b h =
     let made : ℕ → ℕ → Span = λ x y. record { start = x; end = y } in
     ap (λ (x : ℕ). made x a.end) s ∙ ap (made b.start) t
 
--- ---- What keeps a map
+-- ---- operations that keep a map
 
 pub few_filter : (p : Row → Bool) (rows : List Row) → length (filter p rows) ≤ length rows
 few_filter p [] = omega arith
@@ -311,7 +311,7 @@ added_map row rows new none room h = record {
   few = omega (arith, length_added row rows);
 }
 
--- nothing that is left beside a range overlaps it
+-- no row of `beside range rows` overlaps the range
 pub none_beside : (range : Span) (rows : List Row) → list_any (λ r. overlaps r.range range) (beside range rows) ≡ false
 none_beside range [] = refl
 none_beside range (r ∷ rows) =
@@ -321,9 +321,9 @@ none_beside range (r ∷ rows) =
       | false ↦ λ t. rw (t, t) (none_beside range rows)
     ]) refl
 
--- ---- Each update
+-- ---- each operation
 
--- a list of valid ranges, none of whose rows is too far, is one of rows
+-- rows with valid ranges and distances of at most 31 are valid
 pub each_row : (rows : List Row) → list_all (λ r. is_range r.range.start r.range.end) rows ≡ true
     → list_all (λ r. nat_le r.distance 31) rows ≡ true → list_all is_row rows ≡ true
 each_row [] valid near = refl
@@ -355,7 +355,7 @@ poisoned_good next r h =
 pub poisoned_map : (next : Addr) (rows : List Row) → IsRouteMap rows → IsRouteMap (poisoned next rows)
 poisoned_map next rows h = updated_map (poisoned_row next) (poisoned_range next) (poisoned_good next) rows h
 
--- a row is replaced by one of its range
+-- a replaced row keeps its range
 replaced_range : (row r : Row) → (replaced_row row r).range ≡ r.range
 replaced_range row r =
     (elim (same_range r.range row.range) as (λ b. same_range r.range row.range ≡ b → (replaced_row row r).range ≡ r.range) [

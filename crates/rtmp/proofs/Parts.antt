@@ -1,11 +1,11 @@
--- Routing data of which only the first tuples were heard.
+-- Routing data of which only the first tuples were handled.
 use Rattle.std.proofs.Common.{◌≡◌, ℕ, List, [], ◌∷◌, ◌++◌, refl, sym, ap, ◌∙◌, append_assoc}
 use Rattle.at_base.specs.declared.address.Addr.{Addr}
 use Rattle.rtmp.specs.declared.row.Row.{Row}
 use Rattle.rtmp.specs.declared.tuple.Tuple.{Tuple}
 use Rattle.rtmp.specs.Routes.{IsHeardInPart, heard_packet, heard_within}
 
--- so many of the tuples were heard, and these are left
+-- some of the tuples were handled, and these are left
 abbrev pub InPart : Addr → ℕ → List Tuple → List Tuple → List Row → List Row → Type 0
 InPart s port tuples left rows now =
     (heard : List Tuple) × (tuples ≡ heard ++ left) × (now ≡ heard_packet s port heard rows)

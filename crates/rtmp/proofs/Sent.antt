@@ -1,4 +1,4 @@
--- The rows that a port sends, one by one, as a loop over the table's indexes finds them.
+-- The rows that a router sends on a port, one by one, as a loop over the table's indexes finds them.
 use Rattle.std.proofs.Common.{◌≡◌, ℕ, zero, suc, ◌+◌, ◌-◌, ◌<◌, ◌≤◌, Bool, true, false, ◌==◌, List, [], ◌∷◌, ◌++◌, length, map, take, drop}
 use Rattle.std.proofs.Common.{Some, None, refl, sym, ap, ◌∙◌, arith, append_assoc}
 use Rattle.std.specs.Prelude.{nat_le, nat_lt, not, slice_get, ◌*◌, ◌||◌}
@@ -31,7 +31,7 @@ row_good [] i r each h = absurd cc
 row_good (a ∷ rows) zero r each h = let same : a ≡ r = cc in rw (← same) (and_parts (is_row a) (list_all is_row rows) each).0
 row_good (a ∷ rows) (suc i) r each h = row_good rows i r (and_parts (is_row a) (list_all is_row rows) each).1 h
 
--- what is sent of a row fits its byte
+-- the distance sent for a row fits its byte
 pub sent_near : (r : Row) → is_row r ≡ true → (sent_tuple r).distance ≤ 31
 sent_near r h =
     let near : r.distance ≤ 31 = leb-true _ _ (and_parts (is_range r.range.start r.range.end) (nat_le r.distance 31) h).1 in
@@ -52,7 +52,7 @@ pub others_take : (port : ℕ) (r : Row) (rows : List Row) → (r.port ≡ port 
     → of_other_ports port (r ∷ rows) ≡ r ∷ of_other_ports port rows
 others_take port r rows t = rw (ne_eqb r.port port t) refl
 
--- the bytes of so many rows of the other ports, after so many that are left out
+-- the bytes of up to count rows of the other ports, after the first left_out of them
 abbrev pub window : ℕ → ℕ → ℕ → List Row → List ℕ
 window port left_out count rows = tuples_bytes (map sent_tuple (take count (drop left_out (of_other_ports port rows))))
 
@@ -76,7 +76,7 @@ window_sent port count r rows t some =
     ap (λ (k : ℕ). take k (r ∷ of_other_ports port rows)) n in
     rw (others_take port r rows t, e) refl
 
--- ---- What a step of the loop leaves: what is written, and what is left to be written, is all
+-- ---- the invariant of the loop: the bytes written and those still to be written are all bytes
 
 -- a row is written
 pub goes_on_written : (port left_out count : ℕ) (r : Row) (rest : List Row) (items written total : List ℕ)
@@ -99,7 +99,7 @@ goes_on_full port left_out count rows rest items total so_far none =
     let b : window port left_out count rest ≡ [] = rw z refl in
     ap (λ (l : List ℕ). items ++ l) (b ∙ sym a) ∙ so_far
 
--- ---- All that is sent can be written
+-- ---- every row that is sent can be written
 
 all_take : (n : ℕ) (rows : List Row) → list_all is_row rows ≡ true → list_all is_row (take n rows) ≡ true
 all_take zero rows h = refl
@@ -126,7 +126,7 @@ window_good port left_out rows h =
     all_sent (take 96 (drop left_out others))
     (all_take 96 (drop left_out others) (all_drop left_out others (all_filter (λ r. not (r.port == port)) rows h)))
 
--- ---- The packet of a number
+-- ---- the packet with a number
 
 pub numbered : (port : ℕ) (own : Span) (me : Addr) (n : ℕ) (rows : List Row) (bytes : List ℕ)
     → (n == 0 || nat_lt (n * 96) (length (of_other_ports port rows))) ≡ true
@@ -137,12 +137,12 @@ numbered port own me n rows bytes there h net node valid is =
     rw (there, is) (data_spelled me own (map sent_tuple (take 96 (drop (n * 96) (of_other_ports port rows)))) net node valid
     (window_good port (n * 96) rows h.each))
 
--- the parts, written one after the other
+-- the parts of a packet, written one after the other
 pub laid : (me : Addr) (own : Span) (rest a b d : List ℕ) → a ≡ [] → b ≡ a ++ head_bytes me ++ tuple_bytes (own_tuple own) → d ≡ b ++ rest
     → d ≡ head_bytes me ++ tuple_bytes (own_tuple own) ++ rest
 laid me own rest a b d pa pb pd = rw (pd, pb, pa) refl
 
--- the packet of a number: the first one, or one for which rows are left
+-- the packet with a number is sent: it is the first one, or rows are left for it
 pub there_first : (n len : ℕ) → n ≤ 0 → (n == 0 || nat_lt (n * 96) len) ≡ true
 there_first n len h = let z : n ≡ 0 = omega arith in rw z refl
 

@@ -1,4 +1,4 @@
--- Each part of a packet of routing data stands where its projection finds it.
+-- The format of routing data: each projection gives its part.
 use Rattle.std.proofs.Common.{ℕ, ◌≤◌, Bool, true, false, length, refl, arith}
 use Rattle.at_base.specs.declared.error.Field.TheVariants.{IdLength}
 use Rattle.at_base.specs.Spelling.{IsValue, bytes_of}

@@ -17,13 +17,13 @@ use Rattle.rtmp.specs.Data.{RoutingData, data_of, routing_data, written_of, writ
 use Rattle.rtmp.specs.Sending.{own_tuple}
 use Rattle.rtmp.proofs.Shape.{data_lawful}
 
--- a tuple that can be written: its range is valid, and its distance at most 31
+-- the tuple can be written: its range is valid, and its distance is at most 31
 abbrev pub is_tuple : Tuple → Bool
 is_tuple t = is_range t.range.start t.range.end && nat_le t.distance 31
 
 -- ---- One tuple
 
--- a range that is valid fits
+-- the ends of a valid range fit two bytes
 range_fits : (start end : ℕ) → is_range start end ≡ true → (start < 65536) × (end < 65536)
 range_fits start end h = let e = ends_of start end h in (omega (arith, e), omega (arith, e))
 
@@ -75,7 +75,7 @@ data_spelled me own ts net node valid h =
       rw (third, written_bytes 0 (own_tuple own) (omega arith), later_bytes ts h) refl,
     )
 
--- ---- What is written is read back
+-- ---- a written packet is read back
 
 spelled_begins : (p : RoutingData) (bytes : List ℕ) → Spells routing_data bytes p → Begins routing_data bytes p
 unfolding routing_data

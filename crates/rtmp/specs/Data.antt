@@ -1,4 +1,5 @@
--- Packets of routing data: the router that sends them, the range of its port's cable, and how far other ranges are.
+-- Packets of routing data: the router that sends them, the range of its port's cable, and the distances of other
+-- ranges.
 -- (Inside AppleTalk, the chapter on RTMP)
 use Rattle.std.specs.Prelude.{◌≡◌, ℕ, ◌+◌, ◌%◌, Bool, true, false, not, ◌&&◌, ◌==◌, List, [], ◌∷◌, length, map, Option, Some, None, Result}
 use Rattle.std.specs.Prelude.{Ok, Err, nat_le, nat_lt, if◌then◌else◌}
@@ -14,27 +15,27 @@ use Rattle.rtmp.specs.declared.tuple.Tuple.{Tuple}
 use Rattle.rtmp.specs.declared.written.Written.{Written}
 use Rattle.rtmp.specs.declared.written.Extension.{Extension}
 
--- a packet of routing data
+-- a packet of routing data: the router that sends it, and its tuples as they are written
 pub record RoutingData : Type 0 where
   pub router : Addr
   pub written : List Written
 
--- the fields of an extended tuple's extension, and 0 for another's
+-- the fields of an extended tuple's extension, or zeros for a tuple that isn't extended
 abbrev pub extension_or : Option Extension → Extension
 extension_or None = record { end = 0; version = 0 }
 extension_or (Some e) = e
 
--- the first tuple must be extended
+-- the test of a tuple's third byte: the first tuple must be extended
 abbrev pub wrong_third : ℕ → ℕ → Option Error
 wrong_third low third = if low == 0 && nat_lt third 128 then Some (BadField Version) else None
 
--- the first tuple has distance 0 and version byte 82; the range of each extended one is valid
+-- the test of an extended tuple: the first tuple has distance 0 and version byte 82, and each range is valid
 abbrev pub wrong_extension : ℕ → ℕ → ℕ → ℕ → ℕ → Option Error
 wrong_extension low start third end version =
     if low == 0 && not (third % 32 == 0 && version == 0x82) then Some (BadField Version)
     else if is_range start end then None else Some BadRange
 
--- what follows the third byte
+-- the format of the part after a tuple's third byte, which only an extended tuple has
 abbrev pub extension_at : ℕ → ℕ → ℕ → Bool → Grammar Error true (Option Extension)
 extension_at low start third false = done None
 extension_at low start third true =
@@ -42,7 +43,7 @@ extension_at low start third true =
     field (number one (wrong_extension low start third end)) (λ e. (extension_or e).version) (λ version.
     done (Some (record { end = end; version = version }))))
 
--- a tuple, which is the first one after 0, and a later one after 1
+-- the format of a tuple: the first one of a packet if low is 0, else a later one
 unfoldable pub written_tuple : ℕ → Grammar Error true Written
 written_tuple low =
     field (number two any) (λ t. t.start) (λ start.
@@ -50,12 +51,13 @@ written_tuple low =
     part (extension_at low start third (nat_le 128 third)) (λ t. t.extension) (λ extension.
     done (record { start = start; third = third; extension = extension }))))
 
--- there is a tuple
+-- the test that a packet has a tuple
 abbrev pub at_least_one : List Written → Option Error
 at_least_one [] = Some Truncated
 at_least_one (t ∷ ts) = None
 
--- the router's network, the length of its node in bits, its node, and tuples up to the end of the input
+-- the format of a packet: the router's network, the length of its node in bits, its node, and tuples up to the end of
+-- the input
 unfoldable pub routing_data : Grammar Error false RoutingData
 routing_data =
     room 4 (
@@ -65,7 +67,7 @@ routing_data =
     many written_tuple (λ t. 1) at_least_one (λ p. p.written)
     (λ written. record { router = record { net = net; node = node }; written = written })))))
 
--- what an extended tuple says: how far its range is; the others are skipped
+-- the range and distance of an extended tuple, and none of another tuple, which is skipped
 abbrev pub tuple_of : Written → Option Tuple
 tuple_of t = said t.extension
   where
@@ -73,7 +75,7 @@ tuple_of t = said t.extension
     said None = None
     said (Some e) = Some (record { range = record { start = t.start; end = e.end }; distance = t.third % 32 })
 
--- the range of an extended tuple is valid
+-- the range of the tuple is valid, if it is extended
 abbrev pub IsWritten : Written → Type 0
 IsWritten t = in_range t.extension
   where
@@ -81,7 +83,7 @@ IsWritten t = in_range t.extension
     in_range None = Unit {0}
     in_range (Some e) = is_range t.start e.end ≡ true
 
--- the extended tuples, in order
+-- the extended tuples of a packet, in order
 abbrev pub tuples_of : List Written → List Tuple
 tuples_of [] = []
 tuples_of (t ∷ ts) = with_next (tuple_of t) (tuples_of ts)
@@ -90,7 +92,7 @@ tuples_of (t ∷ ts) = with_next (tuple_of t) (tuples_of ts)
     with_next None rest = rest
     with_next (Some x) rest = x ∷ rest
 
--- the range of the sender's port: that of the first tuple
+-- the range of the sender's port, which is that of the first tuple
 abbrev pub own_range : RoutingData → Span
 own_range p = range_in (tuples_of p.written)
   where
@@ -98,7 +100,7 @@ own_range p = range_in (tuples_of p.written)
     range_in [] = record { start = 0; end = 0 }
     range_in (t ∷ ts) = t.range
 
--- the tuples that the bytes are, up to their end, the first of which comes after a number
+-- the tuples in the bytes, up to their end; low is 0 if the first of them is a packet's first, else 1
 unfoldable pub written_in : ℕ → List ℕ → List Written
 written_in low bytes = found (many_at (λ n. read packets (written_tuple n)) (λ t. 1) low (length bytes) bytes)
   where
@@ -106,11 +108,11 @@ written_in low bytes = found (many_at (λ n. read packets (written_tuple n)) (λ
     found (Ok written) = written
     found (Err e) = []
 
--- the bytes are tuples up to their end, the first of which comes after a number
+-- the bytes are tuples up to their end; low is 0 if the first of them is a packet's first, else 1
 abbrev pub IsTuples : ℕ → List ℕ → Type 0
 IsTuples low bytes = many_at (λ n. read packets (written_tuple n)) (λ t. 1) low (length bytes) bytes ≡ Ok (written_in low bytes)
 
--- the packet of a router whose tuples are in place
+-- the packet with this router and the tuples in these bytes
 abbrev pub data_in : Addr → List ℕ → RoutingData
 data_in router bytes = record { router = router; written = written_in 0 bytes }
 

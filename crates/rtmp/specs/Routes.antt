@@ -1,4 +1,4 @@
--- Routing tables: finite maps from ranges to rows, and what each message and each moment does to them.
+-- Routing tables: finite maps from ranges to rows, and the effects of messages and of aging on them.
 -- (Inside AppleTalk, the chapter on RTMP)
 use Rattle.std.specs.Prelude.{◌≡◌, ℕ, ◌+◌, ◌++◌, ◌≤◌, Bool, true, false, not, ◌&&◌, ◌||◌, ◌==◌, IsTrue, List, [], ◌∷◌, length, map, filter, fold, find}
 use Rattle.std.specs.Prelude.{Option, Some, None, nat_le, nat_lt, if◌then◌else◌}
@@ -16,7 +16,7 @@ use Rattle.rtmp.specs.declared.tuple.Tuple.{Tuple}
 
 -- ---- The map
 
--- each range starts above the one before it ends, the first one above a network
+-- each range starts above the end of the one before it, and the first above low
 abbrev pub are_above : ℕ → List Row → Bool
 are_above low [] = true
 are_above low (r ∷ rows) = nat_lt low r.range.start && are_above r.range.end rows
@@ -25,62 +25,62 @@ are_above low (r ∷ rows) = nat_lt low r.range.start && are_above r.range.end r
 abbrev pub are_apart : List Row → Bool
 are_apart rows = are_above 0 rows
 
--- the range is valid, and the distance at most 31, the greatest that a packet holds
+-- the range is valid, and the distance is at most 31, the greatest that a packet can hold
 abbrev pub is_row : Row → Bool
 is_row r = is_range r.range.start r.range.end && nat_le r.distance 31
 
--- A routing table is a finite map from disjoint ranges to rows, listed by rising range: at most 200.
+-- A routing table is a finite map from disjoint ranges to rows, listed by rising range: at most 200 rows.
 pub record IsRouteMap (rows : List Row) : Type 0 where
   pub apart : IsTrue (are_apart rows)
   pub each : IsTrue (list_all is_row rows)
   pub few : length rows ≤ 200
 
--- a direct row has no next router
+-- the row is direct: it has no next router
 abbrev pub is_direct : Row → Bool
 is_direct row = is_none row.next
 
--- the row of a range
+-- the row of a range, if any
 abbrev pub row_at : Span → List Row → Option Row
 row_at range rows = find (λ r. same_range r.range range) rows
 
--- the usable row whose range holds the network
+-- the usable row whose range contains the network, if any
 abbrev pub row_for : ℕ → List Row → Option Row
 row_for net rows = find (λ r. is_usable r.state && is_between r.range.start r.range.end net) rows
 
--- the row, in place of the one of its range
+-- the new row, if it has the range of r, else r
 abbrev pub replaced_row : Row → Row → Row
 replaced_row row r = if same_range r.range row.range then row else r
 
--- the map with another row for a range that it has
+-- the map with this row in place of the one of the same range
 abbrev pub replaced : Row → List Row → List Row
 replaced row rows = map (replaced_row row) rows
 
--- the map with one row more, whose range overlaps none of its ranges
+-- the map with one more row, whose range overlaps no range of the map
 abbrev pub added : Row → List Row → List Row
 added row [] = row ∷ []
 added row (r ∷ rows) = if nat_lt r.range.start row.range.start then r ∷ added row rows else row ∷ r ∷ rows
 
--- ---- What changes it
+-- ---- changes of the map
 
--- the rows that a new cable leaves: those that don't overlap its range
+-- the rows that don't overlap a range
 abbrev pub beside : Span → List Row → List Row
 beside range rows = filter (λ r. not (overlaps r.range range)) rows
 
--- the row of a cable that a port stands on
+-- the row of the range of a port's own cable
 abbrev pub direct_row : Span → ℕ → Row
 direct_row range port = record { range = range; distance = 0; port = port; next = record { net = 0; node = 0 }; state = Good }
 
--- a port stands on a cable of this range
+-- the map after a port was added on a cable of this range
 abbrev pub directed : Span → ℕ → List Row → List Row
 directed range port rows = added (direct_row range port) (beside range rows)
 
--- the row of a range that is so far from router s, which was heard on a port
+-- the row of a range at distance t from router s, which was heard on a port
 abbrev pub heard_row : Span → ℕ → Addr → ℕ → Row
 heard_row range t s port = record { range = range; distance = t + 1; port = port; next = s; state = Good }
 
--- The row of a range after router s said on a port that the range is at distance t: a direct row stays; a row that isn't
--- usable, or isn't nearer, is taken over; the row's own router is believed, also where it is farther, and above 14 it
--- makes the row bad.
+-- The row of a range, and the change, after router s reported on a port that the range is at distance t: a direct row
+-- stays; with t at most 14, a row that isn't usable or isn't nearer is replaced; the row's own router is believed even
+-- if the range is farther now, and above 14 it makes the row bad.
 abbrev pub after_hearing : Row → ℕ → Addr → ℕ → Row × Change
 after_hearing row t s port =
     if is_direct row then (row, Ignored)
@@ -89,11 +89,11 @@ after_hearing row t s port =
     (if nat_le t 14 then heard_row row.range t s port else record row { state = Bad }, Changed)
     else (row, Ignored)
 
--- a new range is added where it is near enough and overlaps none
+-- a range without a row is added: it is near enough and overlaps no range of the map
 abbrev pub is_new : Span → ℕ → List Row → Bool
 is_new range t rows = nat_le t 14 && not (list_any (λ r. overlaps r.range range) rows)
 
--- the map and the change after router s said on a port that a range is at distance t
+-- the map and the change after router s reported on a port that a range is at distance t
 abbrev pub heard : Span → ℕ → Addr → ℕ → List Row → List Row × Change
 heard range t s port rows = by_row (row_at range rows)
   where
@@ -101,7 +101,7 @@ heard range t s port rows = by_row (row_at range rows)
     by_row (Some row) = (replaced (after_hearing row t s port).0 rows, (after_hearing row t s port).1)
     by_row None = if is_new range t rows then (added (heard_row range t s port) rows, Added) else (rows, Ignored)
 
--- the same, where a range for which there is no room is left out
+-- the map after router s reported on a port that a range is at distance t; a new range is left out if the map is full
 abbrev pub heard_within : Span → ℕ → Addr → ℕ → List Row → List Row
 heard_within range t s port rows =
     if is_added (heard range t s port rows).1 && nat_le 200 (length rows) then rows else (heard range t s port rows).0
@@ -111,29 +111,29 @@ heard_within range t s port rows =
     is_added Changed = false
     is_added Ignored = false
 
--- what a packet of routing data from router s does to a table, tuple by tuple
+-- the map after a packet of routing data from router s, tuple by tuple
 abbrev pub heard_packet : Addr → ℕ → List Tuple → List Row → List Row
 heard_packet s port tuples rows = fold (λ table t. heard_within t.range t.distance s port table) rows tuples
 
--- Only the first of these tuples were heard.
+-- The map after only the first of these tuples were handled.
 pub record IsHeardInPart (s : Addr) (port : ℕ) (tuples : List Tuple) (rows now : List Row) : Type 0 where
   pub heard : List Tuple
   pub left : List Tuple
   pub whole : tuples ≡ heard ++ left
   pub is : now ≡ heard_packet s port heard rows
 
--- the state that follows
+-- the next state of a row that ages
 abbrev pub older : State → State
 older Good = Suspect
 older Suspect = Bad
 older Bad = Last
 older Last = Last
 
--- a row that isn't direct grows older
+-- a row after aging; a direct row is unchanged
 abbrev pub aged_row : Row → Row
 aged_row r = if is_direct r then r else record r { state = older r.state }
 
--- the row was in its last state
+-- the row is in its last state, and isn't direct
 abbrev pub is_over : Row → Bool
 is_over r = not (is_direct r) && is_last r.state
   where
@@ -143,14 +143,14 @@ is_over r = not (is_direct r) && is_last r.state
     is_last Bad = false
     is_last Last = true
 
--- rows that aren't direct grow older, and those in their last state go
+-- the map after aging: rows in their last state are removed, and the others, except direct rows, get the next state
 abbrev pub aged : List Row → List Row
 aged rows = map aged_row (filter (λ r. not (is_over r)) rows)
 
--- a row of a router that is gone is bad
+-- a row after router next was lost: it is bad if it goes through that router
 abbrev pub poisoned_row : Addr → Row → Row
 poisoned_row next r = if not (is_direct r) && same_address r.next next then record r { state = Bad } else r
 
--- the rows of a router that is gone are bad
+-- the map after router next was lost: the rows that go through it are bad
 abbrev pub poisoned : Addr → List Row → List Row
 poisoned next rows = map (poisoned_row next) rows

@@ -1,4 +1,4 @@
--- What a router sends of its routing table on a port. (Inside AppleTalk, the chapter on RTMP)
+-- The routing data that a router sends on a port. (Inside AppleTalk, the chapter on RTMP)
 use Rattle.std.specs.Prelude.{◌≡◌, ℕ, ◌*◌, not, ◌||◌, ◌==◌, List, ◌∷◌, length, map, filter, take, drop, Option, Some, None, nat_lt}
 use Rattle.std.specs.Prelude.{if◌then◌else◌}
 use Rattle.at_base.specs.declared.address.Addr.{Addr}
@@ -9,27 +9,27 @@ use Rattle.rtmp.specs.declared.tuple.Tuple.{Tuple}
 use Rattle.at_base.specs.Spelling.{Spells}
 use Rattle.rtmp.specs.Data.{RoutingData, data_of, routing_data}
 
--- the rows that a port sends: those of the other ports (split horizon)
+-- the rows that a router sends on a port: those of its other ports (split horizon)
 abbrev pub of_other_ports : ℕ → List Row → List Row
 of_other_ports port rows = filter (λ r. not (r.port == port)) rows
 
--- what is sent of a row: its distance, and 31 of a row that isn't usable
+-- the tuple sent for a row: its distance, or 31 if the row isn't usable
 abbrev pub sent_tuple : Row → Tuple
 sent_tuple r = record { range = r.range; distance = if is_usable r.state then r.distance else 31 }
 
--- the port's own range at distance 0, which comes first in each packet
+-- the port's own range at distance 0, the first tuple of each packet
 abbrev pub own_tuple : Span → Tuple
 own_tuple own = record { range = own; distance = 0 }
 
--- The packet numbered n, from 0: the own range, and the n-th 96 rows of the other ports. The first one is sent always, a
--- later one where rows are left for it.
+-- The packet numbered n, from 0, with the own range and the n-th 96 rows of the other ports; the first packet is always
+-- sent, later ones while rows are left.
 abbrev pub packet_numbered : ℕ → Span → Addr → ℕ → List Row → Option RoutingData
 packet_numbered port own me n rows =
     if n == 0 || nat_lt (n * 96) (length (of_other_ports port rows))
     then Some (data_of me (own_tuple own ∷ map sent_tuple (take 96 (drop (n * 96) (of_other_ports port rows)))))
     else None
 
--- the bytes of a packet that is sent, and none of one that isn't
+-- the bytes are those of the packet, if one is sent, else none
 abbrev pub IsPacket : Option RoutingData → Option (List ℕ) → Type 0
 IsPacket None bytes = bytes ≡ None
 IsPacket (Some p) None = ⊥

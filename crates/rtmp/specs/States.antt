@@ -3,7 +3,7 @@ use Rattle.std.specs.Prelude.{Bool, true, false}
 use Rattle.rtmp.specs.declared.state.State.{State}
 use Rattle.rtmp.specs.declared.state.State.TheVariants.{Good, Suspect, Bad, Last}
 
--- a row is used for forwarding while it is good or suspect
+-- a row in this state is used for forwarding: good and suspect rows are
 abbrev pub is_usable : State → Bool
 is_usable Good = true
 is_usable Suspect = true

@@ -1,4 +1,4 @@
--- Changes of the rows of a table, one by one.
+-- Updates of the rows of a table, one by one.
 use Rattle.std.specs.Prelude.{ℕ, List}
 use Rattle.at_base.specs.Starts.{before_start}
 use Rattle.rtmp.specs.declared.row.Row.{Row}
@@ -11,6 +11,6 @@ abbrev pub updated : Update → Row → Row
 updated Age r = aged_row r
 updated (Poison next) r = poisoned_row next r
 
--- how many rows there are before the first one that doesn't start below a network
+-- the number of rows before the first one that doesn't start below a network
 abbrev pub before : ℕ → List Row → ℕ
 before start rows = before_start (λ r. r.range.start) start rows

@@ -1,4 +1,4 @@
-//! Packets of routing data, in place.
+//! A reader of packets of routing data, in place.
 
 ghost use Rattle.std.specs.Prelude.{◌≡◌, ◌≢◌, ◌∷◌, [], length, IfOk, IfNone, IfSome};
 ghost use Rattle.at_base.specs.Packets.{packets};
@@ -13,7 +13,7 @@ use at_base::packet::{byte_at, byte_only, u16_at};
 use at_base::{Addr, Error, Field, Range};
 use std::marker::Model;
 
-/// Goes through the tuples up to the end of the bytes.
+/// Checks the tuples up to the end of the bytes.
 fn check_tuples(bytes: &[u8]) -> Result<(), Error>
     ensures { Gives (λ _. written_in 0 bytes.now) result
         (many_at (λ n. spec.read packets (written_tuple n)) (λ t. 1) 0 (length bytes.now)
@@ -33,7 +33,7 @@ fn check_tuples(bytes: &[u8]) -> Result<(), Error>
     Ok(())
 }
 
-/// The router of a packet, and its tuples in place.
+/// The router that sends the packet, and the bytes of the tuples.
 #[tactic(auto, unfolding(crate::specs::Data::routing_data))]
 fn parts_of(bytes: &[u8]) -> Result<(Addr, &[u8]), Error>
     ensures value { Gives (λ x. (data_in x.0 x.1.now, [])) result
@@ -54,7 +54,8 @@ fn parts_of(bytes: &[u8]) -> Result<(Addr, &[u8]), Error>
     Ok((Addr { net, node }, tuples))
 }
 
-/// A packet of routing data in place: the router that sends it, and how far ranges are from there.
+/// A packet of routing data, in place: the router that sends it, and the distances of ranges from
+/// that router.
 ///
 /// Inside AppleTalk, the chapter on RTMP.
 #[derive(Debug, Drop)]
@@ -75,12 +76,12 @@ impl<'a> Model for DataPacket<'a> {
 }
 
 impl<'a> DataPacket<'a> {
-    /// The packet that the bytes are. Allocates nothing.
+    /// The packet in the bytes, which goes up to their end. Allocates nothing.
     ///
     /// Errors, tuple by tuple: `Truncated` where the input ends within a part, or has no tuple;
-    /// `BadField` of `IdLength` where a node isn't 8 bits long, and of `Version` where the first
-    /// tuple isn't extended, of distance 0 and with version byte 82; `BadRange` where the range of
-    /// an extended tuple isn't valid.
+    /// `BadField` of `IdLength` where the node isn't 8 bits long, and of `Version` where the first
+    /// tuple isn't extended, with distance 0 and version byte 82; `BadRange` where the range of an
+    /// extended tuple isn't valid.
     pub fn read(bytes: &'a [u8]) -> Result<DataPacket<'a>, Error>
         ensures { Reads packets routing_data (λ d. d) (λ p. p) bytes.now result }
     {
@@ -97,7 +98,7 @@ impl<'a> DataPacket<'a> {
         self.router
     }
 
-    /// The range of the sender's port: that of the first tuple.
+    /// The range of the cable of the sender's port: the range of the first tuple.
     pub fn own(&self) -> Range
         ensures { result ≡ own_range self.now }
     {
@@ -107,7 +108,7 @@ impl<'a> DataPacket<'a> {
         }
     }
 
-    /// The extended tuples, in order; the first one is the range of the sender's port.
+    /// The extended tuples, in order; the first has the range of the sender's port.
     pub fn tuples(&self) -> Tuples<'a>
         ensures { result ≡ tuples_of self.now.written }
     {
@@ -144,10 +145,11 @@ fn next_in(low: u32, bytes: &[u8]) -> Option<(Tuple, &[u8])>
     None
 }
 
-/// The tuples of a packet of routing data that are left, which contracts see as a list.
+/// An iterator over the extended tuples that are left in a packet of routing data. Contracts see it
+/// as a list.
 #[derive(Debug, Drop)]
 pub struct Tuples<'a> {
-    // 0 before the first tuple, which has a test of its own, and 1 after it
+    // 0 before the first tuple, which has a test of its own, else 1.
     low: u32,
     rest: &'a [u8],
 }

@@ -1,4 +1,4 @@
-//! What a packet of routing data does to a routing table.
+//! The effect of a packet of routing data on a routing table.
 
 ghost use Rattle.std.specs.Prelude.{◌≡◌, OnErr, OnOk, IsOkUnless};
 ghost use Rattle.rtmp.specs.Data.{tuples_of};
@@ -9,7 +9,7 @@ use crate::table::RouteTable;
 use crate::tuple::Tuple;
 use at_base::{Addr, Error};
 
-/// Hears a tuple, and leaves it out where there is no room for its range. Error: `Memory`.
+/// Handles a tuple; a new range for which the table has no room is left out. Error: `Memory`.
 fn hear_tuple<T: RouteTable>(
     table: &mut T,
     tuple: &Tuple,
@@ -27,8 +27,8 @@ fn hear_tuple<T: RouteTable>(
     }
 }
 
-/// Hears each tuple of a packet that came in on a port, in order, and leaves out those for whose
-/// ranges there is no room. Error: `Memory`, after which only some of the tuples were heard.
+/// Handles each tuple of a packet that was received on a port, in order. New ranges for which the
+/// table has no room are left out. Error: `Memory`; only the tuples before it were handled then.
 ///
 /// Inside AppleTalk, the chapter on RTMP.
 pub fn hear_packet<T: RouteTable>(

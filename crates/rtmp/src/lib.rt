@@ -1,4 +1,4 @@
-//! Routing tables: what a router knows of the ranges of an internet, and the packets that tell it.
+//! Routing tables: a router's routes to the ranges of an internet, and the packets of routing data.
 #![tactic(auto)]
 
 mod data;

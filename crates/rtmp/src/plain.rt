@@ -1,4 +1,4 @@
-//! A routing table as rows in a vector.
+//! A routing table as a vector of rows.
 
 ghost use Rattle.std.specs.Prelude.{◌≡◌, ◌≤◌, ◌<◌, length, not, true, filter, vec_len};
 ghost use Rattle.std.specs.Prelude.{vec_capacity};
@@ -17,12 +17,12 @@ use at_base::{Addr, Error, Range};
 use std::alloc::Global;
 use std::marker::Model;
 
-/// A routing table as a vector of rows by rising range. It looks for the row of a range
-/// after the one that was heard last, and then by halving; for that of a network row by row.
+/// A routing table as a vector of rows, by rising range. The row of a range is looked for after the
+/// one heard last, and then by binary search; the row for a network is searched row by row.
 #[derive(Debug, Drop)]
 pub struct PlainTable {
     rows: Vec<Row>,
-    // where the next range that is heard may stand: a hint, which is tested before it counts
+    // The index expected for the next range that is heard. It is a hint, and is checked before use.
     near: usize,
 }
 
@@ -54,7 +54,7 @@ fn rows_are_apart(rows: &[Row]) -> bool
     true
 }
 
-/// The number of rows that start below the network, which is between these two.
+/// The number of rows that start below the network, which is from `low` to `high`.
 fn place_between(rows: &[Row], start: u16, low: usize, high: usize) -> usize
     requires map { IsRouteMap rows.now }
     requires from { low ≤ before start rows.now }
@@ -73,7 +73,7 @@ fn place_between(rows: &[Row], start: u16, low: usize, high: usize) -> usize
     }
 }
 
-/// The number of rows that start below the network. The rows are halved.
+/// The number of rows that start below the network, by binary search.
 fn place_in(rows: &[Row], start: u16) -> usize
     requires { IsRouteMap rows.now }
     ensures { result ≡ before start rows.now }
@@ -81,7 +81,7 @@ fn place_in(rows: &[Row], start: u16) -> usize
     place_between(rows, start, 0, rows.len())
 }
 
-/// Whether the row at an index, if there is one, starts below the network.
+/// Whether a row with this index exists and starts below the network.
 fn starts_below(rows: &[Row], index: usize, start: u16) -> bool
     requires { IsRouteMap rows.now }
     ensures { result ≡ true → index < before start rows.now }
@@ -92,7 +92,7 @@ fn starts_below(rows: &[Row], index: usize, start: u16) -> bool
     rows[index].range.start() < start
 }
 
-/// Whether there is a row at an index, and it doesn't start below the network.
+/// Whether a row with this index exists and doesn't start below the network.
 fn starts_past(rows: &[Row], index: usize, start: u16) -> bool
     ensures { result ≡ true → before start rows.now ≤ index }
 {
@@ -102,7 +102,7 @@ fn starts_past(rows: &[Row], index: usize, start: u16) -> bool
     rows[index].range.start() >= start
 }
 
-/// The number of rows that start below the network, which is often this one.
+/// The number of rows that start below the network, which is often `near`.
 fn place_near(rows: &[Row], start: u16, near: usize) -> usize
     requires { IsRouteMap rows.now }
     ensures { result ≡ before start rows.now }
@@ -119,7 +119,7 @@ fn place_near(rows: &[Row], start: u16, near: usize) -> usize
     place_in(rows, start)
 }
 
-/// The row of a range, which often has this index.
+/// The row of a range, if any. Its index is often `near`.
 fn row_of(rows: &[Row], range: Range, near: usize) -> Option<&Row>
     requires { IsRouteMap rows.now }
     ensures { option_copied result ≡ row_at range rows.now }
@@ -132,7 +132,7 @@ fn row_of(rows: &[Row], range: Range, near: usize) -> Option<&Row>
     if row.range == range { Some(row) } else { None }
 }
 
-/// The usable row whose range holds the network.
+/// The usable row whose range contains the network, if any.
 fn usable_row(rows: &[Row], net: u16) -> Option<&Row>
     ensures { option_copied result ≡ spec.row_for net rows.now }
 {
@@ -140,7 +140,7 @@ fn usable_row(rows: &[Row], net: u16) -> Option<&Row>
         .find(|row| row.state.is_usable() && row.range.holds(net))
 }
 
-/// The number of rows beside the range.
+/// The number of rows that don't overlap the range.
 fn count_beside(rows: &[Row], range: Range) -> usize
     ensures { result ≡ length (beside range rows.now) }
 {
@@ -149,7 +149,7 @@ fn count_beside(rows: &[Row], range: Range) -> usize
         .count()
 }
 
-/// Takes out the rows that overlap the range.
+/// Removes the rows that overlap the range.
 fn keep_beside(rows: &mut Vec<Row>, range: Range)
     ensures kept { rows.new.items ≡ beside range rows.old.items }
     ensures room { vec_capacity rows.new ≡ vec_capacity rows.old }
@@ -158,14 +158,14 @@ fn keep_beside(rows: &mut Vec<Row>, range: Range)
     rows.retain(|row| !row.range.overlaps(&range));
 }
 
-/// Takes out the rows in their last state.
+/// Removes the rows in their last state.
 fn drop_over(rows: &mut Vec<Row>)
     ensures { rows.new.items ≡ filter (λ r. not (spec.is_over r)) rows.old.items }
 {
     rows.retain(|row| !is_over(row));
 }
 
-/// The row of a range that `source`, heard on a port, is so far from.
+/// The row of a range at `distance` from router `source`, which was heard on a port.
 fn heard_row(range: Range, distance: u8, source: Addr, port: u8) -> Row
     requires { distance ≤ 14 }
     ensures { result ≡ spec.heard_row range distance source port }
@@ -179,14 +179,14 @@ fn heard_row(range: Range, distance: u8, source: Addr, port: u8) -> Row
     }
 }
 
-/// Does nothing: it tells the prover that a range is valid, which only a call can.
+/// Does nothing. It gives the prover the fact that a range is valid, which only a call can.
 fn recall_valid(range: Range)
     ensures { IsRange range.start range.end }
 {
     let _start = range.start();
 }
 
-/// The row of a cable that a port stands on.
+/// The row of the range of a port's own cable.
 fn direct_row(range: Range, port: u8) -> Row
     ensures { result ≡ spec.direct_row range port }
 {
@@ -199,7 +199,8 @@ fn direct_row(range: Range, port: u8) -> Row
     }
 }
 
-/// The row of a range after `source` said on a port that it is at `distance`, and the change.
+/// The row of a range, and the change, after `source` reported on a port that the range is at
+/// `distance`.
 fn after_hearing(row: &Row, distance: u8, source: Addr, port: u8) -> (Row, Change)
     ensures { result ≡ spec.after_hearing row.now distance source port }
 {
@@ -222,14 +223,14 @@ fn after_hearing(row: &Row, distance: u8, source: Addr, port: u8) -> (Row, Chang
     }
 }
 
-/// Whether the range overlaps that of a row.
+/// Whether the range overlaps that of any row.
 fn overlaps_any(rows: &[Row], range: Range) -> bool
     ensures { result ≡ list_any (λ r. overlaps r.range range) rows.now }
 {
     rows.iter().any(|row| row.range.overlaps(&range))
 }
 
-/// Whether a range that no row has is added.
+/// Whether a range without a row is added.
 fn is_new(rows: &[Row], range: Range, distance: u8) -> bool
     ensures value { result ≡ spec.is_new range distance rows.now }
     ensures near { result ≡ true → distance ≤ 14 }
@@ -252,7 +253,7 @@ fn place_for(rows: &[Row], start: u16) -> usize
     index
 }
 
-/// Adds the row, where there is room for it.
+/// Inserts the row at its place. The vector must have room for it.
 fn put(rows: &mut Vec<Row>, row: Row)
     requires { vec_len rows.old < vec_capacity rows.old }
     ensures { rows.new.items ≡ added row rows.old.items }
@@ -261,7 +262,7 @@ fn put(rows: &mut Vec<Row>, row: Row)
     rows.insert(index, row).unwrap();
 }
 
-/// Puts the row in the place of the one of its range, if there is one, which often has this index.
+/// Replaces the row of the same range, if any. Its index is often `near`.
 fn replace(rows: &mut Vec<Row>, row: Row, near: usize)
     requires { IsRouteMap rows.old.items }
     ensures { rows.new.items ≡ replaced row rows.old.items }
@@ -318,7 +319,7 @@ impl RouteTable for PlainTable {
             return Err(Error::Full);
         }
         recall_valid(range);
-        // Room is made first: a refusal then leaves the rows as they are.
+        // Room is made first, so that a refusal leaves the rows as they are.
         self.rows.reserve(1)?;
         keep_beside(&mut self.rows, range);
         put(&mut self.rows, direct_row(range, port));

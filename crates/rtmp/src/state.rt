@@ -1,6 +1,6 @@
-//! How fresh a routing table's row is.
+//! The state of a routing table's row.
 
-/// How lately a row was confirmed; a row ages from `Good` through the other states, and is then
+/// How recently a row was confirmed. A row ages from `Good` through the other states and is then
 /// removed. A row is used for forwarding while it is `Good` or `Suspect`.
 ///
 /// Inside AppleTalk, the chapter on RTMP.

@@ -1,4 +1,4 @@
-//! What a routing table is to the router above it.
+//! The interface of a routing table.
 
 ghost use Rattle.std.specs.Prelude.{◌≡◌, ◌≢◌, ◌≤◌, ◌<◌, ◌⊎◌, ◌↔◌, [], true, false, length};
 ghost use Rattle.std.specs.Prelude.{slice_get, nat_le};
@@ -12,20 +12,21 @@ use crate::row::Row;
 use at_base::{Addr, Error, Range};
 use std::alloc::Global;
 
-/// The most rows of a routing table.
+/// The greatest number of rows in a routing table.
 pub const MAX_ROWS: usize = 200;
 
-/// The greatest distance at which a router takes a range from another, in routers from that one.
+/// The greatest distance, in routers from the sender, at which a router accepts a range from
+/// another router.
 pub const MAX_DISTANCE: u8 = 14;
 
-/// What a table did with what it heard of a range.
+/// The change that a table made for a range it heard of.
 #[derive(Clone, Copy, Debug, PartialEq, Eq)]
 pub enum Change {
     /// Nothing.
     Ignored,
-    /// The row of the range was written anew, though it may be equal.
+    /// The row of the range was rewritten; it may be equal to the old one.
     Changed,
-    /// The range is new.
+    /// A row for the range was added.
     Added,
 }
 
@@ -36,7 +37,7 @@ pub trait RouteTable: Drop {
     ghost use Rattle.std.specs.Prelude.{List};
     ghost use Rattle.rtmp.specs.declared.row.Row.{Row as RowValue};
 
-    // The map, as its rows by rising range.
+    // The rows of the map, by rising range.
     ghost rows: { Self → List RowValue };
 
     /// A table without rows. Error: `Memory`.
@@ -44,7 +45,7 @@ pub trait RouteTable: Drop {
         ensures ok { IfOk result (λ table. rows table ≡ []) }
         ensures refused { IsOkUnless result Error.Memory };
 
-    /// The same table again. Error: `Memory`.
+    /// A copy of the table. Error: `Memory`.
     fn copy(&self) -> Result<Self, Error>
         ensures ok { IfOk result (λ table. rows table ≡ rows self.now) }
         ensures refused { IsOkUnless result Error.Memory };
@@ -59,12 +60,12 @@ pub trait RouteTable: Drop {
         ensures value { result ≡ slice_get (rows self.now) index }
         ensures map { IsRouteMap (rows self.now) };
 
-    /// The usable row whose range holds the network. Allocates nothing.
+    /// The usable row whose range contains the network, if any. Allocates nothing.
     fn row_for(&self, net: u16) -> Option<Row>
         ensures value { result ≡ spec.row_for net (rows self.now) }
         ensures map { IsRouteMap (rows self.now) };
 
-    /// Takes these rows in place of its own. Distances of at most 31 are the caller's condition.
+    /// Replaces the table's rows with these. The caller ensures that distances are at most 31.
     ///
     /// Errors: `BadRange` where the ranges aren't rising and disjoint; `Full` above `MAX_ROWS`;
     /// `Memory`. A refusal changes nothing.
@@ -78,11 +79,10 @@ pub trait RouteTable: Drop {
             (λ e. (e ≡ Error.BadRange) ⊎ (e ≡ Error.Full) ⊎ (e ≡ Error.Memory)) }
         ensures unchanged { OnErr result (rows self.new ≡ rows self.old) };
 
-    /// A port stands on a cable of this range: the cable is at distance 0, and the rows that
-    /// overlap it go.
+    /// Adds the range of a port's own cable, at distance 0. Rows that overlap the range are
+    /// removed.
     ///
-    /// Errors: `Full` where `MAX_ROWS` rows would be left beside it; `Memory`. A refusal changes
-    /// nothing.
+    /// Errors: `Full` where `MAX_ROWS` rows don't overlap it; `Memory`. A refusal changes nothing.
     fn direct(&mut self, range: Range, port: u8) -> Result<(), Error>
         ensures ok { OnOk result (rows self.new ≡ directed range port (rows self.old)) }
         ensures full { (result ≡ Err Error.Full)
@@ -90,10 +90,10 @@ pub trait RouteTable: Drop {
         ensures refused { IfErr result (λ e. (e ≡ Error.Full) ⊎ (e ≡ Error.Memory)) }
         ensures unchanged { OnErr result (rows self.new ≡ rows self.old) };
 
-    /// Router `source` says on a port that a range is at `distance` from it.
+    /// Handles a tuple heard on a port: router `source` is at `distance` from a range.
     ///
-    /// Errors, both only where the range is new: `Full` where there are `MAX_ROWS` rows; `Memory`.
-    /// A refusal changes nothing.
+    /// Errors, both only where the range is new: `Full` where the table has `MAX_ROWS` rows;
+    /// `Memory`. A refusal changes nothing.
     fn hear(&mut self, range: Range, distance: u8, source: Addr, port: u8) -> Result<Change, Error>
         ensures ok { IfOk result
             (λ change. (rows self.new, change) ≡ heard range distance source port (rows self.old)) }
@@ -104,12 +104,12 @@ pub trait RouteTable: Drop {
         ensures refused { IfErr result (λ e. (e ≡ Error.Full) ⊎ (e ≡ Error.Memory)) }
         ensures unchanged { OnErr result (rows self.new ≡ rows self.old) };
 
-    /// A period passes: rows that aren't direct grow older, and those in their last state go.
-    /// Allocates nothing.
+    /// Ages the table by one period: rows in their last state are removed, and the others, except
+    /// direct rows, get the next state. Allocates nothing.
     fn age(&mut self)
         ensures { rows self.new ≡ aged (rows self.old) };
 
-    /// A router is gone: the rows that lead through it are bad. Allocates nothing.
+    /// Handles the loss of a router: the rows that go through it become bad. Allocates nothing.
     fn poison(&mut self, next: Addr)
         ensures { rows self.new ≡ poisoned next (rows self.old) };
 }

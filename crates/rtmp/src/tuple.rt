@@ -1,4 +1,4 @@
-//! What a packet of routing data says of a range.
+//! The tuples of routing data.
 
 use at_base::Range;
 
@@ -8,6 +8,6 @@ use at_base::Range;
 #[derive(Clone, Copy, Debug, PartialEq, Eq)]
 pub struct Tuple {
     pub range: Range,
-    /// The number of routers on the way, 0 to 31; 31 says that the range can't be reached.
+    /// The number of routers on the route, 0 to 31; 31 means that the range can't be reached.
     pub distance: u8,
 }

@@ -1,4 +1,4 @@
-//! Changes of the rows of a table, one by one: none of them changes a range.
+//! Updates of all rows of a table. None of them changes a range.
 
 ghost use Rattle.std.specs.Prelude.{◌≡◌, map};
 ghost use Rattle.rtmp.specs.Routes as spec;
@@ -9,16 +9,16 @@ use crate::row::Row;
 use crate::state::State;
 use at_base::Addr;
 
-/// What becomes of each row of a table.
+/// An update of each row of a table.
 #[derive(Clone, Copy, Debug)]
 pub(crate) enum Update {
-    /// It grows older.
+    /// The row ages.
     Age,
-    /// It is bad where it leads through this router.
+    /// The row becomes bad if it goes through this router.
     Poison(Addr),
 }
 
-/// The state that follows.
+/// The next state.
 fn older(state: State) -> State
     ensures { result ≡ spec.older state }
 {
@@ -29,14 +29,14 @@ fn older(state: State) -> State
     }
 }
 
-/// Whether the row goes when it next grows older.
+/// Whether the row is removed by the next aging.
 pub(crate) fn is_over(row: &Row) -> bool
     ensures { result ≡ spec.is_over row.now }
 {
     !row.is_direct() && matches!(row.state, State::Last)
 }
 
-/// A row that isn't direct, in the state that follows.
+/// The row with the next state; a direct row is unchanged.
 fn aged(row: &Row) -> Row
     ensures { result ≡ aged_row row.now }
 {

@@ -1,4 +1,4 @@
-//! What a router sends of its routing table.
+//! A writer of the routing data that a router sends.
 
 ghost use Rattle.std.specs.Prelude.{◌≡◌, ◌≤◌, ◌++◌, length, map, take, drop, IfOk, OnOk};
 ghost use Rattle.std.specs.Prelude.{IsOkUnless};
@@ -15,18 +15,18 @@ use crate::tuple::Tuple;
 use at_base::{Addr, Bytes, Error, Range};
 use std::alloc::Global;
 
-/// The most rows in a packet, beside the port's own range.
+/// The greatest number of rows in a packet, not counting the port's own range.
 pub const MAX_ROWS_IN_PACKET: usize = 96;
 
-/// The distance that says that a range can't be reached.
+/// The distance that means that a range can't be reached.
 pub const UNREACHABLE: u8 = 31;
 
-/// The bytes before the tuples, and those of each tuple.
+/// The length of the bytes before the tuples, and (`TUPLE_LEN`) of each tuple.
 const HEAD_LEN: usize = 4;
 
 const TUPLE_LEN: usize = 6;
 
-/// What is sent of a row.
+/// The tuple sent for a row.
 fn sent_tuple(row: &Row) -> Tuple
     ensures { result ≡ sending_spec.sent_tuple row.now }
 {
@@ -41,7 +41,7 @@ fn sent_tuple(row: &Row) -> Tuple
     }
 }
 
-/// Appends the router, before its tuples.
+/// Appends the router's address, before its tuples.
 fn put_head(bytes: &mut Vec<u8>, me: Addr) -> Result<(), Error>
     ensures put { OnOk result (bytes.new.items ≡ bytes.old.items ++ head_bytes me) }
     ensures refused { IsOkUnless result Error.Memory }
@@ -66,7 +66,7 @@ fn put_tuple(bytes: &mut Vec<u8>, tuple: Tuple) -> Result<(), Error>
     Ok(())
 }
 
-/// Appends what each packet begins with: the router, and the port's own range at distance 0.
+/// Appends the front of each packet: the router's address, and the port's own range at distance 0.
 fn put_front(bytes: &mut Vec<u8>, me: Addr, own: Range) -> Result<(), Error>
     ensures put { OnOk result (bytes.new.items
         ≡ bytes.old.items ++ head_bytes me ++ bytes_spec.tuple_bytes (own_tuple own)) }
@@ -99,7 +99,7 @@ fn count_others<T: RouteTable>(table: &T, port: u8) -> usize
     count
 }
 
-/// Appends up to 96 rows of the other ports, after so many that are left out.
+/// Appends up to 96 rows of the other ports, after the first `left_out` of them.
 fn put_rows<T: RouteTable>(
     bytes: &mut Vec<u8>,
     table: &T,
@@ -128,9 +128,9 @@ fn put_rows<T: RouteTable>(
     Ok(())
 }
 
-/// The packet of routing data, numbered from 0, that router `me` sends on a port whose cable has
-/// the range `own`: that range at distance 0, and up to 96 rows of the other ports by rising range;
-/// and none after the last. Error: `Memory`.
+/// The packet `number` (from 0) of the routing data that router `me` sends on a port whose cable
+/// has the range `own`: that range at distance 0, and up to 96 rows of the other ports, by rising
+/// range. `None` after the last packet. Error: `Memory`.
 ///
 /// Inside AppleTalk, the chapter on RTMP.
 pub fn write_data<T: RouteTable>(

@@ -12,14 +12,15 @@ use crate::tuple::Tuple;
 use at_base::packet::{byte_at, u16_at};
 use at_base::{Error, Field, Range};
 
-/// The end of an extended tuple's range, and its last byte.
+/// The fields of an extended tuple after its third byte: the end of the range, and the version
+/// byte.
 #[derive(Clone, Copy, Debug, PartialEq, Eq)]
 pub(crate) struct Extension {
     pub(crate) end: u16,
     pub(crate) version: u8,
 }
 
-/// A tuple as it is written: its third byte has the distance and says whether it is extended.
+/// A tuple as it is written. The third byte has the distance, and whether the tuple is extended.
 #[derive(Clone, Copy, Debug, PartialEq, Eq)]
 pub(crate) struct Written {
     pub(crate) start: u16,
@@ -27,7 +28,7 @@ pub(crate) struct Written {
     pub(crate) extension: Option<Extension>,
 }
 
-/// The third byte, which of the first tuple says that it is extended.
+/// The third byte of a tuple. In the first tuple (`low` 0) it must mark the tuple as extended.
 fn third_at(low: u32, bytes: &[u8]) -> Result<(u8, &[u8]), Error>
     ensures { Gives (λ x. (x.0, x.1.now)) result
         (field_at packets (number one (wrong_third low)) bytes.now) }
@@ -39,7 +40,7 @@ fn third_at(low: u32, bytes: &[u8]) -> Result<(u8, &[u8]), Error>
     Ok((third, rest))
 }
 
-/// The last byte of an extended tuple, at which its range is judged.
+/// The last byte of an extended tuple. The tuple's range is checked there.
 fn version_at(low: u32, start: u16, third: u8, end: u16, bytes: &[u8]) -> Result<(u8, &[u8]), Error>
     ensures read { Gives (λ x. (x.0, x.1.now)) result
         (field_at packets (number one (wrong_extension low start third end)) bytes.now) }
@@ -55,7 +56,7 @@ fn version_at(low: u32, start: u16, third: u8, end: u16, bytes: &[u8]) -> Result
     Ok((version, rest))
 }
 
-/// What follows the third byte.
+/// The bytes after the third byte, which only an extended tuple has.
 fn extension_at(
     low: u32,
     start: u16,
@@ -74,7 +75,7 @@ fn extension_at(
     Ok((Some(Extension { end, version }), rest))
 }
 
-/// The tuple at the front of the bytes, which is the first one after 0, and a later one after 1.
+/// The tuple at the front of the bytes: the first one of a packet if `low` is 0, else a later one.
 #[tactic(auto, unfolding(crate::specs::Data::written_tuple))]
 pub(crate) fn written_at(low: u32, bytes: &[u8]) -> Result<(Written, &[u8]), Error>
     ensures read { Gives (λ x. (x.0, x.1.now)) result
@@ -94,7 +95,7 @@ pub(crate) fn written_at(low: u32, bytes: &[u8]) -> Result<(Written, &[u8]), Err
     ))
 }
 
-/// What an extended tuple says, and nothing of another.
+/// The range and distance of an extended tuple; `None` for any other tuple.
 pub(crate) fn tuple_of(written: &Written) -> Option<Tuple>
     requires { IsWritten written.now }
     ensures { result ≡ spec.tuple_of written.now }

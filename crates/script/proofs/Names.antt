@@ -1,4 +1,4 @@
--- The last place of a byte, one more byte at a time.
+-- The index of the last occurrence of a byte, one more byte at a time.
 use Rattle.std.proofs.Common.{◌≡◌, ℕ, ◌+◌, ◌<◌, true, false, cond, ◌==◌, List, [], ◌∷◌, ◌++◌, length, take, get_or, Option, Some, None, refl, sym, ap, ◌∙◌, eq-eqb, ◌≢◌, ◌-◌, drop, ltb, arith}
 use Rattle.std.specs.Prelude.{IfSome}
 use Rattle.std.proofs.lemmas.Bool.Decides.{nat_tests}
@@ -17,14 +17,14 @@ last_of_more byte b (x ∷ bytes) =
       | false ↦ λ t. rw (rest, t) refl
     ]) refl
 
--- one byte more, which is the last such
+-- The next byte is an occurrence.
 pub last_is_here : (byte : ℕ) (bytes : List ℕ) (k d : ℕ) → k < length bytes → get_or bytes k d ≡ byte → last_place byte (take (k + 1) bytes) ≡ Some k
 last_is_here byte bytes k d lt e =
     let len : length (take k bytes) ≡ k = length-take-le k bytes (omega arith) in
     let same : (get_or bytes k d == byte) ≡ true = eq-eqb _ _ e in
     rw (take_more bytes k d lt, last_of_more byte (get_or bytes k d) (take k bytes), len, same) refl
 
--- one byte more, which is another
+-- The next byte is another byte.
 pub last_is_before : (byte : ℕ) (bytes : List ℕ) (k d : ℕ) → k < length bytes → get_or bytes k d ≢ byte
     → last_place byte (take (k + 1) bytes) ≡ last_place byte (take k bytes)
 last_is_before byte bytes k d lt ne =
@@ -35,7 +35,7 @@ pub still_below : (place : Option ℕ) (n : ℕ) → IfSome place (λ k. k < n) 
 still_below None n h = tt
 still_below (Some k) n h = omega arith
 
--- the parts, by the places of the colon and the at sign
+-- The parts, by the indexes of the colon and the at sign.
 pub parts_at : (text : List ℕ) (colon at : ℕ) → Some colon ≡ position (λ b. b == 58) text → Some at ≡ last_place 64 text → colon < at → at < length text
     → Some (record {
       object = take colon text;

@@ -1,4 +1,4 @@
--- What was read of the lines of a script, one more at a time.
+-- The steps that were read from the lines of a script, one more line at a time.
 use Rattle.std.proofs.Common.{◌≡◌, ℕ, ◌+◌, Bool, true, false, not, ◌&&◌, ltb, List, [], ◌∷◌, ◌++◌, length, map, min, All, Option, Some, None, refl, ap, ◌∙◌, append_assoc, append-nil, arith}
 use Rattle.std.specs.Prelude.{is_none, filter, position}
 use Rattle.std.specs.List.{position_or_len}
@@ -6,7 +6,7 @@ use Rattle.std.proofs.lemmas.Bool.{lt-ltb}
 use Rattle.std.proofs.lemmas.List.{map-append, length_push, length-append}
 use Rattle.std.proofs.lemmas.List.Elements.{All-nil, All-head, All-tail, All-push, filter-append}
 
--- the first place at which a test passes is behind those where it doesn't
+-- The first index at which a test passes comes after those at which it fails.
 module _ {L : Type 0} (p : L → Bool) where
   length_before : (done : List L) (line : L) (more : List L) → All (λ l. p l ≡ false) done → p line ≡ true
       → position_or_len p (done ++ line ∷ more) ≡ length done
@@ -24,7 +24,7 @@ module _ {L : Type 0} (p : L → Bool) where
       lt-ltb _ _ (let len = length-append done (line ∷ more) in omega arith) in
       rw (place, inside) refl
 
--- ---- Lines of which some say nothing
+-- ---- Lines of which some are skipped
 
 abbrev pub tells : {L : Type 0} → (L → Bool) → L → Bool
 tells skips line = not (skips line)
@@ -32,7 +32,7 @@ tells skips line = not (skips line)
 abbrev pub faulty : {L S : Type 0} → (L → Bool) → (L → Option S) → L → Bool
 faulty skips says line = not (skips line) && is_none (says line)
 
--- the lines up to those that are left say these steps, and are so many
+-- The lines before those that are left have these steps, and `number` counts those lines.
 pub record SoFar {L S : Type 0} (skips : L → Bool) (says : L → Option S) (all : List L) (steps : List S) (number : ℕ) (left : List L) : Type 0 where
   pub done : List L
   pub whole : all ≡ done ++ left
@@ -57,7 +57,7 @@ module _ {L S : Type 0} (skips : L → Bool) (says : L → Option S) (all : List
       ap (map says) (filter-append (tells skips) done (line ∷ []))
       ∙ map-append says (filter (tells skips) done) (filter (tells skips) (line ∷ []))
 
-  -- a line that says nothing
+  -- A line that is skipped.
   pub passed : (steps : List S) (number : ℕ) (line : L) (more : List L) → SoFar skips says all steps number (line ∷ more) → skips line ≡ true
       → SoFar skips says all steps (min (number + 1) 4294967295) more
   passed steps number line more s skip =
@@ -69,7 +69,7 @@ module _ {L S : Type 0} (skips : L → Bool) (says : L → Option S) (all : List
         counted = next_counted s.done line number s.counted;
       }
 
-  -- a line that says a step
+  -- A line with a valid step.
   pub told : (steps : List S) (number : ℕ) (line : L) (more : List L) (step : S) → SoFar skips says all steps number (line ∷ more)
       → skips line ≡ false → says line ≡ Some step → SoFar skips says all (steps ++ step ∷ []) (min (number + 1) 4294967295) more
   told steps number line more step s tell e =
@@ -81,7 +81,7 @@ module _ {L S : Type 0} (skips : L → Bool) (says : L → Option S) (all : List
         counted = next_counted s.done line number s.counted;
       }
 
-  -- a line that says none
+  -- A bad line.
   pub stopped : (steps : List S) (number : ℕ) (line : L) (more : List L) → SoFar skips says all steps number (line ∷ more)
       → skips line ≡ false → says line ≡ None
       → (k : ℕ) × (position (faulty skips says) all ≡ Some k) × (min (number + 1) 4294967295 ≡ min (k + 1) 4294967295)
@@ -92,6 +92,6 @@ module _ {L S : Type 0} (skips : L → Bool) (says : L → Option S) (all : List
         (let c = s.counted in omega arith),
       )
 
-  -- no line is left
+  -- No line is left.
   pub ended : (steps : List S) (number : ℕ) → SoFar skips says all steps number [] → map says (filter (tells skips) all) ≡ map (λ s. Some s) steps
   ended steps number s = let e : all ≡ s.done = s.whole ∙ append-nil s.done in rw e s.said

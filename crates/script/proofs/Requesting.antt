@@ -1,4 +1,4 @@
--- A line by which a node asks for names: the name is the rest of the line.
+-- A `request` line: the name is the rest of the line.
 use Rattle.std.proofs.Common.{◌≡◌, ◌==◌, ℕ, List, ◌∷◌, Some, refl}
 use Rattle.std.specs.List.{join_with_byte}
 use Rattle.std.proofs.lemmas.List.Splits.{join_with_byte-slice_split}

@@ -1,4 +1,4 @@
--- A line by which a node sends, whose last word is no bytes.
+-- A `send` line whose last word isn't valid bytes.
 use Rattle.std.proofs.Common.{◌≡◌, ℕ, List, [], ◌∷◌, Option, Some, None, refl}
 use Rattle.script.specs.Words.{bytes}
 use Rattle.text.specs.Words.{given}

@@ -1,14 +1,14 @@
--- Where each line that should say a step says one, none is bad.
+-- If each line that isn't skipped has a valid step, no line is bad.
 use Rattle.std.proofs.Common.{◌≡◌, ℕ, ◌<◌, zero, suc, Bool, true, false, not, List, [], ◌∷◌, Option, Some, None, filter, get_or, length, map, refl, ap, sym, ◌∙◌, arith}
 use Rattle.script.specs.Lines.{is_skipped, step}
 use Rattle.script.specs.Scripts.{is_bad}
 use Rattle.script.specs.declared.step.Step.{Step}
 
--- the lines that should say a step
+-- The lines that aren't skipped.
 abbrev told_in : List (List ℕ) → List (List ℕ)
 told_in ls = filter (λ line. not (is_skipped line)) ls
 
--- one line, by whether it is skipped and what it says
+-- One line, by whether it is skipped and which step it has.
 one : (line : List ℕ) (ls : List (List ℕ)) (steps : List Step) (skipped : Bool) (says : Option Step) → is_skipped line ≡ skipped
     → step line ≡ says → map step (told_in (line ∷ ls)) ≡ map Some steps
     → (is_bad line ≡ false) × ((rest : List Step) × (map step (told_in ls) ≡ map Some rest))
@@ -18,7 +18,7 @@ one line ls (s ∷ steps) false None skip said all = let odd = rw (skip, said) a
 one line ls (s ∷ steps) false (Some t) skip said all =
     let both = rw (skip, said) at all in (rw (skip, said) refl, (steps, cc))
 
--- none of the lines is bad
+-- No line is bad.
 pub none_bad : (ls : List (List ℕ)) (steps : List Step) (k : ℕ) → map step (told_in ls) ≡ map Some steps → k < length ls
     → is_bad (get_or ls k []) ≡ false
 none_bad [] steps k all inside = absurd (omega (arith, inside))

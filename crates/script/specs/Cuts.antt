@@ -1,4 +1,4 @@
--- The words of a line that a step is said by. This project's own.
+-- The words of a line that has a step.
 use Rattle.std.specs.Prelude.{ℕ, List, [], ◌∷◌, Option, Some}
 use Rattle.events.specs.declared.event.Event.TheVariants.{Request}
 use Rattle.script.specs.Lines.{name}
@@ -9,12 +9,12 @@ use Rattle.script.specs.declared.send.SendWords.{SendWords}
 use Rattle.script.specs.declared.step.Step.{Step}
 use Rattle.script.specs.declared.step.Step.TheVariants.{Event}
 
--- the eight words of a line by which a node sends, in order
+-- The eight words of a `send` line, in order.
 abbrev pub all_of : SendWords → List (List ℕ)
 all_of w =
     w.node.now ∷ w.via.now ∷ w.source_socket.now ∷ w.target.now ∷ w.socket.now ∷ w.kind.now ∷ w.sum.now ∷ w.hex.now ∷ []
 
--- the step that is said by three words and the text of a name
+-- The step of the three words and the name text of a `request` line.
 abbrev pub asked_by : RequestWords → Option Step
 asked_by w =
     given (address w.node.now) (λ node. given (via w.via.now) (λ by. given (byte w.id.now) (λ id. given (name w.name.now) (λ tuple.

@@ -1,25 +1,25 @@
--- Scripts: one step a line. This project's own.
+-- Scripts: one step in each line.
 use Rattle.std.specs.Prelude.{◌≡◌, ℕ, ◌+◌, Bool, not, ◌&&◌, ◌==◌, List, Some, filter, map, min, is_none, position}
 use Rattle.std.specs.List.{slice_split}
 use Rattle.script.specs.Lines.{is_skipped, step}
 use Rattle.script.specs.declared.step.Step.{Step}
 
--- the lines of a text, each of which ends with a line feed; the last may lack it
+-- The lines of a text, each of which ends with a line feed; the last may lack it.
 abbrev pub lines : List ℕ → List (List ℕ)
 lines text = slice_split (λ b. b == 10) text
 
--- the line should say a step, and says none
+-- The line is bad: it isn't skipped and has no valid step.
 abbrev pub is_bad : List ℕ → Bool
 is_bad line = not (is_skipped line) && is_none (step line)
 
--- the lines that should say a step
+-- The lines that aren't skipped.
 abbrev pub telling : List ℕ → List (List ℕ)
 telling text = filter (λ line. not (is_skipped line)) (lines text)
 
--- the text is a script of these steps, in order: each line that should say a step says the next of them
+-- The text is a script with these steps: they are the steps of the lines that aren't skipped, in order.
 abbrev pub IsScript : List ℕ → List Step → Type 0
 IsScript text steps = map step (telling text) ≡ map Some steps
 
--- the number of the first line that says no step and should, from 1
+-- n is the number of the first bad line, from 1, at most 2^32 - 1.
 abbrev pub IsBadAt : List ℕ → ℕ → Type 0
 IsBadAt text n = (k : ℕ) × (position is_bad (lines text) ≡ Some k) × (n ≡ min (k + 1) 4294967295)

@@ -1,4 +1,4 @@
-//! Scripts: the steps of a run, one a line.
+//! Scripts: the steps of a run, one step in each line.
 #![tactic(auto)]
 
 mod laws;

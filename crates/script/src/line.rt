@@ -1,4 +1,4 @@
-//! What a line says.
+//! Reads the step in a line.
 
 ghost use Rattle.std.specs.Prelude.{◌≡◌, IfOk, IsOkUnless};
 ghost use Rattle.at_base.specs.Text.{same_bytes};
@@ -15,7 +15,7 @@ use std::alloc::Global;
 use text::address;
 use text::number::number;
 
-/// Whether the line says nothing: it is empty, or begins with a `#`.
+/// Whether the line is skipped: it is empty or begins with `#`.
 pub(crate) fn is_skipped(line: &[u8]) -> bool
     ensures { result ≡ spec.is_skipped line.now }
 {
@@ -31,7 +31,7 @@ fn is_word(word: &[u8], other: &[u8]) -> bool
     word == other
 }
 
-/// The step that the words after `take` say, if they say one.
+/// The `take` step with these arguments, or `None` if they aren't valid.
 fn take(mut words: Words<'_>) -> Option<Step>
     ensures { result ≡ taking words.entry }
 {
@@ -44,7 +44,7 @@ fn take(mut words: Words<'_>) -> Option<Step>
     }))
 }
 
-/// The step that the word after `drain` says, if it says one.
+/// The `drain` step with this argument, or `None` if it isn't valid.
 fn drain(mut words: Words<'_>) -> Option<Step>
     ensures { result ≡ draining words.entry }
 {
@@ -53,7 +53,7 @@ fn drain(mut words: Words<'_>) -> Option<Step>
     Some(Step::Drain(number(u32::MAX, most)?))
 }
 
-/// The step that the line says, if it says one. Error: `Memory`.
+/// The step in the line, or `None` if the line has no valid step. Error: `Memory`.
 pub(crate) fn step(alloc: Global, line: &[u8]) -> Result<Option<Step>, Error>
     ensures read { IfOk result (λ x. x ≡ spec.step line.now) }
     ensures refused { IsOkUnless result Error.Memory }

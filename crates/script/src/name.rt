@@ -1,4 +1,4 @@
-//! The names that a request asks for, as OBJECT:TYPE@ZONE.
+//! The names in a request, as OBJECT:TYPE@ZONE.
 
 ghost use Rattle.std.specs.Prelude.{IfSome, None, Some, cond, length, nat_le, ◌&&◌, ◌<◌, ◌≡◌};
 ghost use Rattle.script.specs.Lines as spec;
@@ -9,7 +9,7 @@ use nbp::Tuple;
 use std::marker::Model;
 use text::cut::place_of;
 
-/// The index of the last such byte.
+/// The index of the last occurrence of the byte.
 fn last_place_of(byte: u8, text: &[u8]) -> Option<usize>
     ensures place { result ≡ last_place byte text.now }
     ensures inside { IfSome result (λ k. k < length text.now) }
@@ -23,7 +23,7 @@ fn last_place_of(byte: u8, text: &[u8]) -> Option<usize>
     last
 }
 
-/// The parts of a name in place, which contracts see as lists of bytes.
+/// The parts of a name in place. Contracts see them as lists of bytes.
 #[derive(Debug, Drop)]
 struct Parts<'a> {
     object: &'a [u8],
@@ -39,7 +39,7 @@ impl<'a> Model for Parts<'a> {
     ghost view = { λ p. record { object = p.object.now; kind = p.kind.now; zone = p.zone.now } };
 }
 
-/// What a text is cut into at its first colon and at its last at sign.
+/// Cuts a text at its first `:` and its last `@`. `None` unless the `:` comes first.
 fn cut_name(text: &[u8]) -> Option<Parts<'_>>
     ensures { result ≡ spec.parts text.now }
 {
@@ -55,7 +55,7 @@ fn cut_name(text: &[u8]) -> Option<Parts<'_>>
     })
 }
 
-/// A text of at least so many bytes, and at most 32.
+/// A text of at least `least` and at most 32 bytes.
 fn text_of(bytes: &[u8], least: usize) -> Option<Text32>
     ensures { result ≡ cond (nat_le least (length bytes.now) && nat_le (length bytes.now) 32)
         (Some bytes.now) None }
@@ -69,8 +69,8 @@ fn text_of(bytes: &[u8], least: usize) -> Option<Text32>
     }
 }
 
-/// The tuple of a request for the names of a text; `None` where that isn't OBJECT:TYPE@ZONE, or a
-/// part of it has too few bytes or too many.
+/// The tuple of a request for the names of a text. `None` if the text isn't OBJECT:TYPE@ZONE, or a
+/// part of it has too few or too many bytes.
 pub(crate) fn name(text: &[u8]) -> Option<Tuple>
     ensures { result ≡ spec.name text.now }
 {

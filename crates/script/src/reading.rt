@@ -1,4 +1,4 @@
-//! From the text of a script to its steps.
+//! Reads the steps from the text of a script.
 
 ghost use Rattle.std.specs.Prelude.{◌≡◌, ◌⊎◌, ℕ, IfErr, IfOk};
 ghost use Rattle.script.specs.Scripts.{IsBadAt, IsScript};
@@ -9,23 +9,23 @@ use crate::step::Step;
 use std::alloc::Global;
 use text::cut::cut;
 
-/// Reads a script. Each line is a step, and lines end with a line feed, which the last may lack.
-/// Empty lines and lines that begin with `#` are skipped.
+/// Reads a script. Each line has one step. A line ends with a line feed, which the last line may
+/// lack. Empty lines and lines that begin with `#` are skipped.
 ///
 /// - `send NODE VIA SOURCE-SOCKET TARGET SOCKET TYPE SUM HEX`: a node sends a datagram. VIA is the
-///   address of a router, or `-` for the node's own; SUM is 1 where it carries a checksum, and else
-///   0; HEX is its data in hexadecimal digits, or `-` for none.
+///   address of a router, or `-` for the node's own; SUM is 1 if the datagram has a checksum, and
+///   otherwise 0; HEX is its data in hexadecimal digits, or `-` for no data.
 /// - `request NODE VIA ID OBJECT:TYPE@ZONE`: a node asks for names. The name is the rest of the
 ///   line, cut at its first `:` and its last `@`; the object and the type have 1 to 32 bytes, and
 ///   the zone at most 32.
 /// - `take STAMP STATION`: the station with this address takes a frame.
-/// - `drain MAX`: at most so many frames are taken, the least pending one each time.
+/// - `drain MAX`: at most MAX frames are taken, each time the lowest pending one.
 ///
-/// Words stand one space apart. An address is a network and a node, as `10.7`. A number is decimal
-/// digits, without a sign, and without a 0 in front; STAMP and MAX fit 32 bits.
+/// One space separates words. An address is a network and a node, as `10.7`. A number is decimal
+/// digits, without a sign and without leading zeros; STAMP and MAX fit 32 bits.
 ///
-/// Errors: `BadScript` with the number of the first line that is none of these, counted from 1 (and
-/// 4,294,967,295 where it is greater); `Memory`. This project's own.
+/// Errors: `BadScript` with the number of the first line that is none of these, counted from 1, at
+/// most 4,294,967,295; `Memory`.
 pub fn read(alloc: Global, text: &[u8]) -> Result<Vec<Step>, Error>
     ensures script { IfOk result (λ steps. IsScript text.now steps.items) }
     ensures refused { IfErr result (λ e.

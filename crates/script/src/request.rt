@@ -1,4 +1,4 @@
-//! What a line says by which a node asks for names.
+//! Reads a `request` line, with which a node asks for names.
 
 ghost use Rattle.std.specs.Prelude.{◌≡◌, None, IfNone, IfSome};
 ghost use Rattle.script.specs.Cuts.{asked_by};
@@ -12,7 +12,7 @@ use events::Event;
 use text::address;
 use text::number::byte;
 
-/// The words that follow `request`, the last of which may hold spaces.
+/// The words after `request`. The last one may contain spaces.
 #[derive(Debug, Drop)]
 struct RequestWords<'a> {
     node: &'a [u8],
@@ -21,7 +21,7 @@ struct RequestWords<'a> {
     name: &'a [u8],
 }
 
-/// The three words, and the rest of the line.
+/// The first three words, and the rest of the line.
 fn words_of(mut words: Words<'_>) -> Option<RequestWords<'_>>
     ensures some { IfSome result (λ w. spec.request words.entry ≡ asked_by w) }
     ensures none { IfNone result (spec.request words.entry ≡ None) }
@@ -34,7 +34,7 @@ fn words_of(mut words: Words<'_>) -> Option<RequestWords<'_>>
     })
 }
 
-/// The step that the words after `request` say, if they say one.
+/// The `request` step with these arguments, or `None` if they aren't valid.
 pub(crate) fn request(words: Words<'_>) -> Option<Step>
     ensures { result ≡ spec.request words.entry }
 {

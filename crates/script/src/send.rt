@@ -1,4 +1,4 @@
-//! What a line says by which a node sends a datagram.
+//! Reads a `send` line, with which a node sends a datagram.
 
 ghost use Rattle.std.specs.Prelude.{◌≡◌, None, Some, IfNone, IfOk, IfSome, IsOkUnless};
 ghost use Rattle.script.specs.Cuts.{all_of};
@@ -14,7 +14,7 @@ use std::alloc::Global;
 use text::address;
 use text::number::byte;
 
-/// The words that follow `send`.
+/// The words after `send`.
 #[derive(Debug, Drop)]
 struct SendWords<'a> {
     node: &'a [u8],
@@ -46,7 +46,7 @@ fn words_of(mut words: Words<'_>) -> Option<SendWords<'_>>
     Some(made)
 }
 
-/// The step that the words say, with the bytes that the last of them is.
+/// The `send` step with these words, and with the bytes of the last word.
 fn sent(words: &SendWords<'_>, payload: Bytes) -> Option<Step>
     requires { words_spec.bytes words.now.hex.now ≡ Some payload }
     ensures { result ≡ lines_spec.send (all_of words.now) }
@@ -63,7 +63,7 @@ fn sent(words: &SendWords<'_>, payload: Bytes) -> Option<Step>
     }))
 }
 
-/// The step that the words after `send` say, if they say one. Error: `Memory`.
+/// The `send` step with these arguments, or `None` if they aren't valid. Error: `Memory`.
 pub(crate) fn send(alloc: Global, words: Words<'_>) -> Result<Option<Step>, Error>
     ensures read { IfOk result (λ x. x ≡ lines_spec.send words.entry) }
     ensures refused { IsOkUnless result Error.Memory }

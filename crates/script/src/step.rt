@@ -1,12 +1,13 @@
-//! What a line of a script says.
+//! A step of a script.
 
 use events::Event;
 
-/// What a line of a script says. This project's own.
+/// A step of a script: the content of one line.
 #[derive(Debug, Drop)]
 pub enum Step {
-    /// An event is to happen.
+    /// The event to carry out.
     Event(Event),
-    /// At most so many frames are to be taken, the least pair of a frame and a station first.
+    /// The greatest number of frames to take, each time the lowest pending pair of a frame and a
+    /// station.
     Drain(u32),
 }

@@ -1,4 +1,4 @@
-//! What a word may be, apart from numbers and addresses.
+//! Reads words other than numbers and addresses.
 
 ghost use Rattle.std.specs.Prelude.{◌≡◌, IfOk, IsOkUnless};
 ghost use Rattle.at_base.specs.Text as text_spec;
@@ -18,14 +18,14 @@ fn is_only(byte: u8, word: &[u8]) -> bool
     }
 }
 
-/// Whether the word is a dash, which stands for nothing.
+/// Whether the word is a dash, which means no value.
 pub(crate) fn is_dash(word: &[u8]) -> bool
     ensures { result ≡ spec.is_dash word.now }
 {
     is_only(b'-', word)
 }
 
-/// An address, or `None` for a dash.
+/// An address, or `Some(None)` for a dash.
 pub(crate) fn via(word: &[u8]) -> Option<Option<Addr>>
     ensures { result ≡ spec.via word.now }
 {
@@ -49,7 +49,7 @@ pub(crate) fn flag(word: &[u8]) -> Option<bool>
     }
 }
 
-/// The bytes of pairs of hexadecimal digits, at least one pair; none, for a dash. Error: `Memory`.
+/// The bytes of at least one pair of hexadecimal digits, or no bytes for a dash. Error: `Memory`.
 pub(crate) fn bytes(alloc: Global, word: &[u8]) -> Result<Option<Bytes>, Error>
     ensures read { IfOk result (λ x. x ≡ spec.bytes word.now) }
     ensures refused { IsOkUnless result Error.Memory }

@@ -6,10 +6,10 @@ ghost use Rattle.script.specs.Words as spec;
 use std::marker::Model;
 use text::cut::cut;
 
-/// The words of a line that are left, which contracts see as a list.
+/// The words of a line that were not read yet. Contracts see them as a list.
 #[derive(Debug, Drop)]
 pub(crate) struct Words<'a> {
-    /// The rest of the line; `None` where the last word was read.
+    /// The rest of the line; `None` after the last word was read.
     rest: Option<&'a [u8]>,
 }
 
@@ -23,7 +23,7 @@ impl<'a> Model for Words<'a> {
 }
 
 impl<'a> Words<'a> {
-    /// The words of a line: the parts that one space separates.
+    /// The words of a line: the parts between single spaces.
     pub(crate) fn of(line: &'a [u8]) -> Words<'a>
         ensures { result ≡ spec.words line.now }
     {
@@ -40,7 +40,7 @@ impl<'a> Words<'a> {
         Some(word)
     }
 
-    /// Nothing, where all words were read.
+    /// `Some` if all words were read.
     pub(crate) fn end(&self) -> Option<()>
         ensures some { IfSome result (λ _. self.now ≡ []) }
         ensures none { IfNone result ((word : List ℕ) × (more : List (List ℕ))
@@ -52,7 +52,7 @@ impl<'a> Words<'a> {
         }
     }
 
-    /// The words that are left as they stand in the line, with the spaces between them.
+    /// The remaining words as one text, with the spaces between them.
     pub(crate) fn text(self) -> Option<&'a [u8]>
         ensures some { IfSome result (λ text. spec.words text.now ≡ self.entry) }
         ensures none { IfNone result (self.entry ≡ []) }

@@ -1,4 +1,4 @@
--- AARP packets that stations read and send. (Inside AppleTalk, the chapter on AARP)
+-- The AARP packets that stations read and send. (Inside AppleTalk, the chapter on AARP)
 use Rattle.std.specs.Prelude.{ℕ, List, [], ◌∷◌, Option, Some, None, option_map}
 use Rattle.aarp.specs.Choosing.{Choice, answer}
 use Rattle.aarp.specs.Packets.{packet, written}
@@ -10,16 +10,16 @@ use Rattle.station.specs.Values.{value_of}
 use Rattle.station.specs.declared.output.Output.{Output}
 use Rattle.station.specs.declared.output.Output.TheVariants.{Wire}
 
--- the AARP packet with which the bytes begin
+-- the AARP packet at the front of the bytes, if any
 unfoldable pub packet_at : List ℕ → Option Packet
 packet_at bytes = option_map (λ w. w.packet) (value_of (read packets packet bytes))
 
--- an AARP packet that a port sends to the station that it names
+-- the output of an AARP packet, sent on a port to the station that the packet names
 abbrev pub wired : ℕ → Option Packet → List Output
 wired p None = []
 wired p (Some sent) = Wire p sent.target_hw (bytes_of packet (written sent)) ∷ []
 
--- the answer of a port, if there is one, to a packet
+-- the response of a port, if it exists, to an AARP packet
 abbrev pub answer_by : Packet → Option Choice → Option Packet
 answer_by sent None = None
 answer_by sent (Some c) = answer c sent

@@ -1,4 +1,4 @@
-//! Frames that stations hear and send.
+//! The frames that stations receive and send.
 
 ghost use Rattle.std.specs.Prelude.{◌≡◌, ◌<◌, [], ◌∷◌, ℕ, Some, IfOk, IsOkUnless};
 ghost use Rattle.station.specs.Lawful.{AreLawful};
@@ -11,7 +11,7 @@ use at_base::{Bytes, Error};
 use ddp::View;
 use std::alloc::Global;
 
-/// The datagram with which the bytes begin. Allocates nothing.
+/// The datagram at the front of the bytes, if any. Allocates nothing.
 ///
 /// Inside AppleTalk, the chapter on DDP.
 pub fn read_datagram(bytes: &[u8]) -> Option<View<'_>>
@@ -23,7 +23,7 @@ pub fn read_datagram(bytes: &[u8]) -> Option<View<'_>>
     }
 }
 
-/// The AARP packet with which the bytes begin. Allocates nothing.
+/// The AARP packet at the front of the bytes, if any. Allocates nothing.
 ///
 /// Inside AppleTalk, the chapter on AARP.
 pub fn read_packet(bytes: &[u8]) -> Option<Packet>
@@ -35,7 +35,7 @@ pub fn read_packet(bytes: &[u8]) -> Option<Packet>
     }
 }
 
-/// The frame with an AARP packet, for the station that it names. Error: `Memory`.
+/// The output of an AARP packet for the station that the packet names. Error: `Memory`.
 ///
 /// Inside AppleTalk, the chapter on AARP.
 pub fn wire(alloc: Global, port: u8, sent: &Packet) -> Result<Output, Error>

@@ -1,6 +1,6 @@
-//! What a station hears.
+//! The frames that a station receives.
 
-/// What a frame holds.
+/// The kind of packet in a frame.
 ///
 /// Inside AppleTalk, the chapters on DDP and AARP.
 #[derive(Clone, Copy, Debug, PartialEq, Eq)]
@@ -11,28 +11,28 @@ pub enum Kind {
     Aarp,
 }
 
-/// To whom the frame was addressed that a station hears.
+/// The address that a frame was sent to, as the receiving station sees it.
 ///
 /// Inside AppleTalk, the chapters on AARP and NBP.
 #[derive(Clone, Copy, Debug, PartialEq, Eq)]
 pub enum Link {
-    /// To the station's own hardware address.
+    /// The station's own hardware address.
     Own,
-    /// To all stations of the cable.
+    /// All stations of the cable.
     All,
-    /// To the stations of this group, 0 to 252.
+    /// The stations of this group, 0 to 252.
     Group(u8),
 }
 
-/// A frame that a station hears. It borrows the bytes.
+/// A frame that a station receives. It borrows the bytes.
 #[derive(Clone, Copy, Debug)]
 pub struct Heard<'a> {
-    /// The index of the port on which it came, from 0.
+    /// The index, from 0, of the port on which the frame was received.
     pub port: u8,
-    /// To whom it was addressed.
+    /// The address that the frame was sent to.
     pub link: Link,
-    /// What it holds.
+    /// The kind of packet in the frame.
     pub kind: Kind,
-    /// The datagram or packet, and what padding follows it.
+    /// The datagram or packet, and any padding after it.
     pub bytes: &'a [u8],
 }

@@ -1,9 +1,9 @@
-//! Laws for the crates above: each is the contract of a function that does nothing.
+//! Laws for the crates that use this one. Each is the contract of a function that does nothing.
 
 ghost use Rattle.std.specs.Prelude.{IsTrue};
 ghost use Rattle.station.specs.Lawful.{are_bytes};
 
-/// What a slice of bytes has are bytes.
+/// The elements of a slice of bytes are bytes.
 pub fn slices_have_bytes(bytes: &[u8])
     ensures { IsTrue (are_bytes bytes.now) }
 {

@@ -1,5 +1,5 @@
-//! Stations: what routers and nodes have in common. They hear frames on their ports, and put out
-//! datagrams and AARP frames.
+//! Stations, the common part of routers and nodes. They receive frames on their ports, and send
+//! datagrams and AARP packets.
 #![tactic(auto)]
 
 pub mod frames;

@@ -10,7 +10,8 @@ use crate::output::Output;
 use crate::way::Way;
 use at_base::{Bytes, Error};
 
-/// Makes the datagram with this data, where there is a way. Error: `Memory`.
+/// Adds the datagram with this data, if there is a way. The caller ensures that the data has at
+/// most 586 bytes. Error: `Memory`; nothing changes then.
 pub fn put(made: &mut Vec<Output>, way: &Option<Way>, payload: &[u8]) -> Result<(), Error>
     requires { length payload.now ≤ 586 }
     ensures put { OnOk result
@@ -31,7 +32,8 @@ pub fn put(made: &mut Vec<Output>, way: &Option<Way>, payload: &[u8]) -> Result<
     }
 }
 
-/// Makes a datagram with each of these data, where there is a way. Error: `Memory`.
+/// Adds the datagrams with these data, one for each, if there is a way. The caller ensures that
+/// each has at most 586 bytes. Error: `Memory`; some datagrams may have been added then.
 pub fn put_all(made: &mut Vec<Output>, way: &Option<Way>, payloads: &[Bytes]) -> Result<(), Error>
     requires { AreShort payloads.now }
     ensures put { OnOk result (made.new.items ≡ made.old.items ++ replying way.now payloads.now) }
@@ -51,7 +53,8 @@ pub fn put_all(made: &mut Vec<Output>, way: &Option<Way>, payloads: &[Bytes]) ->
     }
 }
 
-/// Makes the datagram with this data, where there is any and a way. Error: `Memory`.
+/// Adds the datagram with this data, if there is data and a way. The caller ensures that the data
+/// has at most 586 bytes. Error: `Memory`; nothing changes then.
 pub fn put_one(
     made: &mut Vec<Output>,
     way: &Option<Way>,

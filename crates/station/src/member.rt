@@ -1,4 +1,4 @@
-//! Stations of two kinds, as one.
+//! Stations of two kinds as one type.
 
 use crate::heard::Heard;
 use crate::outputs::Outputs;

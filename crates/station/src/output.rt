@@ -1,17 +1,17 @@
-//! What a station puts out.
+//! The outputs of a station.
 
 use at_base::{Addr, Bytes, Hw};
 
-/// Whom a datagram goes to next, on the cable of a port.
+/// The next station or stations of a datagram, on the cable of a port.
 ///
 /// Inside AppleTalk, the chapters on DDP and NBP.
 #[derive(Clone, Copy, Debug, PartialEq, Eq)]
 pub enum Next {
-    /// The station that has this address there.
+    /// The station with this address.
     Station(Addr),
-    /// All stations there.
+    /// All stations of the cable.
     All,
-    /// The stations there whose zone has this group, 0 to 252.
+    /// The stations whose zone has this group, 0 to 252.
     Group(u8),
 }
 
@@ -20,19 +20,19 @@ pub enum Next {
 /// Inside AppleTalk, the chapters on DDP and RTMP.
 #[derive(Clone, Copy, Debug, PartialEq, Eq)]
 pub enum DropCause {
-    /// It has no usable row for the target's network.
+    /// The router has no usable row for the target's network.
     NoRoute,
-    /// The datagram was handed on 15 times.
+    /// The datagram was forwarded 15 times already.
     HopLimit,
 }
 
-/// What a station puts out, or did with what it heard. Bytes are a datagram without padding, in
-/// `Wire` an AARP packet. Ports are counted from 0.
+/// An output of a station, or what it did with a datagram that it received. The bytes are a
+/// datagram without padding, or in `Wire` an AARP packet. Ports are counted from 0.
 #[derive(Debug, Drop)]
 pub enum Output {
     /// A datagram that the station made.
     Made { port: u8, next: Next, bytes: Bytes },
-    /// A datagram that a router passes on, with one hop more.
+    /// A datagram that a router forwards, with one hop more.
     Passed { port: u8, next: Next, bytes: Bytes },
     /// A datagram that a router keeps, since it ends on the cable of this port.
     Kept { port: u8, bytes: Bytes },

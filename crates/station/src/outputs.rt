@@ -1,4 +1,4 @@
-//! The outputs of a station, in the order in which it puts them out.
+//! The outputs of a station, in order.
 
 ghost use Rattle.std.specs.Prelude.{◌≡◌, ◌<◌, ◌≤◌, ◌+◌, ◌-◌, [], ◌∷◌, ◌++◌, ◌==◌, length};
 ghost use Rattle.std.specs.Prelude.{IfNone, IfOk, IfSome, IsOkUnless, OnErr, OnOk, slice_get};
@@ -11,7 +11,7 @@ use std::alloc::Global;
 use std::collections::VecDeque;
 use std::marker::Model;
 
-/// A queue of outputs, with room for more that contracts see.
+/// A queue of outputs. Contracts see the outputs, and the room for more.
 #[derive(Drop)]
 pub struct Outputs {
     items: VecDeque<Output>,
@@ -30,7 +30,7 @@ impl Model for Outputs {
     } };
 }
 
-/// Moves outputs after others, which have room for them.
+/// Moves the others after the outputs, which must have room for them.
 fn move_all(outputs: &mut VecDeque<Output>, others: &mut VecDeque<Output>)
     requires { deque_len outputs.old + length others.old.items ≤ deque_capacity outputs.old }
     ensures items { outputs.new.items ≡ outputs.old.items ++ others.old.items }
@@ -44,7 +44,7 @@ fn move_all(outputs: &mut VecDeque<Output>, others: &mut VecDeque<Output>)
 }
 
 impl Outputs {
-    /// No outputs. Error: `Memory`, which an empty queue never needs.
+    /// An empty queue. Error: `Memory`, which an empty queue never needs.
     pub fn new(alloc: Global) -> Result<Outputs, Error>
         ensures ok { IfOk result (λ outputs. outputs.items ≡ []) }
         ensures refused { IsOkUnless result Error.Memory }
@@ -54,7 +54,7 @@ impl Outputs {
         })
     }
 
-    /// Makes room for so many more outputs. Error: `Memory`. The outputs stay.
+    /// Makes room for `n` more outputs. Error: `Memory`. The outputs don't change.
     pub fn room(&mut self, n: usize) -> Result<(), Error>
         ensures ok { OnOk result (n ≤ self.new.spare) }
         ensures refused { IsOkUnless result Error.Memory }
@@ -64,8 +64,7 @@ impl Outputs {
         Ok(())
     }
 
-    /// Adds an output after the others. That there is room for it is the caller's condition.
-    /// Allocates nothing.
+    /// Adds an output at the end. The caller ensures that the queue has room. Allocates nothing.
     pub fn add(&mut self, output: Output)
         requires { 0 < self.old.spare }
         ensures added { self.new.items ≡ self.old.items ++ output ∷ [] }
@@ -74,8 +73,8 @@ impl Outputs {
         self.items.push_back_reserved(output);
     }
 
-    /// Adds these outputs after the others. That there is room for them is the caller's condition.
-    /// Allocates nothing.
+    /// Adds these outputs at the end. The caller ensures that the queue has room. Allocates
+    /// nothing.
     pub fn append(&mut self, made: Vec<Output>)
         requires { length made.items ≤ self.old.spare }
         ensures { self.new.items ≡ self.old.items ++ made.items }
@@ -97,14 +96,14 @@ impl Outputs {
         self.items.is_empty()
     }
 
-    /// The output at an index, from the oldest on. Allocates nothing.
+    /// The output with an index, from the oldest on. Allocates nothing.
     pub fn get(&self, index: usize) -> Option<&Output>
         ensures { option_copied result ≡ slice_get self.now.items index }
     {
         self.items.get(index)
     }
 
-    /// Takes out the oldest output. Allocates nothing.
+    /// Removes and returns the oldest output, if any. Allocates nothing.
     pub fn pop(&mut self) -> Option<Output>
         ensures some { IfSome result (λ output. self.old.items ≡ output ∷ self.new.items) }
         ensures none { IfNone result (self.old.items ≡ []) }

@@ -13,22 +13,22 @@ pub trait Station: Drop {
     ghost use Rattle.station.specs.Hearing.{Hearing, hearing};
     ghost use Rattle.station.specs.declared.output.Output.{Output as OutputValue};
 
-    // The number of its ports.
+    // The number of the station's ports.
     ghost ports_of: { Self → ℕ };
 
-    // What it puts out for what it hears, and what it is then.
+    // The outputs for a frame that is received, and the station after it.
     ghost hears: { Self → Hearing → List OutputValue → Self → Type 0 };
 
-    // What it puts out in a tick, and what it is then.
+    // The outputs of a tick, and the station after it.
     ghost ticks: { Self → List OutputValue → Self → Type 0 };
 
-    /// The number of its ports, at most 16. Allocates nothing.
+    /// The number of ports, at most 16. Allocates nothing.
     fn ports(&self) -> u8
         ensures { result ≡ ports_of self.now };
 
-    /// Hears a frame on a port that it has, and puts out what follows. What it can't read, and what
-    /// a table of its own can't take, it ignores. Error: `Memory`, which changes neither the station
-    /// nor the outputs.
+    /// Receives a frame on one of its ports, and adds the outputs that follow. A frame that it
+    /// can't read is ignored, and so is one for which its own tables have no room. Error: `Memory`;
+    /// neither the station nor the outputs change then.
     fn receive(&mut self, heard: &Heard<'_>, outputs: &mut Outputs) -> Result<(), Error>
         requires port { heard.now.port < ports_of self.old }
         ensures ok { OnOk result (PutsOut (ports_of self.old) outputs.old.items outputs.new.items
@@ -38,8 +38,8 @@ pub trait Station: Drop {
         ensures station_stays { OnErr result (self.new ≡ self.old) }
         ensures outputs_stay { OnErr result (outputs.new.items ≡ outputs.old.items) };
 
-    /// Lets a tick pass, a fifth of a second. Error: `Memory`, which changes neither the station nor
-    /// the outputs.
+    /// Advances the station by one tick, a fifth of a second. Error: `Memory`; neither the station
+    /// nor the outputs change then.
     fn tick(&mut self, outputs: &mut Outputs) -> Result<(), Error>
         ensures ok { OnOk result (PutsOut (ports_of self.old) outputs.old.items outputs.new.items
             (λ added. ticks self.old added self.new)) }

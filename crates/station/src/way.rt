@@ -10,22 +10,22 @@ use at_base::{Bytes, Error};
 use ddp::Header;
 use std::alloc::Global;
 
-/// By which port a datagram leaves, to whom it goes next there, and its header.
+/// The port on which a datagram leaves, the next station there, and its header.
 ///
 /// Inside AppleTalk, the chapter on DDP.
 #[derive(Clone, Copy, Debug)]
 pub struct Way {
     /// The index of the port, from 0.
     pub port: u8,
-    /// Whom it goes to next.
+    /// The next station or stations.
     pub next: Next,
-    /// Its header.
+    /// The header of the datagram.
     pub header: Header,
 }
 
 impl Way {
-    /// The datagram with this data that goes this way. At most 586 bytes of data are the caller's
-    /// condition. Error: `Memory`.
+    /// The datagram with this data, sent on this way. The caller ensures that the data has at most
+    /// 586 bytes. Error: `Memory`.
     pub fn make(&self, alloc: Global, payload: &[u8]) -> Result<Output, Error>
         requires { length payload.now ≤ 586 }
         ensures ok { IfOk result (λ output. output ≡ made self.now payload.now) }

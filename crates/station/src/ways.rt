@@ -9,12 +9,12 @@ use crate::way::Way;
 use at_base::Addr;
 use ddp::{Header, View};
 
-/// The node number that stands for every node of a cable.
+/// The node number that means every node of a cable.
 ///
 /// Inside AppleTalk, the chapter on DDP.
 pub const EVERY_NODE: u8 = 255;
 
-/// Whom a datagram goes to on the cable of its target.
+/// The next station of a datagram on the cable of its target.
 pub fn straight(target: Addr) -> Next
     ensures value { result ≡ spec.straight target }
     ensures next { IsNext result }
@@ -26,7 +26,7 @@ pub fn straight(target: Addr) -> Next
     }
 }
 
-/// A way by a port, with the port's address as source; none where it has no address.
+/// The way by a port, with the port's address as source; `None` if the port has no address.
 pub fn way_from(own: Option<Addr>, port: u8, next: Next, header: Header) -> Option<Way>
     ensures value { result ≡ spec.way_from own port next header }
     ensures inside { IfSome result (λ way. (way.port ≡ port) × (way.next ≡ next)) }
@@ -39,7 +39,7 @@ pub fn way_from(own: Option<Addr>, port: u8, next: Next, header: Header) -> Opti
     })
 }
 
-/// Whether the datagram is of this type and for this socket.
+/// Whether the datagram has this type and this target socket.
 pub fn is_to(view: &View<'_>, kind: u8, socket: u8) -> bool
     ensures { result ≡ spec.is_to kind socket view.now }
 {
@@ -67,7 +67,7 @@ pub fn reply_header(view: &View<'_>, target: Addr) -> Header
     }
 }
 
-/// Whether the datagram has no checksum, or that of its bytes.
+/// Whether the datagram has no checksum, or the checksum of its bytes.
 pub fn checks(view: &View<'_>) -> bool
     ensures { result ≡ spec.checks view.now }
 {

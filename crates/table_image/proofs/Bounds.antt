@@ -1,4 +1,4 @@
--- What an image holds is within its limits.
+-- The contents of an image are within its limits.
 use Rattle.std.proofs.Common.{List, None, Some, [], ap, arith, length, ltb, slice_get, subst, suc, true, zero, ℕ, ◌+◌, ◌<◌, ◌∷◌, ◌≡◌, ◌≤◌}
 use Rattle.std.proofs.lemmas.Bool.{ltb-false, ltb-true}
 use Rattle.at_base.specs.declared.error.Cause.TheVariants.{Count, Index, Name, Order, Value}
@@ -42,12 +42,12 @@ every_passes passes holds next one low [] h k x e = absurd cc
 every_passes {B} passes holds next one low (y ∷ ys) h zero x e = let same : y ≡ x = cc in subst holds same (one low y h.0)
 every_passes passes holds next one low (y ∷ ys) h (suc k) x e = every_passes passes holds next one (next y) ys h.1 k x e
 
--- each part of a counted list has what each value of its format has
+-- each part of a counted list has each property that all values of its format have
 every : {B : Type 0} (limit : ℕ) (item : ℕ → Grammar Wrong true B) (next : B → ℕ) (holds : B → Type 0) → ((low : ℕ) (x : B)
     → IsValue (item low) x → holds x) → (xs : List B) → IsValue (counted limit item next) xs → Every holds xs
 every limit item next holds one xs h = every_passes (λ low. IsValue (item low)) holds next one 0 xs (counted_each limit item next xs h)
 
--- a list whose parts leave one more than their number to the next one rises
+-- a list rises if each part passes one more than its number to the next one
 module _ {X : Type 0} (passes : ℕ → X → Type 0) (number : X → ℕ) (above : (low : ℕ) (x : X) → passes low x → low ≤ number x) where
   all_above : (low : ℕ) (xs : List X) → ListPasses passes (λ x. number x + 1) low xs → (k : ℕ) (b : X) → slice_get xs k ≡ Some b
       → low ≤ number b

@@ -1,4 +1,4 @@
--- Checking items one after the other, as a loop does.
+-- Checking items in a loop.
 use Rattle.std.proofs.Common.{◌≡◌, ℕ, suc, ◌+◌, ◌*◌, ◌<◌, ◌≤◌, Bool, true, false, Result, Ok, Err, MatchResult, List, ◌∷◌, length, get_or}
 use Rattle.std.proofs.Common.{drop, refl, sym, ap, subst, ◌∙◌, arith, inl, inr}
 use Rattle.std.specs.List.{list_all}
@@ -13,7 +13,7 @@ use Rattle.table_image.specs.Flaws.{Wrong}
 use Rattle.table_image.specs.Checking.{ListFlawAt, FlawAt}
 use Rattle.table_image.specs.declared.checking.Misfit.{Misfit}
 
--- a loop is before item i, at an offset, with the number that the item before it leaves
+-- the loop is at item i, at an offset, with the number that the item before passes on
 pub record Standing {B : Type 0} (item : ℕ → Grammar Wrong true B) (next : B → ℕ) (xs : List B) (start i low at : ℕ) : Type 0 where
   pub passes : ListPasses (λ low. IsValue (item low)) next low (drop i xs) → ListPasses (λ low. IsValue (item low)) next 0 xs
   pub ends : at + length (list_bytes (λ low. bytes_of (item low)) next low (drop i xs)) ≡ start + length (list_bytes (λ low. bytes_of (item
@@ -25,7 +25,7 @@ pub record Standing {B : Type 0} (item : ℕ → Grammar Wrong true B) (next : B
 pub begins : {B : Type 0} (item : ℕ → Grammar Wrong true B) (next : B → ℕ) (xs : List B) (start : ℕ) → Standing item next xs start 0 0 start
 begins item next xs start = record { passes = λ h. h; ends = refl; flawed = λ q w h. h }
 
--- item i, and those after it
+-- the list from item i on
 pub from_item : {B : Type 0} (xs : List B) (i : ℕ) (x : B) → i < length xs → x ≡ get_or xs i x → drop i xs ≡ x ∷ drop (i + 1) xs
 from_item {B} xs i x lt e =
     let next : suc i ≡ i + 1 = omega arith in
@@ -73,7 +73,7 @@ is_through {B} item next xs start i low at le so_far =
     ap (λ (ys : List B). length (list_bytes (λ low. bytes_of (item low)) next low ys)) none in
     (so_far.passes (subst (λ (ys : List B). ListPasses (λ low. IsValue (item low)) next low ys) (sym none) tt), omega arith)
 
--- each item passes a test that all pass
+-- each item passes a test that all items pass
 pub one_of_all : {B : Type 0} (test : B → Bool) (xs : List B) (i : ℕ) (x : B) → list_all test xs ≡ true → i < length xs → x ≡ get_or xs i x
     → test x ≡ true
 one_of_all {B} test xs i x all lt e =
@@ -82,14 +82,14 @@ one_of_all {B} test xs i x all lt e =
       | false ↦ λ h. (let bad = list_all_at test xs i x lt (ap test (sym e) ∙ h) in absurd (let both : true ≡ false = sym all ∙ bad in cc))
     ] refl
 
--- so many items take no more room than as many as there may be
+-- one more of n items has room, if all n have
 pub room_left : (i n most : ℕ) → i < n → i * most + most ≤ n * most
 room_left i n most lt = let h = mul-le-mul_right most lt in omega (arith, h)
 
 pub within_limit : (n limit most : ℕ) → n ≤ limit → n * most ≤ limit * most
 within_limit n limit most le = mul-le-mul_right most le
 
--- parts that are no more than the limit end within its room
+-- parts within the limit end within the room of the limit
 pub near_limit : (n limit most at : ℕ) (r : Result ℕ Misfit) → n ≤ limit
     → MatchResult r (λ end. end ≤ at + 1 + n * most) (λ m. m.place ≤ at + 1 + n * most)
     → MatchResult r (λ end. end ≤ at + 1 + limit * most) (λ m. m.place ≤ at + 1 + limit * most)

@@ -1,4 +1,4 @@
--- What the checks of parts say, part by part.
+-- The results of checks, part by part.
 use Rattle.std.proofs.Common.{◌≡◌, ℕ, ◌+◌, ◌^◌, ◌<◌, ◌≤◌, Bool, true, false, ltb, ◌&&◌, not, nat_le, ◌-◌, List, [], length, Some, None}
 use Rattle.std.proofs.Common.{Result, Ok, Err, refl, sym, ap, subst, arith, inl, inr}
 use Rattle.std.specs.List.{list_all}
@@ -207,7 +207,7 @@ pub length-text : (good : List ℕ → Bool) (s : List ℕ) → length (bytes_of
 unfolding text_spelling
 length-text good s = let len = length-append s [] in omega arith
 
--- a name has 1 to 32 bytes
+-- a zone name has 1 to 32 bytes
 pub name_length : (s : List ℕ) → IsName s → (1 ≤ length s) × (length s ≤ 32)
 name_length s h =
     let a = and_parts (nat_le 1 (length s) && nat_le (length s) 32 && list_all is_printable s) (not (is_only 42 s)) h in
@@ -246,7 +246,7 @@ entity_wrong s at bad some few =
 
 -- ---- parts with lists
 
--- one part after another that was passed
+-- a part after one that passes
 pub after_part : {A B : Type 0} (g : Grammar Wrong true B) (get : A → B) (after : B
     → Grammar Wrong true A) (y : A) (at middle : ℕ) (r : Result ℕ Misfit) → Checks g (get y) at (Ok middle) → Checks (after
     (get y)) y middle r
@@ -262,7 +262,7 @@ pub in_part : {A B : Type 0} (g : Grammar Wrong true B) (get : A → B) (after :
     → Checks g (get y) at (Err m) → Checks (part g get after) y at (Err m)
 in_part g get after y at m h = (h.0, h.1, inl h.2, h.3)
 
--- a field that passes, and then the others
+-- a field that passes, and the fields after it
 pub after_field : {A V : Type 0} (fd : Field Wrong V) (get : A → V) (after : V
     → Grammar Wrong true A) (y : A) (at : ℕ) (r : Result ℕ Misfit) → Passes fd (get y) → Checks (after (get y)) y (at + field_len fd) r
     → Checks (field fd get after) y at r
@@ -273,11 +273,11 @@ after_field fd get after y at (Ok end) p k =
     ((p, k.0), omega arith)
 after_field fd get after y at (Err m) p k = (k.0, k.1, inr (p, k.2), k.3)
 
--- nothing more
+-- the end of a format
 pub at_end : {A : Type 0} (x y : A) (at : ℕ) → x ≡ y → Checks (done x) y at (Ok at)
 at_end x y at e = (e, omega arith)
 
--- the last part
+-- the last part of a format
 pub last_part : {A B : Type 0} (g : Grammar Wrong true B) (get : A → B) (make : B → A) (y : A) (at : ℕ) (r : Result ℕ Misfit)
     → make (get y) ≡ y → Checks g (get y) at r → Checks (part g get (λ v. done (make v))) y at r
 last_part g get make y at (Ok end) e h = after_part g get (λ v. done (make v)) y at end (Ok end) h (at_end (make (get y)) y end e)

@@ -1,4 +1,4 @@
--- What the checks of parts with lists say.
+-- The results of checks of parts with lists.
 use Rattle.std.proofs.Common.{◌≡◌, ℕ, ◌+◌, ◌^◌, ◌<◌, ◌≤◌, Bool, true, false, ltb, ◌&&◌, nat_le, List, [], ◌∷◌, length, Some, None, Result}
 use Rattle.std.proofs.Common.{Ok, Err, refl, ap, subst, arith, inl, inr}
 use Rattle.std.specs.List.{list_all}
@@ -28,7 +28,7 @@ use Rattle.table_image.specs.declared.node.Node.{Node}
 use Rattle.table_image.proofs.Checked.{is_within, too_low, too_high, rises, falls, is_below, not_below, address_value, after_part, in_part}
 use Rattle.table_image.proofs.Checked.{after_field, last_part}
 
--- a check that says so
+-- the facts about the result of a check
 record Says {A : Type 0} (g : Grammar Wrong true A) (y : A) (at : ℕ) (r : Result ℕ Misfit) : Type 0 where
   it : Checks g y at r
 
@@ -258,7 +258,7 @@ node_checks cables n at a b r f lt h k j = (node_says cables n at a b r f lt h k
 
 -- ---- short lists
 
--- the parts of a router's lists
+-- the facts about the lists of a router that are within their limits
 pub record IsShortRouter (x : Router) : Type 0 where
   pub ports : length x.ports ≤ max_ports
   pub rows : length x.rows ≤ max_rows

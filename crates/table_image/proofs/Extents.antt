@@ -1,5 +1,5 @@
--- How far a format reaches: a value takes at most so many bytes, and a flaw is reported at most so many bytes from the start.
--- So the place of a flaw in an image fits 32 bits.
+-- The extents of formats: a value has at most a number of bytes, and a flaw is reported at most that many bytes from
+-- the start. So the offset of a flaw in an image fits into 32 bits.
 use Rattle.std.proofs.Common.{◌≡◌, ℕ, zero, suc, ◌+◌, ◌*◌, ◌≤◌, Bool, true, List, [], ◌∷◌, length, Some, None, Result, Ok, Err, ap, subst}
 use Rattle.std.proofs.Common.{arith, cond, inl, inr}
 use Rattle.std.proofs.lemmas.List.{length-append}
@@ -24,7 +24,7 @@ use Rattle.table_image.specs.Spelling.{port_spelling, row_spelling, zone_list_sp
 use Rattle.table_image.specs.Spelling.{name_spelling, node_spelling, front_spelling, image_spelling}
 use Rattle.table_image.specs.declared.flaw.Flaw.{Flaw}
 
--- reading takes at most n bytes, and tells a flaw at most n bytes from the start
+-- reading takes at most n bytes, and reports a flaw at most n bytes from the start
 pub record Within {A : Type 0} (reading : List ℕ → Result (A × List ℕ) Flaw) (n : ℕ) : Type 0 where
   pub ok_within : (bytes : List ℕ) (x : A × List ℕ) → IsBytes bytes → reading bytes ≡ Ok x → (length bytes ≤ length x.1 + n) × IsBytes x.1
   pub err_within : (bytes : List ℕ) (f : Flaw) → IsBytes bytes → reading bytes ≡ Err f → length bytes ≤ f.left + n
@@ -53,7 +53,7 @@ field_at_within {V} fd = record {
   ];
 }
 
--- one reading after another
+-- one reading after another takes at most the sum of bytes
 then_within : {A B : Type 0} (reading : List ℕ → Result (A × List ℕ) Flaw) (after : A → List ℕ → Result (B × List ℕ) Flaw) (n m : ℕ)
     → Within reading n
     → ((bytes : List ℕ) (x : A × List ℕ) → IsBytes bytes → reading bytes ≡ Ok x → Within (after x.0) m) → Within
@@ -85,7 +85,7 @@ done_within {A} x = record {
   err_within = λ bytes f fits e. absurd (let impossible : ok {E = Flaw} (x, bytes) ≡ Err f = e in cc);
 }
 
--- a format reaches at most n bytes far
+-- a format extends over at most n bytes
 pub record Reaches {A : Type 0} (g : Grammar Wrong true A) (n : ℕ) : Type 0 where
   pub within_it : Within (read flaws g) n
 

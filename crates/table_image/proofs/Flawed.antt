@@ -9,7 +9,7 @@ use Rattle.table_image.specs.Flaws.{Wrong, flaw_of, flaws}
 use Rattle.table_image.specs.Checking.{ListFlawAt, FlawAt}
 use Rattle.table_image.specs.declared.flaw.Flaw.{Flaw}
 
--- the bytes have this fault, at a field that begins so many bytes after the value
+-- the bytes have this fault, at a field at the offset q, where the value is at the offset at
 pub record Flawed (faulty : List ℕ → Flaw → Type 0) (bytes : List ℕ) (at q : ℕ) (w : Wrong) : Type 0 where
   pub gone : ℕ
   pub left : ℕ
@@ -17,7 +17,7 @@ pub record Flawed (faulty : List ℕ → Flaw → Type 0) (bytes : List ℕ) (at
   pub all : length bytes ≡ gone + left
   pub first : faulty bytes (flaw_of left w)
 
--- the same after some more bytes
+-- the fault is the same after some more bytes
 later : (faulty further : List ℕ → Flaw → Type 0) (front rest bytes : List ℕ) (at n q : ℕ) (w : Wrong) → length front ≡ n
     → bytes ≡ front ++ rest
     → ((f : Flaw) → faulty rest f → further bytes f) → Flawed faulty rest (at + n) q w → Flawed further bytes at q w
@@ -27,7 +27,7 @@ later faulty further front rest bytes at n q w len parts goes f =
     let whole : length bytes ≡ length front + length rest = ap (λ (b : List ℕ). length b) parts ∙ length-append front rest in
     record { gone = n + f.gone; left = f.left; is_at = omega arith; all = omega arith; first = goes (flaw_of f.left w) f.first }
 
--- the same of the same bytes
+-- a fault that implies another one of the same bytes
 same : (faulty further : List ℕ → Flaw → Type 0) (bytes : List ℕ) (at q : ℕ) (w : Wrong) → ((f : Flaw) → faulty bytes f → further bytes f)
     → Flawed faulty bytes at q w → Flawed further bytes at q w
 same faulty further bytes at q w goes f =

@@ -1,4 +1,4 @@
--- Reading items one after the other, as a loop does.
+-- Reading items in a loop.
 use Rattle.std.proofs.Common.{◌≡◌, ℕ, suc, ◌-◌, ◌+◌, ◌≤◌, ◌<◌, List, [], ◌∷◌, ◌++◌, length, take, get_or, Result, Ok, Err, refl, sym, ap}
 use Rattle.std.proofs.Common.{subst, ◌∙◌, append_assoc, arith}
 use Rattle.std.proofs.Math.Seq.{take-suc}
@@ -9,11 +9,11 @@ use Rattle.table_image.specs.declared.flaw.Stop.{Stop}
 use Rattle.table_image.specs.declared.flaw.Stop.TheVariants as stops
 use Rattle.table_image.specs.Flaws.{StopsAs}
 
--- how one item is read
+-- reads one item, given the number that the one before it passes on
 abbrev pub Reader : Type 0 → Type 0
 Reader A = ℕ → List ℕ → Result (A × List ℕ) Flaw
 
--- what was read before, and what is still read
+-- adds the items read before to the result of reading the rest
 abbrev pub with_front : {A : Type 0} → List A → Result (List A × List ℕ) Flaw → Result (List A × List ℕ) Flaw
 with_front front reading = reading >>= λ x. Ok (front ++ x.0, x.1)
 
@@ -35,7 +35,7 @@ goes_on item next front low count i bytes y after total lt h so_far =
     rw (k, h) (regroup front y (list_at item next (next y) (count - (i + 1)) after)) in
     sym one ∙ so_far
 
--- one more item of a list was met
+-- one more item of a list was passed
 pub goes_on_in : {A : Type 0} (item : Reader A) (next : A
     → ℕ) (xs : List A) (low i : ℕ) (bytes : List ℕ) (y : A) (after : List ℕ) (total : Result (List A × List ℕ) Flaw)
     → i < length xs → y ≡ get_or xs i y → item low bytes ≡ Ok (y, after)
@@ -77,9 +77,9 @@ is_done {A} item next front low count i bytes total le so_far =
     rw k (ap (λ (ys : List A). Ok (ys, bytes)) (append-nil front)) in
     sym so_far ∙ one
 
--- ---- going past items without keeping them
+-- ---- reading past items without storing them
 
--- some items were read before, as many as the loop has turned
+-- the items read so far are as many as the turns of the loop
 abbrev pub Passed : {A : Type 0} → Reader A → (A → ℕ) → ℕ → ℕ → ℕ → List ℕ → Result (List A × List ℕ) Flaw → Type 0
 Passed {A =
     A} item next low count i bytes total = (front : List A) × (length front ≡ i) × (with_front front (list_at item next low

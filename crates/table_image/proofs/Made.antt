@@ -24,7 +24,7 @@ use Rattle.table_image.proofs.Bounds.{counted_few, counted_each, front_cables}
 use Rattle.table_image.proofs.Flawed.{flawed_first}
 use Rattle.table_image.proofs.Whole.{all_refused, one_flaw, no_flaw}
 
--- ---- what is an image is short
+-- ---- an image is within its limits
 
 all_short : {B : Type 0} (passes : ℕ → B → Type 0) (next : B → ℕ) (short : B → Bool) → ((low : ℕ) (x : B) → passes low x → short x ≡ true)
     → (low : ℕ) (xs : List B) → ListPasses passes next low xs → list_all short xs ≡ true
@@ -83,7 +83,7 @@ value_short i h =
     (λ low. node_spelling n) (λ n. 0) i.nodes h.1.1.0) in
     rw (a, b, d, e, f, g) refl
 
--- ---- what doesn't fit is refused as its bytes would be
+-- ---- parts that don't fit have the flaw of their bytes
 
 reported_there : (left gone : ℕ) (bytes : List ℕ) (w : Wrong) → length bytes ≡ gone + left
     → BadImage (reported gone w).place (reported gone w).cause ≡ refusal bytes (flaw_of left w)
@@ -114,7 +114,7 @@ misfits i m (q, w, h, is) =
 pub fits_no_flaw : (i : Internet) (f : Flaw) → IsValue image_spelling i → IsFirstFlaw (bytes_of image_spelling i) f → ⊥
 fits_no_flaw i f value h = no_flaw (bytes_of image_spelling i) i f (value, refl) (all_refused (bytes_of image_spelling i) f h)
 
--- the flaw is the only one
+-- parts that don't fit have only this flaw
 pub same_refusal : (i : Internet) (m : Misfit) (f : Flaw) → Misfits i m → IsFirstFlaw (bytes_of image_spelling i) f
     → BadImage m.place m.cause ≡ refusal (bytes_of image_spelling i) f
 same_refusal i m f n h =

@@ -1,4 +1,4 @@
--- Each part of an image is where its projection finds it.
+-- The format of an image: each projection gives its part.
 use Rattle.std.proofs.Common.{◌≡◌, ℕ, zero, suc, ◌≤◌, Bool, true, cond, ltb, List, length, Some, None, refl, sym, arith}
 use Rattle.std.proofs.lemmas.Bool.{ltb-false}
 use Rattle.at_base.specs.Text.{is_name, same_bytes, is_entity}

@@ -1,4 +1,4 @@
--- Whole images: what is read, what is accepted, what is refused, and where.
+-- Whole images: reading, accepting and refusing, and the offsets of flaws.
 use Rattle.std.proofs.Common.{◌≡◌, ℕ, ◌+◌, ◌^◌, ◌≤◌, ◌<◌, Bool, true, false, cond, eqb, List, [], ◌++◌, length, Ok, Err, refl, sym, ap}
 use Rattle.std.proofs.Common.{subst, ◌∙◌, inl, inr, arith}
 use Rattle.std.specs.Prelude.{◌≢◌}
@@ -20,7 +20,7 @@ use Rattle.table_image.proofs.Shape.{image_lawful}
 use Rattle.table_image.specs.Sizes.{image_size}
 use Rattle.table_image.proofs.Extents.{image_reaches}
 
--- what is read is spelled so
+-- the bytes spell the image that is read from them
 pub all_takes : (bytes : List ℕ) (x : Internet) → IsBytes bytes → image_at bytes ≡ Ok x → Spells image_spelling bytes x
 unfolding image_at
 all_takes bytes x fits e =
@@ -33,7 +33,7 @@ all_takes bytes x fits e =
     t.0.parts ∙ ap (λ (r : List ℕ). bytes_of image_spelling a.0.0 ++ r) nothing ∙ append-nil (bytes_of image_spelling a.0.0) in
     subst (λ (y : Internet). Spells image_spelling bytes y) p.1 (t.1, whole)
 
--- what is spelled so is read
+-- an image is read from the bytes that spell it
 pub all_again : (bytes : List ℕ) (x : Internet) → Spells image_spelling bytes x → image_at bytes ≡ Ok x
 unfolding image_at
 all_again bytes x s =
@@ -62,7 +62,7 @@ trailing x rest f some is = go (eqb (length rest) 0) refl
     go true e = absurd (some (nil_from_length rest (eqb-true _ _ e)))
     go false e = ap (λ (g : Flaw). Err g) (sym is)
 
--- where there is a flaw, reading answers it
+-- where the bytes have a first flaw, reading returns it
 pub all_refused : (bytes : List ℕ) (f : Flaw) → IsFirstFlaw bytes f → image_at bytes ≡ Err f
 unfolding image_at
 all_refused bytes f (inl h) = rw (read_refused flaws image_spelling image_lawful bytes f h) refl
@@ -71,7 +71,7 @@ all_refused bytes f (inr (x, rest, parts, value, some, is)) =
     rw parts (read_again flaws image_spelling image_lawful x rest value (follows_all image_spelling x rest)) in
     rw taken (trailing x rest f some is)
 
--- two images with the same bytes are one
+-- an image spelled by the bytes is the one read from them
 pub one_reading : (bytes : List ℕ) (x y : Internet) → image_at bytes ≡ Ok x → Spells image_spelling bytes y → x ≡ y
 one_reading bytes x y e s = let f : image_at bytes ≡ Ok y = all_again bytes y s in cc
 
@@ -79,7 +79,7 @@ one_reading bytes x y e s = let f : image_at bytes ≡ Ok y = all_again bytes y 
 pub no_flaw : (bytes : List ℕ) (x : Internet) (f : Flaw) → Spells image_spelling bytes x → image_at bytes ≡ Err f → ⊥
 no_flaw bytes x f s e = let g : image_at bytes ≡ Ok x = all_again bytes x s in cc
 
--- a flaw is reported at most so many bytes from the start
+-- a flaw is reported at most image_size bytes from the start
 pub reported_early : (bytes : List ℕ) (f : Flaw) → IsBytes bytes → image_at bytes ≡ Err f → length bytes ≤ f.left + image_size
 unfolding image_at
 reported_early bytes f fits e =
@@ -93,19 +93,19 @@ reported_early bytes f fits e =
           omega (arith, reported, taken)
     ]
 
--- so its place fits 32 bits
+-- the offset of a flaw fits into 32 bits
 pub place_fits : (bytes : List ℕ) (f : Flaw) → IsBytes bytes → image_at bytes ≡ Err f → length bytes < f.left + 2 ^ 32
 place_fits bytes f fits e = let early = reported_early bytes f fits e in omega (arith, early)
 
--- there is one flaw
+-- bytes have at most one first flaw
 pub one_flaw : (bytes : List ℕ) (f g : Flaw) → image_at bytes ≡ Err f → IsFirstFlaw bytes g → f ≡ g
 one_flaw bytes f g e h = err_is {A = Internet} f g (sym e ∙ all_refused bytes g h)
 
--- bytes that are read have no flaw
+-- bytes from which an image is read have no flaw
 pub read_no_flaw : (bytes : List ℕ) (x : Internet) (f : Flaw) → image_at bytes ≡ Ok x → IsFirstFlaw bytes f → ⊥
 read_no_flaw bytes x f e h = let g : image_at bytes ≡ Err f = all_refused bytes f h in cc
 
--- what refuses bytes that spell an image is a failed allocation
+-- if bytes spell an image, the only error is a failed allocation
 pub only_memory : (bytes : List ℕ) (x : Internet) (e : Error) → Spells image_spelling bytes x → Refuses bytes e → e ≡ Memory
 only_memory bytes x e s (inl h) = h.0
 only_memory bytes x e s (inr (f, h, is)) = absurd (no_flaw bytes x f s (all_refused bytes f h))

@@ -1,4 +1,4 @@
--- Lists are written part by part, whatever is around the parts.
+-- Lists are written part by part, and the bytes of a part don't depend on the parts around it.
 use Rattle.std.proofs.Common.{◌≡◌, ℕ, true, List, [], ◌∷◌, ◌++◌, length, refl, ap, sym, ◌∙◌, append_assoc}
 use Rattle.std.specs.List.{flat_map}
 use Rattle.std.proofs.lemmas.List.Concat.{flat_map-cons}

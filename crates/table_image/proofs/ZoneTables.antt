@@ -1,4 +1,4 @@
--- Zone lists of a router as zone tables: list by list, and that they are a map.
+-- Zone lists of a router as zone tables, list by list, and that they are a map.
 use Rattle.std.proofs.Common.{◌≡◌, ℕ, suc, ◌+◌, ◌≤◌, max, Bool, true, false, not, ◌&&◌, ◌||◌, ◌==◌, List, [], ◌∷◌, ◌++◌, length}
 use Rattle.std.proofs.Common.{refl, sym, ap, subst, ◌∙◌, arith, nat_lt, nat_le}
 use Rattle.std.specs.Prelude.{if◌then◌else◌}
@@ -16,20 +16,20 @@ use Rattle.table_image.specs.declared.zone_list.ZoneList.{ZoneList}
 use Rattle.table_image.specs.Bounds.{Every}
 use Rattle.table_image.specs.ZoneMaps.{have_few_zones, have_zone_ranges, is_told, known_of_list, range_of, zone_map}
 
--- the lists of a router have at most 64 names each
+-- the zone lists have at most 64 names each
 abbrev pub AreShort : List ZoneList → Type 0
 AreShort lists = Every (λ (l : ZoneList). length l.zones ≤ 64) lists
 
 pub short_rest : (l : ZoneList) (lists : List ZoneList) → AreShort (l ∷ lists) → AreShort lists
 short_rest l lists h = λ k x e. h (suc k) x e
 
--- ---- One list
+-- ---- one list
 
--- a list that is told is one of the table
+-- a list that is complete or has a zone is one of the table
 pub one_told : (l : ZoneList) (lists : List ZoneList) → is_told l ≡ true → zone_map (l ∷ lists) ≡ known_of_list l ∷ zone_map lists
 one_told l lists t = rw t refl
 
--- and any other is none
+-- any other list isn't in the table
 pub one_untold : (l : ZoneList) (lists : List ZoneList) → is_told l ≡ false → zone_map (l ∷ lists) ≡ zone_map lists
 one_untold l lists t = rw t refl
 
@@ -41,11 +41,11 @@ zone_map_step l lists = by_test (is_told l) refl
     by_test true t = rw t refl
     by_test false t = rw t refl
 
--- how many zones a list has at least
+-- the least number of zones of a list
 abbrev pub least_for : ZoneList → ℕ
 least_for l = if l.complete then 0 else length l.zones + 1
 
--- what is known of a list are its names, and at least so many zones
+-- the list of the zone table is one of its names, with at least this many zones
 pub known_is_least : (l : ZoneList) → known_of_list l ≡ list_of_least (range_of l) (least_for l) l.zones
 known_is_least l = by_test l.complete
   where
@@ -63,9 +63,9 @@ known_is_least l = by_test l.complete
     by_test true = ap of_total (none_greater (length (each_once l.zones)))
     by_test false = ap of_total (sym (greater (length l.zones) (length (each_once l.zones)) (not_more l.zones)))
 
--- ---- Room
+-- ---- room
 
--- a list of at most 64 names has at most 64 zones where it is complete or has less names
+-- a list of at most 64 names fits: it is complete or has fewer than 64 names
 abbrev pub is_few : ZoneList → Bool
 is_few l = l.complete || nat_lt (length l.zones) 64
 
@@ -103,12 +103,12 @@ few_step : (l : ZoneList) (lists : List ZoneList) → length l.zones ≤ 64 → 
 few_step l lists few rest true t = rw (t, total_told l few, rest) refl
 few_step l lists few rest false t = rw (t, few_untold l t, rest) refl
 
--- the lists have few zones each
+-- each list fits exactly if the zone table has room for the zones of each
 pub all_few : (lists : List ZoneList) → AreShort lists → list_all is_few lists ≡ have_few_zones lists
 all_few [] h = refl
 all_few (l ∷ lists) h = few_step l lists (h 0 l refl) (all_few lists (short_rest l lists h)) (is_told l) refl
 
--- a table that a list is put after the others of
+-- a table to which one more list is appended
 pub room_for : (table : List Known) (l : ZoneList) → IsZoneMap (table ++ zone_map (l ∷ [])) → is_told l ≡ true → length l.zones ≤ 64
     → (is_past (range_of l) table ≡ true) × (has_room (least_for l) l.zones table ≡ true)
 room_for table l h t few =
@@ -131,7 +131,7 @@ room_for table l h t few =
     least_few true h = omega arith
     least_few false h = h
 
--- ---- The whole table
+-- ---- the whole table
 
 known_list : (l : ZoneList) → is_range l.start l.end ≡ true → nat_le (known_of_list l).total 64 ≡ true → is_known (known_of_list l) ≡ true
 known_list l valid few =
@@ -187,14 +187,14 @@ few_lists : (lists : List ZoneList) → length (zone_map lists) ≤ length lists
 few_lists [] = omega arith
 few_lists (l ∷ lists) = few_lists_step l lists (few_lists lists) (is_told l) refl
 
--- lists with ranges, few zones each, are a zone table
+-- lists with valid ranges and few zones are a zone table
 pub lists_map : (lists : List ZoneList) → have_zone_ranges lists ≡ true → have_few_zones lists ≡ true → length lists ≤ 200
     → IsZoneMap (zone_map lists)
 lists_map lists ranges few short =
     let r = and_parts (list_all (λ l. is_range l.start l.end) lists) (are_above 0 (zone_map lists)) ranges in
     record { apart = r.1; each = all_known lists r.0 few; few = omega (arith, few_lists lists, short) }
 
--- the tables of the lists at the front are a map, where that of all lists is one
+-- the tables of the first lists are maps, if that of all lists is one
 pub front_of_lists : (table : List Known) (l : ZoneList) (lists all : List ZoneList) → table ++ zone_map (l ∷ lists) ≡ zone_map all
     → IsZoneMap (zone_map all) → IsZoneMap (table ++ zone_map (l ∷ []))
 front_of_lists table l lists all e h =

@@ -1,4 +1,4 @@
--- The limits that each part of an internet keeps.
+-- The limits of each part of an internet.
 use Rattle.std.specs.Prelude.{◌≡◌, ◌<◌, ◌≤◌, ℕ, List, length, Some, slice_get}
 use Rattle.at_base.specs.Text.{IsEntity, IsName}
 use Rattle.table_image.specs.Limits.{max_cables, max_routers, max_nodes, max_ports, max_rows, max_zone_lists, max_zones, max_names}
@@ -16,84 +16,84 @@ use Rattle.table_image.specs.Internet.{Internet}
 abbrev pub Every : {X : Type 0} → (X → Type 0) → List X → Type 0
 Every {X} holds xs = (k : ℕ) (x : X) → slice_get xs k ≡ Some x → holds x
 
--- the number of an earlier element is below that of a later one
+-- the numbers rise strictly along the list
 abbrev pub Rises : {X : Type 0} → (X → ℕ) → List X → Type 0
 Rises {X} number xs = (j k : ℕ) (a b : X) → slice_get xs j ≡ Some a → slice_get xs k ≡ Some b → j < k → number a < number b
 
--- rows in rising order of their starts
+-- the rows rise strictly by their starts
 abbrev pub AreRising : List Row → Type 0
 AreRising rows = Rises (λ row. row.start) rows
 
--- the zones of a cable or of a zone list
+-- the zones of a cable or of a zone list: at most as many as the limit, each a valid name
 pub record AreZones (zones : List (List ℕ)) : Type 0 where
-  -- as many as there may be
+  -- at most as many as the limit
   pub few : length zones ≤ max_zones
-  -- zone names
+  -- valid zone names
   pub each : Every (λ zone. IsName zone) zones
 
--- a row of a router with so many ports
+-- a row of a router with this many ports: its distance and port are within their limits
 pub record IsRow (ports : ℕ) (row : Row) : Type 0 where
-  -- a distance that an image may have
+  -- the greatest distance is 31
   pub distance : row.distance ≤ max_distance
   -- the index of a port of the router
   pub port : row.port < ports
 
--- a name that a node may have
+-- a valid name of a node: its socket, enumerator, object and type
 pub record IsNodeName (name : NodeName) : Type 0 where
-  -- a socket, which is neither 0 ..
+  -- a socket from 1 ..
   pub socket_low : 1 ≤ name.socket
-  -- .. nor 255
+  -- .. to 254
   pub socket_high : name.socket ≤ 254
-  -- enumerators begin with 1
+  -- an enumerator from 1
   pub enumerator : 1 ≤ name.enumerator
   -- an object
   pub object : IsEntity name.object
   -- a type
   pub kind : IsEntity name.kind
 
--- a router within the limits of an image, where there are so many cables
+-- a router within the limits of an image with this many cables
 pub record IsWithinLimits (cables : ℕ) (router : Router) : Type 0 where
-  -- as many ports as there may be
+  -- at most as many ports as the limit
   pub ports : length router.ports ≤ max_ports
-  -- as many rows as there may be
+  -- at most as many rows as the limit
   pub rows : length router.rows ≤ max_rows
-  -- as many zone lists as there may be
+  -- at most as many zone lists as the limit
   pub lists : length router.lists ≤ max_zone_lists
-  -- the rows rise strictly
+  -- the rows rise strictly by their starts
   pub rising : AreRising router.rows
   -- the zone lists rise strictly by their starts
   pub lists_rising : Rises (λ list. list.start) router.lists
-  -- a port has the index of a cable
+  -- each port has the index of a cable
   pub each_port : Every (λ (port : Port). port.cable < cables) router.ports
-  -- a row has a distance and a port
+  -- each row has a valid distance and port
   pub each_row : Every (IsRow (length router.ports)) router.rows
-  -- a zone list has zones
+  -- each zone list has valid zones
   pub each_list : Every (λ (list : ZoneList). AreZones list.zones) router.lists
 
--- a node within the limits of an image, where there are so many cables
+-- a node within the limits of an image with this many cables
 pub record IsNodeWithinLimits (cables : ℕ) (node : Node) : Type 0 where
   -- the index of a cable
   pub cable : node.cable < cables
-  -- a zone's name
+  -- a zone name
   pub zone : IsName node.zone
-  -- as many names as there may be
+  -- at most as many names as the limit
   pub names : length node.names ≤ max_names
   -- the names rise strictly by their enumerators
   pub rising : Rises (λ name. name.enumerator) node.names
-  -- names that a node may have
+  -- valid names
   pub each_name : Every IsNodeName node.names
 
 -- an internet within the limits of an image
 pub record IsBounded (i : Internet) : Type 0 where
-  -- as many cables as there may be
+  -- at most as many cables as the limit
   pub cables : length i.cables ≤ max_cables
-  -- as many routers as there may be
+  -- at most as many routers as the limit
   pub routers : length i.routers ≤ max_routers
-  -- as many nodes as there may be
+  -- at most as many nodes as the limit
   pub nodes : length i.nodes ≤ max_nodes
-  -- a router is within its limits
+  -- each router is within its limits
   pub each : (r : ℕ) (router : Router) → slice_get i.routers r ≡ Some router → IsWithinLimits (length i.cables) router
-  -- a cable has zones
+  -- each cable has valid zones
   pub each_cable : Every (λ (cable : Cable). AreZones cable.zones) i.cables
-  -- a node is within its limits
+  -- each node is within its limits
   pub each_node : Every (IsNodeWithinLimits (length i.cables)) i.nodes

@@ -1,4 +1,4 @@
--- Flaws of an image: the cause, and how many bytes of the input are left from the byte on at which it is reported.
+-- Flaws of an image: the cause, and the number of input bytes left from the byte on at which the flaw is reported.
 use Rattle.std.specs.Prelude.{◌≡◌, ℕ, ◌+◌, List, Result, Ok, Err}
 use Rattle.at_base.specs.declared.error.Cause.{Cause}
 use Rattle.at_base.specs.declared.error.Cause.TheVariants.{Cut}
@@ -7,31 +7,31 @@ use Rattle.table_image.specs.declared.flaw.Flaw.{Flaw}
 use Rattle.table_image.specs.declared.flaw.Stop.{Stop}
 use Rattle.table_image.specs.declared.flaw.Stop.TheVariants as stops
 
--- what is wrong with a field, reported at its first byte, or at the byte before it: the length byte of a text
+-- what is wrong with a field, reported at its first byte, or at the byte before it (the length byte of a text)
 pub data Wrong : Type 0 where
   Here : Cause → Wrong
   Before : Cause → Wrong
 
--- the flaw of a field that has so many bytes of the input from its first one on
+-- the flaw of a field with this many input bytes left from its first byte on
 abbrev pub flaw_of : ℕ → Wrong → Flaw
 flaw_of left (Here cause) = record { left = left; cause = cause }
 flaw_of left (Before cause) = record { left = 1 + left; cause = cause }
 
--- the flaws of an image; where the input ends within a field, nothing is left
+-- the flaws of an image; if the input ends within a field, no bytes are left
 abbrev pub flaws : Refusals Wrong Flaw
 flaws = record { cut = record { left = 0; cause = Cut }; placed = flaw_of }
 
--- why reading stopped is what reading answers, unless an allocation failed
+-- the reason for stopping is the flaw that reading finds, or a failed allocation
 abbrev pub StopsAs : {Y : Type 0} → Stop → Result Y Flaw → Type 0
 StopsAs stops.Memory reading = Unit {0}
 StopsAs (stops.Refused f) reading = reading ≡ Err f
 
--- what a function returned, seen by view, is what reading gives, unless an allocation failed
+-- a function's result, seen through view, is the result of reading, unless an allocation failed
 abbrev pub GivesOrStops : {X Y : Type 0} → (X → Y) → Result X Stop → Result Y Flaw → Type 0
 GivesOrStops view (Ok x) reading = reading ≡ Ok (view x)
 GivesOrStops view (Err e) reading = StopsAs e reading
 
--- a function went past a value without keeping it: it returned a number of that value, and the bytes after it
+-- a function read past a value without storing it: it returned a number of that value, and the bytes after it
 abbrev pub GoesPast : {A X : Type 0} → (A → ℕ) → (X → ℕ × List ℕ) → Result X Flaw → Result (A × List ℕ) Flaw → Type 0
 GoesPast {A = A} number_of view (Ok x) reading = (y : A) × (reading ≡ Ok (y, (view x).1)) × (number_of y ≡ (view x).0)
 GoesPast number_of view (Err f) reading = reading ≡ Err f

@@ -1,10 +1,10 @@
--- An internet: what an image holds, read as lists.
+-- An internet: the contents of an image, as lists.
 use Rattle.std.specs.Prelude.{List}
 use Rattle.table_image.specs.declared.cable.Cable.{Cable}
 use Rattle.table_image.specs.declared.router.Router.{Router}
 use Rattle.table_image.specs.declared.node.Node.{Node}
 
--- what every router and node of an internet knew at one moment
+-- the tables of all routers and nodes of an internet at one moment
 pub record Internet : Type 0 where
   pub cables : List Cable
   pub routers : List Router

@@ -1,4 +1,4 @@
--- Whole images: which bytes spell one, and the first flaw of bytes that spell none.
+-- Whole images: the bytes that spell one, and the first flaw of other bytes.
 use Rattle.std.specs.Prelude.{◌≡◌, ◌≢◌, ℕ, ◌-◌, ◌⊎◌, List, [], ◌++◌, length, Result, Ok, Err, ◌==◌, if◌then◌else◌}
 use Rattle.at_base.specs.declared.error.Cause.TheVariants.{Trailing}
 use Rattle.at_base.specs.declared.error.Error.{Error}
@@ -11,11 +11,11 @@ use Rattle.table_image.specs.Flaws.{Here, flaw_of, flaws}
 use Rattle.table_image.specs.Spelling.{image_spelling}
 use Rattle.table_image.specs.declared.flaw.Flaw.{Flaw}
 
--- reading an image, after which nothing may follow
+-- the result of reading an image that goes up to the end of the bytes
 unfoldable pub image_at : List ℕ → Result Internet Flaw
 image_at bytes = read flaws image_spelling bytes >>= λ x. if length x.1 == 0 then Ok x.0 else Err (flaw_of (length x.1) (Here Trailing))
 
--- The first flaw of the bytes: that of their fields, or that something follows a whole image.
+-- f is the first flaw of the bytes: one of a field, or bytes after a whole image.
 abbrev pub IsFirstFlaw : List ℕ → Flaw → Type 0
 IsFirstFlaw bytes f =
     FirstFault flaws image_spelling bytes f
@@ -26,10 +26,10 @@ IsFirstFlaw bytes f =
 abbrev pub refusal : List ℕ → Flaw → Error
 refusal bytes f = BadImage (length bytes - f.left) f.cause
 
--- refused for the first flaw of the bytes
+-- the error reports the first flaw of the bytes
 abbrev pub RefusesFirst : List ℕ → Error → Type 0
 RefusesFirst bytes e = (f : Flaw) × IsFirstFlaw bytes f × (e ≡ refusal bytes f)
 
--- refused because an allocation failed, though the bytes spell an image; or for their first flaw
+-- the error reports a failed allocation, where the bytes spell an image, or else their first flaw
 abbrev pub Refuses : List ℕ → Error → Type 0
 Refuses bytes e = ((e ≡ Memory) × (x : Internet) × Spells image_spelling bytes x) ⊎ RefusesFirst bytes e

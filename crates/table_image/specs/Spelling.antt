@@ -1,5 +1,5 @@
--- The image of an internet's tables, version 1, as a format: its parts, their order and their tests. docs/FORMATS.md
--- has the same as a table.
+-- The format of an image of an internet's tables, version 1: its parts, their order and their tests. docs/FORMATS.md
+-- has it as a table.
 use Rattle.std.specs.Prelude.{ℕ, zero, suc, ◌+◌, Bool, true, false, ◌==◌, List, length, Option, Some, None, if◌then◌else◌, unwrap_or}
 use Rattle.at_base.specs.declared.address.Addr.{Addr}
 use Rattle.at_base.specs.declared.error.Cause.TheVariants.{Count, Name, Value, Version}
@@ -21,24 +21,24 @@ use Rattle.table_image.specs.declared.router.Router.{Router}
 use Rattle.table_image.specs.declared.node.NodeName.{NodeName}
 use Rattle.table_image.specs.declared.node.Node.{Node}
 
--- a count up to a limit, and so many parts
+-- a count up to a limit, and as many parts
 unfoldable pub counted : {B : Type 0} → ℕ → (ℕ → Grammar Wrong true B) → (B → ℕ) → Grammar Wrong true (List B)
 counted limit item next =
     field (number one (within 0 limit Count)) (λ xs. length xs) (λ count.
     list item next count (λ xs. xs) (λ xs. done xs))
 
--- a length of 1 to 32 and so many bytes; where the bytes break their test, the fault is at the length
+-- a length of 1 to 32, and a text of as many bytes; if the text fails its test, the flaw is reported at the length
 unfoldable pub text_spelling : (List ℕ → Bool) → Grammar Wrong true (List ℕ)
 text_spelling good =
     field (number one (within 1 max_text Name)) (λ s. length s) (λ len.
     field (run len (λ s. if good s then None else Some (Before Name))) (λ s. s) (λ s.
     done s))
 
--- a zone's name
+-- a zone name
 abbrev pub zone_spelling : Grammar Wrong true (List ℕ)
 zone_spelling = text_spelling is_name
 
--- a count and zones
+-- a count and as many zones
 unfoldable pub zones_spelling : Grammar Wrong true (List (List ℕ))
 zones_spelling = counted max_zones (λ low. zone_spelling) (λ name. 0)
 
@@ -57,7 +57,7 @@ cable_spelling =
     part zones_spelling (λ c. c.zones) (λ names.
     done (record { start = start; end = end; zones = names }))))
 
--- a port, where there are so many cables: cable, address, hardware address
+-- a port, of a router of an internet with this many cables: cable, address, hardware address
 unfoldable pub port_spelling : ℕ → Grammar Wrong true Port
 port_spelling cables =
     field (number one (below cables)) (λ p. p.cable) (λ cable.
@@ -72,14 +72,14 @@ state_number Suspect = 1
 state_number Bad = 2
 state_number Last = 3
 
--- the state of a number
+-- the state with a number
 abbrev pub state_of : ℕ → State
 state_of zero = Good
 state_of (suc zero) = Suspect
 state_of (suc (suc zero)) = Bad
 state_of (suc (suc (suc n))) = Last
 
--- a row of a router with so many ports, above the row before it: start, end, distance, port, next address, state
+-- a row, of a router with this many ports, above the row before it: start, end, distance, port, next address, state
 unfoldable pub row_spelling : ℕ → ℕ → Grammar Wrong true Row
 row_spelling ports low =
     field (number two (rising low)) (λ r. r.start) (λ start.
@@ -95,11 +95,11 @@ abbrev pub flag_number : Bool → ℕ
 flag_number false = 0
 flag_number true = 1
 
--- the flag of a number
+-- the flag with a number
 abbrev pub flag_of : ℕ → Bool
 flag_of n = n == 1
 
--- a zone list above the one before it: start, end, whether it is complete, zones
+-- a zone list, above the one before it: start, end, whether it is complete, zones
 unfoldable pub zone_list_spelling : ℕ → Grammar Wrong true ZoneList
 zone_list_spelling low =
     field (number two (rising low)) (λ l. l.start) (λ start.
@@ -108,7 +108,7 @@ zone_list_spelling low =
     part zones_spelling (λ l. l.zones) (λ names.
     done (record { start = start; end = end; complete = flag_of complete; zones = names })))))
 
--- a router, where there are so many cables: ports, rows, zone lists
+-- a router of an internet with this many cables: ports, rows, zone lists
 unfoldable pub router_spelling : ℕ → Grammar Wrong true Router
 router_spelling cables =
     part (counted max_ports (λ low. port_spelling cables) (λ p. 0)) (λ r. r.ports) (λ ports.
@@ -116,25 +116,25 @@ router_spelling cables =
     part (counted max_zone_lists zone_list_spelling (λ l. l.start + 1)) (λ r. r.lists) (λ lists.
     done (record { ports = ports; rows = rows; lists = lists }))))
 
--- no address
+-- the address 0.0
 abbrev pub nowhere : Addr
 nowhere = record { net = 0; node = 0 }
 
--- the flag before a node's router
+-- the flag before a node's router: 1 if the node has one, else 0
 abbrev pub own_router_number : Option Addr → ℕ
 own_router_number None = 0
 own_router_number (Some a) = 1
 
--- what follows that flag
+-- the format of a node's router after its flag
 abbrev pub after_flag : ℕ → Grammar Wrong true (Option Addr)
 after_flag zero = done None
 after_flag (suc n) = part address_spelling (λ o. unwrap_or o nowhere) (λ a. done (Some a))
 
--- a node's router: a flag, and an address where it is 1
+-- a node's router: a flag, and an address if the flag is 1
 unfoldable pub own_router_spelling : Grammar Wrong true (Option Addr)
 own_router_spelling = field (number one (within 0 1 Value)) own_router_number after_flag
 
--- a node's name above the one before it: socket, enumerator, object, type
+-- a node's name, above the one before it: socket, enumerator, object, type
 unfoldable pub name_spelling : ℕ → Grammar Wrong true NodeName
 name_spelling low =
     field (number one (within 1 254 Value)) (λ n. n.socket) (λ socket.
@@ -143,7 +143,7 @@ name_spelling low =
     part (text_spelling is_entity) (λ n. n.kind) (λ kind.
     done (record { socket = socket; enumerator = number; object = object; kind = kind })))))
 
--- a node, where there are so many cables: cable, address, hardware address, zone, router, names
+-- a node of an internet with this many cables: cable, address, hardware address, zone, router, names
 unfoldable pub node_spelling : ℕ → Grammar Wrong true Node
 node_spelling cables =
     field (number one (below cables)) (λ n. n.cable) (λ cable.
@@ -161,7 +161,7 @@ node_spelling cables =
       names = names;
     })))))))
 
--- the head and the cables
+-- the head of an image, and the cables
 unfoldable pub front_spelling : Grammar Wrong true (List Cable)
 front_spelling =
     field (run 4 is_magic) (λ c. magic) (λ s.

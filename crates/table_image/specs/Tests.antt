@@ -5,30 +5,30 @@ use Rattle.at_base.specs.declared.error.Cause.TheVariants.{Index, Magic, Order, 
 use Rattle.at_base.specs.Text.{same_bytes}
 use Rattle.table_image.specs.Flaws.{Wrong, Here}
 
--- any value
+-- the test that any value passes
 abbrev pub any : {V : Type 0} → V → Option Wrong
 any n = None
 
--- at least, and at most
+-- the test that the numbers from least to most pass
 abbrev pub within : ℕ → ℕ → Cause → ℕ → Option Wrong
 within least most cause n = if nat_lt n least then Some (Here cause) else if nat_lt most n then Some (Here cause) else None
 
--- a 0-based index into a list of so many
+-- the test of a 0-based index into a list of count parts
 abbrev pub below : ℕ → ℕ → Option Wrong
 below count n = if nat_lt n count then None else Some (Here Index)
 
--- above the one before it, which leaves one more than itself
+-- the test that a number is above the one before it, which passes low on as one more than itself
 abbrev pub rising : ℕ → ℕ → Option Wrong
 rising low n = if nat_lt n low then Some (Here Order) else None
 
--- 1 or more, and above the one before it
+-- the test that a number is at least 1, and above the one before it
 abbrev pub enumerator : ℕ → ℕ → Option Wrong
 enumerator low n = if nat_lt n 1 then Some (Here Value) else rising low n
 
--- the four bytes with which an image begins
+-- the four bytes at the front of an image
 abbrev pub magic : List ℕ
 magic = 0x41 ∷ 0x54 ∷ 0x49 ∷ 0x4D ∷ []
 
--- those four bytes
+-- the test of the four bytes at the front of an image
 abbrev pub is_magic : List ℕ → Option Wrong
 is_magic s = if same_bytes s magic then None else Some (Here Magic)

@@ -14,12 +14,12 @@ use crate::zones::{check_zones, pass_zones, put_zones, zones_at};
 use at_base::Name;
 use std::alloc::{AllocError, Global};
 
-/// A cable: a network of the internet, in AppleTalk Phase 2 a range of network numbers.
+/// A cable: a network of the internet. In AppleTalk Phase 2 it has a range of network numbers.
 ///
 /// Inside AppleTalk, the chapters on DDP and ZIP.
 #[derive(Debug, PartialEq, Eq, Drop)]
 pub struct Cable {
-    /// The first network number of its range; no rule of the image ties it to `end`.
+    /// The first network number of its range. The image has no rule that relates it to `end`.
     pub start: u16,
     /// The last network number of its range.
     pub end: u16,
@@ -81,7 +81,7 @@ impl CheckItem for Cable {
     ghost max_size = { cable_size };
 
     fn check_one(&self, _known: usize, _low: u32, at: usize) -> Result<usize, Misfit> {
-        // Read for the prover alone: a field that is read is known to fit its type.
+        // Read only for the prover: a field that is read is known to fit its type.
         let (_start, _end) = (self.start, self.end);
         check_zones(at + RANGE_SIZE, &self.zones)
     }

@@ -1,4 +1,4 @@
-//! Checks of parts, as reading would judge them if they were written in order.
+//! Checks of parts, with the same result as reading the parts if they were written in order.
 
 ghost use Rattle.std.specs.Prelude.{◌≡◌, ◌+◌, ◌*◌, ◌^◌, ◌<◌, ◌≤◌, ℕ, Bool, length, IsTrue};
 ghost use Rattle.std.specs.Prelude.{MatchResult};
@@ -10,7 +10,7 @@ use crate::item::Item;
 use crate::listed::Listed;
 use at_base::Cause;
 
-/// What is wrong with a part, and the offset from the image's first byte at which reading would
+/// The flaw of a part: its cause, and the offset from the image's first byte at which reading would
 /// report it.
 #[derive(Clone, Copy, Debug, PartialEq, Eq)]
 pub struct Misfit {
@@ -20,14 +20,14 @@ pub struct Misfit {
 
 /// A part that can be checked.
 pub trait CheckItem: Item {
-    // Its lists are no longer than an image may have them.
+    // The lists of the part are within their limits.
     ghost short: { Self → Bool };
 
-    // The most bytes that such a part takes.
+    // The greatest number of bytes of such a part.
     ghost max_size: { ℕ };
 
-    /// Checks the part, which would begin at the offset `at`, where it may refer to `known` other
-    /// parts and may not be below `low`: the offset of its end, or its first flaw.
+    /// Checks the part at the offset `at`. It may refer to `known` other parts, and may not be
+    /// below `low`. Returns the offset of its end, or its first flaw.
     fn check_one(&self, known: usize, low: u32, at: usize) -> Result<usize, Misfit>
         requires short { IsTrue (short self.now) }
         requires room { at + max_size < 2 ^ 40 }
@@ -52,7 +52,7 @@ fn check_list<T: CheckItem>(known: usize, at: usize, items: &[T]) -> Result<usiz
     Ok(end)
 }
 
-/// Checks the count, which would be at the offset `at`, and the parts.
+/// Checks a count at the offset `at`, and the parts after it.
 pub(crate) fn check_counted<T: CheckItem>(
     limit: u8,
     known: usize,

@@ -1,4 +1,4 @@
-//! Why reading an image stops.
+//! The reasons why reading an image stops.
 
 ghost use Rattle.std.specs.Prelude.{◌≡◌};
 ghost use Rattle.table_image.specs.declared.flaw.Stop.TheVariants.{Memory, Refused};
@@ -6,8 +6,8 @@ ghost use Rattle.table_image.specs.declared.flaw.Stop.TheVariants.{Memory, Refus
 use at_base::Cause;
 use std::alloc::{AllocError, AllocFailed};
 
-/// What is wrong with an image. A reader of a part knows how many bytes are `left` of the input
-/// from the byte on at which the flaw is reported, and not that byte's offset.
+/// The flaw of an image: its cause, and the number of input bytes left from the byte on at which
+/// the flaw is reported. (A reader of a part doesn't know that byte's offset.)
 #[derive(Clone, Copy, Debug, PartialEq, Eq)]
 pub struct Flaw {
     pub left: usize,

@@ -34,8 +34,7 @@ use at_base::{Bytes, Cause, Error, What};
 use std::alloc::{AllocError, Global};
 use std::marker::Model;
 
-/// The tables of an internet: a value of the format, whose indexes, orders, texts and limits are as
-/// reading wants them.
+/// The tables of an internet: a value of the format, with valid indices, orders, texts and limits.
 #[derive(Debug, Drop)]
 pub struct Image {
     cables: Listed<Cable>,
@@ -56,16 +55,16 @@ impl Model for Image {
 }
 
 impl Image {
-    /// The image of these parts, without an allocation. Errors: `Full` where a list is longer than
-    /// its limit; else `BadImage`, the first flaw of the parts if they were written in order, with
-    /// its offset from the first byte.
+    /// The image made of these parts, without an allocation. Errors: `Full` where a list is longer
+    /// than its limit; else `BadImage`, the first flaw that reading would find if the parts were
+    /// written in order, with its offset from the first byte.
     pub fn make(cables: Vec<Cable>, routers: Vec<Router>, nodes: Vec<Node>) -> Result<Image, Error>
         ensures made { OkIff result
             (IsValue image_spelling (internet cables.items routers.items nodes.items))
             (internet cables.items routers.items nodes.items) }
         ensures full { is_short (internet cables.items routers.items nodes.items) ≡ false
             → result ≡ Err Error.Full }
-        // Parts within the limits are judged as reading judges their bytes.
+        // Parts within the limits are checked as reading checks their bytes.
         ensures first { IsTrue (is_short (internet cables.items routers.items nodes.items))
             → (f : ImageFlaw) → IsFirstFlaw
             (bytes_of image_spelling (internet cables.items routers.items nodes.items)) f
@@ -91,7 +90,7 @@ impl Image {
         }
     }
 
-    /// The cables, at most `MAX_CABLES`; ports and nodes have their indexes, from 0.
+    /// The cables, at most `MAX_CABLES`. Ports and nodes refer to them by index, from 0.
     pub fn cables(&self) -> &[Cable]
         ensures value { result.now ≡ self.now.cables }
         ensures bounded { IsBounded self.now }
@@ -120,7 +119,7 @@ impl Image {
 
     /// The rows of a router, by its index from 0, as rows of a routing table, in order.
     ///
-    /// Errors: `NoSuch` of `Router`; else `BadRange` where the range of a row isn't valid; else
+    /// Errors: `NoSuch(Router)`; else `BadRange` where the range of a row isn't valid; else
     /// `Memory`.
     pub fn rows_of(&self, alloc: Global, router: u8) -> Result<Vec<rtmp::Row>, Error>
         ensures ok { IfOk result
@@ -159,8 +158,8 @@ fn front_of(alloc: Global, bytes: &[u8]) -> Result<(Listed<Cable>, &[u8]), Stop>
     counted_of::<Cable>(alloc, MAX_CABLES, 0, &[], rest)
 }
 
-/// A router whose zone lists are those of the cables, in order: a hint for the first router that is
-/// read. There is none where a cable's zones can't have several owners, or an allocation failed.
+/// A router whose zone lists are those of the cables, in order: a hint for reading the first
+/// router. `None` where a cable's zones can't be shared, or an allocation failed.
 fn router_like(alloc: Global, cables: &Listed<Cable>) -> Option<Router> {
     let mut lists = Vec::with_capacity(alloc, cables.len()).ok()?;
     for cable in cables.as_slice() {
@@ -238,7 +237,7 @@ fn whole(alloc: Global, bytes: &[u8]) -> Result<Parts, Stop>
     Ok(parts)
 }
 
-// Goes past the head and the cables without an allocation.
+// Reads past the head and the cables without an allocation.
 #[tactic(auto, unfolding(crate::specs::Spelling::front_spelling))]
 fn pass_front(bytes: &[u8]) -> Result<(usize, &[u8]), Flaw>
     ensures { GoesPast (λ cables. length cables) (λ x. (x.0, x.1.now)) result
@@ -272,7 +271,7 @@ fn look_through(bytes: &[u8]) -> Result<(), Flaw>
     Ok(())
 }
 
-// The limits of an image keep the place of a flaw below 2 ^ 32.
+// The limits of an image keep the offset of a flaw below 2 ^ 32.
 fn refused(bytes: &[u8], flaw: Flaw) -> Error
     requires { length bytes.now < flaw.left + 2 ^ 32 }
     ensures { result ≡ refusal bytes.now flaw }
@@ -281,8 +280,8 @@ fn refused(bytes: &[u8], flaw: Flaw) -> Error
     Error::BadImage(place as u32, flaw.cause)
 }
 
-// An allocation failed. That is the answer only where the bytes spell an image, so the whole input
-// is looked through without an allocation.
+// The error after a failed allocation. It is `Memory` only if the bytes spell an image, so the
+// whole input is checked, without an allocation.
 fn refused_for_memory(bytes: &[u8]) -> Error
     ensures refused { Refuses bytes.now result }
     ensures first { (f : ImageFlaw) → IsFirstFlaw bytes.now f → result ≡ refusal bytes.now f }
@@ -293,17 +292,18 @@ fn refused_for_memory(bytes: &[u8]) -> Error
     }
 }
 
-/// The image that the bytes spell, all of them. Errors: `BadImage`, the first flaw of bytes that
-/// spell no image, with its offset from the first byte; `Memory`, only where they spell one.
+/// The image that the bytes spell; it goes up to their end. Errors: `BadImage`, the first flaw of
+/// bytes that spell no image, with its offset from the first byte; `Memory`, only where they spell
+/// one.
 pub fn read(alloc: Global, bytes: &[u8]) -> Result<Image, Error>
-    // What is read is spelled so.
+    // The bytes spell the image that is returned.
     ensures found { IfOk result (λ i. Spells image_spelling bytes.now i) }
-    // What is spelled so is read, unless memory runs out.
+    // If the bytes spell an image, it is returned, unless memory runs out.
     ensures only { (i : Internet) → Spells image_spelling bytes.now i
         → MatchResult result (λ j. j ≡ i) (λ e. e ≡ Error.Memory) }
-    // Where the bytes have a flaw, it is the answer.
+    // If the bytes have a flaw, it is reported.
     ensures first { (f : ImageFlaw) → IsFirstFlaw bytes.now f → result ≡ Err (refusal bytes.now f) }
-    // A refusal is the first flaw, or a failed allocation, and that where the bytes spell an image.
+    // An error reports the first flaw, or a failed allocation where the bytes spell an image.
     ensures refused { IfErr result (Refuses bytes.now) }
 {
     match whole(alloc, bytes) {
@@ -335,7 +335,7 @@ fn put_image(out: &mut Vec<u8>, image: &Image) -> Result<(), AllocError>
     put_counted(out, MAX_NODES, image.cables.len(), &image.nodes)
 }
 
-// How many bytes the image is written as: a check of its parts ends where their last byte would.
+// The number of bytes of the written image: the check of its parts returns the offset of their end.
 fn written_len(image: &Image) -> usize
     ensures len { result ≡ length (bytes_of image_spelling image.now) }
     ensures valid { IsValue image_spelling image.now }
@@ -346,7 +346,8 @@ fn written_len(image: &Image) -> usize
     }
 }
 
-/// The one spelling of an image, in one allocation of its length. Error: `Memory`.
+/// The bytes of an image, the only ones that spell it, in one allocation of their length. Error:
+/// `Memory`.
 pub fn write(alloc: Global, image: &Image) -> Result<Bytes, Error>
     ensures spelled { IfOk result (λ bytes. Spells image_spelling bytes image.now) }
     ensures refused { IsOkUnless result Error.Memory }
@@ -356,7 +357,7 @@ pub fn write(alloc: Global, image: &Image) -> Result<Bytes, Error>
     Ok(Bytes::from_vec(out))
 }
 
-/// No image has two spellings, and no bytes spell two images.
+/// An image has only one spelling, and bytes spell at most one image.
 pub fn one_spelling()
     ensures spelling { (a b : List ℕ) (i : Internet)
         → Spells image_spelling a i → Spells image_spelling b i → a ≡ b }

@@ -1,5 +1,5 @@
-//! Fields at the front of bytes: each function gives a field's value and the bytes after it, or the
-//! flaw.
+//! Fields at the front of bytes. Each function returns a field's value and the bytes after it, or
+//! the flaw.
 
 ghost use Rattle.std.specs.Prelude.{◌≡◌, ◌+◌, length};
 ghost use Rattle.at_base.specs.Grammar.{number, run, one, two};
@@ -24,7 +24,7 @@ fn cut() -> Flaw
     }
 }
 
-/// The flaw of the field with which the bytes begin.
+/// The flaw of the field at the front of the bytes.
 pub(crate) fn wrong(bytes: &[u8], cause: Cause) -> Flaw
     ensures { result ≡ record { left = length bytes.now; cause = cause } }
 {
@@ -115,7 +115,7 @@ pub(crate) fn rising_at(bytes: &[u8], low: u32) -> Result<(u16, &[u8]), Flaw>
     Ok((number, rest))
 }
 
-/// The four bytes with which an image begins.
+/// The four bytes at the front of an image.
 pub(crate) fn magic_at(bytes: &[u8]) -> Result<(&[u8], &[u8]), Flaw>
     ensures { Gives (λ x. (x.0.now, x.1.now)) result (field_at flaws (run 4 is_magic) bytes.now) }
 {
@@ -146,7 +146,7 @@ pub(crate) fn address_at(bytes: &[u8]) -> Result<(Addr, &[u8]), Flaw>
     Ok((Addr { net, node }, rest))
 }
 
-// A text is refused at its length byte, the one before its first byte.
+// A bad text is reported at its length byte, the one before its first byte.
 fn wrong_text(after: &[u8]) -> Flaw
     ensures { result ≡ record { left = 1 + length after.now; cause = Cause.Name } }
 {
@@ -156,7 +156,7 @@ fn wrong_text(after: &[u8]) -> Flaw
     }
 }
 
-/// A zone's name.
+/// A zone name.
 #[tactic(auto, unfolding(crate::specs::Spelling::text_spelling))]
 pub(crate) fn name_at(bytes: &[u8]) -> Result<(Name, &[u8]), Flaw>
     ensures { Gives (λ x. (x.0, x.1.now)) result (read flaws (text_spelling is_name) bytes.now) }
@@ -169,7 +169,7 @@ pub(crate) fn name_at(bytes: &[u8]) -> Result<(Name, &[u8]), Flaw>
     Ok((Name::of(text), rest))
 }
 
-/// An object or a type that a node may have.
+/// An object or a type of a node's name.
 #[tactic(auto, unfolding(crate::specs::Spelling::text_spelling))]
 pub(crate) fn entity_at(bytes: &[u8]) -> Result<(Text32, &[u8]), Flaw>
     ensures { Gives (λ x. (x.0, x.1.now)) result (read flaws (text_spelling spec.is_entity) bytes.now) }

@@ -1,4 +1,4 @@
-//! Lists of parts, after a count.
+//! Length-prefixed lists of parts.
 
 ghost use Rattle.std.specs.Prelude.{◌≡◌, ◌++◌, ℕ, true, length, OnOk};
 ghost use Rattle.std.specs.List.{flat_map};
@@ -15,20 +15,20 @@ use crate::output::put_count;
 use at_base::Cause;
 use std::alloc::{AllocError, Global};
 
-/// A part of which an image has several.
+/// A part of an image that lists consist of.
 pub trait Item: Drop {
-    // The part's format, by how many parts it may refer to, and by the number that the part before
-    // it leaves.
+    // The format of the part, given the number of parts that it may refer to, and the number that
+    // the part before it passes on.
     ghost spelling: { ℕ → ℕ → Grammar Wrong true Self };
 
-    // The number that the part leaves to the one after it.
+    // The number that the part passes to the next one.
     ghost next: { Self → ℕ };
 
-    /// The number that the part leaves to the one after it, which may not be below it.
+    /// The number that the part passes to the next one, which may not be below it.
     fn next_low(&self) -> u32
         ensures { result ≡ next self.now };
 
-    /// A law, which costs nothing: a part is written alike, whatever parts are around it.
+    /// A law, without run time: the bytes of a part don't depend on the parts around it.
     fn written_alike()
         ensures { (known low : ℕ) (x : Self)
             → bytes_of (spelling known low) x ≡ bytes_of (spelling 0 0) x };
@@ -36,8 +36,8 @@ pub trait Item: Drop {
 
 /// A part that can be read.
 pub trait ReadItem: Item {
-    /// The part at the front of the bytes, and the bytes after it. A part that was read before, and
-    /// that this one may be like, changes nothing but the time and the memory that it takes.
+    /// The part at the front of the bytes, and the bytes after it. `like` is a part that was read
+    /// before; if this one is like it, reading takes less time and memory, with the same result.
     fn read_one<'a>(
         alloc: Global,
         known: usize,
@@ -48,8 +48,8 @@ pub trait ReadItem: Item {
         ensures { GivesOrStops (λ x. (x.0, x.1.now)) result
             (read flaws (Self.spelling known low) bytes.now) };
 
-    /// Goes past the part at the front of the bytes without an allocation: the number that it
-    /// leaves, and the bytes after it.
+    /// Reads past the part at the front of the bytes without an allocation: returns the number that
+    /// the part passes on, and the bytes after it.
     fn pass_one(known: usize, low: u32, bytes: &[u8]) -> Result<(u32, &[u8]), Flaw>
         ensures { GoesPast Self.next (λ x. (x.0, x.1.now)) result
             (read flaws (Self.spelling known low) bytes.now) };
@@ -88,13 +88,13 @@ impl<T: FlatItem> ReadItem for T {
 
 /// A part that can be written.
 pub trait WriteItem: Item {
-    /// Writes the part at the end of the bytes.
+    /// Appends the bytes of the part.
     fn write_one(&self, out: &mut Vec<u8>) -> Result<(), AllocError>
         ensures { OnOk result
             (out.new.items ≡ out.old.items ++ bytes_of (Self.spelling 0 0) self.now) };
 }
 
-// A list of one needs no allocation beyond those of its item.
+// A list of one part needs no allocation of its own.
 fn single_of<'a, T: ReadItem>(
     alloc: Global,
     known: usize,
@@ -108,8 +108,8 @@ fn single_of<'a, T: ReadItem>(
     Ok((Listed::one(item), rest))
 }
 
-// The count says how much room the list needs, so it is allocated once. A part may be like the one
-// with its index in the other list, or else like the one before it.
+// The count says how much room the list needs, so it is allocated once. Each part is compared with
+// the part of the same index in the other list, or else with the one before it.
 fn list_of<'a, T: ReadItem>(
     alloc: Global,
     known: usize,
@@ -133,8 +133,8 @@ fn list_of<'a, T: ReadItem>(
     Ok((Listed::from_vec(items), rest))
 }
 
-/// As many parts as the count says, which is at most the limit. Those of another list, which these
-/// may be like, change nothing but the time and the memory that it takes.
+/// A count of at most the limit, and as many parts. `likes` is another list; parts that are like
+/// its parts take less time and memory, with the same result.
 #[tactic(auto, unfolding(crate::specs::Spelling::counted))]
 pub(crate) fn counted_of<'a, T: ReadItem>(
     alloc: Global,
@@ -167,7 +167,7 @@ fn pass_list<T: ReadItem>(known: usize, count: u8, bytes: &[u8]) -> Result<(usiz
     Ok((count as usize, rest))
 }
 
-/// Goes past as many parts as the count says, and returns their number.
+/// Reads past a count and as many parts, and returns their number.
 #[tactic(auto, unfolding(crate::specs::Spelling::counted))]
 pub(crate) fn pass_counted<T: ReadItem>(
     limit: u8,
@@ -191,8 +191,8 @@ fn put_list<T: WriteItem>(out: &mut Vec<u8>, items: &[T]) -> Result<(), AllocErr
     Ok(())
 }
 
-/// Writes the count and the parts. The limit and the number of parts that they may refer to change
-/// nothing that is written; they say which format it is.
+/// Appends a count and the parts. The limit and the number of parts that they may refer to don't
+/// affect the bytes; they say which format is meant.
 pub(crate) fn put_counted<T: WriteItem>(
     out: &mut Vec<u8>,
     _limit: u8,

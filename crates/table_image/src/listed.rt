@@ -1,4 +1,4 @@
-//! Lists of the crate's own, which contracts see as lists.
+//! Lists that contracts see as lists, however they are stored.
 
 ghost use Rattle.std.specs.Prelude.{◌≡◌, ◌∷◌, ◌==◌, [], length, IfSome};
 ghost use Rattle.std.specs.Slice.Iter.{iter_rest};
@@ -12,14 +12,15 @@ use std::ops::DerefSlice;
 use std::slice;
 use std::sync::Arc;
 
-/// Values one after the other, as a slice that owns its memory; a clause sees the list of them.
+/// A list of values that owns its memory. Contracts see the values.
 #[derive(Debug, Drop)]
 pub struct Listed<T> {
     kept: Kept<T>,
 }
 
-// Most zone lists of a router have one zone: a list of one is kept in place, and takes no memory of
-// its own. Longer ones are those of the other routers, so they are kept once for all.
+// Most zone lists of a router have one zone. A list of one value is stored in place, without an
+// allocation. Longer lists are usually those of the other routers too, so they are stored once and
+// shared.
 #[derive(Debug, Drop)]
 enum Kept<T> {
     One([T; 1]),
@@ -37,7 +38,7 @@ impl<T> Model for Listed<T> {
 }
 
 impl<T> Listed<T> {
-    /// The one value as a list, without an allocation.
+    /// A list of one value, without an allocation.
     pub fn one(item: T) -> Listed<T>
         ensures { result ≡ item ∷ [] }
     {
@@ -46,7 +47,7 @@ impl<T> Listed<T> {
         }
     }
 
-    /// The values of the vector, without an allocation.
+    /// A list of the values of a vector, without an allocation.
     pub fn from_vec(items: Vec<T>) -> Listed<T>
         ensures { result ≡ items.items }
     {
@@ -55,7 +56,7 @@ impl<T> Listed<T> {
         }
     }
 
-    /// The values in place.
+    /// The values, in place.
     pub fn as_slice(&self) -> &[T]
         ensures { result.now ≡ self.now }
     {
@@ -73,7 +74,7 @@ impl<T> Listed<T> {
         self.as_slice().len()
     }
 
-    /// Whether there is no value.
+    /// Whether the list is empty.
     pub fn is_empty(&self) -> bool
         ensures { result ≡ (length self.now == 0) }
     {
@@ -118,7 +119,7 @@ impl<'a, T> IntoIterator for &'a Listed<T> {
     }
 }
 
-// Lists are equal where their values are, in the same order, however they keep them.
+// Lists are equal if they have equal values in the same order, however they are stored.
 impl<T: PartialEq> PartialEq for Listed<T> {
     ghost eq = { λ a b. pointwise T.eq a b };
 
@@ -134,8 +135,8 @@ impl<T: Eq> Eq for Listed<T> {
 }
 
 impl<T: Drop> Listed<T> {
-    /// The same values, which may have several owners from now on. If allocation fails they have
-    /// one, as before.
+    /// The same values, stored so that they can be shared. If the allocation fails, they are stored
+    /// as before.
     pub(crate) fn into_shared(self, alloc: Global) -> Listed<T>
         ensures { result ≡ self }
     {
@@ -149,7 +150,7 @@ impl<T: Drop> Listed<T> {
         Listed { kept }
     }
 
-    /// The same values once more, without a copy of them, where they may have several owners.
+    /// The same values again, without a copy, if they can be shared.
     pub(crate) fn share(&self) -> Option<Listed<T>>
         ensures { IfSome result (λ other. other ≡ self.now) }
     {
@@ -166,8 +167,7 @@ impl<T: Drop> Listed<T> {
 }
 
 impl<T: Copy + Drop> Listed<T> {
-    /// The same values once more, without an allocation: one value, or values that may have several
-    /// owners.
+    /// The same values again, without an allocation: one value, or values that can be shared.
     pub(crate) fn again(&self) -> Option<Listed<T>>
         ensures { IfSome result (λ other. other ≡ self.now) }
     {

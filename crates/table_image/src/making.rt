@@ -1,4 +1,4 @@
-//! Checks of the parts that an image is made of.
+//! Checks of the parts of which an image is made.
 
 ghost use Rattle.std.specs.Prelude.{◌≡◌, ◌+◌, ◌^◌, ◌<◌, ◌≤◌, ◌&&◌, IsTrue, IfErr, length};
 ghost use Rattle.std.specs.List.{list_all};
@@ -58,7 +58,7 @@ fn nodes_are_short(nodes: &[Node]) -> bool
         .all(|node| node.names.len() <= MAX_NAMES as usize)
 }
 
-/// Whether every list is within its limit.
+/// Whether each list is within its limit.
 pub(crate) fn are_short(
     cables: &Listed<Cable>,
     routers: &Listed<Router>,
@@ -74,8 +74,8 @@ pub(crate) fn are_short(
         && nodes_are_short(nodes.as_slice())
 }
 
-/// Checks the parts, as reading would judge them if they were written in order: the length of the
-/// image, or the first flaw.
+/// Checks the parts, with the same result as reading them if they were written in order: the length
+/// of the image, or the first flaw.
 pub(crate) fn check_parts(
     cables: &Listed<Cable>,
     routers: &Listed<Router>,

@@ -24,19 +24,18 @@ use crate::sizes::{BYTE_SIZE, OWN_ROUTER_SIZE, PORT_SIZE};
 use at_base::{Addr, Cause, Hw, Name, Text32, is_entity};
 use std::alloc::{AllocError, Global};
 
-/// A name that a node has registered for one of its sockets. Its zone is the node's.
+/// A name registered for one of a node's sockets. Its zone is the node's.
 ///
 /// Inside AppleTalk, the chapter on NBP.
 #[derive(Clone, Copy, Debug, PartialEq, Eq)]
 pub struct NodeName {
-    /// The number of the socket, 1 to 254.
+    /// The socket number, 1 to 254.
     pub socket: u8,
-    /// The number that tells a node's names apart, 1 to 255. The names of a node rise strictly by
-    /// it.
+    /// The enumerator, 1 to 255. The names of a node rise strictly by it.
     pub enumerator: u8,
-    /// The object: 1 to 32 bytes, none of them the wildcard C5, and not `=` alone.
+    /// The object: 1 to 32 bytes, without the wildcard C5, and not just `=`.
     pub object: Text32,
-    /// The type, of which the same holds.
+    /// The type: 1 to 32 bytes, without the wildcard C5, and not just `=`.
     pub kind: Text32,
 }
 
@@ -51,11 +50,11 @@ pub struct Node {
     pub address: Addr,
     /// Its hardware address on that cable, 6 bytes.
     pub hardware: Hw,
-    /// The name of the zone that it is in.
+    /// The name of its zone.
     pub zone: Name,
-    /// The address of the router that it sends through; `None` where it has heard of none.
+    /// The address of the router that it sends through; `None` if it hasn't heard of one.
     pub router: Option<Addr>,
-    /// The names that it has registered, at most `MAX_NAMES`, strictly rising by enumerators.
+    /// The names registered on it, at most `MAX_NAMES`, strictly rising by enumerator.
     pub names: Listed<NodeName>,
 }
 
@@ -274,14 +273,14 @@ fn own_router_size(router: Option<Addr>) -> usize
     match router {
         None => BYTE_SIZE,
         Some(address) => {
-            // Read for the prover alone: a field that is read is known to fit its type.
+            // Read only for the prover: a field that is read is known to fit its type.
             let (_net, _node) = (address.net, address.node);
             OWN_ROUTER_SIZE
         }
     }
 }
 
-// The offset of the text of a node's zone from the node's first byte: its length is before it.
+// The offset of the text of a node's zone from the node's first byte. The length byte is before it.
 const ZONE_TEXT_AT: usize = PORT_SIZE + BYTE_SIZE;
 
 impl CheckItem for Node {
@@ -293,7 +292,7 @@ impl CheckItem for Node {
     ghost max_size = { node_size };
 
     fn check_one(&self, known: usize, _low: u32, at: usize) -> Result<usize, Misfit> {
-        // Read for the prover alone: a field that is read is known to fit its type.
+        // Read only for the prover: a field that is read is known to fit its type.
         let (_net, _node) = (self.address.net, self.address.node);
         let _hardware = self.hardware.as_slice();
         if self.cable as usize >= known {

@@ -1,4 +1,4 @@
-//! Fields written at the end of bytes.
+//! Appending fields to bytes.
 
 ghost use Rattle.std.specs.Prelude.{◌≡◌, ◌≤◌, ◌++◌, ◌∷◌, length, OnOk};
 ghost use Rattle.std.specs.Int.{w8, w16, to_be_bytes};
@@ -9,21 +9,21 @@ ghost use Rattle.table_image.specs.Spelling.{address_spelling};
 use at_base::Addr;
 use std::alloc::AllocError;
 
-/// A number of two bytes.
+/// Appends a number of two bytes.
 pub(crate) fn put_u16(out: &mut Vec<u8>, number: u16) -> Result<(), AllocError>
     ensures { OnOk result (out.new.items ≡ out.old.items ++ to_be_bytes w16 number) }
 {
     out.extend_from_slice(&number.to_be_bytes())
 }
 
-/// A byte.
+/// Appends a byte.
 pub(crate) fn put_byte(out: &mut Vec<u8>, byte: u8) -> Result<(), AllocError>
     ensures { OnOk result (out.new.items ≡ out.old.items ++ to_be_bytes w8 byte) }
 {
     out.extend_from_slice(&byte.to_be_bytes())
 }
 
-/// A count in a byte, for which the limits of an image are small enough.
+/// Appends a count as a byte. The limits of an image keep counts below 256.
 pub(crate) fn put_count(out: &mut Vec<u8>, count: usize) -> Result<(), AllocError>
     ensures { OnOk result (out.new.items ≡ out.old.items ++ to_be_bytes w8 count) }
 {
@@ -31,7 +31,7 @@ pub(crate) fn put_count(out: &mut Vec<u8>, count: usize) -> Result<(), AllocErro
     Ok(())
 }
 
-/// A text after its length.
+/// Appends a length-prefixed text.
 pub(crate) fn put_text(out: &mut Vec<u8>, text: &[u8]) -> Result<(), AllocError>
     requires { length text.now ≤ max_text }
     ensures { OnOk result (out.new.items ≡ out.old.items ++ length text.now ∷ text.now) }
@@ -40,7 +40,7 @@ pub(crate) fn put_text(out: &mut Vec<u8>, text: &[u8]) -> Result<(), AllocError>
     out.extend_from_slice(text)
 }
 
-/// A network address.
+/// Appends a network address.
 #[tactic(auto, unfolding(crate::specs::Spelling::address_spelling))]
 pub(crate) fn put_address(out: &mut Vec<u8>, at: Addr) -> Result<(), AllocError>
     ensures { OnOk result (out.new.items ≡ out.old.items ++ bytes_of address_spelling at) }

@@ -12,7 +12,7 @@ use crate::sizes::PORT_SIZE;
 use at_base::{Addr, Cause, Hw};
 use std::alloc::AllocError;
 
-/// A port of a router: where the router is attached to a cable.
+/// A port of a router, which attaches it to a cable.
 ///
 /// Inside AppleTalk, the chapter on RTMP.
 #[derive(Clone, Copy, Debug, PartialEq, Eq)]
@@ -73,7 +73,7 @@ impl CheckItem for Port {
     ghost max_size = { port_size };
 
     fn check_one(&self, known: usize, _low: u32, at: usize) -> Result<usize, Misfit> {
-        // Read for the prover alone: a field that is read is known to fit its type.
+        // Read only for the prover: a field that is read is known to fit its type.
         let (_net, _node) = (self.address.net, self.address.node);
         let _hardware = self.hardware.as_slice();
         if self.cable as usize >= known {

@@ -23,7 +23,7 @@ pub(crate) fn all_have_ranges(rows: &[Row]) -> bool
     rows.iter().all(has_range)
 }
 
-/// The row of a routing table.
+/// The row as one of a routing table.
 fn route_row(row: &Row) -> rtmp::Row
     requires { is_range row.now.start row.now.end ≡ true }
     ensures { result ≡ spec.route_row row.now }
@@ -37,7 +37,7 @@ fn route_row(row: &Row) -> rtmp::Row
     }
 }
 
-/// The rows of a routing table, in order. Error: `Memory`.
+/// The rows as those of a routing table, in order. Error: `Memory`.
 pub(crate) fn route_rows(alloc: Global, rows: &[Row]) -> Result<Vec<rtmp::Row>, Error>
     requires { have_ranges rows.now ≡ true }
     ensures made { IfOk result (λ made. made.items ≡ map spec.route_row rows.now) }

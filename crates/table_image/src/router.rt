@@ -18,7 +18,7 @@ use std::alloc::{AllocError, Global};
 /// Inside AppleTalk, the chapters on RTMP and ZIP.
 #[derive(Debug, PartialEq, Eq, Drop)]
 pub struct Router {
-    /// Its ports, at most `MAX_PORTS`; rows have their indexes, from 0.
+    /// Its ports, at most `MAX_PORTS`. Rows refer to them by index, from 0.
     pub ports: Listed<Port>,
     /// The rows of its routing table, at most `MAX_ROWS`, strictly rising by their first networks.
     pub rows: Listed<Row>,
@@ -38,7 +38,7 @@ impl Item for Router {
     fn written_alike() {}
 }
 
-// Routers of one internet know the same zones, so a router's zone lists are like those of the
+// The routers of an internet know the same zones, so a router's zone lists are usually those of the
 // router before it.
 impl ReadItem for Router {
     #[tactic(auto, unfolding(crate::specs::Spelling::router_spelling))]

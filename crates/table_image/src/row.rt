@@ -14,7 +14,7 @@ use at_base::{Addr, Cause};
 use rtmp::State;
 use std::alloc::AllocError;
 
-/// A row of a routing table: how a router reaches the networks from `start` to `end`.
+/// A row of a routing table: the route to the networks from `start` to `end`.
 ///
 /// Inside AppleTalk, the chapter on RTMP.
 #[derive(Clone, Copy, Debug, PartialEq, Eq)]
@@ -23,21 +23,20 @@ pub struct Row {
     pub start: u16,
     /// The last network number of the range.
     pub end: u16,
-    /// How many routers a datagram passes on its way there, 0 to 31: 0 where a port is on the
-    /// cable.
+    /// The number of routers on the route, 0 to 31; 0 if a port is on the cable.
     pub distance: u8,
-    /// The 0-based index, in the router's ports, of the port that a datagram leaves by.
+    /// The 0-based index, in the router's ports, of the port on which datagrams leave.
     pub port: u8,
-    /// The address of the next router on that port's cable; 0.0 where there is none.
+    /// The address of the next router on that port's cable; 0.0 if there is none.
     pub next: Addr,
-    /// How lately the row was confirmed.
+    /// How recently the row was confirmed.
     pub state: State,
 }
 
 impl Row {
     ghost use Rattle.table_image.specs.Rows as spec;
 
-    /// Whether the row is direct: its networks are those of the port's own cable.
+    /// Whether the row is direct: its range is that of the port's own cable.
     pub fn is_direct(&self) -> bool
         ensures { result ≡ spec.is_direct self.now }
     {
@@ -130,7 +129,7 @@ impl CheckItem for Row {
     ghost max_size = { row_size };
 
     fn check_one(&self, known: usize, low: u32, at: usize) -> Result<usize, Misfit> {
-        // Read for the prover alone: a field that is read is known to fit its type.
+        // Read only for the prover: a field that is read is known to fit its type.
         let (_end, _net, _node) = (self.end, self.next.net, self.next.node);
         if u32::from(self.start) < low {
             return Err(Misfit {

@@ -1,4 +1,4 @@
-//! How many bytes the fields of an image take, and the parts that are as long in every image.
+//! The sizes, in bytes, of an image's fields, and of the parts whose size is fixed.
 
 /// A count, an index, a flag or another number of one byte.
 pub(crate) const BYTE_SIZE: usize = 1;
@@ -15,7 +15,7 @@ pub(crate) const ADDRESS_SIZE: usize = NETWORK_SIZE + BYTE_SIZE;
 /// A hardware address.
 pub(crate) const HARDWARE_SIZE: usize = 6;
 
-/// The index of a cable, and the two addresses there.
+/// The index of a cable, a network address and a hardware address.
 pub(crate) const PORT_SIZE: usize = BYTE_SIZE + ADDRESS_SIZE + HARDWARE_SIZE;
 
 /// A row: its range, distance, port, next router and state.
@@ -24,5 +24,5 @@ pub(crate) const ROW_SIZE: usize = RANGE_SIZE + BYTE_SIZE + BYTE_SIZE + ADDRESS_
 /// The magic number and the version.
 pub(crate) const HEAD_SIZE: usize = 4 + BYTE_SIZE;
 
-/// A node's router, where it has one: the flag and the address.
+/// The router of a node that has one: the flag and the address.
 pub(crate) const OWN_ROUTER_SIZE: usize = BYTE_SIZE + ADDRESS_SIZE;

@@ -18,8 +18,8 @@ use crate::zones::{after_zones, check_zones, pass_zones, put_zones, zones_at};
 use at_base::{Cause, Name};
 use std::alloc::{AllocError, Global};
 
-/// A row of a router's zone information table: what it knows of the zones of the networks from
-/// `start` to `end`.
+/// A row of a router's zone information table: the zones of the networks from `start` to `end`, as
+/// far as the router knows them.
 ///
 /// Inside AppleTalk, the chapter on ZIP.
 #[derive(Debug, PartialEq, Eq, Drop)]
@@ -28,7 +28,7 @@ pub struct ZoneList {
     pub start: u16,
     /// The last network number of the range.
     pub end: u16,
-    /// Whether the router has heard of all zones of the range.
+    /// Whether the router knows all zones of the range.
     pub complete: bool,
     /// The names of the zones, at most `MAX_ZONES`; the first is the default zone.
     pub zones: Listed<Name>,
@@ -82,7 +82,7 @@ impl ReadItem for ZoneList {
     }
 }
 
-// The bytes after the zone list, where they begin with it.
+// The bytes after the zone list, if they begin with it.
 #[inline(always)]
 #[tactic(auto, unfolding(crate::specs::Spelling::zone_list_spelling))]
 fn after_list<'a>(list: &ZoneList, low: u32, bytes: &'a [u8]) -> Option<&'a [u8]>
@@ -104,7 +104,7 @@ fn after_list<'a>(list: &ZoneList, low: u32, bytes: &'a [u8]) -> Option<&'a [u8]
     after_zones(&list.zones, rest)
 }
 
-// The bytes after the zone lists, where they begin with them one after the other.
+// The bytes after the zone lists, if they begin with them, one after the other.
 fn after_lists<'a>(lists: &[ZoneList], bytes: &'a [u8]) -> Option<&'a [u8]>
     ensures { IfSome result (λ rest.
         list_at (λ low. read flaws (zone_list_spelling low)) (λ l. l.start + 1) 0
@@ -120,7 +120,7 @@ fn after_lists<'a>(lists: &[ZoneList], bytes: &'a [u8]) -> Option<&'a [u8]>
     Some(rest)
 }
 
-// The same zone lists once more, where the bytes begin with them and they may have several owners.
+// The same zone lists again, if the bytes begin with them and they can be shared.
 #[tactic(auto, unfolding(crate::specs::Spelling::counted))]
 fn lists_again<'a>(
     lists: &Listed<ZoneList>,
@@ -151,7 +151,7 @@ fn new_lists_at<'a>(
     Ok((lists.into_shared(alloc), rest))
 }
 
-/// A count and zone lists. Where they are the other ones, they are kept once.
+/// A count and zone lists. If they are the same as `like`, they are stored once.
 pub(crate) fn lists_at<'a>(
     alloc: Global,
     like: Option<&Listed<ZoneList>>,
@@ -191,7 +191,7 @@ impl CheckItem for ZoneList {
     ghost max_size = { zone_list_size };
 
     fn check_one(&self, _known: usize, low: u32, at: usize) -> Result<usize, Misfit> {
-        // Read for the prover alone: a field that is read is known to fit its type.
+        // Read only for the prover: a field that is read is known to fit its type.
         let _end = self.end;
         if u32::from(self.start) < low {
             return Err(Misfit {

@@ -1,4 +1,4 @@
-//! Zone lists of an image as zone tables.
+//! Zone lists of an image as a zone table.
 
 ghost use Rattle.std.specs.Prelude.{◌≡◌, ◌≤◌, ◌+◌, ◌⊎◌, ◌↔◌, ◌||◌, ◌++◌, ◌∷◌, [], length};
 ghost use Rattle.std.specs.Prelude.{false, true, nat_lt, option_map, if◌then◌else◌, IfErr, IfOk};
@@ -27,14 +27,14 @@ fn has_range(list: &ZoneList) -> bool
     Range::new(list.start, list.end).is_ok()
 }
 
-/// Whether something is known of the zones.
+/// Whether the list has a zone or is complete; other lists aren't put into the zone table.
 fn is_told(list: &ZoneList) -> bool
     ensures { result ≡ spec.is_told list.now }
 {
     list.complete || !list.zones.is_empty()
 }
 
-/// Whether each list that is told starts above the one before it ends.
+/// Whether each list of the zone table starts above the end of the one before it.
 fn are_apart(lists: &[ZoneList]) -> bool
     ensures { result ≡ are_above 0 (zone_map lists.now) }
 {
@@ -57,21 +57,21 @@ fn have_each_range(lists: &[ZoneList]) -> bool
     lists.iter().all(has_range)
 }
 
-/// Whether the lists have ranges as a zone table's.
+/// Whether the ranges are valid, and those of the zone table rise without overlap.
 fn have_ranges(lists: &[ZoneList]) -> bool
     ensures { result ≡ have_zone_ranges lists.now }
 {
     have_each_range(lists) && are_apart(lists)
 }
 
-/// Whether a zone table has room for the zones of a list of at most 64 names.
+/// Whether a zone table has room for the zones of the list, which has at most 64 names.
 fn is_short(list: &ZoneList) -> bool
     ensures { result ≡ (list.now.complete || nat_lt (length list.now.zones) 64) }
 {
     list.complete || list.zones.len() < MAX_ZONES as usize
 }
 
-/// Whether each list is complete or has less than 64 names.
+/// Whether each list is complete or has fewer than 64 names.
 fn are_each_short(lists: &[ZoneList]) -> bool
     ensures { result
         ≡ list_all (λ (l : ListValue). l.complete || nat_lt (length l.zones) 64) lists.now }
@@ -87,7 +87,7 @@ fn are_short(lists: &[ZoneList]) -> bool
     are_each_short(lists)
 }
 
-/// How many zones there are at least.
+/// The least number of zones of the list: one more than its names if it isn't complete, else 0.
 fn least_of(list: &ZoneList) -> u8
     requires { length list.now.zones ≤ 64 }
     ensures { result ≡ (if list.now.complete then 0 else length list.now.zones + 1) }
@@ -99,7 +99,7 @@ fn least_of(list: &ZoneList) -> u8
     }
 }
 
-/// Puts a list after those of the table, where something is known of its zones.
+/// Appends the list to the table, if it has a zone or is complete. Error: `Memory`.
 fn put(table: &mut ZoneTable, list: &ZoneList) -> Result<(), Error>
     requires map { IsZoneMap (table.old ++ zone_map (list.now ∷ [])) }
     requires few { length list.now.zones ≤ 64 }
@@ -147,14 +147,14 @@ fn table_of(alloc: Global, lists: &[ZoneList]) -> Result<ZoneTable, Error>
     put_all(alloc, lists)
 }
 
-/// The router of an index.
+/// The router with an index, if any.
 fn router_at(routers: &[Router], index: u8) -> Option<&Router>
     ensures { option_copied result ≡ slice_get routers.now index }
 {
     routers.get(index as usize)
 }
 
-/// The zone lists of a router, at most 200 of at most 64 names each.
+/// The zone lists of a router, if it exists: at most 200, of at most 64 names each.
 fn lists_of(image: &Image, router: u8) -> Option<&[ZoneList]>
     ensures lists { option_copied result ≡ lists_at router image.now }
     ensures there { is_some result ≡ nat_lt router (length image.now.routers) }
@@ -167,10 +167,10 @@ fn lists_of(image: &Image, router: u8) -> Option<&[ZoneList]>
 }
 
 impl Image {
-    /// The zone lists of a router, by its index from 0, as a zone table: a list that isn't complete
-    /// has one zone more in its total than it has names, and one without names is left out.
+    /// The zone lists of a router, by its index from 0, as a zone table. A list that isn't complete
+    /// gets a total of one more than its names; one without names is left out.
     ///
-    /// Errors: `NoSuch` of `Router`; else `BadRange` where the range of a list isn't valid, or two
+    /// Errors: `NoSuch(Router)`; else `BadRange` where the range of a list isn't valid, or two
     /// overlap; else `Full` where a list that isn't complete has 64 names; else `Memory`.
     pub fn zones_of(&self, alloc: Global, router: u8) -> Result<ZoneTable, Error>
         ensures ok { IfOk result

@@ -1,4 +1,4 @@
-//! Lists of zones, after a count.
+//! Length-prefixed lists of zones.
 
 ghost use Rattle.std.specs.Prelude.{◌≡◌, ◌++◌, ◌+◌, ◌^◌, ◌<◌, ◌≤◌, length};
 ghost use Rattle.std.specs.Prelude.{Ok, OnOk, IfSome, MatchResult};
@@ -56,7 +56,7 @@ fn new_zones_at(alloc: Global, bytes: &[u8]) -> Result<(Listed<Name>, &[u8]), St
     Ok((zones.into_shared(alloc), rest))
 }
 
-// The bytes after the name, where they begin with it.
+// The bytes after the name, if they begin with it.
 #[inline(always)]
 #[tactic(auto, unfolding(crate::specs::Spelling::text_spelling))]
 fn after_name<'a>(name: &Name, bytes: &'a [u8]) -> Option<&'a [u8]>
@@ -75,8 +75,8 @@ fn after_name<'a>(name: &Name, bytes: &'a [u8]) -> Option<&'a [u8]>
     Some(rest)
 }
 
-// The bytes after the names, where they begin with them one after the other. Not inlined: within
-// another loop this one takes half as many instructions again.
+// The bytes after the names, if they begin with them, one after the other. Not inlined: inside
+// another loop this one takes one and a half times as many instructions.
 #[inline(never)]
 fn after_names<'a>(names: &[Name], bytes: &'a [u8]) -> Option<&'a [u8]>
     ensures { IfSome result (λ rest.
@@ -90,7 +90,7 @@ fn after_names<'a>(names: &[Name], bytes: &'a [u8]) -> Option<&'a [u8]>
     Some(rest)
 }
 
-/// The bytes after a count and the zones, where they begin with those.
+/// The bytes after a count and the zones, if they begin with them.
 #[inline(always)]
 #[tactic(auto, unfolding(crate::specs::Spelling::zones_spelling, crate::specs::Spelling::counted))]
 pub(crate) fn after_zones<'a>(zones: &Listed<Name>, bytes: &'a [u8]) -> Option<&'a [u8]>
@@ -105,7 +105,7 @@ pub(crate) fn after_zones<'a>(zones: &Listed<Name>, bytes: &'a [u8]) -> Option<&
     Some(rest)
 }
 
-// The same zones once more, where the bytes begin with them and that takes no memory.
+// The same zones again, if the bytes begin with them and no memory is needed.
 #[inline(always)]
 fn zones_again<'a>(zones: &Listed<Name>, bytes: &'a [u8]) -> Option<(Listed<Name>, &'a [u8])>
     ensures { IfSome result
@@ -115,7 +115,7 @@ fn zones_again<'a>(zones: &Listed<Name>, bytes: &'a [u8]) -> Option<(Listed<Name
     Some((zones.again()?, rest))
 }
 
-/// A count and zones. Where they are those of the other list, they are kept once.
+/// A count and zones. If they are the same as `like`, they are stored once.
 #[inline(always)]
 pub(crate) fn zones_at<'a>(
     alloc: Global,
@@ -133,7 +133,7 @@ pub(crate) fn zones_at<'a>(
     }
 }
 
-/// Goes past a count and zones, and returns the number of zones.
+/// Reads past a count and zones, and returns the number of zones.
 #[tactic(auto, unfolding(crate::specs::Spelling::zones_spelling))]
 pub(crate) fn pass_zones(bytes: &[u8]) -> Result<(usize, &[u8]), Flaw>
     ensures { GoesPast (λ xs. length xs) (λ x. (x.0, x.1.now)) result
@@ -142,7 +142,7 @@ pub(crate) fn pass_zones(bytes: &[u8]) -> Result<(usize, &[u8]), Flaw>
     pass_counted::<Name>(MAX_ZONES, 0, bytes)
 }
 
-/// Writes a count and zones.
+/// Appends a count and zones.
 #[tactic(auto, unfolding(crate::specs::Spelling::zones_spelling))]
 pub(crate) fn put_zones(out: &mut Vec<u8>, names: &Listed<Name>) -> Result<(), AllocError>
     ensures { OnOk result (out.new.items ≡ out.old.items ++ bytes_of zones_spelling names.now) }

@@ -1,4 +1,4 @@
--- How the entries of a transcript are printed. This project's own.
+-- The printed lines of a transcript's entries.
 use Rattle.std.specs.Prelude.{◌≡◌, ℕ, ◌+◌, ◌/◌, ◌%◌, true, List, [], ◌∷◌, ◌++◌, Option, Some, None, codes, slice_get, slice_index}
 use Rattle.std.specs.Prelude.{if◌then◌else◌}
 use Rattle.std.specs.Fmt.{decimal, digit_glyph}
@@ -18,14 +18,14 @@ use Rattle.station.specs.declared.output.DropCause.TheVariants as cause
 use Rattle.text.specs.Digits.{hex_text}
 use Rattle.trace_lines.specs.Stations.{Directory, address_of, address_on, holder}
 
--- whom a frame on a cable is for
+-- The text for the receiver of a frame on a cable.
 abbrev pub who_text : Directory → ℕ → Hw → List ℕ
 who_text d cable to =
     if is_all to then codes "all"
     else if is_group to then codes "group " ++ decimal (slice_index to.0 5)
     else address_text (holder d cable to)
 
--- how a datagram reached a cable
+-- The text for how a datagram reached a cable.
 abbrev pub how_text : How → List ℕ
 how_text how.Station = codes "station"
 how_text how.All = codes "all"
@@ -33,18 +33,18 @@ how_text how.Own = codes "own"
 how_text how.Absent = codes "absent"
 how_text how.Held = codes "held"
 
--- why a datagram was dropped
+-- The text for why a datagram was dropped.
 abbrev pub cause_text : DropCause → List ℕ
 cause_text cause.NoRoute = codes "NoRoute"
 cause_text cause.HopLimit = codes "HopLimit"
 
--- the cables on which entries put frames, one for each frame
+-- The cable of an entry that put a frame, as a list of one element, and the empty list for other entries.
 abbrev pub cable_of : Entry → List ℕ
 cable_of (Put f) = f.cable ∷ []
 cable_of _ = []
 
--- the address of a station on the cable of a frame, where frames were put on these cables: the frame with stamp k is the
--- k-th, from 0
+-- The address of a station on the cable of the frame with this stamp, if the frames so far were put on these cables, in
+-- the order of their stamps; 0.0 if there is no such frame.
 abbrev pub at_frame : Directory → List ℕ → ℕ → ℕ → Addr
 at_frame d cables station stamp = on_its (slice_get cables stamp)
   where
@@ -52,7 +52,8 @@ at_frame d cables station stamp = on_its (slice_get cables stamp)
     on_its None = record { net = 0; node = 0 }
     on_its (Some cable) = address_on d station cable
 
--- The line of an entry, without its end, where frames were put on these cables before. Cables are counted from 1 there.
+-- The line of an entry, without its line feed, if the frames so far were put on these cables; the printed number of a
+-- cable is its index plus 1.
 abbrev pub line : Directory → List ℕ → Entry → List ℕ
 line d cables (Sent station body) = codes "sent " ++ address_text (address_of d station) ++ codes " " ++ hex_text body
 line d cables (Put f) =
@@ -66,17 +67,17 @@ line d cables (Dropped router cause body) =
     codes "dropped " ++ address_text (address_of d router) ++ codes " " ++ cause_text cause ++ codes " " ++ hex_text body
 line d cables (Lost stamp) = codes "lost " ++ decimal stamp
 
--- the lines of entries, each with a line feed at its end, where frames were put on these cables before
+-- The lines of entries, each with a line feed at its end, if the frames before them were put on these cables.
 abbrev pub lines : Directory → List ℕ → List Entry → List ℕ
 lines d cables [] = []
 lines d cables (e ∷ es) = line d cables e ++ 10 ∷ lines d (cables ++ cable_of e) es
 
--- what a printer of entries knows: the directory of an internet, and the cables of the frames that were printed
+-- The state of a printer of entries: the directory of an internet, and the cables of the frames that it printed.
 pub record Printed : Type 0 where
   pub directory : Directory
   pub cables : List ℕ
 
--- these are the bytes of the number that an entry names, if it names one
+-- The bytes are those of the number that the entry names, if it names one.
 abbrev pub IsNamed : List (List ℕ) → Line → List ℕ → Type 0
 IsNamed kept (named.Sent station n) bytes = bytes ≡ bytes_at kept n
 IsNamed kept (named.Put stamp cable sender to kind n) bytes = bytes ≡ bytes_at kept n

@@ -1,11 +1,11 @@
--- Entries as they are printed. This project's own.
+-- Entries as they are printed.
 use Rattle.std.specs.Prelude.{ℕ, List}
 use Rattle.cable_model.specs.Transcript.{Entry, Sent, Put, Took, Reached, Dropped, Lost}
 use Rattle.cable_model.specs.declared.entry.Entry.{Entry as Line}
 use Rattle.cable_model.specs.declared.entry.Entry.TheVariants as named
 use Rattle.ddp.specs.Bodies.{body}
 
--- what an entry says that names these bytes
+-- The entry of the transcript that names bytes, with these bytes in place of their number.
 abbrev pub entry_with : List ℕ → Line → Entry
 entry_with bytes (named.Sent station n) = Sent station (body bytes)
 entry_with bytes (named.Put stamp cable sender to kind n) =

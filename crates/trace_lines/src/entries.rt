@@ -1,4 +1,4 @@
-//! The line of an entry, without its end.
+//! The line of an entry, without its line feed.
 
 ghost use Rattle.std.specs.Prelude.{◌≡◌, ◌+◌, ◌++◌, [], OnOk, codes};
 ghost use Rattle.cable_model.specs.Transcript.{Sent, Put, Took, Reached, Dropped};
@@ -28,7 +28,7 @@ struct Frame {
     kind: Kind,
 }
 
-/// Appends a cable, counted from 1, and the address of a station there.
+/// Appends the number of a cable, counted from 1, and the address of a station there.
 fn put_place(
     text: &mut Vec<u8>,
     stations: &Stations,
@@ -45,7 +45,7 @@ fn put_place(
     put_address(text, stations.address_on(station, cable))
 }
 
-/// Appends whom a frame is for, between the words around it.
+/// Appends the receiver of a frame, with the words around it.
 fn put_target(text: &mut Vec<u8>, stations: &Stations, cable: u8, to: &Hw) -> Result<(), AllocError>
     ensures { OnOk result (text.new.items
         ≡ text.old.items ++ (codes " to " ++ who_text stations.now cable to.now ++ codes " ")) }
@@ -55,7 +55,7 @@ fn put_target(text: &mut Vec<u8>, stations: &Stations, cable: u8, to: &Hw) -> Re
     text.extend_from_slice(b" ")
 }
 
-/// Appends that a station made a datagram.
+/// Appends the line of a datagram that a station made.
 fn put_sent(
     text: &mut Vec<u8>,
     stations: &Stations,
@@ -84,7 +84,7 @@ fn put_sender(text: &mut Vec<u8>, stations: &Stations, frame: &Frame) -> Result<
     put_place(text, stations, frame.cable, frame.sender)
 }
 
-/// Appends that a frame was put on a cable.
+/// Appends the line of a frame that was put on a cable.
 fn put_frame(
     text: &mut Vec<u8>,
     stations: &Stations,
@@ -106,7 +106,7 @@ fn put_frame(
     put_hex(text, bytes)
 }
 
-/// The address of a station on the cable of a frame, and 0.0 where the frame was never printed.
+/// The address of a station on the cable of a frame, and 0.0 if the frame was never printed.
 fn at_frame(stations: &Stations, cables: &[u8], station: u16, stamp: u32) -> Addr
     ensures { result ≡ spec.at_frame stations.now cables.now station stamp }
 {
@@ -116,7 +116,7 @@ fn at_frame(stations: &Stations, cables: &[u8], station: u16, stamp: u32) -> Add
     }
 }
 
-/// Appends that a station took a frame.
+/// Appends the line of a station that took a frame.
 fn put_took(
     text: &mut Vec<u8>,
     stations: &Stations,
@@ -133,7 +133,7 @@ fn put_took(
     put_address(text, at_frame(stations, cables, station, stamp))
 }
 
-/// Appends that a datagram reached a cable, where this station put or kept it.
+/// Appends the line of a datagram that reached a cable, where this station put or kept it.
 fn put_reached(
     text: &mut Vec<u8>,
     stations: &Stations,
@@ -153,7 +153,7 @@ fn put_reached(
     put_body(text, bytes)
 }
 
-/// Appends that a router dropped a datagram.
+/// Appends the line of a datagram that a router dropped.
 fn put_dropped(
     text: &mut Vec<u8>,
     stations: &Stations,
@@ -172,7 +172,7 @@ fn put_dropped(
     put_body(text, bytes)
 }
 
-/// Appends that a frame was lost.
+/// Appends the line of a frame that was lost.
 fn put_lost(text: &mut Vec<u8>, stamp: u32) -> Result<(), AllocError>
     ensures { OnOk result (text.new.items ≡ text.old.items ++ (codes "lost " ++ decimal stamp)) }
 {
@@ -180,7 +180,7 @@ fn put_lost(text: &mut Vec<u8>, stamp: u32) -> Result<(), AllocError>
     put_decimal(text, stamp)
 }
 
-/// Appends the line of an entry, where frames were put on these cables before.
+/// Appends the line of an entry. `cables` has the cable of each frame so far, by its stamp.
 pub(crate) fn put_entry(
     text: &mut Vec<u8>,
     stations: &Stations,

@@ -1,4 +1,4 @@
-//! Who has which hardware address, cable by cable.
+//! The stations of each cable, by their hardware addresses.
 
 ghost use Rattle.std.specs.Prelude.{◌≡◌, ◌≤◌, ◌-◌, ◌++◌, IfOk, OnOk};
 ghost use Rattle.trace_lines.specs.Holders.{held_or, node_places, places, places_from, port_places};
@@ -77,7 +77,7 @@ fn row_of(alloc: Global, image: &Image, cable: u8) -> Result<Listed<Place>, Allo
     Ok(Listed::from_vec(row))
 }
 
-/// Appends the places on the cables from one on.
+/// Appends the places on the cables from `from` on.
 fn put_rows(
     alloc: Global,
     rows: &mut Vec<Listed<Place>>,
@@ -107,7 +107,7 @@ pub(crate) fn rows_of(alloc: Global, image: &Image) -> Result<Vec<Listed<Place>>
     Ok(rows)
 }
 
-/// The address of the first of these places that has the hardware address, and 0.0 where none has.
+/// The address of the first of these places that has the hardware address, and 0.0 if none has it.
 pub(crate) fn held(places: &[Place], hw: &Hw) -> Addr
     ensures { result ≡ held_or hw.now places.now (record { net = 0; node = 0 }) }
 {

@@ -1,4 +1,4 @@
-//! How the entries of a transcript are printed.
+//! Prints the entries of a transcript.
 #![tactic(auto)]
 
 mod entries;

@@ -13,10 +13,8 @@ use std::alloc::{AllocError, Global};
 use std::marker::Model;
 use table_image::Image;
 
-/// Prints the entries of a transcript over an image, in their order. It keeps the cable of each
-/// frame, since the taking of a frame is printed with the taker's address there.
-///
-/// This project's own.
+/// Prints the entries of a transcript over an image, in order. It keeps the cable of each frame,
+/// because a taken frame is printed with the station's address on that cable.
 #[derive(Drop)]
 pub struct Lines {
     stations: Stations,
@@ -62,7 +60,7 @@ fn note_cable(cables: &mut Vec<u8>, entry: &Entry) -> Result<(), AllocError>
 }
 
 impl Lines {
-    /// Nothing has been printed yet.
+    /// A printer over this image that has printed nothing yet.
     pub fn new(alloc: Global, image: &Image) -> Result<Lines, AllocError>
         ensures { IfOk result (λ l. l ≡ record { directory = directory_of image.now; cables = [] }) }
     {
@@ -83,11 +81,11 @@ impl Lines {
     /// - `dropped ADDR CAUSE HEX`, where CAUSE is `NoRoute` or `HopLimit`
     /// - `lost STAMP`
     ///
-    /// A station's ADDR is its address on the cable of the frame, or on the one that is named;
-    /// where there is none, that of the router's first port, or of the node. Cables are counted
-    /// from 1. HEX is in upper case, and the hop count is 0 but in `put`.
+    /// A station's ADDR is its address on the cable of the frame, or on the cable that the line
+    /// names. A line without a cable has the address of the router's first port, or of the node.
+    /// Cables are counted from 1. HEX is in upper case. The hop count in HEX is 0 except in `put`.
     ///
-    /// Error: no memory; then the text may end with a part of the line.
+    /// Error: out of memory; then the text may end with a part of the line.
     pub fn append(
         &mut self,
         text: &mut Vec<u8>,

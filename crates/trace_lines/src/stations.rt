@@ -18,15 +18,15 @@ pub(crate) struct PortAddress {
     pub(crate) address: Addr,
 }
 
-/// The addresses of an internet's stations. This project's own.
+/// The addresses of an internet's stations.
 #[derive(Drop)]
 pub(crate) struct Stations {
-    /// Those of each router's ports.
+    /// The addresses of each router's ports.
     routers: Vec<Listed<PortAddress>>,
-    /// Those of the nodes.
+    /// The addresses of the nodes.
     nodes: Vec<Addr>,
-    /// The places on each cable that a byte can name, so that a holder is looked for among those
-    /// of one cable.
+    /// The places on each cable that a byte can name, so that a hardware address is searched for on
+    /// one cable only.
     rows: Vec<Listed<Place>>,
 }
 
@@ -71,7 +71,7 @@ fn addresses_of(alloc: Global, ports: &[Port]) -> Result<Listed<PortAddress>, Al
     Ok(Listed::from_vec(addresses))
 }
 
-/// Appends the addresses of routers, those of the ports of each.
+/// Appends the addresses of each router's ports.
 fn put_routers(
     alloc: Global,
     all: &mut Vec<Listed<PortAddress>>,
@@ -106,7 +106,7 @@ fn put_nodes(addresses: &mut Vec<Addr>, nodes: &[Node]) -> Result<(), AllocError
     }
 }
 
-/// The address of the first of a router's ports that is on a cable, and 0.0 where none is.
+/// The address of the first of a router's ports that is on a cable, and 0.0 if none is.
 fn on_cable(ports: &[PortAddress], cable: u8) -> Addr
     ensures { result ≡ spec.of_port (find (λ p. p.cable == cable) ports.now) }
 {
@@ -122,7 +122,7 @@ fn on_cable(ports: &[PortAddress], cable: u8) -> Addr
     }
 }
 
-/// The address of a router's first port, and 0.0 where it has none.
+/// The address of a router's first port, and 0.0 if it has none.
 fn first_of(ports: &[PortAddress]) -> Addr
     ensures { result ≡ spec.of_port (slice_get ports.now 0) }
 {
@@ -149,7 +149,7 @@ impl Stations {
         })
     }
 
-    /// The address of a node, by its number among the nodes, and 0.0 where there is none.
+    /// The address of the node with this index, and 0.0 if there is none.
     fn of_node(&self, node: usize) -> Addr
         ensures { result ≡ spec.of_node (slice_get self.now.nodes node) }
     {
@@ -178,15 +178,14 @@ impl Stations {
         self.rows[usize::from(cable)].as_slice()
     }
 
-    /// The address of the station that has a hardware address on a cable, and 0.0 where none has
-    /// it.
+    /// The address of the station that has a hardware address on a cable, and 0.0 if none has it.
     pub(crate) fn holder(&self, cable: u8, hw: &Hw) -> Addr
         ensures { result ≡ spec.holder self.now cable hw.now }
     {
         held(self.places_on(cable), hw)
     }
 
-    /// The address of a station where no cable is named: that of the router's first port, or of the
+    /// The address of a station if no cable is named: that of the router's first port, or of the
     /// node.
     pub(crate) fn address_of(&self, station: u16) -> Addr
         ensures { result ≡ spec.address_of self.now station }

@@ -1,4 +1,4 @@
-//! The words of lines.
+//! The words in lines.
 
 ghost use Rattle.std.specs.Prelude.{◌≡◌, ◌++◌, OnOk};
 ghost use Rattle.ddp.specs.Bodies as spec;
@@ -13,7 +13,7 @@ use station::DropCause;
 use std::alloc::AllocError;
 use text::{put_address, put_decimal, put_hex};
 
-/// Appends whom a frame on a cable is for.
+/// Appends the receiver of a frame on a cable.
 pub(crate) fn put_who(
     text: &mut Vec<u8>,
     stations: &Stations,
@@ -56,7 +56,7 @@ pub(crate) fn put_cause(text: &mut Vec<u8>, cause: DropCause) -> Result<(), Allo
     }
 }
 
-/// The length that a datagram's header names, where bytes that are missing count as 0.
+/// The value of a datagram's length field. Missing bytes count as 0.
 fn named_length(bytes: &[u8]) -> usize
     ensures { result ≡ spec.named_length bytes.now }
 {
@@ -67,7 +67,8 @@ fn named_length(bytes: &[u8]) -> usize
     }
 }
 
-/// Appends a datagram's body in digits: what its header names, with hop count 0.
+/// Appends a datagram's body in hexadecimal digits: as many bytes as its length field says, with
+/// hop count 0.
 pub(crate) fn put_body(text: &mut Vec<u8>, bytes: &[u8]) -> Result<(), AllocError>
     ensures { OnOk result (text.new.items ≡ text.old.items ++ hex_text (body bytes.now)) }
 {

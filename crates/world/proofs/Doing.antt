@@ -1,4 +1,4 @@
--- What a planned action does, by its node.
+-- The effect of an action on its node.
 use Rattle.std.proofs.Common.{◌≡◌, ◌⊎◌, ◌++◌, ◌∷◌, ℕ, List, [], Result, Ok, Err, IfErr, IfOk, Some, slice_get, inl, inr, sym, subst, ap, ◌∙◌}
 use Rattle.std.specs.Prelude.{IsOkUnless, OnOk}
 use Rattle.std.proofs.lemmas.Result.{on_ok_weaker}
@@ -16,7 +16,7 @@ use Rattle.station.specs.declared.output.Output.{Output}
 use Rattle.station.specs.declared.way.Way.{Way}
 use Rattle.world.specs.Doing.{IsDone, IsDoneBy, acted_by, number_from, put_by, station_for}
 
--- ---- Why an action isn't done
+-- ---- The error of an action
 
 pub refused_alone : {U : Type 0} (r : Result U Error) (s : Result Way Error) (data_by : Way → List ℕ) → IfErr s (λ e. r ≡ Err e)
     → IfOk s (λ _. IsOkUnless r Memory) → IfErr r (λ e. (put_by data_by s ≡ Err e) ⊎ (e ≡ Memory))
@@ -24,7 +24,7 @@ refused_alone (Ok u) s data_by refused only = tt
 refused_alone (Err e) (Ok way) data_by refused only = inr only
 refused_alone (Err e) (Err f) data_by refused only = let same : f ≡ e = cc in inl (ap Err same)
 
--- ---- What an action did
+-- ---- The effect of an action
 
 pub done_ok : (m : Member Living LivingNode) (station index : ℕ) (action : Do) (outputs : List Output) (old new : Wires × List (ℕ × ℕ))
     → acted_by m action ≡ Ok outputs → GivesOut station outputs old.0 new.0 → new.1 ≡ old.1 → IsDoneBy m station action index old new
@@ -35,7 +35,7 @@ done_err : (m : Member Living LivingNode) (station index : ℕ) (action : Do) (e
     → IsDoneBy m station action index old new
 done_err m station index action e old new is same noted = rw is (same, noted)
 
--- that it was noted shows that memory didn't run out
+-- An error that was recorded isn't Memory.
 pub done_noted : {U : Type 0} (r : Result U Error) (m : Member Living LivingNode) (station index : ℕ) (action : Do) (e : Error)
     (old new : Wires × List (ℕ × ℕ)) → (acted_by m action ≡ Err e) ⊎ (e ≡ Memory) → (e ≡ Memory → r ≡ Err Memory) → new.0 ≡ old.0
     → OnOk r (new.1 ≡ old.1 ++ (number_from index, number_of e) ∷ []) → OnOk r (IsDoneBy m station action index old new)

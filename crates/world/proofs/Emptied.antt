@@ -1,4 +1,4 @@
--- What stations have received is taken out, and stations that begin have received nothing.
+-- Received datagrams are removed from stations, and stations before the first tick have received nothing.
 use Rattle.std.proofs.Common.{◌≡◌, inl, inr, ℕ, zero, suc, List, [], ◌∷◌, ◌++◌, Option, None, Some, refl, sym, ap, ◌∙◌}
 use Rattle.std.proofs.Common.{subst, map, slice_get}
 use Rattle.std.specs.List.{All}
@@ -36,7 +36,7 @@ emptied_received t ms k h = by (slice_get ms k)
           | inr there ↦ h j ds there.1
         ])
 
--- ---- Stations that begin
+-- ---- Stations before the first tick
 
 nodes_empty : (cables : List Cable) (ns : List PlannedNode) (ls : List LivingNode) → AreNodesBegun cables ns ls → (k : ℕ) (ds : List Received)
     → slice_get (map got (map Node ls)) k ≡ Some ds → ds ≡ []
@@ -54,7 +54,7 @@ all_empty cables [] ns ls h k ds at = nodes_empty cables ns ls h k ds at
 all_empty cables (r ∷ rs) ns ls h zero ds at = cc
 all_empty cables (r ∷ rs) ns ls h (suc k) ds at = all_empty cables rs ns ls h k ds at
 
--- stations that begin have received nothing
+-- Stations before the first tick have received nothing.
 pub begun_received : (p : Planned) (ms : List (Member Living LivingNode)) → AreBegun p ms → AreReceived [] (map got ms)
 begun_received p ms h k ds at =
     let none =

@@ -1,4 +1,4 @@
--- Steps of a tick, one after another.
+-- Steps of a tick, one after the other.
 use Rattle.std.proofs.Common.{◌≡◌, ℕ, ◌+◌, Bool, not, cond, IsTrue, List, [], ◌∷◌, ◌++◌, refl, sym, ap, ◌∙◌, subst, arith}
 use Rattle.std.proofs.Common.{append-nil, append_assoc}
 use Rattle.std.specs.List.{list_all, list_any}
@@ -102,7 +102,7 @@ module _ (taken : ℕ) (a b c : Wires) (x : GoesOn taken a b) where
 
 -- ---- Addresses that settle
 
--- what goes on after addresses have settled went on from before
+-- Steps that follow after addresses have settled follow from the state before.
 module _ (old mid new : Wires) (settled : mid ≡ record old { own = mid.own }) where
   pub goes_settled : Goes mid new → Goes old new
   goes_settled x = by (subst (λ w. Goes w new) settled x)
@@ -127,7 +127,7 @@ module _ (old mid new : Wires) (settled : mid ≡ record old { own = mid.own }) 
         lost = y.lost;
       }
 
--- ---- The same cables lose
+-- ---- The same cables lose frames
 
 module _ (f g : ℕ → Bool) (same : (cable : ℕ) → f cable ≡ g cable) where
   losses_same : (es : List Entry) → losses f es ≡ losses g es

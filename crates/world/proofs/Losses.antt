@@ -1,4 +1,4 @@
--- Which cables lose, marked loss by loss.
+-- The cables that lose frames, marked loss by loss.
 use Rattle.std.proofs.Common.{◌≡◌, ℕ, zero, suc, ◌+◌, ◌-◌, ◌<◌, ◌≤◌, Bool, true, false, ◌&&◌, ◌||◌, ◌==◌, cond, List, [], ◌∷◌, ◌++◌}
 use Rattle.std.proofs.Common.{IsTrue, refl, sym, ap, ◌∙◌, subst, arith, eq-eqb, eqb-true, leb-true, length, nat_le}
 use Rattle.std.proofs.Common.{replicate, slice_set, take, true≢false}
@@ -32,7 +32,7 @@ or_yes : (b : Bool) → true ≡ (b || true)
 or_yes true = refl
 or_yes false = refl
 
--- with one more loss, its cable loses where the loss is on
+-- After one more loss was marked, its cable loses frames if the loss includes the tick.
 pub marked_loses : (tick : ℕ) (l : Loss) (losing : List Bool) (cable : ℕ) → 1 ≤ l.cable → l.cable ≤ length losing
     → loses_by (marked tick l losing) cable ≡ (loses_by losing cable || ((l.cable == cable + 1) && is_on tick l))
 marked_loses tick l losing cable low high = by (is_on tick l) (l.cable == cable + 1) refl
@@ -51,7 +51,7 @@ marked_loses tick l losing cable low high = by (is_on tick l) (l.cable == cable 
     by false true e = or_no (loses_by losing cable)
     by false false e = or_no (loses_by losing cable)
 
--- no cable loses anything where no loss is on
+-- No cable loses frames if no loss includes the tick.
 pub none_loses : (tick : ℕ) (losses : List Loss) (cable : ℕ) → list_any (is_on tick) losses ≡ false → false ≡ loses_in tick losses cable
 none_loses tick [] cable h = refl
 none_loses tick (l ∷ ls) cable h = by (is_on tick l) (l.cable == cable + 1) h (none_loses tick ls cable)
@@ -62,7 +62,7 @@ none_loses tick (l ∷ ls) cable h = by (is_on tick l) (l.cable == cable + 1) h 
     by false true g rest = rest g
     by false false g rest = rest g
 
--- nor where none was marked
+-- No cable loses frames if none was marked.
 pub fresh_loses : (xs : List Bool) → xs ≡ [] → (n m cable : ℕ) → loses_by (take n xs ++ replicate m false) cable ≡ false
 fresh_loses xs none n m cable = subst (λ l. loses_by (take n l ++ replicate m false) cable ≡ false) (sym none) (by n)
   where
@@ -78,7 +78,7 @@ fresh_loses xs none n m cable = subst (λ l. loses_by (take n l ++ replicate m f
 module _ (tick : ℕ) (losses : List Loss) (k : ℕ) (d : Loss) (first before after : List Bool) (within : k < length losses)
     (all : IsTrue (list_all (is_lossy (length first)) losses)) (long : length before ≡ length first)
     (is : after ≡ marked tick (get_or losses k d) before) where
-  -- the loss is of one of the cables
+  -- The loss is of one of the cables.
   pub lossy_here : (1 ≤ (get_or losses k d).cable) × ((get_or losses k d).cable ≤ length before)
   lossy_here =
       let here = AllPass-from_list_all (is_lossy (length first)) losses all k d within in
@@ -94,7 +94,7 @@ module _ (tick : ℕ) (losses : List Loss) (k : ℕ) (d : Loss) (first before af
       by true = length_set before ((get_or losses k d).cable - 1) true
       by false = refl
 
-  -- one more loss is marked
+  -- One more loss is marked.
   pub marked_more : ((cable : ℕ) → loses_by before cable ≡ (loses_by first cable || loses_in tick (take k losses) cable)) → (cable : ℕ)
       → loses_by after cable ≡ (loses_by first cable || loses_in tick (take (k + 1) losses) cable)
   marked_more so_far cable =

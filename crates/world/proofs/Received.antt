@@ -1,4 +1,4 @@
--- Stations receive what they take.
+-- Stations receive the datagrams of frames that they take.
 use Rattle.std.proofs.Common.{◌≡◌, ◌≢◌, ◌⊎◌, inl, inr, ℕ, zero, suc, Bool, true, false, ◌&&◌, not, cond, List, [], ◌∷◌, ◌++◌}
 use Rattle.std.proofs.Common.{Option, None, Some, Contains, refl, sym, ap, ◌∙◌, subst, arith, drop, filter, length, map, nat_lt, slice_set}
 use Rattle.std.specs.List.{All, AllByRecursion as Each}
@@ -42,7 +42,7 @@ use Rattle.world.specs.Going.{Goes}
 use Rattle.world.specs.Received.{AreReceived, Hears, got}
 use Rattle.world.specs.Worlds.{IsReceived}
 
--- ---- Frames that are pending were put
+-- ---- Pending frames were put
 
 all_each : {X : Type 0} (P : X → Type 0) (xs : List X) → ((x : X) → P x) → Each P xs
 all_each P [] f = tt
@@ -66,14 +66,14 @@ module _ (seats : List Seat) (t : List Entry) where
       each-append (λ (p : Pair). Contains t (Put p.frame)) (pairs_of seats e) (pairs seats es) (of_put e (f zero e refl))
       (all_put es (λ k d at. f (suc k) d at))
 
-  -- the frame of a pair that is pending was put
+  -- The frame of a pending pair was put.
   pub pending_put : (p : Pair) → Contains (pending seats t) p → Contains t (Put p.frame)
   pending_put p h =
       let k = contained_at (pending seats t) p h in
       let j = filter_at (λ p. not (was_ended t p)) (pairs seats t) k.0 p k.1 in
       each_at (λ (p : Pair). Contains t (Put p.frame)) (pairs seats t) j.0 p j.1 (all_put t (λ k e at. contains_at t k e at))
 
--- ---- What was received stays received
+-- ---- Received datagrams stay received
 
 received_more : (t more : List Entry) (k : ℕ) (d : Received) → IsReceived t k d → IsReceived (t ++ more) k d
 received_more t more k d x = record {
@@ -93,7 +93,7 @@ pub received_grown : (old new more : List Entry) (gots : List (List Received)) �
 received_grown old new more gots grown h =
     subst (λ t. AreReceived t gots) (sym grown) (λ k ds at. all_more old more k ds (h k ds at))
 
--- what stations received by now that they had received before these steps
+-- Datagrams that stations had received before these steps are still those of frames that they took.
 pub received_goes : (old new : Wires) (gots later : List (List Received)) → Goes old new → later ≡ gots
     → AreReceived (happened old) gots → AreReceived (happened new) later
 received_goes old new gots later x same h =
@@ -108,7 +108,7 @@ all_keeping P d ds p h = by (nat_lt (length ds) 64)
     by true = All-push P ds d h p
     by false = All-push P (drop 1 ds) d (All-drop P 1 ds h) p
 
--- what stands at an index, where another was set
+-- The element at an index of a list in which an element was set.
 pub set_either : {X : Type 0} (xs : List X) (k j : ℕ) (y z : X) → At (slice_set xs k y) j z
     → ((j ≡ k) × (z ≡ y)) ⊎ ((j ≢ k) × At xs j z)
 set_either [] k j y z e = cc
@@ -148,7 +148,8 @@ module _ (old new : Wires) (stamp k : ℕ) (Heard : Hearing → List Output → 
           })
           (all_more (happened old) more k before h))
 
-  -- what the station that took a frame has received is of frames that it took, and that of the others is as it was
+  -- The received datagrams of the station that took a frame are those of frames that it took, and those of the other
+  -- stations are the same as before.
   pub took_received : (gots : List (List Received)) → At gots k before → AreReceived (happened old) gots
       → AreReceived (happened new) (slice_set gots k after)
   unfolding more
@@ -160,7 +161,7 @@ module _ (old new : Wires) (stamp k : ℕ) (Heard : Hearing → List Output → 
         | inr there ↦ all_more (happened old) more j ds (h j ds there.1)
       ])
 
--- ---- What a station makes of a frame, and of a tick
+-- ---- Frames and ticks of a station
 
 holding_hears : (h : NodeHolding) (x : Hearing) → Hears x h.received (heard h x).1.received
 holding_hears h x = by x.kind
@@ -227,7 +228,7 @@ node_hears old new x added h =
     ∙ ap (λ p. p.1.received) h.answers.0))
     (holding_hears old.node x)
 
--- what a station has received after it heard a frame
+-- The received datagrams of a station after it heard a frame.
 pub member_hears : (old new : Member Living LivingNode) (x : Hearing) (added : List Output)
     → EitherHears RouterHears NodeHears old x added new → Hears x (got old) (got new)
 member_hears (Router old) (Router new) x added h = inl refl
@@ -235,7 +236,7 @@ member_hears (Router old) (Node new) x added h = absurd h
 member_hears (Node old) (Router new) x added h = absurd h
 member_hears (Node old) (Node new) x added h = node_hears old new x added h
 
--- a tick brings nothing
+-- A station receives nothing in its tick.
 pub member_ticks : (old new : Member Living LivingNode) (added : List Output) → EitherTicks RouterTicks NodeTicks old added new
     → got new ≡ got old
 member_ticks (Router old) (Router new) added h = refl
@@ -251,17 +252,17 @@ got_set [] k m = refl
 got_set (n ∷ ms) zero m = refl
 got_set (n ∷ ms) (suc k) m = ap (λ l. got n ∷ l) (got_set ms k m)
 
--- one station becomes another that has received as much
+-- A station is replaced by another that has received the same datagrams.
 pub got_stays : (ms : List (Member Living LivingNode)) (k : ℕ) (old new : Member Living LivingNode) → At ms k old
     → got new ≡ got old → map got (slice_set ms k new) ≡ map got ms
 got_stays [] k old new h e = cc
 got_stays (m ∷ ms) zero old new h e = let is : m ≡ old = cc in ap (λ n. n ∷ map got ms) (e ∙ ap got (sym is))
 got_stays (m ∷ ms) (suc k) old new h e = ap (λ l. got m ∷ l) (got_stays ms k old new h e)
 
--- ---- A station takes a frame, or doesn't
+-- ---- A station takes a frame, or it doesn't
 
 module _ (ms : List (Member Living LivingNode)) (k : ℕ) (old new : Wires) (stamp : ℕ) (before after : Member Living LivingNode) where
-  -- how the station hears it
+  -- How the station hears the frame.
   abbrev HearsIt : Hearing → List Output → Type 0
   HearsIt h added = EitherHears RouterHears NodeHears before h added after
 

@@ -1,4 +1,4 @@
--- Stations, of which one changes, and the frames that are pending for them.
+-- Stations, one of which changes, and the frames that are pending for them.
 use Rattle.std.proofs.Common.{◌≡◌, ◌⊎◌, ◌↔◌, inl, inr, ℕ, zero, suc, ◌<◌, Bool, true, false, ◌==◌, not, List, [], ◌∷◌, ◌++◌}
 use Rattle.std.proofs.Common.{◌+◌, ◌≤◌, cond, Option, None, Some, map, length, slice_get, slice_set, Contains, IfErr, Result, Ok, Err}
 use Rattle.std.proofs.Common.{refl, sym, ap, ◌∙◌, subst, arith, eq-eqb, filter, OnErr, OnOk}
@@ -31,7 +31,7 @@ use Rattle.world.specs.Seen.{emptied, emptied_at, emptied_by}
 use Rattle.world.specs.Received.{AreReceived, got}
 use Rattle.world.specs.Worlds.{IsWorld, Worldly}
 
--- one station becomes another with as many ports
+-- A station is replaced by another with as many ports.
 pub ports_set : (ms : List (Member Living LivingNode)) (k : ℕ) (old new : Member Living LivingNode) → At ms k old
     → ports_of new ≡ ports_of old → map ports_of (slice_set ms k new) ≡ map ports_of ms
 ports_set [] k old new h e = cc
@@ -39,12 +39,12 @@ ports_set (m ∷ ms) zero old new h e =
     let is : m ≡ old = cc in ap (λ n. n ∷ map ports_of ms) (e ∙ ap ports_of (sym is))
 ports_set (m ∷ ms) (suc k) old new h e = ap (λ l. ports_of m ∷ l) (ports_set ms k old new h e)
 
--- the seats of a station
+-- The seats of a station.
 pub seats_at : (seats : List Seat) (ms : List (Member Living LivingNode)) (k : ℕ) (m : Member Living LivingNode)
     → AreSeated seats (map ports_of ms) → At ms k m → AreSeatsOf seats k (ports_of m)
 seats_at seats ms k m seated at = seated.each k (ports_of m) (map_at ports_of ms k m at)
 
--- ---- Frames that are pending
+-- ---- Pending frames
 
 seats_each : (seats : List Seat) → Each (λ s. Contains seats s) seats
 seats_each seats = by seats (λ k s at. contains_at seats k s at)
@@ -77,21 +77,21 @@ module _ (seats : List Seat) where
       by (Dropped r c x) = tt
       by (Lost p) = tt
 
-  -- a pair that is pending is of one of the seats
+  -- The seat of a pending pair is one of the seats.
   pub pending_seat : (t : List Entry) (p : Pair) → Contains (pending seats t) p → Contains seats p.seat
   pending_seat t p h =
       let k = contained_at (pending seats t) p h in
       let j = filter_at (λ p. not (was_ended t p)) (pairs seats t) k.0 p k.1 in
       each_at (λ (p : Pair). Contains seats p.seat) (pairs seats t) j.0 p j.1 (pairs_each t)
 
-  -- the station that is to take the first frame is one of so many
+  -- The station that takes the first frame is one of the stations.
   pub least_within : (ports : List ℕ) (t : List Entry) (stamp station : ℕ) → AreSeated seats ports
       → IsLeast (pending seats t) stamp station → station < length ports
   least_within ports t stamp station seated least =
       let w = least.there in
       subst (λ k. k < length ports) w.3 (seated.within w.0.seat (pending_seat t w.0 w.1))
 
-  -- the first frame is pending
+  -- The first frame is pending.
   pub least_named : (t : List Entry) (stamp station : ℕ) → IsLeast (pending seats t) stamp station
       → list_any (is_named stamp station) (pending seats t) ≡ true
   least_named t stamp station least =
@@ -100,7 +100,7 @@ module _ (seats : List Seat) where
       (and_from (stamp == w.0.frame.stamp) (station == w.0.seat.station) (eq-eqb stamp w.0.frame.stamp (sym w.2))
       (eq-eqb station w.0.seat.station (sym w.3)))
 
--- what is pending is refused for no other reason
+-- A take of a pending frame doesn't return NotPending.
 pub was_pending : {T : Type 0} (r : Result T Error) (named : Bool) → named ≡ true → (r ≡ Err NotPending) ↔ (named ≡ false)
     → IfErr r (λ e. (e ≡ NotPending) ⊎ (e ≡ Full) ⊎ (e ≡ Memory)) → IfErr r (λ e. (e ≡ Full) ⊎ (e ≡ Memory))
 was_pending (Ok x) named is iff h = tt
@@ -109,7 +109,7 @@ was_pending (Err e) named is iff h = elim h [
   | inr e ↦ e
 ]
 
--- ---- What a world keeps
+-- ---- The properties of a world
 
 pub length_ports : (ms : List (Member Living LivingNode)) → length (map ports_of ms) ≡ length ms
 length_ports [] = refl
@@ -123,7 +123,7 @@ length-append : {X : Type 0} (xs ys : List X) → length (xs ++ ys) ≡ length x
 length-append [] ys = omega arith
 length-append (x ∷ xs) ys = let h = length-append xs ys in omega (arith, h)
 
--- as many stations as are planned
+-- There are as many stations as in the plan.
 pub laid_whole : (w : Worldly) → IsLaid w → length w.stations ≡ length w.plan.routers + length w.plan.nodes
 laid_whole w h =
     let all = length_ports w.stations in
@@ -141,13 +141,14 @@ laid_few w h =
     let nodes = h.sound.few_nodes in
     omega (arith, all, routers, nodes)
 
--- the stations have the seats that they need
+-- The stations have the seats that they need.
 pub laid_seated : (w : Worldly) → IsLaid w → AreSeated w.wires.cabling.seats (map ports_of w.stations)
 laid_seated w h =
     subst (λ s. AreSeated s (map ports_of w.stations)) (sym h.seats)
     (subst (AreSeated (plan_seats w.plan)) (sym h.ports) (plan_seated w.plan h.sound))
 
--- so it is where neither the seats nor the numbers of ports change, and what happened is as it is to be
+-- The invariant holds after a change in which the seats and the numbers of ports stay the same and the transcript keeps
+-- its properties.
 pub laid_after : (old new : Worldly) → IsLaid old → new.plan ≡ old.plan → map ports_of new.stations ≡ map ports_of old.stations
     → new.wires.cabling.seats ≡ old.wires.cabling.seats → new.wires.cabling.limit ≡ old.wires.cabling.limit
     → new.now ≤ old.plan.ticks
@@ -162,7 +163,7 @@ laid_after old new h plan ports seats limit few due received = record {
   received = received;
 }
 
--- what its users are promised
+-- The properties that a world's users are promised.
 pub laid_lives : (w : Worldly) → IsLaid w → IsWorld w
 laid_lives w h = record {
   seats = h.seats;
@@ -174,7 +175,7 @@ laid_lives w h = record {
   limit = h.limit;
 }
 
--- ---- What was received is taken out
+-- ---- Removing received datagrams
 
 pub emptied_is : (ms : List (Member Living LivingNode)) (k : ℕ) (m : Member Living LivingNode) → At ms k m
     → slice_set ms k (emptied m) ≡ emptied_at ms k
@@ -191,7 +192,7 @@ ports_emptied ms k = by (slice_get ms k) refl
     by None e = refl
     by (Some m) e = ports_set ms k m (emptied m) e (emptied_ports m)
 
--- what holds either way
+-- A fact that holds for both results.
 pub either_way : {T E : Type 0} (r : Result T E) (P : Type 0) → OnOk r P → OnErr r P → P
 either_way (Ok x) P ok err = ok
 either_way (Err e) P ok err = err

@@ -1,4 +1,4 @@
--- What happened in a tick, of what its steps did.
+-- The effect of a tick, from the effects of its steps.
 use Rattle.std.proofs.Common.{◌≡◌, ◌⊎◌, inl, inr, ℕ, Bool, List, [], sym, ◌∙◌, subst, append-nil}
 use Rattle.std.specs.Prelude.{IsTrue}
 use Rattle.cable_model.specs.Pending.{pending}
@@ -14,7 +14,7 @@ use Rattle.world.specs.Going.{Ends, Goes}
 use Rattle.world.specs.Losing.{loses_at}
 use Rattle.world.specs.Worlds.{Ticks, TicksOn}
 
--- nothing happened
+-- Nothing happened.
 pub ticks_none : (plan : Planned) (tick : ℕ) (w : Wires) → Ticks plan tick w w
 ticks_none plan tick w = record {
   added = [];
@@ -49,7 +49,7 @@ module _ (plan : Planned) (tick : ℕ) (old new : Wires) (losing : List Bool)
       by (inl none) = inl (subst (λ s. pending s (happened new) ≡ []) (x.goes_on.goes.seats ∙ seats) none)
       by (inr all) = inr (x.goes_on.takes ∙ all)
 
-  -- of cables where it was just said which of them lose
+  -- The cables after it was set which of them lose frames.
   module _ (mid : Wires) (set : mid ≡ record old { losing = losing }) where
     pub ticks_goes : Goes mid new → Ticks plan tick old new
     ticks_goes x = by_goes (subst (λ w. Goes w new) set x)
@@ -57,7 +57,7 @@ module _ (plan : Planned) (tick : ℕ) (old new : Wires) (losing : List Bool)
     pub ticks_ends : Ends 10000 mid new → TicksOn plan tick old new
     ticks_ends x = by_ends (subst (λ w. Ends 10000 w new) set x)
 
--- each frame that was taken was pending then
+-- Each frame that was taken was pending.
 pub due_ticks : (plan : Planned) (tick : ℕ) (old new : Wires) → Ticks plan tick old new → AreDue (plan_seats plan) [] (happened old)
     → AreDue (plan_seats plan) [] (happened new)
 due_ticks plan tick old new x due =

@@ -1,12 +1,13 @@
--- What the steps of a tick do on the cables. This project's own.
+-- The effects of a tick's steps on the cables.
 use Rattle.std.specs.Prelude.{◌≡◌, ◌⊎◌, ℕ, IsTrue, List, [], ◌++◌}
 use Rattle.cable_model.specs.Pending.{pending}
 use Rattle.cable_model.specs.Transcript.{AreNumbered, Entry, count}
 use Rattle.live_cables.specs.Living.{Wires, happened, loses}
 use Rattle.live_cables.specs.Playing.{IsPlayed, are_lost, is_took}
 
--- Further entries were played. The seats, the room, and which cables lose, stay; addresses may settle meanwhile. That frames are numbered
--- from 0, which cables see to at any moment, is a premise, so that steps can be put together before it is recalled.
+-- Entries that `IsPlayed` allows were added, while the seats, the limit, and which cables lose frames stayed the same;
+-- addresses may have settled. That frames are numbered from 0 is a premise, so that steps can be combined before it is
+-- known.
 pub record Goes (old new : Wires) : Type 0 where
   pub added : List Entry
   pub grown : happened new ≡ happened old ++ added
@@ -15,13 +16,14 @@ pub record Goes (old new : Wires) : Type 0 where
   pub losing : new.losing ≡ old.losing
   pub played : AreNumbered 0 (happened new) → IsPlayed old.cabling.seats (loses old) (happened old) added
 
--- The same, done to its end: so many frames were taken, and what was put on cables that lose is lost.
+-- A step finished and added entries that `IsPlayed` allows: `taken` frames were taken, and all frames that were put on
+-- cables that lose frames are lost.
 pub record GoesOn (taken : ℕ) (old new : Wires) : Type 0 where
   pub goes : Goes old new
   pub takes : count is_took goes.added ≡ taken
   pub lost : AreNumbered 0 (happened new) → IsTrue (are_lost old.cabling.seats (loses old) (happened old) goes.added)
 
--- The same, until no frame is pending any more or so many were taken.
+-- Frames were taken, by steps that finished, until none was pending or `most` were taken.
 pub record Ends (most : ℕ) (old new : Wires) : Type 0 where
   pub taken : ℕ
   pub goes_on : GoesOn taken old new

@@ -1,4 +1,4 @@
--- What a live world keeps, beside what its users are promised. This project's own.
+-- The invariant of a live world.
 use Rattle.std.specs.Prelude.{◌≡◌, ◌≤◌, [], map}
 use Rattle.internet_file.specs.Sound.{IsSound}
 use Rattle.live_cables.specs.Living.{happened}
@@ -8,8 +8,9 @@ use Rattle.planned_stations.specs.Seating.{plan_seats}
 use Rattle.world.specs.Received.{AreReceived, got}
 use Rattle.world.specs.Worlds.{Worldly}
 
--- The plan is sound, the stations and the seats are those that are planned, and there is room for 4,000,000 entries. Each frame that was taken was pending for its
--- station, and each datagram that a station received is that of a frame that it took.
+-- The plan is sound, the seats and the stations' ports are those of the plan, the limit is 4,000,000 entries, each
+-- frame that was taken was pending for its station, and each datagram that a station received is that of a frame that
+-- it took.
 pub record IsLaid (w : Worldly) : Type 0 where
   pub sound : IsSound w.plan
   pub seats : w.wires.cabling.seats ≡ plan_seats w.plan

@@ -1,4 +1,4 @@
--- A tick that passes for the stations of a world, one after the other. This project's own.
+-- The stations of a world advance by a tick, one after the other.
 use Rattle.std.specs.Prelude.{◌≡◌, ℕ, zero, suc, ◌+◌, fold, List, Some, slice_get, slice_set}
 use Rattle.station.specs.Members.{EitherTicks}
 use Rattle.station.specs.declared.member.Member.{Member}
@@ -13,31 +13,33 @@ use Rattle.planned_stations.specs.Planning.{ports_of}
 use Rattle.station.specs.declared.output.Output.{Output}
 use Rattle.world.specs.Doing.{given_up, settled_own}
 
--- A tick passed for a station, whose number and first seat these are: what it put out was given out, once it was known which
--- addresses it had settled.
+-- The station with this number and this first seat advanced by a tick, its settled addresses were set, and its outputs
+-- were sent.
 pub record HasTicked (number seat : ℕ) (m now : Member Living LivingNode) (old new : Wires) : Type 0 where
   pub outputs : List Output
   pub ticks : EitherTicks RouterTicks NodeTicks m outputs now
   pub gives : GivesOut number outputs (record old { own = settled_own now seat (ports_of now) old.own }) new
 
--- A tick passed for the mappings of a station's seat; the station was told of the addresses that were given up.
+-- The mappings of a station's seat advanced by a tick, and a router poisoned the rows through the addresses that AARP
+-- gave up on.
 pub record IsAged (seat : ℕ) (m now : Member Living LivingNode) (old new : Wires) : Type 0 where
   pub passes : PassesFor seat old new
   pub told : now ≡ fold given_up m (given_up_of (held_at old.maps seat))
 
--- The same of so many seats from one on, in order.
+-- The mappings of `ports` seats of a station, from index `seat` on, advanced by a tick, in order.
 abbrev pub AreAged : ℕ → ℕ → Member Living LivingNode → Member Living LivingNode → Wires → Wires → Type 0
 AreAged seat zero m now old new = (now ≡ m) × (new ≡ old)
 AreAged seat (suc ports) m now old new =
     (before : Member Living LivingNode) × (mid : Wires) × AreAged seat ports m before old mid × IsAged (seat + ports) before now mid new
 
--- A tick passed for a station, and then for the mappings of each of its ports.
+-- A station advanced by a tick, and then the mappings of each of its ports did.
 abbrev pub HasPassed : ℕ → ℕ → Member Living LivingNode → Member Living LivingNode → Wires → Wires → Type 0
 HasPassed number seat m now old new =
     (ticked : Member Living LivingNode) × (mid : Wires) × HasTicked number seat m ticked old mid
     × AreAged seat (ports_of ticked) ticked now mid new
 
--- A tick passed for so many stations, in order. The next one's first seat is the one after theirs.
+-- The first stations, `number` of them, advanced by a tick, in order; the first seat of the next station is the one
+-- after theirs.
 abbrev pub HavePassed : ℕ → ℕ → List (Member Living LivingNode) → List (Member Living LivingNode) → Wires → Wires → Type 0
 HavePassed zero seat stations now old new = (seat ≡ 0) × (now ≡ stations) × (new ≡ old)
 HavePassed (suc number) next stations now old new =

@@ -1,4 +1,4 @@
--- What the stations of a world have received. This project's own.
+-- The datagrams that the stations of a world have received.
 use Rattle.std.specs.Prelude.{◌≡◌, ◌⊎◌, ℕ, List, [], Some, slice_get}
 use Rattle.std.specs.List.{All}
 use Rattle.cable_model.specs.Transcript.{Entry}
@@ -13,16 +13,16 @@ use Rattle.station.specs.Hearing.{Hearing}
 use Rattle.station.specs.Values.{datagram_at}
 use Rattle.world.specs.Worlds.{IsReceived}
 
--- what a station has received since that was last taken: a router receives nothing
+-- The datagrams that a station has received and that weren't removed yet; a router has none.
 abbrev pub got : Member Living LivingNode → List Received
 got (Router l) = []
 got (Node n) = n.node.received
 
--- what each station has received is of frames that it took
+-- Each station's received datagrams are those of frames that it took.
 abbrev pub AreReceived : List Entry → List (List Received) → Type 0
 AreReceived entries gots =
     (k : ℕ) (ds : List Received) → slice_get gots k ≡ Some ds → All (IsReceived entries k) ds
 
--- what a station has received after it heard a frame: as much as before, or the frame's datagram too
+-- After a station heard a frame, its received datagrams are the same as before, or the frame's datagram was added.
 abbrev pub Hears : Hearing → List Received → List Received → Type 0
 Hears x old new = (new ≡ old) ⊎ ((d : Datagram) × (datagram_at x.bytes ≡ Some d) × (new ≡ keeping (kept d) old))

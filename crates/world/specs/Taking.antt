@@ -1,4 +1,4 @@
--- The frames that the stations of a world take in a tick. This project's own.
+-- The frames that the stations of a world take in a tick.
 use Rattle.std.specs.Prelude.{◌≡◌, ℕ, zero, suc, List, Some, slice_get, slice_set}
 use Rattle.cable_model.specs.Outcomes.{IsLeast}
 use Rattle.cable_model.specs.Pending.{pending}
@@ -9,7 +9,7 @@ use Rattle.live_node.specs.Living.{LivingNode, LiveHears as NodeHears}
 use Rattle.live_router.specs.Living.{Living, LiveHears as RouterHears}
 use Rattle.planned_stations.specs.Planning.{ports_of}
 
--- A station took the frame of a stamp, heard it, and put out what follows.
+-- A station took the frame with this stamp, heard it, and sent its outputs.
 pub record IsTaker (stamp station : ℕ) (stations now : List (Member Living LivingNode)) (old new : Wires) : Type 0 where
   pub m : Member Living LivingNode
   pub after : Member Living LivingNode
@@ -17,14 +17,14 @@ pub record IsTaker (stamp station : ℕ) (stations now : List (Member Living Liv
   pub takes : TakesIn stamp station (ports_of m) (λ heard added. EitherHears RouterHears NodeHears m heard added after) old new
   pub set : now ≡ slice_set stations station after
 
--- The frame of the least stamp was taken, by the least of the stations that it was pending for.
+-- The frame with the lowest pending stamp was taken by the lowest station for which it was pending.
 pub record IsTaken (stations now : List (Member Living LivingNode)) (old new : Wires) : Type 0 where
   pub stamp : ℕ
   pub station : ℕ
   pub least : IsLeast (pending old.cabling.seats (happened old)) stamp station
   pub by : IsTaker stamp station stations now old new
 
--- So many frames were taken, one after the other.
+-- n frames were taken, one after the other.
 abbrev pub AreTaken : ℕ → List (Member Living LivingNode) → List (Member Living LivingNode) → Wires → Wires → Type 0
 AreTaken zero stations now old new = (now ≡ stations) × (new ≡ old)
 AreTaken (suc n) stations now old new =

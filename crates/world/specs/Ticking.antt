@@ -1,4 +1,4 @@
--- What a tick does. This project's own.
+-- The effect of a tick.
 use Rattle.std.specs.Prelude.{◌≡◌, ℕ, List, Bool, length}
 use Rattle.station.specs.declared.member.Member.{Member}
 use Rattle.internet_file.specs.Files.{Planned}
@@ -12,7 +12,7 @@ use Rattle.world.specs.Passing.{HavePassed}
 use Rattle.world.specs.Taking.{AreTaken}
 use Rattle.world.specs.Worlds.{Worldly}
 
--- The tick of a number passed for each station in turn, and then the actions of this tick were done.
+-- Each station advanced by a tick, in order, and then the actions of this tick were carried out.
 pub record Begins (plan : Planned) (tick : ℕ) (stations now : List (Member Living LivingNode)) (old new : Wires)
     (refused refused_now : List (ℕ × ℕ)) (schedule left : List ℕ) : Type 0 where
   pub seats : ℕ
@@ -21,7 +21,7 @@ pub record Begins (plan : Planned) (tick : ℕ) (stations now : List (Member Liv
   pub actions : ℕ
   pub does : AreDone plan now tick actions schedule left (wires, refused) (new, refused_now)
 
--- The same, and then frames were taken.
+-- Each station advanced by a tick, the actions of this tick were carried out, and then frames were taken.
 pub record Plays (plan : Planned) (tick : ℕ) (stations now : List (Member Living LivingNode)) (old new : Wires)
     (refused refused_now : List (ℕ × ℕ)) (schedule left : List ℕ) : Type 0 where
   pub passed : List (Member Living LivingNode)
@@ -30,7 +30,7 @@ pub record Plays (plan : Planned) (tick : ℕ) (stations now : List (Member Livi
   pub takings : ℕ
   pub takes : AreTaken takings passed now acted new
 
--- A tick did this to a world, whose cables lose what is planned for it.
+-- A tick changed the world in this way, with the losses that the plan has for it.
 pub record IsTick (old new : Worldly) : Type 0 where
   pub losing : List Bool
   pub loses : (cable : ℕ) → loses_by losing cable ≡ loses_at old.plan new.now cable

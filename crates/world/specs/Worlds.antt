@@ -1,4 +1,4 @@
--- What a live world holds, and what it keeps. This project's own.
+-- The state of a live world, and its properties.
 use Rattle.std.specs.Prelude.{◌≡◌, ◌⊎◌, ℕ, ◌+◌, ◌≤◌, IsTrue, List, [], ◌++◌, Option, None, Some, Contains, length, map, slice_get}
 use Rattle.std.specs.List.{All}
 use Rattle.at_base.specs.declared.error.Error.{Error}
@@ -20,9 +20,9 @@ use Rattle.planned_stations.specs.Planning.{ports_of}
 use Rattle.planned_stations.specs.Seating.{plan_seats}
 use Rattle.world.specs.Losing.{loses_at}
 
--- A plan; its stations, the routers and then the nodes; the cables; how many ticks have passed; the error by which a tick was
--- refused, if one was; the actions that were refused, by their numbers from 1 and the numbers of the errors; and the indices of
--- those that are still to come, the next one last.
+-- The state of a world: its plan; its stations, first the routers and then the nodes; the cables; the number of ticks
+-- so far; the error of the tick that failed, if one did; the actions that had an error, by their numbers from 1 and the
+-- numbers of the errors; and the indices of the actions that are still to come, the next one last.
 pub record Worldly : Type 0 where
   pub plan : Planned
   pub stations : List (Member Living LivingNode)
@@ -32,8 +32,8 @@ pub record Worldly : Type 0 where
   pub refused : List (ℕ × ℕ)
   pub schedule : List ℕ
 
--- the cables of a plan, where nothing has happened yet: each has its range, no seat has an address or knows of others, and nothing
--- is lost
+-- The cables of a plan before the first tick: the transcript is empty, no seat has a settled address or a mapping, and
+-- no cable loses frames.
 abbrev pub wires_begun : Planned → Wires
 wires_begun plan = record {
   cabling = record {
@@ -49,7 +49,7 @@ wires_begun plan = record {
   losing = [];
 }
 
--- A datagram that a station received is that of a frame which it took.
+-- The datagram is that of a frame that the station took.
 pub record IsReceived (entries : List Entry) (station : ℕ) (d : Received) : Type 0 where
   pub frame : Frame
   pub put : Contains entries (Put frame)
@@ -58,31 +58,32 @@ pub record IsReceived (entries : List Entry) (station : ℕ) (d : Received) : Ty
   pub read : datagram_at frame.bytes ≡ Some datagram
   pub keeps : kept datagram ≡ d
 
--- What a world keeps.
+-- The properties of a world.
 pub record IsWorld (w : Worldly) : Type 0 where
-  -- each port of a station has its seat, and each seat of it is of one of its ports
+  -- Each port of a station has its seat, and each seat of a station is that of one of its ports.
   pub seats : w.wires.cabling.seats ≡ plan_seats w.plan
   pub seated : (k : ℕ) (m : Member Living LivingNode) → slice_get w.stations k ≡ Some m
       → AreSeatsOf w.wires.cabling.seats k (ports_of m)
-  -- each frame that was taken was pending for its station
+  -- Each frame that was taken was pending for its station.
   pub due : AreDue (plan_seats w.plan) [] (happened w.wires)
-  -- each datagram that a node received is that of a frame that it took
+  -- Each datagram that a node received is that of a frame that it took.
   pub received : (k : ℕ) (n : LivingNode) → slice_get w.stations k ≡ Some (Node n)
       → All (IsReceived (happened w.wires) k) n.node.received
-  -- as many stations as are planned
+  -- There are as many stations as in the plan.
   pub whole : length w.stations ≡ length w.plan.routers + length w.plan.nodes
   pub few : w.now ≤ w.plan.ticks
-  -- room for this many entries
+  -- The limit on the number of entries.
   pub limit : w.wires.cabling.limit ≡ 4000000
 
--- In the tick of this number entries were added: each frame that was taken was pending for its station; no frame was taken that
--- was put in this tick on a cable that loses then, and no other frame was lost.
+-- In this tick, entries were added: each frame that was taken was pending for its station, no frame was taken that was
+-- put in this tick on a cable that loses frames in it, and no other frame was lost.
 pub record Ticks (plan : Planned) (tick : ℕ) (old new : Wires) : Type 0 where
   pub added : List Entry
   pub grown : happened new ≡ happened old ++ added
   pub played : IsPlayed (plan_seats plan) (loses_at plan tick) (happened old) added
 
--- The same, to its end: no frame that was put on such a cable is pending, and no frame at all is, unless 10,000 were taken.
+-- In this tick, entries were added that `Ticks` allows, and the tick finished: no frame that was put on a cable that
+-- loses frames is pending, and no frame is pending at all unless 10,000 were taken.
 pub record TicksOn (plan : Planned) (tick : ℕ) (old new : Wires) : Type 0 where
   pub ticks : Ticks plan tick old new
   pub lost : IsTrue (are_lost (plan_seats plan) (loses_at plan tick) (happened old) ticks.added)

@@ -1,4 +1,4 @@
-//! What the nodes of a world do.
+//! Carries out the actions of a world's nodes.
 
 ghost use Rattle.std.specs.Prelude.{◌≡◌, ◌⊎◌, ◌<◌, ◌≤◌, ◌++◌, ◌∷◌, ℕ, [], length};
 ghost use Rattle.std.specs.Prelude.{IfErr, IfNone, IfSome, IsOkUnless, OnErr, OnOk, Ok, Err, Some};
@@ -18,7 +18,7 @@ use live_router::LiveRouter;
 use rtmp::RouteTable;
 use station::Outputs;
 
-/// Lets a node do what is planned, which puts out what it sends.
+/// Carries out a node's operation, and appends the datagrams that it sends to `outputs`.
 fn act(node: &LiveNode, action: &Do, outputs: &mut Outputs) -> Result<(), Error>
     requires { outputs.old.items ≡ [] }
     ensures acted { OnOk result (acted node.now action.now ≡ Ok outputs.new.items) }
@@ -43,7 +43,8 @@ fn act(node: &LiveNode, action: &Do, outputs: &mut Outputs) -> Result<(), Error>
     }
 }
 
-/// Lets a station do what is planned, if it is a node, which puts out what it sends.
+/// Carries out a station's operation if the station is a node, and appends the datagrams that it
+/// sends to `outputs`.
 fn act_by<T: RouteTable>(
     station: &Member<LiveRouter<T>, LiveNode>,
     action: &Do,
@@ -61,7 +62,7 @@ fn act_by<T: RouteTable>(
     }
 }
 
-/// Notes that an action, by its index from 0, was refused. Error: `Memory`.
+/// Records the error of the action with this index from 0. Error: `Memory`.
 fn note(refused: &mut Vec<(u32, u8)>, index: u32, error: Error) -> Result<(), Error>
     ensures noted { OnOk result
         (refused.new.items ≡ refused.old.items ++ (number_from index, number_of error) ∷ []) }
@@ -86,7 +87,8 @@ fn station_of(plan: &Plan, action: &Action) -> usize
     plan.routers().len() + (action.node as usize).saturating_sub(1)
 }
 
-/// Lets the node of an action do it, and notes a refusal. Errors: `Full`, `Memory`.
+/// Carries out the action with this index, and records its error if it has one. Errors: `Full`,
+/// `Memory`.
 fn act_one<T: RouteTable>(
     plan: &Plan,
     stations: &[Member<LiveRouter<T>, LiveNode>],
@@ -119,7 +121,7 @@ fn act_one<T: RouteTable>(
     wires.give(station as u16, &mut outputs)
 }
 
-/// Takes the next action off the schedule, if it is one of this tick.
+/// Removes the next action from the schedule, if its tick is this one.
 fn next_due(schedule: &mut Vec<u32>, actions: &[Action], now: u32) -> Option<u32>
     ensures last { IfSome result
         (λ index. schedule.old.items ≡ schedule.new.items ++ index ∷ []) }
@@ -136,8 +138,8 @@ fn next_due(schedule: &mut Vec<u32>, actions: &[Action], now: u32) -> Option<u32
     schedule.pop()
 }
 
-/// Lets the nodes do what is planned for a tick, in the order of the schedule, whose last is the
-/// next. Errors: `Full`, `Memory`.
+/// Carries out the actions of a tick, in the order of the schedule, whose last element is the next
+/// action. Errors: `Full`, `Memory`.
 pub fn act_all<T: RouteTable>(
     plan: &Plan,
     stations: &[Member<LiveRouter<T>, LiveNode>],

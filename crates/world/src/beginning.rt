@@ -1,4 +1,4 @@
-//! The stations with which a world begins.
+//! The stations of a world before its first tick.
 
 ghost use Rattle.std.specs.Prelude.{◌≡◌, [], map, IfOk, IsOkUnless};
 ghost use Rattle.planned_stations.specs.Beginning.{AreBegun};

@@ -1,4 +1,4 @@
-//! Live worlds: an internet that a file plans, tick by tick, until its tables are frozen.
+//! Live worlds: the internet of an internet file, tick by tick, until its tables are frozen.
 #![tactic(auto)]
 
 mod acting;

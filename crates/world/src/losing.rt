@@ -1,4 +1,4 @@
-//! Which cables lose what is put there in a tick.
+//! The cables that lose frames in a tick.
 
 ghost use Rattle.std.specs.Prelude.{◌≡◌, ◌||◌, ◌≤◌, ℕ, length, IfOk, IsOkUnless, IsTrue};
 ghost use Rattle.std.specs.List.{list_all, list_any};
@@ -10,21 +10,21 @@ use at_base::Error;
 use internet_file::{Loss, Plan};
 use std::alloc::Global;
 
-/// Whether the loss is on in a tick.
+/// Whether the loss includes a tick.
 fn is_on(loss: &Loss, now: u32) -> bool
     ensures { result ≡ spec.is_on now loss.now }
 {
     loss.first <= now && now <= loss.last
 }
 
-/// Whether one of the losses is on in a tick.
+/// Whether one of the losses includes a tick.
 fn any_is_on(losses: &[Loss], now: u32) -> bool
     ensures { result ≡ list_any (spec.is_on now) losses.now }
 {
     losses.iter().any(|loss| is_on(loss, now))
 }
 
-/// Marks the cable of a loss, if the loss is on in a tick.
+/// Marks the cable of a loss, if the loss includes a tick.
 fn mark(losing: &mut Vec<bool>, loss: &Loss, now: u32)
     requires from { 1 ≤ loss.now.cable }
     requires to { loss.now.cable ≤ length losing.old.items }
@@ -35,7 +35,7 @@ fn mark(losing: &mut Vec<bool>, loss: &Loss, now: u32)
     }
 }
 
-/// Marks the cables of those losses that are on in a tick.
+/// Marks the cables of those losses that include a tick.
 fn mark_all(losing: &mut Vec<bool>, losses: &[Loss], now: u32)
     requires { IsTrue (list_all (is_lossy (length losing.old.items)) losses.now) }
     ensures { (cable : ℕ) → loses_by losing.new.items cable
@@ -46,8 +46,8 @@ fn mark_all(losing: &mut Vec<bool>, losses: &[Loss], now: u32)
     }
 }
 
-/// Which of so many cables lose what is put there in a tick, and none where no cable does. Error:
-/// `Memory`.
+/// For each of `cables` cables, whether it loses frames in a tick; an empty list if none does.
+/// Error: `Memory`.
 fn losing_by(alloc: Global, cables: usize, losses: &[Loss], now: u32) -> Result<Vec<bool>, Error>
     requires { IsTrue (list_all (is_lossy cables) losses.now) }
     ensures losing { IfOk result
@@ -63,7 +63,8 @@ fn losing_by(alloc: Global, cables: usize, losses: &[Loss], now: u32) -> Result<
     Ok(losing)
 }
 
-/// Which cables lose what is put there in a tick, and none where no cable does. Error: `Memory`.
+/// For each cable of a plan, whether it loses frames in a tick; an empty list if none does. Error:
+/// `Memory`.
 pub fn losing_at(alloc: Global, plan: &Plan, now: u32) -> Result<Vec<bool>, Error>
     ensures losing { IfOk result
         (λ losing. (cable : ℕ) → loses_by losing.items cable ≡ loses_at plan.now now cable) }

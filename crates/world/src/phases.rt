@@ -1,4 +1,4 @@
-//! What happens in a tick.
+//! The phases of a tick.
 
 ghost use Rattle.std.specs.Prelude.{◌≡◌, ◌⊎◌, ◌≤◌, length, map, IfErr, OnOk};
 ghost use Rattle.live_cables.specs.Living.{happened};
@@ -21,8 +21,8 @@ use live_node::LiveNode;
 use live_router::LiveRouter;
 use rtmp::RouteTable;
 
-/// Lets the tick pass for all stations, and lets the nodes do what is planned for it. Errors:
-/// `Full`, `Memory`.
+/// Advances all stations by a tick, and carries out the actions of that tick. Errors: `Full`,
+/// `Memory`.
 fn before_takings<T: RouteTable>(
     plan: &Plan,
     stations: &mut Vec<Member<LiveRouter<T>, LiveNode>>,
@@ -50,8 +50,8 @@ fn before_takings<T: RouteTable>(
     act_all(plan, stations.as_slice(), wires, refused, schedule, now)
 }
 
-/// What happens in a tick: it passes for all stations, the nodes do what is planned for it, and
-/// frames are taken. Errors: `Full`, `Memory`.
+/// The phases of a tick: all stations advance, the actions of the tick are carried out, and frames
+/// are taken. Errors: `Full`, `Memory`.
 pub fn run_phases<T: RouteTable>(
     plan: &Plan,
     stations: &mut Vec<Member<LiveRouter<T>, LiveNode>>,

@@ -1,4 +1,4 @@
-//! In which order what is planned is done.
+//! The order of the actions.
 
 ghost use Rattle.std.specs.Prelude.{◌≡◌, IfOk, IsOkUnless};
 ghost use Rattle.world.specs.Scheduling as spec;
@@ -18,15 +18,15 @@ fn tick_of(actions: &[Action], index: u32) -> u32
     }
 }
 
-/// The turn of the action at an index: the number of its tick before that of its place in the file.
+/// The sort key of the action at an index: by its tick, then by its index in the file.
 fn turn_of(actions: &[Action], index: u32) -> u64
     ensures { result ≡ spec.turn_of actions.now index }
 {
     u64::from(tick_of(actions, index)) * 4_294_967_296 + u64::from(index)
 }
 
-/// The indices of the actions, in the order of their ticks and then of the file, from the last to
-/// the first. Error: `Memory`.
+/// The indices of the actions, sorted by tick and then by the order of the file, the last action
+/// first. Error: `Memory`.
 pub(crate) fn schedule_of(alloc: Global, actions: &[Action]) -> Result<Vec<u32>, Error>
     ensures all { IfOk result (λ schedule. IsSchedule actions.now schedule.items) }
     ensures refused { IsOkUnless result Error.Memory }

@@ -1,4 +1,4 @@
-//! What is seen of a world's nodes.
+//! Reads the nodes of a world.
 
 ghost use Rattle.std.specs.Prelude.{◌≡◌, ◌<◌, length, slice_get, None, Some, IfOk, IsOk};
 ghost use Rattle.std.specs.Prelude.{option_copied, IsOkUnless, OnErr, OnOk};
@@ -13,7 +13,7 @@ use live_router::LiveRouter;
 use rtmp::RouteTable;
 use std::alloc::Global;
 
-/// The node, if the station is one.
+/// The node, if the station is a node.
 fn node_of<T: RouteTable>(station: &Member<LiveRouter<T>, LiveNode>) -> Option<&EndNode>
     ensures { option_copied result ≡ spec.node_of (Some station.now) }
 {
@@ -23,7 +23,7 @@ fn node_of<T: RouteTable>(station: &Member<LiveRouter<T>, LiveNode>) -> Option<&
     }
 }
 
-/// The node at an index of stations, if it is one. Allocates nothing.
+/// The node at an index of stations, if it is a node. Allocates nothing.
 pub fn node_by<T: RouteTable>(
     stations: &[Member<LiveRouter<T>, LiveNode>],
     index: usize,
@@ -36,7 +36,8 @@ pub fn node_by<T: RouteTable>(
     }
 }
 
-/// Takes what a station has received, if it is a node. Error: `Memory`.
+/// Removes and returns the datagrams that a station has received; none if it isn't a node. Error:
+/// `Memory`.
 fn take_of<T: RouteTable>(
     alloc: Global,
     station: &mut Member<LiveRouter<T>, LiveNode>,
@@ -54,7 +55,8 @@ fn take_of<T: RouteTable>(
     }
 }
 
-/// Takes what the station at an index has received, if it is a node. Error: `Memory`.
+/// Removes and returns the datagrams that the station at an index has received; none if it isn't a
+/// node. Error: `Memory`.
 fn take_in<T: RouteTable>(
     alloc: Global,
     stations: &mut Vec<Member<LiveRouter<T>, LiveNode>>,
@@ -72,7 +74,8 @@ fn take_in<T: RouteTable>(
     take_of(alloc, station)
 }
 
-/// Takes what the node at an index of stations has received, if it is one. Error: `Memory`.
+/// Removes and returns the datagrams that the node at an index of stations has received; none if
+/// there is no node at it. Error: `Memory`.
 pub fn take_at<T: RouteTable>(
     alloc: Global,
     stations: &mut Vec<Member<LiveRouter<T>, LiveNode>>,

@@ -1,4 +1,4 @@
-//! A tick that passes for the stations of a world.
+//! Advances the stations of a world by a tick.
 
 ghost use Rattle.std.specs.Prelude.{◌≡◌, ◌⊎◌, ◌≤◌, ℕ, fold, length, map, slice_get};
 ghost use Rattle.std.specs.Prelude.{IfErr, OnOk, Some};
@@ -32,7 +32,7 @@ fn own_of<T: RouteTable>(station: &Member<LiveRouter<T>, LiveNode>, port: u8) ->
     }
 }
 
-/// Says which addresses of a station are settled. Its seats begin at an index.
+/// Sets the settled addresses of a station's seats, whose indexes start at `seat`.
 fn settle<T: RouteTable>(
     station: &Member<LiveRouter<T>, LiveNode>,
     wires: &mut LiveCables,
@@ -47,7 +47,7 @@ fn settle<T: RouteTable>(
     }
 }
 
-/// AARP has given an address up, which a router is told.
+/// AARP gave up on an address: a router poisons the rows through it.
 fn give_up<T: RouteTable>(station: &mut Member<LiveRouter<T>, LiveNode>, addr: Addr)
     ensures without { station.new ≡ spec.given_up station.old addr }
     ensures ports { ports_of station.new ≡ ports_of station.old }
@@ -59,7 +59,7 @@ fn give_up<T: RouteTable>(station: &mut Member<LiveRouter<T>, LiveNode>, addr: A
     }
 }
 
-/// AARP has given addresses up, which a router is told.
+/// AARP gave up on addresses: a router poisons the rows through them.
 fn give_up_all<T: RouteTable>(station: &mut Member<LiveRouter<T>, LiveNode>, addrs: &[Addr])
     ensures without { station.new ≡ fold spec.given_up station.old addrs.now }
     ensures ports { ports_of station.new ≡ ports_of station.old }
@@ -74,7 +74,7 @@ fn give_up_all<T: RouteTable>(station: &mut Member<LiveRouter<T>, LiveNode>, add
     }
 }
 
-/// Lets a tick pass for the mappings of a station's seat. Errors: `Full`, `Memory`.
+/// Advances the mappings of one of a station's seats by a tick. Errors: `Full`, `Memory`.
 fn age_mappings<T: RouteTable>(
     station: &mut Member<LiveRouter<T>, LiveNode>,
     wires: &mut LiveCables,
@@ -97,7 +97,7 @@ fn age_mappings<T: RouteTable>(
     }
 }
 
-/// Lets a tick pass for the mappings of a station's seats, so many from an index on. Errors:
+/// Advances the mappings of a station's `ports` seats, from index `seat` on, by a tick. Errors:
 /// `Full`, `Memory`.
 fn age_all_mappings<T: RouteTable>(
     station: &mut Member<LiveRouter<T>, LiveNode>,
@@ -123,7 +123,7 @@ fn age_all_mappings<T: RouteTable>(
     Ok(())
 }
 
-/// Lets a tick pass for a station, whose outputs are given out. Errors: `Full`, `Memory`.
+/// Advances a station by a tick, and sends its outputs. Errors: `Full`, `Memory`.
 fn tick<T: RouteTable>(
     alloc: Global,
     station: &mut Member<LiveRouter<T>, LiveNode>,
@@ -153,8 +153,8 @@ fn tick<T: RouteTable>(
     wires.give(number, &mut outputs)
 }
 
-/// Lets a tick pass for a station, and for the mappings of its ports, whose seats begin at an
-/// index. Errors: `Full`, `Memory`.
+/// Advances a station by a tick, and then the mappings of its seats, whose indexes start at `seat`.
+/// Errors: `Full`, `Memory`.
 fn tick_station<T: RouteTable>(
     alloc: Global,
     station: &mut Member<LiveRouter<T>, LiveNode>,
@@ -180,7 +180,7 @@ fn tick_station<T: RouteTable>(
     age_all_mappings(station, wires, seat, ports)
 }
 
-/// The number of the ports of the station at an index.
+/// The number of ports of the station at an index, and 0 if there is none.
 fn ports_at<T: RouteTable>(stations: &[Member<LiveRouter<T>, LiveNode>], index: usize) -> usize
     ensures few { result ≤ 255 }
     ensures value { (m : MemberValue Living LivingNode) → slice_get stations.now index ≡ Some m
@@ -192,7 +192,7 @@ fn ports_at<T: RouteTable>(stations: &[Member<LiveRouter<T>, LiveNode>], index: 
     }
 }
 
-/// Lets a tick pass for all stations. Errors: `Full`, `Memory`.
+/// Advances all stations by a tick. Errors: `Full`, `Memory`.
 pub fn tick_all<T: RouteTable>(
     alloc: Global,
     stations: &mut Vec<Member<LiveRouter<T>, LiveNode>>,

@@ -1,4 +1,4 @@
-//! Frames that the stations of a world take.
+//! The stations of a world take frames.
 
 ghost use Rattle.std.specs.Prelude.{◌≡◌, ◌⊎◌, ◌↔◌, ◌<◌, ℕ, [], false, length, map, true};
 ghost use Rattle.std.specs.Prelude.{IfErr, IfOk, OnOk};
@@ -46,8 +46,8 @@ fn take<T: RouteTable>(
     wires.take(stamp, station, taker)
 }
 
-/// Takes the frame of the least stamp, by the least station that it is pending for; says whether
-/// there was one. Errors: `Full`, `Memory`.
+/// Takes the frame with the lowest pending stamp, by the lowest station for which it is pending.
+/// Returns whether a frame was pending. Errors: `Full`, `Memory`.
 fn take_first<T: RouteTable>(
     stations: &mut Vec<Member<LiveRouter<T>, LiveNode>>,
     wires: &mut LiveCables,
@@ -76,7 +76,7 @@ fn take_first<T: RouteTable>(
     }
 }
 
-/// Takes frames, until none is pending or so many were taken. Errors: `Full`, `Memory`.
+/// Takes frames until none is pending or `most` were taken. Errors: `Full`, `Memory`.
 pub fn take_all<T: RouteTable>(
     stations: &mut Vec<Member<LiveRouter<T>, LiveNode>>,
     wires: &mut LiveCables,

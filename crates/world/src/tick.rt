@@ -15,7 +15,7 @@ use at_base::Error;
 use live_cables::LiveCables;
 use rtmp::RouteTable;
 
-/// Recalls that frames are numbered from 0. Does nothing.
+/// A fact for the prover: frames are numbered from 0. Does nothing.
 fn recall_numbered(wires: &LiveCables)
     ensures { AreNumbered 0 (happened wires.now) }
 {
@@ -23,7 +23,7 @@ fn recall_numbered(wires: &LiveCables)
 }
 
 impl<T: RouteTable> World<T> {
-    /// What happens in a tick. Errors: `Full`, `Memory`.
+    /// Carries out the current tick. Errors: `Full`, `Memory`.
     fn run_tick(&mut self) -> Result<(), Error>
         ensures plan { self.new.plan ≡ self.old.plan }
         ensures now { self.new.now ≡ self.old.now }
@@ -53,7 +53,7 @@ impl<T: RouteTable> World<T> {
         played
     }
 
-    /// The next tick, if there is one. Errors: `Full`, `Memory`.
+    /// Carries out the next tick, if the plan has one. Errors: `Full`, `Memory`.
     fn next_tick(&mut self) -> Result<(), Error>
         ensures plan { self.new.plan ≡ self.old.plan }
         ensures now { OnOk result (self.new.now ≡ self.old.now + 1) }
@@ -77,21 +77,21 @@ impl<T: RouteTable> World<T> {
         self.run_tick()
     }
 
-    /// Lets a tick pass: for each station in turn, and for the mappings of its ports; then the
-    /// actions of this tick; then frames are taken, by the least stamp and station, until none is
-    /// pending or 10,000 were taken.
+    /// Carries out a tick: first each station, in order, and the mappings of its ports advance;
+    /// then the actions of this tick are carried out; then frames are taken, each time the lowest
+    /// pending stamp by the lowest station, until none is pending or 10,000 were taken.
     ///
-    /// Errors: `Full` after the plan's last tick, or where the transcript has no room; `Memory`.
-    /// What was done before it stays, and each later tick is refused by the same error.
+    /// Errors: `Full` after the plan's last tick, or if the transcript has no room; `Memory`. What
+    /// was done before the error stays done, and each later tick returns the same error.
     pub fn tick(&mut self) -> Result<(), Error>
         ensures now { OnOk result (self.new.now ≡ self.old.now + 1) }
-        // A tick that is refused on its way counts too.
+        // A tick that fails midway counts too.
         ensures began { self.old.stopped ≡ None → self.old.now < self.old.plan.ticks
             → self.new.now ≡ self.old.now + 1 }
         ensures plan { self.new.plan ≡ self.old.plan }
         ensures over { self.old.stopped ≡ None → self.old.plan.ticks ≤ self.old.now
             → result ≡ Err Error.Full }
-        // After the last tick nothing else changes: what was refused before is still told.
+        // A tick after the plan's last one changes only `stopped`.
         ensures over_stays { self.old.stopped ≡ None → self.old.plan.ticks ≤ self.old.now
             → self.new ≡ record self.old { stopped = Some Error.Full } }
         ensures again { IfSome self.old.stopped
@@ -103,7 +103,7 @@ impl<T: RouteTable> World<T> {
             (TicksOn self.old.plan self.new.now self.old.wires self.new.wires) }
         ensures plays { OnOk result (IsTick self.old self.new) }
         ensures keeps { KeepsFirst self.old.refused self.new.refused }
-        // A tick that isn't the one after the last is full only where the transcript has no room.
+        // A tick within the plan is full only if the transcript has no room.
         ensures full { self.old.stopped ≡ None → (result ≡ Err Error.Full)
             → (self.old.plan.ticks ≤ self.old.now) ⊎ HasNoRoom 771 self.new.wires.cabling }
         ensures refused { IfErr result (λ e.

@@ -1,4 +1,4 @@
-//! Worlds, and what is seen of them.
+//! Worlds, and what can be read from them.
 
 ghost use Rattle.std.specs.Prelude.{◌≡◌, [], None, IfOk, IsOk, IsOkUnless, OnErr, OnOk};
 ghost use Rattle.std.specs.Prelude.{map, option_copied};
@@ -31,25 +31,26 @@ use std::alloc::Global;
 use std::marker::Model;
 use table_image::Image;
 
-/// The most entries of a world's transcript. This project's own.
+/// The greatest number of entries in a world's transcript.
 pub const MAX_ENTRIES: u32 = 4_000_000;
 
-/// The most frames that are taken in a tick. This project's own.
+/// The greatest number of frames that are taken in a tick.
 pub const MAX_TAKES: u32 = 10_000;
 
-/// An internet that a file plans, as it lives. This project's own.
+/// The internet of an internet file, with its current state.
 #[derive(Drop)]
 pub struct World<T: RouteTable> {
     pub(crate) plan: Plan,
     pub(crate) stations: Vec<Member<LiveRouter<T>, LiveNode>>,
     pub(crate) wires: LiveCables,
-    // the indices of the actions that are still to come, the next one last
+    // The indices of the actions that are still to come, the next one last.
     pub(crate) schedule: Vec<u32>,
-    // the actions that were refused, by their numbers from 1, and the numbers of the errors
+    // The actions that had an error: the number of each action, from 1, and the number of its
+    // error.
     pub(crate) refused: Vec<(u32, u8)>,
-    // how many ticks have passed
+    // The number of ticks so far.
     pub(crate) passed: u32,
-    // the error of a tick that was refused
+    // The error of the tick that failed, if one did.
     pub(crate) stopped: Option<Error>,
     pub(crate) alloc: Global,
 }
@@ -81,14 +82,14 @@ impl<T: RouteTable> Model for World<T> {
     }) };
 }
 
-/// Recalls that a plan is sound. Does nothing.
+/// A fact for the prover: every plan is sound. Does nothing.
 fn recall_sound(plan: &Plan)
     ensures { IsSound plan.now }
 {
     let _cables = plan.cables();
 }
 
-/// The cables of a plan with its seats, where nothing has happened yet. Error: `Memory`.
+/// The cables of a plan with its seats, with an empty transcript. Error: `Memory`.
 fn wires_by(
     alloc: Global,
     plan: &Plan,
@@ -104,7 +105,7 @@ fn wires_by(
     LiveCables::new(alloc, seats, ranges, MAX_ENTRIES)
 }
 
-/// The cables of a plan, where nothing has happened yet. Error: `Memory`.
+/// The cables of a plan, with an empty transcript. Error: `Memory`.
 fn wires_of(alloc: Global, plan: &Plan) -> Result<LiveCables, Error>
     ensures ok { IfOk result (λ wires. wires ≡ wires_begun plan.now) }
     ensures refused { IsOkUnless result Error.Memory }
@@ -115,8 +116,7 @@ fn wires_of(alloc: Global, plan: &Plan) -> Result<LiveCables, Error>
 }
 
 impl<T: RouteTable> World<T> {
-    /// A world in which nothing has happened yet, of a plan's stations as they begin. Error:
-    /// `Memory`.
+    /// A world before its first tick, with the stations of a plan. Error: `Memory`.
     pub fn new(alloc: Global, plan: Plan) -> Result<World<T>, Error>
         ensures ok { IfOk result (λ w. (w.plan ≡ plan) × (w.now ≡ 0) × (w.stopped ≡ None)
             × (w.refused ≡ []) × (happened w.wires ≡ [])) }
@@ -142,15 +142,15 @@ impl<T: RouteTable> World<T> {
         })
     }
 
-    /// The plan that it is played by.
+    /// The plan.
     pub fn plan(&self) -> &Plan
         ensures { result.now ≡ self.now.plan }
     {
         &self.plan
     }
 
-    /// What happened, in order. Stations are counted from 0: the routers, then the nodes. Allocates
-    /// nothing.
+    /// The transcript, in order. Stations are numbered from 0: the routers, then the nodes.
+    /// Allocates nothing.
     pub fn transcript(&self) -> &[Entry]
         ensures value { result.now ≡ self.now.wires.cabling.lines }
         ensures lived { IsWorld self.now }
@@ -158,21 +158,21 @@ impl<T: RouteTable> World<T> {
         self.wires.transcript()
     }
 
-    /// The bytes of a number that entries name, and none for any other number. Allocates nothing.
+    /// The bytes with a number that entries name; empty for any other number. Allocates nothing.
     pub fn bytes(&self, number: u32) -> &[u8]
         ensures { result.now ≡ bytes_at self.now.wires.cabling.kept number }
     {
         self.wires.bytes(number)
     }
 
-    /// The index of the station of a node's number, from 1.
+    /// The index of the station of the node with this number, from 1.
     fn station_of(&self, number: u16) -> usize
         ensures { result ≡ seen_spec.station_of self.now number }
     {
         self.plan.routers().len() + (number as usize).saturating_sub(1)
     }
 
-    /// The node of a number, from 1. Allocates nothing.
+    /// The node with this number, from 1. Allocates nothing.
     pub fn node(&self, number: u16) -> Option<&EndNode>
         ensures value { option_copied result ≡ node_at self.now number }
         ensures lived { IsWorld self.now }
@@ -184,9 +184,9 @@ impl<T: RouteTable> World<T> {
         node_by(stations, self.station_of(number))
     }
 
-    /// Takes the datagrams that a node has received since they were last taken, at most 64, oldest
-    /// first; none where there is no node of this number, from 1. Error: `Memory`, which taking
-    /// them never needs.
+    /// Removes and returns the datagrams that the node with this number, from 1, has received since
+    /// the last call: at most 64, the oldest first; none if there is no such node. The contract
+    /// permits the error `Memory`, but the call allocates nothing and never returns it.
     pub fn received(&mut self, number: u16) -> Result<Vec<Datagram>, Error>
         ensures taken { IfOk result
             (λ datagrams. datagrams.items ≡ received_by (node_at self.old number)) }
@@ -202,7 +202,7 @@ impl<T: RouteTable> World<T> {
         take_at(self.alloc, &mut self.stations, station)
     }
 
-    /// The actions that were refused, in their order: the number of each, from 1, and that of its
+    /// The actions that had an error, in order: the number of each, from 1, and the number of its
     /// error. Allocates nothing.
     pub fn refused(&self) -> &[(u32, u8)]
         ensures { result.now ≡ self.now.refused }
@@ -210,8 +210,7 @@ impl<T: RouteTable> World<T> {
         self.refused.as_slice()
     }
 
-    /// The image of the tables as they stand. An address that isn't settled is 0.0. Error:
-    /// `Memory`.
+    /// The image of the current tables. An address that isn't settled is 0.0. Error: `Memory`.
     pub fn freeze(&self) -> Result<Image, Error>
         ensures ok { IfOk result (λ image. image ≡ frozen_spec.frozen self.now) }
         ensures refused { IsOkUnless result Error.Memory }

@@ -9,7 +9,7 @@ first_of f g old mid new net m rest one others =
     let xs = flat_map f (take m rest) in
     rw (others, one, map-append g (f net) xs) (append_assoc old (map g (f net)) (map g xs))
 
--- what is made for the first of the networks, and then for the others, is made for all of them
+-- the replies for the first network and then for the others are the replies for all
 pub first_made : {A B : Type 0} (f : ℕ → List A) (g : A → B) (old mid new : List B) (net most : ℕ) (nets rest : List ℕ)
     → (most ≡ 0 → ⊥) → nets ≡ net ∷ rest → mid ≡ old ++ map g (f net) → new ≡ mid ++ map g (flat_map f (take (most - 1) rest))
     → new ≡ old ++ map g (flat_map f (take most nets))

@@ -1,4 +1,4 @@
--- Lists that are put after all others: what that keeps.
+-- Lists that are added after all others, and what that keeps.
 use Rattle.std.proofs.Common.{List, [], arith, length, nat_le, nat_lt, refl, suc, true, zero, ℕ, ◌&&◌, ◌++◌, ◌-◌, ◌<◌, ◌∷◌, ◌≡◌, ◌≤◌}
 use Rattle.std.specs.Prelude.{Some, slice_get}
 use Rattle.std.specs.List.{list_all}
@@ -19,7 +19,7 @@ end_at low (x ∷ []) (suc n) k e g = absurd (omega (arith, e))
 end_at low (x ∷ y ∷ table) zero k e g = absurd (omega (arith, e))
 end_at low (x ∷ y ∷ table) (suc n) k e g = end_at x.range.end (y ∷ table) n k (omega (arith, e)) g
 
--- the end of the last list, where there is one
+-- the end of the last list, if there is one
 pub end_found : (low : ℕ) (table : List Known) (k : Known) → slice_get table (length table - 1) ≡ Some k → k.range.end ≡ end_of low table
 end_found low [] k e = cc
 end_found low (x ∷ table) k e =
@@ -40,7 +40,7 @@ all_last (x ∷ table) k each new =
     let e = and_parts (is_known x) (list_all is_known table) each in
     rw (e.0, all_last table k e.1 new) refl
 
--- a list put after the others leaves a map
+-- adding a list after the others keeps the map
 pub append_map : (table : List Known) (k : Known) → IsZoneMap table → is_known k ≡ true → nat_lt (end_of 0 table) k.range.start ≡ true
     → length table < 200 → IsZoneMap (table ++ k ∷ [])
 append_map table k h new past few = record {
@@ -49,14 +49,14 @@ append_map table k h new past few = record {
   few = omega (arith, length-append table (k ∷ []), few);
 }
 
--- the list of names is one that a table may have
+-- the list with these names is a valid list of a table
 pub least_known : (range : Span) (least : ℕ) (names : List (List ℕ)) → is_range range.start range.end ≡ true → least ≤ 64
     → length names ≤ 64 → is_known (list_of_least range least names) ≡ true
 least_known range least names valid few within =
     known_of_parts (list_of_least range least names) valid (max-le few (omega (arith, not_more names, within))) (le-max_right least (length
     (each_once names))) (distinct_fold [] names refl)
 
--- what room for a list is
+-- the facts of room for a list
 pub room_parts : (least : ℕ) (names : List (List ℕ)) (table : List Known) → has_room least names table ≡ true
     → (least ≤ 64) × (length names ≤ 64) × (length table < 200)
 room_parts least names table h =
@@ -67,7 +67,7 @@ room_parts least names table h =
     le_of : (a b : ℕ) → nat_le a b ≡ true → a ≤ b
     le_of a b t = grind (arith, nat_tests)
 
--- ---- What a map of several lists says of those at its front
+-- ---- the lists at the front of a map
 
 above_front : (low : ℕ) (a b : List Known) → are_above low (a ++ b) ≡ true → are_above low a ≡ true
 above_front low [] b h = refl
@@ -102,7 +102,7 @@ known_last (x ∷ table) k h =
     let e = and_parts (is_known x) (list_all is_known (table ++ k ∷ [])) h in
     known_last table k e.1
 
--- the last list of a map starts above the others, may be in a table, and there are less than 200 others
+-- the last list of a map starts above the others and is valid, and fewer than 200 others are before it
 pub last_parts : (table : List Known) (k : Known) → IsZoneMap (table ++ k ∷ [])
     → (nat_lt (end_of 0 table) k.range.start ≡ true) × (is_known k ≡ true) × (length table < 200)
 last_parts table k h =

@@ -1,4 +1,4 @@
--- The rows whose zones are asked for, one by one.
+-- The rows whose zones the router asks for, one by one.
 use Rattle.std.proofs.Common.{◌≡◌, ℕ, true, false, not, ◌&&◌, List, [], ◌∷◌, ◌++◌, map, filter, refl, ap, ◌∙◌, append_assoc, if◌then◌else◌}
 use Rattle.rtmp.specs.declared.row.Row.{Row}
 use Rattle.rtmp.specs.States.{is_usable}
@@ -14,7 +14,7 @@ one_due row rows zones =
       | false ↦ refl
     ]
 
--- one row more
+-- one more row
 pub due_next : (starts : List ℕ) (row : Row) (rows : List Row) (zones : List Known)
     → (starts ++ due (row ∷ []) zones) ++ due rows zones ≡ starts ++ due (row ∷ rows) zones
 due_next starts row rows zones =

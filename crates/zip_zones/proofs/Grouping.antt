@@ -1,4 +1,4 @@
--- The names of a list in groups, as replies have them.
+-- The names of a list in groups, one group for each reply.
 use Rattle.std.proofs.Common.{◌≡◌, ℕ, suc, ◌+◌, ◌-◌, ◌≤◌, true, false, List, [], ◌∷◌, ◌++◌, length, map, take}
 use Rattle.std.proofs.Common.{drop, slice_index_or, Some, refl, ap, sym, ◌∙◌, append_assoc, if◌then◌else◌, arith}
 use Rattle.std.specs.Prelude.{nat_le}
@@ -11,7 +11,7 @@ use Rattle.zip_zones.specs.Answers.{first_group, going_on, grouped, onto_first}
 use Rattle.zip_zones.specs.Written.{entries_size}
 use Rattle.zip_zones.specs.Zones.{Known, is_known, known_of, names_at}
 
--- the first group are the names from the front
+-- the first group is a front of the names
 pub first_taken : (room : ℕ) (names : List (List ℕ)) → take (length (first_group room names)) names ≡ first_group room names
 first_taken room [] = refl
 first_taken room (name ∷ names) =
@@ -22,7 +22,7 @@ first_taken room (name ∷ names) =
       | false ↦ refl
     ]
 
--- and have room
+-- the entries of the first group fit into the room
 pub first_fits : (room : ℕ) (names : List (List ℕ)) → entries_size (first_group room names) ≤ room
 first_fits room [] = omega arith
 first_fits room (name ∷ names) =
@@ -32,7 +32,7 @@ first_fits room (name ∷ names) =
       | false ↦ λ t. omega arith
     ]) refl
 
--- a group that goes on has the names that have room in it, and the others are in groups of their own
+-- a group that is begun takes the names that fit into its room, and the others are in later groups
 on_and_on : (room : ℕ) (name : List ℕ) (names : List (List ℕ))
     → onto_first name (going_on room names) ≡ (name ∷ first_group room names) ∷ grouped (drop (length (first_group room names)) names)
 on_and_on room name [] = refl
@@ -46,7 +46,7 @@ on_and_on room name (m ∷ names) =
       | false ↦ refl
     ]
 
--- ---- Lists
+-- ---- lists
 
 known_few : (k : Known) → is_known k ≡ true → length k.names ≤ 64
 known_few k h = grind (arith, nat_tests)
@@ -68,9 +68,9 @@ found_few net table k h found =
     let is : names_at net table ≡ k.names = rw found refl in
     rw (← is) (names_few net table h)
 
--- ---- Replies, one by one
+-- ---- replies, one by one
 
--- the reply of the first group, and those of the groups after it
+-- the replies are the reply of the first group and those of the groups after it
 pub groups_more : {Y X : Type 0} (make : List (List ℕ) → Y) (bytes : Y → X) (old : List X) (name : List ℕ) (names : List (List ℕ))
     → (old ++ bytes (make (name ∷ take (length (first_group (584 - (3 + length name)) names)) names)) ∷ [])
     ++ map bytes (map make (grouped (drop (length (first_group (584 - (3 + length name)) names)) names)))
@@ -82,7 +82,8 @@ groups_more {Y} {X} make bytes old name names =
     ∙ ap (λ (l : List X). old ++ l) (ap (λ (group : List (List ℕ)). bytes (make (name ∷ group)) ∷ later) (first_taken room names)
     ∙ sym (ap (λ (groups : List (List (List ℕ))). map bytes (map make groups)) (on_and_on room name names)))
 
--- The first group of names, as it is found: the first name, so many names after it that have room with it, and the others.
+-- The first group of names, as the code finds it: the first name, the count names after it that fit with it, and the
+-- other names.
 pub record Split (names : List (List ℕ)) (count : ℕ) : Type 0 where
   pub name : List ℕ
   pub others : List (List ℕ)

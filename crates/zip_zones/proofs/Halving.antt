@@ -1,4 +1,4 @@
--- Where the halving of a zone table ends, and that a range with a list overlaps no other.
+-- Binary search in a zone table, and that a range with a list overlaps no other.
 use Rattle.std.proofs.Common.{◌≡◌, ℕ, zero, suc, ◌<◌, ◌≤◌, true, false, not, cond, ◌&&◌, ◌||◌, ◌==◌, List, [], ◌∷◌, length, get_or}
 use Rattle.std.proofs.Common.{refl, arith, nat_lt, nat_le}
 use Rattle.std.specs.Prelude.{Some}
@@ -10,9 +10,9 @@ use Rattle.at_base.proofs.Halving.{rise, rise_lower}
 use Rattle.zip_zones.specs.Zones.{Known, are_above, is_known, known_for, overlaps_another}
 use Rattle.zip_zones.proofs.Tables.{known_ends, starts_alike}
 
--- ---- Halving
+-- ---- binary search
 
--- lists above a network rise by their starts
+-- the starts of lists above a network rise
 pub lists_rise : (low : ℕ) (table : List Known) → list_all is_known table ≡ true → are_above low table ≡ true
     → rise (λ (k : Known). k.range.start) low table ≡ true
 lists_rise low [] each h = refl
@@ -23,16 +23,16 @@ lists_rise low (k ∷ table) each h =
     (lists_rise k.range.end table e.1 q.1) in
     rw (q.0, rest) refl
 
--- ---- A range that has a list
+-- ---- a range with a list
 
--- two ranges of which one ends before the other starts
+-- two ranges don't overlap if one ends before the other starts
 apart_over : (a b : Span) → b.end < a.start → overlaps a b ≡ false
 apart_over a b lt = rw (lt-leb a.start b.end lt) refl
 
 apart_under : (a b : Span) → a.end < b.start → overlaps a b ≡ false
 apart_under a b lt = rw (lt-leb b.start a.end lt) (and-false (nat_le a.start b.end))
 
--- lists above a range overlap none of it
+-- lists above a range don't overlap it
 above_apart : (range : Span) (low : ℕ) (table : List Known) → range.end ≤ low → list_all is_known table ≡ true
     → are_above low table ≡ true → overlaps_another range table ≡ false
 above_apart range low [] le each h = refl
@@ -43,7 +43,7 @@ above_apart range low (k ∷ table) le each h =
     let ends = (known_ends k e.0).1 in
     rw (apart_over k.range range (omega (arith, lt, le))) (above_apart range k.range.end table (omega (arith, lt, le, ends)) e.1 q.1)
 
--- a range that has a list above a network starts above it
+-- a range that has a list in a table above a network starts above the network
 found_above : (range : Span) (low : ℕ) (table : List Known) (x : Known) → list_all is_known table ≡ true → are_above low table ≡ true
     → known_for range table ≡ Some x → low < range.start
 found_above range low [] x each h found = cc
@@ -58,7 +58,7 @@ found_above range low (k ∷ table) x each h found =
       | false ↦ λ t f. let more = found_above range k.range.end table x e.1 q.1 f in omega (arith, lt, ends, more)
     ]) refl found
 
--- a range that has a list overlaps no other
+-- a range that has a list overlaps no other list's range
 pub found_apart : (range : Span) (low : ℕ) (table : List Known) (x : Known) → list_all is_known table ≡ true
     → are_above low table ≡ true → known_for range table ≡ Some x → overlaps_another range table ≡ false
 found_apart range low [] x each h found = refl

@@ -17,7 +17,7 @@ pub none_left : (nets : Nets) (low : ℕ) → entries_in nets low [] ≡ []
 unfolding entries_in
 none_left nets low = refl
 
--- what is left after the first entry
+-- the facts about the entries after the first one
 pub record Step (nets : Nets) (low : ℕ) (bytes : List ℕ) (e : Entry) (after : List ℕ) : Type 0 where
   pub rest : IsEntries nets (next_net nets e) after
   pub is : entries_in nets low bytes ≡ e ∷ entries_in nets (next_net nets e) after

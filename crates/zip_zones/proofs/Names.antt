@@ -1,4 +1,4 @@
--- The names of a list: how many there are, and that no two are the same.
+-- The names of a list: their number, and that no two are equal, ignoring case.
 use Rattle.std.proofs.Common.{◌≡◌, ℕ, ◌+◌, ◌≤◌, Bool, true, false, not, List, [], ◌∷◌, ◌++◌, length, fold, refl, ◌∙◌, if◌then◌else◌, arith}
 use Rattle.std.specs.List.{list_any}
 use Rattle.std.proofs.lemmas.Bool.{and_parts, or_parts}
@@ -7,7 +7,7 @@ use Rattle.at_base.specs.Text.{same_name}
 use Rattle.at_base.proofs.Texts.{same_name_symm}
 use Rattle.zip_zones.specs.Zones.{with_name, each_once, are_distinct}
 
--- a name more makes the list at most one longer
+-- one more name makes the list at most one longer
 pub one_longer : (names : List (List ℕ)) (name : List ℕ) → length (with_name names name) ≤ length names + 1
 one_longer names name =
     elim (list_any (same_name name) names) as (λ b. length (if b then names else names ++ name ∷ []) ≤ length names + 1) [
@@ -19,11 +19,11 @@ pub folded_longer : (names more : List (List ℕ)) → length (fold with_name na
 folded_longer names [] = omega arith
 folded_longer names (m ∷ more) = omega (arith, one_longer names m, folded_longer (with_name names m) more)
 
--- each once are not more than there were
+-- names taken once each are no more than the names
 pub not_more : (names : List (List ℕ)) → length (each_once names) ≤ length names
 not_more names = omega (arith, folded_longer [] names)
 
--- a name that no earlier one is like may go last
+-- a name that no earlier one equals, ignoring case, may go last
 none_last : (names : List (List ℕ)) (other name : List ℕ) → list_any (same_name other) names ≡ false → same_name other name ≡ false
     → list_any (same_name other) (names ++ name ∷ []) ≡ false
 none_last [] other name h n = rw n refl

@@ -1,4 +1,4 @@
--- Networks in place: the first of so many, and the others after it.
+-- Networks in place: the first one, and those after it.
 use Rattle.std.proofs.Common.{◌≡◌, ℕ, suc, List, [], ◌∷◌, Ok, Err, refl, sym, ◌∙◌}
 use Rattle.at_base.specs.declared.error.Error.{Error}
 use Rattle.at_base.specs.Packets.{packets}
@@ -19,7 +19,7 @@ pub none_left : (bytes : List ℕ) → networks_in 0 bytes ≡ []
 unfolding networks_read
 none_left bytes = refl
 
--- what is left after the first network
+-- the facts about the networks after the first one
 pub record Step (n : ℕ) (bytes : List ℕ) (t : ℕ) (after : List ℕ) : Type 0 where
   pub is : networks_in (suc n) bytes ≡ t ∷ networks_in n after
   pub rest : BeginWith n after

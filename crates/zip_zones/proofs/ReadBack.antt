@@ -1,4 +1,4 @@
--- What is written is read back.
+-- Reading back what was written.
 use Rattle.std.proofs.Common.{◌≡◌, ℕ, ◌+◌, ◌/◌, ◌<◌, ◌≤◌, ◌==◌, Bool, true, false, not, ◌&&◌, List, [], ◌∷◌, ◌++◌, suc, length, None}
 use Rattle.std.proofs.Common.{refl, eq-eqb, if◌then◌else◌, arith}
 use Rattle.std.specs.Prelude.{is_some, nat_lt}
@@ -22,13 +22,13 @@ use Rattle.zip_zones.specs.Packets.{entry, next_net, wrong_name, wrong_net}
 use Rattle.zip_zones.specs.Written.{BeginsWith, default_for, entries_of, extended_reply, first_of, flags_for, listed, net_info, question}
 use Rattle.zip_zones.proofs.Shape.{packet_lawful}
 
--- a packet of the format is the one with which its bytes begin, whatever may follow them
+-- a valid packet is the one with which its bytes begin, whatever may follow them
 begins_with : (p : Packet) (rest : List ℕ) → IsValue packet p → Follows packet p rest → BeginsWith (bytes_of packet p ++ rest) p
 begins_with p rest h f =
     let b : Begins packet (bytes_of packet p ++ rest) p = (rest, refl, h, f) in
     (b, λ q c. begins_one packets packet packet_lawful (bytes_of packet p ++ rest) p q b c)
 
--- ---- Texts and names
+-- ---- texts and names
 
 right_length : (least n : ℕ) → least ≤ n → n ≤ 32 → within least 32 NameLength n ≡ None
 right_length least n some few =
@@ -49,7 +49,7 @@ name_value name h =
     let b = name_bounds name h in
     ((omega (arith, b), right_length 1 (length name) b.0 b.1), ((refl, rw h refl), refl))
 
--- ---- Queries
+-- ---- queries
 
 networks_value : (nets : List ℕ) → All (λ net. net < 65536) nets → ListPasses (λ low. IsValue network) (λ net. 0) 0 nets
 unfolding network
@@ -66,7 +66,7 @@ pub query_read : (nets rest : List ℕ) → length nets ≤ 255 → All (λ net.
 unfolding packet body
 query_read nets rest few each = begins_with (p.Query nets) rest (query_value nets few each) tt
 
--- ---- What a node asks of its cable
+-- ---- GetNetInfo requests
 
 question_value : (asked : List ℕ) → length asked ≤ 32 → IsValue packet (question asked)
 unfolding packet body
@@ -76,7 +76,7 @@ pub question_read : (asked rest : List ℕ) → length asked ≤ 32 → BeginsWi
 unfolding packet body
 question_read asked rest few = begins_with (question asked) rest (question_value asked few) tt
 
--- ---- What a node is told of its cable
+-- ---- NetInfo replies
 
 flags_fit : (found : Bool) (count : ℕ) → flags_for found count < 256
 flags_fit found count = by_flags found (count == 1)
@@ -128,7 +128,7 @@ answer_read asked range names rest few valid some each =
     begins_with (p.NetInfoReply (net_info asked range names)) rest (info_value asked range names few valid some each)
     (info_follows asked range names rest)
 
--- ---- Names of a network
+-- ---- extended replies
 
 and_false : (b : Bool) → (b && false) ≡ false
 and_false true = refl

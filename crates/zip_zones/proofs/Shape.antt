@@ -1,4 +1,4 @@
--- Each part of a ZIP packet stands where its projection finds it.
+-- The formats of ZIP packets: each projection gives its part.
 use Rattle.std.proofs.Common.{◌≡◌, ℕ, zero, suc, ◌≤◌, ◌==◌, Bool, true, false, length, None, refl, subst, arith}
 use Rattle.std.proofs.lemmas.List.{length-append}
 use Rattle.at_base.specs.Spelling.{IsValue, bytes_of}
@@ -26,7 +26,7 @@ pub entry_long : (low : ℕ) (e : Entry) → IsValue (entry low) e → 1 ≤ len
 unfolding entry
 entry_long low e h = omega arith
 
--- ---- Packets
+-- ---- packets
 
 default_lawful : (b : Bool) → IsLawful (default_zone b)
 unfolding default_zone
@@ -59,7 +59,7 @@ body_lawful f.NetInfoReply = λ flags p. (
 )
 body_lawful f.ExtendedReply = λ total p. (λ es. refl, (entry_lawful, entry_long, λ es. refl))
 
--- a packet is of the function by which its format goes
+-- a packet of a function's format has that function
 head_has : (fn : Function) → Has (λ p. number_of (function_in p)) (number_of fn) (body fn)
 unfolding body
 head_has f.Query = λ count p nets len. refl

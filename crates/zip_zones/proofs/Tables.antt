@@ -1,4 +1,4 @@
--- Zone tables as lists by rising range: where a range stands, and what each change keeps.
+-- Zone tables as lists by rising range: the place of a range, and what each change keeps.
 use Rattle.std.proofs.Common.{◌≡◌, ℕ, suc, ◌+◌, ◌<◌, ◌≤◌, Bool, true, false, not, ◌&&◌, ◌==◌, List, [], ◌∷◌, length, filter, set}
 use Rattle.std.proofs.Common.{insert, refl, sym, ap, ◌∙◌, arith, nat_lt, nat_le}
 use Rattle.std.specs.Prelude.{Option, Some, None, is_some, slice_get, slice_set, if◌then◌else◌}
@@ -12,7 +12,7 @@ use Rattle.zip_zones.specs.Zones.{overlaps_another, set_list, with_known, with_n
 use Rattle.zip_zones.proofs.Names.{distinct_fold, distinct_with, not_more, one_longer}
 use Rattle.zip_zones.specs.Places.{before, IsAt, IsBefore}
 
--- ---- A list with its range
+-- ---- a list with its range
 
 pub known_ends : (k : Known) → is_known k ≡ true → (1 ≤ k.range.start) × (k.range.start ≤ k.range.end)
 known_ends k h =
@@ -23,7 +23,7 @@ known_ends k h =
     let e = ends_of k.range.start k.range.end c.0 in
     (e.0, e.1)
 
--- ranges that are one start alike
+-- equal ranges have equal starts
 pub starts_alike : (a b : Span) → same_range a b ≡ true → a.start ≡ b.start
 starts_alike a b h = eqb-true _ _ (and_parts (a.start == b.start) (a.end == b.end) h).0
 
@@ -41,9 +41,9 @@ not_same_after a b lt =
       | false ↦ λ t. refl
     ]) refl
 
--- ---- Where a range stands
+-- ---- the place of a range
 
--- above it there is none
+-- lists above a range don't include one of the range
 pub none_above : (range : Span) (high : ℕ) (table : List Known) → range.start ≤ high → list_all is_known table ≡ true
     → are_above high table ≡ true
     → known_for range table ≡ None
@@ -55,7 +55,7 @@ none_above range high (k ∷ table) le each h =
     let ends = known_ends k e.0 in
     rw (not_same_after k.range range (omega arith)) (none_above range k.range.end table (omega arith) e.1 q.1)
 
--- the list that stands where the range would is the range's list, where it is one of that range
+-- the list at the range's place, if it has that range, is the list of the range
 pub found_there : (range : Span) (table : List Known) (x : Known) → slice_get table (before range.start table) ≡ Some x
     → same_range x.range range ≡ true → known_for range table ≡ Some x
 found_there range [] x e same = cc
@@ -68,7 +68,7 @@ found_there range (k ∷ table) x e same =
           rw (first, same) refl
     ]) refl e
 
--- it isn't there: the range has no list
+-- if the list at the range's place has another range, the range has no list
 pub none_there : (range : Span) (low : ℕ) (table : List Known) → list_all is_known table ≡ true → are_above low table ≡ true
     → ((x : Known) → slice_get table (before range.start table) ≡ Some x → same_range x.range range ≡ false) → known_for range table ≡ None
 none_there range low [] each h other = refl
@@ -85,7 +85,7 @@ none_there range low (k ∷ table) each h other =
           rw (other k refl) (none_above range k.range.end table (omega arith) e.1 q.1)
     ]) refl other
 
--- a list of the range takes the place of the one that is there
+-- a list of the range replaces the one at its place
 pub put_over : (k : Known) (table : List Known) (x : Known) → slice_get table (before k.range.start table) ≡ Some x
     → same_range x.range k.range ≡ true → with_known k table ≡ set table (before k.range.start table) k
 put_over k [] x e same = cc
@@ -99,7 +99,7 @@ put_over k (y ∷ table) x e same =
           rw (t, first, same) refl
     ]) refl e
 
--- and otherwise it goes before it
+-- without a list of the range, the list is inserted at its place
 pub put_before : (k : Known) (table : List Known)
     → ((x : Known) → slice_get table (before k.range.start table) ≡ Some x → same_range x.range k.range ≡ false)
     → with_known k table ≡ insert table (before k.range.start table) k
@@ -113,7 +113,7 @@ put_before k (y ∷ table) other =
       | false ↦ λ t other. rw (t, other y refl) refl
     ]) refl other
 
--- ---- The two together
+-- ---- both cases together
 
 pub is_at : (range : Span) (table : List Known) (x : Known) → slice_get table (before range.start table) ≡ Some x
     → same_range x.range range ≡ true → before range.start table < length table → IsAt range table (before range.start table)
@@ -139,7 +139,7 @@ is_before range table h other le = record {
       put_before k table alike ∙ ap (λ (s : Span). insert table (before s.start table) k) r;
 }
 
--- ---- What each change keeps
+-- ---- what each change keeps
 
 above_lower : (low high : ℕ) (table : List Known) → low ≤ high → are_above high table ≡ true → are_above low table ≡ true
 above_lower low high [] le h = refl
@@ -179,7 +179,7 @@ few_filter p (k ∷ table) =
       | false ↦ λ t. rw t (omega (arith, few_filter p table))
     ]) refl
 
--- without a list it is a map
+-- a map without a list is a map
 pub without_map : (range : Span) (table : List Known) → IsZoneMap table → IsZoneMap (without range table)
 without_map range table h = record {
   apart = above_filter (λ k. not (same_range k.range range)) 0 table h.each h.apart;
@@ -187,7 +187,7 @@ without_map range table h = record {
   few = omega (arith, few_filter (λ k. not (same_range k.range range)) table, h.few);
 }
 
--- two ranges that don't overlap: the one that starts first ends first
+-- of two ranges that don't overlap, the one that starts first ends first
 apart : (k known : Known) → overlaps k.range known.range ≡ false → is_known k ≡ true → is_known known ≡ true
     → (k.range.start < known.range.start → k.range.end < known.range.start) × (known.range.start ≤ k.range.start
     → known.range.end < k.range.start)
@@ -196,7 +196,7 @@ apart k known none good new =
     let b = known_ends known new in
     (λ lt. grind (arith, nat_tests), λ le. grind (arith, nat_tests))
 
--- of a range that isn't the same nothing overlaps
+-- ranges that aren't equal don't overlap, if the test of overlap with another range fails
 no_overlap : (a b : Span) → overlaps a b && not (same_range a b) ≡ false → same_range a b ≡ false → overlaps a b ≡ false
 no_overlap a b h n = by_test (overlaps a b) (same_range a b) h n
   where
@@ -251,7 +251,7 @@ all_with known (k ∷ table) new each =
           ]
     ])
 
--- one list more, unless the range has one
+-- the table has at most one list more
 pub length_with : (known : Known) (table : List Known) → length (with_known known table) ≤ length table + 1
 length_with known [] = omega arith
 length_with known (k ∷ table) =
@@ -266,7 +266,7 @@ length_with known (k ∷ table) =
           ]
     ]
 
--- a range that has a list has one still
+-- replacing the list of a range keeps the number of lists
 length_over : (known : Known) (low : ℕ) (table : List Known) → list_all is_known table ≡ true → are_above low table ≡ true
     → is_some (known_for known.range table) ≡ true → length (with_known known table) ≤ length table
 length_over known low [] each h some = cc
@@ -299,7 +299,7 @@ length_over known low (k ∷ table) each h some =
     clash : {b : Bool} → b ≡ false → b ≡ true → ⊥
     clash n y = cc
 
--- a list put in its place leaves a map
+-- putting a list at its place keeps the map
 pub with_map : (known : Known) (table : List Known) → is_known known ≡ true → overlaps_another known.range table ≡ false
     → is_full_for known.range table ≡ false → IsZoneMap table → IsZoneMap (with_known known table)
 with_map known table new none room h = record {
@@ -318,7 +318,7 @@ with_map known table new none room h = record {
         let l = length_with known table in
         grind (arith, nat_tests)
 
--- ---- The lists that are put
+-- ---- the lists that are put
 
 pub known_of_parts : (k : Known) → is_range k.range.start k.range.end ≡ true → k.total ≤ 64 → length k.names ≤ k.total
     → are_distinct k.names ≡ true → is_known k ≡ true
@@ -386,7 +386,7 @@ one_range a b h =
     let made : ℕ → ℕ → Span = λ x y. record { start = x; end = y } in
     ap (λ (x : ℕ). made x a.end) s ∙ ap (made b.start) t
 
--- the list before a name comes is one of the range
+-- the list before a name is added is a valid list of the range
 pub list_known : (range : Span) (total : ℕ) (table : List Known) → is_range range.start range.end ≡ true → total ≤ 64
     → list_all is_known table ≡ true
     → (is_known (list_of range total (known_for range table)) ≡ true) × ((list_of range total (known_for range table)).range ≡ range)
@@ -409,7 +409,7 @@ same_after : (name : List ℕ) (k : Known) → (with_zone name k).range ≡ k.ra
 same_after name k = elim (is_complete k) as (λ b. (if b then k else record k { names = with_name k.names name }).range
     ≡ k.range) [ true ↦ refl | false ↦ refl ]
 
--- a name that came leaves a map
+-- adding a name keeps the map
 pub heard_map : (range : Span) (total : ℕ) (name : List ℕ) (table : List Known) → is_range range.start range.end ≡ true → total ≤ 64
     → overlaps_another range table ≡ false → is_full_for range table ≡ false → IsZoneMap table → IsZoneMap (heard range total name table)
 heard_map range total name table valid few none room h =
@@ -419,7 +419,7 @@ heard_map range total name table valid few none room h =
     with_map known table (zone_known name (list_of range total (known_for range table)) l.0) (ap (λ s. overlaps_another s table) same
     ∙ none) (ap (λ s. is_full_for s table) same ∙ room) h
 
--- a list that goes on takes its own place
+-- a list to which a name is added stays at its place
 pub heard_over : (range : Span) (total : ℕ) (name : List ℕ) (table : List Known) (place : ℕ) (at : IsAt range table place)
     → list_all is_known table ≡ true → list_of range total (Some at.known) ≡ at.known
     → slice_set table place (with_zone name at.known) ≡ heard range total name table

@@ -1,4 +1,4 @@
--- What is written are the bytes of the packet's format.
+-- The bytes that are written are those of the packet's format.
 use Rattle.std.proofs.Common.{◌≡◌, ℕ, ◌+◌, ◌/◌, ◌==◌, ◌≤◌, Bool, true, false, List, [], ◌∷◌, ◌++◌, length, refl, ap}
 use Rattle.std.proofs.Common.{append_assoc, if◌then◌else◌, arith}
 use Rattle.std.specs.Prelude.{is_some}
@@ -15,7 +15,7 @@ use Rattle.zip_zones.specs.Networks.{network}
 use Rattle.zip_zones.specs.Packets.{entry, next_net}
 use Rattle.zip_zones.specs.Written.{default_for, entries_bytes, entries_of, entries_size, flags_for, networks_bytes, question}
 
--- ---- Queries
+-- ---- queries
 
 networks_listed : (nets : List ℕ) → list_bytes (λ low. bytes_of network) (λ n. 0) 0 nets ≡ networks_bytes nets
 networks_listed [] = refl
@@ -27,7 +27,7 @@ query_written nets few =
     let len : byte_at 0 (length nets) ≡ length nets = omega arith in
     rw (len, networks_listed nets, append-nil (networks_bytes nets)) refl
 
--- ---- Names of a network
+-- ---- extended replies
 
 one_entry : (low : ℕ) (e : Entry) → bytes_of (entry low) e ≡ bytes_of (entry 0) e
 unfolding entry
@@ -44,7 +44,7 @@ extended_written total es small =
     let number : byte_at 0 total ≡ total = omega arith in
     rw (number, entries_listed 0 es) refl
 
--- an entry has three bytes beside its name
+-- an entry has three bytes and its name
 entry_sized : (net : ℕ) (name : List ℕ) → length (bytes_of (entry 0) (record { net = net; name = name })) ≡ 3 + length name
 unfolding entry text
 entry_sized net name =
@@ -61,16 +61,16 @@ entries_sized net (name ∷ names) =
       entries_sized net names,
     )
 
--- ---- What a node asks of its cable
+-- ---- GetNetInfo requests
 
 pub question_written : (asked : List ℕ)
     → (5 ∷ 0 ∷ 0 ∷ 0 ∷ 0 ∷ 0 ∷ []) ++ bytes_of (text 0 any) asked ≡ bytes_of packet (question asked)
 unfolding packet body
 question_written asked = rw (append-nil (bytes_of (text 0 any) asked)) refl
 
--- ---- What a node is told of its cable
+-- ---- NetInfo replies
 
--- the first flag says whether the default zone is named
+-- the first flag says whether the reply has a default zone
 pub flag_tells : (found : Bool) (count : ℕ) (first : List ℕ) → (flags_for found count / 128 == 1) ≡ is_some (default_for found first)
 flag_tells found count first = by_flags found (count == 1)
   where

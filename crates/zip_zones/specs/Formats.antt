@@ -15,7 +15,7 @@ use Rattle.zip_zones.specs.declared.packet.Packet.TheVariants as p
 use Rattle.zip_zones.specs.Networks.{network}
 use Rattle.zip_zones.specs.Packets.{entry, next_net, wrong_name}
 
--- ---- Functions
+-- ---- functions
 
 -- the number of a function
 abbrev pub number_of : Function → ℕ
@@ -25,19 +25,19 @@ number_of f.GetNetInfo = 5
 number_of f.NetInfoReply = 6
 number_of f.ExtendedReply = 8
 
--- the function of a number that has one
+-- the function with a number, which has one
 abbrev pub function_of : ℕ → Function
 function_of n =
     if n == 1 then f.Query else if n == 2 then f.Reply else if n == 5 then f.GetNetInfo else if n == 6 then f.NetInfoReply else
     f.ExtendedReply
 
--- there is a function of this number
+-- the test that a function has this number
 abbrev pub wrong_function : ℕ → Option Error
 wrong_function n = if n == 1 || n == 2 || n == 5 || n == 6 || n == 8 then None else Some (BadField FunctionField)
 
--- ---- The parts of a packet, each of which only packets of its function have
+-- ---- the parts of a packet, each of which only packets of one function have
 
--- what a packet is for
+-- the function of a packet
 abbrev pub function_in : Packet → Function
 function_in (p.Query nets) = f.Query
 function_in (p.Reply count entries) = f.Reply
@@ -50,7 +50,7 @@ abbrev pub networks_of : Packet → List ℕ
 networks_of (p.Query nets) = nets
 networks_of _ = []
 
--- the number that stands before the entries of a reply
+-- the number before the entries of a reply
 abbrev pub count_of : Packet → ℕ
 count_of (p.Reply count entries) = count
 count_of (p.ExtendedReply total entries) = total
@@ -62,43 +62,43 @@ entries_of (p.Reply count entries) = entries
 entries_of (p.ExtendedReply total entries) = entries
 entries_of _ = []
 
--- the bytes before the zone asked for
+-- the bytes before the requested zone
 abbrev pub unused_of : Packet → List ℕ
 unused_of (p.GetNetInfo unused asked) = unused
 unused_of _ = []
 
--- the zone asked for
+-- the requested zone
 abbrev pub asked_of : Packet → List ℕ
 asked_of (p.GetNetInfo unused asked) = asked
 asked_of _ = []
 
--- nothing is said of a cable
+-- an empty NetInfo
 abbrev pub no_info : NetInfo
 no_info = record { flags = 0; start = 0; end = 0; asked = []; group = record { 0 = replicate 6 0 }; default = None }
 
--- what is said of a cable
+-- the contents of a NetInfo reply
 abbrev pub info_of : Packet → NetInfo
 info_of (p.NetInfoReply info) = info
 info_of _ = no_info
 
--- ---- The formats
+-- ---- the formats
 
 -- the bytes of a name, if there is one
 abbrev pub name_or_none : Option (List ℕ) → List ℕ
 name_or_none None = []
 name_or_none (Some name) = name
 
--- the default zone, where it is there
+-- the format of the default zone, if the packet has one
 unfoldable pub default_zone : Bool → Grammar Error true (Option (List ℕ))
 default_zone false = done None
 default_zone true = part (text 1 wrong_name) name_or_none (λ name. done (Some name))
 
--- there is a name
+-- the test that a reply has a name
 abbrev pub at_least_one : List Entry → Option Error
 at_least_one [] = Some Truncated
 at_least_one (e ∷ es) = None
 
--- what follows the function
+-- the format of a packet after its function
 unfoldable pub body : Function → Grammar Error false Packet
 body f.Query =
     field (number one any) (λ p. length (networks_of p)) (λ count.
@@ -130,6 +130,6 @@ body f.ExtendedReply =
     field (number one any) count_of (λ total.
     many entry (next_net One) at_least_one entries_of (λ es. p.ExtendedReply total es))
 
--- two bytes there; the function, and what it is for
+-- the format of a packet: two bytes at least; the function, and its body
 unfoldable pub packet : Grammar Error false Packet
 packet = room 2 (field (number one wrong_function) (λ p. number_of (function_in p)) (λ n. body (function_of n)))

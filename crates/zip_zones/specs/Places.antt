@@ -1,14 +1,14 @@
--- Where the list of a range stands in a zone table.
+-- The place of the list of a range in a zone table.
 use Rattle.std.specs.Prelude.{◌≡◌, ℕ, ◌<◌, ◌≤◌, List, length, Some, None, slice_get, slice_set, insert}
 use Rattle.at_base.specs.Range.{Span}
 use Rattle.at_base.specs.Starts.{before_start}
 use Rattle.zip_zones.specs.Zones.{Known, known_for, with_known}
 
--- how many lists there are before the first one that doesn't start below a network
+-- the number of lists before the first one that doesn't start below a network
 abbrev pub before : ℕ → List Known → ℕ
 before start table = before_start (λ k. k.range.start) start table
 
--- The list of the range stands at an index: another one of the range takes its place.
+-- The list of the range is at this index: putting another list of the range replaces it.
 pub record IsAt (range : Span) (table : List Known) (i : ℕ) : Type 0 where
   pub within : i < length table
   pub known : Known
@@ -16,7 +16,7 @@ pub record IsAt (range : Span) (table : List Known) (i : ℕ) : Type 0 where
   pub found : known_for range table ≡ Some known
   pub put : (k : Known) → k.range ≡ range → with_known k table ≡ slice_set table i k
 
--- The range has no list; one of it is put before an index.
+-- The range has no list; putting one inserts it at this index.
 pub record IsBefore (range : Span) (table : List Known) (i : ℕ) : Type 0 where
   pub within : i ≤ length table
   pub none : known_for range table ≡ None

@@ -21,7 +21,7 @@ abbrev pub networks_bytes : List ℕ → List ℕ
 networks_bytes [] = []
 networks_bytes (net ∷ nets) = bytes_of network net ++ networks_bytes nets
 
--- an entry for each of the names, all of one network
+-- an entry for each of the names of a network
 abbrev pub entries_of : ℕ → List (List ℕ) → List Entry
 entries_of net names = map (λ name. record { net = net; name = name }) names
 
@@ -30,30 +30,30 @@ abbrev pub entries_bytes : List Entry → List ℕ
 entries_bytes [] = []
 entries_bytes (e ∷ es) = bytes_of (entry 0) e ++ entries_bytes es
 
--- the number of bytes of an entry for each of the names: its network takes two, and the length of the name one
+-- the number of bytes of the entries of names: two for the network, one for the length of the name, and the name
 abbrev pub entries_size : List (List ℕ) → ℕ
 entries_size [] = 0
 entries_size (name ∷ names) = 3 + length name + entries_size names
 
--- each of them fits into the 586 bytes of a datagram's data
+-- each payload fits into the 586 bytes of a datagram's data
 abbrev pub AreShort : List (List ℕ) → Type 0
 AreShort payloads = All (λ payload. length payload ≤ 586) payloads
 
--- the reply with all these names of a network that has so many zones
+-- the extended reply with these names of a network that has total zones
 abbrev pub extended_reply : ℕ → ℕ → List (List ℕ) → Packet
 extended_reply net total names = p.ExtendedReply total (entries_of net names)
 
--- the question of a node about its cable, with the zone that it asks for
+-- the GetNetInfo request of a node, with the zone that it wants
 abbrev pub question : List ℕ → Packet
 question asked = p.GetNetInfo (0 ∷ 0 ∷ 0 ∷ 0 ∷ 0 ∷ []) asked
 
--- ---- What a node is told of its cable
+-- ---- replies to GetNetInfo
 
--- the list's zone that a text names, in any case
+-- the zone in the list that a text names, in any case
 abbrev pub listed : List ℕ → List (List ℕ) → Option (List ℕ)
 listed asked names = if is_name asked then find (same_name asked) names else None
 
--- the first name of a list, which is that of the default zone
+-- the first name of a list, which is the default zone
 abbrev pub first_of : List (List ℕ) → List ℕ
 first_of [] = []
 first_of (name ∷ names) = name
@@ -62,15 +62,15 @@ first_of (name ∷ names) = name
 abbrev pub zone_group : List ℕ → Hw
 zone_group zone = group_hw (group_of zone)
 
--- 80 (hex) where the zone asked for isn't listed, and 20 where so many zones are one
+-- the flags of a reply: 80 (hex) if the requested zone isn't listed, and 20 if the cable has one zone
 abbrev pub flags_for : Bool → ℕ → ℕ
 flags_for found count = (if found then 0 else 128) + (if count == 1 then 32 else 0)
 
--- the default zone is named where the zone asked for isn't listed
+-- the default zone, if the requested zone isn't listed
 abbrev pub default_for : Bool → List ℕ → Option (List ℕ)
 default_for found first = if found then None else Some first
 
--- what a node that asks for a zone is told of a cable whose list has these names
+-- the reply to a request for a zone on a cable whose list has these names
 abbrev pub net_info : List ℕ → Span → List (List ℕ) → NetInfo
 net_info asked range names = record {
   flags = flags_for (is_some (listed asked names)) (length names);
@@ -81,7 +81,7 @@ net_info asked range names = record {
   default = default_for (is_some (listed asked names)) (first_of names);
 }
 
--- ---- What is read back
+-- ---- reading back what was written
 
 -- the bytes begin with this packet, and with no other
 abbrev pub BeginsWith : List ℕ → Packet → Type 0

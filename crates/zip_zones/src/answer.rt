@@ -1,4 +1,4 @@
-//! What a node is told of its cable, as it is written.
+//! A writer of NetInfo replies.
 
 ghost use Rattle.std.specs.Prelude.{◌≡◌, ◌<◌, ◌≤◌, ◌+◌, ◌/◌, ◌==◌, ◌∷◌, ◌++◌, [], length, find};
 ghost use Rattle.std.specs.Prelude.{is_some, option_copied, option_map, IfOk, IfSome, IsOkUnless};
@@ -20,23 +20,23 @@ use crate::writer::number;
 use at_base::{Bytes, Error, Hw, Name, Range, Text32, is_zone_name};
 use std::alloc::Global;
 
-/// The flag that the zone asked for isn't the cable's.
+/// The flag that the requested zone isn't in the cable's list.
 const INVALID_ZONE: u8 = 0x80;
 
 /// The flag that the cable has one zone.
 const ONE_ZONE: u8 = 0x20;
 
-/// The bytes of an answer without the text asked for and the default zone.
+/// The length of a reply without the texts of the requested zone and of the default zone.
 const INFO_LEN: usize = 14;
 
-/// The list's spelling of a zone.
+/// The spelling of a zone in the list, if the list has it in any case.
 fn spelling_of<'a>(zone: &Name, names: &'a [Name]) -> Option<&'a Name>
     ensures { option_copied result ≡ find (same_name zone.now) names.now }
 {
     names.iter().find(|name| zone.same(name))
 }
 
-/// The list's zone that a text names, in any case.
+/// The zone in the list that a text names, in any case.
 fn listed<'a>(asked: &[u8], names: &'a [Name]) -> Option<&'a Name>
     ensures { option_copied result ≡ written_spec.listed asked.now names.now }
 {
@@ -53,7 +53,7 @@ fn group_of(zone: &Name) -> Hw
     Hw::zone(zone.group())
 }
 
-/// The flags for a zone that is listed or not, where there are so many.
+/// The flags of a reply: whether the requested zone is listed, and whether the cable has one zone.
 fn flags(is_listed: bool, count: usize) -> u8
     ensures { result ≡ flags_for is_listed count }
 {
@@ -62,7 +62,7 @@ fn flags(is_listed: bool, count: usize) -> u8
     invalid + one
 }
 
-/// What a node that asks for a zone is told of a cable with these zones.
+/// The reply to a request for a zone on a cable with these zones.
 fn net_info(asked: &Text32, range: Range, names: &[Name]) -> NetInfo
     requires { 0 < length names.now }
     ensures { result ≡ written_spec.net_info asked.now range names.now }
@@ -81,7 +81,7 @@ fn net_info(asked: &Text32, range: Range, names: &[Name]) -> NetInfo
     }
 }
 
-/// The function of an answer, and its flags.
+/// The first two bytes of a reply: function and flags.
 fn front(flags: u8) -> [u8; 2]
     ensures bytes { result ≡ 6 ∷ flags ∷ [] }
     ensures fits { flags ≤ 255 }
@@ -89,7 +89,7 @@ fn front(flags: u8) -> [u8; 2]
     [number(Function::NetInfoReply), flags]
 }
 
-/// Appends a text after its length.
+/// Appends a length-prefixed text.
 #[tactic(auto, unfolding(at_base::specs::Packets::text))]
 pub(crate) fn put_text(bytes: &mut Vec<u8>, asked: &Text32) -> Result<(), Error>
     ensures put { OnOk result
@@ -115,7 +115,7 @@ fn put_range(bytes: &mut Vec<u8>, start: u16, end: u16) -> Result<(), Error>
     Ok(())
 }
 
-/// Appends a hardware address after its length.
+/// Appends a length-prefixed hardware address.
 fn put_group(bytes: &mut Vec<u8>, group: &Hw) -> Result<(), Error>
     ensures put { OnOk result (bytes.new.items ≡ bytes.old.items ++ 6 ∷ group.now.0) }
     ensures few { OnOk result (length bytes.new.items ≤ length bytes.old.items + 7) }
@@ -126,7 +126,7 @@ fn put_group(bytes: &mut Vec<u8>, group: &Hw) -> Result<(), Error>
     Ok(())
 }
 
-/// Appends the default zone, where it is named.
+/// Appends the default zone, if the reply has one.
 #[tactic(auto, unfolding(crate::specs::Formats::default_zone, at_base::specs::Packets::text))]
 fn put_default(bytes: &mut Vec<u8>, default: &Option<Name>) -> Result<(), Error>
     ensures put { OnOk result (bytes.new.items
@@ -140,7 +140,7 @@ fn put_default(bytes: &mut Vec<u8>, default: &Option<Name>) -> Result<(), Error>
     }
 }
 
-/// The bytes of an answer, whose first flag says whether it names a default zone.
+/// The bytes of a reply. Its first flag must say whether it has a default zone.
 fn write_info(alloc: Global, info: &NetInfo) -> Result<Bytes, Error>
     requires { (info.now.flags / 128 == 1) ≡ is_some info.now.default }
     ensures ok { IfOk result (λ bytes. bytes ≡ bytes_of formats_spec.packet (ReplyValue info.now)) }
@@ -161,9 +161,9 @@ fn write_info(alloc: Global, info: &NetInfo) -> Result<Bytes, Error>
     Ok(Bytes::from_vec(bytes))
 }
 
-/// The answer to a node that asks for a zone of a cable: the cable's range, whether its list has
-/// the zone in any case, the address of the zone's group, and the default zone, which is the first
-/// of the list, instead of a zone that isn't there. Allocates exactly its length, at once.
+/// The GetNetInfo reply: the cable's range, whether it has the requested zone (ignoring case), the
+/// zone's multicast address, and, if it hasn't the zone, the default zone, which is the first of
+/// the list. Allocates exactly the reply's length.
 ///
 /// Inside AppleTalk, the chapter on ZIP. Error: `Memory`.
 pub fn answer_net_info(
@@ -182,10 +182,9 @@ pub fn answer_net_info(
     write_info(alloc, &info)
 }
 
-/// The answer to a node that asks for a zone of a cable with these zones, or none where it has no
-/// zone.
+/// The GetNetInfo reply for a zone on a cable with these zones, or `None` if the cable has no zone.
 ///
-/// Inside AppleTalk, the chapter on ZIP; that a cable without zones isn't told of is this project's
+/// Inside AppleTalk, the chapter on ZIP; that a cable without zones gets no reply is this project's
 /// own. Error: `Memory`.
 pub fn reply_net_info(
     alloc: Global,

@@ -1,4 +1,4 @@
-//! Lists that are put after all others.
+//! Adding lists after all others.
 
 ghost use Rattle.std.specs.Prelude.{◌≡◌, ◌⊎◌, ◌↔◌, ◌++◌, ◌∷◌, [], false, length, true};
 ghost use Rattle.std.specs.Prelude.{IfErr, IsOkUnless, OnErr, OnOk};
@@ -9,7 +9,7 @@ use crate::known::KnownZones;
 use crate::table::{MAX_LISTS, MAX_ZONES, ZoneTable, recall_valid};
 use at_base::{Error, Name, Range};
 
-/// The last network of the last list, and 0 without lists.
+/// The last network of the last list, or 0 without lists.
 fn end(lists: &[KnownZones]) -> u16
     ensures { result ≡ end_of 0 lists.now }
 {
@@ -26,14 +26,14 @@ fn is_past(lists: &[KnownZones], range: Range) -> bool
     end(lists) < range.start()
 }
 
-/// Whether there is room for a list of these names after the others.
+/// Whether the table has room for one more list with these names.
 fn has_room(lists: &[KnownZones], least: u8, names: &[Name]) -> bool
     ensures { result ≡ spec.has_room least names.now lists.now }
 {
     least as usize <= MAX_ZONES && names.len() <= MAX_ZONES && lists.len() < MAX_LISTS
 }
 
-/// Puts a list after the others. Error: `Memory`, which changes nothing.
+/// Adds a list after the others. Error: `Memory`; nothing changes then.
 fn put_last(lists: &mut Vec<KnownZones>, known: KnownZones) -> Result<(), Error>
     ensures ok { OnOk result (lists.new.items ≡ lists.old.items ++ known ∷ []) }
     ensures err { IsOkUnless result Error.Memory }
@@ -44,11 +44,13 @@ fn put_last(lists: &mut Vec<KnownZones>, known: KnownZones) -> Result<(), Error>
 }
 
 impl ZoneTable {
-    /// Takes the names, each once without case, as the list of a range above all others: of at least
-    /// so many zones. It is complete where it has as many names. Searches nothing.
+    /// Adds the list of a range above all others, of at least `least` zones, with these names, each
+    /// once, ignoring case. The list is complete if it has as many names as zones. Searches
+    /// nothing.
     ///
     /// Errors: `BadRange` where the range isn't above all others; `Full` above 64 zones or names,
-    /// doubles counted too, and where there are 200 lists; `Memory`. A refusal changes nothing.
+    /// duplicates counted too, and where the table has 200 lists; `Memory`. A refusal changes
+    /// nothing.
     pub fn append(&mut self, range: Range, least: u8, names: &[Name]) -> Result<(), Error>
         ensures ok { OnOk result
             (self.new ≡ self.old ++ list_of_least range least names.now ∷ []) }

@@ -1,4 +1,4 @@
-//! For which networks a router asks.
+//! The networks whose zones a router asks for.
 
 ghost use Rattle.std.specs.Prelude.{◌≡◌, ◌&&◌, ◌++◌, ◌∷◌, [], not, IfOk, IsOkUnless, OnOk};
 ghost use Rattle.rtmp.specs.States.{is_usable};
@@ -9,14 +9,14 @@ use at_base::Error;
 use rtmp::{RouteTable, Row};
 use std::alloc::Global;
 
-/// Whether the zones of a row's range are asked for.
+/// Whether the router asks for the zones of a row's range.
 fn is_due(zones: &ZoneTable, row: &Row) -> bool
     ensures { result ≡ (is_usable row.now.state && not (is_answered zones.now row.now.range)) }
 {
     row.state.is_usable() && !zones.is_answered(row.range)
 }
 
-/// Appends the first network of the row, where its zones are asked for. Error: `Memory`.
+/// Appends the first network of the row, if the router asks for its zones. Error: `Memory`.
 fn put_due(starts: &mut Vec<u16>, zones: &ZoneTable, row: &Row) -> Result<(), Error>
     ensures put { OnOk result
         (starts.new.items ≡ starts.old.items ++ due (row.now ∷ []) zones.now) }
@@ -29,8 +29,8 @@ fn put_due(starts: &mut Vec<u16>, zones: &ZoneTable, row: &Row) -> Result<(), Er
 }
 
 impl ZoneTable {
-    /// The first networks of the usable rows whose ranges have no complete list, rising. Error:
-    /// `Memory`.
+    /// The first networks of the usable rows whose ranges have no complete list, in rising order.
+    /// Error: `Memory`.
     pub fn queries_due<T: RouteTable>(&self, routes: &T) -> Result<Vec<u16>, Error>
         ensures ok { IfOk result (λ starts. starts.items ≡ due (T.rows routes.now) self.now) }
         ensures refused { IsOkUnless result Error.Memory }

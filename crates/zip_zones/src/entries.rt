@@ -10,7 +10,7 @@ use crate::entry::{Entry, Nets, entry_at, low_after};
 use at_base::Error;
 use std::marker::Model;
 
-/// Goes through the entries up to the end of the bytes.
+/// Checks the entries up to the end of the bytes.
 pub(crate) fn check_entries(nets: Nets, bytes: &[u8]) -> Result<(), Error>
     ensures { Gives (λ _. entries_in nets 0 bytes.now) result
         (many_at (λ n. spec.read packets (entry n)) (next_net nets) 0 (length bytes.now)
@@ -30,7 +30,7 @@ pub(crate) fn check_entries(nets: Nets, bytes: &[u8]) -> Result<(), Error>
     Ok(())
 }
 
-/// The first entry of the bytes, and the bytes after it.
+/// The first entry in the bytes, and the bytes after it.
 fn next_in(nets: Nets, low: u32, bytes: &[u8]) -> Option<(Entry, &[u8])>
     requires { IsEntries nets low bytes.now }
     ensures none { IfNone result (entries_in nets low bytes.now ≡ []) }
@@ -47,11 +47,11 @@ fn next_in(nets: Nets, low: u32, bytes: &[u8]) -> Option<(Entry, &[u8])>
     }
 }
 
-/// The entries of a reply that are left, which contracts see as a list.
+/// An iterator over the entries that are left in a reply. Contracts see it as a list.
 #[derive(Debug, Drop)]
 pub struct Entries<'a> {
     nets: Nets,
-    // 0 before the first entry, and what the entry before it leaves later
+    // 0 before the first entry, then the number that the entry before passes on.
     low: u32,
     rest: &'a [u8],
 }
@@ -69,7 +69,7 @@ impl<'a> Model for Entries<'a> {
 }
 
 impl<'a> Entries<'a> {
-    /// The entries that the bytes are.
+    /// The entries in the bytes.
     pub(crate) fn new(nets: Nets, bytes: &'a [u8]) -> Entries<'a>
         requires { IsEntries nets 0 bytes.now }
         ensures { result ≡ entries_in nets 0 bytes.now }

@@ -1,4 +1,4 @@
-//! Names of zones in replies, each with a network that has it.
+//! Entries of replies: a network and a zone name.
 
 ghost use Rattle.std.specs.Prelude.{◌≡◌, ◌∷◌, [], length, IfNone, IfOk, IfSome, OnOk};
 ghost use Rattle.at_base.specs.Grammar.{number, two};
@@ -17,22 +17,22 @@ use std::marker::Model;
 /// Inside AppleTalk, the chapter on ZIP.
 #[derive(Clone, Copy, Debug, PartialEq, Eq)]
 pub struct Entry {
-    /// The network, as the packet names it.
+    /// The network, as it is in the packet.
     pub net: u16,
     /// The name of the zone.
     pub name: Name,
 }
 
-/// Whether all entries of a reply are of one network.
+/// Whether the entries of a reply are of one network.
 #[derive(Clone, Copy, Debug, PartialEq, Eq)]
 pub(crate) enum Nets {
-    /// Of any.
+    /// The entries may be of any networks.
     Any,
-    /// Of the first one's.
+    /// All entries are of the first entry's network.
     One,
 }
 
-/// A network, which is the one before it where all are one.
+/// A network. Unless `low` is 0, it must be `low - 1`, the network of the entry before.
 fn net_at(low: u32, bytes: &[u8]) -> Result<(u16, &[u8]), Error>
     ensures { Gives (λ x. (x.0, x.1.now)) result
         (field_at packets (number two (wrong_net low)) bytes.now) }
@@ -44,7 +44,7 @@ fn net_at(low: u32, bytes: &[u8]) -> Result<(u16, &[u8]), Error>
     Ok((net, rest))
 }
 
-/// The name of a zone, after its length.
+/// A length-prefixed zone name.
 #[tactic(auto, unfolding(at_base::specs::Packets::text))]
 pub(crate) fn name_at(bytes: &[u8]) -> Result<(Name, &[u8]), Error>
     ensures { Gives (λ x. (x.0, x.1.now)) result (reading_spec.read packets (text 1 wrong_name) bytes.now) }
@@ -56,7 +56,7 @@ pub(crate) fn name_at(bytes: &[u8]) -> Result<(Name, &[u8]), Error>
     Ok((Name::of(name), rest))
 }
 
-/// An entry, after one whose network is one less than `low`, or after none.
+/// An entry: the first one if `low` is 0, else one of the network `low - 1`.
 #[tactic(auto, unfolding(crate::specs::Packets::entry))]
 pub(crate) fn entry_at(low: u32, bytes: &[u8]) -> Result<(Entry, &[u8]), Error>
     ensures { Gives (λ x. (x.0, x.1.now)) result (reading_spec.read packets (spec.entry low) bytes.now) }
@@ -68,7 +68,8 @@ pub(crate) fn entry_at(low: u32, bytes: &[u8]) -> Result<(Entry, &[u8]), Error>
     }
 }
 
-/// What an entry leaves for the one after it.
+/// The number that an entry passes to the next one: 0, or its network plus 1 where all entries are
+/// of one network.
 pub(crate) fn low_after(nets: Nets, entry: &Entry) -> u32
     ensures { result ≡ next_net nets entry.now }
 {

@@ -1,4 +1,4 @@
-//! What is known of the zones of one range.
+//! The zone list of one range.
 
 ghost use Rattle.std.specs.Prelude.{IfOk, IsOkUnless, OnErr, OnOk, [], length, true, ◌<◌, ◌≡◌, ◌≤◌};
 ghost use Rattle.zip_zones.specs.Zones as spec;
@@ -12,12 +12,13 @@ use std::alloc::Global;
 use std::marker::Model;
 use std::sync::Arc;
 
-/// What is known of the zones of a range: how many there are, and the names that came.
+/// The zone list of a range: the number of its zones, and the names received so far.
 #[derive(Drop)]
 pub(crate) struct KnownZones {
     range: Range,
     total: u8,
-    // Routers copy their tables before they learn, and learn of few lists: copies share the names.
+    // The names are shared between copies: a router copies its table before it learns, and changes
+    // few lists.
     zones: Arc<IndexSet<Zone>, Global>,
     alloc: Global,
 }
@@ -35,7 +36,7 @@ impl Model for KnownZones {
     } };
 }
 
-/// The names, which may have several owners. Error: `Memory`.
+/// Makes the names shareable between copies. Error: `Memory`.
 fn shared(alloc: Global, zones: IndexSet<Zone>) -> Result<Arc<IndexSet<Zone>, Global>, Error>
     ensures ok { IfOk result (λ shared. (arc_value shared).keys ≡ zones.keys) }
     ensures err { IsOkUnless result Error.Memory }
@@ -46,7 +47,7 @@ fn shared(alloc: Global, zones: IndexSet<Zone>) -> Result<Arc<IndexSet<Zone>, Gl
     }
 }
 
-/// The names and one more, unless it is one of them. Error: `Memory`.
+/// The names, with one more unless it is among them in any case. Error: `Memory`.
 fn with(zones: &IndexSet<Zone>, name: &Name) -> Result<IndexSet<Zone>, Error>
     ensures ok { IfOk result (λ more. more.keys ≡ with_name zones.now.keys name.now) }
     ensures err { IsOkUnless result Error.Memory }
@@ -56,7 +57,7 @@ fn with(zones: &IndexSet<Zone>, name: &Name) -> Result<IndexSet<Zone>, Error>
     Ok(more)
 }
 
-/// The names, each once. Error: `Memory`.
+/// The names, each once, ignoring case. Error: `Memory`.
 fn zones_of(alloc: Global, names: &[Name]) -> Result<IndexSet<Zone>, Error>
     ensures ok { IfOk result (λ zones. zones.keys ≡ each_once names.now) }
     ensures err { IsOkUnless result Error.Memory }
@@ -69,7 +70,7 @@ fn zones_of(alloc: Global, names: &[Name]) -> Result<IndexSet<Zone>, Error>
 }
 
 impl KnownZones {
-    /// A list of so many zones, of which none has come. Error: `Memory`.
+    /// A list of `total` zones without names. Error: `Memory`.
     pub(crate) fn new(alloc: Global, range: Range, total: u8) -> Result<KnownZones, Error>
         ensures ok { IfOk result
             (λ known. known ≡ record { range = range; total = total; names = [] }) }
@@ -84,7 +85,7 @@ impl KnownZones {
         })
     }
 
-    /// The complete list of these names. Error: `Memory`.
+    /// The complete list with these names. Error: `Memory`.
     pub(crate) fn of(alloc: Global, range: Range, names: &[Name]) -> Result<KnownZones, Error>
         requires { length names.now ≤ 64 }
         ensures ok { IfOk result (λ known. known ≡ set_list range names.now) }
@@ -101,7 +102,7 @@ impl KnownZones {
         })
     }
 
-    /// The list of these names, of at least so many zones. Error: `Memory`.
+    /// The list with these names, of at least `least` zones. Error: `Memory`.
     pub(crate) fn at_least(
         alloc: Global,
         range: Range,
@@ -123,12 +124,12 @@ impl KnownZones {
         })
     }
 
-    /// A copy, equal to it. Error: `Memory`.
+    /// A copy of the list. Error: `Memory`.
     pub(crate) fn copy(&self) -> Result<KnownZones, Error>
         ensures ok { IfOk result (λ known. known ≡ self.now) }
         ensures err { IsOkUnless result Error.Memory }
     {
-        // A count of owners is never full.
+        // The count of owners can't overflow.
         match Arc::try_clone(&self.zones) {
             Ok(zones) => Ok(KnownZones {
                 range: self.range,
@@ -140,7 +141,7 @@ impl KnownZones {
         }
     }
 
-    /// Takes a name, unless the list is complete or has it. Error: `Memory`, which changes nothing.
+    /// Adds a name, unless the list is complete or has it. Error: `Memory`; nothing changes then.
     pub(crate) fn take(&mut self, name: &Name) -> Result<(), Error>
         ensures ok { OnOk result (self.new ≡ with_zone name.now self.old) }
         ensures err { IsOkUnless result Error.Memory }
@@ -149,7 +150,7 @@ impl KnownZones {
         if self.is_complete() {
             return Ok(());
         }
-        // A list that was begun since the table was copied has no other owner.
+        // A list that was begun after the table was copied has no other owner.
         if let Some(zones) = Arc::get_mut(&mut self.zones) {
             zones.insert(Zone::new(name))?;
             return Ok(());
@@ -157,8 +158,8 @@ impl KnownZones {
         self.take_shared(name)
     }
 
-    /// Takes a name into a copy of the names, which have other owners. Error: `Memory`, which
-    /// changes nothing.
+    /// Adds a name to a copy of the names, which have other owners. Error: `Memory`; nothing
+    /// changes then.
     fn take_shared(&mut self, name: &Name) -> Result<(), Error>
         ensures ok { OnOk result
             (self.new ≡ record self.old { names = with_name self.old.names name.now }) }
@@ -170,35 +171,35 @@ impl KnownZones {
         Ok(())
     }
 
-    /// The networks that have these zones.
+    /// The range of networks with these zones.
     pub(crate) fn range(&self) -> Range
         ensures { result ≡ self.now.range }
     {
         self.range
     }
 
-    /// How many zones there are.
+    /// The number of zones of the range.
     pub(crate) fn total(&self) -> u8
         ensures { result ≡ self.now.total }
     {
         self.total
     }
 
-    /// The names that came.
+    /// The names received so far.
     pub(crate) fn zones(&self) -> &[Zone]
         ensures { result.now ≡ self.now.names }
     {
         self.zones.as_ref().as_slice()
     }
 
-    /// Whether all names have come.
+    /// Whether all names were received.
     pub(crate) fn is_complete(&self) -> bool
         ensures { result ≡ spec.is_complete self.now }
     {
         self.zones.as_ref().len() == self.total as usize
     }
 
-    /// Whether the zone is one of those that came.
+    /// Whether the zone is among the names, ignoring case.
     pub(crate) fn has(&self, zone: &Name) -> bool
         ensures { result ≡ spec.has_zone zone.now self.now }
     {

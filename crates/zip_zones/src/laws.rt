@@ -1,5 +1,5 @@
-//! Laws of ZIP packets, and examples of what a router answers: each is the contract of a function
-//! that does nothing.
+//! Laws of ZIP packets, and examples of a router's replies. Each is the contract of a function that
+//! does nothing.
 
 ghost use Rattle.std.specs.Prelude.{◌≡◌, ◌<◌, ◌≤◌, ◌++◌, ◌∷◌, [], List, ℕ, codes, length, map};
 ghost use Rattle.std.specs.Prelude.{option_map, replicate, None, Some};
@@ -26,13 +26,13 @@ pub fn queries_are_read()
         → BeginsWith (bytes_of packet (Query nets) ++ rest) (Query nets) }
 {}
 
-/// What a node asks of its cable is read back, whatever follows it.
+/// A GetNetInfo request that was written is read back, whatever follows it.
 pub fn questions_are_read()
     ensures { (asked rest : List ℕ) → length asked ≤ 32
         → BeginsWith (bytes_of packet (question asked) ++ rest) (question asked) }
 {}
 
-/// What a node is told of its cable is read back, whatever follows it.
+/// A NetInfo reply that was written is read back, whatever follows it.
 pub fn answers_are_read()
     ensures { (asked : List ℕ) (range : Span) (names : List (List ℕ)) (rest : List ℕ)
         → length asked ≤ 32 → IsRange range.start range.end → 0 < length names
@@ -41,7 +41,7 @@ pub fn answers_are_read()
         (NetInfoReply (net_info asked range names)) }
 {}
 
-/// An extended reply that was written is read back, where nothing follows it.
+/// An extended reply that was written is read back, if nothing follows it.
 pub fn extended_replies_are_read()
     ensures { (net total : ℕ) (names : List (List ℕ)) → net < 65536 → total < 256
         → 0 < length names → All IsName names
@@ -49,9 +49,9 @@ pub fn extended_replies_are_read()
         (extended_reply net total names) }
 {}
 
-/// A router answers the networks that it was asked for, in their order, with the numbers asked for:
-/// of the first 16, those whose list is complete and not empty. A long list goes in several
-/// packets, each as full as it can be.
+/// A router replies for the networks of a query in their order, with their numbers as asked: of the
+/// first 16, those whose list is complete and not empty. A long list is sent in several packets,
+/// each as full as possible.
 pub fn the_examples_of_replies()
     ensures bytes { map (bytes_of packet) (replies three_lists (30 ∷ 20 ∷ []))
         ≡ (8 ∷ 1 ∷ 0 ∷ 30 ∷ 4 ∷ blue)
@@ -72,7 +72,7 @@ pub fn the_examples_of_replies()
         ∷ extended_reply 5 17 (replicate 22 66 ∷ []) ∷ [] }
 {}
 
-/// A node that asks for red on 10-19 is told of that cable, unless the cable has no zones.
+/// A node that asks for Red on 10-19 gets a reply about that cable, unless the cable has no zones.
 pub fn the_examples_of_net_info()
     ensures told { option_map (bytes_of packet)
         (net_info_reply (codes "red") (span 10 19) (red ∷ []))
@@ -80,7 +80,7 @@ pub fn the_examples_of_net_info()
     ensures none { net_info_reply (codes "red") (span 10 19) [] ≡ None }
 {}
 
-/// What the user bytes of a request ask for, and the user bytes and the data of the response.
+/// The request in a request's user bytes, and the user bytes and the data of the response.
 pub fn the_examples_of_zone_pages()
     ensures asked { asked_page (8 ∷ 0 ∷ 0 ∷ 1 ∷ []) ≡ Some (GetZoneList, 1) }
     ensures ignored { asked_page (9 ∷ 255 ∷ 1 ∷ 2 ∷ []) ≡ Some (GetLocalZones, 258) }
@@ -102,9 +102,9 @@ pub fn the_examples_of_zone_pages()
         (zone_page GetLocalZones 1 (replicate 18 long) []) }
 {}
 
-/// A reply is taken for a network whose row is usable and not direct, as the list of that row's
-/// range, where the zone table has room for it. In a reply of function 2 the names of a network are
-/// its whole list.
+/// A reply is accepted for a network whose row is usable and not direct. Its names are added to the
+/// list of that row's range, if the zone table has room. In a reply of function 2 the names of a
+/// network are its complete list.
 pub fn the_examples_of_replies_heard()
     ensures named { after_reply four_rows (ExtendedReply 2 (named 25 red ∷ [])) []
         ≡ known 20 29 2 (red ∷ []) ∷ [] }

@@ -1,4 +1,4 @@
-//! Zone lists: what a router knows of the zones of each range, and the packets that say it.
+//! Zone lists: a router's zones for each range of an internet, and ZIP packets.
 #![tactic(auto)]
 
 mod answer;

@@ -10,7 +10,7 @@ use at_base::Error;
 use at_base::packet::u16_at;
 use std::marker::Model;
 
-/// A network.
+/// A network, in two bytes.
 #[tactic(auto, unfolding(crate::specs::Networks::network))]
 fn network_at(bytes: &[u8]) -> Result<(u16, &[u8]), Error>
     ensures { Gives (λ x. (x.0, x.1.now)) result (spec.read packets network bytes.now) }
@@ -18,7 +18,7 @@ fn network_at(bytes: &[u8]) -> Result<(u16, &[u8]), Error>
     u16_at(bytes)
 }
 
-/// Goes through so many networks, and gives the bytes after them.
+/// Checks `count` networks, and returns the bytes after them.
 pub(crate) fn check_networks(count: u8, bytes: &[u8]) -> Result<&[u8], Error>
     ensures { Gives (λ rest. (networks_in count bytes.now, rest.now)) result
         (networks_read count bytes.now) }
@@ -33,7 +33,7 @@ pub(crate) fn check_networks(count: u8, bytes: &[u8]) -> Result<&[u8], Error>
     Ok(rest)
 }
 
-/// The first of so many networks with which the bytes begin, and the bytes after it.
+/// The first of the `left` networks at the front of the bytes, and the bytes after it.
 fn next_in(left: u8, bytes: &[u8]) -> Option<(u16, &[u8])>
     requires { BeginWith left bytes.now }
     ensures none { IfNone result (left ≡ 0) }
@@ -51,7 +51,7 @@ fn next_in(left: u8, bytes: &[u8]) -> Option<(u16, &[u8])>
     }
 }
 
-/// The networks of a query that are left, which contracts see as a list.
+/// An iterator over the networks that are left in a query. Contracts see it as a list.
 #[derive(Debug, Drop)]
 pub struct Networks<'a> {
     left: u8,
@@ -70,7 +70,7 @@ impl<'a> Model for Networks<'a> {
 }
 
 impl<'a> Networks<'a> {
-    /// So many networks, with which the bytes begin.
+    /// The `count` networks at the front of the bytes.
     pub(crate) fn new(count: u8, bytes: &'a [u8]) -> Networks<'a>
         requires { BeginWith count bytes.now }
         ensures { result ≡ networks_in count bytes.now }

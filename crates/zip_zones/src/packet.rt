@@ -1,4 +1,4 @@
-//! ZIP packets: a reader that borrows.
+//! A reader of ZIP packets that borrows its input.
 
 ghost use Rattle.std.specs.Prelude.{◌≡◌, ◌/◌, ◌==◌, [], length};
 ghost use Rattle.at_base.specs.Grammar.{number, one};
@@ -15,40 +15,40 @@ use crate::networks::{Networks, check_networks};
 use at_base::packet::{byte_at, byte_only, hardware_at, run_at, text_at, u16_at};
 use at_base::{Error, Field, Hw, Name, Text32};
 
-/// What a ZIP packet is for.
+/// The function of a ZIP packet.
 ///
 /// Inside AppleTalk, the chapter on ZIP.
 #[derive(Clone, Copy, Debug, PartialEq, Eq)]
 pub enum Function {
-    /// Asks a router for the zones of networks.
+    /// A request to a router for the zones of networks.
     Query,
-    /// Answers a query, for networks with few zones: all names of each are there.
+    /// A reply to a query, with all zone names of each network.
     Reply,
-    /// Asks for what a node wants to know of its cable.
+    /// A request of a node for the range and the zones of its cable.
     GetNetInfo,
-    /// Answers that.
+    /// The reply to GetNetInfo.
     NetInfoReply,
-    /// Answers a query for one network, whose names may be in several packets.
+    /// A reply to a query, for one network, whose names may be in several packets.
     ExtendedReply,
 }
 
-/// What a node is told of its cable.
+/// The contents of a NetInfo reply: the properties of a node's cable.
 ///
 /// Inside AppleTalk, the chapter on ZIP.
 #[derive(Clone, Copy, Debug, PartialEq, Eq)]
 pub struct NetInfo {
-    /// 80: the zone asked for isn't the cable's; 40: broadcasts are to be used for multicasts; 20:
-    /// the cable has one zone.
+    /// 80 (hex): the requested zone isn't in the cable's list; 40: broadcasts are used instead of
+    /// multicasts; 20: the cable has one zone.
     pub flags: u8,
     /// The first network of the cable.
     pub start: u16,
     /// The last network of the cable.
     pub end: u16,
-    /// The zone asked for, as it was asked.
+    /// The requested zone, as it was sent.
     pub asked: Text32,
     /// The hardware address of the zone's group on the cable.
     pub group: Hw,
-    /// The default zone of the cable, where the zone asked for isn't the cable's.
+    /// The default zone of the cable, if the requested zone isn't in the cable's list.
     pub default: Option<Name>,
 }
 
@@ -57,19 +57,19 @@ pub struct NetInfo {
 /// Inside AppleTalk, the chapter on ZIP.
 #[derive(Debug, Drop)]
 pub enum Packet<'a> {
-    /// Which networks are asked for.
+    /// The networks asked for.
     Query(Networks<'a>),
-    /// How many networks the answer has, which is ignored, and the names.
+    /// The number of networks in the reply, which is ignored, and the names.
     Reply(u8, Entries<'a>),
-    /// Five bytes that are 0 where this project sends them and are ignored, and the zone asked for.
+    /// Five bytes that this project sends as 0 and ignores when read, and the requested zone.
     GetNetInfo([u8; 5], Text32),
-    /// What is said of the cable.
+    /// The properties of the cable.
     NetInfoReply(NetInfo),
-    /// How many zones the network has, and names of some of them.
+    /// The number of zones of the network, and names of some of them.
     ExtendedReply(u8, Entries<'a>),
 }
 
-/// The function of a number that has one.
+/// The function with a number, which has one.
 fn named(number: u8) -> Function
     ensures { result ≡ function_of number }
 {
@@ -94,7 +94,7 @@ fn function_at(bytes: &[u8]) -> Result<(u8, &[u8]), Error>
     }
 }
 
-/// The zone asked for.
+/// The requested zone.
 fn asked_at(bytes: &[u8]) -> Result<(Text32, &[u8]), Error>
     ensures { Gives (λ x. (x.0, x.1.now)) result (reading_spec.read packets (text 0 any) bytes.now) }
 {
@@ -105,7 +105,7 @@ fn asked_at(bytes: &[u8]) -> Result<(Text32, &[u8]), Error>
     }
 }
 
-/// The default zone, where the flags say that it is there.
+/// The default zone, if the flags say that the packet has one.
 #[tactic(auto, unfolding(crate::specs::Formats::default_zone))]
 fn default_at(flags: u8, bytes: &[u8]) -> Result<(Option<Name>, &[u8]), Error>
     ensures { Gives (λ x. (x.0, x.1.now)) result
@@ -120,7 +120,7 @@ fn default_at(flags: u8, bytes: &[u8]) -> Result<(Option<Name>, &[u8]), Error>
     }
 }
 
-/// The networks that are asked for.
+/// The body of a query: the networks asked for.
 #[tactic(auto, unfolding(crate::specs::Formats::body, crate::specs::Networks::networks_read))]
 fn query_at(bytes: &[u8]) -> Result<(Packet<'_>, &[u8]), Error>
     ensures { Gives (λ x. (x.0, x.1.now)) result
@@ -131,7 +131,7 @@ fn query_at(bytes: &[u8]) -> Result<(Packet<'_>, &[u8]), Error>
     Ok((Packet::Query(Networks::new(count, networks)), rest))
 }
 
-/// Names of any networks.
+/// The body of a reply: names of any networks.
 #[tactic(auto, unfolding(crate::specs::Formats::body))]
 fn reply_at(bytes: &[u8]) -> Result<(Packet<'_>, &[u8]), Error>
     ensures { Gives (λ x. (x.0, x.1.now)) result
@@ -142,7 +142,7 @@ fn reply_at(bytes: &[u8]) -> Result<(Packet<'_>, &[u8]), Error>
     Ok((Packet::Reply(count, Entries::new(Nets::Any, entries)), &[]))
 }
 
-/// The zone asked for, and the bytes before it.
+/// The body of a GetNetInfo request: five bytes, and the requested zone.
 #[tactic(auto, unfolding(crate::specs::Formats::body))]
 fn get_net_info_at(bytes: &[u8]) -> Result<(Packet<'_>, &[u8]), Error>
     ensures { Gives (λ x. (x.0, x.1.now)) result
@@ -157,7 +157,7 @@ fn get_net_info_at(bytes: &[u8]) -> Result<(Packet<'_>, &[u8]), Error>
     }
 }
 
-/// Names of one network, at least one.
+/// The body of an extended reply: names of one network, at least one.
 #[tactic(auto, unfolding(crate::specs::Formats::body))]
 fn extended_at(bytes: &[u8]) -> Result<(Packet<'_>, &[u8]), Error>
     ensures { Gives (λ x. (x.0, x.1.now)) result
@@ -174,7 +174,7 @@ fn extended_at(bytes: &[u8]) -> Result<(Packet<'_>, &[u8]), Error>
     ))
 }
 
-/// The zone asked for, where it isn't a packet's first part.
+/// The body of a NetInfo reply.
 #[tactic(auto, unfolding(crate::specs::Formats::body))]
 fn net_info_at(bytes: &[u8]) -> Result<(Packet<'_>, &[u8]), Error>
     ensures { Gives (λ x. (x.0, x.1.now)) result
@@ -204,7 +204,7 @@ fn net_info_at(bytes: &[u8]) -> Result<(Packet<'_>, &[u8]), Error>
     Ok((Packet::NetInfoReply(info), rest))
 }
 
-/// The packet with which the bytes begin, and the bytes after it.
+/// The packet at the front of the bytes, and the bytes after it.
 #[tactic(auto, unfolding(crate::specs::Formats::packet))]
 fn parts_of(bytes: &[u8]) -> Result<(Packet<'_>, &[u8]), Error>
     ensures { Gives (λ x. (x.0, x.1.now)) result (reading_spec.read packets spec.packet bytes.now) }
@@ -223,14 +223,14 @@ fn parts_of(bytes: &[u8]) -> Result<(Packet<'_>, &[u8]), Error>
 }
 
 impl<'a> Packet<'a> {
-    /// The packet with which the bytes begin. What follows a query, a GetNetInfo and its reply is
-    /// ignored. Allocates nothing.
+    /// The packet at the front of the bytes. Bytes after a query, a GetNetInfo request or its reply
+    /// are ignored. Allocates nothing.
     ///
     /// Errors, from left to right: `Truncated` below 2 bytes, where the input ends within a part,
     /// and where an extended reply has no name; `BadField` of `Function`, of `NameLength` where a
-    /// name hasn't 1 to 32 bytes, or the zone asked for has more than 32, of `Lengths` where the
+    /// name hasn't 1 to 32 bytes, or the requested zone has more than 32, of `Lengths` where the
     /// hardware address isn't 6 bytes long, and of `Network` where an extended reply has names of
-    /// two networks; `BadName` where a name is no zone's.
+    /// two networks; `BadName` where a name isn't a valid zone name.
     pub fn read(bytes: &'a [u8]) -> Result<Packet<'a>, Error>
         ensures { Reads packets spec.packet (λ d. d) (λ p. p) bytes.now result }
     {
@@ -240,7 +240,7 @@ impl<'a> Packet<'a> {
         }
     }
 
-    /// The zone that a node asks for, where the packet is its question about its cable.
+    /// The requested zone, if the packet is a GetNetInfo request.
     pub fn asked(&self) -> Option<Text32>
         ensures { result ≡ zone_asked self.now }
     {

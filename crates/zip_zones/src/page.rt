@@ -1,4 +1,4 @@
-//! The pages of a list of zones.
+//! Pages of a zone list.
 
 ghost use Rattle.std.specs.Prelude.{◌≡◌, ◌≤◌, ◌+◌, ◌++◌, drop, length, IfOk, IsOkUnless, OnOk};
 ghost use Rattle.zip_zones.specs.Answers.{page_user};
@@ -7,25 +7,25 @@ ghost use Rattle.zip_zones.specs.Pages.{fitting, from_index, name_bytes, names_b
 use at_base::{Bytes, Error, Name};
 use std::alloc::Global;
 
-/// The most bytes of names in a page: the data of a response.
+/// The greatest number of bytes of names in a page: the data of one response.
 pub const MAX_PAGE: usize = 578;
 
-/// A part of a list of zones, as the data of one response has it.
+/// A part of a zone list: the data of one response.
 ///
 /// Inside AppleTalk, the chapter on ZIP.
 #[derive(Debug, Drop)]
 pub struct Page {
-    /// Whether the list has no names after these.
+    /// Whether the list ends with these names.
     pub last: bool,
     /// The number of names.
     pub count: u16,
-    /// The names, each after its length.
+    /// The names, each length-prefixed.
     pub bytes: Bytes,
 }
 
 impl Page {
-    /// The user bytes of the response with this page: 1 where it is the last one, 0, and the number
-    /// of its names in two bytes.
+    /// The user bytes of the response with this page: 1 for the last page, else 0; then 0; then the
+    /// number of names in two bytes.
     pub fn user(&self) -> [u8; 4]
         ensures { result ≡ page_user self.now }
     {
@@ -34,7 +34,7 @@ impl Page {
     }
 }
 
-/// Appends a name after its length.
+/// Appends a length-prefixed name.
 pub(crate) fn put_name(bytes: &mut Vec<u8>, name: &Name) -> Result<(), Error>
     ensures put { OnOk result (bytes.new.items ≡ bytes.old.items ++ name_bytes name.now) }
     ensures few { OnOk result (length bytes.new.items ≤ length bytes.old.items + 33) }
@@ -46,7 +46,7 @@ pub(crate) fn put_name(bytes: &mut Vec<u8>, name: &Name) -> Result<(), Error>
     Ok(())
 }
 
-/// Appends as many names as fit into so many bytes. How many they are.
+/// Appends as many names as fit into `room` bytes, and returns their number.
 fn put_names(bytes: &mut Vec<u8>, room: usize, names: &[Name]) -> Result<usize, Error>
     ensures count { IfOk result (λ count. count ≡ length (fitting room names.now)) }
     ensures few { IfOk result (λ count. count ≤ room) }
@@ -69,7 +69,7 @@ fn put_names(bytes: &mut Vec<u8>, room: usize, names: &[Name]) -> Result<usize, 
     }
 }
 
-/// The names from an index on, where 1 is the first one, and so is 0.
+/// The names from an index on, where both 0 and 1 mean the first name.
 fn names_after(start: u16, names: &[Name]) -> &[Name]
     ensures { result.now ≡ from_index start names.now }
 {
@@ -80,8 +80,8 @@ fn names_after(start: u16, names: &[Name]) -> &[Name]
     &names[skipped..]
 }
 
-/// The page that begins with the name of an index, from 1: as many names as fit into 578 bytes.
-/// Index 0 counts as 1; past the end there are none, and the page is the last.
+/// The page that begins with the name at an index, from 1: as many names as fit into 578 bytes.
+/// Index 0 counts as 1. Past the end the page has no names, and is the last.
 ///
 /// Inside AppleTalk, the chapter on ZIP. Error: `Memory`.
 pub fn zone_list_page(alloc: Global, start: u16, names: &[Name]) -> Result<Page, Error>

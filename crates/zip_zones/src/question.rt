@@ -1,4 +1,4 @@
-//! What a node asks of its cable, as it is written.
+//! A writer of GetNetInfo requests.
 
 ghost use Rattle.std.specs.Prelude.{◌≡◌, ◌∷◌, [], IfOk, IsOkUnless};
 ghost use Rattle.at_base.specs.Spelling.{bytes_of};
@@ -11,18 +11,18 @@ use crate::writer::number;
 use at_base::{Bytes, Error, Text32};
 use std::alloc::Global;
 
-/// The bytes of a question without the zone asked for.
+/// The length of a request without the text of the requested zone.
 const QUESTION_LEN: usize = 7;
 
-/// The function of a question, and the five bytes after it.
+/// The function of a request, and the five bytes after it.
 fn front() -> [u8; 6]
     ensures { result ≡ 5 ∷ 0 ∷ 0 ∷ 0 ∷ 0 ∷ 0 ∷ [] }
 {
     [number(Function::GetNetInfo), 0, 0, 0, 0, 0]
 }
 
-/// What a node asks of its cable: for a zone that it would like, which is empty where it has none.
-/// Allocates exactly its length, at once.
+/// The GetNetInfo request of a node, with the zone that it wants, or an empty text if it has none.
+/// Allocates exactly the request's length.
 ///
 /// Inside AppleTalk, the chapter on ZIP. Error: `Memory`.
 pub fn write_get_net_info(alloc: Global, asked: &Text32) -> Result<Bytes, Error>

@@ -1,4 +1,4 @@
-//! What a router answers to queries.
+//! The replies of a router to queries.
 
 ghost use Rattle.std.specs.Prelude.{◌≡◌, ◌<◌, ◌≤◌, ◌+◌, ◌*◌, ◌++◌, ◌∷◌, [], length, map, take};
 ghost use Rattle.std.specs.Prelude.{IfOk, IsOkUnless, OnOk};
@@ -14,15 +14,15 @@ use crate::writer::{ENTRY_LEN, MAX_ENTRIES, write_extended};
 use at_base::{Bytes, Error, Name};
 use std::alloc::Global;
 
-/// The most networks of a query that are looked at.
+/// The number of networks of a query for which a router replies.
 const MAX_ANSWERED: usize = 16;
 
-/// How many of the names from the front have room in so many bytes of entries.
+/// The number of names at the front whose entries fit into `room` bytes.
 fn fitting(names: &[Name], room: usize) -> usize
     ensures count { result ≡ length (first_group room names.now) }
     ensures few { result ≤ room }
     ensures within { result ≤ length names.now }
-    // A name has at most 32 bytes, so that many have room.
+    // A name has at most 32 bytes, so a group has many names.
     ensures many { result < length names.now → room < 35 * (result + 1) }
 {
     match names {
@@ -37,7 +37,7 @@ fn fitting(names: &[Name], room: usize) -> usize
     }
 }
 
-/// Appends the reply with these names, which have room in it.
+/// Appends the reply with these names, which must fit into it. Error: `Memory`.
 fn put_group(made: &mut Vec<Bytes>, net: u16, total: u8, group: &[Name]) -> Result<(), Error>
     requires some { 0 < length group.now }
     requires fits { entries_size group.now ≤ 584 }
@@ -55,7 +55,7 @@ fn put_group(made: &mut Vec<Bytes>, net: u16, total: u8, group: &[Name]) -> Resu
     }
 }
 
-/// Appends replies with these names, as many in each as have room.
+/// Appends replies with these names, as many in each as fit. Error: `Memory`.
 fn put_groups(made: &mut Vec<Bytes>, net: u16, total: u8, names: &[Name]) -> Result<(), Error>
     ensures put { OnOk result (made.new.items ≡ made.old.items
         ++ map (bytes_of spec.packet) (map (extended_reply net total) (grouped names.now))) }
@@ -75,11 +75,11 @@ fn put_groups(made: &mut Vec<Bytes>, net: u16, total: u8, names: &[Name]) -> Res
     }
 }
 
-/// Appends the replies for a network.
+/// Appends the replies for a network. Error: `Memory`.
 fn put_replies(made: &mut Vec<Bytes>, table: &ZoneTable, net: u16) -> Result<(), Error>
     ensures put { OnOk result (made.new.items ≡ made.old.items
         ++ map (bytes_of spec.packet) (replies_for table.now net)) }
-    // A list has at most 64 names, and each reply but the last one has 16 of them or more.
+    // A list has at most 64 names, and each reply but the last has 16 of them or more.
     ensures few { OnOk result (length made.new.items ≤ length made.old.items + 4) }
     ensures short { OnOk result (AreShort made.old.items → AreShort made.new.items) }
     ensures refused { IsOkUnless result Error.Memory }
@@ -92,7 +92,7 @@ fn put_replies(made: &mut Vec<Bytes>, table: &ZoneTable, net: u16) -> Result<(),
     put_groups(made, net, names.len() as u8, names)
 }
 
-/// Appends the replies for the first of the networks, so many at most.
+/// Appends the replies for the first networks, at most `most`. Error: `Memory`.
 fn put_first(
     made: &mut Vec<Bytes>,
     table: &ZoneTable,
@@ -117,9 +117,9 @@ fn put_first(
     }
 }
 
-/// The replies of a router with this table to a query of these networks: of the first 16, those
-/// whose list is complete and not empty are answered, in order, by extended replies with the number
-/// that was asked for and as many names in each as have room.
+/// The replies of a router with this table to a query for these networks. Of the first 16 networks,
+/// those whose list is complete and not empty get replies, in order: extended replies with the
+/// network's number as asked, and as many names in each as fit.
 ///
 /// Inside AppleTalk, the chapter on ZIP; the 16 networks, and that replies are always extended, are
 /// this project's own. Error: `Memory`.
@@ -130,7 +130,7 @@ pub fn answer_query(
 ) -> Result<Vec<Bytes>, Error>
     ensures ok { IfOk result (λ made. made.items
         ≡ map (bytes_of spec.packet) (replies table.now networks.entry)) }
-    // As many as a list of 64 names takes, for each of the networks.
+    // At most four for each of 16 networks.
     ensures few { IfOk result (λ made. length made.items ≤ 64) }
     // Each is the data of a datagram.
     ensures short { IfOk result (λ made. AreShort made.items) }

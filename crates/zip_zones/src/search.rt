@@ -1,4 +1,4 @@
-//! Where the list of a range stands in a zone table.
+//! Searching for the list of a range in a zone table.
 
 ghost use Rattle.std.specs.Prelude.{◌≡◌, ◌≤◌, length, IfErr, IfOk};
 ghost use Rattle.std.specs.Option.{option_copied};
@@ -8,7 +8,7 @@ ghost use Rattle.zip_zones.specs.Places.{IsAt, IsBefore, before};
 use crate::known::KnownZones;
 use at_base::Range;
 
-/// The number of lists that start below the network, which is between these two.
+/// The number of lists that start below the network, which is from `low` to `high`.
 fn place_between(lists: &[KnownZones], start: u16, low: usize, high: usize) -> usize
     requires map { IsZoneMap lists.now }
     requires from { low ≤ before start lists.now }
@@ -27,7 +27,7 @@ fn place_between(lists: &[KnownZones], start: u16, low: usize, high: usize) -> u
     }
 }
 
-/// The number of lists that start below the network. The lists are halved.
+/// The number of lists that start below the network, by binary search.
 fn place_for(lists: &[KnownZones], start: u16) -> usize
     requires { IsZoneMap lists.now }
     ensures place { result ≡ before start lists.now }
@@ -36,7 +36,7 @@ fn place_for(lists: &[KnownZones], start: u16) -> usize
     place_between(lists, start, 0, lists.len())
 }
 
-/// The index of the list of a range; or the index before which one of it is put.
+/// The index of the list of a range; or, as an error, the index at which one is to be inserted.
 pub(crate) fn place_of(lists: &[KnownZones], range: Range) -> Result<usize, usize>
     requires { IsZoneMap lists.now }
     ensures found { IfOk result (IsAt range lists.now) }
@@ -50,7 +50,7 @@ pub(crate) fn place_of(lists: &[KnownZones], range: Range) -> Result<usize, usiz
     }
 }
 
-/// The list of a range.
+/// The list of a range, if any.
 pub(crate) fn list_for(lists: &[KnownZones], range: Range) -> Option<&KnownZones>
     requires { IsZoneMap lists.now }
     ensures { option_copied result ≡ known_for range lists.now }
@@ -61,21 +61,21 @@ pub(crate) fn list_for(lists: &[KnownZones], range: Range) -> Option<&KnownZones
     }
 }
 
-/// The list whose range holds the network.
+/// The list whose range contains the network, if any.
 pub(crate) fn list_of(lists: &[KnownZones], net: u16) -> Option<&KnownZones>
     ensures { option_copied result ≡ known_of net lists.now }
 {
     lists.iter().find(|known| known.range().holds(net))
 }
 
-/// Whether another range has a network in common with this one, list by list.
+/// Whether another range overlaps this one, list by list.
 fn search_others(lists: &[KnownZones], range: Range) -> bool
     ensures { result ≡ overlaps_another range lists.now }
 {
     lists.iter().any(|known| known.range().overlaps(&range) && known.range() != range)
 }
 
-/// Whether another range has a network in common with this one. None has where this one has a list.
+/// Whether another range overlaps this one. If this range has a list, none does.
 pub(crate) fn overlaps_other(lists: &[KnownZones], range: Range) -> bool
     requires { IsZoneMap lists.now }
     ensures { result ≡ overlaps_another range lists.now }

@@ -1,4 +1,4 @@
-//! What a router knows of the zones of an internet.
+//! The zone table of a router.
 
 ghost use Rattle.std.specs.Prelude.{◌≡◌, ◌⊎◌, ◌↔◌, ◌<◌, ◌≤◌, [], false, fold, length, option_map};
 ghost use Rattle.std.specs.Prelude.{slice_get, true, vec_capacity, vec_len, None, Some};
@@ -20,14 +20,13 @@ use indexmap::IndexSet;
 use std::alloc::Global;
 use std::marker::Model;
 
-/// The most lists of a zone table.
+/// The greatest number of lists in a zone table.
 pub const MAX_LISTS: usize = 200;
 
-/// The most zones of a range.
+/// The greatest number of zones of a range.
 pub const MAX_ZONES: usize = 64;
 
-/// What a router knows of the zones of each range: a finite map from disjoint ranges to lists of
-/// zones.
+/// The zone table of a router: a finite map from disjoint ranges to zone lists.
 ///
 /// Inside AppleTalk, the chapter on ZIP.
 #[derive(Drop)]
@@ -46,7 +45,7 @@ impl Model for ZoneTable {
     ghost invariant = { λ t. IsZoneMap t.lists.items };
 }
 
-/// Takes out the list of a range.
+/// Removes the list of a range.
 fn take_out(lists: &mut Vec<KnownZones>, range: Range)
     ensures kept { lists.new.items ≡ without range lists.old.items }
     ensures room { vec_capacity lists.new ≡ vec_capacity lists.old }
@@ -79,7 +78,7 @@ fn names_from(alloc: Global, zones: &[Zone]) -> Result<Vec<Name>, Error>
     Ok(names)
 }
 
-/// Adds each zone that isn't there. Error: `Memory`.
+/// Adds each zone that isn't in the set. Error: `Memory`.
 fn insert_all(zones: &mut IndexSet<Zone>, others: &[Zone]) -> Result<(), Error>
     ensures ok { OnOk result (zones.new.keys ≡ fold with_name zones.old.keys others.now) }
     ensures err { IsOkUnless result Error.Memory }
@@ -90,15 +89,15 @@ fn insert_all(zones: &mut IndexSet<Zone>, others: &[Zone]) -> Result<(), Error>
     Ok(())
 }
 
-/// Does nothing: it tells the prover that a range is valid, which only a call can.
+/// Does nothing. It gives the prover the fact that a range is valid, which only a call can.
 pub(crate) fn recall_valid(range: Range)
     ensures { IsRange range.start range.end }
 {
     let _start = range.start();
 }
 
-/// Whether there is room for a list of a range, of so many zones. Errors: `BadRange` where another
-/// range overlaps it, `Full`.
+/// Checks that the table has room for a list of this range with this many zones. Errors: `BadRange`
+/// where another range overlaps it, `Full`.
 fn check_room(lists: &[KnownZones], range: Range, zones: usize) -> Result<(), Error>
     requires { IsZoneMap lists.now }
     ensures ok { OnOk result ((overlaps_another range lists.now ≡ false) × (zones ≤ 64)
@@ -120,7 +119,8 @@ fn check_room(lists: &[KnownZones], range: Range, zones: usize) -> Result<(), Er
     Ok(())
 }
 
-/// Puts a list in its place, where there is room for it.
+/// Puts a list at its place, instead of the one of its range, if any. The vector must have room for
+/// it.
 fn put(lists: &mut Vec<KnownZones>, known: KnownZones)
     requires map { IsZoneMap lists.old.items }
     requires room { vec_len lists.old < vec_capacity lists.old }
@@ -132,7 +132,7 @@ fn put(lists: &mut Vec<KnownZones>, known: KnownZones)
     }
 }
 
-/// The index of the list of a range that has so many zones.
+/// The index of the list of a range, if the list has `total` zones.
 fn place_to_go_on(lists: &[KnownZones], range: Range, total: u8) -> Option<usize>
     requires { IsZoneMap lists.now }
     ensures some { IfSome result (λ place. (at : IsAt range lists.now place)
@@ -146,7 +146,8 @@ fn place_to_go_on(lists: &[KnownZones], range: Range, total: u8) -> Option<usize
     }
 }
 
-/// Begins a list with a name, where there is no list of so many zones.
+/// Begins a list with a name, where the range has no list of `total` zones. Error: `Memory`;
+/// nothing changes then.
 fn begin(lists: &mut Vec<KnownZones>, range: Range, total: u8, name: &Name) -> Result<(), Error>
     requires { IsZoneMap lists.old.items }
     ensures ok { OnOk result (lists.new.items ≡ with_known
@@ -157,13 +158,13 @@ fn begin(lists: &mut Vec<KnownZones>, range: Range, total: u8, name: &Name) -> R
 {
     let mut known = KnownZones::new(*lists.allocator(), range, total)?;
     known.take(name)?;
-    // Room is made first: a refusal then leaves the lists as they are.
+    // Room is made first, so that a refusal leaves the lists as they are.
     lists.reserve(1)?;
     put(lists, known);
     Ok(())
 }
 
-/// Takes a name of a range that has so many zones. Error: `Memory`, which changes nothing.
+/// Adds a name of a range that has `total` zones. Error: `Memory`; nothing changes then.
 fn hear(lists: &mut Vec<KnownZones>, range: Range, total: u8, name: &Name) -> Result<(), Error>
     requires { IsZoneMap lists.old.items }
     ensures ok { OnOk result
@@ -189,7 +190,7 @@ impl ZoneTable {
         })
     }
 
-    /// A copy, equal to it. Error: `Memory`.
+    /// A copy of the table. Error: `Memory`.
     pub fn copy(&self) -> Result<ZoneTable, Error>
         ensures ok { IfOk result (λ table. table ≡ self.now) }
         ensures refused { IsOkUnless result Error.Memory }
@@ -198,10 +199,10 @@ impl ZoneTable {
         Ok(ZoneTable { lists })
     }
 
-    /// Takes the names, each once without case, as the complete list of a range.
+    /// Sets the complete list of a range: the names, each once, ignoring case.
     ///
-    /// Errors: `BadRange` where another range overlaps it; `Full` above 64 names, doubles counted
-    /// too, and where there are 200 lists of other ranges; `Memory`. A refusal changes nothing.
+    /// Errors: `BadRange` where another range overlaps it; `Full` above 64 names, duplicates
+    /// counted too, and where 200 other ranges have lists; `Memory`. A refusal changes nothing.
     pub fn set(&mut self, range: Range, names: &[Name]) -> Result<(), Error>
         ensures ok { OnOk result (self.new ≡ with_known (set_list range names.now) self.old) }
         ensures range { (result ≡ Err Error.BadRange) ↔ (overlaps_another range self.old ≡ true) }
@@ -214,17 +215,17 @@ impl ZoneTable {
         check_room(self.lists.as_slice(), range, names.len())?;
         recall_valid(range);
         let known = KnownZones::of(*self.lists.allocator(), range, names)?;
-        // Room is made first: a refusal then leaves the lists as they are.
+        // Room is made first, so that a refusal leaves the lists as they are.
         self.lists.reserve(1)?;
         put(&mut self.lists, known);
         Ok(())
     }
 
-    /// Takes a name of a range that has so many zones. Another number than before starts its list
-    /// again; a list that is complete, or has the name in any case, stays.
+    /// Adds a name of a range that has `total` zones. If the range's list has another total, it is
+    /// started again. A list that is complete, or has the name in any case, is unchanged.
     ///
-    /// Errors: `BadRange` where another range overlaps it; `Full` above 64 zones, and where there
-    /// are 200 lists of other ranges; `Memory`. A refusal changes nothing.
+    /// Errors: `BadRange` where another range overlaps it; `Full` above 64 zones, and where 200
+    /// other ranges have lists; `Memory`. A refusal changes nothing.
     pub fn add(&mut self, range: Range, total: u8, name: &Name) -> Result<(), Error>
         ensures ok { OnOk result (self.new ≡ heard range total name.now self.old) }
         ensures range { (result ≡ Err Error.BadRange) ↔ (overlaps_another range self.old ≡ true) }
@@ -240,14 +241,14 @@ impl ZoneTable {
         Ok(())
     }
 
-    /// Forgets the list of a range. Allocates nothing.
+    /// Removes the list of a range. Allocates nothing.
     pub fn remove(&mut self, range: Range)
         ensures { self.new ≡ without range self.old }
     {
         take_out(&mut self.lists, range);
     }
 
-    /// Whether the network's list is complete. Allocates nothing.
+    /// Whether the list of the network's range is complete. Allocates nothing.
     pub fn complete(&self, net: u16) -> bool
         ensures { result ≡ complete_at net self.now }
     {
@@ -257,7 +258,8 @@ impl ZoneTable {
         }
     }
 
-    /// Whether the network's list has the zone, complete or not. Allocates nothing.
+    /// Whether the list of the network's range has the zone, ignoring case. The list needn't be
+    /// complete. Allocates nothing.
     pub fn lists(&self, net: u16, zone: &Name) -> bool
         ensures { result ≡ lists_at net zone.now self.now }
     {
@@ -277,7 +279,7 @@ impl ZoneTable {
         }
     }
 
-    /// What its lists are allocated by.
+    /// The allocator of the lists.
     pub(crate) fn allocator(&self) -> Global {
         *self.lists.allocator()
     }
@@ -297,7 +299,7 @@ impl ZoneTable {
         self.lists.get(index).map(|known| known.range())
     }
 
-    /// The ranges whose lists have the zone, rising. Error: `Memory`.
+    /// The ranges whose lists have the zone, ignoring case, in rising order. Error: `Memory`.
     pub fn cables_of(&self, zone: &Name) -> Result<Vec<Range>, Error>
         ensures ok { IfOk result (λ ranges. ranges.items ≡ ranges_of zone.now self.now) }
         ensures few { IfOk result (λ ranges. length ranges.items ≤ 200) }
@@ -312,8 +314,8 @@ impl ZoneTable {
         Ok(ranges)
     }
 
-    /// The names of the network's list as it stands, complete or not, and none where it has none.
-    /// Error: `Memory`.
+    /// The names in the list of the network's range, which needn't be complete; none if it has no
+    /// list. Error: `Memory`.
     pub fn names_of(&self, net: u16) -> Result<Vec<Name>, Error>
         ensures ok { IfOk result (λ names. names.items ≡ names_at net self.now) }
         ensures few { IfOk result (λ names. length names.items ≤ 64) }
@@ -326,8 +328,8 @@ impl ZoneTable {
         }
     }
 
-    /// The zones of all complete lists by rising range, each once without case, as it was spelled
-    /// first. Error: `Memory`.
+    /// The zones of all complete lists, by rising range, each once, ignoring case, in its first
+    /// spelling. Error: `Memory`.
     pub fn all(&self) -> Result<Vec<Name>, Error>
         ensures ok { IfOk result (λ names. names.items ≡ all_zones self.now) }
         ensures refused { IsOkUnless result Error.Memory }

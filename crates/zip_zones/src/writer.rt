@@ -1,4 +1,4 @@
-//! ZIP packets as they are written: queries, and the names of a network.
+//! A writer of ZIP queries and extended replies.
 
 ghost use Rattle.std.specs.Prelude.{◌≡◌, ◌<◌, ◌≤◌, ◌+◌, ◌++◌, ◌↔◌, ◌⊎◌, length, IfErr, IfOk, OnOk};
 ghost use Rattle.std.specs.Prelude.{IsOkUnless};
@@ -16,19 +16,19 @@ use crate::page::put_name;
 use at_base::{Bytes, Error, Name};
 use std::alloc::Global;
 
-/// The most networks that a query names.
+/// The greatest number of networks in a query.
 pub const MAX_NETWORKS: usize = 255;
 
-/// The most bytes of a datagram's data.
+/// The greatest number of bytes of a datagram's data.
 const MAX_DATA: usize = 586;
 
-/// The bytes before the networks of a query, and before the entries of a reply.
+/// The length of the bytes before the networks of a query, and before the entries of a reply.
 const HEAD_LEN: usize = 2;
 
-/// The most bytes of a reply's entries.
+/// The greatest number of bytes of a reply's entries.
 pub(crate) const MAX_ENTRIES: usize = MAX_DATA - HEAD_LEN;
 
-/// The bytes of an entry, beside those of its name.
+/// The length of an entry without the text of its name.
 pub(crate) const ENTRY_LEN: usize = 3;
 
 /// The number of a function.
@@ -66,7 +66,7 @@ fn put_networks(bytes: &mut Vec<u8>, networks: &[u16]) -> Result<(), Error>
     Ok(())
 }
 
-/// The query for the zones of networks. Allocates exactly its length, at once.
+/// The query for the zones of networks. Allocates exactly its length.
 ///
 /// Inside AppleTalk, the chapter on ZIP.
 ///
@@ -128,7 +128,8 @@ fn entries_len(names: &[Name], room: usize) -> Result<usize, Error>
     }
 }
 
-/// The reply with names of a network that has so many zones. Allocates exactly its length, at once.
+/// The extended reply with these names of a network that has `total` zones. Allocates exactly its
+/// length.
 ///
 /// Inside AppleTalk, the chapter on ZIP.
 ///

@@ -1,4 +1,4 @@
-//! Names of zones as keys: compared without case.
+//! Zone names as keys, compared without case.
 
 ghost use Rattle.std.specs.Prelude.{◌≡◌};
 
@@ -6,7 +6,7 @@ use at_base::Name;
 use std::hash::{Hash, Hasher};
 use std::marker::Model;
 
-/// A zone's name that is equal to another but for the case of letters.
+/// A zone name that is compared without case.
 #[derive(Clone, Copy, Debug)]
 pub(crate) struct Zone {
     name: Name,
@@ -30,7 +30,7 @@ impl Zone {
         Zone { name: *name }
     }
 
-    /// Its name, as it was spelled first.
+    /// The name, in its first spelling.
     pub(crate) fn name(&self) -> &Name
         ensures { result.now ≡ self.now }
     {

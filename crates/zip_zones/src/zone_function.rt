@@ -1,24 +1,24 @@
-//! The requests for lists of zones, which come as transactions.
+//! The requests for zone lists, which are sent as ATP requests.
 
 ghost use Rattle.std.specs.Prelude.{◌≡◌};
 ghost use Rattle.zip_zones.specs.Answers as spec;
 ghost use Rattle.zip_zones.specs.Answers.{asked_page};
 
-/// Which zones a node asks for.
+/// The zones that a node asks for.
 ///
 /// Inside AppleTalk, the chapter on ZIP.
 #[derive(Clone, Copy, Debug, PartialEq, Eq)]
 pub enum ZoneFunction {
-    /// The default zone of the asker's cable.
+    /// The default zone of the node's cable.
     GetMyZone,
     /// The zones of the internet.
     GetZoneList,
-    /// The zones of the asker's cable.
+    /// The zones of the node's cable.
     GetLocalZones,
 }
 
 impl ZoneFunction {
-    /// The number in the first of a request's user bytes.
+    /// The number in the first user byte of a request.
     pub fn number(self) -> u8
         ensures { result ≡ spec.number self }
     {
@@ -29,8 +29,8 @@ impl ZoneFunction {
         }
     }
 
-    /// What a request's user bytes ask for, and the index of the first name, from 1. The second
-    /// byte isn't looked at.
+    /// The function and the index of the first name, from 1, in a request's user bytes; `None` if
+    /// the first byte isn't one of the three functions. The second byte is ignored.
     pub fn asked(user: &[u8; 4]) -> Option<(ZoneFunction, u16)>
         ensures { result ≡ asked_page user.now }
     {

@@ -1,4 +1,4 @@
-//! The pages that answer requests for lists of zones.
+//! The pages sent in reply to requests for zone lists.
 
 ghost use Rattle.std.specs.Prelude.{◌≡◌, ◌≤◌, length, IfOk, IsOkUnless};
 ghost use Rattle.zip_zones.specs.Answers.{my_zone, zone_page};
@@ -9,7 +9,8 @@ use crate::zone_function::ZoneFunction;
 use at_base::{Bytes, Error, Name};
 use std::alloc::Global;
 
-/// The page with the default zone of a cable with these zones, or the empty one.
+/// The page with the default zone of a cable with these zones, or an empty page if it has none.
+/// Error: `Memory`.
 fn my_page(alloc: Global, local: &[Name]) -> Result<Page, Error>
     ensures ok { IfOk result (λ made. made ≡ my_zone local.now) }
     ensures short { IfOk result (λ made. length made.bytes ≤ 578) }
@@ -33,9 +34,9 @@ fn my_page(alloc: Global, local: &[Name]) -> Result<Page, Error>
     }
 }
 
-/// The page from an index on that a router with this table answers a node whose cable has these
-/// zones: the default zone alone, with which it says that the page isn't the last, a page of all
-/// zones, or one of the cable's.
+/// The page that answers a zone request: GetMyZone gives the default zone, marked as not the last
+/// page; GetZoneList a page of all zones, from an index on; GetLocalZones a page of the cable's
+/// zones, from an index on.
 ///
 /// Inside AppleTalk, the chapter on ZIP; the default zone's page is this project's own. Error:
 /// `Memory`.

@@ -1,4 +1,4 @@
--- The bytes that were written, one piece after the other.
+-- The bytes of a packet, written one part after the other.
 use Rattle.std.proofs.Common.{arith}
 use Rattle.atp.proofs.Shape.{written}
 use Rattle.atp.proofs.packet.write.Goals as goal

@@ -1,4 +1,4 @@
--- At the end of the loop all 33 numbers would be open.
+-- At the end of the loop, all 33 IDs would be open.
 use Rattle.std.proofs.Common.{arith, below_more}
 use Rattle.atp.proofs.Free.{not_all}
 use Rattle.atp.proofs.table.next_id.Goals as goal

@@ -10,13 +10,13 @@ use Rattle.command_line.proofs.CommandLine.{audit_meant, audit_taken, trace_mean
 use Rattle.command_line.proofs.PlayLine.{play_meant, play_taken, play_to_meant, play_to_taken}
 use Rattle.command_line.proofs.arguments.read_arguments.Goals as goal
 
--- where one kind may come, an error has it or memory ran out
+-- If only one kind of error is possible, an error has that kind or is out of memory.
 only_kind : (found kind : ErrorKind) (kinds : Kinds) → kinds ≡ kind ∷ []
     → (found ≡ OutOfMemory) ⊎ IsAmong found kinds → (found ≡ kind) ⊎ (found ≡ OutOfMemory)
 only_kind found kind kinds one (inl memory) = inr memory
 only_kind found kind kinds one (inr among) = elim (rw one at among) [ inl same ↦ inl same | inr none ↦ absurd none ]
 
--- the fault of the arguments, in the parse that was made
+-- The fault of the arguments, in the parse that was made.
 fault_is : (app : App) (texts words : List Text) (kinds : Kinds) → app ≡ atalk_app → texts ≡ words
     → fault_of atalk_app words ≡ kinds → fault_of app texts ≡ kinds
 fault_is app texts words kinds same named fault = ap (λ (a : App). fault_of a texts) same ∙ ap (fault_of atalk_app) named ∙ fault

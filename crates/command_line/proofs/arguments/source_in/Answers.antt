@@ -9,7 +9,7 @@ use Rattle.command_line.specs.declared.arguments.Source.{Source}
 use Rattle.command_line.specs.declared.arguments.Source.TheVariants.{StandardInput, File}
 use Rattle.command_line.proofs.arguments.source_in.Goals as goal
 
--- a word that is the dash names standard input, and another one a file
+-- A dash is standard input, and any other word is a file.
 word_names : (word : Bor (List ℕ)) (source : Source) (dash : Bool) → Decides dash (word.now ≡ codes "-")
     → (word.now ≡ codes "-" → source ≡ StandardInput) → (word.now ≢ codes "-" → source ≡ File word) → Names (Some word.now) source
 word_names word source true decides input file =
@@ -19,7 +19,7 @@ word_names word source false decides input file =
     let other : word.now ≢ codes "-" = λ same. let odd = decides.1 same in absurd cc in
     rw (file other) (refl, other)
 
--- where there is no word, it is the dash
+-- Without a word, the word is the dash.
 names : (value : Option (Bor (List ℕ))) (text : Option Text) (dash word : Bor (List ℕ)) (source : Source)
     → option_map (λ s. s.now) value ≡ text → dash.now ≡ codes "-" → word ≡ unwrap_or value dash
     → (word.now ≡ codes "-" → source ≡ StandardInput) → (word.now ≢ codes "-" → source ≡ File word) → Names text source

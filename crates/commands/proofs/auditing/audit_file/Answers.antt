@@ -5,7 +5,7 @@ use Rattle.table_image.specs.declared.flaw.Flaw.{Flaw}
 use Rattle.audit.specs.declared.verdict.Verdict.{Verdict}
 use Rattle.commands.proofs.auditing.audit_file.Goals as goal
 
--- bytes that were read whole and have a verdict have no flaw
+-- Bytes that were read to their end and have a verdict have no flaw.
 no_flaw : (told : Option (List ℕ)) (bytes : List ℕ) (answer : Result Verdict Error) (v : Verdict)
     → IfSome told (λ bs. bytes ≡ bs) → answer ≡ Ok v
     → ((f : Flaw) → IsFirstFlaw bytes f → answer ≡ Err (refusal bytes f)) → IfSome told (λ bs. (f : Flaw) → IsFirstFlaw bs f → ⊥)

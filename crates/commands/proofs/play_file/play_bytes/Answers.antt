@@ -5,24 +5,24 @@ use Rattle.internet_file.specs.Files.{IsFile, IsFileRefused, Planned}
 use Rattle.commands.proofs.Known.{map_some}
 use Rattle.commands.proofs.play_file.play_bytes.Goals as goal
 
--- what follows from either
+-- A consequence of either of two facts.
 either : {A B C : Type 0} → A ⊎ B → (A → C) → (B → C) → C
 either (inl a) f g = f a
 either (inr b) f g = g b
 
--- the error is one by which a play of the text is refused
+-- The error is one that a play of the text may have.
 abbrev IsRefused : List ℕ → Error → Type 0
 IsRefused text e =
     (e ≡ ReadFault) ⊎ IsFileRefused text e
     ⊎ (((plan : Planned) × IsFile text plan) × ((e ≡ Full) ⊎ (e ≡ Memory) ⊎ (e ≡ WriteFault)))
 
--- what was played can't be written only where a writer fails
+-- Writing the result of a play has no error but that of a writer.
 handed : (text : List ℕ) (r : Result Bool Error) → ((plan : Planned) × IsFile text plan) → IsOkUnless r WriteFault
     → IfErr r (IsRefused text)
 handed text (Ok answer) file refused = tt
 handed text (Err e) file refused = inr (inr (file, inr (inr refused)))
 
--- what can't be played isn't written
+-- A text whose play has an error isn't written.
 unplayed : (text : List ℕ) (e : Error) → (e ≡ ReadFault) ⊎ IsFileRefused text e
     ⊎ (((plan : Planned) × IsFile text plan) × ((e ≡ Full) ⊎ (e ≡ Memory))) → IsRefused text e
 unplayed text e (inl unread) = inl unread
@@ -39,7 +39,7 @@ pub returns-in-Err-clause-refused : goal.returns-in-Err-clause-refused
 returns-in-Err-clause-refused g c =
     map_some _ _ (g.R.Read.remaining c.args.input.now.reader) c.in-Err.ensures.refused (λ text p. unplayed text c.in-Err.error p)
 
--- what was written before the image was touched are the lines of the play
+-- If the image was touched, the lines of the play were written before.
 pub returns-in-Ok-clause-order : goal.returns-in-Ok-clause-order
 returns-in-Ok-clause-order g c =
     either c.hand_over.ensures.order inl

@@ -12,7 +12,7 @@ use Rattle.frozen_trace.specs.Traces.{pending_line}
 use Rattle.table_image.specs.Internet.{Internet}
 use Rattle.frozen_trace.proofs.trace.trace_script.Goals as goal
 
--- the fault for which no run starts is the first
+-- The fault because of which no run starts is the audit's first.
 first_fault : (i : Internet) (fault : Fault) (e : Error) → e ≡ NotAudited fault → IsUnstarted i e → IsFirst i fault
 first_fault i fault e is (inl known) =
     let same : known.0 ≡ fault = (let both = sym known.1 ∙ is in cc) in

@@ -3,7 +3,7 @@ use Rattle.zip_zones.specs.Answers.{after_list, networks_named}
 use Rattle.learning.proofs.Named.{Left, PartOf}
 use Rattle.learning.proofs.lists.learn_each.Given as goal
 
--- what is left of the networks gives the whole
+-- learning the networks that are left gives the whole result
 abbrev pub invariant-loop-index : goal.invariant-loop-index
 invariant-loop-index g l =
     let learn = after_list (g.T.RouteTable.rows l.routes) l.entries in

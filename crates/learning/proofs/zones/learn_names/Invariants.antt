@@ -3,7 +3,7 @@ use Rattle.zip_zones.specs.Answers.{after_name}
 use Rattle.learning.proofs.Parts.{InPart}
 use Rattle.learning.proofs.zones.learn_names.Given as goal
 
--- what is left of the names gives the whole
+-- learning the names that are left gives the whole result
 abbrev pub invariant-loop-entry : goal.invariant-loop-entry
 invariant-loop-entry g l =
     let learn = after_name (g.T.RouteTable.rows l.routes) l.total in

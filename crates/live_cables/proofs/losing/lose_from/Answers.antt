@@ -11,7 +11,7 @@ returns-then-not-has_loss-clause-gone c =
     (nothing_lost c.args.losing.now (drop c.args.from (transcript c.args.cables.now)) (sym c.has_loss.ensures ∙ c.if-not-has_loss.true)))
     (gone_none c.args.cables.now)
 
--- the stamps that were found
+-- The stamps that were found.
 found : (c : goal.After-drop-stamps-2) → c.deref.result.now ≡ losses_since c.args.losing.now c.args.from c.args.cables.now
 found c =
     let losing = loses_by c.args.losing.now in

@@ -19,6 +19,6 @@ begun plan (Ok w) ok wires stations schedule =
     (subst (λ (p : Planned). w.wires ≡ wires_begun p) (sym ok.0) wires)
 begun plan (Err e) ok wires stations schedule = tt
 
--- src/playing.rt:86:1
+-- A world before its first tick satisfies `Lives`.
 pub returns-clause-lived : goal.returns-clause-lived
 returns-clause-lived c = begun c.args.plan c.new.result c.new.ensures.ok c.new.ensures.wires c.new.ensures.begun c.new.ensures.scheduled

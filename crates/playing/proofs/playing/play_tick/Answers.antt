@@ -12,7 +12,7 @@ passed : {U : Type 0} (r : Result U Error) (old new : Worldly) → new.plan ≡ 
 passed (Ok done) old new plan now ticks does = λ lives. Passed old new lives plan now ticks does
 passed (Err e) old new plan now ticks does = tt
 
--- src/playing.rt:53:1
+-- A world still satisfies `Lives` after a tick that finished.
 pub returns-clause-lived : goal.returns-clause-lived
 returns-clause-lived c =
     passed c.tick-ticked.result c.args.world.now c.tick-ticked.new.self c.tick-ticked.ensures.plan c.tick-ticked.ensures.now c.tick-ticked.ensures.ticks_on

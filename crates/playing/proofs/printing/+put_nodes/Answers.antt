@@ -7,7 +7,7 @@ use Rattle.world.specs.Seen.{node_at, received_by, taken_out}
 use Rattle.world.specs.Worlds.{Worldly}
 use Rattle.playing.proofs.printing.+put_nodes.Goals as goal
 
--- what one node received, and then what the others did
+-- The datagrams that one node received, followed by those of the others.
 in_turn : {T E : Type 0} (r : Result T E) (w left_of : Worldly) (number left : ℕ) (old one all : List ℕ) → left_of ≡ taken_out w number
     → one ≡ old ++ received_lines number (received_by (node_at w number))
     → received_lines number (received_by (node_at w number)) ++ all_received (taken_out w number) (number + 1) (left - 1)

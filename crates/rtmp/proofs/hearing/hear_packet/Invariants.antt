@@ -4,7 +4,7 @@ use Rattle.rtmp.specs.Routes.{heard_packet}
 use Rattle.rtmp.proofs.Parts.{InPart}
 use Rattle.rtmp.proofs.hearing.hear_packet.Given as goal
 
--- what is left to be heard gives the whole
+-- handling the tuples that are left gives the whole result
 abbrev pub invariant-loop-tuple : goal.invariant-loop-tuple
 invariant-loop-tuple g l =
     (heard_packet l.source l.port l.tuple-iterator (g.T.RouteTable.rows l.table)

@@ -3,7 +3,6 @@ use Rattle.rtmp.proofs.Maps.{none_at, replace_at}
 use Rattle.rtmp.specs.Updates.{before}
 use Rattle.rtmp.proofs.plain.replace.Goals as goal
 
--- src/plain.rt:199:9
 pub returns-then-place-len : goal.returns-then-place-len
 returns-then-place-len c =
     let place : c.place_near-place.result ≡ before c.args.row.range.start c.args.rows.now.items =
@@ -11,7 +10,6 @@ returns-then-place-len c =
     none_at c.args.row c.args.row 0 c.args.rows.now.items c.requires.each c.requires.apart
     (λ less. absurd (omega (arith, less, place, c.len.ensures, c.if-place-len.true)))
 
--- src/plain.rt:193:1
 pub returns-then-eq : goal.returns-then-eq
 returns-then-eq c =
     let place : c.place_near-place.result ≡ before c.args.row.range.start c.args.rows.now.items =
@@ -20,7 +18,6 @@ returns-then-eq c =
     rw place (replace_at c.args.row c.index.result.now 0 c.args.rows.now.items c.requires.each c.requires.apart
     (omega (arith, place, c.len.ensures, c.if-place-len.false)) same)
 
--- src/plain.rt:193:1
 pub returns-else-eq : goal.returns-else-eq
 returns-else-eq c =
     let place : c.place_near-place.result ≡ before c.args.row.range.start c.args.rows.now.items =

@@ -3,7 +3,7 @@ use Rattle.rtmp.specs.Bytes.{tuples_bytes}
 use Rattle.rtmp.specs.Sending.{of_other_ports, sent_tuple}
 use Rattle.rtmp.proofs.writer.put_rows.Given as goal
 
--- what is written, and what is left to be written, is all
+-- the bytes written and those still to be written are all bytes
 abbrev pub invariant-loop-index : goal.invariant-loop-index
 invariant-loop-index g l =
     l.bytes.items ++ tuples_bytes

@@ -6,7 +6,7 @@ use Rattle.script.specs.declared.step.Step.{Step}
 use Rattle.script.proofs.Progress.{SoFar, passed, told, stopped}
 use Rattle.script.proofs.reading.read.Goals as goal
 
--- what was read of a text, where so many steps, lines and lines to come are known
+-- The steps and the number of lines that were read of a text, and the lines that are left.
 abbrev Read : List ℕ → List Step → ℕ → List (List ℕ) → Type 0
 Read text = SoFar is_skipped step (lines text)
 

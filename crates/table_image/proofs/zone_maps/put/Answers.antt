@@ -8,7 +8,7 @@ use Rattle.table_image.specs.ZoneMaps.{is_told, range_of}
 use Rattle.table_image.proofs.ZoneTables.{least_for, room_for}
 use Rattle.table_image.proofs.zone_maps.put.Goals as goal
 
--- of three refusals, two of which don't come, the third is left
+-- of three errors, two of which don't occur, the third is left
 only_memory : {T : Type 0} (r : Result T Error) → IfErr r (λ e. (e ≡ BadRange) ⊎ (e ≡ Full) ⊎ (e ≡ Memory))
     → (r ≡ Err BadRange → ⊥) → (r ≡ Err Full → ⊥) → IsOkUnless r Memory
 only_memory (Ok x) h range full = h

@@ -3,7 +3,7 @@ use Rattle.live_cables.specs.Steps.{loses_by}
 use Rattle.world.specs.Losing.{loses_in}
 use Rattle.world.proofs.losing.mark_all.Given as goal
 
--- the cables of the losses up to here are marked
+-- The cables of the losses before this index are marked.
 abbrev pub invariant-loop-index : goal.invariant-loop-index
 invariant-loop-index l =
     (length l.losing.items ≡ length l.initial.losing.items)

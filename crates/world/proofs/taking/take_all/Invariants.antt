@@ -6,7 +6,7 @@ use Rattle.world.specs.Received.{AreReceived, got}
 use Rattle.world.specs.Taking.{AreTaken}
 use Rattle.world.proofs.taking.take_all.Given as goal
 
--- a frame was taken in each step
+-- A frame was taken in each step.
 abbrev pub invariant-loop-step : goal.invariant-loop-step
 invariant-loop-step g l =
     (map ports_of l.stations.items ≡ map ports_of l.initial.stations.items) × GoesOn l._step l.initial.wires l.wires

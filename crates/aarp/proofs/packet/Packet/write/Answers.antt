@@ -1,4 +1,4 @@
--- The bytes that were put together are those of the packet.
+-- The bytes that are put together are those of the packet.
 use Rattle.aarp.proofs.Written.{plain_spelled}
 use Rattle.aarp.proofs.packet.Packet.write.Goals as goal
 

@@ -3,7 +3,7 @@ use Rattle.std.proofs.KnownBytes.{Consumes-all, Consumes-trans}
 use Rattle.std.specs.Io.KnownBytes.{Consumes, IsAtEnd}
 use Rattle.commands.proofs.input.Input.read_all.Goals as goal
 
--- a reader whose last read gave nothing, at its end, had given all before
+-- If the last read returned 0 bytes at the end of the reader, the reads before it returned all bytes.
 all_given : (a b c : Option (List ℕ)) (bytes buffer : List ℕ) (n : ℕ) → n ≡ 0 → Consumes a b bytes
     → Consumes b c (take n buffer) → IsAtEnd c → IfSome a (λ all. bytes ≡ all)
 all_given a b c bytes buffer n none before last end =

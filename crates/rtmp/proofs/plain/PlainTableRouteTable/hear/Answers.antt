@@ -4,7 +4,7 @@ use Rattle.rtmp.specs.Routes.{row_at, is_new}
 use Rattle.rtmp.proofs.Heard.{there, new_map}
 use Rattle.rtmp.proofs.plain.PlainTableRouteTable.hear.Goals as goal
 
--- the row that was found, and what hearing leaves
+-- the table after hearing, by the row that was found
 pub invariant_of-self : goal.invariant_of-self
 invariant_of-self c =
     let found : row_at c.args.range c.self.inside.rows.items ≡ Some c.in-Some.row.now =

@@ -8,13 +8,13 @@ use Rattle.trace_lines.proofs.lines.Lines.append.Goals as goal
 abbrev printed : Directory → List ℕ → Printed
 printed i cables = record { directory = i; cables = cables }
 
--- what is known when cables were added
+-- The printer after cables were added.
 more : (p : Printed) (i : Directory) (old new added : List ℕ) → printed i old ≡ p → new ≡ old ++ added
     → printed i new ≡ printed p.directory (p.cables ++ added)
 more p i old new added now grown =
     ap (printed i) grown ∙ ap (λ (q : Printed). printed q.directory (q.cables ++ added)) now
 
--- what is known when no cable was added
+-- The printer after no cable was added.
 same : (p : Printed) (i : Directory) (old new : List ℕ) → printed i old ≡ p → new ≡ old → printed i new ≡ p
 same p i old new now stayed = ap (printed i) stayed ∙ now
 

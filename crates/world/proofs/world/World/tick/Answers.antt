@@ -3,7 +3,7 @@ use Rattle.live_cables.specs.Steps.{HasNoRoom}
 use Rattle.world.specs.Worlds.{Worldly}
 use Rattle.world.proofs.world.World.tick.Goals as goal
 
--- what stopped it is noted, and the cables stay as the tick left them
+-- The error is recorded, and the cables stay as the failed tick left them.
 pub returns-in-Err-clause-full : goal.returns-in-Err-clause-full
 returns-in-Err-clause-full g c =
     λ stopped is.
