@@ -17,7 +17,7 @@ use Rattle.router.specs.Holding.{hand as router_hand, hand_by as router_hand_by}
 use Rattle.router.specs.declared.hand.Hand.TheVariants as by
 
 -- A search in a mapped list has the mapped result of a search in the list.
-find_map : {X Y : Type 0} (f : X → Y) (t : Y → Bool) (xs : List X) → find t (map f xs) ≡ option_map f (find (λ x. t (f x)) xs)
+pub find_map : {X Y : Type 0} (f : X → Y) (t : Y → Bool) (xs : List X) → find t (map f xs) ≡ option_map f (find (λ x. t (f x)) xs)
 find_map f t [] = refl
 find_map f t (x ∷ xs) = one (t (f x)) (find_map f t xs)
   where

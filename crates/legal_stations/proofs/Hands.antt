@@ -24,15 +24,7 @@ use Rattle.table_image.specs.Rows.{is_direct}
 use Rattle.table_image.specs.declared.port.Port.{Port}
 use Rattle.table_image.specs.declared.row.Row.{Row}
 use Rattle.table_image.specs.declared.router.Router.{Router}
-
--- A search in a mapped list has the mapped result of a search in the list.
-pub find_map : {X Y : Type 0} (f : X → Y) (t : Y → Bool) (xs : List X) → find t (map f xs) ≡ option_map f (find (λ x. t (f x)) xs)
-find_map f t [] = refl
-find_map f t (x ∷ xs) =
-    elim (t (f x)) as (λ b. cond b (Some (f x)) (find t (map f xs)) ≡ option_map f (cond b (Some x) (find (λ x. t (f x)) xs))) [
-      | true ↦ refl
-      | false ↦ find_map f t xs
-    ]
+use Rattle.legal_stations.proofs.Handed.{find_map}
 
 -- A router with the image's tables makes the image's routing decision for a network: neither has a route; or both put
 -- datagrams on the cable of a port, which is the network's home; or both hand them, over the cable of a port, to the

@@ -32,6 +32,7 @@ use Rattle.table_image.specs.Internet.{Internet}
 use Rattle.legal_stations.proofs.Bridge.{made_agrees}
 use Rattle.legal_stations.proofs.Datagrams.{names_of}
 use Rattle.legal_stations.proofs.Making.{is_sent}
+use Rattle.legal_stations.proofs.Answered.{leg_by}
 
 -- ---- Entries of outputs, one after another
 
@@ -52,10 +53,6 @@ entries_more i s stamp (x ∷ xs) ys =
     ∙ ap (λ k. (first ++ rest) ++ all_entries (places_of i) (cable_seats i) s k ys) n)
 
 -- ---- Datagrams that stations made
-
--- The leg of a datagram that a station made.
-abbrev pub leg_by : Internet → ℕ → ℕ → Next → List ℕ → Leg
-leg_by i s port to bytes = record { station = s; cable = cable_of (cable_seats i) s port; next = to; body = bytes; hops = 0 }
 
 -- The station made the output, and it leaves in an allowed way.
 abbrev pub Leaves : Internet → ℕ → Output → Type 0

@@ -17,6 +17,7 @@ use Rattle.legal_runs.specs.Answers.{IsBody}
 use Rattle.legal_runs.specs.Requests.{request}
 use Rattle.station.specs.Lawful.{IsWhole}
 use Rattle.legal_stations.proofs.Datagrams.{begins_whole, names_of, request_in}
+use Rattle.legal_stations.proofs.Sealed.{sum_fits}
 
 -- ---- Properties of each element of a list
 
@@ -31,26 +32,6 @@ all_of P (x ∷ xs) h = All-cons P x xs h.0 (all_of P xs h.1)
 pub each_front : {X : Type 0} (P : X → Type 0) (xs ys : List X) → Each P (xs ++ ys) → Each P ys
 each_front P [] ys h = h
 each_front P (x ∷ xs) ys h = each_front P xs ys h.1
-
--- ---- The checksum
-
-step_fits : (sum byte : ℕ) → step sum byte < 65536
-step_fits sum byte =
-    let n : ℕ = (sum + byte) % 65536 in
-    let high : n * 2 % 65536 < 65536 = omega arith in
-    let low : n / 32768 < 65536 = omega arith in
-    or_lt 16 (n * 2 % 65536) (n / 32768) high low
-
-folded_fits : (sum : ℕ) (bytes : List ℕ) → sum < 65536 → fold step sum bytes < 65536
-folded_fits sum [] h = h
-folded_fits sum (b ∷ bytes) h = folded_fits (step sum b) bytes (step_fits sum b)
-
--- A checksum fits its field.
-sum_fits : (bytes : List ℕ) → sum_of bytes < 65536
-sum_fits bytes = one (folded bytes) (folded_fits 0 bytes (omega arith))
-  where
-    one : (n : ℕ) → n < 65536 → cond (n == 0) 65535 n < 65536
-    one n h = grind arith
 
 -- ---- The datagram
 

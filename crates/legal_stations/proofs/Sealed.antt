@@ -51,7 +51,7 @@ folded_fits sum [] h = h
 folded_fits sum (b ∷ bytes) h = folded_fits (step sum b) bytes (step_fits sum b)
 
 -- A checksum fits its field.
-sum_fits : (bytes : List ℕ) → sum_of bytes < 65536
+pub sum_fits : (bytes : List ℕ) → sum_of bytes < 65536
 sum_fits bytes = by (folded bytes) (folded_fits 0 bytes (omega arith))
   where
     by : (n : ℕ) → n < 65536 → cond (n == 0) 65535 n < 65536

@@ -44,7 +44,7 @@ not_refused low bytes e some whole h =
     let bad : Err e ≡ ok {E = Error} (written_in low bytes) = sym r ∙ whole in
     cc
 
--- ---- The first tuple
+-- ---- the first tuple
 
 -- a tuple that passes the first tuple's test is extended
 first_extended : (t : Written) → IsValue (written_tuple 0) t → (x : Tuple) × (tuple_of t ≡ Some x)

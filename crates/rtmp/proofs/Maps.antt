@@ -15,7 +15,7 @@ use Rattle.rtmp.specs.Routes.{are_above, is_row, is_direct, added, beside, direc
 use Rattle.rtmp.specs.Routes.{poisoned_row, replaced, replaced_row, row_at, IsRouteMap}
 use Rattle.rtmp.specs.Updates.{before}
 
--- ---- A valid row
+-- ---- a valid row
 
 pub row_ends : (r : Row) → is_row r ≡ true → (1 ≤ r.range.start) × (r.range.start ≤ r.range.end)
 row_ends r h =
@@ -23,7 +23,7 @@ row_ends r h =
     let e = ends_of r.range.start r.range.end p.0 in
     (e.0, e.1)
 
--- ---- Rows above a network
+-- ---- rows above a network
 
 pub above_lower : (low high : ℕ) (rows : List Row) → low ≤ high → are_above high rows ≡ true → are_above low rows ≡ true
 above_lower low high [] le h = refl
@@ -248,7 +248,7 @@ row_missing range d low (r ∷ rows) each h other =
           rw (other (omega arith)) (no_row_above range r.range.end rows (omega (arith, le, ends.1)) e.1 q.1)
     ]) refl other
 
--- ---- A loop that updates each row
+-- ---- a loop that updates each row
 
 one_more : (f : Row → Row) (all : List Row) (i : ℕ) (d : Row) → i < length all
     → set (map f (take i all) ++ drop i all) i (f (get_or (map f (take i all) ++ drop i all) i d))

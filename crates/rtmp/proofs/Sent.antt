@@ -14,7 +14,7 @@ use Rattle.rtmp.specs.States.{is_usable}
 use Rattle.rtmp.proofs.Maps.{all_filter}
 use Rattle.rtmp.proofs.Spelled.{is_tuple, data_spelled}
 
--- ---- A row at an index
+-- ---- a row at an index
 
 pub row_next : (rows : List Row) (i : ℕ) (r : Row) → slice_get rows i ≡ Some r → drop i rows ≡ r ∷ drop (i + 1) rows
 row_next [] i r h = absurd cc
@@ -43,7 +43,7 @@ sent_near r h =
 pub sent_at : (rows : List Row) (i : ℕ) (r : Row) → list_all is_row rows ≡ true → slice_get rows i ≡ Some r → (sent_tuple r).distance ≤ 31
 sent_at rows i r each h = sent_near r (row_good rows i r each h)
 
--- ---- Rows of the other ports
+-- ---- rows of the other ports
 
 pub others_skip : (port : ℕ) (r : Row) (rows : List Row) → r.port ≡ port → of_other_ports port (r ∷ rows) ≡ of_other_ports port rows
 others_skip port r rows t = rw (eq-eqb r.port port t) refl

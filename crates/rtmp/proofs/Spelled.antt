@@ -21,7 +21,7 @@ use Rattle.rtmp.proofs.Shape.{data_lawful}
 abbrev pub is_tuple : Tuple → Bool
 is_tuple t = is_range t.range.start t.range.end && nat_le t.distance 31
 
--- ---- One tuple
+-- ---- one tuple
 
 -- the ends of a valid range fit two bytes
 range_fits : (start end : ℕ) → is_range start end ≡ true → (start < 65536) × (end < 65536)
@@ -48,7 +48,7 @@ written_bytes low t near =
     let third : (128 + t.distance) % 256 ≡ 128 + t.distance = omega arith in
     rw (extended, third) refl
 
--- ---- All tuples
+-- ---- all tuples
 
 later_values : (ts : List Tuple) → list_all is_tuple ts ≡ true
     → ListPasses (λ low. IsValue (written_tuple low)) (λ (w : Written). 1) 1 (map written_of ts)
@@ -63,7 +63,7 @@ later_bytes (t ∷ ts) h =
     let near : t.distance ≤ 31 = leb-true _ _ (and_parts (is_range t.range.start t.range.end) (nat_le t.distance 31) p.0).1 in
     rw (written_bytes 1 t near, later_bytes ts p.1) refl
 
--- ---- The packet
+-- ---- the packet
 
 pub data_spelled : (me : Addr) (own : Span) (ts : List Tuple) → me.net < 65536 → me.node < 256 → is_range own.start own.end ≡ true
     → list_all is_tuple ts ≡ true

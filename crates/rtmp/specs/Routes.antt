@@ -14,7 +14,7 @@ use Rattle.rtmp.specs.declared.table.Change.{Change}
 use Rattle.rtmp.specs.declared.table.Change.TheVariants.{Ignored, Changed, Added}
 use Rattle.rtmp.specs.declared.tuple.Tuple.{Tuple}
 
--- ---- The map
+-- ---- the map
 
 -- each range starts above the end of the one before it, and the first above low
 abbrev pub are_above : ℕ → List Row → Bool
