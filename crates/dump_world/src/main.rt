@@ -3,16 +3,15 @@
 #![tactic(auto)]
 
 mod lines;
-mod output;
 
 use at_base::Error;
 use internet_file::read;
 use lines::put_entry;
-use output::Output;
 use rtmp::{PlainTable, RouteTable};
 use std::alloc::Global;
 use std::io::{Read, Write, writer};
 use std::process::ExitCode;
+use text::Output;
 use world::World;
 
 /// Carries out all ticks of the plan, or those before the first that has an error.
