@@ -181,7 +181,7 @@ module _ (i : Internet) (ok : Passes i) where
   one_seat j k s t (AtNode m near a) (AtNode l far b) alike =
       let same = two_nodes m l s t a b alike in omega arith
 
-  -- ---- Each seat is addressed
+  -- ---- each seat is addressed
 
   same_seat : (s : Seat) (cable : ℕ) (a : Addr) (h : Hw) → s.cable ≡ cable → s.address ≡ a → s.hardware ≡ h
       → bad_address i cable a h ≡ false → bad_address i s.cable s.address s.hardware ≡ false
