@@ -6,17 +6,18 @@ use at_base::Error;
 use std::alloc::{AllocError, Global};
 use std::io;
 
-/// Does what the commands of a case say.
+/// Carries out the commands of a case.
 pub trait Bench: Drop {
-    /// A bench at the beginning of a case.
+    /// A bench at the start of a case.
     fn new(alloc: Global) -> Self;
 
-    /// Does what the words say, and appends the lines of the answer. At most one call changes something and takes
-    /// memory, and nothing is appended before it: so a command that memory was refused to can be done again.
+    /// Carries out a command, and appends the lines of its answer. At most one call changes the
+    /// bench and allocates memory, and nothing is appended before it, so a command whose allocation
+    /// failed can be carried out again.
     fn act(&mut self, words: Words<'_>, text: &mut String) -> Answer;
 }
 
-/// How many lines of a file were compared, and how many differences there are.
+/// The number of lines of a file that were compared, and the number of differences.
 #[derive(Clone, Copy, Debug, PartialEq, Eq)]
 pub struct Counts {
     pub compared: u64,
@@ -26,7 +27,7 @@ pub struct Counts {
 /// Room for the lines that a command appends after a call that changes something.
 const ROOM: usize = 4000;
 
-/// The answer of the last command, and how many of its lines were compared.
+/// The answer of the last command, and the number of its lines that were compared.
 #[derive(Drop)]
 struct Told {
     text: String,
@@ -39,7 +40,7 @@ fn act_once<B: Bench>(bench: &mut B, line: &str, text: &mut String) -> Answer {
     bench.act(Words::new(line), text)
 }
 
-/// Does what the line says, and once more where memory was refused.
+/// Carries out the command of a line, and once again if an allocation failed.
 fn act<B: Bench>(bench: &mut B, line: &str, text: &mut String) -> Answer {
     match act_once(bench, line, text) {
         Err(Stop::Refused(Error::Memory)) => act_once(bench, line, text),
@@ -47,7 +48,8 @@ fn act<B: Bench>(bench: &mut B, line: &str, text: &mut String) -> Answer {
     }
 }
 
-/// Does what the line says. A refusal is an answer of one line, after what was appended before it.
+/// Carries out the command of a line. An error gives an answer of one line, after the lines that
+/// were appended before it.
 fn tell<B: Bench>(bench: &mut B, line: &str, told: &mut Told) -> Result<(), AllocError> {
     told.lines = 0;
     match act(bench, line, &mut told.text) {
@@ -56,7 +58,7 @@ fn tell<B: Bench>(bench: &mut B, line: &str, told: &mut Told) -> Result<(), Allo
     }
 }
 
-/// The next line of the answer.
+/// The next line of the answer that wasn't compared yet.
 fn next_line(told: &mut Told) -> Option<&str> {
     let line = told.text.as_str().lines().nth(told.lines);
     told.lines = told.lines.saturating_add(1);
@@ -76,7 +78,7 @@ fn report<R: Print>(
     println!(rt; "{name}:{number}: wanted {wanted}, got {got}")
 }
 
-/// Compares the next line of the answer with the wanted one, or with its end.
+/// Compares the next line of the answer with the expected one, or with the end of the answer.
 fn compare_line<R: Print>(
     rt: &R,
     name: &str,
@@ -96,7 +98,7 @@ fn compare_line<R: Print>(
     Ok(())
 }
 
-/// Goes through the cases of a text, and prints each difference.
+/// Carries out the cases of a text, and prints each difference.
 pub fn compare<B: Bench, R: Print>(
     rt: &R,
     alloc: Global,

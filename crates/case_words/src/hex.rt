@@ -16,7 +16,7 @@ pub(crate) fn byte(high: u8, low: u8) -> Result<u8, Stop> {
     Ok(digit(high)?.wrapping_mul(16) | digit(low)?)
 }
 
-/// Appends the bytes that the digits spell, two digits a byte.
+/// Appends the bytes with these digits, two digits for each byte.
 pub(crate) fn read(bytes: &mut Vec<u8>, digits: &[u8]) -> Result<(), Stop> {
     for pair in digits.chunks(2) {
         match pair {

@@ -1,7 +1,7 @@
-//! Case files: commands in the words of the protocol, and the lines that each of them answers.
+//! Case files: commands in the words of the protocol, and the lines of each command's answer.
 //!
-//! A case is a run of lines between empty ones. `# ..` is a remark, `> ..` is the next line that the command above
-//! answers, and any other line is a command.
+//! A case is a run of lines between empty ones. `# ..` is a remark, `> ..` is the next line of the
+//! answer of the command above it, and any other line is a command.
 #![tactic(auto)]
 
 mod case_file;

@@ -1,10 +1,10 @@
-//! A program of cases: it goes through the files that its arguments name.
+//! A program that carries out the case files that its arguments name.
 
 use crate::case_file::{Bench, compare};
 use std::rt::{Env, Files};
 use std::{env, fs, io};
 
-/// The text of a file, read once more where memory was refused.
+/// The text of a file, read again if an allocation failed.
 fn text_of<R: Files + AllocGlobal>(rt: &R, name: &str) -> Result<String, io::Error> {
     match fs::read_to_string(rt, name) {
         Ok(text) => Ok(text),
@@ -12,7 +12,7 @@ fn text_of<R: Files + AllocGlobal>(rt: &R, name: &str) -> Result<String, io::Err
     }
 }
 
-/// Goes through the cases of a file, and prints how many lines were compared and how many differ.
+/// Carries out the cases of a file, and prints how many lines were compared and how many differ.
 fn run_file<B: Bench, R: Files + Print + AllocGlobal>(rt: &R, name: &str) -> Result<(), io::Error> {
     let text = text_of(rt, name)?;
     let counts = compare::<B, R>(rt, rt.alloc(), name, text.as_str())?;
@@ -28,7 +28,7 @@ fn names_once<R: Env + AllocGlobal>(rt: &R) -> Result<Vec<String>, io::Error> {
     Ok(names)
 }
 
-/// The arguments, asked for once more where memory was refused.
+/// The arguments, read again if an allocation failed.
 fn names<R: Env + AllocGlobal>(rt: &R) -> Result<Vec<String>, io::Error> {
     match names_once(rt) {
         Ok(names) => Ok(names),
@@ -36,7 +36,7 @@ fn names<R: Env + AllocGlobal>(rt: &R) -> Result<Vec<String>, io::Error> {
     }
 }
 
-/// Goes through the case files that the arguments name, in their order.
+/// Carries out the case files that the arguments name, in order.
 pub fn run<B: Bench, R: Env + Files + Print + AllocGlobal>(rt: &R) -> Result<(), io::Error> {
     let names = names(rt)?;
     for name in names.iter() {

@@ -7,13 +7,13 @@ use std::fmt;
 /// Why a command has no answer.
 #[derive(Clone, Copy, Debug, PartialEq, Eq)]
 pub enum Stop {
-    /// A call refuses what the command asks for.
+    /// A call of the command returned this error.
     Refused(Error),
-    /// The line is no command, or lacks a word.
+    /// The line isn't a command, or lacks a word.
     Unclear,
 }
 
-/// What becomes of a command, beside the text that it appends.
+/// The result of a command, besides the text that it appends.
 pub type Answer = Result<(), Stop>;
 
 impl fmt::Display for Stop {

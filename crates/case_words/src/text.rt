@@ -1,4 +1,4 @@
-//! How answers spell bytes and texts.
+//! The form of bytes and texts in answers.
 
 use at_base::Hw;
 use std::alloc::AllocError;
@@ -12,7 +12,7 @@ pub fn put_hex(text: &mut String, bytes: &[u8]) -> Result<(), AllocError> {
     Ok(())
 }
 
-/// Appends bytes as a line of hexadecimal digits; no bytes are `-`.
+/// Appends bytes as a line of hexadecimal digits; `-` if there are none.
 pub fn put_line(text: &mut String, bytes: &[u8]) -> Result<(), AllocError> {
     if bytes.is_empty() {
         write!(text, "-")?;
@@ -26,8 +26,8 @@ pub fn put_hw(text: &mut String, hw: Hw) -> Result<(), AllocError> {
     put_hex(text, hw.as_slice())
 }
 
-/// Appends the bytes of a text in quotation marks. A byte that isn't printable, a quotation mark and a backslash are
-/// a backslash and two digits.
+/// Appends the bytes of a text in quotation marks. A byte that isn't printable, a quotation mark
+/// and a backslash are written as a backslash and two digits.
 pub fn put_text(text: &mut String, bytes: &[u8]) -> Result<(), AllocError> {
     text.push('"')?;
     for byte in bytes {

@@ -6,7 +6,7 @@ use at_base::{Addr, Hw, Name, Range, Text32};
 use std::alloc::Global;
 use std::str::FromStr;
 
-/// The words that are left of a line.
+/// The remaining words of a line.
 #[derive(Clone, Copy)]
 pub struct Words<'a> {
     rest: &'a str,
@@ -22,7 +22,7 @@ where
     }
 }
 
-/// Appends the bytes of hexadecimal digits, as `00FF`, or as many copies of them as `00FF*587` says.
+/// Appends the bytes of hexadecimal digits, as `00FF`, or several copies of them, as `00FF*587`.
 fn put_bytes(bytes: &mut Vec<u8>, word: &str) -> Result<(), Stop> {
     match word.split_once('*') {
         Some((digits, count)) => {
@@ -36,7 +36,7 @@ fn put_bytes(bytes: &mut Vec<u8>, word: &str) -> Result<(), Stop> {
     }
 }
 
-/// Appends the bytes of a text, in which a backslash and two digits are a byte.
+/// Appends the bytes of a text, in which a backslash and two digits mean a byte.
 fn put_escaped(bytes: &mut Vec<u8>, text: &[u8]) -> Result<(), Stop> {
     match text {
         [] => Ok(()),
@@ -72,7 +72,7 @@ impl<'a> Words<'a> {
         }
     }
 
-    /// All that is left of the line.
+    /// The rest of the line.
     pub fn rest(&mut self) -> &'a str {
         let rest = self.rest;
         self.rest = "";
@@ -84,7 +84,7 @@ impl<'a> Words<'a> {
         self.rest.is_empty()
     }
 
-    /// Passes over the next word where it is this one, and says whether it was.
+    /// Skips the next word if it is this one. Returns whether it was.
     pub fn passes(&mut self, word: &str) -> bool {
         let mut after = *self;
         if after.word() != word {
@@ -94,7 +94,7 @@ impl<'a> Words<'a> {
         true
     }
 
-    /// Passes over the next word, which has to be this one.
+    /// Skips the next word, which must be this one.
     pub fn expect(&mut self, word: &str) -> Result<(), Stop> {
         if self.passes(word) {
             Ok(())
@@ -226,7 +226,7 @@ impl<'a> Words<'a> {
         Ok(Text32::new(bytes.as_slice())?)
     }
 
-    /// The items up to the end of the line, or to a word `/`, with semicolons between them.
+    /// The items, separated by semicolons, up to the end of the line or to a word `/`.
     pub fn list<T: Drop, F: Fn(&mut Words<'a>) -> Result<T, Stop> + Drop>(
         &mut self,
         alloc: Global,

@@ -1,5 +1,5 @@
-//! Tests of commands through public calls. They have a crate of their own, since a crate's
-//! tests prove the crate a second time.
+//! Tests of commands through public calls. They are a separate crate, since a crate's tests prove
+//! the crate a second time.
 #![tactic(auto)]
 
 #[cfg(test)]

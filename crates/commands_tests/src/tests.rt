@@ -1,7 +1,7 @@
-//! What comes of readers that fail, are interrupted or give a few bytes at a time, and of writers that
-//! fail or hold bytes back; and who is told of each tick. Each test passes whichever single request for
-//! memory is refused: on `Memory` it calls again. What the program writes of images, scripts and
-//! internet files is compared by the cases of `program_cases`.
+//! Commands with readers that fail, are interrupted or return a few bytes at a time, and with
+//! writers that fail or buffer bytes; and the reports of each tick. Each test passes whichever
+//! single allocation fails: on `Memory` it calls again. The program's output for images, scripts
+//! and internet files is compared by the cases of `program_cases`.
 
 mod fakes;
 mod plays;
@@ -75,7 +75,7 @@ fn an_interrupted_read_is_tried_again(rt: HostRuntime) -> Result<(), Fail> {
 #[test]
 fn reads_without_end_are_given_up(rt: HostRuntime) {
     assert_eq!(rt; READS, 16_777_216);
-    // As far on as the reads before would have led.
+    // An input with five reads left.
     let mut input = nearly_given_up(Restless, 5);
     let mut answer = input.read_all(rt.alloc()).err();
     if answer == Some(Error::Memory) {
@@ -111,7 +111,7 @@ fn the_last_permitted_read_counts(rt: HostRuntime) {
     }
 }
 
-/// Appends, and again where memory was refused.
+/// Appends a piece, with another attempt if an allocation failed.
 fn append_again(bytes: &mut Vec<u8>, piece: &[u8]) -> Result<(), Error> {
     match append(bytes, piece) {
         Ok(()) => Ok(()),
@@ -132,7 +132,7 @@ fn a_buffer_grows_by_a_quarter_and_seldom(rt: HostRuntime) -> Result<(), Fail> {
         }
     }
     assert_eq!(rt; bytes.len(), 1_638_400);
-    // Four pieces, and from there on a quarter more each time: 1.25 to the 18th is above 50.
+    // Four pieces, and then a quarter more each time: 1.25 to the 18th is above 50.
     assert!(rt; growths < 26, "at {growths}");
     assert!(rt; bytes.capacity() < 2_080_000);
     Ok(())
@@ -142,11 +142,11 @@ fn a_buffer_grows_by_a_quarter_and_seldom(rt: HostRuntime) -> Result<(), Fail> {
 fn a_long_input_comes_whole(rt: HostRuntime) -> Result<(), Fail> {
     let end = 1_100_003;
     let reading = read_all(rt.alloc(), Places { next: 0, end });
-    // 135 pieces and the end
+    // 135 pieces and the end.
     assert_eq!(rt; reading.reads, 136);
     let read = reading.answer?;
     assert_eq!(rt; read.len(), 1_100_003);
-    // A quarter more at most, and a piece; doubled, it would be 2,097,152.
+    // At most a quarter and a piece more; a buffer that doubles would have 2,097,152.
     assert!(rt; read.capacity() < 1_400_000);
     let mut place = 0u32;
     for byte in &read {
@@ -158,7 +158,7 @@ fn a_long_input_comes_whole(rt: HostRuntime) -> Result<(), Fail> {
 
 #[test]
 fn a_write_that_fails_is_a_write_fault(rt: HostRuntime) {
-    // The text, the end of line and the flush, and then nothing fails.
+    // Three calls may fail: the text, the end of the line and the flush.
     for fails_at in 1..5 {
         let mut output = Output::new(rt.alloc(), Frail { calls: 0, fails_at });
         let answer = output.write_line(b"yes");
@@ -171,14 +171,14 @@ fn a_write_that_fails_is_a_write_fault(rt: HostRuntime) {
     }
 }
 
-/// Audits what the reader gives, and writes into the room.
+/// Audits the reader's bytes, and writes into `room`.
 fn audit_once<R: Read + Drop>(alloc: Global, reader: R, room: &mut [u8]) -> Result<bool, Error> {
     let mut input = Input::new(reader);
     let mut output = Output::new(alloc, room);
     audit_file(alloc, &mut input, &mut output)
 }
 
-/// As `audit_once`, and again where memory was refused.
+/// As `audit_once`, with another call if an allocation failed.
 fn audit<R: Read + Copy>(alloc: Global, reader: R, room: &mut [u8]) -> Result<bool, Error> {
     match audit_once(alloc, reader, room) {
         Err(Error::Memory) => audit_once(alloc, reader, room),
@@ -186,7 +186,7 @@ fn audit<R: Read + Copy>(alloc: Global, reader: R, room: &mut [u8]) -> Result<bo
     }
 }
 
-/// Whether the room has this text and nothing after it.
+/// Whether `room` has this text and only zero bytes after it.
 fn holds(room: &[u8], text: &[u8]) -> bool {
     match room.strip_prefix(text) {
         Some(rest) => rest.iter().all(|byte| *byte == 0),
@@ -194,10 +194,10 @@ fn holds(room: &[u8], text: &[u8]) -> bool {
     }
 }
 
-/// An internet of nothing.
+/// An internet without cables, routers and nodes.
 const EMPTY: &[u8] = b"ATIM\x01\0\0\0";
 
-/// One cable, whose range ends before it starts.
+/// An image with one cable, whose range ends before it starts.
 const BACKWARD: &[u8] = b"ATIM\x01\x01\0\x0a\0\x05\0\0\0";
 
 #[test]
@@ -217,7 +217,7 @@ fn a_line_is_flushed_after_its_end(rt: HostRuntime) {
     assert_eq!(rt; output.writer.flushed(), b"yes\n".as_slice());
 }
 
-/// Text that was still to be written, and whether it came through.
+/// Whether text that wasn't written yet is written and flushed by `flush`.
 fn passes_on(alloc: Global) -> Result<bool, Error> {
     let mut output = Output::new(alloc, Holding::new());
     output.text.extend_from_slice(b"took 0 1\n")?;
@@ -279,7 +279,7 @@ fn nothing_is_written_of_an_input_whose_third_read_fails(rt: HostRuntime) {
 
 #[test]
 fn a_verdict_that_cannot_be_written_is_a_write_fault(rt: HostRuntime) {
-    // There is no room for a first byte, or not for the whole line.
+    // No room for a first byte, or room for only a part of the line.
     for len in [0usize, 10] {
         let mut room = [0u8; 10];
         let answer = audit(rt.alloc(), Pieces::new(EMPTY, 100), &mut room[..len]);

@@ -1,4 +1,4 @@
--- There are no more answers than names.
+-- There are at most as many replies to a lookup as names.
 use Rattle.std.proofs.Common.{ℕ, ◌≤◌, Bool, true, false, cond, List, [], ◌∷◌, length, arith}
 use Rattle.std.specs.Prelude.{filter, map}
 use Rattle.nbp.specs.Registered.{answers, is_asked_for, tuple_of}

@@ -1,5 +1,5 @@
--- What a node puts out for what it hears, and what it holds then. (Inside AppleTalk, the chapters on DDP, AEP, NBP,
--- ATP and AARP)
+-- The outputs of a node for a frame that it receives, and its state after it. (Inside AppleTalk, the chapters on DDP,
+-- AEP, NBP, ATP and AARP)
 use Rattle.std.specs.Prelude.{◌≡◌, ◌≢◌, ℕ, Bool, true, false, ◌&&◌, ◌||◌, ◌==◌, cond, List, [], ◌∷◌, ◌++◌, drop, length, nat_lt, Option, Some, None}
 use Rattle.std.specs.Prelude.{option_map, option_to_list, if◌then◌else◌}
 use Rattle.aarp.specs.Choosing.{answer, heard as port_heard, settled}
@@ -28,29 +28,29 @@ use Rattle.end_node.specs.Lookups.{names_in, told}
 use Rattle.end_node.specs.Ways.{way_back}
 use Rattle.end_node.specs.declared.node.Datagram.{Datagram as Received}
 
--- the target is every node of the node's cable
+-- the target means every node of the node's cable
 abbrev pub is_all : NodeHolding → Addr → Bool
 is_all h a = a.node == 255 && (a.net == 0 || is_between h.port.range.start h.port.range.end a.net)
 
--- A node takes a datagram as its own: in a frame to itself where it is for its address, in one to all where it is for every
--- node of its cable, and in one to a group where it is about names.
+-- The node accepts a datagram as its own: in a frame to itself if it is for the node's address, in a frame to all if it
+-- is for every node of the node's cable, and in a frame to a group if it is for the names socket.
 abbrev pub takes : NodeHolding → Link → Datagram → Bool
 takes h link.Own d = has d.target (settled h.port)
 takes h link.All d = is_all h d.target
 takes h (link.Group g) d = is_to 2 2 d
 
--- the datagram is for one of the sockets at which the node itself listens: echoes, names, routing data, zones and transactions
+-- the datagram is for one of the node's own services: echoes, names, routing data, zones and transactions
 abbrev pub is_served : Datagram → Bool
 is_served d = is_to 4 4 d || is_to 2 2 d || is_to 1 1 d || is_to 6 6 d || is_to 3 252 d
 
--- what a node makes of a datagram of its own, by its type and socket: echoes, and replies to lookups
+-- the outputs for a datagram that the node accepted, by its type and socket: echo replies, and replies to lookups
 abbrev pub served : NodeHolding → Datagram → List Output
 served h d =
     if is_to 4 4 d then replying (way_back h d) (option_to_list (echo_reply d))
     else if is_to 2 2 d then told h d (names_in d.payload)
     else []
 
--- what is kept of a datagram
+-- a datagram as it is kept
 abbrev pub kept : Datagram → Received
 kept d = record {
   source = d.source;
@@ -60,100 +60,104 @@ kept d = record {
   payload = d.payload;
 }
 
--- the datagrams that were received, with one more; the oldest goes where there are 64
+-- the datagrams that are kept, with one more; if there are 64, the oldest is dropped
 abbrev pub keeping : Received → List Received → List Received
 keeping d ds = cond (nat_lt (length ds) 64) (ds ++ d ∷ []) (drop 1 ds ++ d ∷ [])
 
--- the same, if there is one more
+-- The datagrams that are kept, with one more if there is one; if there are 64, the oldest is dropped for it.
 abbrev pub keeping_any : Option Received → List Received → List Received
 keeping_any None ds = ds
 keeping_any (Some d) ds = keeping d ds
 
--- what a node receives of a datagram of its own, if no service of the node's takes it
+-- a datagram that the node accepted as it is kept, or None if it is for one of the node's own services
 abbrev pub received_of : Datagram → Option Received
 received_of d = cond (is_served d) None (Some (kept d))
 
--- the datagrams that were received then
+-- the datagrams that are kept after a node accepted this datagram
 abbrev pub received_after : NodeHolding → Datagram → List Received
 received_after h d = keeping_any (received_of d) h.received
 
--- what a node puts out for a datagram of its own, and what it holds then
+-- the outputs of a node for a datagram that it accepted, and its state after it
 abbrev pub heard_own : NodeHolding → Datagram → List Output × NodeHolding
 heard_own h d = (served h d, record h { received = received_after h d })
 
--- what a node puts out for a datagram, and what it holds then: nothing for one that it doesn't take, or whose checksum is wrong
+-- The outputs of a node for the datagram in a frame of this link, and its state after it: a datagram that it doesn't
+-- accept or whose checksum is wrong has no outputs, and changes nothing.
 abbrev pub heard_datagram : NodeHolding → Link → Option Datagram → List Output × NodeHolding
 heard_datagram h l None = ([], h)
 heard_datagram h l (Some d) =
     cond (takes h l d && checks d) (heard_own h d) ([], h)
 
--- what it puts out for an AARP packet: its answer; and what it holds then: while it chooses its address it may go to the next
+-- The output of a node for an AARP packet, its response, and its state after it: while it chooses its address it moves
+-- to the next one if the packet conflicts.
 abbrev pub heard_packet : NodeHolding → Option Packet → List Output × NodeHolding
 heard_packet h None = ([], h)
 heard_packet h (Some p) = (wired 0 (answer h.port p), record h { port = port_heard p h.port })
 
--- by what the frame holds
+-- the outputs of a node for a frame of this kind, and its state after it, without changes of its transactions
 abbrev pub heard_kind : Kind → NodeHolding → Hearing → List Output × NodeHolding
 heard_kind Ddp h x = heard_datagram h x.link (datagram_at x.bytes)
 heard_kind Aarp h x = heard_packet h (packet_at x.bytes)
 
--- what it puts out for a frame, and what it holds then
+-- the outputs of a node for a frame, and its state after it, without changes of its transactions
 abbrev pub heard : NodeHolding → Hearing → List Output × NodeHolding
 heard h x = heard_kind x.kind h x
 
 -- ---- Transactions
 
--- the ATP packet in a datagram's data
+-- the ATP packet in a datagram's data, if any
 unfoldable pub transaction_in : List ℕ → Option AtpPacket
 transaction_in payload = value_of (read packets atp_packet payload)
 
--- the socket that a datagram comes from
+-- the address and the socket that a datagram comes from
 abbrev pub peer : Datagram → Peer
 peer d = record { addr = d.source; socket = d.source_socket }
 
--- what a datagram of the node's own brings to its transactions: the packet in it, if it is for the socket of these
+-- the ATP packet in a datagram, if it is for the socket of the node's transactions
 abbrev pub brought_by : Datagram → Option AtpPacket
 brought_by d = cond (is_to 3 252 d) (transaction_in d.payload) None
 
--- The transactions hear a packet from this peer: that of its ID may be answered by it, and all others stay.
+-- The transactions received a packet from this peer: the transaction of its ID may be answered by it, and the others
+-- stay the same.
 pub record HearsPacket (from : Peer) (p : AtpPacket) (old new : Transactions) : Type 0 where
   pub here : known p.id new.slots ≡ option_map (after_hearing from p) (known p.id old.slots)
   pub others : (id : ℕ) → id ≢ p.id → known id new.slots ≡ known id old.slots
   pub next : new.next ≡ old.next
 
--- the transactions hear the packet, if there is one, and stay as they are if there is none
+-- the transactions received the packet, if there is one; otherwise they stay the same
 abbrev pub HearsAny : Peer → Option AtpPacket → Transactions → Transactions → Type 0
 HearsAny from None old new = new ≡ old
 HearsAny from (Some p) old new = HearsPacket from p old new
 
--- the transactions of a node hear a datagram of the node's own
+-- the transactions of a node received a datagram that the node accepted
 abbrev pub AsksHearOwn : Datagram → Transactions → Transactions → Type 0
 AsksHearOwn d old new = HearsAny (peer d) (brought_by d) old new
 
--- they hear a datagram that is the node's own, or not
+-- the transactions of a node received a datagram if the flag is true; otherwise they stay the same
 abbrev pub AsksHearIf : Bool → Datagram → Transactions → Transactions → Type 0
 AsksHearIf false d old new = new ≡ old
 AsksHearIf true d old new = AsksHearOwn d old new
 
--- the transactions of a node that holds this hear a datagram, if the node takes it and its checksum is right
+-- the transactions of a node received the datagram in a frame of this link, if the node accepts it and its checksum is
+-- right
 abbrev pub AsksHearDatagram : NodeHolding → Link → Option Datagram → Transactions → Type 0
 AsksHearDatagram h l None new = new ≡ h.asks
 AsksHearDatagram h l (Some d) new = AsksHearIf (takes h l d && checks d) d h.asks new
 
--- by what the frame holds
+-- the transactions of a node are these after a frame of this kind; an AARP frame leaves them the same
 abbrev pub AsksHearKind : Kind → NodeHolding → Hearing → Transactions → Type 0
 AsksHearKind Ddp h x new = AsksHearDatagram h x.link (datagram_at x.bytes) new
 AsksHearKind Aarp h x new = new ≡ h.asks
 
--- the transactions of a node that holds this are these after a frame
+-- the transactions of a node are these after a frame
 abbrev pub HearsAsks : NodeHolding → Hearing → Transactions → Type 0
 HearsAsks h x new = AsksHearKind x.kind h x new
 
--- A node that holds this hears a frame, puts these out, and holds that then. Its transactions are said by what is known of
--- each ID, and everything else is a function of what it held.
+-- A node in state old receives a frame, has these outputs, and is in state new after it. Its transactions are given by
+-- what is known of each ID; everything else is a function of the old state.
 abbrev pub Hears : NodeHolding → Hearing → List Output → NodeHolding → Type 0
 Hears old x added new = ((added, record new { asks = old.asks }) ≡ heard old x) × HearsAsks old x new.asks
 
--- time changes nothing, and nothing is put out
+-- A tick changes nothing, and has no outputs.
 abbrev pub Ticks : NodeHolding → List Output → NodeHolding → Type 0
 Ticks old added new = (added ≡ []) × (new ≡ old)

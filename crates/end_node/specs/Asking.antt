@@ -1,4 +1,4 @@
--- What a node asks its router for. (Inside AppleTalk, the chapters on NBP, ATP and ZIP)
+-- The requests of a node to its router. (Inside AppleTalk, the chapters on NBP, ATP and ZIP)
 use Rattle.std.specs.Prelude.{ℕ, ◌/◌, ◌%◌, [], ◌∷◌, cond, false, List, Option, Some, None, Result, Ok, Err}
 use Rattle.aarp.specs.Choosing.{settled}
 use Rattle.at_base.specs.Spelling.{bytes_of}
@@ -32,37 +32,37 @@ way_to_router kind target_socket source_socket own router = record {
   };
 }
 
--- the way of a request for names from this address to the router
+-- the way of an NBP request from this address to the router
 abbrev pub names_way : Addr → Addr → Way
 names_way own router = way_to_router 2 2 253 own router
 
--- the way of a request for zones from this address to the router
+-- the way of a GetZoneList request from this address to the router
 abbrev pub zones_way : Addr → Addr → Way
 zones_way own router = way_to_router 3 6 252 own router
 
--- from this address to the router, if there is one
+-- the way of a request from this address to the router, or NoRouter if there is none
 abbrev pub asking_of : (Addr → Addr → Way) → Addr → Option Addr → Result Way Error
 asking_of way own None = Err NoRouter
 asking_of way own (Some router) = Ok (way own router)
 
--- from this address, if the node has it
+-- the way of a request to the router, or NoSuch Station if the node has no address, or NoRouter if it has no router
 abbrev pub asking_from : (Addr → Addr → Way) → Option Addr → Option Addr → Result Way Error
 asking_from way None router = Err (NoSuch Station)
 asking_from way (Some own) router = asking_of way own router
 
--- the way of a request for names to the router; or why there is none: the node has no address, or no router
+-- the way of an NBP request to the router, or why there is none: the node has no address, or no router
 abbrev pub asking : NodeHolding → Result Way Error
 asking h = asking_from names_way (settled h.port) h.router
 
--- the way of a request for zones to the router; or why there is none, as for names
+-- the way of a GetZoneList request to the router, or why there is none: the node has no address, or no router
 abbrev pub zones_asking : NodeHolding → Result Way Error
 zones_asking h = asking_from zones_way (settled h.port) h.router
 
--- the zone that is asked for: the node's in place of one that stands for it
+-- the zone of a lookup: the node's own in place of an empty zone or *
 abbrev pub zone_asked : NodeHolding → List ℕ → List ℕ
 zone_asked h zone = cond (is_any zone) h.zone zone
 
--- the tuple of a request from this address
+-- the tuple of a broadcast request from this address
 abbrev pub asked_by : Addr → List ℕ → List ℕ → List ℕ → Tuple
 asked_by own object kind zone = record {
   at = own;
@@ -73,11 +73,12 @@ asked_by own object kind zone = record {
   zone = zone;
 }
 
--- the bytes of a broadcast request of this ID
+-- the bytes of a broadcast request with this ID
 abbrev pub request_bytes : ℕ → Tuple → List ℕ
 request_bytes id t = bytes_of packet (packet_of BroadcastRequest id t)
 
--- What the router is asked for the zones from an index on, by GetZoneList: one part, again after ten ticks, eight times at most.
+-- The transaction that asks the router for the zones from an index on, by GetZoneList: it has one part, and is sent
+-- again after ten ticks, and at most eight times in all.
 abbrev pub zone_ask : ℕ → Addr → Ask
 zone_ask start router = record {
   to = router;
@@ -91,6 +92,6 @@ zone_ask start router = record {
   tries = 8;
 }
 
--- the bytes of the request of a transaction of this ID, which begins so
+-- the bytes of the first request of this transaction with this ID
 abbrev pub ask_bytes : ℕ → Ask → List ℕ
 ask_bytes id ask = bytes_of atp_packet (request_of (begun id ask))

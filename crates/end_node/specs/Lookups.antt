@@ -1,4 +1,4 @@
--- What a node answers to lookups. (Inside AppleTalk, the chapter on NBP)
+-- A node's replies to lookups. (Inside AppleTalk, the chapter on NBP)
 use Rattle.std.specs.Prelude.{ℕ, Bool, ◌||◌, ◌==◌, cond, List, [], ◌∷◌, map, length, Option, Some, None}
 use Rattle.aarp.specs.Choosing.{settled}
 use Rattle.at_base.specs.Packets.{packets}
@@ -19,27 +19,27 @@ use Rattle.station.specs.declared.output.Output.{Output}
 use Rattle.end_node.specs.Holding.{NodeHolding}
 use Rattle.end_node.specs.Ways.{reply_way}
 
--- the packet in a datagram's data
+-- the NBP packet in a datagram's data, if any
 unfoldable pub names_in : List ℕ → Option NbpPacket
 names_in payload = value_of (read packets packet payload)
 
--- the zone of a lookup stands for that of whoever hears it
+-- the zone means the receiver's own: it is empty or *
 abbrev pub is_any : List ℕ → Bool
 is_any zone = length zone == 0 || is_only 42 zone
 
--- the node is in the zone of a lookup
+-- a node in zone own is in the zone of a lookup
 abbrev pub is_in : List ℕ → List ℕ → Bool
 is_in own zone = is_any zone || same_name zone own
 
--- a name's tuple with this address and zone
+-- the tuple with this address and zone
 abbrev pub named_at : Addr → List ℕ → Tuple → Tuple
 named_at own zone t = record t { at = own; zone = zone }
 
--- the reply with a tuple to a lookup of this ID
+-- the bytes of the reply with a tuple to a lookup with this ID
 abbrev pub reply_of : Addr → List ℕ → ℕ → Tuple → List ℕ
 reply_of own zone id t = bytes_of packet (packet_of Reply id (named_at own zone t))
 
--- the header of the replies to a lookup: to the socket that asks, summed where the lookup was
+-- The header of the replies to a lookup: to the socket that asked, with a checksum if the lookup had one.
 abbrev pub answer_header : Bool → Tuple → Header
 answer_header summed t = record {
   summed = summed;
@@ -50,29 +50,29 @@ answer_header summed t = record {
   kind = 2;
 }
 
--- the replies to a lookup of this ID from this address, if the node has it: one for each name that is asked for
+-- The replies to a lookup with this ID from the node's address, if it has one: one for each name that matches.
 abbrev pub replies : NodeHolding → Bool → ℕ → Tuple → Option Addr → List Output
 replies h summed id t None = []
 replies h summed id t (Some own) =
     replying (reply_way h (answer_header summed t)) (map (reply_of own h.zone id) (answers t.object t.kind h.names))
 
--- what a node answers to a lookup: nothing for another zone
+-- The replies of a node to a lookup; none if the lookup is for another zone.
 abbrev pub looked_up : NodeHolding → Bool → ℕ → Tuple → List Output
 looked_up h summed id t = cond (is_in h.zone t.zone) (replies h summed id t (settled h.port)) []
 
--- by the packet's function: only lookups are answered
+-- The replies of a node to a packet with this function and first tuple; only lookups are answered.
 abbrev pub told_by : NodeHolding → Bool → ℕ → Tuple → Function → List Output
 told_by h summed id t BroadcastRequest = []
 told_by h summed id t Lookup = looked_up h summed id t
 told_by h summed id t Reply = []
 told_by h summed id t ForwardRequest = []
 
--- by the packet's first tuple
+-- the replies of a node to a packet, by the first of its tuples
 abbrev pub told_of : NodeHolding → Bool → NbpPacket → List Tuple → List Output
 told_of h summed p [] = []
 told_of h summed p (t ∷ ts) = told_by h summed p.id t p.function
 
--- what a node answers to a datagram that holds this packet
+-- the replies of a node to a datagram with this NBP packet, if there is one
 abbrev pub told : NodeHolding → Datagram → Option NbpPacket → List Output
 told h d None = []
 told h d (Some p) = told_of h (is_summed d) p p.tuples

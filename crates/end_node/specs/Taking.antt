@@ -1,4 +1,4 @@
--- Datagrams that a node takes as its own. (Inside AppleTalk, the chapter on DDP)
+-- Datagrams that a node accepts as its own. (Inside AppleTalk, the chapter on DDP)
 use Rattle.std.specs.Prelude.{◌&&◌, cond, Option, Some, None}
 use Rattle.ddp.specs.Datagram.{Datagram}
 use Rattle.station.specs.Hearing.{Hearing}
@@ -10,16 +10,16 @@ use Rattle.station.specs.declared.heard.Link.{Link}
 use Rattle.end_node.specs.Answers.{takes}
 use Rattle.end_node.specs.Holding.{NodeHolding}
 
--- the datagram, if the node takes it and its checksum is right
+-- the datagram in a frame of this link, if the node accepts it and its checksum is right
 abbrev pub taken_datagram : NodeHolding → Link → Option Datagram → Option Datagram
 taken_datagram h l None = None
 taken_datagram h l (Some d) = cond (takes h l d && checks d) (Some d) None
 
--- by what the frame holds
+-- the datagram in a frame of this kind, if the node accepts it and its checksum is right; an AARP frame has none
 abbrev pub taken_kind : Kind → NodeHolding → Hearing → Option Datagram
 taken_kind Ddp h x = taken_datagram h x.link (datagram_at x.bytes)
 taken_kind Aarp h x = None
 
--- The datagram that a frame brings to a node which holds this, if the node takes it as its own and its checksum is right.
+-- The datagram that a node receives in a frame, if the node accepts it as its own and its checksum is right.
 abbrev pub taken : NodeHolding → Hearing → Option Datagram
 taken h x = taken_kind x.kind h x

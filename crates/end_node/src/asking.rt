@@ -1,4 +1,4 @@
-//! What a node asks its router for, and what it registers and received.
+//! A node's lookups, the names that it registers, and the datagrams that it received.
 
 ghost use Rattle.std.specs.Prelude.{◌≡◌, ◌↔◌, ◌≤◌, ◌&&◌, ◌⊎◌, ◌∷◌, [], length, true, false};
 ghost use Rattle.std.specs.Prelude.{IfErr, IfOk, IsOkUnless, OnErr, OnOk};
@@ -19,11 +19,11 @@ use nbp::{Function, Tuple, write};
 use station::{Next, Outputs, Way};
 use std::mem;
 
-/// The socket to which the replies to a node's lookups come.
+/// The socket at which a node receives the replies to its lookups.
 const REPLIES: u8 = 253;
 
 impl EndNode {
-    /// The way of a request to the router, or why there is none.
+    /// The way of a request of this type to the router, or why there is none.
     pub(crate) fn way_to_router(
         &self,
         kind: u8,
@@ -54,7 +54,7 @@ impl EndNode {
         })
     }
 
-    /// The way of a request for names to the router, or why there is none.
+    /// The way of an NBP request to the router, or why there is none.
     fn asking(&self) -> Result<Way, Error>
         ensures value { result ≡ spec.asking self.now }
         ensures inside { IfOk result (λ way. (way.port ≡ 0) × IsNext way.next) }
@@ -62,7 +62,7 @@ impl EndNode {
         self.way_to_router(types::NBP, sockets::NAMES, REPLIES)
     }
 
-    /// The zone that is asked for.
+    /// The zone of a lookup: the node's own in place of an empty zone or `*`.
     fn zone_asked(&self, zone: &Text32) -> Text32
         ensures { result ≡ spec.zone_asked self.now zone.now }
     {
@@ -73,13 +73,13 @@ impl EndNode {
         }
     }
 
-    /// Asks the node's router for the names of a zone: one datagram is added, a broadcast request.
-    /// For an empty zone and `*` it names the node's own.
+    /// Asks the node's router for the names in a zone: a broadcast request is added to the outputs.
+    /// In place of an empty zone or `*` it names the node's own zone.
     ///
     /// Inside AppleTalk, the chapter on NBP.
     ///
-    /// Errors, in this order: `NoSuch(Station)` where the node has no address, `NoRouter` where it
-    /// has no router, `Memory`.
+    /// Errors, in this order: `NoSuch(Station)` if the node has no address, `NoRouter` if it has no
+    /// router, `Memory`. After an error the outputs are unchanged.
     pub fn lookup(
         &self,
         id: u8,
@@ -114,8 +114,8 @@ impl EndNode {
         }
     }
 
-    /// Takes the datagrams that were received last, at most 64, oldest first. Error: `Memory`,
-    /// which taking them never needs.
+    /// Removes and returns the datagrams that were received, the last 64 at most, the oldest first.
+    /// Error: `Memory`, which this never needs.
     pub fn received(&mut self) -> Result<Vec<Datagram>, Error>
         ensures taken { IfOk result (λ datagrams. datagrams.items ≡ self.old.received) }
         ensures few { IfOk result (λ datagrams. length datagrams.items ≤ 64) }
@@ -127,12 +127,12 @@ impl EndNode {
         Ok(mem::replace(&mut self.received, none))
     }
 
-    /// Registers a name for a socket, as `Names::register` does: it gets the least free enumerator
-    /// from 1.
+    /// Registers a name for a socket, as `Names::register` does, and returns its enumerator: the
+    /// least free one from 1. The caller ensures that the socket is 1 to 254.
     ///
     /// Inside AppleTalk, the chapter on NBP.
     ///
-    /// Errors: `BadName`, `BadField(Taken)`, `Full` where there are 32 names, `Memory`. A refusal
+    /// Errors: `BadName`; `BadField(Taken)`; `Full` if there are 32 names; `Memory`. A refusal
     /// changes nothing.
     pub fn register(&mut self, object: Text32, kind: Text32, socket: u8) -> Result<u8, Error>
         requires low { 1 ≤ socket }

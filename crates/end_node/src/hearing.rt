@@ -16,7 +16,8 @@ use station::frames::{read_datagram, read_packet, wire};
 use station::{Heard, Kind, Outputs, Station};
 
 impl EndNode {
-    /// Puts the answer to an AARP packet out, if there is one.
+    /// Adds the response to an AARP packet, if there is one. Error: `Memory`; the outputs don't
+    /// change then.
     fn put_answer(&self, packet: &Packet, outputs: &mut Outputs) -> Result<(), Error>
         ensures ok { OnOk result (PutsOut 1 outputs.old.items outputs.new.items (λ added.
             added ≡ wired 0 (answer self.now.port packet.now))) }
@@ -31,7 +32,8 @@ impl EndNode {
         Ok(())
     }
 
-    /// Hears an AARP frame.
+    /// Receives an AARP frame. Bytes that don't begin with an AARP packet are ignored. Error:
+    /// `Memory`; neither the node nor the outputs change then.
     fn hear_packet(&mut self, bytes: &[u8], outputs: &mut Outputs) -> Result<(), Error>
         ensures ok { OnOk result (PutsOut 1 outputs.old.items outputs.new.items (λ added.
             (added, self.new) ≡ heard_packet self.old (packet_at bytes.now))) }
@@ -47,11 +49,11 @@ impl EndNode {
         Ok(())
     }
 
-    /// Hears a frame, as a station does. Returns the datagram that it brings, where the node takes it
-    /// as its own and its checksum is right. Error: `Memory`, which changes neither the node nor the
-    /// outputs.
+    /// Receives a frame, as `Station::receive` does. Returns the datagram in the frame if the node
+    /// accepts it as its own and its checksum is right. Error: `Memory`; neither the node nor the
+    /// outputs change then.
     ///
-    /// Inside AppleTalk, the chapter on DDP.
+    /// Inside AppleTalk, the chapters on DDP and AARP.
     pub fn hear<'a>(
         &mut self,
         heard: &Heard<'a>,

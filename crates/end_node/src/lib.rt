@@ -1,4 +1,4 @@
-//! End nodes: what a node sends, answers and receives.
+//! End nodes: the datagrams that a node sends, answers and receives.
 #![tactic(auto)]
 
 mod asking;

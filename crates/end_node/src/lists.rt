@@ -1,4 +1,4 @@
-//! Lists of zones, for which a node asks its router in transactions.
+//! Zone lists, for which a node asks its router in ATP transactions.
 
 ghost use Rattle.std.specs.Prelude.{◌≡◌, ◌≢◌, ◌↔◌, ◌⊎◌, ◌≤◌, ◌+◌, ◌%◌, ◌∷◌, [], ℕ, None, Some};
 ghost use Rattle.std.specs.Prelude.{IfErr, IfOk, IfSome, IsOkUnless, OnErr, OnOk, length};
@@ -24,10 +24,10 @@ use station::ways::is_to;
 use station::{Outputs, Way};
 use std::alloc::Global;
 
-/// The function GetZoneList, in the first user byte of a request.
+/// The function number of GetZoneList, the first user byte of a request.
 const GET_ZONE_LIST: u8 = 8;
 
-/// What the router is asked for the zones from an index on.
+/// The transaction that asks the router for the zones from index `start` on.
 fn zone_ask(alloc: Global, start: u16, router: Addr) -> Ask
     ensures { result ≡ asking_spec.zone_ask start router }
 {
@@ -45,8 +45,9 @@ fn zone_ask(alloc: Global, start: u16, router: Addr) -> Ask
     }
 }
 
-/// Asks a router for the zones from an index on. The ID of the transaction, and the bytes of its
-/// request, which counts as sent.
+/// Begins a transaction that asks a router for the zones from index `start` on. Returns its ID and
+/// the bytes of its first request, which counts as sent. Errors: `Full` if 32 transactions are
+/// open, `Memory`.
 fn begin(
     requester: &mut Requester,
     alloc: Global,
@@ -69,7 +70,7 @@ fn begin(
     Ok((id, bytes))
 }
 
-/// The packet in the data of a datagram.
+/// The ATP packet in the data of a datagram, if any.
 fn read_packet(payload: &[u8]) -> Option<Packet<'_>>
     ensures { option_map packet_value result ≡ transaction_in payload.now }
 {
@@ -79,7 +80,7 @@ fn read_packet(payload: &[u8]) -> Option<Packet<'_>>
     }
 }
 
-/// The socket that a datagram comes from.
+/// The address and the socket that a datagram comes from.
 fn peer(view: &View<'_>) -> Peer
     ensures { result ≡ answers_spec.peer view.now }
 {
@@ -89,7 +90,7 @@ fn peer(view: &View<'_>) -> Peer
     }
 }
 
-/// What a datagram of the node's own brings to its transactions.
+/// The ATP packet in a datagram, if it is for the socket of the node's transactions.
 fn brought_by<'a>(view: &View<'a>) -> Option<Packet<'a>>
     ensures { option_map packet_value result ≡ answers_spec.brought_by view.now }
 {
@@ -100,10 +101,9 @@ fn brought_by<'a>(view: &View<'a>) -> Option<Packet<'a>>
     }
 }
 
-/// Lets the transactions hear a packet, if there is one.
+/// Passes a packet, if there is one, to the transactions. Error: `Memory`; they don't change then.
 ///
-/// A node asks for nothing that is to be carried out once, so no release is wanted, and none is
-/// sent.
+/// A node sends no exactly-once requests, so no release is needed, and none is sent.
 fn hear_any(requester: &mut Requester, from: Peer, packet: Option<Packet<'_>>) -> Result<(), Error>
     ensures ok { OnOk result
         (HearsAny from (option_map packet_value packet.entry) requester.old requester.new) }
@@ -116,7 +116,8 @@ fn hear_any(requester: &mut Requester, from: Peer, packet: Option<Packet<'_>>) -
     Ok(())
 }
 
-/// Lets the transactions hear a datagram of the node's own.
+/// Passes a datagram that the node accepted to its transactions. Error: `Memory`; they don't change
+/// then.
 pub(crate) fn hear_answer(requester: &mut Requester, view: &View<'_>) -> Result<(), Error>
     ensures ok { OnOk result (AsksHearOwn view.now requester.old requester.new) }
     ensures refused { IsOkUnless result Error.Memory }
@@ -134,7 +135,9 @@ impl EndNode {
         self.way_to_router(types::ATP, sockets::ZIP, TRANSACTIONS)
     }
 
-    /// Asks the router to which a way goes for the zones from an index on.
+    /// Asks the router to which a way goes for the zones from index `start` on, and returns the ID
+    /// of the transaction. Errors: `Full` if 32 transactions are open, `Memory`; neither the node
+    /// nor the outputs change then.
     fn ask_by(&mut self, way: &Way, start: u16, outputs: &mut Outputs) -> Result<u16, Error>
         requires port { way.now.port ≡ 0 }
         requires next { IsNext way.now.next }
@@ -164,14 +167,14 @@ impl EndNode {
         Ok(id)
     }
 
-    /// Asks the node's router for the zones of the internet, from an index on: one datagram is
-    /// added, whose ATP request has the user bytes of GetZoneList. The ID of the transaction, which
-    /// is then open.
+    /// Asks the node's router for the zones of the internet, from index `start` on: an ATP request
+    /// with the user bytes of GetZoneList is added to the outputs. Returns the ID of its
+    /// transaction, which is open then.
     ///
     /// Inside AppleTalk, the chapters on ATP and ZIP.
     ///
-    /// Errors, in this order: `NoSuch(Station)` where the node has no address; `NoRouter` where it has
-    /// no router; `Full` where 32 transactions are open; `Memory`. A refusal changes nothing.
+    /// Errors, in this order: `NoSuch(Station)` if the node has no address; `NoRouter` if it has no
+    /// router; `Full` if 32 transactions are open; `Memory`. A refusal changes nothing.
     pub fn ask_zone_list(&mut self, start: u16, outputs: &mut Outputs) -> Result<u16, Error>
         ensures id { IfOk result (λ id. IsNextId self.old.asks.next self.old.asks.slots id) }
         ensures begun { IfOk result (λ id. IfOk (asking_spec.zones_asking self.old) (λ way.
@@ -198,12 +201,12 @@ impl EndNode {
         }
     }
 
-    /// What became of a request for zones, by the ID of its transaction, which is closed unless it
-    /// waits. Allocates nothing.
+    /// The outcome of a request for zones, by the ID of its transaction. Closes the transaction
+    /// unless it still waits. Allocates nothing.
     ///
     /// Inside AppleTalk, the chapter on ATP.
     ///
-    /// Error: `NoSuch(Transaction)` where no transaction of this ID is open. A refusal changes
+    /// Error: `NoSuch(Transaction)` if no transaction with this ID is open. A refusal changes
     /// nothing.
     pub fn zone_list(&mut self, id: u16) -> Result<Outcome, Error>
         ensures ok { IfOk result (λ outcome. IfSome (known id self.old.asks.slots)

@@ -1,4 +1,4 @@
-//! What a node answers to lookups.
+//! A node's replies to lookups.
 
 ghost use Rattle.std.specs.Prelude.{◌≡◌, ◌≤◌, ◌+◌, [], ◌∷◌, ◌++◌, length, map, ℕ, Some};
 ghost use Rattle.std.specs.Prelude.{IfOk, IsOkUnless, OnOk};
@@ -17,7 +17,7 @@ use station::making::put;
 use station::ways::is_summed;
 use station::{Output, Way};
 
-/// The packet in the data of a datagram.
+/// The NBP packet in the data of a datagram, if any.
 fn read_packet(payload: &[u8]) -> Option<Packet<'_>>
     ensures { result ≡ names_in payload.now }
 {
@@ -36,7 +36,7 @@ fn is_star(zone: &[u8]) -> bool
     }
 }
 
-/// Whether the zone stands for that of whoever hears it.
+/// Whether the zone means the receiver's own: it is empty or `*`.
 pub(crate) fn is_any(zone: &[u8]) -> bool
     ensures { result ≡ spec.is_any zone.now }
 {
@@ -49,21 +49,21 @@ fn same(a: &[u8], b: &[u8]) -> bool
     a.eq_ignore_ascii_case(b)
 }
 
-/// Whether a node of this zone is in the zone of a lookup.
+/// Whether a node in zone `own` is in the zone of a lookup.
 fn is_in(own: &Name, zone: &[u8]) -> bool
     ensures { result ≡ spec.is_in own.now zone.now }
 {
     is_any(zone) || same(zone, own.as_slice())
 }
 
-/// A zone's name as a text.
+/// The name of a zone as a text.
 pub(crate) fn text_of(zone: &Name) -> Text32
     ensures { result ≡ zone.now }
 {
     Text32::new(zone.as_slice()).unwrap()
 }
 
-/// A name's tuple with this address and zone.
+/// The tuple with this address and zone.
 fn named_at(own: Addr, zone: &Name, tuple: &Tuple) -> Tuple
     ensures { result ≡ spec.named_at own zone.now tuple.now }
 {
@@ -88,7 +88,7 @@ fn answer_header(summed: bool, tuple: &Tuple) -> Header
     }
 }
 
-/// Makes the reply with a tuple.
+/// Adds the reply with a tuple. Error: `Memory`.
 fn put_reply(
     made: &mut Vec<Output>,
     way: &Option<Way>,
@@ -109,7 +109,7 @@ fn put_reply(
     put(made, way, payload.as_slice())
 }
 
-/// Makes the replies with these tuples, one after the other.
+/// Adds the replies with these tuples, one for each, in order. Error: `Memory`.
 fn put_replies(
     made: &mut Vec<Output>,
     way: &Option<Way>,
@@ -134,21 +134,21 @@ fn put_replies(
     }
 }
 
-/// The tuples of the names that a lookup asks for, at most 32.
+/// The tuples of the names that match a lookup, at most 32. Error: `Memory`.
 fn asked(names: &Names, tuple: &Tuple) -> Result<Vec<Tuple>, Error>
     ensures ok { IfOk result (λ tuples. tuples.items
         ≡ answers tuple.now.object tuple.now.kind names.now) }
     ensures few { IfOk result (λ tuples. length tuples.items ≤ 32) }
     ensures refused { IsOkUnless result Error.Memory }
 {
-    // For the prover alone: there are at most 32 names.
+    // Only the prover needs this read: it shows that there are at most 32 names.
     let _names = names.entries();
     let tuples = names.answer(tuple.object.as_slice(), tuple.kind.as_slice())?;
     Ok(tuples)
 }
 
 impl EndNode {
-    /// Makes the replies to a lookup from the node's address.
+    /// Adds the replies to a lookup, from address `own`. Error: `Memory`.
     fn reply(
         &self,
         made: &mut Vec<Output>,
@@ -168,7 +168,8 @@ impl EndNode {
         put_replies(made, &way, own, &self.zone, id, tuples.as_slice())
     }
 
-    /// Makes the replies to a lookup.
+    /// Adds the replies to a lookup, if it is for the node's zone and the node has an address.
+    /// Error: `Memory`.
     fn look_up(
         &self,
         made: &mut Vec<Output>,
@@ -191,7 +192,7 @@ impl EndNode {
         }
     }
 
-    /// Answers the packet in a datagram, if it is a lookup.
+    /// Adds the replies to the packet in a datagram, if it is a lookup. Error: `Memory`.
     fn tell_by(
         &self,
         made: &mut Vec<Output>,
@@ -211,7 +212,8 @@ impl EndNode {
         }
     }
 
-    /// Answers a datagram about names.
+    /// Adds the replies to a datagram for the names socket; one without an NBP packet is ignored.
+    /// Error: `Memory`.
     pub(crate) fn tell(&self, made: &mut Vec<Output>, view: &View<'_>) -> Result<(), Error>
         ensures put { OnOk result (made.new.items
             ≡ made.old.items ++ told self.now view.now (names_in view.now.payload)) }

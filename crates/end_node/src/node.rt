@@ -1,4 +1,4 @@
-//! End nodes, and what they hold.
+//! End nodes and their tables.
 
 ghost use Rattle.std.specs.Prelude.{◌≡◌, [], ℕ, None, IfOk, IsOkUnless, IsTrue};
 ghost use Rattle.aarp.specs.Choosing as spec;
@@ -13,23 +13,26 @@ use station::PortPlan;
 use std::alloc::Global;
 use std::marker::Model;
 
-/// The most datagrams that a node keeps. This project's own.
+/// The greatest number of received datagrams that a node keeps.
 pub const MAX_RECEIVED: usize = 64;
 
-/// A datagram that a node received. Inside AppleTalk, the chapter on DDP.
+/// A datagram that a node received.
+///
+/// Inside AppleTalk, the chapter on DDP.
 #[derive(Debug, Drop)]
 pub struct Datagram {
     /// The node that sent it.
     pub source: Addr,
     pub source_socket: u8,
     pub target_socket: u8,
-    /// The protocol whose packet the data is.
+    /// The type: the protocol whose packet is the data.
     pub kind: u8,
-    /// Its data.
+    /// The data.
     pub payload: Bytes,
 }
 
-/// A node on one cable, with a zone, a router and names. Its tables stay as they are.
+/// A node on one cable, with a zone, a router and names. Receiving frames changes none of these;
+/// only the setters and `register` do.
 ///
 /// Inside AppleTalk, the chapters on DDP, NBP and ATP.
 #[derive(Drop)]
@@ -61,8 +64,9 @@ impl Model for EndNode {
 }
 
 impl EndNode {
-    /// A node with this port, zone, router and names. That a station of the port's range may have
-    /// the port's addresses is the caller's condition. Error: `Memory`.
+    /// A node with this port, zone, router and names, without open transactions; their IDs begin at
+    /// 1. The caller ensures that a station of the port's range may have the port's addresses
+    /// (`aarp::are_on`). Error: `Memory`.
     pub fn new(
         alloc: Global,
         plan: &PortPlan<'_>,
@@ -95,28 +99,28 @@ impl EndNode {
         })
     }
 
-    /// The address of the node, once it is settled. Allocates nothing.
+    /// The address of the node, if it is settled. Allocates nothing.
     pub fn own(&self) -> Option<Addr>
         ensures { result ≡ spec.settled self.now.port }
     {
         self.port.settled()
     }
 
-    /// Its zone.
+    /// The node's zone.
     pub fn zone(&self) -> &Name
         ensures { result.now ≡ self.now.zone }
     {
         &self.zone
     }
 
-    /// The address of its router, if it has one.
+    /// The address of the node's router, if it has one.
     pub fn router(&self) -> Option<Addr>
         ensures { result ≡ self.now.router }
     {
         self.router
     }
 
-    /// The names that it has registered.
+    /// The names that the node has registered.
     pub fn names(&self) -> &Names
         ensures { result.now ≡ self.now.names }
     {

@@ -1,4 +1,4 @@
-//! What a node does with the datagrams that it hears.
+//! A node's handling of the datagrams that it receives.
 
 ghost use Rattle.std.specs.Prelude.{◌≡◌, ◌<◌, ◌≤◌, ◌+◌, ◌++◌, length, option_to_list, Some, vec_capacity, vec_len};
 ghost use Rattle.std.specs.Prelude.{IfOk, IsOkUnless, OnErr, OnOk};
@@ -22,10 +22,11 @@ use station::ways::{EVERY_NODE, checks, is_to};
 use station::{Link, Output, Outputs};
 use std::alloc::Global;
 
-/// The socket from which a node asks in transactions.
+/// The socket from which a node sends its ATP requests.
 pub(crate) const TRANSACTIONS: u8 = 252;
 
-/// Whether the datagram is for one of the sockets at which the node itself listens.
+/// Whether the datagram is for one of the node's own services: echoes, names, routing data, zones
+/// and transactions.
 fn is_served(view: &View<'_>) -> bool
     ensures { result ≡ answers_spec.is_served view.now }
 {
@@ -36,7 +37,7 @@ fn is_served(view: &View<'_>) -> bool
         || is_to(view, kind::ATP, TRANSACTIONS)
 }
 
-/// Whether the port has this address.
+/// Whether this is the port's address.
 fn has(target: Addr, own: Option<Addr>) -> bool
     ensures { result ≡ ports_spec.has target own }
 {
@@ -46,7 +47,7 @@ fn has(target: Addr, own: Option<Addr>) -> bool
     }
 }
 
-/// What is kept of a datagram.
+/// A datagram as it is kept. Error: `Memory`.
 fn copied(alloc: Global, view: &View<'_>) -> Result<Datagram, Error>
     ensures ok { IfOk result (λ d. d ≡ kept view.now) }
     ensures refused { IsOkUnless result Error.Memory }
@@ -61,7 +62,7 @@ fn copied(alloc: Global, view: &View<'_>) -> Result<Datagram, Error>
     })
 }
 
-/// What the node receives of a datagram, if no service of its own takes it.
+/// A datagram as it is kept; `None` if it is for one of the node's own services. Error: `Memory`.
 fn received_from(alloc: Global, view: &View<'_>) -> Result<Option<Datagram>, Error>
     ensures ok { IfOk result (λ d. d ≡ received_of view.now) }
     ensures refused { IsOkUnless result Error.Memory }
@@ -73,7 +74,7 @@ fn received_from(alloc: Global, view: &View<'_>) -> Result<Option<Datagram>, Err
     Ok(Some(datagram))
 }
 
-/// Adds a datagram, in the place of the oldest one where there are 64.
+/// Adds a datagram to those kept. If 64 are kept, the oldest is dropped.
 fn put(received: &mut Vec<Datagram>, datagram: Datagram)
     requires room { vec_len received.old < vec_capacity received.old }
     requires old { length received.old.items ≤ 64 }
@@ -86,7 +87,7 @@ fn put(received: &mut Vec<Datagram>, datagram: Datagram)
     received.push(datagram).unwrap();
 }
 
-/// Adds a datagram, if there is one.
+/// Adds a datagram, if there is one, to those kept. If 64 are kept, the oldest is dropped.
 fn keep(received: &mut Vec<Datagram>, datagram: Option<Datagram>)
     requires room { vec_len received.old < vec_capacity received.old }
     requires old { length received.old.items ≤ 64 }
@@ -99,14 +100,14 @@ fn keep(received: &mut Vec<Datagram>, datagram: Option<Datagram>)
 }
 
 impl EndNode {
-    /// Whether the target is every node of the node's cable.
+    /// Whether the target means every node of the node's cable.
     fn is_all(&self, target: Addr) -> bool
         ensures { result ≡ answers_spec.is_all self.now target }
     {
         target.node == EVERY_NODE && (target.net == 0 || self.port.range().holds(target.net))
     }
 
-    /// Whether the node takes a datagram as its own.
+    /// Whether the node accepts a datagram as its own.
     pub(crate) fn takes(&self, link: Link, view: &View<'_>) -> bool
         ensures { result ≡ answers_spec.takes self.now link view.now }
     {
@@ -117,7 +118,7 @@ impl EndNode {
         }
     }
 
-    /// Echoes.
+    /// Adds the reply to a datagram that is an echo request. Error: `Memory`.
     fn hear_echo(&self, made: &mut Vec<Output>, view: &View<'_>) -> Result<(), Error>
         ensures put { OnOk result (made.new.items ≡ made.old.items
             ++ replying (ways_spec.way_back self.now view.now) (option_to_list (echo_reply view.now))) }
@@ -130,7 +131,7 @@ impl EndNode {
         put_one(made, &way, &payload)
     }
 
-    /// Makes what a datagram of the node's own asks for.
+    /// Adds the replies to a datagram that the node accepted. Error: `Memory`.
     fn serve(&self, made: &mut Vec<Output>, view: &View<'_>) -> Result<(), Error>
         ensures put { OnOk result
             (made.new.items ≡ made.old.items ++ served self.now view.now) }
@@ -147,7 +148,8 @@ impl EndNode {
         Ok(())
     }
 
-    /// What is made of a datagram of the node's own.
+    /// The replies to a datagram that the node accepted, with the facts that each is made by the
+    /// node and that there are at most 256. Error: `Memory`.
     fn made_of(&self, view: &View<'_>) -> Result<Vec<Output>, Error>
         ensures made { IfOk result (λ made. made.items ≡ served self.now view.now) }
         ensures few { IfOk result (λ made. length made.items ≤ 256) }
@@ -159,7 +161,8 @@ impl EndNode {
         Ok(made)
     }
 
-    /// The same, which is lawful.
+    /// The replies to a datagram that the node accepted, with the fact that they are lawful. Error:
+    /// `Memory`.
     fn answer(&self, view: &View<'_>) -> Result<Vec<Output>, Error>
         ensures made { IfOk result (λ made. made.items ≡ served self.now view.now) }
         ensures lawful { IfOk result (λ made. AreLawful 1 made.items) }
@@ -169,7 +172,8 @@ impl EndNode {
         Ok(made)
     }
 
-    /// Hears a datagram of its own.
+    /// Receives a datagram that the node accepted. Error: `Memory`; neither the node nor the
+    /// outputs change then.
     fn hear_own(&mut self, view: &View<'_>, outputs: &mut Outputs) -> Result<(), Error>
         ensures ok { OnOk result (PutsOut 1 outputs.old.items outputs.new.items (λ added.
             (added, record self.new { asks = self.old.asks }) ≡ heard_own self.old view.now)) }
@@ -188,7 +192,8 @@ impl EndNode {
         Ok(())
     }
 
-    /// Hears a datagram. Returns it, where the node takes it as its own and its checksum is right.
+    /// Receives a datagram. Returns it if the node accepts it as its own and its checksum is right.
+    /// Error: `Memory`; neither the node nor the outputs change then.
     pub(crate) fn hear_datagram<'a>(
         &mut self,
         link: Link,

@@ -1,4 +1,4 @@
-//! What a node sends of its own.
+//! The datagrams that a node sends for its user.
 
 ghost use Rattle.std.specs.Prelude.{◌≡◌, ◌≤◌, ◌∷◌, [], length, IfErr, IfOk, IfSome, IsOkUnless, OnErr, OnOk};
 ghost use Rattle.end_node.specs.Sending as spec;
@@ -13,14 +13,15 @@ use station::ways::EVERY_NODE;
 use station::{Next, Outputs, Way};
 use std::alloc::Global;
 
-/// Whether nobody has the target.
+/// Whether no station has the target: its network is 0 and its node isn't 255.
 fn is_nobodys(target: Addr) -> bool
     ensures { result ≡ spec.is_nobodys target }
 {
     target.net == 0 && target.node != EVERY_NODE
 }
 
-/// The way of a datagram that goes to the next station from this address.
+/// The way of a datagram to its next station, with this source address. Error: `NoRouter` if there
+/// is no next station.
 fn way_or_none(own: Addr, header: Header, next: Option<Next>) -> Result<Way, Error>
     requires { IfSome next IsNext }
     ensures value { result ≡ spec.way_or_none own header next }
@@ -39,7 +40,9 @@ fn way_or_none(own: Addr, header: Header, next: Option<Next>) -> Result<Way, Err
     }
 }
 
-/// Puts the datagram with this data out that goes a way.
+/// Adds the datagram with this data, sent on this way. The caller ensures that the data has at most
+/// 586 bytes, that the way's port is 0, and that its group, if it has one, exists. Error: `Memory`;
+/// the outputs don't change then.
 pub(crate) fn put_out(
     alloc: Global,
     way: &Way,
@@ -61,7 +64,8 @@ pub(crate) fn put_out(
 }
 
 impl EndNode {
-    /// To whom a datagram of the node's own goes next.
+    /// The next station of a datagram that the node sends; for network 0 all stations. `None` if it
+    /// has to go to a router and the node has none.
     fn next_of(&self, target: Addr) -> Option<Next>
         ensures value { result ≡ spec.next_of self.now target }
         ensures next { IfSome result IsNext }
@@ -73,7 +77,7 @@ impl EndNode {
         }
     }
 
-    /// The way of a datagram with this header and so many bytes of data, or why it can't be sent.
+    /// The way of a datagram with this header and `len` bytes of data, or why it can't be sent.
     fn sending(&self, header: Header, len: usize) -> Result<Way, Error>
         ensures value { result ≡ spec.sending self.now header len }
         ensures short { IfOk result (λ _. len ≤ 586) }
@@ -91,7 +95,8 @@ impl EndNode {
         way_or_none(own, header, self.next_of(header.target))
     }
 
-    /// Puts a datagram with this header out.
+    /// Adds a datagram with this header and data. Errors: those of `sending`, then `Memory`; the
+    /// outputs don't change then.
     fn send_by(&self, header: Header, payload: &[u8], outputs: &mut Outputs) -> Result<(), Error>
         ensures sent { OnOk result (IfOk (spec.sending self.now header (length payload.now)) (λ way.
             PutsOut 1 outputs.old.items outputs.new.items
@@ -108,13 +113,14 @@ impl EndNode {
         }
     }
 
-    /// Sends a datagram, which is added to the outputs.
+    /// Sends a datagram: it is added to the outputs.
     ///
     /// Inside AppleTalk, the chapter on DDP.
     ///
-    /// Errors, in this order: `NoSuch(Station)` where the node has no address, and for network 0
-    /// with another node than 255; `TooLong` above 586 bytes; `NoRouter` where the datagram has to go
-    /// to a router and the node has none; `Memory`.
+    /// Errors, in this order: `NoSuch(Station)` if the node has no address, or if the target's
+    /// network is 0 and its node isn't 255; `TooLong` above 586 bytes; `NoRouter` if the datagram
+    /// has to go to a router and the node has none; `Memory`. After an error the outputs are
+    /// unchanged.
     pub fn send(
         &self,
         target: Addr,

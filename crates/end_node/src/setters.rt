@@ -1,4 +1,4 @@
-//! What a live node changes by itself: the choice of its address, its router and its zone.
+//! The setters that a live node uses to change its address, its router and its zone.
 
 ghost use Rattle.std.specs.Prelude.{◌≡◌};
 
@@ -8,33 +8,33 @@ use at_base::{Addr, Name};
 use std::alloc::Global;
 
 impl EndNode {
-    /// What the node allocates by.
+    /// The allocator that the node uses.
     pub fn allocator(&self) -> Global {
         *self.received.allocator()
     }
 
-    /// The choice of its port's address.
+    /// The choice of the port's address.
     pub fn port_now(&self) -> &Chooser
         ensures { result.now ≡ self.now.port }
     {
         &self.port
     }
 
-    /// Takes another choice of its port's address. Allocates nothing.
+    /// Replaces the choice of the port's address. Allocates nothing.
     pub fn set_port(&mut self, port: Chooser)
         ensures { self.new ≡ record self.old { port = port } }
     {
         self.port = port;
     }
 
-    /// Takes a router, or has none. Allocates nothing.
+    /// Sets the address of the router, or that there is none. Allocates nothing.
     pub fn set_router(&mut self, router: Option<Addr>)
         ensures { self.new ≡ record self.old { router = router } }
     {
         self.router = router;
     }
 
-    /// Takes another zone. Allocates nothing.
+    /// Sets the zone. Allocates nothing.
     pub fn set_zone(&mut self, zone: Name)
         ensures { self.new ≡ record self.old { zone = zone } }
     {

@@ -1,4 +1,4 @@
-//! By which way a node's datagrams leave.
+//! The ways of a node's datagrams.
 
 ghost use Rattle.std.specs.Prelude.{◌≡◌, IfSome};
 ghost use Rattle.end_node.specs.Ways as spec;
@@ -11,7 +11,7 @@ use ddp::{Header, View};
 use station::ways::{reply_header, straight, way_from};
 use station::{Next, Way};
 
-/// To the router, if there is one.
+/// The router as the next station, if there is one.
 pub(crate) fn to_router(router: Option<Addr>) -> Option<Next>
     ensures value { result ≡ spec.to_router router }
     ensures next { IfSome result IsNext }
@@ -23,14 +23,16 @@ pub(crate) fn to_router(router: Option<Addr>) -> Option<Next>
 }
 
 impl EndNode {
-    /// Whether the target is on the node's cable.
+    /// Whether the target is on the node's cable: its network is in the range, and its node isn't
+    /// 0.
     fn is_near(&self, target: Addr) -> bool
         ensures { result ≡ spec.is_near self.now target }
     {
         self.port.range().holds(target.net) && target.node != 0
     }
 
-    /// To whom a datagram for a target goes next.
+    /// The next station of a datagram for this target. `None` if it has to go to a router and the
+    /// node has none.
     pub(crate) fn next_to(&self, target: Addr) -> Option<Next>
         ensures value { result ≡ spec.next_to self.now target }
         ensures next { IfSome result IsNext }
@@ -42,7 +44,8 @@ impl EndNode {
         }
     }
 
-    /// The way of a reply with this header.
+    /// The way of a reply with this header. `None` if the target's network is 0, the node has no
+    /// address, or the reply has to go to a router and the node has none.
     pub(crate) fn reply_way(&self, header: Header) -> Option<Way>
         ensures value { result ≡ spec.reply_way self.now header }
         ensures inside { IsWayIn 1 result }
@@ -56,7 +59,7 @@ impl EndNode {
         }
     }
 
-    /// The way of the reply to a datagram.
+    /// The way of the reply to a datagram, if there is one.
     pub(crate) fn way_back(&self, view: &View<'_>) -> Option<Way>
         ensures value { result ≡ spec.way_back self.now view.now }
         ensures inside { IsWayIn 1 result }

@@ -1,4 +1,4 @@
-//! What an image answers.
+//! Questions about an image, and their answers.
 
 use crate::edits::edited;
 use crate::parts::{put_parts, put_routes, put_zone_table};
@@ -11,7 +11,7 @@ use table_image::{
     MAX_ZONE_LISTS, MAX_ZONES, write,
 };
 
-/// A name that comes for a list of a router's zone table, as `10-19 total 3 Green`.
+/// Adds a name to a list of a router's zone table, as `10-19 total 3 Green`.
 fn add(alloc: Global, table: &mut zip_zones::ZoneTable, words: &mut Words<'_>) -> Answer {
     let range = words.range()?;
     let total = words.named("total")?;
@@ -20,7 +20,7 @@ fn add(alloc: Global, table: &mut zip_zones::ZoneTable, words: &mut Words<'_>) -
     Ok(())
 }
 
-/// Appends the zone table of a router, after a name that comes where the words say one.
+/// Appends the zone table of a router, after adding a name if the words give one.
 fn zones(alloc: Global, image: &Image, mut words: Words<'_>, text: &mut String) -> Answer {
     let mut table = image.zones_of(alloc, words.number()?)?;
     if words.passes("adding") {
@@ -35,7 +35,7 @@ fn routes(alloc: Global, image: &Image, mut words: Words<'_>, text: &mut String)
     Ok(())
 }
 
-/// Appends how many bytes the image is written as, and how many there is room for.
+/// Appends the number of bytes of the written image, and their capacity.
 fn room(alloc: Global, image: &Image, text: &mut String) -> Answer {
     let written = write(alloc, image)?.into_vec();
     let (len, room) = (written.len(), written.capacity());
@@ -43,7 +43,7 @@ fn room(alloc: Global, image: &Image, text: &mut String) -> Answer {
     Ok(())
 }
 
-/// Appends how many cables, routers and nodes the image has.
+/// Appends the numbers of cables, routers and nodes of the image.
 fn counts(image: &Image, text: &mut String) -> Answer {
     let cables = image.cables().len();
     let routers = image.routers().len();
@@ -52,7 +52,7 @@ fn counts(image: &Image, text: &mut String) -> Answer {
     Ok(())
 }
 
-/// Answers what the first word asks of the image.
+/// Answers the question about the image that the first word names.
 fn ask(alloc: Global, image: &Image, mut words: Words<'_>, text: &mut String) -> Answer {
     match words.word() {
         "counts" => counts(image, text)?,
@@ -70,8 +70,8 @@ fn ask(alloc: Global, image: &Image, mut words: Words<'_>, text: &mut String) ->
     Ok(())
 }
 
-/// Answers what the words before a colon ask of the image that the bytes are with the changes after
-/// it; without words, whether writing it gives the same bytes.
+/// Answers the question before a colon about the image in the bytes with the changes after it;
+/// without a question, whether writing the image gives the same bytes.
 pub(crate) fn image(
     alloc: Global,
     bytes: &Vec<u8>,
@@ -88,7 +88,7 @@ pub(crate) fn image(
     }
 }
 
-/// Appends whether the bytes are an image that is written as they are.
+/// Appends whether writing the image in the bytes gives the same bytes.
 fn is_kept(alloc: Global, bytes: &Vec<u8>, words: Words<'_>, text: &mut String) -> Answer {
     let bytes = edited(alloc, bytes, words)?;
     let image = table_image::read(alloc, bytes.as_slice())?;
@@ -98,7 +98,8 @@ fn is_kept(alloc: Global, bytes: &Vec<u8>, words: Words<'_>, text: &mut String) 
     Ok(())
 }
 
-/// Answers what the words ask of the image that the parts make; without words, whether they do.
+/// Answers the question about the image with these parts; without a question, whether they make an
+/// image.
 pub(crate) fn made(alloc: Global, parts: &str, words: Words<'_>, text: &mut String) -> Answer {
     let image = making::image(alloc, parts)?;
     if words.is_empty() {
@@ -125,7 +126,7 @@ pub(crate) fn limits(text: &mut String) -> Answer {
     Ok(())
 }
 
-/// Appends what a list of numbers is by its calls, and whether it equals another one.
+/// Appends the results of the calls of a list of numbers, and whether it equals another one.
 fn put_listed(text: &mut String, list: &Listed<u8>, other: &Listed<u8>) -> Answer {
     let (len, is_empty, same) = (
         list.len(),

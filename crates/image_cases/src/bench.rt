@@ -1,10 +1,10 @@
-//! What the commands of a case are done with.
+//! The bench of a case, with which its commands are carried out.
 
 use crate::{answers, equal, verdicts};
 use case_words::{Answer, Bench, Stop, Words};
 use std::alloc::Global;
 
-/// The bytes of a case, and the lines of the parts that it says.
+/// The bytes of a case, and the lines of the parts that it describes.
 #[derive(Drop)]
 pub(crate) struct Images {
     alloc: Global,
@@ -20,7 +20,7 @@ impl Images {
         Ok(())
     }
 
-    /// Appends the line of a part; there is room for all of it, or nothing is appended.
+    /// Appends the line of a part, the whole line or, if an allocation fails, nothing.
     fn add_part(&mut self, mut line: Words<'_>) -> Answer {
         let line = line.rest();
         self.parts.reserve(line.len().saturating_add(1))?;

@@ -3,7 +3,7 @@
 use case_words::{Answer, Stop, Words};
 use std::alloc::Global;
 
-/// Puts bytes in place of others, from a place on.
+/// Replaces the bytes from a position on.
 fn replace(bytes: &mut Vec<u8>, place: usize, new: &[u8]) -> Answer {
     for (index, byte) in new.iter().enumerate() {
         match bytes.get_mut(place.saturating_add(index)) {
@@ -14,7 +14,7 @@ fn replace(bytes: &mut Vec<u8>, place: usize, new: &[u8]) -> Answer {
     Ok(())
 }
 
-/// The bytes without so many from a place on, and others there.
+/// The bytes, with `out` bytes at a position replaced by others.
 fn spliced(
     alloc: Global,
     bytes: &[u8],
@@ -53,9 +53,9 @@ fn change(alloc: Global, bytes: &mut Vec<u8>, words: &mut Words<'_>) -> Answer {
     Ok(())
 }
 
-/// The bytes with the changes that the words say, one after the other: `with PLACE HEX` puts bytes
-/// in place of others, `insert PLACE HEX` between others, `without PLACE COUNT` takes bytes out, and
-/// `first COUNT` keeps the first ones alone.
+/// The bytes with the changes that the words describe, one after the other: `with PLACE HEX`
+/// replaces bytes, `insert PLACE HEX` inserts bytes, `without PLACE COUNT` removes bytes, and
+/// `first COUNT` keeps only the first ones.
 pub(crate) fn edited(
     alloc: Global,
     bytes: &Vec<u8>,

@@ -1,11 +1,11 @@
-//! Which parts are equal.
+//! The equal parts of an image.
 
 use crate::making::all;
 use case_words::{Answer, Stop, Words};
 use std::alloc::{AllocError, Global};
 
-/// Appends the pairs of different places whose values are equal, and the places whose value doesn't
-/// equal itself. Places count from 1.
+/// Appends the pairs of different positions whose values are equal, and the positions whose value
+/// doesn't equal itself. Positions count from 1.
 pub(crate) fn put_equal<T: PartialEq>(text: &mut String, values: &[T]) -> Result<(), AllocError> {
     for (index, value) in values.iter().enumerate() {
         for (other_index, other) in values.iter().enumerate() {

@@ -1,5 +1,5 @@
-//! Cases of images and of their audit: what reading bytes gives, which image parts make, what its
-//! parts are as tables, and the verdict.
+//! Cases of images and of their audit: the results of reading bytes, the images of given parts,
+//! their parts as tables, and the verdicts.
 #![tactic(auto)]
 
 mod answers;

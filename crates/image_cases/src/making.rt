@@ -1,4 +1,4 @@
-//! Parts of images in words, as `row 10-19 distance 1 port 0 next 20.1 good`.
+//! Parts of images as text, such as `row 10-19 distance 1 port 0 next 20.1 good`.
 
 use at_base::{Addr, Name};
 use case_words::{Answer, Stop, Words};
@@ -182,7 +182,7 @@ impl Draft {
     }
 }
 
-/// The parts that the lines say.
+/// The parts that the lines describe.
 fn drafted(alloc: Global, lines: &str) -> Result<Draft, Stop> {
     let mut draft = Draft {
         alloc,
@@ -229,7 +229,7 @@ pub(crate) fn all(alloc: Global, lines: &str) -> Result<All, Stop> {
     Ok((draft.cables, routers, nodes(alloc, draft.nodes)?))
 }
 
-/// The image that the lines' parts make.
+/// The image with the parts of the lines.
 pub(crate) fn image(alloc: Global, lines: &str) -> Result<Image, Stop> {
     let (cables, routers, nodes) = all(alloc, lines)?;
     Ok(Image::make(cables, routers, nodes)?)

@@ -1,4 +1,4 @@
-//! How answers spell the parts of an image.
+//! The form of the parts of an image in answers.
 
 use at_base::{Name, Range};
 use case_words::{put_hw, put_text};
@@ -93,7 +93,7 @@ fn put_node(text: &mut String, node: &Node) -> Result<(), AllocError> {
     put_names(text, node)
 }
 
-/// Appends the parts of an image, a line each, as commands say them.
+/// Appends the parts of an image, one on each line, in the form of commands.
 pub(crate) fn put_parts(text: &mut String, image: &Image) -> Result<(), AllocError> {
     for cable in image.cables() {
         put_cable(text, cable)?;

@@ -5,7 +5,7 @@ use case_words::{Stop, Words};
 use std::alloc::Global;
 use table_image::{Image, read};
 
-/// The image that the bytes are, with the changes that the words say.
+/// The image in the bytes, with the changes that the words describe.
 pub(crate) fn image(alloc: Global, bytes: &Vec<u8>, words: Words<'_>) -> Result<Image, Stop> {
     let bytes = edited(alloc, bytes, words)?;
     Ok(read(alloc, bytes.as_slice())?)

@@ -6,7 +6,7 @@ use audit::{Fault, MAX_DISTANCE, Place, Rule, Summary, Verdict, audit_bytes};
 use case_words::{Answer, Stop, Words};
 use std::alloc::Global;
 
-/// Appends the verdict line of the bytes with the changes that the words say.
+/// Appends the verdict line for the bytes with the changes that the words describe.
 pub(crate) fn audited(
     alloc: Global,
     bytes: &Vec<u8>,
@@ -57,7 +57,7 @@ fn verdict_of(words: &mut Words<'_>) -> Result<Verdict, Stop> {
     }
 }
 
-/// Appends the line of a verdict, its text, and how long the line is and may become in place.
+/// Appends the line of a verdict, its text, and the length and the capacity of the line.
 pub(crate) fn verdict(alloc: Global, mut words: Words<'_>, text: &mut String) -> Answer {
     let verdict = verdict_of(&mut words)?;
     let line = verdict.line(alloc)?;
@@ -68,7 +68,7 @@ pub(crate) fn verdict(alloc: Global, mut words: Words<'_>, text: &mut String) ->
     Ok(())
 }
 
-/// Compares verdicts with each other, each beside its copy.
+/// Compares verdicts with each other.
 pub(crate) fn equal_verdicts(alloc: Global, mut words: Words<'_>, text: &mut String) -> Answer {
     let verdicts = words.list(alloc, verdict_of)?;
     put_equal(text, verdicts.as_slice())?;
@@ -87,8 +87,8 @@ const RULES: [Rule; 9] = [
     Rule::NodesServed,
 ];
 
-/// Appends the rules with their numbers, the pairs of rules that are equal, and the greatest distance
-/// that they allow.
+/// Appends the rules with their numbers, the pairs of rules that are equal, and the greatest
+/// distance that they allow.
 pub(crate) fn rules(text: &mut String) -> Answer {
     for rule in &RULES {
         let number = rule.number();

@@ -1,4 +1,4 @@
--- A live node that answered and then learned has heard.
+-- A live node that handled a frame as its frozen node does and then learned has received it.
 use Rattle.std.proofs.Common.{◌≡◌, List, Option, ap, ◌∙◌}
 use Rattle.ddp.specs.Datagram.{Datagram}
 use Rattle.end_node.specs.Answers.{Hears}

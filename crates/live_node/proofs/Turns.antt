@@ -13,6 +13,6 @@ unsettled_then c = by c.is_settled refl (nat_lt c.probes 10) refl
     by false is true low = rw (is, low) refl
     by false is false low = rw (is, low) tt
 
--- what it sends in a tick, and what it is then
+-- if the choice next comes after c in a tick in which a probe is sent, it isn't settled
 pub unsettled : (c next : Choice) (sent : Option Packet) → (next, sent) ≡ ticked c → IfSome sent (λ p. settled next ≡ None)
 unsettled c next sent is = rw (sym is) at (unsettled_then c)

@@ -1,4 +1,4 @@
--- What a live node holds, and what frames teach it. (Inside AppleTalk, the chapters on RTMP and ZIP)
+-- The state of a live node, and what it learns from frames. (Inside AppleTalk, the chapters on RTMP and ZIP)
 use Rattle.std.specs.Prelude.{◌≡◌, ℕ, Bool, true, not, ◌&&◌, List, Option, Some, None, if◌then◌else◌, nat_lt}
 use Rattle.std.specs.Option.{unwrap_or}
 use Rattle.at_base.specs.Packets.{packets}
@@ -17,8 +17,8 @@ use Rattle.zip_zones.specs.declared.packet.NetInfo.{NetInfo}
 use Rattle.zip_zones.specs.declared.packet.Packet.{Packet}
 use Rattle.zip_zones.specs.declared.packet.Packet.TheVariants.{Query, Reply, GetNetInfo, NetInfoReply, ExtendedReply}
 
--- A node; for how many ticks its router has been silent; how often it has asked about its cable, for how many ticks it waits
--- before it asks again, and whether it was answered.
+-- The state of a live node: the state of its node; the number of ticks since it last received routing data; the number
+-- of GetNetInfo requests that it has sent, and of ticks before it sends the next; and whether one was answered.
 pub record LivingNode : Type 0 where
   pub node : NodeHolding
   pub silence : ℕ
@@ -26,29 +26,30 @@ pub record LivingNode : Type 0 where
   pub wait : ℕ
   pub answered : Bool
 
--- the packet of routing data that a datagram's data is
+-- the packet of routing data in a datagram's data, if any
 unfoldable pub routing_in : List ℕ → Option RoutingData
 routing_in payload = value_of (read packets routing_data payload)
 
--- the packet of ZIP that a datagram's data is
+-- the ZIP packet in a datagram's data, if any
 unfoldable pub zones_in : List ℕ → Option Packet
 zones_in payload = value_of (read packets zip_packet payload)
 
--- any router that a node hears of is its router from then on
+-- A node after a packet of routing data, if there is one: the router that sent it becomes the node's router.
 abbrev pub routed : LivingNode → Option RoutingData → LivingNode
 routed l None = l
 routed l (Some p) = record l { node = record l.node { router = Some p.router }; silence = 0 }
 
--- the node waits for an answer about its cable
+-- the node waits for a GetNetInfo reply: it has sent a request, and none was answered
 abbrev pub is_waiting : LivingNode → Bool
 is_waiting l = nat_lt 0 l.asked && not l.answered
 
--- what it was told of its cable: where the zone that it asked for isn't one, the default zone becomes its own
+-- A node after a GetNetInfo reply: if it waits for one, the reply's default zone, if it has one, becomes the node's
+-- zone; otherwise the reply is ignored.
 abbrev pub informed : LivingNode → NetInfo → LivingNode
 informed l info =
     if is_waiting l then record l { node = record l.node { zone = unwrap_or info.default l.node.zone }; answered = true } else l
 
--- the first answer counts
+-- A node after a ZIP packet, if there is one; only a GetNetInfo reply changes it.
 abbrev pub told : LivingNode → Option Packet → LivingNode
 told l None = l
 told l (Some (Query nets)) = l
@@ -57,7 +58,8 @@ told l (Some (GetNetInfo unused asked)) = l
 told l (Some (NetInfoReply info)) = informed l info
 told l (Some (ExtendedReply total entries)) = l
 
--- What a datagram of its own teaches a node: routing data on socket 1, and ZIP on socket 6.
+-- A node after it learns from a datagram that it accepted, if there is one: from routing data for socket 1, and from
+-- ZIP packets for socket 6.
 abbrev pub taught : LivingNode → Option Datagram → LivingNode
 taught l None = l
 taught l (Some d) =
@@ -65,7 +67,8 @@ taught l (Some d) =
     else if is_to 6 6 d then told l (zones_in d.payload)
     else l
 
--- A live node that holds this hears a frame, puts these out, and holds that then: it answers as a frozen one, and then learns.
+-- A live node in state old receives a frame, has these outputs, and is in state new after it: it handles the frame as
+-- its frozen node does, and then learns.
 pub record LiveHears (old : LivingNode) (x : Hearing) (added : List Output) (new : LivingNode) : Type 0 where
   pub answered : NodeHolding
   pub answers : Hears old.node x added answered

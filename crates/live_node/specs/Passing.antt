@@ -1,10 +1,10 @@
--- What a tick changes in a live node beside its port. This project's own.
+-- The changes that a tick makes to a live node, except those to its port.
 use Rattle.std.specs.Prelude.{Option}
 use Rattle.at_base.specs.declared.address.Addr.{Addr}
 use Rattle.live_node.specs.Living.{LivingNode}
 use Rattle.live_node.specs.Ticking.{asked_after, silent, wait_after}
 
--- the node after a tick, where this is its address then, with the port that it had
+-- the node after a tick, after which it has this address or none, but with the port that it had before
 abbrev pub passed : Option Addr → LivingNode → LivingNode
 passed own l = record l {
   node = record l.node { router = (silent l.node.router l.silence).0 };

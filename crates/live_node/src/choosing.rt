@@ -1,4 +1,4 @@
-//! How a live node comes to its address, and what it does in a tick.
+//! A tick of a live node, and the choice of its address.
 
 ghost use Rattle.std.specs.Prelude.{◌≡◌, ◌++◌, IfSome, IsOkUnless, None, OnErr, OnOk, Some};
 ghost use Rattle.aarp.specs.Choosing.{settled};
@@ -12,7 +12,7 @@ use at_base::{Addr, Bytes, Error, Hw};
 use station::{Output, Outputs};
 use std::alloc::Global;
 
-/// Puts a probe out, which goes to all stations of the cable.
+/// Adds a probe, to all stations of the cable. Error: `Memory`; the outputs don't change then.
 fn put_probe(alloc: Global, sent: &Packet, outputs: &mut Outputs) -> Result<(), Error>
     ensures sent { OnOk result (PutsOut 1 outputs.old.items outputs.new.items
         (λ added. added ≡ probe (Some sent.now))) }
@@ -30,7 +30,7 @@ fn put_probe(alloc: Global, sent: &Packet, outputs: &mut Outputs) -> Result<(), 
 }
 
 impl LiveNode {
-    /// Counts a tick, at whose end this is the node's address.
+    /// Counts a tick, after which the node has this address or none.
     fn pass(&mut self, own: Option<Addr>)
         ensures { self.new ≡ passed own self.old }
     {
@@ -38,7 +38,8 @@ impl LiveNode {
         self.count_question(own);
     }
 
-    /// Puts the probe of this tick out, or else the question, if there is one.
+    /// Adds the probe of this tick if there is one, and otherwise the GetNetInfo request if there
+    /// is one. Error: `Memory`; the outputs don't change then.
     fn put(
         &self,
         sent: Option<Packet>,
@@ -57,7 +58,8 @@ impl LiveNode {
         }
     }
 
-    /// Lets a tick pass in which the node has this address already.
+    /// Advances a node whose address is settled already by a tick. Error: `Memory`; neither the
+    /// node nor the outputs change then.
     pub(crate) fn tick_settled(&mut self, own: Addr, outputs: &mut Outputs) -> Result<(), Error>
         requires { settled self.old.node.port ≡ Some own }
         ensures ok { OnOk result (PutsOut 1 outputs.old.items outputs.new.items
@@ -71,7 +73,8 @@ impl LiveNode {
         Ok(())
     }
 
-    /// Lets a tick pass while the node chooses its address: it puts a probe out, or settles.
+    /// Advances a node that chooses its address by a tick: it sends a probe, or settles. Error:
+    /// `Memory`; neither the node nor the outputs change then.
     pub(crate) fn tick_choosing(&mut self, outputs: &mut Outputs) -> Result<(), Error>
         ensures ok { OnOk result (PutsOut 1 outputs.old.items outputs.new.items
             (λ added. (added, self.new) ≡ ticked_live self.old)) }

@@ -1,4 +1,4 @@
-//! What frames teach a live node.
+//! A live node's learning from datagrams.
 
 ghost use Rattle.std.specs.Prelude.{◌≡◌};
 ghost use Rattle.live_node.specs.Living as spec;
@@ -10,7 +10,7 @@ use rtmp::DataPacket;
 use station::ways::is_to;
 use zip_zones::{NetInfo, Packet};
 
-/// The packet of routing data that a datagram's data is.
+/// The packet of routing data in the data of a datagram, if any.
 fn read_routing(payload: &[u8]) -> Option<DataPacket<'_>>
     ensures { result ≡ routing_in payload.now }
 {
@@ -20,7 +20,7 @@ fn read_routing(payload: &[u8]) -> Option<DataPacket<'_>>
     }
 }
 
-/// The packet of ZIP with which a datagram's data begins.
+/// The ZIP packet in the data of a datagram, if any.
 fn read_zones(payload: &[u8]) -> Option<Packet<'_>>
     ensures { result ≡ zones_in payload.now }
 {
@@ -31,7 +31,8 @@ fn read_zones(payload: &[u8]) -> Option<Packet<'_>>
 }
 
 impl LiveNode {
-    /// Hears the data of a datagram about routes: the router that sends it is the node's.
+    /// Handles data for the routing socket: the router that sent a packet of routing data becomes
+    /// the node's router.
     fn hear_routing(&mut self, payload: &[u8])
         ensures { self.new ≡ routed self.old (routing_in payload.now) }
     {
@@ -41,14 +42,14 @@ impl LiveNode {
         }
     }
 
-    /// Whether the node waits for an answer about its cable.
+    /// Whether the node waits for a GetNetInfo reply.
     fn is_waiting(&self) -> bool
         ensures { result ≡ spec.is_waiting self.now }
     {
         self.asked > 0 && !self.answered
     }
 
-    /// Hears an answer about its cable, which counts only while it waits for one.
+    /// Handles a GetNetInfo reply. It is ignored unless the node waits for one.
     fn hear_info(&mut self, info: &NetInfo)
         ensures { self.new ≡ informed self.old info.now }
     {
@@ -61,7 +62,7 @@ impl LiveNode {
         self.answered = true;
     }
 
-    /// Hears the data of a datagram about zones.
+    /// Handles data for the zone socket: only a GetNetInfo reply counts.
     fn hear_zones(&mut self, payload: &[u8])
         ensures { self.new ≡ told self.old (zones_in payload.now) }
     {
@@ -70,7 +71,7 @@ impl LiveNode {
         }
     }
 
-    /// Learns what a datagram of the node's own teaches, if there is one. Allocates nothing.
+    /// Learns from a datagram that the node accepted, if there is one. Allocates nothing.
     pub(crate) fn learn(&mut self, view: &Option<View<'_>>)
         ensures { self.new ≡ taught self.old view.now }
     {

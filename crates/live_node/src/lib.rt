@@ -1,4 +1,4 @@
-//! Live nodes: what an end node does as time passes, and what it learns from frames.
+//! Live nodes: end nodes that choose their address, and learn their router and zone, tick by tick.
 #![tactic(auto)]
 
 mod choosing;

@@ -1,4 +1,4 @@
-//! Live nodes, and what they hold.
+//! Live nodes and their state.
 
 ghost use Rattle.std.specs.Prelude.{◌≡◌, [], ℕ, false, None, IfOk, IsOkUnless, IsTrue};
 ghost use Rattle.atp.specs.Requesting.{known};
@@ -11,15 +11,15 @@ use station::PortPlan;
 use std::alloc::Global;
 use std::marker::Model;
 
-/// An end node that chooses its address, learns which router it has and asks about its cable.
+/// An end node that chooses its address, learns its router, and asks for the zone of its cable.
 ///
 /// Inside AppleTalk, the chapters on AARP, RTMP and ZIP; the times are this project's own.
 #[derive(Drop)]
 pub struct LiveNode {
     pub(crate) node: EndNode,
-    // for how many ticks its router has been silent
+    // The number of ticks since it last received routing data.
     pub(crate) silence: u8,
-    // how often it has asked about its cable, and how many ticks it waits before it asks again
+    // The number of GetNetInfo requests that it has sent, and of ticks before it sends the next.
     pub(crate) asked: u8,
     pub(crate) wait: u8,
     pub(crate) answered: bool,
@@ -43,9 +43,9 @@ impl Model for LiveNode {
 }
 
 impl LiveNode {
-    /// A node with this port, zone and names. It has no router yet, and hasn't asked about its
-    /// cable. That a station of the port's range may have the port's addresses is the caller's
-    /// condition. Error: `Memory`.
+    /// A node before its first tick, with this port, zone and names. It has no router, and hasn't
+    /// asked about its cable. The caller ensures that a station of the port's range may have the
+    /// port's addresses (`aarp::are_on`). Error: `Memory`.
     pub fn new(
         alloc: Global,
         plan: &PortPlan<'_>,
@@ -81,7 +81,7 @@ impl LiveNode {
         })
     }
 
-    /// The node as it is now: its address, zone, router and names.
+    /// The node in its current state: its address, zone, router and names.
     pub fn node(&self) -> &EndNode
         ensures { result.now ≡ self.now.node }
     {

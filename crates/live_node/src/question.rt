@@ -1,4 +1,4 @@
-//! What a node asks about its cable.
+//! A node's GetNetInfo requests about its cable.
 
 ghost use Rattle.std.specs.Prelude.{◌≡◌, ◌≤◌, length, IfOk, IsOkUnless, OnErr, OnOk, Some};
 ghost use Rattle.at_base.specs.Spelling.{bytes_of};
@@ -17,14 +17,14 @@ use station::{Next, Outputs, Way};
 use std::alloc::Global;
 use zip_zones::write_get_net_info;
 
-/// How often a node asks about its cable. This project's own.
+/// The greatest number of requests that a node sends about its cable.
 const MAX_QUESTIONS: u8 = 3;
 
-/// The ticks between two questions, in which none is asked: questions are a second apart. This
-/// project's own.
+/// The number of ticks between two requests, in which none is sent: requests are 5 ticks, a second,
+/// apart.
 const PAUSE: u8 = 4;
 
-/// The way of a question from this address: to all stations of the cable.
+/// The way of a GetNetInfo request from this address: to all stations of the cable.
 fn way_from(me: Addr) -> Way
     ensures { result ≡ question_way me }
 {
@@ -45,7 +45,7 @@ fn way_from(me: Addr) -> Way
     }
 }
 
-/// The zone's name as a text.
+/// The name of a zone as a text.
 fn text_of(zone: &Name) -> Text32
     ensures value { result ≡ zone.now }
     ensures short { length zone.now ≤ 32 }
@@ -53,7 +53,7 @@ fn text_of(zone: &Name) -> Text32
     Text32::new(zone.as_slice()).unwrap()
 }
 
-/// The data of the question of a node in this zone.
+/// The data of the GetNetInfo request of a node in this zone. Error: `Memory`.
 fn data_for(alloc: Global, zone: &Name) -> Result<Bytes, Error>
     ensures ok { IfOk result (λ bytes. bytes ≡ bytes_of formats_spec.packet (question zone.now)) }
     ensures short { IfOk result (λ bytes. length bytes ≤ 586) }
@@ -63,21 +63,21 @@ fn data_for(alloc: Global, zone: &Name) -> Result<Bytes, Error>
 }
 
 impl LiveNode {
-    /// Whether the node still asks about its cable, where this is its address.
+    /// Whether the node, with this address or none, still asks about its cable.
     fn is_asking(&self, own: Option<Addr>) -> bool
         ensures { result ≡ spec.is_asking own self.now }
     {
         own.is_some() && !self.answered && self.asked < MAX_QUESTIONS
     }
 
-    /// Whether it asks in this tick.
+    /// Whether the node, with this address or none, sends a request in this tick.
     fn asks(&self, own: Option<Addr>) -> bool
         ensures { result ≡ spec.asks own self.now }
     {
         self.is_asking(own) && self.wait == 0
     }
 
-    /// Puts the question out from this address.
+    /// Adds a GetNetInfo request from this address. Error: `Memory`; the outputs don't change then.
     fn ask_from(&self, me: Addr, outputs: &mut Outputs) -> Result<(), Error>
         ensures sent { OnOk result (PutsOut 1 outputs.old.items outputs.new.items
             (λ added. added ≡ asked_from (Some me) self.now.node.zone)) }
@@ -92,7 +92,8 @@ impl LiveNode {
         Ok(())
     }
 
-    /// Puts the question of this tick out, if there is one.
+    /// Adds the GetNetInfo request of this tick, if there is one. Error: `Memory`; the outputs
+    /// don't change then.
     pub(crate) fn put_question(&self, own: Option<Addr>, outputs: &mut Outputs) -> Result<(), Error>
         ensures sent { OnOk result (PutsOut 1 outputs.old.items outputs.new.items
             (λ added. added ≡ questions own self.now)) }
@@ -105,7 +106,7 @@ impl LiveNode {
         }
     }
 
-    /// Counts the question of this tick, if there is one, and the ticks up to the next.
+    /// Counts the request of this tick, if there is one, and the ticks up to the next.
     pub(crate) fn count_question(&mut self, own: Option<Addr>)
         ensures { self.new ≡ record self.old {
           asked = asked_after own self.old;

@@ -1,4 +1,4 @@
-//! What a user of a live node sends, asks for, registers and receives.
+//! The calls of a live node's user: sending, lookups, names, zone lists and received datagrams.
 
 ghost use Rattle.std.specs.Prelude.{◌≡◌, ◌≢◌, ◌↔◌, ◌⊎◌, ◌≤◌, ◌+◌, ◌%◌, ◌&&◌, ◌∷◌, [], ℕ, length};
 ghost use Rattle.std.specs.Prelude.{true, false, None, Some};
@@ -21,13 +21,14 @@ use end_node::Datagram;
 use station::Outputs;
 
 impl LiveNode {
-    /// Sends a datagram, which is added to the outputs.
+    /// Sends a datagram: it is added to the outputs.
     ///
     /// Inside AppleTalk, the chapter on DDP.
     ///
-    /// Errors, in this order: `NoSuch(Station)` where the node has no address, and for network 0
-    /// with another node than 255; `TooLong` above 586 bytes; `NoRouter` where the datagram has to
-    /// go to a router and the node has none; `Memory`.
+    /// Errors, in this order: `NoSuch(Station)` if the node has no address, or if the target's
+    /// network is 0 and its node isn't 255; `TooLong` above 586 bytes; `NoRouter` if the datagram
+    /// has to go to a router and the node has none; `Memory`. After an error the outputs are
+    /// unchanged.
     pub fn send(
         &self,
         target: Addr,
@@ -61,13 +62,13 @@ impl LiveNode {
         )
     }
 
-    /// Asks the node's router for the names of a zone: one datagram is added, a broadcast request.
-    /// For an empty zone and `*` it names the node's own.
+    /// Asks the node's router for the names in a zone: a broadcast request is added to the outputs.
+    /// In place of an empty zone or `*` it names the node's own zone.
     ///
     /// Inside AppleTalk, the chapter on NBP.
     ///
-    /// Errors, in this order: `NoSuch(Station)` where the node has no address, `NoRouter` where it
-    /// has no router, `Memory`.
+    /// Errors, in this order: `NoSuch(Station)` if the node has no address, `NoRouter` if it has no
+    /// router, `Memory`. After an error the outputs are unchanged.
     pub fn lookup(
         &self,
         id: u8,
@@ -87,8 +88,8 @@ impl LiveNode {
         self.node.lookup(id, object, kind, zone, outputs)
     }
 
-    /// Takes the datagrams that were received last, at most 64, oldest first. Error: `Memory`,
-    /// which taking them never needs.
+    /// Removes and returns the datagrams that were received, the last 64 at most, the oldest first.
+    /// Error: `Memory`, which this never needs.
     pub fn received(&mut self) -> Result<Vec<Datagram>, Error>
         ensures taken { IfOk result (λ datagrams. datagrams.items ≡ self.old.node.received) }
         ensures few { IfOk result (λ datagrams. length datagrams.items ≤ 64) }
@@ -100,12 +101,12 @@ impl LiveNode {
         self.node.received()
     }
 
-    /// Registers a name for a socket, as `Names::register` does: it gets the least free enumerator
-    /// from 1.
+    /// Registers a name for a socket, as `Names::register` does, and returns its enumerator: the
+    /// least free one from 1. The caller ensures that the socket is 1 to 254.
     ///
     /// Inside AppleTalk, the chapter on NBP.
     ///
-    /// Errors: `BadName`, `BadField(Taken)`, `Full` where there are 32 names, `Memory`. A refusal
+    /// Errors: `BadName`; `BadField(Taken)`; `Full` if there are 32 names; `Memory`. A refusal
     /// changes nothing.
     pub fn register(&mut self, object: Text32, kind: Text32, socket: u8) -> Result<u8, Error>
         requires low { 1 ≤ socket }
@@ -137,14 +138,14 @@ impl LiveNode {
         self.node.register(object, kind, socket)
     }
 
-    /// Asks the node's router for the zones of the internet, from an index on: one datagram is
-    /// added, whose ATP request has the user bytes of GetZoneList. The ID of the transaction, which
-    /// is then open.
+    /// Asks the node's router for the zones of the internet, from index `start` on: an ATP request
+    /// with the user bytes of GetZoneList is added to the outputs. Returns the ID of its
+    /// transaction, which is open then.
     ///
     /// Inside AppleTalk, the chapters on ATP and ZIP.
     ///
-    /// Errors, in this order: `NoSuch(Station)` where the node has no address; `NoRouter` where it
-    /// has no router; `Full` where 32 transactions are open; `Memory`. A refusal changes nothing.
+    /// Errors, in this order: `NoSuch(Station)` if the node has no address; `NoRouter` if it has no
+    /// router; `Full` if 32 transactions are open; `Memory`. A refusal changes nothing.
     pub fn ask_zone_list(&mut self, start: u16, outputs: &mut Outputs) -> Result<u16, Error>
         ensures id { IfOk result
             (λ id. IsNextId self.old.node.asks.next self.old.node.asks.slots id) }
@@ -171,12 +172,12 @@ impl LiveNode {
         self.node.ask_zone_list(start, outputs)
     }
 
-    /// What became of a request for zones, by the ID of its transaction, which is closed unless it
-    /// waits. Allocates nothing.
+    /// The outcome of a request for zones, by the ID of its transaction. Closes the transaction
+    /// unless it still waits. Allocates nothing.
     ///
     /// Inside AppleTalk, the chapter on ATP.
     ///
-    /// Error: `NoSuch(Transaction)` where no transaction of this ID is open. A refusal changes
+    /// Error: `NoSuch(Transaction)` if no transaction with this ID is open. A refusal changes
     /// nothing.
     pub fn zone_list(&mut self, id: u16) -> Result<Outcome, Error>
         ensures ok { IfOk result (λ outcome. IfSome (known id self.old.node.asks.slots)

@@ -1,16 +1,16 @@
-//! Routers that fall silent.
+//! Routers that send no routing data any more.
 
 ghost use Rattle.std.specs.Prelude.{◌≡◌};
 ghost use Rattle.live_node.specs.Ticking.{silent};
 
 use crate::live::LiveNode;
 
-/// The ticks in which a node's router may be silent before the node forgets it: 50 seconds. This
-/// project's own.
+/// The number of ticks without routing data after which a node forgets its router: 50 seconds.
 const MAX_SILENCE: u8 = 250;
 
 impl LiveNode {
-    /// Counts a tick in which the router is silent, and forgets it where these are 250.
+    /// Counts a tick without routing data, if the node has a router. In the 250th the node forgets
+    /// its router.
     pub(crate) fn count_silence(&mut self)
         ensures { self.new ≡ record self.old {
           node = record self.old.node {

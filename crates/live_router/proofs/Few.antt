@@ -1,4 +1,4 @@
--- A tick puts out at most three datagrams and probes for each port, beside its queries.
+-- In a tick a router makes at most three datagrams and probes for each port, not counting queries.
 use Rattle.std.proofs.Common.{◌≡◌, ℕ, ◌+◌, ◌≤◌, Bool, true, false, List, [], ◌∷◌, ◌++◌, length}
 use Rattle.std.proofs.Common.{Option, Some, None, ◌⊎◌, inl, inr, refl, ap, subst, ◌∙◌, arith, length-append}
 use Rattle.std.proofs.lemmas.List.{length-map}
@@ -43,12 +43,12 @@ data_few k range (Some me) rows =
       length-map (packets_for k range me rows) (λ p. made (data_way k me) (bytes_of routing_data p)),
     )
 
--- how much a port sends in a tick
+-- the number of probes and packets of routing data that a port sends in a tick
 abbrev of_port : ℕ → Choice → List Row → ℕ
 of_port k c rows =
     length (probe_by k (ticked c).1) + length (data_by k (ticked c).0.range (settled (ticked c).0) rows)
 
--- a port that probes isn't settled after it
+-- a port that sends a probe in a tick isn't settled after it
 probes_or_settled : (c : Choice) → ((ticked c).1 ≡ None) ⊎ ((ticked c).0.is_settled ≡ false)
 probes_or_settled c = by c.is_settled (nat_lt c.probes 10) refl refl
   where
@@ -81,22 +81,22 @@ ports_few k (c ∷ cs) rows =
       length-append (data_by k (ticked c).0.range (settled (ticked c).0) rows) (data_from (k + 1) (ports_ticked cs) rows),
     )
 
--- as many ports as before
+-- the number of ports stays the same
 pub ticked_len : (ports : List Choice) → length (ports_ticked ports) ≡ length ports
 ticked_len ports = length-map ports (λ c. (ticked c).0)
 
--- no outputs
+-- an empty list of outputs is made by any station
 pub none_made : (n : ℕ) (os : List Output) → os ≡ [] → AreMade n os
 none_made n os none = rw none (λ k d lt. absurd (omega arith))
 
--- what was made for the ports after a tick was made for those before it
+-- outputs that were made for the ports after a tick were made for the ports before it
 pub made_in : (ports after : List Choice) (probed sent : List Output) → after ≡ ports_ticked ports
     → (AreMade (length after) probed → AreMade (length after) sent) → AreMade (length ports) probed → AreMade (length ports) sent
 made_in ports after probed sent is then_made =
     let same : length after ≡ length ports = ap (λ (l : List Choice). length l) is ∙ ticked_len ports in
     subst (λ n. AreMade n probed → AreMade n sent) same then_made
 
--- a tick with at most 200 queries
+-- a tick with at most 200 queries has at most 256 outputs
 pub tick_few : (ports after : List Choice) (rows : List Row) (probed sent : List Output) → length ports ≤ 16
     → after ≡ ports_ticked ports → probed ≡ probes 0 ports
     → length sent ≤ length probed + length (data_from 0 after rows) + 200 → length sent ≤ 256

@@ -1,4 +1,4 @@
--- Rows that a datagram teaches are by ports that there are.
+-- The ports of the rows after a datagram are ports of the router.
 use Rattle.std.proofs.Common.{◌≡◌, ℕ, ◌<◌, Bool, true, false, cond, List, length, Option, Some, None}
 use Rattle.std.specs.Prelude.{nat_lt, slice_get}
 use Rattle.std.proofs.lemmas.Bool.{lt-ltb}

@@ -1,4 +1,4 @@
--- Rows are by ports that there are, whatever is heard, joined or aged.
+-- The ports of rows stay below a bound when rows are heard, added or aged.
 use Rattle.std.proofs.Common.{◌≡◌, ℕ, ◌+◌, ◌≤◌, Bool, true, false, cond, not, ◌&&◌, ◌||◌, ◌==◌, List, [], ◌∷◌, length, map, filter, find}
 use Rattle.std.proofs.Common.{Option, Some, None, refl, arith}
 use Rattle.std.specs.Prelude.{nat_le, nat_lt}
@@ -20,17 +20,17 @@ use Rattle.rtmp.specs.declared.table.Change.{Change}
 use Rattle.rtmp.specs.declared.table.Change.TheVariants.{Ignored, Changed}
 use Rattle.rtmp.specs.declared.tuple.Tuple.{Tuple}
 
--- the row is by one of so many ports
+-- the row's port is below n
 abbrev pub is_seated : ℕ → Row → Bool
 is_seated n r = nat_lt r.port n
 
--- each row is
+-- the port of each row is below n
 abbrev pub Seated : ℕ → List Row → Type 0
 Seated n rows = list_all (λ r. nat_lt r.port n) rows ≡ true
 
 -- ---- Lists of rows
 
--- rows that leave their ports alone, or take others that there are
+-- if a function keeps the ports of rows below n, so does mapping it over rows
 map_seated : (n : ℕ) (f : Row → Row) → ((r : Row) → is_seated n r ≡ true → is_seated n (f r) ≡ true) → (rows : List Row)
     → Seated n rows → Seated n (map f rows)
 map_seated n f keeps [] h = refl
@@ -68,7 +68,7 @@ found_seated n test (r ∷ rows) row h e =
       | false ↦ λ t. found_seated n test rows row p.1 (rw t at e)
     ]) refl
 
--- ---- What is heard
+-- ---- Routing data
 
 hearing_seated : (n : ℕ) (row : Row) (t : ℕ) (s : Addr) (port : ℕ) → is_seated n row ≡ true → nat_lt port n ≡ true
     → is_seated n (after_hearing row t s port).0 ≡ true
@@ -121,7 +121,7 @@ packet_seated n s port (t ∷ tuples) rows new h =
     packet_seated n s port tuples (heard_within t.range t.distance s port rows) new
     (within_seated n t.range t.distance s port rows new h)
 
--- rows after a packet that came in on one of the ports
+-- after a packet of routing data that was received on one of the ports, the port of each row is below n
 pub after_seated : (n : ℕ) (range : Span) (port : ℕ) (p : RoutingData) (rows : List Row) → nat_lt port n ≡ true → Seated n rows
     → Seated n (routes_after range port p rows)
 after_seated n range port p rows new h = by (is_from_neighbour range p)
@@ -130,7 +130,7 @@ after_seated n range port p rows new h = by (is_from_neighbour range p)
     by true = packet_seated n p.router port (tuples_of p.written) rows new h
     by false = h
 
--- ---- What a tick leaves
+-- ---- Ticks
 
 joined_seated : (n : ℕ) (range : Span) (k : ℕ) (rows : List Row) → nat_lt k n ≡ true → Seated n rows → Seated n (joined range k rows)
 joined_seated n range k rows new h = by (nat_lt (length (beside range rows)) 200)
@@ -140,7 +140,7 @@ joined_seated n range k rows new h = by (nat_lt (length (beside range rows)) 200
         added_seated n (direct_row range k) (beside range rows) new (filter_seated n (λ r. not (overlaps r.range range)) rows h)
     by false = h
 
--- rows after ports that are numbered from k
+-- after some of the ports, which are numbered from k, settled, the port of each row is below n
 pub all_joined_seated : (n k : ℕ) (ports : List Choice) (rows : List Row) → k + length ports ≤ n → Seated n rows
     → Seated n (all_joined k ports rows)
 all_joined_seated n k [] rows few h = h
@@ -160,7 +160,7 @@ aged_seated n rows h =
     by r true old = old
     by r false old = old
 
--- rows that may have grown older
+-- after a tick in which rows may age, the port of each row is below n
 pub routes_aged_seated : (n phase : ℕ) (rows : List Row) → Seated n rows → Seated n (routes_aged phase rows)
 routes_aged_seated n phase rows h = by (phase == 0)
   where

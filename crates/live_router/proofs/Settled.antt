@@ -1,4 +1,4 @@
--- Ports that are settled stay as they are, and where none settles no cable is joined.
+-- Settled ports don't change, and no direct row is added if no port settles.
 use Rattle.std.proofs.Common.{◌≡◌, ℕ, ◌+◌, Bool, true, false, List, [], ◌∷◌, refl, ap, ◌∙◌}
 use Rattle.std.specs.List.{list_all, list_any}
 use Rattle.std.proofs.lemmas.Bool.{and_parts}
@@ -23,7 +23,7 @@ settled_silent k (c ∷ cs) h =
     let p = and_parts c.is_settled (list_all (λ x. x.is_settled) cs) h in
     rw p.0 (settled_silent (k + 1) cs p.1)
 
--- no port settles
+-- if no port settles, the rows stay the same
 pub none_joined : (k : ℕ) (ports : List Choice) (rows : List Row) → list_any settles ports ≡ false → rows ≡ all_joined k ports rows
 none_joined k [] rows h = refl
 none_joined k (c ∷ cs) rows h = by (settles c) refl (λ (none : list_any settles cs ≡ false). none_joined (k + 1) cs rows none)

@@ -1,4 +1,4 @@
--- What a router sends of its tables fits into datagrams.
+-- The packets that a router sends of its tables fit into datagrams.
 use Rattle.std.proofs.Common.{◌≡◌, ℕ, ◌+◌, ◌≤◌, Bool, true, false, cond, ◌||◌, ◌==◌, List, [], ◌∷◌, length, map, take, drop}
 use Rattle.std.proofs.Common.{Option, Some, None, IfSome, refl, arith, length-append}
 use Rattle.std.specs.Prelude.{◌*◌, nat_le, nat_lt}
@@ -51,7 +51,7 @@ sent_len k range me n rows =
     let same = length-map window sent_tuple in
     omega (arith, len, few, same)
 
--- a packet that is sent is short
+-- a packet of routing data fits into a datagram
 pub packet_short : (k : ℕ) (range : Span) (me : Addr) (n : ℕ) (rows : List Row) (bytes : Option (List ℕ))
     → IsPacket (packet_numbered k range me n rows) bytes → IfSome bytes (λ b. length b ≤ 586)
 packet_short k range me n rows bytes h = by (n == 0 || nat_lt (n * 96) (length (of_other_ports k rows))) bytes h

@@ -1,4 +1,4 @@
--- Which packets of ZIP teach zone lists. (Inside AppleTalk, the chapter on ZIP)
+-- The ZIP packets from which a router learns zone lists. (Inside AppleTalk, the chapter on ZIP)
 use Rattle.std.specs.Prelude.{Bool, true, false}
 use Rattle.zip_zones.specs.declared.packet.Packet.{Packet}
 use Rattle.zip_zones.specs.declared.packet.Packet.TheVariants as p

@@ -1,5 +1,5 @@
--- What a live router does as time passes. (Inside AppleTalk, the chapters on AARP, RTMP and ZIP; the order within a tick, and
--- what is left out where there is no room, are this project's own)
+-- A tick of a live router. (Inside AppleTalk, the chapters on AARP, RTMP and ZIP; the order within a tick, and what is
+-- left out if a table has no room, are this project's own)
 use Rattle.std.specs.Prelude.{◌≡◌, ℕ, ◌+◌, ◌%◌, Bool, false, not, ◌&&◌, ◌==◌, List, [], ◌∷◌, ◌++◌, length, map, nat_lt, option_to_list}
 use Rattle.std.specs.Prelude.{Option, Some, None, if◌then◌else◌}
 use Rattle.aarp.specs.Choosing.{Choice, settled, ticked}
@@ -35,12 +35,12 @@ use Rattle.zip_zones.specs.declared.packet.Packet.TheVariants.{Query as QueryPac
 abbrev pub ports_ticked : List Choice → List Choice
 ports_ticked ports = map (λ c. (ticked c).0) ports
 
--- a probe goes by port k to all stations of the cable
+-- the frame with a probe, if there is one, on port k to all stations of the cable
 abbrev pub probe_by : ℕ → Option Packet → List Output
 probe_by k None = []
 probe_by k (Some p) = Wire k all_hw (bytes_of packet (written p)) ∷ []
 
--- the probes of a tick, of ports numbered from k
+-- the probes of a tick, on the ports, which are numbered from k
 abbrev pub probes : ℕ → List Choice → List Output
 probes k [] = []
 probes k (c ∷ cs) = probe_by k (ticked c).1 ++ probes (k + 1) cs
@@ -51,30 +51,31 @@ probes k (c ∷ cs) = probe_by k (ticked c).1 ++ probes (k + 1) cs
 abbrev pub settles : Choice → Bool
 settles c = not c.is_settled && (ticked c).0.is_settled
 
--- port k has settled on a cable of this range, which is direct from now on; it is left out where there is no room for its row
+-- The rows after port k settled on a cable with this range: the range gets a direct row, unless the table has no room
+-- for it.
 abbrev pub joined : Span → ℕ → List Row → List Row
 joined range k rows = if nat_lt (length (beside range rows)) 200 then directed range k rows else rows
 
--- the rows after the ports, numbered from k, of which some settle
+-- The rows after a tick's settling of ports, which are numbered from k: each port that settles gets a direct row.
 abbrev pub all_joined : ℕ → List Choice → List Row → List Row
 all_joined k [] rows = rows
 all_joined k (c ∷ cs) rows = all_joined (k + 1) cs (if settles c then joined c.range k rows else rows)
 
--- the phase of the next tick, which counts to 100 and begins again
+-- The phase of the next tick: phases count from 0 to 99 and begin again.
 abbrev pub phase_after : ℕ → ℕ
 phase_after phase = (phase + 1) % 100
 
--- in every hundredth tick rows grow older
+-- The rows after a tick in this phase: they age in phase 0.
 abbrev pub routes_aged : ℕ → List Row → List Row
 routes_aged phase rows = if phase == 0 then aged rows else rows
 
--- and the lists of rows that go go with them
+-- The zone table after a tick in this phase: in phase 0 the zone lists of removed rows are removed.
 abbrev pub zones_aged : ℕ → List Row → List Known → List Known
 zones_aged phase rows zones = if phase == 0 then without_gone rows zones else zones
 
--- ---- What is sent
+-- ---- Routing data and queries
 
--- the header of a datagram of the router's own from this address
+-- the header of a datagram that the router makes, from this address, and from a socket to the same socket
 abbrev pub header_of : Addr → Addr → ℕ → ℕ → Header
 header_of source target socket kind = record {
   summed = false;
@@ -85,47 +86,47 @@ header_of source target socket kind = record {
   kind = kind;
 }
 
--- the way of routing data: to all stations of the cable, from socket 1 to socket 1
+-- the way of routing data: on port k to all stations of the cable, from socket 1 to socket 1
 abbrev pub data_way : ℕ → Addr → Way
 data_way k me = record { port = k; next = next.All; header = header_of me (record { net = 0; node = 255 }) 1 1 }
 
--- the packets of routing data for a cable of this range by port k: of at most 200 rows there are at most three
+-- The packets of routing data on port k, for a cable with this range: a table of at most 200 rows gives at most three.
 abbrev pub packets_for : ℕ → Span → Addr → List Row → List RoutingData
 packets_for k range me rows = option_to_list (packet_numbered k range me 0 rows)
     ++ option_to_list (packet_numbered k range me 1 rows) ++ option_to_list (packet_numbered k range me 2 rows)
 
--- the routing data by port k, where it is settled
+-- the routing data on port k, if the port is settled
 abbrev pub data_by : ℕ → Span → Option Addr → List Row → List Output
 data_by k range None rows = []
 data_by k range (Some me) rows =
     map (λ p. made (data_way k me) (bytes_of routing_data p)) (packets_for k range me rows)
 
--- the routing data by the ports, numbered from k
+-- the routing data on the settled ones of the ports, which are numbered from k
 abbrev pub data_from : ℕ → List Choice → List Row → List Output
 data_from k [] rows = []
 data_from k (c ∷ cs) rows = data_by k c.range (settled c) rows ++ data_from (k + 1) cs rows
 
--- the query about a range, from the address of the port by which it leaves, where that is settled
+-- the query about a range, from the address of the port on which it leaves, if that is settled
 abbrev pub query_from : Option Addr → Query → List Output
 query_from None q = []
 query_from (Some me) q =
     made (record { port = q.port; next = next.Station q.next; header = header_of me q.next 6 6 })
     (bytes_of spelled_packet (QueryPacket (q.start ∷ []))) ∷ []
 
--- the queries, one after another
+-- the queries whose ports are settled, in order
 abbrev pub all_queries : List Choice → List Query → List Output
 all_queries ports [] = []
 all_queries ports (q ∷ qs) = query_from (own_at ports q.port) q ++ all_queries ports qs
 
--- what is sent of these tables in every fiftieth tick
+-- The routing data and queries that a router sends in a tick in this phase: only in every fiftieth tick.
 abbrev pub sent_by : ℕ → Holding → List Output
 sent_by phase h =
     if phase % 50 == 0 then data_from 0 h.ports h.routes ++ all_queries h.ports (queries_of h.routes h.zones) else []
 
 -- ---- A tick
 
--- The router after a tick: first each port goes on with its choice, and the cables of those that settle are direct; then rows
--- grow older.
+-- The router after a tick in this phase: first the choice of each port advances, and the cables of ports that settle
+-- get direct rows; then rows age.
 abbrev pub router_after : ℕ → Holding → Holding
 router_after phase h = record {
   ports = ports_ticked h.ports;
@@ -134,13 +135,14 @@ router_after phase h = record {
   requests = requests_ticked h.requests;
 }
 
--- What a live router puts out in a tick, and what it holds then: probes, then routing data, then queries for zone lists.
+-- The outputs of a live router in a tick, and its state after it: probes, then routing data, then queries for zone
+-- lists.
 abbrev pub ticked_live : Living → List Output × Living
 ticked_live l = (
   probes 0 l.router.ports ++ sent_by (phase_after l.phase) (router_after (phase_after l.phase) l.router),
   record { router = router_after (phase_after l.phase) l.router; phase = phase_after l.phase },
 )
 
--- a live router that holds this lets a tick pass, puts these out, and holds that then
+-- a live router in state old has these outputs in a tick, and is in state new after it
 abbrev pub LiveTicks : Living → List Output → Living → Type 0
 LiveTicks old added new = (added, new) ≡ ticked_live old

@@ -1,4 +1,4 @@
-//! How ports choose their addresses, tick by tick.
+//! The choice of the ports' addresses, tick by tick.
 
 ghost use Rattle.std.specs.Prelude.{◌≡◌, ◌<◌, ◌≤◌, ◌+◌, ◌++◌, ◌∷◌, [], ℕ, length, option_map};
 ghost use Rattle.std.specs.Prelude.{unwrap_or, IfOk, IsOkUnless, OnOk, Some};
@@ -15,21 +15,21 @@ use rtmp::RouteTable;
 use station::Output;
 use std::alloc::Global;
 
-/// Whether the port has an address.
+/// Whether the port's address is settled.
 fn is_settled(chooser: &Chooser) -> bool
     ensures { result ≡ chooser.now.is_settled }
 {
     chooser.settled().is_some()
 }
 
-/// Whether each port has an address.
+/// Whether the address of each port is settled.
 fn are_settled(ports: &[Chooser]) -> bool
     ensures { result ≡ list_all (λ c. c.is_settled) ports.now }
 {
     ports.iter().all(is_settled)
 }
 
-/// The frame with a probe, for all stations of the port's cable. Error: `Memory`.
+/// The frame with a probe, to all stations of the port's cable. Error: `Memory`.
 fn probe_frame(alloc: Global, port: u8, probe: &Packet) -> Result<Output, Error>
     ensures ok { IfOk result (λ output. output ∷ [] ≡ spec.probe_by port (Some probe.now)) }
     ensures good { IfOk result (λ output. (n : ℕ) → port < n → IsMadeIn n output) }
@@ -42,7 +42,7 @@ fn probe_frame(alloc: Global, port: u8, probe: &Packet) -> Result<Output, Error>
     })
 }
 
-/// Appends the frame with a probe, where there is one. Error: `Memory`.
+/// Adds the frame with a probe, if there is one. Error: `Memory`.
 fn put_probe(made: &mut Vec<Output>, port: u8, probe: &Option<Packet>) -> Result<(), Error>
     ensures put { OnOk result (made.new.items ≡ made.old.items ++ spec.probe_by port probe.now) }
     ensures good { OnOk result ((n : ℕ) → port < n → AreMade n made.old.items
@@ -59,8 +59,8 @@ fn put_probe(made: &mut Vec<Output>, port: u8, probe: &Option<Packet>) -> Result
     }
 }
 
-/// Lets a tick pass for the choice of a port's address: appends the choice after it, and the probe
-/// that the port sends. Error: `Memory`.
+/// Advances the choice of a port's address by a tick: appends the choice after the tick, and adds
+/// the probe that the port sends, if any. Error: `Memory`.
 fn tick_port(
     made: &mut Vec<Output>,
     next: &mut Vec<Chooser>,
@@ -80,7 +80,7 @@ fn tick_port(
     put_probe(made, port, &probe)
 }
 
-/// Lets a tick pass for the choices of ports that are numbered from `port`. Error: `Memory`.
+/// Advances the choices of the ports, which are numbered from `port`, by a tick. Error: `Memory`.
 fn tick_ports(
     made: &mut Vec<Output>,
     next: &mut Vec<Chooser>,
@@ -103,7 +103,8 @@ fn tick_ports(
     }
 }
 
-/// The choices after a tick, where one isn't made yet, and the probes. Error: `Memory`.
+/// The choices of the ports' addresses after a tick, or `None` if all are settled and so don't
+/// change. Adds the probes of the tick. Error: `Memory`.
 pub(crate) fn ports_after<T: RouteTable>(
     router: &Router<T>,
     made: &mut Vec<Output>,

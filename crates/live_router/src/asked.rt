@@ -19,7 +19,7 @@ use station::{Next, Output, Way};
 use std::alloc::Global;
 use zip_zones::write_query;
 
-/// The address of the port at an index, once it is settled.
+/// The address of the port at an index, if it is settled.
 fn own_at(ports: &[Chooser], port: u8) -> Option<Addr>
     ensures value { result ≡ holding_spec.own_at ports.now port }
     ensures inside { IfSome result (λ me. port < length ports.now) }
@@ -30,7 +30,7 @@ fn own_at(ports: &[Chooser], port: u8) -> Option<Addr>
     }
 }
 
-/// The query about the range that begins with this network. Error: `Memory`.
+/// The bytes of the query about the range that begins with this network. Error: `Memory`.
 fn query_bytes(alloc: Global, start: u16) -> Result<Bytes, Error>
     ensures ok { IfOk result
         (λ bytes. bytes ≡ bytes_of formats_spec.packet (QueryPacket (start ∷ []))) }
@@ -43,7 +43,7 @@ fn query_bytes(alloc: Global, start: u16) -> Result<Bytes, Error>
     }
 }
 
-/// Sends a query from this address, which is that of the port by which it leaves. Error: `Memory`.
+/// Adds a query with this source address, which is that of the query's port. Error: `Memory`.
 fn put_query_from(made: &mut Vec<Output>, me: Addr, query: &Query) -> Result<(), Error>
     ensures put { OnOk result
         (made.new.items ≡ made.old.items ++ query_from (Some me) query.now) }
@@ -61,11 +61,11 @@ fn put_query_from(made: &mut Vec<Output>, me: Addr, query: &Query) -> Result<(),
     put(made, &Some(way), payload.as_slice())
 }
 
-/// Sends a query by its port, where that is settled. Error: `Memory`.
+/// Adds a query on its port, if that is settled. Error: `Memory`.
 fn put_query(made: &mut Vec<Output>, ports: &[Chooser], query: &Query) -> Result<(), Error>
     ensures put { OnOk result (made.new.items ≡ made.old.items
         ++ query_from (holding_spec.own_at ports.now query.now.port) query.now) }
-    // What isn't sent needs no memory.
+    // Nothing is sent then, which needs no memory.
     ensures unsettled { holding_spec.own_at ports.now query.now.port ≡ None → IsOk result }
     ensures few { OnOk result (length made.new.items ≤ length made.old.items + 1) }
     ensures good { OnOk result ((n : ℕ) → length ports.now ≤ n → AreMade n made.old.items
@@ -78,7 +78,7 @@ fn put_query(made: &mut Vec<Output>, ports: &[Chooser], query: &Query) -> Result
     }
 }
 
-/// Sends queries, each by its port, where that is settled. Error: `Memory`.
+/// Adds the queries whose ports are settled, each on its port. Error: `Memory`.
 pub(crate) fn put_queries(
     made: &mut Vec<Output>,
     ports: &[Chooser],

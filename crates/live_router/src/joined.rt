@@ -1,5 +1,4 @@
-//! How the tables change as time passes: the cables of ports that settle are direct, and rows grow
-//! older.
+//! Changes of the tables in a tick: the cables of ports that settle get direct rows, and rows age.
 
 ghost use Rattle.std.specs.Prelude.{◌≡◌, ◌≤◌, ◌+◌, length, option_map, unwrap_or};
 ghost use Rattle.std.specs.Prelude.{IfOk, IsOkUnless, OnOk, Some};
@@ -19,7 +18,7 @@ use router::Router;
 use rtmp::RouteTable;
 use zip_zones::ZoneTable;
 
-/// Whether a port settles in the tick between these choices.
+/// Whether a port settles in a tick, by its choice before and after the tick.
 fn settles(before: &Chooser, after: &Chooser) -> bool
     requires { after.now ≡ (ticked before.now).0 }
     ensures { result ≡ spec.settles before.now }
@@ -27,7 +26,7 @@ fn settles(before: &Chooser, after: &Chooser) -> bool
     before.settled().is_none() && after.settled().is_some()
 }
 
-/// Whether one of the ports settles in the tick between these choices.
+/// Whether any of the ports settles in a tick, by their choices before and after the tick.
 fn any_settles(before: &[Chooser], after: &[Chooser]) -> bool
     requires { after.now ≡ ports_ticked before.now }
     ensures { result ≡ list_any spec.settles before.now }
@@ -38,8 +37,8 @@ fn any_settles(before: &[Chooser], after: &[Chooser]) -> bool
     }
 }
 
-/// Makes the cable of a port, which has this range, direct, and leaves it out where there is no
-/// room for its row. Error: `Memory`.
+/// Adds a direct row for the cable of a port, which has this range. It is left out if the table has
+/// no room for it. Error: `Memory`.
 fn join<T: RouteTable>(routes: &mut T, range: Range, port: u8) -> Result<(), Error>
     ensures ok { OnOk result (T.rows routes.new ≡ joined range port (T.rows routes.old)) }
     ensures full { 200 ≤ length (beside range (T.rows routes.old)) → result ≡ Ok tt }
@@ -51,8 +50,8 @@ fn join<T: RouteTable>(routes: &mut T, range: Range, port: u8) -> Result<(), Err
     }
 }
 
-/// Makes the cables direct whose ports settle in the tick between these choices, which are numbered
-/// from `port`. Error: `Memory`.
+/// Adds direct rows for the cables of the ports that settle in a tick, by their choices before and
+/// after the tick. The ports are numbered from `port`. Error: `Memory`.
 fn join_all<T: RouteTable>(
     routes: &mut T,
     port: u8,
@@ -76,7 +75,8 @@ fn join_all<T: RouteTable>(
     }
 }
 
-/// The routing table with the cables of the ports that settle. Error: `Memory`.
+/// A copy of the routing table with direct rows for the cables of the ports that settle. Error:
+/// `Memory`.
 fn routes_joined<T: RouteTable>(router: &Router<T>, after: &[Chooser]) -> Result<T, Error>
     requires { after.now ≡ ports_ticked router.now.ports }
     ensures ok { IfOk result
@@ -88,8 +88,8 @@ fn routes_joined<T: RouteTable>(router: &Router<T>, after: &[Chooser]) -> Result
     Ok(routes)
 }
 
-/// The tables after a period has passed for this routing table: rows grow older, and the lists of
-/// those that go go with them. Error: `Memory`.
+/// The tables after a period: the rows of this routing table age, and the zone lists of removed
+/// rows are removed. Error: `Memory`.
 fn tables_aged<T: RouteTable>(zones: &ZoneTable, joined: T) -> Result<Tables<T>, Error>
     ensures routes { IfOk result
         (λ next. option_map T.rows next.routes ≡ Some (aged (T.rows joined))) }
@@ -106,8 +106,8 @@ fn tables_aged<T: RouteTable>(zones: &ZoneTable, joined: T) -> Result<Tables<T>,
     })
 }
 
-/// The tables after a tick in which the ports' choices become these, and in whose phase rows may
-/// grow older. Error: `Memory`.
+/// The tables after a tick in this phase, after which the ports have these choices. Rows age in
+/// phase 0. Tables that don't change are `None`. Error: `Memory`.
 pub(crate) fn tables_after<T: RouteTable>(
     router: &Router<T>,
     phase: u8,

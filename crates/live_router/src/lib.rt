@@ -1,4 +1,4 @@
-//! Live routers: they choose their addresses, learn their tables and forget them, tick by tick.
+//! Live routers: they choose their addresses, and learn and age their tables, tick by tick.
 #![tactic(auto)]
 
 mod addresses;

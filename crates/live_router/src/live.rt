@@ -1,4 +1,4 @@
-//! Live routers, and what they hold.
+//! Live routers and their state.
 
 ghost use Rattle.std.specs.Prelude.{◌≡◌, ◌<◌, ◌⊎◌, ◌↔◌, [], length, map, IfErr, IfOk, IsTrue};
 ghost use Rattle.std.specs.List.{list_all};
@@ -16,13 +16,13 @@ use std::marker::Model;
 use zip_zones::ZoneTable;
 
 /// A live router: a router that chooses the addresses of its ports, learns its tables from its
-/// neighbours and forgets what nobody says any more.
+/// neighbours, and removes rows that aren't confirmed any more.
 ///
 /// Inside AppleTalk, the chapters on AARP, RTMP and ZIP.
 #[derive(Drop)]
 pub struct LiveRouter<T: RouteTable> {
     router: Router<T>,
-    // ticks since rows last grew older
+    // The ticks since the rows last aged, or since the start.
     phase: u8,
 }
 
@@ -38,9 +38,9 @@ impl<T: RouteTable> Model for LiveRouter<T> {
 }
 
 impl<T: RouteTable> LiveRouter<T> {
-    /// A router that begins: its ports have yet to choose their addresses, where their plans give
-    /// none, it knows no route, and it knows the zones of its cables. That a station of each port's
-    /// range may have the port's addresses is the caller's condition.
+    /// A router before its first tick: it has no routes, and this zone table, which should have the
+    /// zones of its cables; ports whose plans give no address are to choose one. The caller ensures
+    /// that a station of each port's range may have the port's addresses (`aarp::are_on`).
     ///
     /// Errors: `Full` above 16 ports, `Memory`.
     pub fn new(
@@ -69,15 +69,15 @@ impl<T: RouteTable> LiveRouter<T> {
         Ok(LiveRouter { router, phase: 0 })
     }
 
-    /// The router as it stands. Allocates nothing.
+    /// The router in its current state. Allocates nothing.
     pub fn router(&self) -> &Router<T>
         ensures { result.now ≡ self.now.router }
     {
         &self.router
     }
 
-    /// AARP has given an address up: the rows that lead through its router are bad. Allocates
-    /// nothing.
+    /// AARP gave up on an address: the rows that go through the router with this address become
+    /// bad. Allocates nothing.
     ///
     /// Inside AppleTalk, the chapter on RTMP.
     pub fn give_up(&mut self, next: Addr)

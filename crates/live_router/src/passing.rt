@@ -1,4 +1,4 @@
-//! How a live router lets a tick pass.
+//! A tick of a live router.
 
 ghost use Rattle.std.specs.Prelude.{◌≡◌, ◌<◌, ◌≤◌, ◌+◌, ◌++◌, ◌==◌, ◌%◌, [], length, nat_lt};
 ghost use Rattle.std.specs.Prelude.{if◌then◌else◌, option_map, unwrap_or};
@@ -25,10 +25,10 @@ use rtmp::RouteTable;
 use station::{Output, Outputs};
 use zip_zones::ZoneTable;
 
-/// The ticks from one time at which rows grow older to the next.
+/// The period, in ticks, in which rows age.
 const AGE_TICKS: u8 = 100;
 
-/// The ticks from one time at which tables are sent to the next.
+/// The period, in ticks, in which routing data and queries are sent.
 const SEND_TICKS: u8 = 50;
 
 /// The phase of the next tick.
@@ -40,7 +40,7 @@ pub(crate) fn phase_after(phase: u8) -> u8
     (phase + 1) % AGE_TICKS
 }
 
-/// Sends routing data by each settled port, and queries for zone lists. Error: `Memory`.
+/// Adds the routing data of each settled port, and the queries for zone lists. Error: `Memory`.
 fn send_all<T: RouteTable>(
     made: &mut Vec<Output>,
     ports: &[Chooser],
@@ -62,7 +62,8 @@ fn send_all<T: RouteTable>(
     put_queries(made, ports, queries.as_slice())
 }
 
-/// Sends what is due in a phase. Error: `Memory`.
+/// Adds the routing data and queries of a tick in this phase, if any are sent in it. Error:
+/// `Memory`.
 fn send<T: RouteTable>(
     made: &mut Vec<Output>,
     phase: u8,
@@ -86,7 +87,7 @@ fn send<T: RouteTable>(
     send_all(made, ports, routes, zones)
 }
 
-/// What a tick makes of a router: what it puts out, and what is other than before.
+/// The result of a tick: the outputs, and the choices and tables that change.
 #[derive(Drop)]
 struct Ticked<T: RouteTable> {
     made: Vec<Output>,
@@ -94,7 +95,7 @@ struct Ticked<T: RouteTable> {
     tables: Tables<T>,
 }
 
-/// What a tick makes of a router, which is in this phase then. Error: `Memory`.
+/// The result of a tick of a router, which is in this phase after it. Error: `Memory`.
 fn passed<T: RouteTable>(router: &Router<T>, phase: u8) -> Result<Ticked<T>, Error>
     ensures made { IfOk result (λ x. x.made.items
         ≡ probes 0 router.now.ports ++ sent_by phase (router_after phase router.now)) }
@@ -126,8 +127,8 @@ fn passed<T: RouteTable>(router: &Router<T>, phase: u8) -> Result<Ticked<T>, Err
     })
 }
 
-/// Lets a tick pass for a router, which is in this phase then. Error: `Memory`, which changes
-/// neither the router nor the outputs.
+/// Advances a router by a tick; it is in this phase after it. Error: `Memory`; neither the router
+/// nor the outputs change then.
 pub(crate) fn pass<T: RouteTable>(
     router: &mut Router<T>,
     phase: u8,
@@ -141,7 +142,7 @@ pub(crate) fn pass<T: RouteTable>(
     ensures router_stays { OnErr result (router.new ≡ router.old) }
     ensures outputs_stay { OnErr result (outputs.new.items ≡ outputs.old.items) }
 {
-    // All that may fail comes first: a refusal then leaves the router as it is.
+    // All steps that may fail come first: an error then leaves the router unchanged.
     let Ticked {
         made,
         ports,

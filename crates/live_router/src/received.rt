@@ -1,4 +1,4 @@
-//! What a live router makes of the frames that it hears.
+//! A live router's handling of the frames that it receives.
 
 ghost use Rattle.std.specs.Prelude.{◌≡◌, ◌<◌, length, OnErr, OnOk, IsOkUnless, Some};
 ghost use Rattle.live_router.specs.Living.{taught};
@@ -16,8 +16,8 @@ use rtmp::RouteTable;
 use station::frames::read_datagram;
 use station::{Heard, Kind, Outputs, Station};
 
-/// Hears a datagram on one of the ports: answers it, and learns from it. Error: `Memory`, which
-/// changes neither the router nor the outputs.
+/// Receives a datagram on one of the ports: the router handles it, and learns from it. Error:
+/// `Memory`; neither the router nor the outputs change then.
 fn hear_datagram<T: RouteTable>(
     router: &mut Router<T>,
     heard: &Heard<'_>,
@@ -37,15 +37,15 @@ fn hear_datagram<T: RouteTable>(
     ensures outputs_stay { OnErr result (outputs.new.items ≡ outputs.old.items) }
 {
     let reaction = router.react(heard, view)?;
-    // The tables are made first: a refusal then leaves the router as it is.
+    // The new tables are made first: an error then leaves the router unchanged.
     let tables = tables_taught(router, reaction.ended, view)?;
     router.follow(reaction, outputs)?;
     take_tables(router, tables);
     Ok(())
 }
 
-/// Hears a frame on one of the ports: answers it, and learns from it. Error: `Memory`, which
-/// changes neither the router nor the outputs.
+/// Receives a frame on one of the ports: the router handles it, and learns from it. Error:
+/// `Memory`; neither the router nor the outputs change then.
 pub(crate) fn hear<T: RouteTable>(
     router: &mut Router<T>,
     heard: &Heard<'_>,

@@ -1,4 +1,4 @@
-//! The routing data that a router sends by its ports.
+//! The routing data that a router sends on its ports.
 
 ghost use Rattle.std.specs.Prelude.{◌≡◌, ◌<◌, ◌≤◌, ◌+◌, ◌++◌, ℕ, length, map, option_to_list};
 ghost use Rattle.std.specs.Prelude.{IsOk, IsOkUnless, None, OnOk};
@@ -19,7 +19,7 @@ use station::making::put_one;
 use station::ways::EVERY_NODE;
 use station::{Next, Output, Way};
 
-/// The header of a datagram of the router's own, from a socket to the same one.
+/// The header of a datagram that the router makes, from a socket to the same socket.
 pub(crate) fn header_of(source: Addr, target: Addr, socket: u8, kind: u8) -> Header
     ensures { result ≡ spec.header_of source target socket kind }
 {
@@ -33,7 +33,7 @@ pub(crate) fn header_of(source: Addr, target: Addr, socket: u8, kind: u8) -> Hea
     }
 }
 
-/// The way of routing data: by a port to all stations of its cable.
+/// The way of routing data: on a port, to all stations of its cable.
 fn data_way(port: u8, me: Addr) -> Way
     ensures { result ≡ spec.data_way port me }
 {
@@ -48,7 +48,7 @@ fn data_way(port: u8, me: Addr) -> Way
     }
 }
 
-/// Sends the packet of this number by a port, where there is one. Error: `Memory`.
+/// Adds the packet with this number, if there is one, on a port. Error: `Memory`.
 fn put_packet<T: RouteTable>(
     made: &mut Vec<Output>,
     port: u8,
@@ -68,7 +68,7 @@ fn put_packet<T: RouteTable>(
     put_one(made, &Some(data_way(port, me)), &packet)
 }
 
-/// Sends the packets of routing data by a port. Error: `Memory`.
+/// Adds the packets of routing data on a port. Error: `Memory`.
 fn put_packets<T: RouteTable>(
     made: &mut Vec<Output>,
     port: u8,
@@ -83,13 +83,13 @@ fn put_packets<T: RouteTable>(
         → AreMade n made.new.items) }
     ensures refused { IsOkUnless result Error.Memory }
 {
-    // Of at most 200 rows there are at most three.
+    // A table of at most 200 rows gives at most three packets.
     put_packet(made, port, range, me, routes, 0)?;
     put_packet(made, port, range, me, routes, 1)?;
     put_packet(made, port, range, me, routes, 2)
 }
 
-/// Sends the routing data by a port, where it is settled. Error: `Memory`.
+/// Adds the routing data on a port, if it is settled. Error: `Memory`.
 fn put_data<T: RouteTable>(
     made: &mut Vec<Output>,
     port: u8,
@@ -98,7 +98,7 @@ fn put_data<T: RouteTable>(
 ) -> Result<(), Error>
     ensures put { OnOk result (made.new.items ≡ made.old.items
         ++ data_by port chooser.now.range (settled chooser.now) (T.rows routes.now)) }
-    // What isn't sent needs no memory.
+    // Nothing is sent then, which needs no memory.
     ensures unsettled { settled chooser.now ≡ None → IsOk result }
     ensures good { OnOk result ((n : ℕ) → port < n → AreMade n made.old.items
         → AreMade n made.new.items) }
@@ -110,7 +110,8 @@ fn put_data<T: RouteTable>(
     }
 }
 
-/// Sends the routing data by the ports, which are numbered from `port`. Error: `Memory`.
+/// Adds the routing data on the settled ones of the ports, which are numbered from `port`. Error:
+/// `Memory`.
 pub(crate) fn put_all_data<T: RouteTable>(
     made: &mut Vec<Output>,
     port: u8,

@@ -1,4 +1,4 @@
-//! Tables that a router takes in the place of its own.
+//! New tables of a router, and their assignment.
 
 ghost use Rattle.std.specs.Prelude.{◌≡◌, length, nat_lt, option_map, unwrap_or, IsTrue};
 ghost use Rattle.std.specs.List.{list_all};
@@ -8,14 +8,14 @@ use router::Router;
 use rtmp::RouteTable;
 use zip_zones::ZoneTable;
 
-/// The tables of a router that are others than before.
+/// The new tables of a router. A table that doesn't change is `None`.
 #[derive(Drop)]
 pub(crate) struct Tables<T: RouteTable> {
     pub(crate) routes: Option<T>,
     pub(crate) zones: Option<ZoneTable>,
 }
 
-/// The choices that there are now, where they are others than before.
+/// The new choices, or those before if there are none.
 pub(crate) fn ports_now<'a>(next: &'a Option<Vec<Chooser>>, before: &'a [Chooser]) -> &'a [Chooser]
     ensures { result.now ≡ unwrap_or (option_map (λ v. v.items) next.now) before.now }
 {
@@ -25,7 +25,7 @@ pub(crate) fn ports_now<'a>(next: &'a Option<Vec<Chooser>>, before: &'a [Chooser
     }
 }
 
-/// The routing table that there is now, where it is another than before.
+/// The new routing table, or the one before if there is none.
 pub(crate) fn routes_now<'a, T: RouteTable>(next: &'a Option<T>, before: &'a T) -> &'a T
     ensures { T.rows result.now ≡ unwrap_or (option_map T.rows next.now) (T.rows before.now) }
 {
@@ -35,7 +35,7 @@ pub(crate) fn routes_now<'a, T: RouteTable>(next: &'a Option<T>, before: &'a T) 
     }
 }
 
-/// The zone table that there is now, where it is another than before.
+/// The new zone table, or the one before if there is none.
 pub(crate) fn zones_now<'a>(next: &'a Option<ZoneTable>, before: &'a ZoneTable) -> &'a ZoneTable
     ensures { result.now ≡ unwrap_or next.now before.now }
 {
@@ -45,7 +45,7 @@ pub(crate) fn zones_now<'a>(next: &'a Option<ZoneTable>, before: &'a ZoneTable) 
     }
 }
 
-/// Takes other choices, where there are others.
+/// Replaces the choices of the ports' addresses, if there are new ones.
 pub(crate) fn take_ports<T: RouteTable>(router: &mut Router<T>, next: Option<Vec<Chooser>>)
     requires { length (unwrap_or (option_map (λ v. v.items) next) router.old.ports)
         ≡ length router.old.ports }
@@ -58,7 +58,7 @@ pub(crate) fn take_ports<T: RouteTable>(router: &mut Router<T>, next: Option<Vec
     }
 }
 
-/// Takes another routing table, where there is another.
+/// Replaces the routing table, if there is a new one.
 fn take_routes<T: RouteTable>(router: &mut Router<T>, next: Option<T>)
     requires { IsTrue (list_all (λ r. nat_lt r.port (length router.old.ports))
         (unwrap_or (option_map T.rows next) router.old.routes)) }
@@ -71,7 +71,7 @@ fn take_routes<T: RouteTable>(router: &mut Router<T>, next: Option<T>)
     }
 }
 
-/// Takes another zone table, where there is another.
+/// Replaces the zone table, if there is a new one.
 fn take_zones<T: RouteTable>(router: &mut Router<T>, next: Option<ZoneTable>)
     ensures { router.new ≡ record router.old { zones = unwrap_or next router.old.zones } }
 {
@@ -80,8 +80,8 @@ fn take_zones<T: RouteTable>(router: &mut Router<T>, next: Option<ZoneTable>)
     }
 }
 
-/// Takes the tables that are others than before. That each row is by one of the ports is the
-/// caller's condition.
+/// Replaces the tables for which there are new ones. The caller ensures that each row's port is one
+/// of the ports.
 pub(crate) fn take_tables<T: RouteTable>(router: &mut Router<T>, next: Tables<T>)
     requires { IsTrue (list_all (λ r. nat_lt r.port (length router.old.ports))
         (unwrap_or (option_map T.rows next.routes) router.old.routes)) }

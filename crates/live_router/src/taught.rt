@@ -1,4 +1,4 @@
-//! What a datagram that ended at a router teaches it.
+//! The effect on a router's tables of a datagram that ended at it.
 
 ghost use Rattle.std.specs.Prelude.{◌≡◌, ◌<◌, length, nat_lt, option_map, slice_get, unwrap_or};
 ghost use Rattle.std.specs.Prelude.{IfOk, IfSome, IsOkUnless, IsTrue};
@@ -19,7 +19,7 @@ use rtmp::{DataPacket, RouteTable};
 use station::ways::is_to;
 use zip_zones::{Packet, ZoneTable};
 
-/// The packet of routing data in the data of a datagram.
+/// The packet of routing data in the data of a datagram, if any.
 fn read_data(payload: &[u8]) -> Option<DataPacket<'_>>
     ensures { result ≡ routing_in payload.now }
 {
@@ -29,7 +29,7 @@ fn read_data(payload: &[u8]) -> Option<DataPacket<'_>>
     }
 }
 
-/// The packet of ZIP in the data of a datagram.
+/// The ZIP packet in the data of a datagram, if any.
 fn read_zip(payload: &[u8]) -> Option<Packet<'_>>
     ensures { result ≡ zones_in payload.now }
 {
@@ -39,8 +39,8 @@ fn read_zip(payload: &[u8]) -> Option<Packet<'_>>
     }
 }
 
-/// The routing table after a packet that ended on a port, whose cable has this range. Error:
-/// `Memory`.
+/// A copy of the routing table after a packet of routing data that ended on a port, whose cable has
+/// this range. Error: `Memory`.
 fn routes_with<T: RouteTable>(
     routes: &T,
     range: Range,
@@ -56,7 +56,7 @@ fn routes_with<T: RouteTable>(
     Ok(table)
 }
 
-/// The routing table after a packet that ended on a port, where it is routing data. Error:
+/// The routing table after data that ended on a port, or `None` if it isn't routing data. Error:
 /// `Memory`.
 fn routes_taught_by<T: RouteTable>(
     router: &Router<T>,
@@ -80,14 +80,14 @@ fn routes_taught_by<T: RouteTable>(
     }
 }
 
-/// Whether the packet is a reply, which alone teaches zone lists.
+/// Whether the packet is a reply. Only replies change the zone table.
 fn is_reply(packet: &Packet<'_>) -> bool
     ensures { result ≡ spec.is_reply packet.now }
 {
     matches!(packet, Packet::Reply(_, _) | Packet::ExtendedReply(_, _))
 }
 
-/// The zone table after a reply. Error: `Memory`.
+/// A copy of the zone table after a reply. Error: `Memory`.
 fn zones_with<T: RouteTable>(router: &Router<T>, packet: Packet<'_>) -> Result<ZoneTable, Error>
     ensures ok { IfOk result
         (λ table. table ≡ after_reply router.now.routes packet.entry router.now.zones) }
@@ -98,7 +98,7 @@ fn zones_with<T: RouteTable>(router: &Router<T>, packet: Packet<'_>) -> Result<Z
     Ok(table)
 }
 
-/// The zone table after a packet of ZIP, where it is a reply. Error: `Memory`.
+/// The zone table after a ZIP packet, or `None` if the data isn't a reply. Error: `Memory`.
 fn zones_taught_by<T: RouteTable>(
     router: &Router<T>,
     payload: &[u8],
@@ -116,7 +116,8 @@ fn zones_taught_by<T: RouteTable>(
     }
 }
 
-/// The tables after a datagram that ended on a port. Error: `Memory`.
+/// The tables after a datagram that ended on a port. Tables that don't change are `None`. Error:
+/// `Memory`.
 fn taught_by<T: RouteTable>(
     router: &Router<T>,
     port: u8,
@@ -148,15 +149,15 @@ fn taught_by<T: RouteTable>(
     })
 }
 
-/// Does nothing: it tells the prover that each row is by one of the ports, which only a call can.
+/// A fact for the prover: each row's port is one of the ports. Does nothing.
 fn recall_seated<T: RouteTable>(router: &Router<T>)
     ensures { IsTrue (list_all (λ r. nat_lt r.port (length router.now.ports)) router.now.routes) }
 {
     let _ports = router.ports_now();
 }
 
-/// The tables after a datagram on one of the ports, where it ended at the router on the cable of a
-/// port. Error: `Memory`.
+/// The tables after a datagram, if it ended at the router on the cable of a port (`ended`). Tables
+/// that don't change are `None`. Error: `Memory`.
 pub(crate) fn tables_taught<T: RouteTable>(
     router: &Router<T>,
     ended: Option<u8>,

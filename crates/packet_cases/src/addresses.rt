@@ -3,7 +3,7 @@
 use at_base::{Addr, Hw};
 use case_words::{Answer, Stop, Words, put_hw, yes_or_no};
 
-/// Appends a range, or what it has in common with another one.
+/// Appends a range, or whether it holds a network, or overlaps or equals another range.
 pub(crate) fn range(mut words: Words<'_>, text: &mut String) -> Answer {
     let range = words.range()?;
     let holds = match words.word() {

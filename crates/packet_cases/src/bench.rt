@@ -1,4 +1,4 @@
-//! What the commands of a case are done with.
+//! The bench of a case, with which its commands are carried out.
 
 use crate::edits::changed;
 use crate::{
@@ -10,7 +10,7 @@ use case_words::{Answer, Bench, Stop, Words};
 use std::alloc::Global;
 use zip_zones::ZoneTable;
 
-/// What the bytes of a case are read as.
+/// The kind of packet as which the bytes of a case are read.
 #[derive(Clone, Copy)]
 enum Protocol {
     Datagram,
@@ -45,7 +45,7 @@ fn protocol_of(word: &str) -> Option<Protocol> {
     })
 }
 
-/// Appends what reading the bytes gives.
+/// Appends the result of reading the bytes.
 fn put_read(alloc: Global, protocol: Protocol, bytes: &[u8], text: &mut String) -> Answer {
     match protocol {
         Protocol::Datagram => datagrams::put_view(bytes, text),
@@ -58,7 +58,7 @@ fn put_read(alloc: Global, protocol: Protocol, bytes: &[u8], text: &mut String) 
     }
 }
 
-/// Appends for each number of first bytes what reading these gives.
+/// Appends the result of reading the first bytes, for each number of them.
 fn put_cuts(alloc: Global, protocol: Protocol, bytes: &[u8], text: &mut String) -> Answer {
     for len in 0..bytes.len() {
         write!(text, "{len} ")?;
@@ -71,7 +71,7 @@ fn put_cuts(alloc: Global, protocol: Protocol, bytes: &[u8], text: &mut String) 
     Ok(())
 }
 
-/// Does what changes nothing and needs no packet: numbers, texts and addresses.
+/// Carries out a command that changes nothing and needs no packet: on numbers, texts and addresses.
 fn act_on_values(alloc: Global, word: &str, words: Words<'_>, text: &mut String) -> Answer {
     match word {
         "range" => addresses::range(words, text),
@@ -138,14 +138,14 @@ impl Packets {
         Ok(())
     }
 
-    /// Takes the zones of the case as the list of a range.
+    /// Sets the list of a range to the zones of the case.
     fn list(&mut self, words: Words<'_>) -> Answer {
         zone_lists::list(self.alloc, &mut self.lists, words, self.zones.as_slice())?;
         self.zones.clear();
         Ok(())
     }
 
-    /// Appends what a router with the lists of the case answers.
+    /// Appends the replies of a router with the lists of the case.
     fn answer(&mut self, mut words: Words<'_>, text: &mut String) -> Answer {
         let alloc = self.alloc;
         if words.passes("query") {
@@ -155,7 +155,7 @@ impl Packets {
         zone_lists::put_answer(alloc, &mut self.lists, words, self.zones.as_slice(), text)
     }
 
-    /// Does what the words after the first one say.
+    /// Carries out a command, by its words after the first one.
     fn act_on(&mut self, word: &str, mut words: Words<'_>, text: &mut String) -> Answer {
         let bytes = self.bytes.as_slice();
         match word {

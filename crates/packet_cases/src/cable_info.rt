@@ -1,4 +1,4 @@
-//! What a node asks about its cable, and the replies.
+//! GetNetInfo requests and replies.
 
 use crate::hex_lines::put_written;
 use crate::names_asked::put_named;
@@ -24,14 +24,14 @@ pub(crate) fn put_info(text: &mut String, info: &NetInfo) -> Result<(), AllocErr
     }
 }
 
-/// A range and the zone asked for, as `10-19 zone "red"`.
+/// A range and the requested zone, as `10-19 zone "red"`.
 fn asked(alloc: Global, words: &mut Words<'_>) -> Result<(Range, Text32), Stop> {
     let range = words.range()?;
     words.expect("zone")?;
     Ok((range, words.text32(alloc)?))
 }
 
-/// Writes GetNetInfo.
+/// Writes a GetNetInfo request.
 pub(crate) fn write_question(alloc: Global, mut words: Words<'_>, text: &mut String) -> Answer {
     let zone = words.text32(alloc)?;
     put_written(text, write_get_net_info(alloc, &zone)?)?;

@@ -1,4 +1,4 @@
-//! Datagrams, and what answers an echo request.
+//! Datagrams, and the replies to echo requests.
 
 use crate::hex_lines::{put_bytes, put_written};
 use at_base::Addr;
@@ -33,7 +33,7 @@ pub(crate) fn put_whole(bytes: &[u8], text: &mut String) -> Answer {
     Ok(())
 }
 
-/// Appends what a station sends back for a datagram.
+/// Appends the data of the reply to a datagram, if it is an echo request.
 pub(crate) fn put_echo(alloc: Global, bytes: &[u8], text: &mut String) -> Answer {
     match echo::reply(alloc, &View::read(bytes)?)? {
         Some(data) => put_bytes(text, data.as_slice())?,
@@ -52,7 +52,7 @@ pub(crate) fn put_hops(bytes: &mut Vec<u8>, hops: u8, text: &mut String) -> Answ
     Ok(())
 }
 
-/// An address and a socket of it, after a word.
+/// An address and a socket at it, after a word.
 fn end(words: &mut Words<'_>, name: &str) -> Result<(Addr, u8), Stop> {
     words.expect(name)?;
     let addr = words.addr()?;

@@ -2,7 +2,7 @@
 
 use case_words::{Answer, Stop, Words};
 
-/// Puts bytes in the place of those from a place on.
+/// Replaces the bytes from a position on.
 fn put_at(bytes: &mut Vec<u8>, place: usize, others: &[u8]) -> Answer {
     let mut at = place;
     for other in others {
@@ -15,8 +15,8 @@ fn put_at(bytes: &mut Vec<u8>, place: usize, others: &[u8]) -> Answer {
     Ok(())
 }
 
-/// Does one change: `cut 12` leaves the first 12 bytes, `then FFFF` adds bytes at the end, and
-/// `7 04` puts other bytes at a place.
+/// Makes one change: `cut 12` keeps only the first 12 bytes, `then FFFF` adds bytes at the end, and
+/// `7 04` replaces the bytes from a position on.
 fn change(bytes: &mut Vec<u8>, words: &mut Words<'_>) -> Answer {
     let alloc = *bytes.allocator();
     if words.passes("cut") {

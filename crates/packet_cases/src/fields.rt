@@ -11,7 +11,7 @@ use case_words::{Answer, Stop, Words, put_hex, put_hw};
 use std::alloc::{AllocError, Global};
 use std::str::FromStr;
 
-/// Which values a number may have.
+/// The values that a number may have.
 #[derive(Clone, Copy)]
 enum Bounds<T> {
     Any,
@@ -19,7 +19,7 @@ enum Bounds<T> {
     Within(T, T, Field),
 }
 
-/// The bounds of a number, as `only 6 Count of`, `5 to 7 Count of`, or `of` alone.
+/// The bounds of a number, as `only 6 Count of`, `5 to 7 Count of`, or only `of`.
 fn bounds_of<T: FromStr + Drop>(words: &mut Words<'_>) -> Result<Bounds<T>, Stop>
 where
     T::Err: Drop,
@@ -40,7 +40,7 @@ where
     Ok(Bounds::Within(least, most, what))
 }
 
-/// Appends what follows a field.
+/// Appends the bytes after a field.
 fn put_rest(text: &mut String, rest: &[u8]) -> Result<(), AllocError> {
     write!(text, " then ")?;
     put_bytes(text, rest)
@@ -86,7 +86,7 @@ fn hardware(bytes: &[u8], text: &mut String) -> Answer {
     Ok(())
 }
 
-/// A number of bytes; or a text after its length, which is at least that number.
+/// A number of bytes; or a length-prefixed text, whose length is at least that number.
 fn run(alloc: Global, counted: bool, mut words: Words<'_>, text: &mut String) -> Answer {
     let len: u8 = words.number()?;
     words.expect("of")?;

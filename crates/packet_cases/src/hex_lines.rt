@@ -1,16 +1,17 @@
-//! Bytes in lines that aren't too long.
+//! Bytes in lines of limited length.
 
 use at_base::Bytes;
 use std::alloc::AllocError;
 
-/// Where a line of bytes begins in the text, and whether a count ends it.
+/// The position in the text at which a line of bytes begins, and whether the line ends with a
+/// count.
 #[derive(Clone, Copy)]
 struct Line {
     start: usize,
     counted: bool,
 }
 
-/// Begins a new line where this one has more than 90 columns, or puts a space between two words.
+/// Begins a new line if this one has more than 90 columns, or else puts a space between two words.
 fn put_gap(text: &mut String, line: Line, apart: bool) -> Result<Line, AllocError> {
     let width = text.len().saturating_sub(line.start);
     let mut start = line.start;
@@ -26,7 +27,7 @@ fn put_gap(text: &mut String, line: Line, apart: bool) -> Result<Line, AllocErro
     })
 }
 
-/// Appends a byte that comes `count` times in a row: from eight times on as `00*8`.
+/// Appends a byte that occurs `count` times in a row: from eight times on as `00*8`.
 fn put_run(text: &mut String, line: Line, byte: u8, count: usize) -> Result<Line, AllocError> {
     if count >= 8 {
         let line = put_gap(text, line, true)?;
@@ -43,7 +44,7 @@ fn put_run(text: &mut String, line: Line, byte: u8, count: usize) -> Result<Line
     })
 }
 
-/// Appends bytes as a case has them, `-` for none, and ends the line.
+/// Appends bytes in the form of case files, `-` for none, and ends the line.
 pub(crate) fn put_bytes(text: &mut String, bytes: &[u8]) -> Result<(), AllocError> {
     if bytes.is_empty() {
         write!(text, "-")?;
@@ -65,7 +66,7 @@ pub(crate) fn put_bytes(text: &mut String, bytes: &[u8]) -> Result<(), AllocErro
     writeln!(text)
 }
 
-/// Appends bytes that were written, how many they are, and for how many there is room in memory.
+/// Appends bytes that were written, their number, and their capacity.
 pub(crate) fn put_written(text: &mut String, bytes: Bytes) -> Result<(), AllocError> {
     put_bytes(text, bytes.as_slice())?;
     let len = bytes.len();

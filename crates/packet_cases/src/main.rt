@@ -1,4 +1,4 @@
-//! Cases of packets: what reading bytes gives, and which bytes are written.
+//! Cases of packets: the results of reading bytes, and the bytes that are written.
 #![tactic(auto)]
 
 mod aarp_packets;

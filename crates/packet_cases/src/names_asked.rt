@@ -25,7 +25,7 @@ fn function_word(function: Function) -> &'static str {
     }
 }
 
-/// Appends a text after its name, on a line of its own.
+/// Appends a text after its label, on a separate line.
 pub(crate) fn put_named(text: &mut String, name: &str, bytes: &[u8]) -> Result<(), AllocError> {
     write!(text, "{name} ")?;
     put_text(text, bytes)?;

@@ -37,7 +37,7 @@ pub(crate) fn short_text(alloc: Global, mut words: Words<'_>, text: &mut String)
     Ok(())
 }
 
-/// Whether a text is a zone's name.
+/// Whether a text may be a zone name.
 pub(crate) fn zone_name(alloc: Global, mut words: Words<'_>, text: &mut String) -> Answer {
     let is_name = is_zone_name(words.text(alloc)?.as_slice());
     writeln!(text, "{}", yes_or_no(is_name))?;
@@ -78,7 +78,7 @@ pub(crate) fn copy(alloc: Global, mut words: Words<'_>, text: &mut String) -> An
     Ok(())
 }
 
-/// Appends the bytes of a vector with a given room.
+/// Appends the bytes of a vector with a given capacity.
 pub(crate) fn vector(alloc: Global, mut words: Words<'_>, text: &mut String) -> Answer {
     let room: u16 = words.named("room")?;
     let bytes = words.bytes(alloc)?;

@@ -5,7 +5,7 @@ use atp::Packet;
 use case_words::{Answer, Stop, Words, put_hex, yes_or_no};
 use std::alloc::{AllocError, Global};
 
-/// Appends what the control byte says.
+/// Appends the meaning of the control byte.
 fn put_control(text: &mut String, packet: &Packet<'_>) -> Result<(), AllocError> {
     let request = yes_or_no(packet.is_request());
     let response = yes_or_no(packet.is_response());

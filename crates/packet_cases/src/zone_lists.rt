@@ -1,4 +1,4 @@
-//! Zones, the lists that a router has, and what it answers from them.
+//! Zones, a router's zone lists, and its replies from them.
 
 use crate::hex_lines::put_bytes;
 use crate::transactions::user;
@@ -33,7 +33,7 @@ pub(crate) fn copies(alloc: Global, words: &mut Words<'_>) -> Result<Vec<Name>, 
     Ok(names)
 }
 
-/// The router's lists, which are none at first.
+/// The router's zone table, empty at first.
 fn lists_of(alloc: Global, lists: &mut Option<ZoneTable>) -> Result<&mut ZoneTable, Error> {
     if lists.is_none() {
         *lists = Some(ZoneTable::new(alloc)?);
@@ -44,7 +44,7 @@ fn lists_of(alloc: Global, lists: &mut Option<ZoneTable>) -> Result<&mut ZoneTab
     }
 }
 
-/// Gives a range all of its zones, or one of them and their number.
+/// Sets the whole zone list of a range, or adds one zone and the number of all.
 pub(crate) fn list(
     alloc: Global,
     lists: &mut Option<ZoneTable>,
@@ -86,7 +86,7 @@ fn put_page(text: &mut String, page: &Page) -> Result<(), AllocError> {
     put_bytes(text, page.bytes.as_slice())
 }
 
-/// Appends the page of these zones from a place on.
+/// Appends the page of these zones from an index on.
 pub(crate) fn page(
     alloc: Global,
     mut words: Words<'_>,
@@ -107,7 +107,7 @@ fn function(words: &mut Words<'_>) -> Result<ZoneFunction, Stop> {
     })
 }
 
-/// Appends what the user bytes of a request ask for.
+/// Appends the meaning of the user bytes of a request for zones.
 pub(crate) fn put_request(alloc: Global, mut words: Words<'_>, text: &mut String) -> Answer {
     let user = user(alloc, &mut words)?;
     match ZoneFunction::asked(&user) {
@@ -120,7 +120,7 @@ pub(crate) fn put_request(alloc: Global, mut words: Words<'_>, text: &mut String
     Ok(())
 }
 
-/// Appends the page that answers a node whose cable has these zones.
+/// Appends the page that answers a node on a cable with these zones.
 pub(crate) fn put_answer(
     alloc: Global,
     lists: &mut Option<ZoneTable>,

@@ -1,4 +1,4 @@
-//! ZIP packets that are read, and queries.
+//! ZIP packets, and queries.
 
 use crate::cable_info::put_info;
 use crate::hex_lines::{put_bytes, put_written};
@@ -50,7 +50,7 @@ pub(crate) fn put_packet(bytes: &[u8], text: &mut String) -> Answer {
     Ok(())
 }
 
-/// Appends the zone that a packet asks for.
+/// Appends the zone that a packet requests.
 pub(crate) fn put_asked(bytes: &[u8], text: &mut String) -> Answer {
     match Packet::read(bytes)?.asked() {
         Some(zone) => put_named(text, "zone", zone.as_slice())?,
@@ -59,7 +59,7 @@ pub(crate) fn put_asked(bytes: &[u8], text: &mut String) -> Answer {
     Ok(())
 }
 
-/// A network, and how often it is named, as `30` or `258 times 255`.
+/// A network and the number of its repetitions, as `30` or `258 times 255`.
 fn network(words: &mut Words<'_>) -> Result<(u16, u16), Stop> {
     let net = words.number()?;
     if words.passes("times") {
@@ -89,7 +89,7 @@ pub(crate) fn write(alloc: Global, words: Words<'_>, text: &mut String) -> Answe
     Ok(())
 }
 
-/// Appends the bytes of the replies to a query, each on lines of its own.
+/// Appends the bytes of the replies to a query, each on separate lines.
 pub(crate) fn put_replies(text: &mut String, replies: &[at_base::Bytes]) -> Answer {
     for reply in replies {
         put_bytes(text, reply.as_slice())?;

@@ -1,4 +1,4 @@
-//! What the arguments of `atalk` ask for.
+//! The arguments of `atalk`.
 
 use at_base::Error;
 use case_words::{Answer, Stop, Words, put_text};
@@ -39,7 +39,7 @@ fn put_job(text: &mut String, job: Job<'_>) -> Result<(), AllocError> {
     writeln!(text)
 }
 
-/// The words as arguments, where `""` is an empty one.
+/// The words as arguments; `""` is an empty one.
 fn list<'a>(alloc: Global, mut words: Words<'a>) -> Result<Vec<&'a str>, Stop> {
     let mut list = Vec::new(alloc);
     for _ in 0..u64::MAX {
@@ -52,7 +52,7 @@ fn list<'a>(alloc: Global, mut words: Words<'a>) -> Result<Vec<&'a str>, Stop> {
     Ok(list)
 }
 
-/// Appends what the arguments ask for, or what is wrong with them.
+/// Appends the command of the arguments, or their error.
 pub(crate) fn answer(alloc: Global, words: Words<'_>, text: &mut String) -> Answer {
     let list = list(alloc, words)?;
     match read_arguments(alloc, list.as_slice()) {

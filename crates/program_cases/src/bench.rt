@@ -1,4 +1,4 @@
-//! What the commands of a case are done with.
+//! The bench of a case, with which its commands are carried out.
 
 use crate::{arguments, commands_run as run, exits, plans, worlds};
 use case_words::{Answer, Bench, Stop, Words};
@@ -6,7 +6,7 @@ use rtmp::PlainTable;
 use std::alloc::Global;
 use world::World;
 
-/// The text of an internet file, the bytes of an image, and a world once a command begins it.
+/// The text of an internet file, the bytes of an image, and a world after a command that begins it.
 #[derive(Drop)]
 pub(crate) struct Program {
     alloc: Global,
@@ -15,7 +15,7 @@ pub(crate) struct Program {
     world: Option<World<PlainTable>>,
 }
 
-/// The text, with what the words add to it.
+/// The text with the text in the words after it.
 fn longer(alloc: Global, text: &Vec<u8>, mut words: Words<'_>) -> Result<Vec<u8>, Stop> {
     let mut whole = text.clone()?;
     if !words.is_empty() {
@@ -25,7 +25,7 @@ fn longer(alloc: Global, text: &Vec<u8>, mut words: Words<'_>) -> Result<Vec<u8>
 }
 
 impl Program {
-    /// Appends a line to the text; there is room for all of it, or nothing is appended.
+    /// Appends a line to the text, the whole line or, if an allocation fails, nothing.
     fn add_line(&mut self, mut words: Words<'_>) -> Answer {
         let line = words.rest().as_bytes();
         self.text.reserve(line.len().saturating_add(1))?;
@@ -48,7 +48,7 @@ impl Program {
         Ok(())
     }
 
-    /// Answers a question about the text, with what the words add to it.
+    /// Answers a question about the text with the text in the words after it.
     fn ask_text(&self, question: &str, words: Words<'_>, text: &mut String) -> Answer {
         let whole = longer(self.alloc, &self.text, words)?;
         let bytes = whole.as_slice();
@@ -60,7 +60,8 @@ impl Program {
         }
     }
 
-    /// Plays the text, with what the words add to it. The image is the one that the play makes from then on.
+    /// Plays the text with the text in the words after it. The resulting image becomes the image of
+    /// the case.
     fn play(&mut self, words: Words<'_>, text: &mut String) -> Answer {
         let whole = longer(self.alloc, &self.text, words)?;
         self.image = run::play(self.alloc, whole.as_slice(), text)?;

@@ -1,4 +1,4 @@
-//! What the three commands write.
+//! The output of the three commands.
 
 use at_base::Error;
 use case_words::{Answer, Stop, Words, put_line};
@@ -8,10 +8,10 @@ use text::Output;
 use playing::{Silent, play_text};
 use std::alloc::{AllocError, Global};
 
-/// Room for what a command writes in a case.
+/// Room for the output of a command in a case.
 const ROOM: usize = 200_000;
 
-/// Appends text that has no bytes above 127.
+/// Appends ASCII text.
 fn put_ascii(text: &mut String, bytes: &[u8]) -> Result<(), AllocError> {
     for byte in bytes {
         text.push(*byte as char)?;
@@ -19,7 +19,7 @@ fn put_ascii(text: &mut String, bytes: &[u8]) -> Result<(), AllocError> {
     Ok(())
 }
 
-/// Appends the status of the answer, and the refusal, if it is one.
+/// Appends the status for a command's result, and its error, if it is one.
 fn put_status(text: &mut String, answer: &Result<bool, Error>) -> Answer {
     let status = status(answer);
     match answer {
@@ -29,21 +29,21 @@ fn put_status(text: &mut String, answer: &Result<bool, Error>) -> Answer {
     Ok(())
 }
 
-/// Appends the lines of the play of a file, and gives the image that it makes.
+/// Appends the lines of the play of a file, and returns the resulting image.
 pub(crate) fn play(alloc: Global, bytes: &[u8], text: &mut String) -> Result<Vec<u8>, Stop> {
     let played = play_text(alloc, bytes, &mut Silent)?;
     put_ascii(text, played.lines.as_slice())?;
     Ok(played.image)
 }
 
-/// Appends the image of the play of a file.
+/// Appends the image that results from the play of a file.
 pub(crate) fn frozen(alloc: Global, bytes: &[u8], text: &mut String) -> Answer {
     let played = play_text(alloc, bytes, &mut Silent)?;
     put_line(text, played.image.as_slice())?;
     Ok(())
 }
 
-/// Appends what `atalk audit` writes of the image, and its status.
+/// Appends the output of `atalk audit` for the image, and its status.
 pub(crate) fn audit(alloc: Global, image: &[u8], text: &mut String) -> Answer {
     let mut input = Input::new(image);
     let mut output = Output::new(alloc, Vec::with_capacity(alloc, ROOM)?);
@@ -55,7 +55,7 @@ pub(crate) fn audit(alloc: Global, image: &[u8], text: &mut String) -> Answer {
     put_status(text, &answer)
 }
 
-/// Appends what `atalk trace` writes of the image and a script, and its status.
+/// Appends the output of `atalk trace` for the image and a script, and its status.
 pub(crate) fn trace(
     alloc: Global,
     image: &[u8],
@@ -74,7 +74,7 @@ pub(crate) fn trace(
     put_status(text, &answer)
 }
 
-/// Appends what `atalk play --image` writes of the file, its image, and its status.
+/// Appends the output of `atalk play --image` for the file, its image, and its status.
 pub(crate) fn play_files(alloc: Global, bytes: &[u8], text: &mut String) -> Answer {
     let mut input = Input::new(bytes);
     let mut output = Output::new(alloc, Vec::with_capacity(alloc, ROOM)?);

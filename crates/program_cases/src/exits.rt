@@ -1,4 +1,4 @@
-//! How each outcome of the program ends.
+//! The exit status of each outcome of the program.
 
 use at_base::{Cause, Error, Fault, Field, Part, Place, What};
 use case_words::{Answer, Stop, Words};
@@ -6,7 +6,7 @@ use clap::error::ErrorKind as ParseError;
 use command_line::{Outcome, exit_of, status};
 use std::io::ErrorKind;
 
-/// An error by its number; those with fields have some.
+/// An error by its number; an error with fields has fixed ones.
 fn error(number: u8) -> Result<Error, Stop> {
     Ok(match number {
         1 => Error::Truncated,
@@ -56,7 +56,7 @@ fn io_error(words: &mut Words<'_>) -> Result<ErrorKind, Stop> {
     })
 }
 
-/// What a command answered: yes, no, or an error.
+/// The result of a command: yes, no, or an error.
 fn given(word: &str, words: &mut Words<'_>) -> Result<Result<bool, Error>, Stop> {
     Ok(match word {
         "yes" => Ok(true),
@@ -80,7 +80,7 @@ fn outcome(words: &mut Words<'_>) -> Result<Outcome, Stop> {
     })
 }
 
-/// Appends the status of an outcome, and the number of the refusal, if there is one.
+/// Appends the status of an outcome, and the number of its error, if it has one.
 pub(crate) fn answer(mut words: Words<'_>, text: &mut String) -> Answer {
     let exit = exit_of(&outcome(&mut words)?);
     let status = exit.status;
@@ -91,7 +91,7 @@ pub(crate) fn answer(mut words: Words<'_>, text: &mut String) -> Answer {
     Ok(())
 }
 
-/// Appends the status of what a command answered.
+/// Appends the status for a command's result.
 pub(crate) fn status_of(mut words: Words<'_>, text: &mut String) -> Answer {
     let word = words.word();
     let status = status(&given(word, &mut words)?);

@@ -1,4 +1,4 @@
-//! Cases of the program: internet files, worlds, plays, and what the three commands write.
+//! Cases of the program: internet files, worlds, plays, and the output of the three commands.
 #![tactic(auto)]
 
 mod arguments;

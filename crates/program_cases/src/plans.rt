@@ -1,11 +1,11 @@
-//! Internet files, and the plans that they say.
+//! Internet files and their plans.
 
 use at_base::{Addr, Name};
 use case_words::{Answer, put_hw, put_line, put_text};
 use internet_file::{Action, Cable, Do, Node, Plan, Port, Router, read};
 use std::alloc::{AllocError, Global};
 
-/// Appends whether the bytes are a file, by its refusal where they are none.
+/// Appends whether the bytes are an internet file, or their error.
 pub(crate) fn read_it(alloc: Global, bytes: &[u8], text: &mut String) -> Answer {
     let _plan = read(alloc, bytes)?;
     writeln!(text, "a plan")?;
@@ -123,7 +123,7 @@ fn put_parts(text: &mut String, plan: &Plan) -> Result<(), AllocError> {
     Ok(())
 }
 
-/// Appends what happens in a plan.
+/// Appends the actions of a plan.
 fn put_events(text: &mut String, plan: &Plan) -> Result<(), AllocError> {
     for loss in plan.losses() {
         let (cable, first, last) = (loss.cable, loss.first, loss.last);
@@ -135,7 +135,7 @@ fn put_events(text: &mut String, plan: &Plan) -> Result<(), AllocError> {
     Ok(())
 }
 
-/// Appends the plan that the bytes say, a line for each part of it.
+/// Appends the plan of the bytes, a line for each part of it.
 pub(crate) fn plan(alloc: Global, bytes: &[u8], text: &mut String) -> Answer {
     let plan = read(alloc, bytes)?;
     let ticks = plan.ticks();

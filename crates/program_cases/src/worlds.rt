@@ -29,7 +29,7 @@ fn kind_word(kind: Kind) -> &'static str {
     }
 }
 
-/// Appends an entry in words, with its bytes. Cables and stations count from 0.
+/// Appends an entry as text, with its bytes. Cables and stations count from 0.
 fn put_entry(text: &mut String, world: &Live, entry: &Entry) -> Result<(), AllocError> {
     match *entry {
         Entry::Sent { station, bytes } => {
@@ -72,7 +72,7 @@ fn put_entry(text: &mut String, world: &Live, entry: &Entry) -> Result<(), Alloc
     }
 }
 
-/// Appends the entries from a place on.
+/// Appends the entries from an index on.
 fn put_entries(text: &mut String, world: &Live, from: usize) -> Answer {
     for entry in world.transcript().iter().skip(from) {
         put_entry(text, world, entry)?;
@@ -80,7 +80,7 @@ fn put_entries(text: &mut String, world: &Live, from: usize) -> Answer {
     Ok(())
 }
 
-/// Appends how many entries there are, and how many of them are takings and losses.
+/// Appends the number of entries, and the numbers of takes and losses among them.
 fn put_counts(text: &mut String, world: &Live) -> Answer {
     let (mut taken, mut lost) = (0u32, 0u32);
     for entry in world.transcript() {
@@ -102,7 +102,7 @@ fn put_address(text: &mut String, name: &str, addr: Option<Addr>) -> Result<(), 
     }
 }
 
-/// Appends what a node holds.
+/// Appends the state of a node.
 fn put_node(text: &mut String, node: Option<&EndNode>) -> Answer {
     match node {
         Some(node) => {
@@ -135,7 +135,7 @@ fn put_refused(text: &mut String, world: &Live) -> Answer {
     Ok(())
 }
 
-/// So many ticks pass.
+/// Advances the world by `count` ticks.
 fn tick(world: &mut Live, count: u32) -> Answer {
     for _ in 0..count {
         world.tick()?;
@@ -143,7 +143,7 @@ fn tick(world: &mut Live, count: u32) -> Answer {
     Ok(())
 }
 
-/// Does what the words say.
+/// Carries out a command.
 pub(crate) fn act(
     alloc: Global,
     world: &mut Live,

@@ -1,6 +1,6 @@
-//! The examples of READMEs, word for word, each on a few values, and calls of laws. A law is a
-//! function that does nothing: what its contract says is the law. Each test passes whichever single
-//! request for memory is refused: on `Memory` it calls again.
+//! The examples of READMEs, word for word, each on a few values, and calls of laws. A law is the
+//! contract of a function that does nothing. Each test passes whichever single allocation fails: on
+//! `Memory` it calls again.
 
 mod of_aarp;
 mod of_at_base;

@@ -1,4 +1,4 @@
--- What is passed on is the datagram that came, with one hop more.
+-- A forwarded datagram is the received one with one hop more.
 use Rattle.std.proofs.Common.{◌≡◌, ℕ, ◌+◌, ◌<◌, List, [], ap, refl, sym, subst, ◌∙◌, arith}
 use Rattle.std.proofs.lemmas.List.{append-nil}
 use Rattle.at_base.proofs.Readers.{spelled_begins}

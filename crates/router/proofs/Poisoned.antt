@@ -1,4 +1,4 @@
--- Rows that are poisoned are by the ports that they were by.
+-- Poisoned rows keep their ports.
 use Rattle.std.proofs.Common.{◌≡◌, ℕ, Bool, true, false, ◌&&◌, not, List, [], ◌∷◌, refl, sym, subst}
 use Rattle.std.specs.Prelude.{nat_lt, if◌then◌else◌}
 use Rattle.std.specs.List.{list_all}
@@ -9,13 +9,13 @@ use Rattle.rtmp.specs.declared.row.Row.{Row}
 use Rattle.rtmp.specs.declared.state.State.TheVariants.{Bad}
 use Rattle.router.proofs.Ports.{both}
 
--- both of two tests pass
+-- if both parts are true, their conjunction is
 joined : (a b : Bool) → a ≡ true → b ≡ true → (a && b) ≡ true
 joined true true e f = refl
 joined true false e f = f
 joined false b e f = e
 
--- a poisoned row is by the port that it was by
+-- a poisoned row keeps its port
 port_stays : (next : Addr) (r : Row) → (poisoned_row next r).port ≡ r.port
 port_stays next r = by (not (is_direct r) && same_address r.next next)
   where
@@ -23,7 +23,7 @@ port_stays next r = by (not (is_direct r) && same_address r.next next)
     by true = refl
     by false = refl
 
--- poisoned rows are by ports that there are, where the rows were
+-- if the port of each row is below n, so is that of each poisoned row
 pub poisoned_seated : (n : ℕ) (next : Addr) (rows : List Row) → list_all (λ r. nat_lt r.port n) rows ≡ true
     → list_all (λ r. nat_lt r.port n) (poisoned next rows) ≡ true
 poisoned_seated n next [] h = refl

@@ -1,4 +1,4 @@
--- The ports that a router's tables name are ports that it has.
+-- The ports in a router's routing table are ports of the router.
 use Rattle.std.proofs.Common.{◌≡◌, ℕ, ◌<◌, Bool, true, false, ◌&&◌, cond, List, [], ◌∷◌, Option, Some, None, refl, IfSome}
 use Rattle.std.specs.Prelude.{find, nat_lt}
 use Rattle.std.specs.List.{list_all}
@@ -10,13 +10,13 @@ use Rattle.rtmp.specs.declared.row.Row.{Row}
 use Rattle.router.specs.Holding.{IsHandIn, hand, hand_by}
 use Rattle.router.specs.declared.hand.Hand.TheVariants.{Here, On}
 
--- both parts of a test of a list's first element and the others
+-- if a conjunction is true, both parts are
 pub both : (a b : Bool) → (a && b) ≡ true → (a ≡ true) × (b ≡ true)
 both true true e = (refl, refl)
 both true false e = absurd cc
 both false b e = absurd cc
 
--- a row that is found is by a port that there is, where all rows are
+-- if the port of each row is below n, so is that of the row that is found
 row_in : (n : ℕ) (test : Row → Bool) (rows : List Row) → list_all (λ r. nat_lt r.port n) rows ≡ true
     → IfSome (find test rows) (λ r. r.port < n)
 row_in n test [] h = tt

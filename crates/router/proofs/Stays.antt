@@ -1,4 +1,5 @@
--- What a router holds stays as it is, but for the requests that it answers once and for addresses that it hasn't chosen yet.
+-- Receiving a frame changes nothing of a router's state but its exactly-once requests and the choices of addresses that
+-- aren't settled.
 use Rattle.std.proofs.Common.{◌≡◌, ℕ, zero, suc, Bool, true, false, List, [], ◌∷◌, Option, Some, None, refl, ap, subst, sym, ◌∙◌}
 use Rattle.std.specs.Prelude.{option_and_then, slice_get, slice_set}
 use Rattle.aarp.specs.Choosing.{Choice, heard as hears_choice, is_conflict, moved, settled}
@@ -16,7 +17,7 @@ use Rattle.router.specs.Resolution.{ports_after, with_choice}
 use Rattle.station.specs.Resolution.{packet_at}
 use Rattle.router.specs.Stays.{TablesStay}
 
--- a choice has the same address after it heard a packet: one that is made stays, and any other has none
+-- A choice has the same address after it received a packet: a settled one stays, and any other has none.
 moved_is : (c : Choice) (left : List Addr) → left ≡ c.left → (moved c).is_settled ≡ c.is_settled
 moved_is c [] e = subst (λ l. (moved (record c { left = l })).is_settled ≡ c.is_settled) e refl
 moved_is c (a ∷ left) e = subst (λ l. (moved (record c { left = l })).is_settled ≡ c.is_settled) e refl
@@ -36,7 +37,7 @@ same_address w c false e = by (is_conflict c.tentative c.hw w) refl
         let is : hears_choice w c ≡ c = rw (e, f) refl in
         ap settled is
 
--- so has each port
+-- each port has the same address after one of them received a packet
 port_same : (ports : List Choice) (p q : ℕ) (w : Packet) (c : Choice) → slice_get ports p ≡ Some c
     → own_at (slice_set ports p (hears_choice w c)) q ≡ own_at ports q
 port_same [] p q w c at = absurd cc

@@ -10,22 +10,23 @@ use Rattle.router.specs.Forwarding.{course}
 use Rattle.router.specs.Holding.{Holding}
 use Rattle.router.specs.declared.course.Ending.{Ending}
 
--- a datagram that ended so, with the port on whose cable it did, if its checksum is right
+-- a datagram that ended at the router, with the port on whose cable it ended, if its checksum is right
 abbrev pub ended_by : Option Ending → Datagram → Option (ℕ × Datagram)
 ended_by None d = None
 ended_by (Some e) d = cond (checks d) (Some (e.port, d)) None
 
--- the datagram of a frame
+-- The datagram in a frame, if it ends at the router and its checksum is right, with the port on whose cable it ended.
 abbrev pub ended_datagram : Holding → Hearing → Option Datagram → Option (ℕ × Datagram)
 ended_datagram h x None = None
 ended_datagram h x (Some d) = ended_by (course h.ports h.routes x.port x.link d.hops d.target).ending d
 
--- by what the frame holds
+-- The datagram in a frame of this kind, if it ends at the router and its checksum is right, with the port on whose
+-- cable it ended; an AARP frame has none.
 abbrev pub ended_kind : Kind → Holding → Hearing → Option (ℕ × Datagram)
 ended_kind Ddp h x = ended_datagram h x (datagram_at x.bytes)
 ended_kind Aarp h x = None
 
--- The datagram that a frame brings to a router which holds this, if it ends there and its checksum is right, with the port on
--- whose cable it ended.
+-- The datagram that a router receives in a frame, if it ends there and its checksum is right, with the port on whose
+-- cable it ended.
 abbrev pub ended : Holding → Hearing → Option (ℕ × Datagram)
 ended h x = ended_kind x.kind h x

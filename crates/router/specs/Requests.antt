@@ -1,4 +1,4 @@
--- What a router does with requests for names. (Inside AppleTalk, the chapter on NBP)
+-- The lookups and forward requests that a router makes for NBP requests. (Inside AppleTalk, the chapter on NBP)
 use Rattle.std.specs.Prelude.{ℕ, ◌%◌, cond, List, [], ◌∷◌, map, Option, Some, None, position}
 use Rattle.std.specs.List.{flat_map}
 use Rattle.aarp.specs.Choosing.{Choice}
@@ -27,19 +27,20 @@ use Rattle.router.specs.Holding.{Holding, hand, own_at}
 use Rattle.router.specs.Ways.{way_by}
 use Rattle.router.specs.declared.request.Request.{Request}
 
--- the packet in a datagram's data
+-- the NBP packet in a datagram's data, if any
 unfoldable pub names_in : List ℕ → Option NbpPacket
 names_in payload = value_of (read packets packet payload)
 
--- every node of a cable
+-- the address that means every node of a cable
 abbrev pub every_node : Addr
 every_node = record { net = 0; node = 255 }
 
--- any router of a network
+-- the address that means any router of a network
 abbrev pub any_router : ℕ → Addr
 any_router net = record { net = net; node = 0 }
 
--- the header of a request that a router makes of one for a target: it carries a checksum where the one that it heard did
+-- The header of a lookup or forward request for a target: it carries a checksum if the request that the router received
+-- did.
 abbrev pub request_header : Request → Addr → Header
 request_header r target = record {
   summed = r.summed;
@@ -50,33 +51,33 @@ request_header r target = record {
   kind = 2;
 }
 
--- the bytes of a request under another function: its ID and its tuple stay
+-- the bytes of a request with another function, and the same ID and tuple
 abbrev pub renamed : Function → Request → List ℕ
 renamed function r = bytes_of packet (packet_of function r.id r.tuple)
 
--- the way of a lookup by a port: to the nodes whose zone has the group
+-- the way of a lookup on a port: to the nodes whose zone has the group
 abbrev pub lookup_way : Holding → Request → ℕ → Option Way
 lookup_way h r q = way_from (own_at h.ports q) q (next.Group (group_of r.tuple.zone)) (request_header r every_node)
 
--- the way of a forward request to a network, with the address of the port by which it leaves as source
+-- the way of a forward request to a network, with the address of the port on which it leaves as source
 abbrev pub forward_way : Holding → Request → ℕ → Option Way
 forward_way h r net = way_by (hand h.routes net) (own_at h.ports) (request_header r (any_router net))
 
--- the lookup of a request by a port
+-- the lookup on a port for a request
 abbrev pub looked_by : Holding → Request → ℕ → List Output
 looked_by h r q = replying (lookup_way h r q) (renamed Lookup r ∷ [])
 
--- what a router makes of a request for one of the things that it asks
+-- the lookup or forward request for a request
 abbrev pub asked : Holding → Request → Ask → List Output
 asked h r (ask.Lookup q) = looked_by h r q
 asked h r (ask.Forward net) = replying (forward_way h r net) (renamed ForwardRequest r ∷ [])
 
--- by the port that was found, if one was
+-- the lookup on a port for a request, if there is a port
 abbrev pub looked_on : Holding → Request → Option ℕ → List Output
 looked_on h r None = []
 looked_on h r (Some q) = looked_by h r q
 
--- the lookup of a forward request to a network, by the port whose range holds it
+-- the lookup for a forward request to a network, on the first port whose range holds it
 abbrev pub looked_up : Holding → Request → ℕ → List Output
 looked_up h r net = looked_on h r (position (λ c. is_between c.range.start c.range.end net) h.ports)
 
@@ -84,20 +85,20 @@ looked_up h r net = looked_on h r (position (λ c. is_between c.range.start c.ra
 abbrev pub ranges : List Choice → List Span
 ranges ports = map (λ c. c.range) ports
 
--- What a router makes of a request to a network, by its function: of a broadcast request, what it asks for the zone; of a
--- forward request for a zone's name, a lookup; and of nothing else anything.
+-- The outputs for a request to a network, by its function: for a broadcast request the lookups and forward requests for
+-- its zone, for a forward request whose zone is a zone name a lookup, and otherwise none.
 abbrev pub made_of : Holding → Function → Request → ℕ → List Output
 made_of h BroadcastRequest r net = flat_map (asked h r) (asks (ranges h.ports) r.tuple.zone h.zones)
 made_of h ForwardRequest r net = cond (is_name r.tuple.zone) (looked_up h r net) []
 made_of h Lookup r net = []
 made_of h Reply r net = []
 
--- the request of a packet in a datagram, by its first tuple
+-- the outputs for the first of these tuples of a packet in a datagram
 abbrev pub made_by : Holding → Datagram → NbpPacket → List Tuple → List Output
 made_by h d p [] = []
 made_by h d p (t ∷ ts) = made_of h p.function (record { summed = is_summed d; id = p.id; tuple = t }) d.target.net
 
--- what a router makes of a packet in a datagram that ended at it
+-- the outputs for the NBP packet in a datagram that ended at the router
 abbrev pub requests_made : Holding → Datagram → Option NbpPacket → List Output
 requests_made h d None = []
 requests_made h d (Some p) = made_by h d p p.tuples

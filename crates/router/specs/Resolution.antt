@@ -1,21 +1,22 @@
--- What a router does with AARP packets. (Inside AppleTalk, the chapter on AARP)
+-- A router's handling of AARP packets. (Inside AppleTalk, the chapter on AARP)
 use Rattle.std.specs.Prelude.{ℕ, List, [], Option, Some, None, slice_get, slice_set}
 use Rattle.aarp.specs.Choosing.{Choice, heard}
 use Rattle.aarp.specs.declared.packet.Packet.{Packet}
 use Rattle.station.specs.Resolution.{answer_by, wired}
 use Rattle.station.specs.declared.output.Output.{Output}
 
--- what is put out for an AARP packet on a port: its answer
+-- the output for an AARP packet on a port: the port's response, if there is one
 abbrev pub resolved : List Choice → ℕ → Option Packet → List Output
 resolved ports p None = []
 resolved ports p (Some sent) = wired p (answer_by sent (slice_get ports p))
 
--- the ports with another choice of one of them, if there is one
+-- the ports after the choice of port p, if there is such a port, received a packet
 abbrev pub with_choice : List Choice → ℕ → Packet → Option Choice → List Choice
 with_choice ports p sent None = ports
 with_choice ports p sent (Some c) = slice_set ports p (heard sent c)
 
--- the ports after that: one that is choosing its address may go to the next
+-- The ports after port p received an AARP packet: if the port is still choosing its address, it moves to its next
+-- address if the packet conflicts.
 abbrev pub ports_after : List Choice → ℕ → Option Packet → List Choice
 ports_after ports p None = ports
 ports_after ports p (Some sent) = with_choice ports p sent (slice_get ports p)

@@ -1,4 +1,4 @@
--- What stays as it is. This project's own.
+-- Routers with equal tables and addresses.
 use Rattle.std.specs.Prelude.{◌≡◌, ℕ}
 use Rattle.router.specs.Holding.{Holding, own_at}
 

@@ -1,4 +1,4 @@
-//! AARP packets that a router hears.
+//! The AARP packets that a router receives.
 
 ghost use Rattle.std.specs.Prelude.{IsOkUnless, OnErr, OnOk, Some, length, slice_get, ◌<◌, ◌≡◌};
 ghost use Rattle.station.specs.Hearing.{hearing};
@@ -15,7 +15,7 @@ use station::frames::{read_packet, wire};
 use station::{Heard, Outputs};
 
 impl<T: RouteTable> Router<T> {
-    /// The answer of a port to a packet, if it has one.
+    /// The response of a port to an AARP packet, if there is one.
     fn answer_to(&self, port: u8, packet: &Packet) -> Option<Packet>
         ensures { result ≡ answer_by packet.now (slice_get self.now.ports port) }
     {
@@ -25,7 +25,8 @@ impl<T: RouteTable> Router<T> {
         }
     }
 
-    /// Lets a port hear a packet: one that is choosing its address may go to the next.
+    /// Passes a packet to a port's choice of its address: a port that is still choosing moves to
+    /// its next address if the packet conflicts.
     fn choose(&mut self, port: u8, packet: &Packet)
         requires { port < length self.old.ports }
         ensures { self.new ≡ record self.old {
@@ -36,7 +37,8 @@ impl<T: RouteTable> Router<T> {
         self.ports[port as usize].heard(packet);
     }
 
-    /// Puts the answer of a port to a packet out, if it has one.
+    /// Adds the response of a port to a packet, if there is one. Error: `Memory`; the outputs don't
+    /// change then.
     fn put_answer(&self, port: u8, packet: &Packet, outputs: &mut Outputs) -> Result<(), Error>
         requires { port < length self.now.ports }
         ensures ok { OnOk result
@@ -53,7 +55,8 @@ impl<T: RouteTable> Router<T> {
         Ok(())
     }
 
-    /// Hears an AARP frame on one of the ports.
+    /// Receives an AARP frame on one of the ports. Bytes that don't begin with an AARP packet are
+    /// ignored. Error: `Memory`; neither the router nor the outputs change then.
     pub(crate) fn hear_packet(
         &mut self,
         heard: &Heard<'_>,

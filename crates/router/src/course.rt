@@ -1,5 +1,5 @@
-//! What becomes of a datagram that a router hears: whether it is passed on, and whether it ends
-//! here.
+//! The course of a datagram that a router receives: whether it is forwarded, kept or dropped, and
+//! whether it ends at the router.
 
 ghost use Rattle.std.specs.Prelude.{◌≡◌, ◌<◌, ◌≤◌, ℕ, length, IfSome};
 ghost use Rattle.router.specs.Forwarding as spec;
@@ -15,17 +15,18 @@ use rtmp::RouteTable;
 use station::ways::EVERY_NODE;
 use station::{DropCause, Link, Next};
 
-/// The hop count at which a datagram isn't handed on any more.
+/// The hop count at which a datagram isn't forwarded any more.
 ///
 /// Inside AppleTalk, the chapter on DDP.
 const MAX_HOPS: u8 = 15;
 
-/// What a router does with a datagram that it has to pass on. Ports are counted from 0.
+/// The step that a router takes with a datagram that doesn't end at once. Ports are counted from 0.
 #[derive(Clone, Copy, Debug, PartialEq, Eq)]
 pub enum Step {
-    /// It goes by the port, with one hop more.
+    /// It is forwarded on the port, with one hop more.
     Pass { port: u8, next: Next },
-    /// The router keeps it, since it ends on the port's cable.
+    /// The router keeps it: its target is the port's address, or node 0 of a network on the port's
+    /// cable.
     Keep { port: u8 },
     /// It is dropped.
     Drop(DropCause),
@@ -36,12 +37,12 @@ pub enum Step {
 pub struct Ending {
     /// The port on whose cable it ended.
     pub port: u8,
-    /// Whether it was for the router itself, and not for every node of the cable.
+    /// Whether it was for the router itself. Otherwise it was for every node of the cable.
     pub is_own: bool,
 }
 
-/// What becomes of a datagram: what is done with it, if anything is, and how it ended at the
-/// router, if it did.
+/// The course of a datagram: the step that is taken with it, and how it ended at the router. Both
+/// may be missing, and both may be there.
 #[derive(Clone, Copy, Debug, PartialEq, Eq)]
 pub struct Course {
     pub step: Option<Step>,
@@ -57,7 +58,7 @@ fn is_own(link: Link) -> bool
     }
 }
 
-/// Whether the port has this address.
+/// Whether this is the port's address.
 pub(crate) fn has(target: Addr, own: Option<Addr>) -> bool
     ensures { result ≡ ports_spec.has target own }
 {
@@ -96,7 +97,7 @@ fn goes(step: Step) -> Course
     }
 }
 
-/// The course of a datagram whose target is on the port's cable.
+/// The course of a datagram whose target's network is on the port's cable.
 fn arrived(ports: &[Chooser], port: u8, hops: u8, target: Addr) -> Course
     requires { port < length ports.now }
     ensures value { result ≡ spec.arrived ports.now port hops target }
@@ -127,7 +128,7 @@ fn arrived(ports: &[Chooser], port: u8, hops: u8, target: Addr) -> Course
     goes(Step::Pass { port, next })
 }
 
-/// The course of a datagram that goes to the next router.
+/// The course of a datagram that is forwarded to the next router.
 fn handed_on(port: u8, router: Addr, hops: u8) -> Course
     ensures value { result ≡ spec.handed_on port router hops }
     ensures inside { hops ≤ 15 → (n : ℕ) → port < n → IsCourse n hops result }
@@ -139,7 +140,7 @@ fn handed_on(port: u8, router: Addr, hops: u8) -> Course
     goes(Step::Pass { port, next })
 }
 
-/// The course of a datagram that doesn't end at once, by where the router hands such datagrams on.
+/// The course of a datagram that doesn't end at once, by the router's route to its target.
 fn course_by(ports: &[Chooser], hand: Hand, hops: u8, target: Addr) -> Course
     requires { IsHandIn (length ports.now) hand }
     ensures value { result ≡ spec.course_by ports.now hand hops target }
@@ -153,7 +154,7 @@ fn course_by(ports: &[Chooser], hand: Hand, hops: u8, target: Addr) -> Course
 }
 
 impl<T: RouteTable> Router<T> {
-    /// What becomes of a datagram that came on one of the ports.
+    /// The course of a datagram that was received on one of the ports.
     pub(crate) fn course(&self, port: u8, link: Link, hops: u8, target: Addr) -> Course
         requires port { port < length self.now.ports }
         requires hops { hops ≤ 15 }

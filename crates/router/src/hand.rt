@@ -1,16 +1,16 @@
-//! Where a router hands a datagram on.
+//! Where a router sends datagrams for a network.
 
 use at_base::Addr;
 
-/// What a router does with datagrams for a network. Ports are counted from 0.
+/// Where a router sends datagrams for a network. Ports are counted from 0.
 ///
 /// Inside AppleTalk, the chapters on DDP and RTMP.
 #[derive(Clone, Copy, Debug, PartialEq, Eq)]
 pub enum Hand {
-    /// The port is on the network's own cable.
+    /// To their target: this port is on the network's own cable.
     Here(u8),
-    /// They go by the port to the router that has the address there.
+    /// On this port, to the router with this address.
     On(u8, Addr),
-    /// It has no usable row for the network.
+    /// Nowhere: the router has no usable row for the network.
     Nowhere,
 }

@@ -1,4 +1,4 @@
-//! What a router makes of the datagrams that end at it.
+//! The replies and requests that a router makes for the datagrams that end at it.
 
 ghost use Rattle.std.specs.Prelude.{◌≡◌, ◌<◌, ◌≤◌, ◌+◌, ◌++◌, length};
 ghost use Rattle.std.specs.Prelude.{IfOk, IfSome, IsOkUnless, None, OnOk, Some};
@@ -25,18 +25,20 @@ use station::Output;
 use station::making::{put_all, put_one};
 use station::ways::{checks, is_to};
 
-/// The outputs that a router makes of a datagram, and what it learns of it.
+/// The outputs that a router makes for a datagram, its requests after it, and where the datagram
+/// ended.
 #[derive(Drop)]
 pub(crate) struct Handled {
     pub(crate) made: Vec<Output>,
-    /// The requests that the router holds then, where they change.
+    /// The exactly-once requests for zone lists that the router holds after the datagram, if they
+    /// may have changed.
     pub(crate) responder: Option<Responder>,
-    /// The port on whose cable the datagram ended, where it did and its checksum is right.
+    /// The port on whose cable the datagram ended, if it did and its checksum is right.
     pub(crate) ended: Option<u8>,
 }
 
 impl<T: RouteTable> Router<T> {
-    /// Echoes.
+    /// Adds the reply to a datagram that is an echo request. Error: `Memory`.
     fn hear_echo(&self, made: &mut Vec<Output>, port: u8, view: &View<'_>) -> Result<(), Error>
         ensures put { OnOk result (made.new.items ≡ made.old.items
             ++ replying (ways_spec.way_back self.now port view.now) (option_to_list (echo_reply view.now))) }
@@ -50,7 +52,7 @@ impl<T: RouteTable> Router<T> {
         put_one(made, &way, &payload)
     }
 
-    /// Sends the packets that answer one of a transaction.
+    /// Adds the response packets of a transaction. Error: `Memory`.
     fn answer_list(
         &self,
         made: &mut Vec<Output>,
@@ -71,7 +73,8 @@ impl<T: RouteTable> Router<T> {
         put_all(made, &way, packets)
     }
 
-    /// Makes what a datagram asks for that is of no transaction.
+    /// Adds the replies or requests for a datagram that isn't an ATP packet for the zone socket.
+    /// Error: `Memory`.
     fn serve(&self, made: &mut Vec<Output>, ending: Ending, view: &View<'_>) -> Result<(), Error>
         requires { ending.port < length self.now.ports }
         ensures put { OnOk result
@@ -96,7 +99,8 @@ impl<T: RouteTable> Router<T> {
         Ok(())
     }
 
-    /// What is made of a datagram that ended here and is of no transaction.
+    /// Handles a datagram that ended here and isn't an ATP packet for the zone socket. Error:
+    /// `Memory`.
     fn handle_other(&self, ending: Ending, view: &View<'_>) -> Result<Handled, Error>
         requires { ending.port < length self.now.ports }
         ensures made { IfOk result (λ x. x.made.items ≡ served self.now ending view.now) }
@@ -115,7 +119,8 @@ impl<T: RouteTable> Router<T> {
         })
     }
 
-    /// What is made of a datagram that ended here and is of a transaction.
+    /// Handles a datagram that ended here and is an ATP packet for the zone socket. Error:
+    /// `Memory`.
     fn handle_transaction(&self, ending: Ending, view: &View<'_>) -> Result<Handled, Error>
         ensures made { IfOk result (λ x. x.made.items ≡ replying
             (ways_spec.way_back self.now ending.port view.now)
@@ -137,7 +142,7 @@ impl<T: RouteTable> Router<T> {
         })
     }
 
-    /// What is made of a datagram that ended here.
+    /// Handles a datagram that ended here and whose checksum is right. Error: `Memory`.
     fn handle_ended(&self, ending: Ending, view: &View<'_>) -> Result<Handled, Error>
         requires { ending.port < length self.now.ports }
         ensures made { IfOk result (λ x. x.made.items ≡ made_for self.now ending view.now) }
@@ -154,7 +159,8 @@ impl<T: RouteTable> Router<T> {
         self.handle_other(ending, view)
     }
 
-    /// What is made of a datagram, if it ended here and its checksum is right.
+    /// Handles a datagram: nothing is made unless it ended here and its checksum is right. Error:
+    /// `Memory`.
     pub(crate) fn handle(&self, ending: Option<Ending>, view: &View<'_>) -> Result<Handled, Error>
         requires { IfSome ending (λ e. e.port < length self.now.ports) }
         ensures made { IfOk result

@@ -1,4 +1,5 @@
-//! Laws of routers, for the crates above: each is the contract of a function that does nothing.
+//! Laws of routers, for the crates that use this one. Each is the contract of a function that does
+//! nothing.
 
 ghost use Rattle.std.specs.Prelude.{◌≡◌, ◌+◌, ◌<◌, ℕ, List};
 ghost use Rattle.at_base.specs.Spelling.{Begins, Spells};
@@ -11,15 +12,15 @@ ghost use Rattle.router.specs.Forwarding.{onward};
 ghost use Rattle.router.specs.Holding.{Holding};
 ghost use Rattle.router.specs.Stays.{TablesStay};
 
-/// Frozen tables stay: whatever a router hears, its routing table, its zone table and its addresses
-/// are the same after it. This project's own.
+/// Receiving a frame changes neither a router's routing table, nor its zone table, nor the address
+/// of any of its ports.
 pub fn tables_stay()
     ensures { (old new : Holding) (x : Hearing) (added : List Output)
         → Hears old x added new → TablesStay old new }
 {}
 
-/// Forwarding keeps the body: what a router passes on of the bytes that it heard is one datagram
-/// without padding, with the body that came and one hop more. This project's own.
+/// Forwarding keeps the body: if bytes begin with a datagram whose hop count is below 15, the bytes
+/// that a router forwards for it are exactly one datagram, with the same body and one hop more.
 pub fn forwarding_keeps_the_body()
     ensures { (bytes : List ℕ) (d : Datagram) → Begins datagram bytes d → d.hops < 15
         → Spells datagram (onward d) (record d { hops = d.hops + 1 })

@@ -1,4 +1,4 @@
-//! Routers: where datagrams are handed on, and what is answered.
+//! Routers: where they forward datagrams, and which requests they answer.
 #![tactic(auto)]
 
 mod arp;

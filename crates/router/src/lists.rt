@@ -1,4 +1,4 @@
-//! Lists of zones, which nodes ask for in transactions.
+//! Zone lists, which nodes ask for in ATP transactions.
 
 ghost use Rattle.std.specs.Prelude.{◌≡◌, ◌≤◌, [], ◌∷◌, false, length, option_map, Some, None};
 ghost use Rattle.std.specs.Prelude.{IfOk, IsOkUnless};
@@ -21,7 +21,7 @@ use rtmp::RouteTable;
 use std::alloc::Global;
 use zip_zones::{Page, ZoneFunction, page_for};
 
-/// The packet in the data of a datagram.
+/// The ATP packet in the data of a datagram, if any.
 fn read_packet(payload: &[u8]) -> Option<Packet<'_>>
     ensures { option_map packet_value result ≡ transaction_in payload.now }
 {
@@ -31,7 +31,7 @@ fn read_packet(payload: &[u8]) -> Option<Packet<'_>>
     }
 }
 
-/// The socket that a datagram comes from.
+/// The address and the socket that a datagram comes from.
 fn peer(view: &View<'_>) -> Peer
     ensures { result ≡ spec.peer view.now }
 {
@@ -41,7 +41,7 @@ fn peer(view: &View<'_>) -> Peer
     }
 }
 
-/// The part that answers a request with a page.
+/// The part of a response that holds a page.
 fn page_part(page: Page) -> AnswerPart
     ensures { result ≡ spec.page_part page }
 {
@@ -51,15 +51,15 @@ fn page_part(page: Page) -> AnswerPart
     }
 }
 
-/// What is sent for a packet of a transaction, and the requests that are held then, where they are
-/// others than before.
+/// The response packets for an ATP packet, and the requests that the router holds after it, if they
+/// may have changed.
 #[derive(Drop)]
 pub(crate) struct Transacted {
     pub(crate) packets: Vec<Bytes>,
     pub(crate) responder: Option<Responder>,
 }
 
-/// Nothing is sent, and nothing changes.
+/// No response, and no change.
 fn nothing(alloc: Global) -> Transacted
     ensures packets { result.packets.items ≡ [] }
     ensures responder { result.responder ≡ None }
@@ -70,7 +70,7 @@ fn nothing(alloc: Global) -> Transacted
     }
 }
 
-/// Responds to a packet with this part.
+/// The response to a request, with this part as its only part. Error: `Memory`.
 fn respond(
     responder: &Responder,
     from: Peer,
@@ -96,7 +96,8 @@ fn respond(
     }
 }
 
-/// Hears a packet that is no request: a release ends what it names.
+/// Handles a packet that isn't a request: a release removes the request that it names. Error:
+/// `Memory`.
 fn release(
     alloc: Global,
     responder: &Responder,
@@ -121,7 +122,7 @@ fn release(
 }
 
 impl<T: RouteTable> Router<T> {
-    /// The page that a node gets.
+    /// The page that answers a request for a zone list. Error: `Memory`.
     fn page_for(&self, view: &View<'_>, function: ZoneFunction, start: u16) -> Result<Page, Error>
         ensures ok { IfOk result (λ page. page ≡ spec.page_for self.now view.now (function, start)) }
         ensures short { IfOk result (λ page. length page.bytes ≤ 578) }
@@ -132,7 +133,7 @@ impl<T: RouteTable> Router<T> {
         page_for(alloc, function, start, local.as_slice(), &self.zones)
     }
 
-    /// Answers a request for a list of zones.
+    /// Handles a request: responds if it asks for a zone list. Error: `Memory`.
     fn list(&self, view: &View<'_>, packet: &Packet<'_>) -> Result<Transacted, Error>
         ensures packets { IfOk result (λ x. x.packets.items ≡ bytes_of_all
             (listed self.now view.now (packet_value packet.now) (asked_page packet.now.user)).0) }
@@ -151,7 +152,7 @@ impl<T: RouteTable> Router<T> {
         }
     }
 
-    /// Hears a packet of a transaction.
+    /// Handles the ATP packet in a datagram; a datagram without one is ignored. Error: `Memory`.
     pub(crate) fn transact(&self, view: &View<'_>) -> Result<Transacted, Error>
         ensures packets { IfOk result (λ x. x.packets.items ≡ bytes_of_all
             (transacted self.now view.now (transaction_in view.now.payload)).0) }

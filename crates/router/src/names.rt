@@ -1,4 +1,4 @@
-//! What a router makes of requests for names that end at it.
+//! The lookups and forward requests that a router makes for NBP requests that end at it.
 
 ghost use Rattle.std.specs.Prelude.{◌≡◌, ◌<◌, ◌≤◌, ◌+◌, [], ◌++◌, ℕ, length, position};
 ghost use Rattle.std.specs.Prelude.{IfOk, IfSome, IsOkUnless, OnOk};
@@ -24,10 +24,10 @@ use station::ways::{EVERY_NODE, is_summed, way_from};
 use station::{Next, Output, Way};
 use std::alloc::Global;
 
-/// Any router of a network, as the node of an address.
+/// The node number that means any router of a network.
 const ANY_ROUTER: u8 = 0;
 
-/// The packet in the data of a datagram.
+/// The NBP packet in the data of a datagram, if any.
 fn read_packet(payload: &[u8]) -> Option<Packet<'_>>
     ensures { result ≡ names_in payload.now }
 {
@@ -37,7 +37,7 @@ fn read_packet(payload: &[u8]) -> Option<Packet<'_>>
     }
 }
 
-/// The header of a request that a router makes, without a source.
+/// The header of a lookup or forward request that a router makes, without a source.
 fn request_header(request: &Request, target: Addr) -> Header
     ensures { result ≡ spec.request_header request.now target }
 {
@@ -51,7 +51,7 @@ fn request_header(request: &Request, target: Addr) -> Header
     }
 }
 
-/// Appends the ranges of ports.
+/// Appends the ranges of ports. Error: `Memory`.
 fn put_ranges(made: &mut Vec<Range>, ports: &[Chooser]) -> Result<(), Error>
     ensures put { OnOk result (made.new.items ≡ made.old.items ++ spec.ranges ports.now) }
     ensures refused { IsOkUnless result Error.Memory }
@@ -75,7 +75,7 @@ fn ranges(alloc: Global, ports: &[Chooser]) -> Result<Vec<Range>, Error>
     Ok(made)
 }
 
-/// The index of the port whose range holds a network.
+/// The index of the first port whose range holds the network, if any.
 fn port_to(ports: &[Chooser], net: u16) -> Option<usize>
     ensures value { result ≡ position (λ c. is_between c.range.start c.range.end net) ports.now }
     ensures inside { IfSome result (λ q. q < length ports.now) }
@@ -84,7 +84,8 @@ fn port_to(ports: &[Chooser], net: u16) -> Option<usize>
 }
 
 impl<T: RouteTable> Router<T> {
-    /// The way of a lookup by a port.
+    /// The way of a lookup on a port: to the nodes whose zone has the group. `None` if the port has
+    /// no address.
     fn lookup_way(&self, request: &Request, port: u8) -> Option<Way>
         requires name { IsName request.now.tuple.zone }
         ensures value { result ≡ spec.lookup_way self.now request.now port }
@@ -99,7 +100,8 @@ impl<T: RouteTable> Router<T> {
         way_from(self.own(port), port, Next::Group(group), header)
     }
 
-    /// The way of a forward request to a network.
+    /// The way of a forward request to a network. `None` if there is no usable row for the network,
+    /// or if the port has no address.
     fn forward_way(&self, request: &Request, net: u16) -> Option<Way>
         ensures value { result ≡ spec.forward_way self.now request.now net }
         ensures inside { IsWayIn (length self.now.ports) result }
@@ -112,7 +114,7 @@ impl<T: RouteTable> Router<T> {
         request_way(self.ports.as_slice(), self.hand(net), header)
     }
 
-    /// The index of the port whose range holds a network.
+    /// The index of the first port whose range holds the network, if any.
     fn port_to(&self, net: u16) -> Option<usize>
         ensures value { result
             ≡ position (λ c. is_between c.range.start c.range.end net) self.now.ports }
@@ -121,17 +123,17 @@ impl<T: RouteTable> Router<T> {
         port_to(self.ports.as_slice(), net)
     }
 
-    /// The number of the port at an index, of which there are at most 16.
+    /// The index of a port as a `u8`. It fits, since there are at most 16 ports.
     fn number_of(&self, port: usize) -> u8
         requires { port < length self.now.ports }
         ensures { result ≡ port }
     {
-        // For the prover alone: it knows the number of ports where one of the fields is used.
+        // Only the prover needs this read: it shows that there are at most 16 ports.
         let _ = &self.ports;
         port as u8
     }
 
-    /// Makes the lookup of a request by a port.
+    /// Adds the lookup on a port for a request. Error: `Memory`.
     fn look(&self, made: &mut Vec<Output>, request: &Request, port: u8) -> Result<(), Error>
         requires name { IsName request.now.tuple.zone }
         requires port { port < length self.now.ports }
@@ -152,7 +154,7 @@ impl<T: RouteTable> Router<T> {
         put(made, &way, payload.as_slice())
     }
 
-    /// Makes the forward request of a request to a network.
+    /// Adds the forward request to a network for a request. Error: `Memory`.
     fn forward(&self, made: &mut Vec<Output>, request: &Request, net: u16) -> Result<(), Error>
         ensures put { OnOk result
             (made.new.items ≡ made.old.items ++ asked self.now request.now (Ask.Forward net)) }
@@ -167,7 +169,7 @@ impl<T: RouteTable> Router<T> {
         put(made, &way, payload.as_slice())
     }
 
-    /// Makes what is asked.
+    /// Adds this lookup or forward request for a request. Error: `Memory`.
     fn ask(&self, made: &mut Vec<Output>, request: &Request, ask: Ask) -> Result<(), Error>
         requires name { IsName request.now.tuple.zone }
         requires port { IsAskIn (length self.now.ports) ask }
@@ -184,7 +186,7 @@ impl<T: RouteTable> Router<T> {
         }
     }
 
-    /// Makes what is asked, one after the other.
+    /// Adds these lookups and forward requests for a request, in order. Error: `Memory`.
     fn ask_all(&self, made: &mut Vec<Output>, request: &Request, asks: &[Ask]) -> Result<(), Error>
         requires name { IsName request.now.tuple.zone }
         requires ports { All (IsAskIn (length self.now.ports)) asks.now }
@@ -205,7 +207,7 @@ impl<T: RouteTable> Router<T> {
         }
     }
 
-    /// Makes what a broadcast request asks for.
+    /// Adds the lookups and forward requests for a broadcast request. Error: `Memory`.
     fn ask_for(&self, made: &mut Vec<Output>, request: &Request) -> Result<(), Error>
         ensures put { OnOk result (made.new.items ≡ made.old.items
             ++ made_of self.now Function.BroadcastRequest request.now 0) }
@@ -224,7 +226,8 @@ impl<T: RouteTable> Router<T> {
         self.ask_all(made, request, asks.as_slice())
     }
 
-    /// Makes the lookup of a forward request to a network.
+    /// Adds the lookup for a forward request to a network, on the port whose range holds it. Error:
+    /// `Memory`.
     fn look_up(&self, made: &mut Vec<Output>, request: &Request, net: u16) -> Result<(), Error>
         ensures put { OnOk result (made.new.items ≡ made.old.items
             ++ made_of self.now Function.ForwardRequest request.now net) }
@@ -239,7 +242,7 @@ impl<T: RouteTable> Router<T> {
         self.look_on(made, request, self.port_to(net))
     }
 
-    /// Makes the lookup of a request by a port, if there is one.
+    /// Adds the lookup on a port for a request, if there is a port. Error: `Memory`.
     fn look_on(
         &self,
         made: &mut Vec<Output>,
@@ -261,7 +264,7 @@ impl<T: RouteTable> Router<T> {
         }
     }
 
-    /// Makes what a datagram asks for whose data is a packet of names.
+    /// Handles the NBP packet in a datagram; a datagram without one is ignored. Error: `Memory`.
     pub(crate) fn hear_names(&self, made: &mut Vec<Output>, view: &View<'_>) -> Result<(), Error>
         ensures put { OnOk result (made.new.items
             ≡ made.old.items ++ requests_made self.now view.now (names_in view.now.payload)) }
@@ -276,7 +279,8 @@ impl<T: RouteTable> Router<T> {
         }
     }
 
-    /// The same, of a packet that was read.
+    /// Handles an NBP packet. Only its first tuple counts; lookups and replies are ignored. Error:
+    /// `Memory`.
     fn hear_request(
         &self,
         made: &mut Vec<Output>,

@@ -1,4 +1,4 @@
-//! What a router does with the datagrams that it hears.
+//! A router's reaction to the datagrams that it receives.
 
 ghost use Rattle.std.specs.Prelude.{◌≡◌, ◌<◌, ◌≤◌, ◌++◌, ◌+◌, ℕ, false, length, option_to_list, Some};
 ghost use Rattle.std.specs.Prelude.{IfOk, IfSome, IsOkUnless, OnErr, OnOk, option_map};
@@ -19,7 +19,7 @@ use rtmp::RouteTable;
 use station::{Heard, Output, Outputs};
 use std::alloc::Global;
 
-/// What is put out of a datagram itself, if anything is.
+/// The output for the datagram itself, if a step is taken. Error: `Memory`.
 fn fate(alloc: Global, step: Option<Step>, view: &View<'_>) -> Result<Option<Output>, Error>
     requires { IfSome step (IsNear view.now.hops) }
     ensures ok { IfOk result (λ made. option_to_list made ≡ spec.fate step view.now) }
@@ -37,20 +37,22 @@ fn fate(alloc: Global, step: Option<Step>, view: &View<'_>) -> Result<Option<Out
     }
 }
 
-/// What a router does with a datagram that it hears, before it does it.
+/// A router's reaction to a datagram that it received. It hasn't been carried out yet.
 #[derive(Drop)]
 pub struct Reaction {
-    /// The output of the datagram itself, where it is passed on, kept or dropped.
+    /// The output for the datagram itself, if it is forwarded, kept or dropped.
     pub fate: Option<Output>,
     /// The outputs that the router makes.
     pub made: Vec<Output>,
-    /// The requests for zone lists that it holds then, where they change.
+    /// The exactly-once requests for zone lists that the router holds after the datagram, if they
+    /// may have changed.
     pub responder: Option<Responder>,
-    /// The port on whose cable the datagram ended, where it did and its checksum is right.
+    /// The port on whose cable the datagram ended, if it did and its checksum is right.
     pub ended: Option<u8>,
 }
 
-/// Adds what is put out of a datagram, and then what is made.
+/// Adds the output for a datagram itself, if any, and then the outputs that the router makes. The
+/// queue must have room for them.
 fn put_out(outputs: &mut Outputs, fate: Option<Output>, made: Vec<Output>)
     requires { length made.items + 1 ≤ outputs.old.spare }
     ensures { outputs.new.items ≡ outputs.old.items ++ (option_to_list fate ++ made.items) }
@@ -62,8 +64,8 @@ fn put_out(outputs: &mut Outputs, fate: Option<Output>, made: Vec<Output>)
 }
 
 impl<T: RouteTable> Router<T> {
-    /// The router's reaction to the datagram of a frame that came on one of its ports. It changes
-    /// nothing yet. Error: `Memory`.
+    /// The router's reaction to the datagram of a frame that was received on one of its ports. It
+    /// changes nothing; `follow` carries it out. Error: `Memory`.
     ///
     /// Inside AppleTalk, the chapter on DDP.
     pub fn react(&self, heard: &Heard<'_>, view: &View<'_>) -> Result<Reaction, Error>
@@ -91,7 +93,7 @@ impl<T: RouteTable> Router<T> {
         })
     }
 
-    /// Holds other requests, where there are others.
+    /// Replaces the requests with these, if there are any.
     fn keep(&mut self, responder: Option<Responder>)
         ensures { self.new
             ≡ record self.old { requests = unwrap_or responder self.old.requests } }
@@ -101,8 +103,9 @@ impl<T: RouteTable> Router<T> {
         }
     }
 
-    /// Puts the outputs of a reaction out, and holds its requests. That the outputs are lawful is the
-    /// caller's condition. Error: `Memory`, which changes neither the router nor the outputs.
+    /// Carries out a reaction: adds its outputs, and holds its requests. The caller ensures that
+    /// the outputs are lawful, as those of `react` are. Error: `Memory`; neither the router nor the
+    /// outputs change then.
     pub fn follow(&mut self, reaction: Reaction, outputs: &mut Outputs) -> Result<(), Error>
         requires { AreLawful (length self.old.ports)
             (option_to_list reaction.fate ++ reaction.made.items) }
@@ -129,7 +132,8 @@ impl<T: RouteTable> Router<T> {
         Ok(())
     }
 
-    /// Hears a datagram on one of the ports.
+    /// Receives a datagram on one of the ports. Error: `Memory`; neither the router nor the outputs
+    /// change then.
     pub(crate) fn hear_datagram(
         &mut self,
         heard: &Heard<'_>,

@@ -1,8 +1,8 @@
-//! Requests for names, as a router makes others of them.
+//! NBP requests that a router received.
 
 use nbp::Tuple;
 
-/// A request for names: whether it carried a checksum, its ID, and its tuple.
+/// An NBP request: whether its datagram carried a checksum, its ID, and its first tuple.
 #[derive(Clone, Copy, Debug)]
 pub struct Request {
     pub summed: bool,

@@ -1,4 +1,4 @@
-//! Routers, and what they hold.
+//! Routers and their tables.
 
 ghost use Rattle.std.specs.Prelude.{◌≡◌, ◌<◌, ◌↔◌, ◌⊎◌, ◌++◌, length, map, nat_lt};
 ghost use Rattle.std.specs.Prelude.{[], IfErr, IfOk, IsOkUnless, IsTrue, OnOk};
@@ -17,11 +17,11 @@ use std::alloc::Global;
 use std::marker::Model;
 use zip_zones::ZoneTable;
 
-/// The most ports of a router. This project's own.
+/// The greatest number of ports of a router.
 pub const MAX_PORTS: usize = 16;
 
-/// A router: its ports on cables, its routing table and its zone table. Its tables stay as they
-/// are.
+/// A router: its ports on cables, its routing table and its zone table. Receiving frames doesn't
+/// change the tables; only the setters do.
 ///
 /// Inside AppleTalk, the chapters on DDP, RTMP and ZIP.
 #[derive(Drop)]
@@ -29,7 +29,7 @@ pub struct Router<T: RouteTable> {
     pub(crate) ports: Vec<Chooser>,
     pub(crate) routes: T,
     pub(crate) zones: ZoneTable,
-    // the requests for zone lists that are answered once
+    // The exactly-once requests for zone lists, with their responses.
     pub(crate) responder: Responder,
 }
 
@@ -53,7 +53,7 @@ impl<T: RouteTable> Model for Router<T> {
     }) };
 }
 
-/// The address of the port at an index, once it is settled.
+/// The address of the port at an index, if it is settled.
 pub(crate) fn own_at(ports: &[Chooser], port: u8) -> Option<Addr>
     ensures { result ≡ spec.own_at ports.now port }
 {
@@ -63,7 +63,7 @@ pub(crate) fn own_at(ports: &[Chooser], port: u8) -> Option<Addr>
     }
 }
 
-/// Where a row says to hand datagrams on.
+/// Where datagrams are sent by this row.
 fn hand_of(row: Option<Row>) -> Hand
     ensures { result ≡ hand_by row }
 {
@@ -74,7 +74,7 @@ fn hand_of(row: Option<Row>) -> Hand
     }
 }
 
-/// Appends the choices with which planned ports begin.
+/// Appends the choices of addresses of the planned ports. Error: `Memory`.
 fn put_choosers(ports: &mut Vec<Chooser>, plans: &[PortPlan<'_>]) -> Result<(), Error>
     requires { IsTrue (list_all is_planned plans.now) }
     ensures put { OnOk result (ports.new.items ≡ ports.old.items ++ map planned plans.now) }
@@ -91,8 +91,9 @@ fn put_choosers(ports: &mut Vec<Chooser>, plans: &[PortPlan<'_>]) -> Result<(), 
 }
 
 impl<T: RouteTable> Router<T> {
-    /// A router with these ports and tables. That a station of each port's range may have the
-    /// port's addresses, and that each row is by one of the ports, is the caller's condition.
+    /// A router with these ports and tables. The caller ensures that a station of each port's range
+    /// may have the port's addresses (`aarp::are_on`), and that each row's port is one of the
+    /// ports.
     ///
     /// Errors: `Full` above 16 ports, `Memory`.
     pub fn new(
@@ -126,7 +127,9 @@ impl<T: RouteTable> Router<T> {
         })
     }
 
-    /// What the router does with datagrams for a network. Allocates nothing.
+    /// Where the router sends datagrams for a network. Allocates nothing.
+    ///
+    /// Inside AppleTalk, the chapters on DDP and RTMP.
     pub fn hand(&self, net: u16) -> Hand
         ensures value { result ≡ spec.hand self.now.routes net }
         ensures inside { IsHandIn (length self.now.ports) result }
@@ -134,21 +137,22 @@ impl<T: RouteTable> Router<T> {
         hand_of(self.routes.row_for(net))
     }
 
-    /// The address of the port at an index, once it is settled. Allocates nothing.
+    /// The address of the port at an index, if there is such a port and its address is settled.
+    /// Allocates nothing.
     pub fn own(&self, port: u8) -> Option<Addr>
         ensures { result ≡ spec.own_at self.now.ports port }
     {
         own_at(self.ports.as_slice(), port)
     }
 
-    /// Its routing table.
+    /// The routing table.
     pub fn routes(&self) -> &T
         ensures { T.rows result.now ≡ self.now.routes }
     {
         &self.routes
     }
 
-    /// Its zone table.
+    /// The zone table.
     pub fn zones(&self) -> &ZoneTable
         ensures { result.now ≡ self.now.zones }
     {

@@ -1,4 +1,4 @@
-//! What a live router changes by itself: its tables, and the choices of its ports' addresses.
+//! The setters that a live router uses to change a router's tables and the addresses of its ports.
 
 ghost use Rattle.std.specs.Prelude.{◌≡◌, ◌<◌, ◌≤◌, length, nat_lt, IsTrue};
 ghost use Rattle.std.specs.List.{list_all};
@@ -13,12 +13,12 @@ use std::alloc::Global;
 use zip_zones::ZoneTable;
 
 impl<T: RouteTable> Router<T> {
-    /// What the router allocates by.
+    /// The allocator that the router uses.
     pub fn allocator(&self) -> Global {
         *self.ports.allocator()
     }
 
-    /// The choices of its ports' addresses, in the order of the ports.
+    /// The choices of the ports' addresses, in the order of the ports.
     pub fn ports_now(&self) -> &[Chooser]
         ensures value { result.now ≡ self.now.ports }
         ensures few { length result.now ≤ 16 }
@@ -27,8 +27,8 @@ impl<T: RouteTable> Router<T> {
         self.ports.as_slice()
     }
 
-    /// Takes another routing table in the place of its own. That each row is by one of the ports is
-    /// the caller's condition. Allocates nothing.
+    /// Replaces the routing table. The caller ensures that each row's port is one of the ports.
+    /// Allocates nothing.
     pub fn set_routes(&mut self, routes: T)
         requires { IsTrue (list_all (λ r. nat_lt r.port (length self.old.ports)) (T.rows routes)) }
         ensures { self.new ≡ record self.old { routes = T.rows routes } }
@@ -36,15 +36,15 @@ impl<T: RouteTable> Router<T> {
         self.routes = routes;
     }
 
-    /// Takes another zone table in the place of its own. Allocates nothing.
+    /// Replaces the zone table. Allocates nothing.
     pub fn set_zones(&mut self, zones: ZoneTable)
         ensures { self.new ≡ record self.old { zones = zones } }
     {
         self.zones = zones;
     }
 
-    /// Takes other choices of its ports' addresses. That there are as many as ports is the caller's
-    /// condition. Allocates nothing.
+    /// Replaces the choices of the ports' addresses. The caller ensures that there is one for each
+    /// port. Allocates nothing.
     pub fn set_ports(&mut self, ports: Vec<Chooser>)
         requires { length ports.items ≡ length self.old.ports }
         ensures { self.new ≡ record self.old { ports = ports.items } }
@@ -52,7 +52,7 @@ impl<T: RouteTable> Router<T> {
         self.ports = ports;
     }
 
-    /// Lets a tick pass for the requests that are answered once. Allocates nothing.
+    /// Advances the exactly-once requests by one tick. Allocates nothing.
     ///
     /// Inside AppleTalk, the chapter on ATP.
     pub fn pass_requests(&mut self)
@@ -61,8 +61,8 @@ impl<T: RouteTable> Router<T> {
         self.responder.tick();
     }
 
-    /// The router that has the address is gone: the rows that lead through it are bad. Allocates
-    /// nothing.
+    /// Handles the loss of the router with this address: the rows that go through it become bad.
+    /// Allocates nothing.
     ///
     /// Inside AppleTalk, the chapter on RTMP.
     pub fn poison(&mut self, next: Addr)

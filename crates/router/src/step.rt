@@ -1,4 +1,4 @@
-//! What a router puts out of a datagram that it has to pass on.
+//! The output for a datagram that a router forwards, keeps or drops.
 
 ghost use Rattle.std.specs.Prelude.{◌≡◌, ◌<◌, ◌+◌, ℕ, IfOk, IsOkUnless};
 ghost use Rattle.ddp.specs.Bodies.{with_hops};
@@ -11,7 +11,7 @@ use ddp::{View, set_hops};
 use station::{Output, slices_have_bytes};
 use std::alloc::Global;
 
-/// The datagram without padding. It is copied once.
+/// The bytes of the datagram without padding, copied once. Error: `Memory`.
 fn copied(alloc: Global, view: &View<'_>) -> Result<Bytes, Error>
     ensures ok { IfOk result (λ bytes. bytes ≡ bytes_in view.now) }
     ensures whole { IfOk result (λ bytes. IsWhole bytes) }
@@ -21,7 +21,7 @@ fn copied(alloc: Global, view: &View<'_>) -> Result<Bytes, Error>
     Bytes::copy(alloc, view.as_bytes())
 }
 
-/// The datagram without padding and with one hop more. It is copied once.
+/// The bytes of the datagram without padding and with one hop more, copied once. Error: `Memory`.
 fn with_one_hop_more(alloc: Global, view: &View<'_>) -> Result<Vec<u8>, Error>
     requires { view.now.hops < 15 }
     ensures ok { IfOk result (λ bytes.
@@ -33,7 +33,7 @@ fn with_one_hop_more(alloc: Global, view: &View<'_>) -> Result<Vec<u8>, Error>
     Ok(bytes)
 }
 
-/// The same, which is a datagram.
+/// The datagram without padding and with one hop more. Error: `Memory`.
 fn handed_on(alloc: Global, view: &View<'_>) -> Result<Bytes, Error>
     requires { view.now.hops < 15 }
     ensures ok { IfOk result (λ bytes.
@@ -43,13 +43,13 @@ fn handed_on(alloc: Global, view: &View<'_>) -> Result<Bytes, Error>
 {
     let bytes = with_one_hop_more(alloc, view)?;
     slices_have_bytes(bytes.as_slice());
-    // For the prover alone: the datagram that was heard is one.
+    // Only the prover needs this read: it shows that the datagram is one.
     let _heard = view.as_bytes();
     Ok(Bytes::from_vec(bytes))
 }
 
 impl Step {
-    /// What is put out of the datagram.
+    /// The output for the datagram in this step. Error: `Memory`.
     pub(crate) fn output(self, alloc: Global, view: &View<'_>) -> Result<Output, Error>
         requires { IsNear view.now.hops self }
         ensures ok { IfOk result (λ output. output ≡ output_of self view.now) }

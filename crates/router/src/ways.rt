@@ -1,4 +1,4 @@
-//! By which way a router's own datagrams leave.
+//! The ways of the datagrams that a router makes.
 
 ghost use Rattle.std.specs.Prelude.{◌≡◌, ℕ, length};
 ghost use Rattle.router.specs.Holding as holding_spec;
@@ -18,22 +18,23 @@ use rtmp::RouteTable;
 use station::ways::{reply_header, straight, way_from};
 use station::{Next, Way};
 
-/// One of the ports has the address.
+/// Whether one of the ports has this address.
 fn have(target: Addr, ports: &[Chooser]) -> bool
     ensures { result ≡ ports_spec.have target ports.now }
 {
     ports.iter().any(|port| has(target, port.settled()))
 }
 
-/// Whether the address is replied to.
+/// Whether the router replies to this address: its network and node aren't 0, and it isn't an
+/// address of the router's own.
 pub(crate) fn is_answered(ports: &[Chooser], target: Addr) -> bool
     ensures { result ≡ ways_spec.is_answered ports.now target }
 {
     target.net != 0 && target.node != 0 && !have(target, ports)
 }
 
-/// The way of a reply with this header: its source is the address of the port on which the datagram
-/// ended.
+/// The way of a reply with this header. Its source is `own`, the address of the port on which the
+/// datagram ended; it may leave on another port. `None` without a route or a source.
 fn reply_way(hand: Hand, own: Option<Addr>, header: Header) -> Option<Way>
     ensures value { result ≡ way_by hand (λ leaving. own) header }
     ensures inside { (n : ℕ) → IsHandIn n hand → IsWayIn n result }
@@ -45,8 +46,8 @@ fn reply_way(hand: Hand, own: Option<Addr>, header: Header) -> Option<Way>
     }
 }
 
-/// The way of a request of the router's own with this header: its source is the address of the port
-/// by which it leaves.
+/// The way of a request that the router makes, with this header. Its source is the address of the
+/// port on which it leaves. `None` without a route or if that port has no address.
 pub(crate) fn request_way(ports: &[Chooser], hand: Hand, header: Header) -> Option<Way>
     ensures value { result ≡ way_by hand (holding_spec.own_at ports.now) header }
     ensures inside { (n : ℕ) → IsHandIn n hand → IsWayIn n result }
@@ -65,7 +66,8 @@ pub(crate) fn request_way(ports: &[Chooser], hand: Hand, header: Header) -> Opti
 }
 
 impl<T: RouteTable> Router<T> {
-    /// The way of the reply to a datagram that ended on a port.
+    /// The way of the reply to a datagram that ended on a port. `None` if the router doesn't reply
+    /// to the datagram's source, has no route to it, or the port has no address.
     pub(crate) fn way_back(&self, port: u8, view: &View<'_>) -> Option<Way>
         ensures value { result ≡ ways_spec.way_back self.now port view.now }
         ensures inside { IsWayIn (length self.now.ports) result }

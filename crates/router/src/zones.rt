@@ -1,4 +1,4 @@
-//! What a router answers about zones, in packets of ZIP.
+//! The ZIP packets that a router answers: queries and GetNetInfo requests.
 
 ghost use Rattle.std.specs.Prelude.{IsOkUnless, OnOk, Some, length, map, ◌++◌, ◌+◌, ◌<◌, ◌≡◌, ◌≤◌};
 ghost use Rattle.at_base.specs.Spelling.{bytes_of};
@@ -20,7 +20,7 @@ use station::ways::{EVERY_NODE, reply_header, straight, way_from};
 use station::{Next, Output, Way};
 use zip_zones::{Networks, Packet, answer_query, reply_net_info};
 
-/// The packet in the data of a datagram.
+/// The ZIP packet in the data of a datagram, if any.
 fn read_packet(payload: &[u8]) -> Option<Packet<'_>>
     ensures { result ≡ zones_in payload.now }
 {
@@ -31,7 +31,9 @@ fn read_packet(payload: &[u8]) -> Option<Packet<'_>>
 }
 
 impl<T: RouteTable> Router<T> {
-    /// The way of what a node is told of the cable of this range, on which it asked.
+    /// The way of the GetNetInfo reply for the cable of a port, which has this range: to the node
+    /// itself if its network is the cable's, and otherwise to all nodes there. `None` if the router
+    /// doesn't reply to the node's address, or if the port has no address.
     fn info_way(&self, port: u8, range: Range, view: &View<'_>) -> Option<Way>
         ensures value { result ≡ zones_spec.info_way self.now port range view.now }
         ensures inside { port < length self.now.ports → IsWayIn (length self.now.ports) result }
@@ -52,7 +54,8 @@ impl<T: RouteTable> Router<T> {
         way_from(self.own(port), port, straight(asker), header)
     }
 
-    /// Tells a node that asks for a zone of its cable, which has this range.
+    /// Adds the GetNetInfo reply for a zone on the cable of a port, which has this range. A cable
+    /// without zones gets no reply. Error: `Memory`.
     fn tell_of(
         &self,
         made: &mut Vec<Output>,
@@ -75,7 +78,7 @@ impl<T: RouteTable> Router<T> {
         put_one(made, &way, &payload)
     }
 
-    /// Tells a node that asks for a zone of its cable.
+    /// Adds the GetNetInfo reply for a zone on the cable of a port. Error: `Memory`.
     fn tell(
         &self,
         made: &mut Vec<Output>,
@@ -97,7 +100,7 @@ impl<T: RouteTable> Router<T> {
         }
     }
 
-    /// Answers a query for the zones of networks.
+    /// Adds the replies to a query for the zones of networks. Error: `Memory`.
     fn answer(
         &self,
         made: &mut Vec<Output>,
@@ -118,7 +121,8 @@ impl<T: RouteTable> Router<T> {
         put_all(made, &way, payloads.as_slice())
     }
 
-    /// Answers a packet about zones that ended on a port.
+    /// Handles the ZIP packet in a datagram that ended on a port; a datagram without one is
+    /// ignored. Error: `Memory`.
     pub(crate) fn hear_zones(
         &self,
         made: &mut Vec<Output>,
@@ -139,7 +143,8 @@ impl<T: RouteTable> Router<T> {
         }
     }
 
-    /// The same, of a packet that was read.
+    /// Handles a ZIP packet that ended on a port: only queries and GetNetInfo requests are
+    /// answered. Error: `Memory`.
     fn answer_packet(
         &self,
         made: &mut Vec<Output>,

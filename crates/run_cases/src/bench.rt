@@ -1,4 +1,4 @@
-//! What the commands of a case are done with.
+//! The bench of a case, with which its commands are carried out.
 
 use crate::{cables, entries, runs, scripts, seats, taking};
 use cable_model::Cables;
@@ -7,7 +7,7 @@ use frozen::Frozen;
 use rtmp::PlainTable;
 use std::alloc::Global;
 
-/// The bytes of an image, entries to be printed, and cables and a run once a command begins them.
+/// The bytes of an image, entries to print, and cables and a run after a command that begins them.
 #[derive(Drop)]
 pub(crate) struct Runs {
     alloc: Global,
@@ -25,7 +25,7 @@ impl Runs {
         Ok(())
     }
 
-    /// Puts bytes in place of others.
+    /// Replaces bytes.
     fn replace(&mut self, mut words: Words<'_>) -> Answer {
         let place: usize = words.number()?;
         let new = words.bytes(self.alloc)?;
@@ -38,7 +38,7 @@ impl Runs {
         Ok(())
     }
 
-    /// Appends the line of an entry; there is room for all of it, or nothing is appended.
+    /// Appends the line of an entry, the whole line or, if an allocation fails, nothing.
     fn add_entry(&mut self, mut line: Words<'_>) -> Answer {
         let line = line.rest();
         self.entries.reserve(line.len().saturating_add(1))?;
@@ -47,7 +47,7 @@ impl Runs {
         Ok(())
     }
 
-    /// Begins cables, or goes on with them.
+    /// Begins cables, or carries out a command with them.
     fn on_cables(&mut self, mut words: Words<'_>, text: &mut String) -> Answer {
         if words.passes("begin") {
             self.cables = Some(cables::begun(self.alloc, words)?);
@@ -59,7 +59,7 @@ impl Runs {
         }
     }
 
-    /// Goes on with a run.
+    /// Carries out a command with the run.
     fn on_run(&mut self, words: Words<'_>, text: &mut String) -> Answer {
         match &mut self.run {
             Some(run) => runs::act(self.alloc, run, words, text),

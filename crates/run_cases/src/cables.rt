@@ -11,8 +11,7 @@ use case_words::{Answer, Stop, Words, put_line, yes_or_no};
 use station::Next;
 use std::alloc::Global;
 
-/// What is known of one station, which is looked for on its cable and by its address alone, and the
-/// network that a cable has.
+/// A resolver that knows one address on one cable, and one network that a cable has.
 #[derive(Clone, Copy)]
 pub(crate) struct Known {
     cable: u8,
@@ -53,7 +52,7 @@ fn found(words: &mut Words<'_>) -> Result<Found, Stop> {
     }
 }
 
-/// What is known, as `cable 2 30.5 at 020000000006 listed 30`.
+/// A resolver, as `cable 2 30.5 at 020000000006 listed 30`.
 pub(crate) fn resolver(words: &mut Words<'_>) -> Result<Known, Stop> {
     let cable = words.named("cable")?;
     let addr = words.addr()?;
@@ -66,7 +65,7 @@ pub(crate) fn resolver(words: &mut Words<'_>) -> Result<Known, Stop> {
     })
 }
 
-/// Whom a frame is for next, as `station 30.5`, `all` or `group 56`.
+/// The next station or stations of a datagram, as `station 30.5`, `all` or `group 56`.
 pub(crate) fn next(words: &mut Words<'_>) -> Result<Next, Stop>
     ensures { IfOk result IsNext }
 {
@@ -85,7 +84,7 @@ pub(crate) fn next(words: &mut Words<'_>) -> Result<Next, Stop>
     }
 }
 
-/// Cables of the seats that a word names, with room for so many entries.
+/// Cables with the seats that a word names, for at most `limit` entries.
 pub(crate) fn begun(alloc: Global, mut words: Words<'_>) -> Result<Cables, Stop> {
     let seats = words.word();
     let limit = words.named("limit")?;
@@ -123,7 +122,7 @@ fn send(alloc: Global, cables: &mut Cables, mut words: Words<'_>) -> Answer {
     Ok(())
 }
 
-/// Appends what a station hears of a frame that it is to take.
+/// Appends a frame as a station that is to take it receives it.
 fn put_heard(cables: &Cables, mut words: Words<'_>, text: &mut String) -> Answer {
     let stamp = words.number()?;
     match cables.heard(stamp, words.named("station")?) {
@@ -137,7 +136,7 @@ fn put_heard(cables: &Cables, mut words: Words<'_>, text: &mut String) -> Answer
     Ok(())
 }
 
-/// Appends what waits for a hardware address.
+/// Appends the datagrams that wait for a hardware address.
 pub(crate) fn put_waiting(cables: &Cables, text: &mut String) -> Answer {
     for held in cables.waiting() {
         let (port, next, bytes) = (held.port, held.next, held.bytes);
@@ -147,7 +146,7 @@ pub(crate) fn put_waiting(cables: &Cables, text: &mut String) -> Answer {
     Ok(())
 }
 
-/// Appends the pair to be taken first, and how many there are.
+/// Appends the number of pending pairs, and the first of them.
 pub(crate) fn put_first(cables: &Cables, text: &mut String) -> Answer {
     let count = cables.pending_count();
     match cables.first() {
@@ -164,7 +163,7 @@ fn put_pending(cables: &Cables, mut words: Words<'_>, text: &mut String) -> Answ
     Ok(())
 }
 
-/// Does what the words say.
+/// Carries out a command.
 pub(crate) fn act(
     alloc: Global,
     cables: &mut Cables,

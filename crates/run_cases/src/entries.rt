@@ -1,4 +1,4 @@
-//! Entries of transcripts, in words and as the lines of a trace.
+//! Entries of transcripts, as text and as the lines of a trace.
 
 use at_base::Addr;
 use cable_model::{DropCause, Entry, How, Kind};
@@ -62,7 +62,7 @@ fn reached(words: &mut Words<'_>) -> Result<Entry, Stop> {
     })
 }
 
-/// An entry in words, as `reached cable 0 station 2 all`. Cables and stations count from 0.
+/// An entry, as `reached cable 0 station 2 all`. Cables and stations count from 0.
 fn entry(words: &mut Words<'_>) -> Result<Entry, Stop> {
     Ok(match words.word() {
         "sent" => Entry::Sent {
@@ -87,7 +87,7 @@ fn entry(words: &mut Words<'_>) -> Result<Entry, Stop> {
     })
 }
 
-/// Appends text that has no bytes above 127.
+/// Appends ASCII text.
 fn put_ascii(text: &mut String, bytes: &[u8]) -> Result<(), AllocError> {
     for byte in bytes {
         text.push(*byte as char)?;
@@ -145,7 +145,7 @@ pub(crate) fn kind_word(kind: Kind) -> &'static str {
     }
 }
 
-/// Appends an entry in words, with the number of its bytes.
+/// Appends an entry as text, with the number of its bytes.
 fn put_entry(text: &mut String, entry: &Entry) -> Result<(), AllocError> {
     match *entry {
         Entry::Sent { station, bytes } => writeln!(text, "sent station {station} bytes {bytes}"),
@@ -184,7 +184,7 @@ fn put_entry(text: &mut String, entry: &Entry) -> Result<(), AllocError> {
     }
 }
 
-/// Appends the entries of a transcript in words.
+/// Appends the entries of a transcript as text.
 pub(crate) fn put_entries(text: &mut String, entries: &[Entry]) -> Result<(), AllocError> {
     for entry in entries {
         put_entry(text, entry)?;
@@ -203,7 +203,7 @@ pub(crate) fn number_of(entry: &Entry) -> Option<u32> {
     }
 }
 
-/// Appends the lines of a run's entries from a place on.
+/// Appends the lines of a run's entries from an index on.
 pub(crate) fn put_trace(
     alloc: Global,
     run: &frozen::Frozen<rtmp::PlainTable>,

@@ -1,5 +1,5 @@
-//! Cases of cables, of scripts and of runs over frozen tables: who hears a frame, what an event
-//! does, and the lines of a transcript.
+//! Cases of cables, of scripts and of runs over frozen tables: the stations that receive a frame,
+//! the effects of events, and the lines of a transcript.
 #![tactic(auto)]
 
 mod bench;

@@ -1,4 +1,4 @@
-//! A station with two ports that does one thing with each datagram that it hears.
+//! A station with two ports that does the same with each datagram that it receives.
 
 ghost use Rattle.std.specs.Prelude.{◌≡◌, ◌∷◌, [], IfOk, IsOkUnless, length, ◌≤◌};
 ghost use Rattle.station.specs.Lawful.{AreLawful, IsGood, IsNext, IsWhole, PutsOut};
@@ -12,22 +12,23 @@ use station::frames::{read_datagram, wire};
 use station::{Heard, Next, Output, Outputs, Station, slices_have_bytes};
 use std::alloc::Global;
 
-/// What a relay does with a datagram.
+/// The action of a relay for each datagram.
 #[derive(Clone, Copy)]
 pub(crate) enum Act {
-    /// It passes it to its target on port 1.
+    /// It forwards the datagram to `TARGET` on port 1.
     Pass,
-    /// It keeps it, as for port 1.
+    /// It keeps the datagram, as one for port 1.
     Keep,
-    /// It drops it, since it has no route.
+    /// It drops the datagram, since it has no route.
     Drop,
-    /// It makes the same for all on port 0, and for its target on port 1.
+    /// It makes two datagrams with the same bytes: one to all stations on port 0, and one to
+    /// `TARGET` on port 1.
     Make,
-    /// It puts an AARP packet for the target's hardware address out on port 1.
+    /// It sends an AARP response to `TARGET` on port 1.
     Answer,
 }
 
-/// The station.
+/// The station, with its action.
 #[derive(Drop)]
 pub(crate) struct Relay {
     pub(crate) alloc: Global,
@@ -43,7 +44,7 @@ fn copied(alloc: Global, view: &View<'_>) -> Result<Bytes, Error>
     Bytes::copy(alloc, view.as_bytes())
 }
 
-/// It is passed on, kept or dropped.
+/// The output of a datagram that is forwarded, kept or dropped.
 fn one(alloc: Global, act: Act, view: &View<'_>) -> Result<Vec<Output>, Error>
     ensures lawful { IfOk result (λ made. AreLawful 2 made.items) }
     ensures refused { IsOkUnless result Error.Memory }
@@ -66,7 +67,7 @@ fn one(alloc: Global, act: Act, view: &View<'_>) -> Result<Vec<Output>, Error>
     Ok(made)
 }
 
-/// Two are made.
+/// The two datagrams that are made.
 fn two(alloc: Global, view: &View<'_>) -> Result<Vec<Output>, Error>
     ensures lawful { IfOk result (λ made. AreLawful 2 made.items) }
     ensures refused { IsOkUnless result Error.Memory }
@@ -85,7 +86,7 @@ fn two(alloc: Global, view: &View<'_>) -> Result<Vec<Output>, Error>
     Ok(made)
 }
 
-/// A response from 20.1 to the target.
+/// An AARP response from 20.1 to `TARGET`.
 const RESPONSE: Packet = Packet {
     function: Function::Response,
     source_hw: Hw([2, 0, 0, 0, 0, 2]),
@@ -94,7 +95,7 @@ const RESPONSE: Packet = Packet {
     target: TARGET,
 };
 
-/// The AARP packet is put out.
+/// The output of the AARP response.
 fn answered(alloc: Global) -> Result<Vec<Output>, Error>
     ensures lawful { IfOk result (λ made. AreLawful 2 made.items) }
     ensures refused { IsOkUnless result Error.Memory }

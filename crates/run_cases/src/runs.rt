@@ -13,14 +13,14 @@ use std::alloc::Global;
 
 type Run = Frozen<PlainTable>;
 
-/// A run over the image of the bytes, with room for so many entries.
+/// A run over the image in the bytes, for at most `limit` entries.
 pub(crate) fn started(alloc: Global, bytes: &[u8], mut words: Words<'_>) -> Result<Run, Stop> {
     let limit = words.named("limit")?;
     let image = table_image::read(alloc, bytes)?;
     Ok(Frozen::start(alloc, image, limit)?)
 }
 
-/// The line of a script happens.
+/// Carries out the line of a script.
 fn happen(alloc: Global, run: &mut Run, line: &str, text: &mut String) -> Answer {
     let steps = read(alloc, line.as_bytes())?;
     for step in steps.iter() {
@@ -35,7 +35,7 @@ fn happen(alloc: Global, run: &mut Run, line: &str, text: &mut String) -> Answer
     Ok(())
 }
 
-/// The events of steps.
+/// The events of steps, which must all be events.
 fn events_of(alloc: Global, steps: Vec<Step>) -> Result<Vec<Event>, Stop> {
     let mut events = Vec::new(alloc);
     for step in steps {
@@ -47,7 +47,7 @@ fn events_of(alloc: Global, steps: Vec<Step>) -> Result<Vec<Event>, Stop> {
     Ok(events)
 }
 
-/// All events of a script happen, up to the first that is refused.
+/// Carries out the events of a script, up to the first one that returns an error.
 fn happen_all(alloc: Global, run: &mut Run, words: Words<'_>, text: &mut String) -> Answer {
     let events = events_of(alloc, steps(alloc, words)?)?;
     match run.run(events.as_slice()) {
@@ -57,7 +57,7 @@ fn happen_all(alloc: Global, run: &mut Run, words: Words<'_>, text: &mut String)
     Ok(())
 }
 
-/// Appends how often a datagram reached each of the first cables.
+/// Appends, for each cable of the image, how many datagrams reached it.
 fn put_reached(run: &Run, text: &mut String) -> Answer {
     for cable in 0..run.image().cables().len() {
         let mut count: u32 = 0;
@@ -74,14 +74,14 @@ fn put_reached(run: &Run, text: &mut String) -> Answer {
     Ok(())
 }
 
-/// Appends how much happened and is pending.
+/// Appends the numbers of entries and of pending pairs.
 fn put_counts(run: &Run, text: &mut String) -> Answer {
     let (entries, pending) = (run.transcript().len(), run.pending_count());
     writeln!(text, "{entries} entries, {pending} pending")?;
     Ok(())
 }
 
-/// Does what the words say: a line of a script, or a question.
+/// Carries out a line of a script, or answers a question.
 pub(crate) fn act(alloc: Global, run: &mut Run, words: Words<'_>, text: &mut String) -> Answer {
     let mut rest = words;
     match rest.word() {

@@ -1,4 +1,4 @@
-//! Scripts, and the steps that they say.
+//! Scripts and their steps.
 
 use case_words::{Answer, Stop, Words, put_line, put_text};
 use events::Event;

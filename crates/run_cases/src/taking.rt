@@ -1,4 +1,4 @@
-//! Frames that a station with two ports takes, which does one thing with each datagram.
+//! Frames that are taken by a station with two ports that does the same with each datagram.
 
 ghost use Rattle.std.specs.Prelude.{◌≡◌, IfOk};
 ghost use Rattle.cable_model.specs.Outcomes.{AreSeatsOf};
@@ -12,7 +12,7 @@ use cable_model::{Cables, Kind};
 use case_words::{Answer, Stop, Words};
 use std::alloc::Global;
 
-/// The address that the station passes datagrams to, and its hardware address.
+/// The address to which the station forwards datagrams, and (`TARGET_HW`) its hardware address.
 pub(crate) const TARGET: Addr = Addr {
     net: 0x121E,
     node: 5,
@@ -34,7 +34,7 @@ fn act(words: &mut Words<'_>) -> Result<Act, Stop> {
     })
 }
 
-/// Cables of the eight seats, with room for so many entries.
+/// Cables with the eight seats, for at most `limit` entries.
 fn seated(alloc: Global, limit: u32) -> Result<Cables, Error>
     ensures { IfOk result (λ cables. AreSeatsOf cables.seats 0 2) }
 {
@@ -58,7 +58,7 @@ fn pending(alloc: Global, limit: u32, bytes: Bytes) -> Result<Cables, Error>
     Ok(cables)
 }
 
-/// Station 0 takes a frame; the outcome.
+/// Lets station 0 take a frame, and appends the outcome.
 fn take(
     cables: &mut Cables,
     stamp: u32,
@@ -77,16 +77,16 @@ fn take(
     Ok(())
 }
 
-/// Appends the entries, what waits, and which frames are pending.
+/// Appends the entries, the waiting datagrams, and the pending pairs.
 fn put_all(cables: &Cables, text: &mut String) -> Answer {
     put_entries(text, cables.transcript())?;
     put_waiting(cables, text)?;
     put_first(cables, text)
 }
 
-/// Station 0 passes, keeps, drops, makes or answers the frame that station 2 put: `takes limit 772
-/// passes knows cable 1 4638.5 later listed 4638 BYTES`. It takes it once more, and then a frame that
-/// nobody put.
+/// Lets station 0 take the frame that station 2 put, with the action passes, keeps, drops, makes or
+/// answers: `takes limit 772 passes knows cable 1 4638.5 later listed 4638 BYTES`. Then lets it
+/// take the same frame again, and a frame that doesn't exist.
 pub(crate) fn answer(alloc: Global, mut words: Words<'_>, text: &mut String) -> Answer {
     let limit = words.named("limit")?;
     let act = act(&mut words)?;
@@ -101,8 +101,8 @@ pub(crate) fn answer(alloc: Global, mut words: Words<'_>, text: &mut String) -> 
     put_all(&cables, text)
 }
 
-/// Cables on which station 2 put the bytes for station 0, and station 1 the same for all on the second
-/// cable.
+/// Cables on which station 2 put the bytes for station 0, and station 1 put the same bytes for all
+/// stations of the second cable.
 fn two_pending(alloc: Global, limit: u32, bytes: &[u8]) -> Result<Cables, Error>
     ensures { IfOk result (λ cables. AreSeatsOf cables.seats 0 2) }
 {
@@ -113,8 +113,8 @@ fn two_pending(alloc: Global, limit: u32, bytes: &[u8]) -> Result<Cables, Error>
     Ok(cables)
 }
 
-/// Station 0 takes both of these frames, with what is known then: `takes-both limit 780 passes knows
-/// cable 1 4638.5 later listed 4638 then cable 1 4638.5 nobody listed 4638 BYTES`.
+/// Lets station 0 take both of these frames, each with its own resolver: `takes-both limit 780
+/// passes knows cable 1 4638.5 later listed 4638 then cable 1 4638.5 nobody listed 4638 BYTES`.
 pub(crate) fn answer_both(alloc: Global, mut words: Words<'_>, text: &mut String) -> Answer {
     let limit = words.named("limit")?;
     let act = act(&mut words)?;

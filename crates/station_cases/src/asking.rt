@@ -1,4 +1,4 @@
-//! What is asked of a node: of what it holds, or as its user.
+//! Questions about a node's state, and the calls of its user.
 
 use crate::nodes::{Pattern, Sending, User};
 use crate::outputs::put_outputs;
@@ -11,7 +11,7 @@ use nbp::Names;
 use station::Outputs;
 use std::alloc::{AllocError, Global};
 
-/// Appends an address, or that there is none.
+/// Appends an address, or that it is missing.
 fn put_addr(text: &mut String, addr: Option<Addr>) -> Result<(), AllocError> {
     match addr {
         Some(addr) => write!(text, "{addr}"),
@@ -88,7 +88,7 @@ fn put_outcome(text: &mut String, outcome: &Outcome) -> Result<(), AllocError> {
     }
 }
 
-/// What is sent, as `to 12.9 72 from 73 type 9 sum no`.
+/// The fields of a datagram to send, as `to 12.9 72 from 73 type 9 sum no`.
 fn sending(words: &mut Words<'_>) -> Result<Sending, Stop> {
     words.expect("to")?;
     Ok(Sending {
@@ -116,7 +116,7 @@ fn send<U: User>(alloc: Global, user: &U, mut words: Words<'_>, text: &mut Strin
     Ok(())
 }
 
-/// A name that is looked for, as `"=":"LaserWriter"@"Blue"`.
+/// The patterns of a lookup, as `"=":"LaserWriter"@"Blue"`.
 fn pattern(alloc: Global, words: &mut Words<'_>) -> Result<Pattern, Stop> {
     let Entity { object, kind } = entity_of(alloc, words)?;
     Ok(Pattern {
@@ -152,7 +152,7 @@ fn register<U: User>(
     Ok(())
 }
 
-/// Asks for zones, and appends the ID of the transaction and what is put out.
+/// Asks for zones, and appends the ID of the transaction and the outputs.
 fn ask_for_zones<U: User>(alloc: Global, user: &mut U, start: u16, text: &mut String) -> Answer {
     let mut outputs = Outputs::new(alloc)?;
     let id = user.asks_for_zones(start, &mut outputs)?;
@@ -161,7 +161,7 @@ fn ask_for_zones<U: User>(alloc: Global, user: &mut U, start: u16, text: &mut St
     Ok(())
 }
 
-/// Does what the words say.
+/// Carries out a command.
 pub(crate) fn ask_user<U: User>(
     alloc: Global,
     user: &mut U,

@@ -1,4 +1,4 @@
-//! From a plan to a station.
+//! Stations made from plans.
 
 ghost use Rattle.std.specs.Prelude.{◌≡◌, IfOk, IsTrue, length, nat_le, nat_lt};
 ghost use Rattle.std.specs.List.{list_all};
@@ -54,7 +54,7 @@ fn are_below(rows: &[Row], number: usize) -> bool
     rows.iter().all(|row| (row.port as usize) < number)
 }
 
-/// Whether each row is by one of the ports.
+/// Whether each row's port is one of the ports.
 fn are_seated(rows: &[Row], plans: &[PortPlan<'_>]) -> bool
     ensures { result ≡ list_all (λ r. nat_lt r.port (length plans.now)) rows.now }
 {
@@ -101,7 +101,7 @@ fn router_by<T: RouteTable>(
     Ok(Router::new(alloc, plans, routes, zones)?)
 }
 
-/// The router that is planned.
+/// The router of a plan.
 pub(crate) fn router_of<T: RouteTable>(alloc: Global, plan: &Plan) -> Result<Router<T>, Stop> {
     let plans = plans_of(alloc, plan.ports.as_slice())?;
     let zones = plan.zones(alloc)?;
@@ -119,7 +119,7 @@ fn live_router_by<T: RouteTable>(
     Ok(LiveRouter::new(alloc, plans, zones)?)
 }
 
-/// The live router that is planned; its rows are those that it learns.
+/// The live router of a plan. It has no rows before it learns some.
 pub(crate) fn live_router_of<T: RouteTable>(
     alloc: Global,
     plan: &Plan,
@@ -142,7 +142,7 @@ fn node_by(
     Ok(EndNode::new(alloc, port, zone, router, names)?)
 }
 
-/// The node that is planned.
+/// The node of a plan.
 pub(crate) fn node_of(alloc: Global, plan: &Plan) -> Result<EndNode, Stop> {
     let names = plan.names(alloc)?;
     match (plan.ports.as_slice(), plan.zone) {
@@ -163,7 +163,7 @@ fn live_node_by(
     Ok(LiveNode::new(alloc, port, zone, names)?)
 }
 
-/// The live node that is planned; its router is the one that it hears.
+/// The live node of a plan. It has no router before it learns one.
 pub(crate) fn live_node_of(alloc: Global, plan: &Plan) -> Result<LiveNode, Stop> {
     let names = plan.names(alloc)?;
     match (plan.ports.as_slice(), plan.zone) {

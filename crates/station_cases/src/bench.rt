@@ -1,4 +1,4 @@
-//! What the commands of a case are done with.
+//! The bench of a case, with which its commands are carried out.
 
 use crate::asking::ask_user;
 use crate::beginning::{live_node_of, live_router_of, node_of, router_of};
@@ -16,7 +16,7 @@ use rtmp::PlainTable;
 use station::ways::straight;
 use std::alloc::Global;
 
-/// What the station of a case is.
+/// The station of a case, by its kind.
 #[derive(Drop)]
 enum Subject {
     Nothing,
@@ -26,11 +26,11 @@ enum Subject {
     LiveNode(LiveNode),
 }
 
-/// Room for the lines of what a station puts out: 256 datagrams of 599 bytes, in hexadecimal digits.
+/// Room for the lines of a station's outputs: 256 datagrams of 599 bytes, in hexadecimal digits.
 const ROOM: usize = 400_000;
 
-/// What the station of a case is to be, the station itself, the ticks that it has lived through, and bytes that the
-/// next frame begins with.
+/// The plan of a case's station, the station itself, the number of its ticks so far, and the bytes
+/// with which the next frame begins.
 #[derive(Drop)]
 pub(crate) struct Stations {
     alloc: Global,
@@ -40,7 +40,7 @@ pub(crate) struct Stations {
     bytes: Vec<u8>,
 }
 
-/// The live station that is planned, of this kind.
+/// The live station of a plan, of this kind.
 fn live_subject_of(alloc: Global, plan: &Plan, kind: &str) -> Result<Subject, Stop> {
     match kind {
         "router" => Ok(Subject::LiveRouter(live_router_of(alloc, plan)?)),
@@ -49,7 +49,7 @@ fn live_subject_of(alloc: Global, plan: &Plan, kind: &str) -> Result<Subject, St
     }
 }
 
-/// The station that is planned, of this kind.
+/// The station of a plan, of this kind.
 fn subject_of(alloc: Global, plan: &Plan, mut words: Words<'_>) -> Result<Subject, Stop> {
     match words.word() {
         "live" => live_subject_of(alloc, plan, words.word()),
@@ -70,7 +70,8 @@ impl Subject {
         }
     }
 
-    /// Lets a tick pass, whose number precedes what is put out where there is one.
+    /// Advances the station by a tick. Each output line begins with the tick's number, if one is
+    /// given. Returns the number of outputs.
     fn tick(
         &mut self,
         alloc: Global,
@@ -86,7 +87,7 @@ impl Subject {
         }
     }
 
-    /// What the words ask of the station: of what it holds, or as its user.
+    /// Answers a question about the station's state, or carries out a call of its user.
     fn ask(&mut self, alloc: Global, words: Words<'_>, text: &mut String) -> Answer {
         match self {
             Subject::Nothing => Err(Stop::Unclear),
@@ -136,7 +137,7 @@ impl Stations {
         Ok(())
     }
 
-    /// Lets ticks pass, and appends what is put out with the number of its tick.
+    /// Advances the station by ticks, and appends each output with the number of its tick.
     fn ticks(&mut self, count: u32, text: &mut String) -> Answer {
         for _ in 0..count {
             self.ticks = self.ticks.saturating_add(1);
@@ -148,7 +149,7 @@ impl Stations {
         Ok(())
     }
 
-    /// Lets ticks pass, and appends how much is put out.
+    /// Advances the station by ticks, and appends the number of outputs.
     fn pass(&mut self, count: u32, text: &mut String) -> Answer {
         let mut sum = 0usize;
         for _ in 0..count {
@@ -168,7 +169,7 @@ impl Stations {
     }
 }
 
-/// To whom a datagram for a target goes on the target's cable.
+/// Appends the next station of a datagram on the cable of its target.
 fn put_straight(words: &mut Words<'_>, text: &mut String) -> Answer {
     put_next(text, straight(words.addr()?))?;
     writeln!(text)?;

@@ -1,4 +1,4 @@
-//! Frames in words.
+//! Frames as text.
 
 use aarp::{Function, Packet};
 use case_words::{Stop, Words};
@@ -6,7 +6,7 @@ use ddp::Header;
 use station::{Heard, Kind, Link};
 use std::alloc::Global;
 
-/// A frame that a station is to hear.
+/// A frame for a station to receive.
 #[derive(Drop)]
 pub(crate) struct Frame {
     port: u8,
@@ -16,7 +16,7 @@ pub(crate) struct Frame {
 }
 
 impl Frame {
-    /// The frame as a station hears it.
+    /// The frame as a station receives it.
     pub(crate) fn heard(&self) -> Heard<'_> {
         Heard {
             port: self.port,
@@ -90,7 +90,7 @@ fn put_at(bytes: &mut Vec<u8>, index: usize, value: u8) {
     }
 }
 
-/// Puts the hop count of a datagram, and its checksum where one is given, into its header.
+/// Sets the hop count in a datagram's header, and its checksum if one is given.
 fn amend(bytes: &mut Vec<u8>, hops: u8, sum: &[u8]) {
     if let Some(byte) = bytes.get_mut(0) {
         *byte |= (hops & 0x0F) << 2;
@@ -138,8 +138,8 @@ fn packet_bytes(alloc: Global, first: &[u8], words: &mut Words<'_>) -> Result<Ve
     }
 }
 
-/// A frame, as `port 0 own` and then a datagram or an AARP packet, in hexadecimal digits or by its fields. The bytes
-/// that are given come first.
+/// A frame, as `port 0 own` and then a datagram or an AARP packet, in hexadecimal digits or by its
+/// fields. Its bytes begin with the given ones.
 pub(crate) fn frame_of(alloc: Global, first: &[u8], mut words: Words<'_>) -> Result<Frame, Stop> {
     let port = words.named("port")?;
     let link = link(&mut words)?;

@@ -1,5 +1,5 @@
-//! Cases of stations: what routers and nodes put out for frames, in ticks and for their users, and what they hold
-//! then.
+//! Cases of stations: the outputs of routers and nodes for frames, in ticks and for their users,
+//! and their state after these.
 #![tactic(auto)]
 
 mod asking;

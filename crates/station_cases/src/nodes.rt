@@ -1,4 +1,4 @@
-//! What the users of a node ask of it: of one whose tables stay, or of a live one.
+//! The calls of a node's users, for frozen and for live nodes.
 
 ghost use Rattle.std.specs.Prelude.{◌≤◌};
 
@@ -8,7 +8,7 @@ use end_node::{Datagram, EndNode};
 use live_node::LiveNode;
 use station::Outputs;
 
-/// What is sent: a datagram from a socket to another.
+/// The fields of a datagram to send.
 #[derive(Clone, Copy)]
 pub(crate) struct Sending {
     pub(crate) target: Addr,
@@ -18,7 +18,7 @@ pub(crate) struct Sending {
     pub(crate) summed: bool,
 }
 
-/// A name that is looked for.
+/// The patterns of a lookup.
 #[derive(Clone, Copy)]
 pub(crate) struct Pattern {
     pub(crate) object: Text32,
@@ -28,13 +28,13 @@ pub(crate) struct Pattern {
 
 /// A node as its users see it.
 pub(crate) trait User: Drop {
-    /// The node as it is now.
+    /// The node in its current state.
     fn held(&self) -> &EndNode;
 
     /// Sends a datagram.
     fn sends(&self, what: &Sending, payload: &[u8], outputs: &mut Outputs) -> Result<(), Error>;
 
-    /// Asks for names.
+    /// Sends a lookup for names.
     fn looks_up(&self, id: u8, name: &Pattern, outputs: &mut Outputs) -> Result<(), Error>;
 
     /// Registers a name for a socket.
@@ -42,13 +42,13 @@ pub(crate) trait User: Drop {
         requires low { 1 ≤ socket }
         requires high { socket ≤ 254 };
 
-    /// Asks for the zones from an index on.
+    /// Sends a request for the zones from an index on.
     fn asks_for_zones(&mut self, start: u16, outputs: &mut Outputs) -> Result<u16, Error>;
 
-    /// What became of a request for zones.
+    /// The outcome of a request for zones.
     fn zones_of(&mut self, id: u16) -> Result<Outcome, Error>;
 
-    /// Takes what was received.
+    /// Removes and returns the datagrams that were received.
     fn takes_received(&mut self) -> Result<Vec<Datagram>, Error>;
 }
 

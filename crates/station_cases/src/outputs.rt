@@ -1,23 +1,23 @@
-//! What stations put out, in words.
+//! The outputs of stations, as text.
 
 use case_words::{put_hex, put_hw};
 use station::{DropCause, Next, Output, Outputs};
 use std::alloc::AllocError;
 
-/// The bytes of the fields of a datagram's header: hops and length, checksum, target network, source network, target
-/// node, source node, target socket, source socket, type.
+/// The numbers of bytes of the fields of a datagram's header: hops and length, checksum, target
+/// network, source network, target node, source node, target socket, source socket, type.
 const HEADER: [usize; 9] = [2, 2, 2, 2, 1, 1, 1, 1, 1];
 
-/// The bytes of the fields of an AARP packet: hardware type, protocol type, lengths, function, and hardware and
-/// protocol address of the source and of the target.
+/// The numbers of bytes of the fields of an AARP packet: hardware type, protocol type, lengths,
+/// function, and hardware and protocol address of the source and of the target.
 const PACKET: [usize; 9] = [2, 2, 1, 1, 2, 6, 4, 6, 4];
 
-/// The most bytes of data on the line of their header, and on a line of their own.
+/// The greatest number of data bytes on the line of the header, and on a separate line.
 const BESIDE: usize = 24;
 
 const A_LINE: usize = 48;
 
-/// Appends whom a datagram goes to next.
+/// Appends the next station of a datagram.
 pub(crate) fn put_next(text: &mut String, next: Next) -> Result<(), AllocError> {
     match next {
         Next::Station(addr) => write!(text, "to {addr}"),
@@ -26,7 +26,7 @@ pub(crate) fn put_next(text: &mut String, next: Next) -> Result<(), AllocError> 
     }
 }
 
-/// So many of the bytes, or all where there are fewer, and what is left of them.
+/// The first `size` of the bytes, or all if there are fewer, and the rest of them.
 fn cut(bytes: &[u8], size: usize) -> (&[u8], &[u8]) {
     if size <= bytes.len() {
         bytes.split_at(size)
@@ -35,7 +35,7 @@ fn cut(bytes: &[u8], size: usize) -> (&[u8], &[u8]) {
     }
 }
 
-/// Appends bytes in groups of these sizes. What is left of the bytes.
+/// Appends bytes in groups of these sizes. Returns the rest of the bytes.
 fn put_groups<'a>(
     text: &mut String,
     bytes: &'a [u8],
@@ -51,7 +51,8 @@ fn put_groups<'a>(
     Ok(rest)
 }
 
-/// Appends the line of a packet: its header in groups, and its data, where that is long on lines of its own.
+/// Appends the line of a packet: its header in groups, and its data; long data is on separate
+/// lines.
 fn put_bytes(text: &mut String, bytes: &[u8], sizes: &[usize]) -> Result<(), AllocError> {
     let data = put_groups(text, bytes, sizes)?;
     if data.len() <= BESIDE {
@@ -107,7 +108,8 @@ fn put_output(text: &mut String, output: &Output) -> Result<(), AllocError> {
     }
 }
 
-/// Appends the lines of outputs, from the oldest on, each after the number of its tick, where there is one.
+/// Appends the lines of outputs, the oldest first, each after the number of the tick, if one is
+/// given.
 pub(crate) fn put_outputs(
     text: &mut String,
     number: Option<u32>,

@@ -1,4 +1,4 @@
-//! What every station does: it hears frames, and lets ticks pass.
+//! The calls of any station: frames and ticks.
 
 use crate::frames::Frame;
 use crate::outputs::put_outputs;
@@ -7,7 +7,7 @@ use case_words::{Answer, Stop};
 use station::{Outputs, Station};
 use std::alloc::Global;
 
-/// Hears a frame, and appends what is put out.
+/// Lets a station receive a frame, and appends its outputs.
 pub(crate) fn hear<S: Station>(
     alloc: Global,
     station: &mut S,
@@ -24,7 +24,7 @@ pub(crate) fn hear<S: Station>(
     Ok(())
 }
 
-/// Lets a tick pass, again where memory was refused.
+/// Advances a station by a tick, with another attempt if an allocation failed.
 fn tick<S: Station>(station: &mut S, outputs: &mut Outputs) -> Result<(), Error> {
     match station.tick(outputs) {
         Err(Error::Memory) => station.tick(outputs),
@@ -32,7 +32,7 @@ fn tick<S: Station>(station: &mut S, outputs: &mut Outputs) -> Result<(), Error>
     }
 }
 
-/// Lets a tick pass, and appends what is put out. How much that is.
+/// Advances a station by a tick, and appends its outputs. Returns their number.
 pub(crate) fn let_pass<S: Station>(
     alloc: Global,
     station: &mut S,

@@ -1,4 +1,4 @@
-//! What the station of a case is to be.
+//! The plan of a case's station.
 
 use crate::texts::{Entity, entity_of, row};
 use at_base::{Addr, Hw, Name, Range};
@@ -9,7 +9,7 @@ use station::PortPlan;
 use std::alloc::Global;
 use zip_zones::ZoneTable;
 
-/// A port that the station is to have.
+/// A port of the planned station.
 #[derive(Drop)]
 pub(crate) struct PlannedPort {
     range: Range,
@@ -18,7 +18,8 @@ pub(crate) struct PlannedPort {
     own: Option<Addr>,
 }
 
-/// What a station is to begin with: ports, rows, zone lists, and for a node its zone, its router and its names.
+/// The initial state of a station: ports, rows, zone lists, and for a node its zone, its router and
+/// its names.
 #[derive(Drop)]
 pub(crate) struct Plan {
     pub(crate) ports: Vec<PlannedPort>,
@@ -41,7 +42,7 @@ fn addrs(alloc: Global, mut words: Words<'_>) -> Result<Vec<Addr>, Stop> {
     Ok(addrs)
 }
 
-/// Names of zones up to the end of the line, with semicolons between them.
+/// Zone names, separated by semicolons, up to the end of the line.
 fn names(alloc: Global, mut words: Words<'_>) -> Result<Vec<Name>, Stop> {
     let mut names = Vec::new(alloc);
     for _ in 0..u64::MAX {
@@ -54,7 +55,8 @@ fn names(alloc: Global, mut words: Words<'_>) -> Result<Vec<Name>, Stop> {
     Ok(names)
 }
 
-/// A port, as `10-19 hardware 020000000001 own 10.1` or `10-19 hardware 020000000001 tries 10.1 10.2`.
+/// A port, as `10-19 hardware 020000000001 own 10.1` or
+/// `10-19 hardware 020000000001 tries 10.1 10.2`.
 fn port(alloc: Global, mut words: Words<'_>) -> Result<PlannedPort, Stop> {
     let range = words.range()?;
     words.expect("hardware")?;
@@ -88,7 +90,7 @@ impl PlannedPort {
     }
 }
 
-/// The range of as many networks that is so many ranges after this one.
+/// The range with as many networks as this one that is `count` ranges after it.
 fn range_after(range: &Range, count: u16) -> Result<Range, Stop> {
     let (start, end) = (range.start(), range.end());
     let step = end
@@ -98,7 +100,7 @@ fn range_after(range: &Range, count: u16) -> Result<Range, Stop> {
     Ok(Range::new(start.saturating_add(step), end.saturating_add(step))?)
 }
 
-/// The same row for another range.
+/// The row with another range.
 fn row_of(row: &Row, range: Range) -> Row {
     Row {
         range,
@@ -109,7 +111,8 @@ fn row_of(row: &Row, range: Range) -> Row {
     }
 }
 
-/// Rows, as `10-19 distance 0 port 0 next 0.0 good`, or a number of them, each of the range after the one before.
+/// Rows, as `10-19 distance 0 port 0 next 0.0 good`, or several, each with the range after the one
+/// before it.
 fn rows(alloc: Global, mut words: Words<'_>) -> Result<Vec<Row>, Stop> {
     let mut rows = Vec::new(alloc);
     let first = row(&mut words)?;
@@ -125,7 +128,7 @@ fn rows(alloc: Global, mut words: Words<'_>) -> Result<Vec<Row>, Stop> {
     Ok(rows)
 }
 
-/// A list, as `10-19 complete "Red"`, or names that come to one, as `10-19 of 3 "Red"`.
+/// A zone list, as `10-19 complete "Red"`, or names that are added to one, as `10-19 of 3 "Red"`.
 fn put_list(alloc: Global, zones: &mut ZoneTable, mut words: Words<'_>) -> Answer {
     let range = words.range()?;
     if words.passes("complete") {
@@ -150,7 +153,7 @@ fn register(names: &mut Names, entity: &Entity, socket: u8) -> Result<u8, Stop> 
 }
 
 impl Plan {
-    /// A station of which nothing is said yet.
+    /// The plan of a station before the commands that describe it.
     pub(crate) fn new(alloc: Global) -> Plan {
         Plan {
             ports: Vec::new(alloc),
@@ -216,7 +219,7 @@ impl Plan {
         Ok(())
     }
 
-    /// Does what the words say.
+    /// Carries out a command.
     pub(crate) fn act(&mut self, alloc: Global, mut words: Words<'_>, text: &mut String) -> Answer {
         match words.word() {
             "port" => self.put_port(alloc, words),

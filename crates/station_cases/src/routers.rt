@@ -1,4 +1,4 @@
-//! What a router holds.
+//! The state of a router.
 
 use crate::texts::put_row;
 use at_base::{Addr, Name, Range};
@@ -38,7 +38,7 @@ fn put_rows(text: &mut String, routes: &PlainTable) -> Result<(), AllocError> {
     Ok(())
 }
 
-/// Appends names of zones, with semicolons between them, up to the end of a line.
+/// Appends zone names, separated by semicolons, and the end of a line.
 fn put_names(text: &mut String, names: &[Name]) -> Result<(), AllocError> {
     let mut mark = "";
     for name in names {
@@ -83,7 +83,7 @@ fn put_hand(text: &mut String, hand: Hand) -> Result<(), AllocError> {
     }
 }
 
-/// Appends what the words ask for.
+/// Appends the answer to a question.
 pub(crate) fn ask_router(
     router: &Router<PlainTable>,
     mut words: Words<'_>,

@@ -1,4 +1,4 @@
-//! Rows and names in words.
+//! Rows and names as text.
 
 use at_base::{Addr, Text32};
 use case_words::{Stop, Words, put_text};
@@ -57,7 +57,7 @@ pub(crate) struct Entity {
     pub(crate) kind: Text32,
 }
 
-/// Passes over a character that joins two texts.
+/// Skips a character between two texts.
 fn pass_over<'a>(words: &mut Words<'a>, mark: char) -> Result<(), Stop> {
     match words.rest().strip_prefix(mark) {
         Some(rest) => {
@@ -76,7 +76,7 @@ pub(crate) fn entity_of(alloc: Global, words: &mut Words<'_>) -> Result<Entity, 
     Ok(Entity { object, kind })
 }
 
-/// A zone that is asked for, as `@"Blue"`.
+/// The zone of a lookup, as `@"Blue"`.
 pub(crate) fn zone(alloc: Global, words: &mut Words<'_>) -> Result<Text32, Stop> {
     pass_over(words, '@')?;
     words.text32(alloc)

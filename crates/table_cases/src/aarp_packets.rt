@@ -1,4 +1,4 @@
-//! AARP packets in words, as `probe 020000000005 10.7 to 000000000000 10.7`.
+//! AARP packets as text, such as `probe 020000000005 10.7 to 000000000000 10.7`.
 
 use aarp::{Function, Packet};
 use at_base::{Addr, Hw};
@@ -42,7 +42,7 @@ fn put_station(text: &mut String, hw: Hw, addr: Addr) -> Result<(), AllocError> 
     write!(text, " {addr}")
 }
 
-/// Appends the line of a packet, or of none.
+/// Appends the line of a packet, or of a missing one.
 pub(crate) fn put_packet(text: &mut String, packet: Option<Packet>) -> Result<(), AllocError> {
     match packet {
         Some(packet) => {

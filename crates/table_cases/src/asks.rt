@@ -1,4 +1,4 @@
-//! What is asked and answered in transactions, in words.
+//! The requests and responses of transactions, as text.
 
 ghost use Rattle.std.specs.Prelude.{IfOk};
 ghost use Rattle.atp.specs.Requesting.{IsAsk};
@@ -10,7 +10,7 @@ use atp::{AnswerPart, Ask, Peer};
 use case_words::{Answer, Stop, Words, put_hex};
 use std::alloc::{AllocError, Global};
 
-/// A socket of a node, as `10.7 socket 128`.
+/// A socket at a node, as `10.7 socket 128`.
 pub(crate) fn peer(words: &mut Words<'_>) -> Result<Peer, Stop> {
     Ok(Peer {
         addr: words.addr()?,
@@ -26,7 +26,7 @@ fn user(alloc: Global, words: &mut Words<'_>) -> Result<[u8; 4], Stop> {
     }
 }
 
-/// Who is asked, after the word `to`.
+/// The address and the socket that are asked, after the word `to`.
 fn to(words: &mut Words<'_>) -> Result<Addr, Stop> {
     words.expect("to")?;
     words.addr()
@@ -47,7 +47,7 @@ fn data(alloc: Global, words: &mut Words<'_>) -> Result<Bytes, Stop> {
     Ok(Bytes::from_vec(words.bytes(alloc)?))
 }
 
-/// What the words say is asked.
+/// The request with these words.
 fn any_ask(alloc: Global, mut words: Words<'_>) -> Result<Ask, Stop> {
     Ok(Ask {
         to: to(&mut words)?,
@@ -62,8 +62,8 @@ fn any_ask(alloc: Global, mut words: Words<'_>) -> Result<Ask, Stop> {
     })
 }
 
-/// What may be asked: for 1 to 8 parts, with a release time from 0 to 7, and at least one tick and
-/// one try.
+/// The request with these words, which must be valid: 1 to 8 parts, a release time from 0 to 7, and
+/// at least one tick and one try.
 pub(crate) fn ask(alloc: Global, words: Words<'_>) -> Result<Ask, Stop>
     ensures { IfOk result (λ a. IsAsk a) }
 {
@@ -74,7 +74,7 @@ pub(crate) fn ask(alloc: Global, words: Words<'_>) -> Result<Ask, Stop>
     Ok(ask)
 }
 
-/// A part of an answer, as `08000001 6869`.
+/// A part of a response, as `08000001 6869`.
 fn part(alloc: Global, words: &mut Words<'_>) -> Result<AnswerPart, Stop> {
     Ok(AnswerPart {
         user: user(alloc, words)?,
@@ -82,7 +82,7 @@ fn part(alloc: Global, words: &mut Words<'_>) -> Result<AnswerPart, Stop> {
     })
 }
 
-/// Parts of an answer with semicolons between them, up to a word `/`.
+/// The parts of a response, separated by semicolons, up to a word `/`.
 pub(crate) fn parts(alloc: Global, words: &mut Words<'_>) -> Result<Vec<AnswerPart>, Stop> {
     let mut parts = Vec::new(alloc);
     for _ in 0..u64::MAX {
@@ -99,7 +99,7 @@ pub(crate) fn parts(alloc: Global, words: &mut Words<'_>) -> Result<Vec<AnswerPa
     Ok(parts)
 }
 
-/// Appends a part of an answer.
+/// Appends a part of a response.
 pub(crate) fn put_part(text: &mut String, part: &AnswerPart) -> Result<(), AllocError> {
     put_hex(text, &part.user)?;
     put_data(text, part.payload.as_slice())
@@ -122,7 +122,7 @@ pub(crate) fn put_packet(text: &mut String, bytes: &[u8]) -> Result<(), AllocErr
     }
 }
 
-/// Appends packets, or none.
+/// Appends packets, or that there are none.
 pub(crate) fn put_packets(text: &mut String, packets: &[Bytes]) -> Answer {
     if packets.is_empty() {
         writeln!(text, "none")?;

@@ -1,4 +1,4 @@
-//! What the commands of a case are done with.
+//! The bench of a case, with which its commands are carried out.
 
 use crate::choosers::Choosing;
 use crate::mappers::Mapping;
@@ -9,7 +9,7 @@ use crate::tables::Tables;
 use case_words::{Answer, Bench, Stop, Words};
 use std::alloc::Global;
 
-/// What a case is about. Its first command says what.
+/// The subject of a case, which its first command sets.
 #[derive(Drop)]
 enum Subject {
     Nothing,
@@ -21,14 +21,14 @@ enum Subject {
     Responder(Responding),
 }
 
-/// The subject of a case.
+/// The bench of a case: its subject, once there is one.
 #[derive(Drop)]
 pub(crate) struct Cases {
     alloc: Global,
     subject: Subject,
 }
 
-/// What the first command of a case makes.
+/// The subject that the first command of a case makes.
 fn subject_of(alloc: Global, mut words: Words<'_>) -> Result<Subject, Stop> {
     Ok(match words.word() {
         "tables" => Subject::Tables(Tables::new(alloc)?),

@@ -22,7 +22,7 @@ fn trying(alloc: Global, range: Range, tries: &[Addr], hw: Hw) -> Result<Chooser
     Ok(Chooser::new(alloc, range, tries, hw)?)
 }
 
-/// A choice that is made.
+/// A choice that is settled.
 fn decided(alloc: Global, range: Range, addr: Addr, hw: Hw) -> Result<Chooser, Stop> {
     if !are_on(range, &[addr]) {
         return Err(Stop::Unclear);
@@ -30,8 +30,8 @@ fn decided(alloc: Global, range: Range, addr: Addr, hw: Hw) -> Result<Chooser, S
     Ok(Chooser::decided(alloc, range, addr, hw))
 }
 
-/// The choice on a cable, of a hardware address: after `has` its address, or after `tries` those
-/// that it tries.
+/// The choice of a station with a hardware address on a cable: after the word `has` its settled
+/// address, or after `tries` the addresses that it tries first.
 fn chooser(alloc: Global, mut words: Words<'_>) -> Result<Chooser, Stop> {
     let range = words.range()?;
     let hw = words.hw()?;
@@ -51,7 +51,7 @@ fn put_bytes(text: &mut String, packet: Option<Packet>) -> Result<(), AllocError
     }
 }
 
-/// How many ticks pass until the choice is made, at most 30.
+/// The number of ticks until the choice is settled, at most 30.
 fn ticks_to_settle(chooser: &mut Chooser) -> u32 {
     for ticks in 0..30 {
         if chooser.settled().is_some() {
@@ -90,7 +90,7 @@ impl Choosing {
         })
     }
 
-    /// Does what the words say.
+    /// Carries out a command.
     pub(crate) fn act(&mut self, mut words: Words<'_>, text: &mut String) -> Answer {
         match words.word() {
             "tick" => put_packet(text, self.chooser.tick())?,

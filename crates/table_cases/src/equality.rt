@@ -1,4 +1,4 @@
-//! Which values of a list are equal.
+//! The equal values of a list.
 
 use crate::rows::state;
 use case_words::{Answer, Stop, Words};
@@ -21,7 +21,7 @@ fn tuple(words: &mut Words<'_>) -> Result<Tuple, Stop> {
     })
 }
 
-/// Appends each index, with those of the equal values.
+/// Appends each index, with the indexes of the equal values.
 fn put_equal<T: PartialEq>(text: &mut String, values: &[T]) -> Result<(), AllocError> {
     for (index, value) in values.iter().enumerate() {
         write!(text, "{index}:")?;
@@ -35,8 +35,8 @@ fn put_equal<T: PartialEq>(text: &mut String, values: &[T]) -> Result<(), AllocE
     Ok(())
 }
 
-/// Appends which of the values are equal, by their indices: of these rows, or of a list of tuples,
-/// states or changes.
+/// Appends which values are equal, by their indexes: of these rows, or of a list of tuples, states
+/// or changes.
 pub(crate) fn compare(
     alloc: Global,
     rows: &[Row],

@@ -1,4 +1,4 @@
-//! What a router learns and forgets.
+//! A router's learning and aging of its tables.
 
 use case_words::{Answer, Stop, Words};
 use learning::{Query, forget, learn_routes, learn_zones, queries};
@@ -6,7 +6,7 @@ use rtmp::{DataPacket, PlainTable};
 use std::alloc::{AllocError, Global};
 use zip_zones::{Packet, ZoneTable};
 
-/// Learns from routing data that comes in on a port.
+/// Learns from routing data that was received on a port.
 fn hear_routes(alloc: Global, routes: &mut PlainTable, mut words: Words<'_>) -> Answer {
     let port = words.named("port")?;
     words.expect("on")?;
@@ -16,7 +16,7 @@ fn hear_routes(alloc: Global, routes: &mut PlainTable, mut words: Words<'_>) -> 
     Ok(())
 }
 
-/// Learns from a packet of ZIP.
+/// Learns from a ZIP packet.
 fn hear_zones(
     alloc: Global,
     routes: &PlainTable,
@@ -33,7 +33,7 @@ fn put_query(text: &mut String, query: &Query) -> Result<(), AllocError> {
     writeln!(text, "{start} from {next} by port {port}")
 }
 
-/// Appends what the router asks for, and whom.
+/// Appends the router's queries: for which networks, and to whom.
 fn put_queries(alloc: Global, routes: &PlainTable, zones: &ZoneTable, text: &mut String) -> Answer {
     let queries = queries(alloc, routes, zones)?;
     if queries.is_empty() {
@@ -45,7 +45,7 @@ fn put_queries(alloc: Global, routes: &PlainTable, zones: &ZoneTable, text: &mut
     Ok(())
 }
 
-/// Does what changes both tables, or reads both.
+/// Carries out a command that changes or reads both tables.
 pub(crate) fn act(
     alloc: Global,
     routes: &mut PlainTable,

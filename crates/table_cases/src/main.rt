@@ -1,4 +1,4 @@
-//! Cases of what stations remember: routes, zones, names, addresses, transactions.
+//! Cases of the state of stations: routes, zones, names, addresses and transactions.
 #![tactic(auto)]
 
 mod aarp_packets;

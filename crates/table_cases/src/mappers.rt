@@ -6,7 +6,7 @@ use at_base::{Addr, Bytes, Error, Hw};
 use case_words::{Answer, Stop, Words, put_hw, yes_or_no};
 use std::alloc::{AllocError, Global};
 
-/// What a port knows and holds.
+/// The mapper of a port.
 #[derive(Drop)]
 pub(crate) struct Mapping {
     alloc: Global,
@@ -21,7 +21,7 @@ fn put_mapping(text: &mut String, hw: Option<Hw>) -> Result<(), AllocError> {
     writeln!(text)
 }
 
-/// Appends a datagram that comes out, or none.
+/// Appends a datagram that is released, or that there is none.
 fn put_out(text: &mut String, held: &Option<Held>) -> Result<(), AllocError> {
     match held {
         Some(held) => {
@@ -33,7 +33,8 @@ fn put_out(text: &mut String, held: &Option<Held>) -> Result<(), AllocError> {
     }
 }
 
-/// Appends the addresses after a word. One that the list says it hasn't is left out.
+/// Appends the addresses of a list after a word. An address that `contains` doesn't find in the
+/// list is left out.
 fn put_addresses(text: &mut String, word: &str, addresses: &Addresses) -> Result<(), AllocError> {
     if addresses.is_empty() && addresses.len() == 0 {
         return Ok(());
@@ -48,7 +49,7 @@ fn put_addresses(text: &mut String, word: &str, addresses: &Addresses) -> Result
     writeln!(text)
 }
 
-/// Appends what a tick asks for and gives up.
+/// Appends the addresses for which a tick sends requests, and those that it gives up.
 fn put_asks(text: &mut String, asks: &Asks) -> Result<(), AllocError> {
     if asks.ask.is_empty() && asks.given_up.is_empty() {
         return writeln!(text, "none");
@@ -63,8 +64,8 @@ fn learn(mapper: &mut Mapper, mut words: Words<'_>) -> Answer {
     Ok(())
 }
 
-/// Learns one hardware address for a node of each network, as `1-256 node 1 020000000006`. What is
-/// learnt twice is learnt as well as once.
+/// Learns one hardware address for a node of each network, as `1-256 node 1 020000000006`. Learning
+/// a mapping twice has the same effect as once.
 fn learn_each(mapper: &mut Mapper, mut words: Words<'_>) -> Answer {
     let (first, last) = words.bounds()?;
     let node = words.named("node")?;
@@ -75,7 +76,7 @@ fn learn_each(mapper: &mut Mapper, mut words: Words<'_>) -> Answer {
     Ok(())
 }
 
-/// The datagram that is held next.
+/// The datagram that the next command holds.
 fn held(alloc: Global, mut words: Words<'_>) -> Result<Held, Stop> {
     Ok(Held {
         next: words.addr()?,
@@ -90,7 +91,7 @@ fn put_holds(text: &mut String, mapper: &Mapper, addr: Addr) -> Result<(), Alloc
 }
 
 impl Mapping {
-    /// A port that knows and holds nothing.
+    /// A mapper without mappings and datagrams.
     pub(crate) fn new(alloc: Global) -> Result<Mapping, Error> {
         Ok(Mapping {
             alloc,
@@ -98,7 +99,7 @@ impl Mapping {
         })
     }
 
-    /// Does what the words say.
+    /// Carries out a command.
     pub(crate) fn act(&mut self, mut words: Words<'_>, text: &mut String) -> Answer {
         match words.word() {
             "learn" => learn(&mut self.mapper, words)?,

@@ -18,7 +18,7 @@ pub(crate) struct Naming {
     other: Names,
 }
 
-/// Passes over a mark that follows a text.
+/// Skips a mark after a text.
 fn pass(words: &mut Words<'_>, mark: &str) -> Result<(), Stop> {
     match words.rest().strip_prefix(mark) {
         Some(rest) => {
@@ -69,7 +69,7 @@ fn may_be_all(names: &[Named]) -> bool
     }
 }
 
-/// Whether the enumerators rise from above a number.
+/// Whether the enumerators rise, the first being above a number.
 fn are_above(low: u8, names: &[Named]) -> bool
     ensures { result ≡ spec.are_above low names.now }
 {
@@ -79,7 +79,7 @@ fn are_above(low: u8, names: &[Named]) -> bool
     }
 }
 
-/// Loads names that a node may have, at most 32 with rising enumerators.
+/// Loads names that a node may have: at most 32, with rising enumerators.
 fn load(alloc: Global, names: &[Named]) -> Result<Names, Stop> {
     if !(names.len() <= MAX_NAMES && are_above(0, names) && may_be_all(names)) {
         return Err(Stop::Unclear);
@@ -132,7 +132,7 @@ fn put_tuple(text: &mut String, tuple: &Tuple) -> Result<(), AllocError> {
     writeln!(text, " at {at} socket {socket} enumerator {enumerator}")
 }
 
-/// Appends the names that answer a lookup.
+/// Appends the names that match a lookup.
 fn put_answer(alloc: Global, names: &Names, mut words: Words<'_>, text: &mut String) -> Answer {
     let (object, kind) = object_and_kind(alloc, &mut words)?;
     let tuples = names.answer(object.as_slice(), kind.as_slice())?;
@@ -171,7 +171,7 @@ impl Naming {
         Ok(())
     }
 
-    /// Does what the words say.
+    /// Carries out a command.
     pub(crate) fn act(&mut self, mut words: Words<'_>, text: &mut String) -> Answer {
         match words.word() {
             "register" => register(self.alloc, &mut self.names, words, text)?,

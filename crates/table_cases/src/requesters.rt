@@ -1,4 +1,4 @@
-//! Transactions that a requester has open.
+//! The open transactions of a requester.
 
 ghost use Rattle.atp.specs.Requesting.{IsAsk};
 
@@ -23,14 +23,14 @@ fn begin(alloc: Global, requester: &mut Requester, words: Words<'_>, text: &mut 
     Ok(())
 }
 
-/// Appends the request of a number.
+/// Appends the request of the transaction with this ID.
 fn request(requester: &mut Requester, id: u16, text: &mut String) -> Answer {
     let bytes = requester.request(id)?;
     put_packet(text, bytes.as_slice())?;
     Ok(())
 }
 
-/// Hears a packet, and appends the release that follows.
+/// Handles a packet, and appends the release that follows, if any.
 fn hear(
     alloc: Global,
     requester: &mut Requester,
@@ -57,7 +57,7 @@ fn put_response(text: &mut String, response: &Response) -> Result<(), AllocError
     Ok(())
 }
 
-/// Appends what became of a transaction.
+/// Appends the outcome of a transaction.
 fn put_result(text: &mut String, requester: &mut Requester, id: u16) -> Answer {
     match requester.result(id)? {
         Outcome::Waiting => writeln!(text, "waiting")?,
@@ -67,8 +67,8 @@ fn put_result(text: &mut String, requester: &mut Requester, id: u16) -> Answer {
     Ok(())
 }
 
-/// Begins a transaction, lets its first part come as the last one, without data, and closes it. Its
-/// ID. No memory is taken where the request has no data.
+/// Begins a transaction, handles a response of one part without data, and closes the transaction.
+/// Returns its ID. Nothing is allocated if the request has no data.
 fn pass_one(alloc: Global, requester: &mut Requester, ask: &Ask) -> Result<u16, Stop>
     requires { IsAsk ask.now }
 {
@@ -86,8 +86,8 @@ fn pass_one(alloc: Global, requester: &mut Requester, ask: &Ask) -> Result<u16, 
     }
 }
 
-/// Passes a number of transactions, one after the other, and appends the first ID and the last, and
-/// where an ID doesn't follow on the one before.
+/// Carries out a number of transactions, one after the other, and appends the first ID and the
+/// last, and each ID that isn't the one before plus 1.
 fn pass(
     alloc: Global,
     requester: &mut Requester,
@@ -109,7 +109,7 @@ fn pass(
     Ok(())
 }
 
-/// Lets a number of ticks pass.
+/// Advances the requester by a number of ticks.
 fn tick(requester: &mut Requester, count: u32) {
     for _ in 0..count {
         requester.tick();
@@ -122,7 +122,7 @@ fn put_full(text: &mut String, requester: &Requester) -> Result<(), AllocError> 
 }
 
 impl Requesting {
-    /// A requester with its first number.
+    /// A requester with its first transaction ID.
     pub(crate) fn new(alloc: Global, mut words: Words<'_>) -> Result<Requesting, Stop> {
         let first = words.named("first")?;
         Ok(Requesting {
@@ -132,7 +132,7 @@ impl Requesting {
         })
     }
 
-    /// Does what the words say.
+    /// Carries out a command.
     pub(crate) fn act(&mut self, mut words: Words<'_>, text: &mut String) -> Answer {
         let (alloc, requester) = (self.alloc, &mut self.requester);
         match words.word() {

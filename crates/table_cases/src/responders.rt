@@ -1,4 +1,4 @@
-//! Requests that a responder heard, and the answers that it keeps.
+//! The requests that a responder received, and the answers that it keeps.
 
 ghost use Rattle.std.specs.Prelude.{◌<◌, length};
 
@@ -26,7 +26,7 @@ fn put_todo(text: &mut String, todo: Todo) -> Result<(), AllocError> {
     writeln!(text, "{word}")
 }
 
-/// Hears a packet from a socket.
+/// Handles a packet from a socket.
 fn hear(
     alloc: Global,
     responder: &mut Responder,
@@ -69,7 +69,7 @@ fn respond(
     )
 }
 
-/// The packets of those parts of a kept answer that a bitmap asks for.
+/// The packets of the parts of a kept answer that a bitmap requests.
 fn kept(responder: &Responder, mut words: Words<'_>) -> Result<Vec<Bytes>, Stop> {
     let from = peer(&mut words)?;
     let id = words.named("id")?;
@@ -90,8 +90,8 @@ fn replied(
     Ok(reply(responder, from, &Packet::read(bytes)?, user)?)
 }
 
-/// Answers a packet with the user's parts at hand, as `10.7 socket 128 08000001 00 / ` and the
-/// packet, and appends what is sent.
+/// Replies to a packet with the user's parts, as `10.7 socket 128 08000001 00 / ` and the packet,
+/// and appends the packets that are sent.
 fn answer(
     alloc: Global,
     responder: &mut Responder,
@@ -105,14 +105,14 @@ fn answer(
     put_packets(text, sent.as_slice())
 }
 
-/// Forgets a request.
+/// Removes a request.
 fn forget(responder: &mut Responder, mut words: Words<'_>) -> Answer {
     let from = peer(&mut words)?;
     responder.released(from, words.named("id")?);
     Ok(())
 }
 
-/// Lets a number of ticks pass.
+/// Advances the responder by a number of ticks.
 fn tick(responder: &mut Responder, count: u32) {
     for _ in 0..count {
         responder.tick();
@@ -129,7 +129,7 @@ impl Responding {
         })
     }
 
-    /// Does what the words say.
+    /// Carries out a command.
     pub(crate) fn act(&mut self, mut words: Words<'_>, text: &mut String) -> Answer {
         let (alloc, responder) = (self.alloc, &mut self.responder);
         match words.word() {

@@ -11,7 +11,7 @@ use case_words::{Answer, Stop, Words, put_hex};
 use rtmp::{Change, DataPacket, PlainTable, RouteTable, Row, hear_packet, write_data};
 use std::alloc::{AllocError, Global};
 
-/// A routing table, another that may be a copy of it, and the rows that are loaded next.
+/// A routing table, another that may be a copy of it, and the rows for the next load.
 #[derive(Drop)]
 pub(crate) struct Routes {
     pub(crate) table: PlainTable,
@@ -25,7 +25,7 @@ fn are_near(rows: &[Row]) -> bool
     rows.iter().all(|row| row.distance <= 31)
 }
 
-/// Loads the rows, whose distances have to be at most 31.
+/// Loads the rows, whose distances must be at most 31.
 fn load(table: &mut PlainTable, rows: &[Row]) -> Answer {
     if !are_near(rows) {
         return Err(Stop::Unclear);
@@ -47,7 +47,7 @@ fn from(words: &mut Words<'_>) -> Result<Addr, Stop> {
     words.addr()
 }
 
-/// Hears that a range is at a distance.
+/// Handles a report that a range is at a distance.
 fn hear(table: &mut PlainTable, mut words: Words<'_>, text: &mut String) -> Answer {
     let range = words.range()?;
     let distance = words.named("distance")?;
@@ -58,7 +58,7 @@ fn hear(table: &mut PlainTable, mut words: Words<'_>, text: &mut String) -> Answ
     Ok(())
 }
 
-/// Hears a packet of routing data.
+/// Handles a packet of routing data.
 fn hear_bytes(alloc: Global, table: &mut PlainTable, mut words: Words<'_>) -> Answer {
     let port = words.named("port")?;
     let bytes = words.bytes(alloc)?;
@@ -66,7 +66,7 @@ fn hear_bytes(alloc: Global, table: &mut PlainTable, mut words: Words<'_>) -> An
     Ok(())
 }
 
-/// The packet of a number that a router sends on a port.
+/// The packet of routing data with a number, as a router sends it on a port.
 fn sent(alloc: Global, table: &PlainTable, mut words: Words<'_>) -> Result<Option<Bytes>, Stop> {
     let number = words.number()?;
     let port = words.named("port")?;
@@ -117,7 +117,7 @@ impl Routes {
         Ok(())
     }
 
-    /// Does what changes a table.
+    /// Carries out a command that changes a table.
     fn change(&mut self, alloc: Global, mut words: Words<'_>, text: &mut String) -> Answer {
         match words.word() {
             "row" => self.given.push(row(&mut words)?)?,
@@ -141,7 +141,7 @@ impl Routes {
         Ok(())
     }
 
-    /// Does what reads a table, or what changes it.
+    /// Carries out a command that reads or changes a table.
     pub(crate) fn act(&mut self, alloc: Global, words: Words<'_>, text: &mut String) -> Answer {
         let mut after = words;
         match after.word() {

@@ -1,4 +1,4 @@
-//! Rows of routing tables in words, as `30-39 distance 1 port 1 next 20.2 good`.
+//! Rows of routing tables as text, such as `30-39 distance 1 port 1 next 20.2 good`.
 
 use at_base::{Addr, Range};
 use case_words::{Stop, Words};
@@ -42,7 +42,7 @@ pub(crate) fn row(words: &mut Words<'_>) -> Result<Row, Stop> {
     })
 }
 
-/// The row, with a range that begins some networks above its own.
+/// The row with its range moved up by a number of networks.
 fn above(row: &Row, by: u16) -> Result<Row, Stop> {
     let start = row.range.start().saturating_add(by);
     let end = row.range.end().saturating_add(by);
@@ -56,7 +56,7 @@ fn above(row: &Row, by: u16) -> Result<Row, Stop> {
 }
 
 /// Appends rows with rising ranges, as `200 by 100 from` and the first row: 200 rows, each 100
-/// networks above the one before.
+/// networks above the one before it.
 pub(crate) fn put_many(rows: &mut Vec<Row>, mut words: Words<'_>) -> Result<(), Stop> {
     let count: u16 = words.number()?;
     let step: u16 = words.named("by")?;
@@ -79,7 +79,7 @@ fn put_row(text: &mut String, row: &Row) -> Result<(), AllocError> {
     )
 }
 
-/// Appends the line of a row, or of none.
+/// Appends the line of a row, or of a missing one.
 pub(crate) fn put_found(text: &mut String, found: Option<Row>) -> Result<(), AllocError> {
     match found {
         Some(row) => put_row(text, &row),
@@ -87,7 +87,7 @@ pub(crate) fn put_found(text: &mut String, found: Option<Row>) -> Result<(), All
     }
 }
 
-/// Appends the lines of a table's rows; those of an empty one are `none`.
+/// Appends the lines of a table's rows, or `none` for an empty table.
 pub(crate) fn put_rows<T: RouteTable>(text: &mut String, table: &T) -> Result<(), AllocError> {
     if table.len() == 0 {
         return put_found(text, table.row(0));
@@ -98,7 +98,7 @@ pub(crate) fn put_rows<T: RouteTable>(text: &mut String, table: &T) -> Result<()
     Ok(())
 }
 
-/// Whether a table has the row, which is often at this index or beside it.
+/// Whether a table has the row, which is often at this index or next to it.
 fn has<T: RouteTable>(table: &T, index: usize, row: &Option<Row>) -> bool {
     for near in index.saturating_sub(1)..index.saturating_add(2) {
         if table.row(near) == *row {
@@ -113,7 +113,7 @@ fn has<T: RouteTable>(table: &T, index: usize, row: &Option<Row>) -> bool {
     false
 }
 
-/// Appends the rows of a table that another hasn't, after a word.
+/// Appends, after a word, the rows of a table that another table doesn't have.
 fn put_missing<T: RouteTable>(
     text: &mut String,
     word: &str,
@@ -130,7 +130,7 @@ fn put_missing<T: RouteTable>(
     Ok(())
 }
 
-/// Appends the rows that a table has and another hasn't, and then those that only the other has.
+/// Appends the rows that only the first of two tables has, and then those that only the second has.
 pub(crate) fn put_changes<T: RouteTable>(
     text: &mut String,
     table: &T,

@@ -1,13 +1,13 @@
-//! How answers spell packets and numbers.
+//! The form of packets and numbers in answers.
 
 use case_words::put_hex;
 use std::alloc::AllocError;
 use std::fmt::Display;
 
-/// The most bytes of a line.
+/// The greatest number of bytes in a line.
 const LINE: usize = 42;
 
-/// Appends a space and the bytes, where there are some.
+/// Appends a space and the bytes, if there are any.
 fn put_group(text: &mut String, bytes: &[u8]) -> Result<(), AllocError> {
     if bytes.is_empty() {
         return Ok(());
@@ -16,7 +16,7 @@ fn put_group(text: &mut String, bytes: &[u8]) -> Result<(), AllocError> {
     put_hex(text, bytes)
 }
 
-/// Appends the bytes in groups of a size, and begins a new line with `..` where one is full.
+/// Appends the bytes in groups of a size, and begins a new line with `..` after a full one.
 pub(crate) fn put_groups(text: &mut String, bytes: &[u8], size: usize) -> Result<(), AllocError> {
     for (index, line) in bytes.chunks(LINE).enumerate() {
         if index > 0 {
@@ -29,12 +29,12 @@ pub(crate) fn put_groups(text: &mut String, bytes: &[u8], size: usize) -> Result
     writeln!(text)
 }
 
-/// Whether all of the bytes are this one.
+/// Whether each of the bytes is this one.
 fn are_all(bytes: &[u8], byte: u8) -> bool {
     bytes.iter().all(|other| *other == byte)
 }
 
-/// Appends data as they may be given: 16 bytes or more that are equal as `07*578`.
+/// Appends data in the form of commands: 16 or more equal bytes as `07*578`.
 pub(crate) fn put_data(text: &mut String, bytes: &[u8]) -> Result<(), AllocError> {
     match bytes {
         [first, ..] if bytes.len() >= 16 && are_all(bytes, *first) => {
@@ -45,7 +45,7 @@ pub(crate) fn put_data(text: &mut String, bytes: &[u8]) -> Result<(), AllocError
     }
 }
 
-/// Appends the line of a value, or of none.
+/// Appends the line of a value, or of a missing one.
 pub(crate) fn put_or_none<T: Display + Drop>(
     text: &mut String,
     value: Option<T>,

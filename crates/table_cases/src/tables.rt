@@ -16,7 +16,7 @@ pub(crate) struct Tables {
 }
 
 impl Tables {
-    /// Tables that are empty.
+    /// Empty tables.
     pub(crate) fn new(alloc: Global) -> Result<Tables, Error> {
         Ok(Tables {
             alloc,
@@ -25,7 +25,7 @@ impl Tables {
         })
     }
 
-    /// Does what the words say of zones.
+    /// Carries out a command about zones.
     fn act_on_zones(&mut self, words: Words<'_>, text: &mut String) -> Answer {
         let alloc = self.alloc;
         if self.zones.read(alloc, &self.routes.table, words, text)? {
@@ -37,7 +37,7 @@ impl Tables {
         self.zones.change(alloc, words)
     }
 
-    /// Does what the words say.
+    /// Carries out a command.
     pub(crate) fn act(&mut self, mut words: Words<'_>, text: &mut String) -> Answer {
         let alloc = self.alloc;
         match words.word() {

@@ -1,4 +1,4 @@
-//! What a router answers about zones.
+//! A router's replies about zones.
 
 ghost use Rattle.std.specs.Prelude.{◌<◌, length};
 
@@ -13,7 +13,7 @@ use zip_zones::{
     zone_list_page,
 };
 
-/// Appends the bytes, of which the first two stand apart.
+/// Appends the bytes, the first two as a separate group.
 fn put_packet(text: &mut String, bytes: &[u8]) -> Result<(), AllocError> {
     match bytes {
         [first, second, rest @ ..] => {
@@ -40,14 +40,14 @@ fn query(alloc: Global, table: &ZoneTable, mut words: Words<'_>, text: &mut Stri
     Ok(())
 }
 
-/// Appends how much memory the bytes have.
+/// Appends the capacity of the bytes.
 fn put_room(text: &mut String, bytes: Bytes) -> Result<(), AllocError> {
     let len = bytes.len();
     let room = bytes.into_vec().capacity();
     writeln!(text, "{len} bytes, room for {room}")
 }
 
-/// Appends the answer to a node on a cable with at least one zone.
+/// Appends the GetNetInfo reply for a cable with at least one zone.
 fn answered(
     alloc: Global,
     asked: &Text32,
@@ -64,7 +64,7 @@ fn answered(
     Ok(())
 }
 
-/// Appends the answer to a node on a cable, or none.
+/// Appends the GetNetInfo reply for a cable, or that there is none.
 fn replied(
     alloc: Global,
     asked: &Text32,
@@ -79,7 +79,7 @@ fn replied(
     Ok(())
 }
 
-/// Appends the answer to a node that asks for a zone, on a cable with these zones.
+/// Appends the reply to a GetNetInfo request for a zone, on a cable with these zones.
 fn info(alloc: Global, mut words: Words<'_>, text: &mut String) -> Answer {
     let is_exact = words.passes("exactly");
     let asked = words.text32(alloc)?;
@@ -112,7 +112,7 @@ fn page(alloc: Global, mut words: Words<'_>, text: &mut String) -> Answer {
     Ok(())
 }
 
-/// What the user bytes of a request ask for.
+/// The meaning of the user bytes of a request for zones.
 fn asked(user: &[u8]) -> Result<Option<(ZoneFunction, u16)>, Stop> {
     match user {
         [a, b, c, d] => Ok(ZoneFunction::asked(&[*a, *b, *c, *d])),
@@ -120,7 +120,7 @@ fn asked(user: &[u8]) -> Result<Option<(ZoneFunction, u16)>, Stop> {
     }
 }
 
-/// Appends the page that answers a request for zones, by a node whose cable has these.
+/// Appends the page that answers a request for zones by a node on a cable with these zones.
 fn answer(alloc: Global, table: &ZoneTable, mut words: Words<'_>, text: &mut String) -> Answer {
     let user = words.hex(alloc)?;
     words.expect("of")?;
@@ -146,7 +146,7 @@ fn put_ask(text: &mut String, ask: Ask) -> Result<(), AllocError> {
     }
 }
 
-/// Appends what a router with ports on these ranges asks for a zone.
+/// Appends the lookups and forward requests for a zone of a router with ports on these ranges.
 fn expanded(alloc: Global, table: &ZoneTable, mut words: Words<'_>, text: &mut String) -> Answer {
     let zone = words.text(alloc)?;
     words.expect("ports")?;
@@ -161,7 +161,7 @@ fn expanded(alloc: Global, table: &ZoneTable, mut words: Words<'_>, text: &mut S
     Ok(())
 }
 
-/// Appends what a router with this table answers.
+/// Appends the replies of a router with this table.
 pub(crate) fn act(
     alloc: Global,
     table: &ZoneTable,

@@ -1,10 +1,10 @@
-//! Names of zones and ranges in words.
+//! Zone names and ranges as text.
 
 use at_base::{Name, Range};
 use case_words::{Stop, Words, put_text};
 use std::alloc::{AllocError, Global};
 
-/// How often an item is meant: once, or as `times 65` before it says.
+/// The number of repetitions of an item: 1, or as `times 65` before the item says.
 pub(crate) fn times(words: &mut Words<'_>) -> Result<u32, Stop> {
     if words.passes("times") {
         return words.number();
@@ -12,7 +12,7 @@ pub(crate) fn times(words: &mut Words<'_>) -> Result<u32, Stop> {
     Ok(1)
 }
 
-/// Names with semicolons between them, as `Red ; times 16 "Light Blue"`.
+/// Names separated by semicolons, as `Red ; times 16 "Light Blue"`.
 pub(crate) fn names(alloc: Global, words: &mut Words<'_>) -> Result<Vec<Name>, Stop> {
     let mut names = Vec::new(alloc);
     for _ in 0..u64::MAX {
@@ -29,7 +29,7 @@ pub(crate) fn names(alloc: Global, words: &mut Words<'_>) -> Result<Vec<Name>, S
     Ok(names)
 }
 
-/// Ranges with semicolons between them, as `10-19 ; 20-29`.
+/// Ranges separated by semicolons, as `10-19 ; 20-29`.
 pub(crate) fn ranges(alloc: Global, mut words: Words<'_>) -> Result<Vec<Range>, Stop> {
     words.list(alloc, Words::range)
 }
@@ -55,7 +55,7 @@ pub(crate) fn put_each(text: &mut String, names: &[Name]) -> Result<(), AllocErr
     Ok(())
 }
 
-/// Appends the ranges in a line.
+/// Appends the ranges on one line.
 pub(crate) fn put_ranges(text: &mut String, ranges: &[Range]) -> Result<(), AllocError> {
     if ranges.is_empty() {
         write!(text, "none")?;

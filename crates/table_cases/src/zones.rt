@@ -22,7 +22,7 @@ fn set(alloc: Global, table: &mut ZoneTable, mut words: Words<'_>) -> Answer {
     Ok(())
 }
 
-/// Adds a name to the list of a range, as one of a total.
+/// Adds a name to the list of a range, with the number of all its zones.
 fn add(alloc: Global, table: &mut ZoneTable, mut words: Words<'_>) -> Answer {
     let range = words.range()?;
     let total = words.named("of")?;
@@ -31,7 +31,7 @@ fn add(alloc: Global, table: &mut ZoneTable, mut words: Words<'_>) -> Answer {
     Ok(())
 }
 
-/// Puts a list after all others, with a least number of zones.
+/// Appends a list after all others, with a least number of zones.
 fn append(alloc: Global, table: &mut ZoneTable, mut words: Words<'_>) -> Answer {
     let range = words.range()?;
     let least = words.named("least")?;
@@ -104,7 +104,7 @@ fn put_count(text: &mut String, table: &ZoneTable) -> Answer {
     Ok(())
 }
 
-/// Appends the networks about which a router with these routes asks.
+/// Appends the networks for whose zones a router with these routes asks.
 fn put_due(text: &mut String, table: &ZoneTable, routes: &PlainTable) -> Answer {
     let due = table.queries_due(routes)?;
     if due.is_empty() {
@@ -126,7 +126,7 @@ impl Zones {
         })
     }
 
-    /// Does what changes a table.
+    /// Carries out a command that changes a table.
     pub(crate) fn change(&mut self, alloc: Global, mut words: Words<'_>) -> Answer {
         match words.word() {
             "set" => set(alloc, &mut self.table, words)?,
@@ -140,7 +140,7 @@ impl Zones {
         Ok(())
     }
 
-    /// Does what reads a table, where it is one of these; false otherwise.
+    /// Carries out a command if it reads a table. Returns whether it does.
     pub(crate) fn read(
         &self,
         alloc: Global,

@@ -1,10 +1,10 @@
-//! Readers and writers that fail, stop, are slow or hold bytes back.
+//! Readers and writers that fail, stop, are slow or buffer bytes.
 
 use std::io;
 use std::io::{ErrorKind, Read, Write};
 
-/// Gives its bytes in pieces; one of its reads may fail, by this kind, and one may be
-/// interrupted.
+/// A reader that returns its bytes in pieces. One of its reads may fail, with this kind of error,
+/// and one may be interrupted.
 #[derive(Clone, Copy)]
 pub struct Pieces<'a> {
     pub left: &'a [u8],
@@ -45,7 +45,8 @@ impl Read for Pieces<'_> {
     }
 }
 
-/// Gives so many bytes, each the last byte of its place, as many at a time as there is room for.
+/// A reader that returns as many bytes as fit: the bytes from index `next` up to `end`, each of
+/// which is the last byte of its index.
 #[derive(Clone, Copy)]
 pub struct Places {
     pub next: u32,
@@ -65,7 +66,7 @@ impl Read for Places {
     }
 }
 
-/// Is interrupted at each read.
+/// A reader that is interrupted at each read.
 #[derive(Drop)]
 pub struct Restless;
 
@@ -75,7 +76,7 @@ impl Read for Restless {
     }
 }
 
-/// Takes all that it is given, but one of its calls fails.
+/// A writer that accepts all bytes, but one of its calls fails.
 #[derive(Clone, Copy)]
 pub struct Frail {
     pub calls: u32,
@@ -103,7 +104,7 @@ impl Write for Frail {
     }
 }
 
-/// Holds what it is given back until it is flushed, as a buffered device does.
+/// A writer that buffers its bytes until it is flushed.
 #[derive(Drop)]
 pub struct Holding {
     held: [u8; 64],
@@ -120,7 +121,7 @@ impl Holding {
         }
     }
 
-    /// The bytes that came through.
+    /// The bytes that were flushed.
     pub fn flushed(&self) -> &[u8] {
         match self.held.as_slice().get(..self.flushed) {
             Some(bytes) => bytes,

@@ -1,4 +1,4 @@
-//! Plays: when lines and images come through, and what comes of reads and writes that fail.
+//! Plays: the flushing of lines and images, and reads and writes that fail.
 
 use super::fakes::{Frail, Holding, Pieces};
 use super::holds;
@@ -21,7 +21,7 @@ try = ['10.7']
 zone = 'Red'
 ";
 
-/// The same, where the node has no time to settle its address.
+/// An internet of one cable and one node, which has no time to settle its address.
 pub(crate) const EARLY: &[u8] = b"ticks = 1
 [[cable]]
 range = [10, 19]
@@ -37,10 +37,10 @@ const YES: &[u8] = b"yes: 1 cables, 0 routers, 1 nodes, 0 rows, greatest distanc
 
 const NO: &[u8] = b"no: C2 node 1\n";
 
-/// The length of both images: 7 bytes of head and counts, 10 of the cable and 16 of the node.
+/// The length of both images: 7 bytes of header and counts, 10 of the cable and 16 of the node.
 const IMAGE_LEN: usize = 33;
 
-/// Plays what the reader has, by these writers.
+/// Plays the reader's text, with these writers.
 fn play_once<W: Write + Drop, I: Write + Drop>(
     alloc: Global,
     text: Pieces<'_>,
@@ -53,7 +53,7 @@ fn play_once<W: Write + Drop, I: Write + Drop>(
     play_bytes(alloc, &mut input, &mut output, &mut image, &mut Silent)
 }
 
-/// As `play_once`, into rooms, and again where memory was refused.
+/// As `play_once`, into buffers, with another call if an allocation failed.
 fn play(
     alloc: Global,
     text: Pieces<'_>,
@@ -87,7 +87,7 @@ fn lines_and_images_are_flushed_after_their_ends(rt: HostRuntime) {
 
 #[test]
 fn every_read_may_fail(rt: HostRuntime) {
-    // Four pieces and the end, and then nothing fails.
+    // Five reads may fail: four pieces and the end.
     for fails_at in 1..7 {
         let mut lines = [0u8; 80];
         let mut image = [0u8; IMAGE_LEN];
@@ -105,8 +105,8 @@ fn every_read_may_fail(rt: HostRuntime) {
     }
 }
 
-/// Plays the small internet by writers of which each fails at a call, and again where memory was
-/// refused.
+/// Plays the small internet with writers each of which fails at a call, with another call if an
+/// allocation failed.
 fn play_frail(alloc: Global, lines_fail_at: u32, image_fails_at: u32) -> Result<bool, Error> {
     let lines = Frail {
         calls: 0,
@@ -124,7 +124,7 @@ fn play_frail(alloc: Global, lines_fail_at: u32, image_fails_at: u32) -> Result<
 
 #[test]
 fn every_write_may_fail(rt: HostRuntime) {
-    // A flush, the bytes and a flush, and then nothing fails.
+    // Three calls may fail: a flush, the bytes and a flush.
     for fails_at in 1..4 {
         assert_eq!(rt; play_frail(rt.alloc(), fails_at, 9), Err(Error::WriteFault));
         assert_eq!(rt; play_frail(rt.alloc(), 9, fails_at), Err(Error::WriteFault));

@@ -1,4 +1,4 @@
-//! Who is told of each tick of a play.
+//! The reports of each tick of a play.
 
 use super::plays::{EARLY, SMALL};
 use playing::{Progress, play_text};
@@ -16,13 +16,13 @@ struct Counting {
 impl Progress for Counting {
     fn passed(&mut self, world: &World<PlainTable>) {
         self.ticks = self.ticks.saturating_add(1);
-        // The node asks for an address in the first tick.
+        // The node sends a probe in the first tick.
         let has_lived = !world.transcript().is_empty();
         self.agrees = self.agrees && self.ticks <= world.plan().ticks() && has_lived;
     }
 }
 
-/// How many ticks the play of a text passes, if memory isn't refused.
+/// The number of ticks in the play of a text, unless an allocation fails.
 fn ticks_of(alloc: Global, text: &[u8]) -> Option<u32> {
     let mut counting = Counting {
         ticks: 0,

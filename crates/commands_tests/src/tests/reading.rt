@@ -1,4 +1,4 @@
-//! Inputs that are read once, again where memory was refused, or near the limit of reads.
+//! Inputs that are read once, again after a failed allocation, or near the limit of reads.
 
 ghost use Rattle.std.specs.Prelude.{◌≤◌};
 ghost use Rattle.commands.specs.declared.input.TheConstants.{READS};
@@ -8,7 +8,7 @@ use commands::{Input, READS};
 use std::alloc::Global;
 use std::io::{ErrorKind, Read};
 
-/// What was read, in how many reads, and whether and why a read failed.
+/// The bytes that were read or the error, the number of reads, and whether and why a read failed.
 #[derive(Drop)]
 pub struct Reading {
     pub answer: Result<Vec<u8>, Error>,
@@ -28,7 +28,7 @@ fn read_once<R: Read + Drop>(alloc: Global, reader: R) -> Reading {
     }
 }
 
-/// Reads all, and again where memory was refused.
+/// Reads all bytes, with another attempt if an allocation failed.
 pub fn read_all<R: Read + Copy>(alloc: Global, reader: R) -> Reading {
     let reading = read_once(alloc, reader);
     match reading.answer {
@@ -37,7 +37,7 @@ pub fn read_all<R: Read + Copy>(alloc: Global, reader: R) -> Reading {
     }
 }
 
-/// An input with so many reads left.
+/// An input with `left` reads left.
 pub fn nearly_given_up<R>(reader: R, left: u32) -> Input<R>
     requires { left ≤ READS }
 {

@@ -1,4 +1,4 @@
-//! Traces: what comes of reads and writes that fail.
+//! Traces: reads and writes that fail.
 
 use super::fakes::{Frail, Pieces};
 use super::{EMPTY, holds};
@@ -8,7 +8,7 @@ use text::Output;
 use std::alloc::Global;
 use std::io::Write;
 
-/// Plays the script over the image, and writes by the writer.
+/// Runs the script over the image, and writes the trace to the writer.
 fn trace_once<W: Write + Drop>(
     alloc: Global,
     image: Pieces<'_>,
@@ -21,7 +21,7 @@ fn trace_once<W: Write + Drop>(
     run_frozen(alloc, &mut image, &mut script, &mut output)
 }
 
-/// As `trace_once`, into the room, and again where memory was refused.
+/// As `trace_once`, into `room`, with another call if an allocation failed.
 fn trace(
     alloc: Global,
     image: Pieces<'_>,
@@ -44,7 +44,7 @@ fn script(text: &[u8]) -> Pieces<'_> {
 
 #[test]
 fn reads_and_writes_of_a_trace_may_fail(rt: HostRuntime) {
-    // Two pieces of the script and its end, and then nothing fails.
+    // Three reads may fail: two pieces of the script and its end.
     for fails_at in 1..5 {
         let mut room = [0u8; 40];
         let mut failing = script(b"drain 5\n");
@@ -59,7 +59,7 @@ fn reads_and_writes_of_a_trace_may_fail(rt: HostRuntime) {
             assert!(rt; holds(room.as_slice(), b"pending 0\n"));
         }
     }
-    // The text and the flush, and then nothing fails.
+    // Two calls may fail: the text and the flush.
     for fails_at in 1..4 {
         let frail = Frail { calls: 0, fails_at };
         let image = Pieces::new(EMPTY, 3);

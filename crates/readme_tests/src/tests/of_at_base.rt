@@ -14,7 +14,7 @@ fn judged(alloc: Global, start: u16, end: u16, addr: Addr) -> Result<String, Err
     }
 }
 
-/// The same about 10.7, again where memory was refused.
+/// The sentence about 10.7, with another call if an allocation failed.
 fn judged_again(alloc: Global, start: u16, end: u16) -> Result<String, Error> {
     let addr = Addr { net: 10, node: 7 };
     match judged(alloc, start, end, addr) {

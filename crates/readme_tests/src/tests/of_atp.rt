@@ -27,10 +27,10 @@ fn answer(alloc: Global, responder: &mut Responder, bytes: &[u8]) -> Result<Vec<
     }
 }
 
-/// A request to be carried out once, for part 0, with the number 1.
+/// An exactly-once request for part 0, with transaction ID 1.
 const ONCE: [u8; 8] = [0x60, 1, 0, 1, 0, 0, 0, 0];
 
-/// Part 0, which is the last one, with "hello".
+/// The response with part 0, which is the last one, and "hello".
 const HELLO: [u8; 13] = [0x90, 0, 0, 1, 0, 0, 0, 0, b'h', b'e', b'l', b'l', b'o'];
 
 fn is_hello(packets: &[Bytes]) -> bool {
@@ -40,7 +40,7 @@ fn is_hello(packets: &[Bytes]) -> bool {
     }
 }
 
-/// Whether a new responder says hello to a request and to its repeat.
+/// Whether a new responder answers a request and its repeat with "hello".
 fn says_hello_twice(alloc: Global) -> Result<bool, Error> {
     let mut responder = Responder::new(alloc)?;
     atp::requests_are_few(&responder);

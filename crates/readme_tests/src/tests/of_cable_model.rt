@@ -30,7 +30,7 @@ const SEATS: [cable_model::Seat; 2] = [
     },
 ];
 
-/// How many are still to hear what the node put for all.
+/// The number of stations for which the node's frame to all is still pending.
 fn left(alloc: Global) -> Result<usize, Error> {
     let mut cables = Cables::new(alloc, &SEATS, 2)?;
     let bytes = Bytes::copy(alloc, b"ping")?;

@@ -11,7 +11,7 @@ fn answered(alloc: Global, bytes: &[u8]) -> Result<Option<Bytes>, Error> {
     reply(alloc, &View::read(bytes)?)
 }
 
-/// The echo request from 10.7, socket 128, to 30.5, as it comes over two routers.
+/// The echo request from 10.7, socket 128, to 30.5, after two routers forwarded it.
 const PING: [u8; 18] = [
     0x08, 0x12, 0x00, 0x00, // hop count 2, length 18, no checksum
     0x00, 0x1E, 0x00, 0x0A, 0x05, 0x07, // to 30.5, from 10.7

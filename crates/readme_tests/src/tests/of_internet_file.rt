@@ -17,7 +17,7 @@ fn datagrams(alloc: Global, text: &[u8]) -> Result<usize, Error> {
     Ok(sent)
 }
 
-/// One action, which sends.
+/// A file with one action, which sends.
 const SEND: &[u8] = br#"ticks = 120
 cable = [{range = [10, 19], zones = ["Red"]}]
 router = [{port = [{cable = 1, hardware = "020000000001", try = ["10.1"]}]}]
@@ -33,7 +33,7 @@ type = 4
 hex = "0170696E67"
 "#;
 
-/// Two actions, of which the second one sends.
+/// A file with two actions, of which the second one sends.
 const LOOKUP_AND_SEND: &[u8] = br#"action = [
   {at = 100000, node = 2, do = "lookup", id = 513, object = "=", type = "Laser*", zone = "*"},
   {at = 7, node = 1, do = "send", to = "0.255", socket = 1, source = 2, type = 3, hex = ""},

@@ -19,7 +19,7 @@ fn asked(alloc: Global, packet: &DataPacket<'_>) -> Result<Vec<Query>, Error> {
     queries(alloc, &routes, &zones)
 }
 
-/// Router 10.2, its range 10-19, and 20-29 at distance 0.
+/// Routing data of router 10.2: its range 10-19, and 20-29 at distance 0.
 const SAID: [u8; 16] = [
     0, 10, 8, 2, 0, 10, 0x80, 0, 19, 0x82, 0, 20, 0x80, 0, 29, 0x82,
 ];

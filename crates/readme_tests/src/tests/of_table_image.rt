@@ -49,7 +49,7 @@ fn rows_are_printed(rt: HostRuntime) -> Result<(), Fail> {
     Ok(())
 }
 
-/// A value that another thread may have.
+/// Does nothing, but only compiles for a type whose values may be sent to another thread.
 fn is_send<T: Send>(_value: &T) {}
 
 #[test]

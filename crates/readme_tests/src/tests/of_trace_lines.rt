@@ -25,7 +25,7 @@ fn trace(alloc: Global, image: &Image, cables: &Cables) -> Result<Vec<u8>, Alloc
     Ok(text)
 }
 
-/// Node 10.7, on the first cable.
+/// The seat of node 10.7 on the first cable.
 const SEAT: cable_model::Seat = cable_model::Seat {
     cable: 0,
     station: 2,

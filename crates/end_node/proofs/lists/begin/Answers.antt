@@ -7,7 +7,7 @@ use Rattle.atp.specs.declared.transaction.Transaction.{Transaction}
 use Rattle.end_node.specs.Asking.{zone_ask}
 use Rattle.end_node.proofs.lists.begin.Goals as goal
 
--- the first request for a list of zones has eight bytes
+-- the first request for a zone list has at most 586 bytes, so it fits into a datagram
 few_bytes : (bytes : List ℕ) (slot : Option Transaction) (id start : ℕ) (router : Addr) → slot ≡ Some (begun id (zone_ask start router))
     → IfSome slot (λ t. bytes ≡ bytes_of packet (request_of t)) → length bytes ≤ 586
 unfolding packet

@@ -3,7 +3,7 @@ use Rattle.atp.specs.Requesting.{IsNextId, known}
 use Rattle.atp.specs.declared.transaction.Transaction.{Transaction}
 use Rattle.end_node.proofs.node.EndNode.ask_by.Goals as goal
 
--- the next ID of a copy is that of what was copied
+-- The next ID of a copy of the transactions is that of the original.
 next_of_copy : (first next id : ℕ) (slots copied : List (Option Transaction)) → next ≡ first
     → ((other : ℕ) → known other copied ≡ known other slots) → IsNextId next copied id → IsNextId first slots id
 next_of_copy first next id slots copied is same n =
