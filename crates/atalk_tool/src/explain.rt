@@ -1,10 +1,10 @@
 //! Explains a result to a person at a terminal. All of this runs after the result was printed, and
 //! writes only to standard error; if a write fails, nothing more is printed.
 
-use image_advice::{explain_bytes, explain_kind, explain_no};
 use at_base::{Error, Part};
 use command_line::{Outcome, Source};
 use file_advice::explain_entry;
+use image_advice::{explain_bytes, explain_kind, explain_no};
 use std::io;
 use std::io::ErrorKind;
 

@@ -11,11 +11,11 @@ use at_base::Error;
 use clap::error::ErrorKind as ParseError;
 use command_line::{Job, Outcome, Source, exit_of, read_arguments};
 use commands::{audit_file, run_frozen};
-use text::Output;
 use std::fs::File;
 use std::io;
 use std::io::{Read, writer};
 use std::rt::{Env, Files};
+use text::Output;
 
 /// Which of the streams are terminals.
 #[derive(Clone, Copy)]

@@ -6,11 +6,11 @@ use crate::run::Terminals;
 use crate::watching::Watching;
 use command_line::{Outcome, Source};
 use commands::play_bytes;
-use text::Output;
 use std::fs::File;
 use std::io;
 use std::io::{Read, Write, writer};
 use std::rt::Files;
+use text::Output;
 
 /// The source of a play, and the file for the image, if one is wanted.
 #[derive(Clone, Copy)]

@@ -13,13 +13,13 @@ ghost use Rattle.cable_model.specs.declared.route.Route.TheVariants.{All};
 ghost use Rattle.ddp.specs.Bodies.{body};
 
 use crate::entry::{Entry, How};
-use crate::outlet::Outlet;
 use crate::log::{Log, hold, note};
+use crate::outlet::Outlet;
 use crate::putting::put;
 use crate::resolve::Found;
+use crate::route::Route;
 use crate::seats::Seats;
 use crate::waiting::Waiting;
-use crate::route::Route;
 use at_base::{Addr, Hw};
 use station::Kind;
 

@@ -12,14 +12,14 @@ ghost use Rattle.ddp.specs.Bodies.{body};
 ghost use Rattle.station.specs.declared.heard.Kind.TheVariants.{Aarp};
 
 use crate::entry::{Entry, How};
-use crate::outlet::Outlet;
 use crate::leaving::leave;
 use crate::log::{Log, keep, note};
+use crate::outlet::Outlet;
 use crate::putting::put;
 use crate::resolve::{Found, Resolve};
+use crate::route::{Route, way_of};
 use crate::seating::exit_by;
 use crate::seats::Seats;
-use crate::route::{Route, way_of};
 use at_base::{Bytes, Hw};
 use station::{DropCause, Kind, Next, Output, Outputs};
 

@@ -16,9 +16,9 @@ ghost use Rattle.commands.specs.declared.input.TheConstants.{READS};
 use crate::input::Input;
 use at_base::Error;
 use audit::audit_bytes;
-use text::Output;
 use std::alloc::Global;
 use std::io::{Read, Write};
+use text::Output;
 
 /// Reads the whole input, and writes the line of the verdict on its image. Returns whether the
 /// image passes the audit. The bytes are kept in the input. Errors: `ReadFault`, `BadImage`,

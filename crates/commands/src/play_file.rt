@@ -13,11 +13,11 @@ ghost use Rattle.commands.specs.declared.input.TheConstants.{READS};
 
 use crate::input::Input;
 use at_base::Error;
-use text::Output;
 use playing::{Played, Progress, play_text};
 use std::alloc::Global;
 use std::io;
 use std::io::{Read, Write};
+use text::Output;
 
 /// Writes the bytes, and flushes.
 fn put<W: Write>(writer: &mut W, bytes: &[u8]) -> io::Result<()>

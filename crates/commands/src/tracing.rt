@@ -17,10 +17,10 @@ use crate::input::Input;
 use crate::sources::{read_image, read_steps};
 use at_base::Error;
 use frozen_trace::trace_script;
-use text::Output;
 use rtmp::PlainTable;
 use std::alloc::Global;
 use std::io::{Read, Write};
+use text::Output;
 
 /// Reads the whole image and then the whole script, runs the script over the frozen tables, and
 /// writes its trace; if the image fails the audit, writes only the line of the verdict. Returns

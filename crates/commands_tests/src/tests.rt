@@ -12,11 +12,11 @@ mod tracing;
 use at_base::Error;
 use commands::{Input, READS, append, audit_file};
 use fakes::{Frail, Holding, Pieces, Places, Restless};
-use text::Output;
 use reading::{nearly_given_up, read_all};
 use std::alloc::Global;
 use std::io::{ErrorKind, Read};
 use std::test::Fail;
+use text::Output;
 
 #[test]
 fn a_read_that_fails_is_a_read_fault(rt: HostRuntime) -> Result<(), Fail> {

@@ -20,9 +20,9 @@ use at_base::{Bytes, Error};
 use cable_model::Cables;
 use end_node::EndNode;
 use image_stations::Whereabouts;
-use station::Member;
 use router::Router;
 use rtmp::RouteTable;
+use station::Member;
 
 /// A node sends a datagram, by the order.
 ///

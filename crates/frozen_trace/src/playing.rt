@@ -5,7 +5,6 @@ ghost use Rattle.text.specs.Going.{Goes};
 ghost use Rattle.frozen_trace.specs.Traces.{Plays, PlaysAll, all_printed};
 ghost use Rattle.script.specs.declared.step.Step.TheVariants as step;
 
-use text::Output;
 use crate::printing::{print_from, refuse};
 use at_base::Error;
 use events::Event;
@@ -14,6 +13,7 @@ use rtmp::RouteTable;
 use script::Step;
 use std::alloc::Global;
 use std::io::Write;
+use text::Output;
 use trace_lines::Lines;
 
 /// Carries out an event, and prints the entries that it adds, or its error.

@@ -10,7 +10,6 @@ ghost use Rattle.trace_lines.specs.Lines as lines_spec;
 ghost use Rattle.trace_lines.specs.Lines.{IsNamed, cable_of};
 ghost use Rattle.trace_lines.specs.Stations.{directory_of};
 
-use text::Output;
 use at_base::Error;
 use cable_model::Entry;
 use frozen::Frozen;
@@ -18,6 +17,7 @@ use rtmp::RouteTable;
 use std::alloc::Global;
 use std::fmt::Write as _;
 use std::io::Write;
+use text::Output;
 use trace_lines::Lines;
 
 /// The longest line of an error or of the pending count, in bytes.

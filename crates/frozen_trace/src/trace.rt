@@ -5,7 +5,6 @@ ghost use Rattle.std.specs.Io.KnownBytes.{Appends};
 ghost use Rattle.frozen_trace.specs.Traces.{IsPrinted, PlaysAll, all_printed, pending_line};
 ghost use Rattle.frozen.specs.Runs.{IsFrozen};
 
-use text::Output;
 use crate::playing::play;
 use crate::printing::print_pending;
 use at_base::Error;
@@ -16,6 +15,7 @@ use script::Step;
 use std::alloc::Global;
 use std::io::Write;
 use table_image::Image;
+use text::Output;
 use trace_lines::Lines;
 
 /// The greatest number of entries in a run.

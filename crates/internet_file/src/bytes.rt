@@ -8,8 +8,8 @@ ghost use Rattle.toml.specs.View.{view};
 ghost use Rattle.internet_file.specs.Values as spec;
 
 use at_base::{Bytes, Error, Hw};
-use text::hex::{nibble, pairs};
 use std::alloc::Global;
+use text::hex::{nibble, pairs};
 use toml::Value;
 
 /// The byte of the first two hexadecimal digits, and the digits after them.

@@ -16,12 +16,11 @@ ghost use Rattle.planned_stations.specs.Planning.{planned_ports, ports_of};
 ghost use Rattle.station.specs.Ports.{is_planned, planned};
 
 use at_base::Error;
-use station::Member;
 use internet_file::{Cable, Node, Plan, Port, Router};
 use live_node::LiveNode;
 use live_router::LiveRouter;
 use rtmp::RouteTable;
-use station::PortPlan;
+use station::{Member, PortPlan};
 use std::alloc::Global;
 use zip_zones::ZoneTable;
 

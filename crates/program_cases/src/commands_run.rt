@@ -4,9 +4,9 @@ use at_base::Error;
 use case_words::{Answer, Stop, Words, put_line};
 use command_line::status;
 use commands::{Input, audit_file, play_bytes, run_frozen};
-use text::Output;
 use playing::{Silent, play_text};
 use std::alloc::{AllocError, Global};
+use text::Output;
 
 /// Room for the output of a command in a case.
 const ROOM: usize = 200_000;

@@ -5,11 +5,11 @@ ghost use Rattle.at_base.specs.Text.{same_bytes};
 ghost use Rattle.script.specs.Lines as spec;
 ghost use Rattle.script.specs.Lines.{draining, taking};
 
-use at_base::Error;
 use crate::request::request;
 use crate::send::send;
 use crate::step::Step;
 use crate::words::Words;
+use at_base::Error;
 use events::Event;
 use std::alloc::Global;
 use text::address;

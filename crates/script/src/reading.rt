@@ -3,9 +3,9 @@
 ghost use Rattle.std.specs.Prelude.{◌≡◌, ◌⊎◌, ℕ, IfErr, IfOk};
 ghost use Rattle.script.specs.Scripts.{IsBadAt, IsScript};
 
-use at_base::Error;
 use crate::line::{is_skipped, step};
 use crate::step::Step;
+use at_base::Error;
 use std::alloc::Global;
 use text::cut::cut;
 

@@ -5,10 +5,10 @@ ghost use Rattle.script.specs.Cuts.{all_of};
 ghost use Rattle.script.specs.Lines as lines_spec;
 ghost use Rattle.script.specs.Words as words_spec;
 
-use at_base::{Bytes, Error};
 use crate::step::Step;
 use crate::word::{bytes, flag, via};
 use crate::words::Words;
+use at_base::{Bytes, Error};
 use events::Event;
 use std::alloc::Global;
 use text::address;

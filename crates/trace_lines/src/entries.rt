@@ -10,10 +10,10 @@ ghost use Rattle.trace_lines.specs.Lines.{line, who_text};
 ghost use Rattle.trace_lines.specs.Said.{entry_with};
 ghost use Rattle.trace_lines.specs.Stations.{address_on};
 
-use at_base::{Addr, Hw};
-use cable_model::{Entry, How};
 use crate::stations::Stations;
 use crate::words::{put_body, put_cause, put_how, put_who};
+use at_base::{Addr, Hw};
+use cable_model::{Entry, How};
 use station::{DropCause, Kind};
 use std::alloc::AllocError;
 use text::{put_address, put_decimal, put_hex};

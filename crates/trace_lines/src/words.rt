@@ -6,9 +6,9 @@ ghost use Rattle.ddp.specs.Bodies.{body};
 ghost use Rattle.trace_lines.specs.Lines.{cause_text, how_text, who_text};
 ghost use Rattle.text.specs.Digits.{hex_text};
 
+use crate::stations::Stations;
 use at_base::Hw;
 use cable_model::How;
-use crate::stations::Stations;
 use station::DropCause;
 use std::alloc::AllocError;
 use text::{put_address, put_decimal, put_hex};

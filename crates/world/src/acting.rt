@@ -10,13 +10,12 @@ ghost use Rattle.world.specs.Doing.{IsDone, acted, acted_by, number_from, statio
 ghost use Rattle.world.specs.Going.{Goes, GoesOn};
 
 use at_base::Error;
-use station::Member;
 use internet_file::{Action, Do, Plan};
 use live_cables::LiveCables;
 use live_node::LiveNode;
 use live_router::LiveRouter;
 use rtmp::RouteTable;
-use station::Outputs;
+use station::{Member, Outputs};
 
 /// Carries out a node's operation, and appends the datagrams that it sends to `outputs`.
 fn act(node: &LiveNode, action: &Do, outputs: &mut Outputs) -> Result<(), Error>

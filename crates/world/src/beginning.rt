@@ -6,12 +6,12 @@ ghost use Rattle.planned_stations.specs.Planning.{planned_ports, ports_of};
 ghost use Rattle.world.specs.Received.{AreReceived, got};
 
 use at_base::Error;
-use station::Member;
 use internet_file::Plan;
 use live_node::LiveNode;
 use live_router::LiveRouter;
 use planned_stations::stations_of;
 use rtmp::RouteTable;
+use station::Member;
 use std::alloc::Global;
 
 /// The stations of a plan, which have received nothing. Error: `Memory`.

@@ -14,12 +14,12 @@ use crate::station_ticks::tick_all;
 use crate::taking::take_all;
 use crate::world::MAX_TAKES;
 use at_base::Error;
-use station::Member;
 use internet_file::Plan;
 use live_cables::LiveCables;
 use live_node::LiveNode;
 use live_router::LiveRouter;
 use rtmp::RouteTable;
+use station::Member;
 
 /// Advances all stations by a tick, and carries out the actions of that tick. Errors: `Full`,
 /// `Memory`.

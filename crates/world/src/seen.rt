@@ -7,10 +7,10 @@ ghost use Rattle.world.specs.Seen.{emptied_at, received_by};
 
 use at_base::Error;
 use end_node::{Datagram, EndNode};
-use station::Member;
 use live_node::LiveNode;
 use live_router::LiveRouter;
 use rtmp::RouteTable;
+use station::Member;
 use std::alloc::Global;
 
 /// The node, if the station is a node.

@@ -14,12 +14,11 @@ ghost use Rattle.world.specs.Passing.{AreAged, HasPassed, HasTicked, HavePassed,
 ghost use Rattle.world.specs.Received.{got};
 
 use at_base::{Addr, Error};
-use station::Member;
 use live_cables::LiveCables;
 use live_node::LiveNode;
 use live_router::LiveRouter;
 use rtmp::RouteTable;
-use station::{Outputs, Station};
+use station::{Member, Outputs, Station};
 use std::alloc::Global;
 
 /// The settled address of a station's port.

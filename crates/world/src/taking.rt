@@ -14,11 +14,11 @@ ghost use Rattle.world.specs.Received.{AreReceived, got};
 ghost use Rattle.world.specs.Taking.{AreTaken, IsTaken, IsTaker};
 
 use at_base::Error;
-use station::Member;
 use live_cables::LiveCables;
 use live_node::LiveNode;
 use live_router::LiveRouter;
 use rtmp::RouteTable;
+use station::Member;
 
 /// A station takes a frame. Errors: `NotPending`, `Full`, `Memory`.
 fn take<T: RouteTable>(

@@ -4,10 +4,10 @@ use super::fakes::{Frail, Holding, Pieces};
 use super::holds;
 use at_base::Error;
 use commands::{Input, play_bytes};
-use text::Output;
 use playing::Silent;
 use std::alloc::Global;
 use std::io::Write;
+use text::Output;
 
 /// An internet of one cable and one node.
 pub(crate) const SMALL: &[u8] = b"ticks = 30

@@ -4,9 +4,9 @@ use super::fakes::{Frail, Pieces};
 use super::{EMPTY, holds};
 use at_base::Error;
 use commands::{Input, run_frozen};
-use text::Output;
 use std::alloc::Global;
 use std::io::Write;
+use text::Output;
 
 /// Runs the script over the image, and writes the trace to the writer.
 fn trace_once<W: Write + Drop>(
