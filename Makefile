@@ -1,7 +1,7 @@
 # `make audit` builds the program and audits an example; `make test` is the gate; `make help` has the rest.
 PREFIX = /usr/local
 
-.PHONY: audit test try check help install clean
+.PHONY: audit test try check help install dist clean
 
 audit:
 	@scripts/build
@@ -23,6 +23,7 @@ help:
 	@echo 'make check CRATE=name  the proofs of one crate'
 	@echo 'make atalk             the proved program, as ./atalk'
 	@echo 'make install           the program and its manual pages, below PREFIX'
+	@echo 'make dist              an archive with the proved program, its pages and licences'
 	@echo 'make clean             what was built goes'
 	@echo 'scripts/affected NAME  what is proved again after an edit of a crate'
 
@@ -35,5 +36,9 @@ install: atalk
 	install -m 644 docs/man/atalk.1 $(DESTDIR)$(PREFIX)/share/man/man1/atalk.1
 	install -m 644 docs/man/atalk-image.5 docs/man/atalk-internet.5 docs/man/atalk-script.5 $(DESTDIR)$(PREFIX)/share/man/man5
 
+dist:
+	@scripts/build -q
+	@scripts/dist
+
 clean:
-	rm -rf atalk out crates/*/out
+	rm -rf atalk out crates/*/out nuxorvelt-*.tar.gz
