@@ -11,3 +11,5 @@ mod refused;
 
 pub use playing::{Played, play_text};
 pub use progress::{Progress, Silent};
+pub use received::put_received;
+pub use refused::put_refused;
