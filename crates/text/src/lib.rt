@@ -2,13 +2,13 @@
 //! writer.
 #![tactic(auto)]
 
-mod address;
+mod addresses;
 pub mod cut;
 mod digits;
 pub mod hex;
 pub mod number;
 mod output;
 
-pub use address::address;
+pub use addresses::address;
 pub use digits::{put_address, put_decimal, put_hex};
 pub use output::Output;

@@ -2,7 +2,7 @@ use Rattle.std.proofs.Common.{◌≡◌, ◌==◌, ℕ, Bool, List, ◌∷◌, N
 use Rattle.std.specs.List.{slice_split}
 use Rattle.text.specs.Words.{address}
 use Rattle.text.proofs.Cutting.{first_part}
-use Rattle.text.proofs.address.halves.Goals as goal
+use Rattle.text.proofs.addresses.halves.Goals as goal
 
 abbrev is_dot : ℕ → Bool
 is_dot b = b == 46
