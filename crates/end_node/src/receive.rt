@@ -1,6 +1,7 @@
 //! A node's handling of the datagrams that it receives.
 
-ghost use Rattle.std.specs.Prelude.{◌≡◌, ◌<◌, ◌≤◌, ◌+◌, ◌++◌, length, option_to_list, Some, vec_capacity, vec_len};
+ghost use Rattle.std.specs.Prelude.{◌≡◌, ◌<◌, ◌≤◌, ◌+◌, ◌++◌, ◌&&◌, length, option_to_list, Some};
+ghost use Rattle.std.specs.Prelude.{vec_capacity, vec_len};
 ghost use Rattle.std.specs.Prelude.{IfOk, IsOkUnless, OnErr, OnOk};
 ghost use Rattle.echo.specs.Echo.{echo_reply};
 ghost use Rattle.end_node.specs.Answers.{AsksHearDatagram, AsksHearOwn, heard_datagram, heard_own};
@@ -11,6 +12,7 @@ ghost use Rattle.end_node.specs.Ways as ways_spec;
 ghost use Rattle.station.specs.Lawful.{AreLawful, PutsOut};
 ghost use Rattle.station.specs.Made.{AreMade};
 ghost use Rattle.station.specs.Ports as ports_spec;
+ghost use Rattle.station.specs.Ways as ways_of;
 ghost use Rattle.station.specs.Ways.{replying};
 
 use crate::lists::hear_answer;
@@ -192,6 +194,13 @@ impl EndNode {
         Ok(())
     }
 
+    /// Whether the node accepts the datagram as its own and its checksum is right.
+    fn is_taken(&self, link: Link, view: &View<'_>) -> bool
+        ensures { result ≡ (answers_spec.takes self.now link view.now && ways_of.checks view.now) }
+    {
+        self.takes(link, view) && checks(view)
+    }
+
     /// Receives a datagram. Returns it if the node accepts it as its own and its checksum is right.
     /// Error: `Memory`; neither the node nor the outputs change then.
     pub(crate) fn hear_datagram<'a>(
@@ -210,10 +219,10 @@ impl EndNode {
         ensures station_stays { OnErr result (self.new ≡ self.old) }
         ensures outputs_stay { OnErr result (outputs.new.items ≡ outputs.old.items) }
     {
-        if self.takes(link, &view) && checks(&view) {
-            self.hear_own(&view, outputs)?;
-            return Ok(Some(view));
+        if !self.is_taken(link, &view) {
+            return Ok(None);
         }
-        Ok(None)
+        self.hear_own(&view, outputs)?;
+        Ok(Some(view))
     }
 }
