@@ -6,5 +6,5 @@ use Rattle.live_node.proofs.hearing.LiveNodeStation.receive.Goals as goal
 pub returns-clause-ok : goal.returns-clause-ok
 returns-clause-ok c =
     rw (sym c.self.view_is)
-    (heard _ (hearing c.args.heard.now) c.args.outputs.now.items c.hear-taken.new.outputs.items c.hear-taken.new.self c.learn.new.self
-    c.in_ok-taken.taken c.in_ok-taken.ensures.ok c.in_ok-taken.ensures.taken c.learn.ensures)
+    (heard _ (hearing c.args.heard.now) c.args.outputs.now.items c.hear.new.outputs.items c.hear.new.self c.learn.new.self
+    _ c.in_ok-taken.ensures.ok c.in_ok-taken.ensures.taken c.learn.ensures)
