@@ -41,3 +41,7 @@ held_or hw (p ∷ places) other = if same_bytes p.hardware.0 hw.0 then p.address
 abbrev pub places_from : Internet → ℕ → ℕ → List (List Place)
 places_from i cable zero = []
 places_from i cable (suc n) = places i cable ∷ places_from i (suc cable) n
+
+-- The number of cables that a byte can name.
+unfoldable pub byte_cables : ℕ
+byte_cables = 256

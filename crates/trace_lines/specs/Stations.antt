@@ -8,7 +8,7 @@ use Rattle.table_image.specs.Internet.{Internet}
 use Rattle.table_image.specs.declared.node.Node.{Node}
 use Rattle.table_image.specs.declared.port.Port.{Port}
 use Rattle.table_image.specs.declared.router.Router.{Router}
-use Rattle.trace_lines.specs.Holders.{held_or, places_from}
+use Rattle.trace_lines.specs.Holders.{byte_cables, held_or, places_from}
 use Rattle.trace_lines.specs.declared.holders.Place.{Place}
 use Rattle.trace_lines.specs.declared.stations.PortAddress.{PortAddress}
 
@@ -27,7 +27,7 @@ abbrev pub directory_of : Internet → Directory
 directory_of i = record {
   routers = map (λ (r : Router). map port_address r.ports) i.routers;
   nodes = map (λ (n : Node). n.address) i.nodes;
-  places = places_from i 0 256;
+  places = places_from i 0 byte_cables;
 }
 
 -- The address of a port, and 0.0 if there is none.

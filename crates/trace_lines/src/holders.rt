@@ -1,7 +1,7 @@
 //! The stations of each cable, by their hardware addresses.
 
-ghost use Rattle.std.specs.Prelude.{◌≡◌, ◌≤◌, ◌-◌, ◌++◌, IfOk, OnOk};
-ghost use Rattle.trace_lines.specs.Holders.{held_or, node_places, places, places_from, port_places};
+ghost use Rattle.std.specs.Prelude.{◌≡◌, ◌≤◌, ◌-◌, ◌++◌, length, IfOk, OnOk};
+ghost use Rattle.trace_lines.specs.Holders.{byte_cables, held_or, node_places, places, places_from, port_places};
 ghost use Rattle.trace_lines.specs.Holders.{router_places};
 
 use at_base::{Addr, Hw};
@@ -78,6 +78,7 @@ fn row_of(alloc: Global, image: &Image, cable: u8) -> Result<Listed<Place>, Allo
 }
 
 /// Appends the places on the cables from `from` on.
+#[tactic(auto, using(crate::proofs::Rows::rows_end, crate::proofs::Rows::rows_step))]
 fn put_rows(
     alloc: Global,
     rows: &mut Vec<Listed<Place>>,
@@ -86,7 +87,7 @@ fn put_rows(
 ) -> Result<(), AllocError>
     requires few { from ≤ 256 }
     ensures { OnOk result (rows.new.items
-        ≡ rows.old.items ++ places_from image.now from (256 - from)) }
+        ≡ rows.old.items ++ places_from image.now from (byte_cables - from)) }
 {
     if from == CABLES {
         return Ok(());
@@ -99,8 +100,10 @@ fn put_rows(
 }
 
 /// The places on each cable.
+#[tactic(auto, using(crate::proofs::Rows::rows_all, crate::proofs::Rows::rows_count))]
 pub(crate) fn rows_of(alloc: Global, image: &Image) -> Result<Vec<Listed<Place>>, AllocError>
-    ensures { IfOk result (λ rows. rows.items ≡ places_from image.now 0 256) }
+    ensures rows { IfOk result (λ rows. rows.items ≡ places_from image.now 0 byte_cables) }
+    ensures count { IfOk result (λ rows. length rows.items ≡ 256) }
 {
     let mut rows = Vec::with_capacity(alloc, CABLES)?;
     put_rows(alloc, &mut rows, image, 0)?;

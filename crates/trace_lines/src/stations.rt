@@ -1,6 +1,7 @@
 //! The addresses of an internet's stations.
 
-ghost use Rattle.std.specs.Prelude.{◌≡◌, ◌==◌, ◌++◌, [], IfOk, OnOk, find, map, slice_get, slice_index_or};
+ghost use Rattle.std.specs.Prelude.{◌≡◌, ◌==◌, ◌++◌, [], IfOk, OnOk, Some, find, map, slice_get};
+ghost use Rattle.std.specs.Prelude.{slice_index_or};
 ghost use Rattle.table_image.specs.declared.node.Node.{Node as NodeValue};
 ghost use Rattle.table_image.specs.declared.router.Router.{Router as RouterValue};
 ghost use Rattle.trace_lines.specs.Stations as spec;
@@ -122,6 +123,13 @@ fn on_cable(ports: &[PortAddress], cable: u8) -> Addr
     }
 }
 
+/// The address of a router's port on a cable, and 0.0 where it has none there.
+fn port_on(ports: &Listed<PortAddress>, cable: u8) -> Addr
+    ensures { result ≡ spec.on_cable (Some ports.now) cable }
+{
+    on_cable(ports.as_slice(), cable)
+}
+
 /// The address of a router's first port, and 0.0 if it has none.
 fn first_of(ports: &[PortAddress]) -> Addr
     ensures { result ≡ spec.of_port (slice_get ports.now 0) }
@@ -165,7 +173,7 @@ impl Stations {
     {
         let station = usize::from(station);
         if station < self.routers.len() {
-            on_cable(self.routers[station].as_slice(), cable)
+            port_on(&self.routers[station], cable)
         } else {
             self.of_node(station - self.routers.len())
         }
