@@ -11,6 +11,7 @@ use at_base::Error;
 use end_node::EndNode;
 use router::Router;
 use rtmp::RouteTable;
+use station::Member;
 use std::alloc::Global;
 use table_image::Image;
 
