@@ -1,7 +1,9 @@
 -- The places on all cables, one cable after the other.
-use Rattle.std.proofs.Common.{◌≡◌, ℕ, zero, suc, ◌+◌, ◌-◌, ◌<◌, List, [], ◌∷◌, length, refl, ap, ◌∙◌, arith}
+use Rattle.std.proofs.Common.{◌≡◌, ℕ, zero, suc, ◌+◌, ◌-◌, ◌<◌, List, [], ◌∷◌, ◌++◌, length, refl, sym, ap, subst, ◌∙◌, arith}
+use Rattle.std.proofs.lemmas.List.{append_assoc, append-nil}
 use Rattle.table_image.specs.Internet.{Internet}
 use Rattle.trace_lines.specs.Holders.{byte_cables, places, places_from}
+use Rattle.trace_lines.specs.declared.holders.Place.{Place}
 
 -- There are none past the last cable.
 pub rows_end : (i : Internet) → places_from i 256 (byte_cables - 256) ≡ []
@@ -30,3 +32,20 @@ rows_count i = count_from i 0 256
 pub rows_all : (i : Internet) → places_from i 0 (byte_cables - 0) ≡ places_from i 0 byte_cables
 unfolding byte_cables
 rows_all i = refl
+
+-- Nothing is appended past the last cable.
+pub rows_over : (i : Internet) (k : ℕ) (rows : List (List Place)) → k ≡ 256 → rows ≡ rows ++ places_from i k (byte_cables - k)
+rows_over i k rows e =
+    subst (λ (n : ℕ). rows ≡ rows ++ places_from i n (byte_cables - n)) (sym e)
+    (sym (ap (λ (l : List (List Place)). rows ++ l) (rows_end i) ∙ append-nil rows))
+
+-- The places on a cable were appended, and then those on the cables after it.
+pub rows_more : (i : Internet) (k n : ℕ) (row : List Place) (old mid new : List (List Place)) → k < 256 → n ≡ k
+    → row ≡ places i n → mid ≡ old ++ row ∷ [] → new ≡ mid ++ places_from i (k + 1) (byte_cables - (k + 1))
+    → new ≡ old ++ places_from i k (byte_cables - k)
+rows_more i k n row old mid new lt same is one rest =
+    let more : List (List Place) = places_from i (k + 1) (byte_cables - (k + 1)) in
+    let here : row ≡ places i k = is ∙ ap (places i) same in
+    rest ∙ ap (λ (l : List (List Place)). l ++ more) one ∙ append_assoc old (row ∷ []) more
+    ∙ ap (λ (r : List Place). old ++ r ∷ more) here
+    ∙ ap (λ (l : List (List Place)). old ++ l) (sym (rows_step i k lt))

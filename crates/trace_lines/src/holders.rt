@@ -1,6 +1,6 @@
 //! The stations of each cable, by their hardware addresses.
 
-ghost use Rattle.std.specs.Prelude.{◌≡◌, ◌≤◌, ◌-◌, ◌++◌, length, IfOk, OnOk};
+ghost use Rattle.std.specs.Prelude.{◌≡◌, ◌≤◌, ◌-◌, ◌∷◌, ◌++◌, [], length, IfOk, OnOk};
 ghost use Rattle.trace_lines.specs.Holders.{byte_cables, held_or, node_places, places, places_from, port_places};
 ghost use Rattle.trace_lines.specs.Holders.{router_places};
 
@@ -77,8 +77,17 @@ fn row_of(alloc: Global, image: &Image, cable: u8) -> Result<Listed<Place>, Allo
     Ok(Listed::from_vec(row))
 }
 
+/// Appends the places on a cable.
+fn push_row(rows: &mut Vec<Listed<Place>>, row: Listed<Place>) -> Result<(), AllocError>
+    ensures { OnOk result (rows.new.items ≡ rows.old.items ++ row ∷ []) }
+{
+    if rows.push(row).is_err() {
+        return Err(AllocError);
+    }
+    Ok(())
+}
+
 /// Appends the places on the cables from `from` on.
-#[tactic(auto, using(crate::proofs::Rows::rows_end, crate::proofs::Rows::rows_step))]
 fn put_rows(
     alloc: Global,
     rows: &mut Vec<Listed<Place>>,
@@ -93,9 +102,7 @@ fn put_rows(
         return Ok(());
     }
     let row = row_of(alloc, image, from as u8)?;
-    if rows.push(row).is_err() {
-        return Err(AllocError);
-    }
+    push_row(rows, row)?;
     put_rows(alloc, rows, image, from + 1)
 }
 
