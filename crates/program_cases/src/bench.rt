@@ -1,10 +1,9 @@
 //! The bench of a case, with which its commands are carried out.
 
-use crate::{arguments, commands_run as run, exits, plans, worlds};
+use crate::worlds::Begun;
+use crate::{arguments, commands_run as run, exits, plans};
 use case_words::{Answer, Bench, Stop, Words};
-use rtmp::PlainTable;
 use std::alloc::Global;
-use world::World;
 
 /// The text of an internet file, the bytes of an image, and a world after a command that begins it.
 #[derive(Drop)]
@@ -12,7 +11,7 @@ pub(crate) struct Program {
     alloc: Global,
     text: Vec<u8>,
     image: Vec<u8>,
-    world: Option<World<PlainTable>>,
+    world: Option<Begun>,
 }
 
 /// The text with the text in the words after it.
@@ -70,14 +69,14 @@ impl Program {
 
     fn on_world(&mut self, words: Words<'_>, text: &mut String) -> Answer {
         match &mut self.world {
-            Some(world) => worlds::act(self.alloc, world, words, text),
+            Some(world) => world.act(self.alloc, words, text),
             None => Err(Stop::Unclear),
         }
     }
 
     fn begin_world(&mut self, words: Words<'_>) -> Answer {
         let whole = longer(self.alloc, &self.text, words)?;
-        self.world = Some(worlds::begun(self.alloc, whole.as_slice())?);
+        self.world = Some(Begun::new(self.alloc, whole)?);
         Ok(())
     }
 }

@@ -1,6 +1,6 @@
 //! Worlds, tick by tick.
 
-use at_base::Addr;
+use at_base::{Addr, Error};
 use cable_model::{Entry, Kind};
 use case_words::{Answer, Stop, Words, put_hw, put_line, put_text};
 use end_node::{Datagram, EndNode};
@@ -12,9 +12,74 @@ use world::World;
 
 type Live = World<PlainTable>;
 
-/// The world of a file.
-pub(crate) fn begun(alloc: Global, bytes: &[u8]) -> Result<Live, Stop> {
+/// A world and the file that it was begun from. A tick that ran out of memory can't be repeated, since the world counts
+/// it; the world is begun again then, and the earlier ticks are repeated.
+#[derive(Drop)]
+pub(crate) struct Begun {
+    file: Vec<u8>,
+    world: Live,
+    passed: u32,
+    spoilt: bool,
+}
+
+fn of_file(alloc: Global, bytes: &[u8]) -> Result<Live, Stop> {
     Ok(World::new(alloc, read(alloc, bytes)?)?)
+}
+
+impl Begun {
+    pub(crate) fn new(alloc: Global, file: Vec<u8>) -> Result<Begun, Stop> {
+        let world = of_file(alloc, file.as_slice())?;
+        Ok(Begun {
+            file,
+            world,
+            passed: 0,
+            spoilt: false,
+        })
+    }
+
+    /// Begins the world again, and repeats its ticks.
+    fn mend(&mut self, alloc: Global) -> Answer {
+        let mut world = of_file(alloc, self.file.as_slice())?;
+        for _ in 0..self.passed {
+            if world.tick() == Err(Error::Memory) {
+                return Err(Error::Memory.into());
+            }
+        }
+        self.world = world;
+        self.spoilt = false;
+        Ok(())
+    }
+
+    /// Advances the world by `count` ticks, or up to the first one with an error.
+    fn tick(&mut self, count: u32) -> Answer {
+        let mut passed = 0u32;
+        let mut answer = Ok(());
+        for _ in 0..count {
+            if answer.is_ok() {
+                answer = self.world.tick();
+                passed = passed.saturating_add(1);
+            }
+        }
+        if answer == Err(Error::Memory) {
+            self.spoilt = true;
+        } else {
+            self.passed = self.passed.saturating_add(passed);
+        }
+        Ok(answer?)
+    }
+
+    /// Carries out a command.
+    pub(crate) fn act(&mut self, alloc: Global, mut words: Words<'_>, text: &mut String) -> Answer {
+        if self.spoilt {
+            self.mend(alloc)?;
+        }
+        match words.word() {
+            "tick" => self.tick(1),
+            "ticks" => self.tick(words.number()?),
+            "received" => { put_received(text, self.world.received(words.number()?)?.as_slice()) }
+            question => answer(alloc, &self.world, question, words, text),
+        }
+    }
 }
 
 fn put_bytes(text: &mut String, world: &Live, number: u32) -> Result<(), AllocError> {
@@ -135,28 +200,18 @@ fn put_refused(text: &mut String, world: &Live) -> Answer {
     Ok(())
 }
 
-/// Advances the world by `count` ticks.
-fn tick(world: &mut Live, count: u32) -> Answer {
-    for _ in 0..count {
-        world.tick()?;
-    }
-    Ok(())
-}
-
-/// Carries out a command.
-pub(crate) fn act(
+/// Answers a question about a world.
+fn answer(
     alloc: Global,
-    world: &mut Live,
+    world: &Live,
+    question: &str,
     mut words: Words<'_>,
     text: &mut String,
 ) -> Answer {
-    match words.word() {
-        "tick" => tick(world, 1),
-        "ticks" => tick(world, words.number()?),
+    match question {
         "entries" => put_entries(text, world, words.number()?),
         "counts" => put_counts(text, world),
         "node" => put_node(text, world.node(words.number()?)),
-        "received" => put_received(text, world.received(words.number()?)?.as_slice()),
         "refused" => put_refused(text, world),
         "frozen" => {
             put_line(text, write(alloc, &world.freeze()?)?.as_slice())?;

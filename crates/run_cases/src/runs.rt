@@ -20,6 +20,29 @@ pub(crate) fn started(alloc: Global, bytes: &[u8], mut words: Words<'_>) -> Resu
     Ok(Frozen::start(alloc, image, limit)?)
 }
 
+/// The number of frames that were taken so far.
+fn taken(run: &Run) -> u32 {
+    let mut taken = 0u32;
+    for entry in run.transcript() {
+        if let Entry::Took { .. } = entry {
+            taken = taken.saturating_add(1);
+        }
+    }
+    taken
+}
+
+/// Drains a run. The takes before one that ran out of memory stay, so the rest follows.
+fn drain(run: &mut Run, most: u32) -> Result<bool, Error> {
+    let before = taken(run);
+    match run.drain(most) {
+        Err(Error::Memory) => {
+            let done = taken(run).saturating_sub(before);
+            run.drain(most.saturating_sub(done))
+        }
+        answer => answer,
+    }
+}
+
 /// Carries out the line of a script.
 fn happen(alloc: Global, run: &mut Run, line: &str, text: &mut String) -> Answer {
     let steps = read(alloc, line.as_bytes())?;
@@ -27,7 +50,7 @@ fn happen(alloc: Global, run: &mut Run, line: &str, text: &mut String) -> Answer
         match step {
             Step::Event(event) => run.event(event)?,
             Step::Drain(most) => {
-                let done = yes_or_no(run.drain(*most)?);
+                let done = yes_or_no(drain(run, *most)?);
                 writeln!(text, "all taken: {done}")?;
             }
         }
@@ -47,14 +70,29 @@ fn events_of(alloc: Global, steps: Vec<Step>) -> Result<Vec<Event>, Stop> {
     Ok(events)
 }
 
+/// Appends the result of a run, before which this many events had happened.
+fn put_outcome(text: &mut String, before: usize, outcome: Result<(), (usize, Error)>) -> Answer {
+    match outcome {
+        Ok(()) => writeln!(text, "all happened")?,
+        Err((place, error)) => {
+            let place = place.saturating_add(before);
+            writeln!(text, "event {place}: {error}")?;
+        }
+    }
+    Ok(())
+}
+
 /// Carries out the events of a script, up to the first one that returns an error.
 fn happen_all(alloc: Global, run: &mut Run, words: Words<'_>, text: &mut String) -> Answer {
     let events = events_of(alloc, steps(alloc, words)?)?;
     match run.run(events.as_slice()) {
-        Ok(()) => writeln!(text, "all happened")?,
-        Err((place, error)) => writeln!(text, "event {place}: {error}")?,
+        // The events before one that ran out of memory stay, so the rest follows.
+        Err((place, Error::Memory)) if place < events.len() => {
+            let outcome = run.run(&events.as_slice()[place..]);
+            put_outcome(text, place, outcome)
+        }
+        outcome => put_outcome(text, 0, outcome),
     }
-    Ok(())
 }
 
 /// Appends, for each cable of the image, how many datagrams reached it.

@@ -131,3 +131,23 @@ fn every_write_may_fail(rt: HostRuntime) {
     }
     assert_eq!(rt; play_frail(rt.alloc(), 4, 4), Ok(true));
 }
+
+#[test]
+fn no_byte_of_the_image_is_written_before_all_lines(rt: HostRuntime) {
+    for _attempt in 0..2 {
+        let mut input = Input::new(pieces(SMALL));
+        let lines = Frail {
+            calls: 0,
+            fails_at: 1,
+        };
+        let whole = Frail {
+            calls: 0,
+            fails_at: 9,
+        };
+        let mut output = Output::new(rt.alloc(), lines);
+        let mut image = Output::new(rt.alloc(), whole);
+        let answer = play_bytes(rt.alloc(), &mut input, &mut output, &mut image, &mut Silent);
+        assert!(rt; matches!(answer, Err(Error::WriteFault | Error::Memory)));
+        assert_eq!(rt; image.writer.calls, 0);
+    }
+}
