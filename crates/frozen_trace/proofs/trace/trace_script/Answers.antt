@@ -19,8 +19,8 @@ first_fault i fault e is (inl known) =
     subst (IsFirst i) same known.2
 first_fault i fault e is (inr memory) = let odd = sym is ∙ memory.0 in absurd cc
 
-pub returns-in_ok-trace_run-in-Ok-clause-printed : goal.returns-in_ok-trace_run-in-Ok-clause-printed
-returns-in_ok-trace_run-in-Ok-clause-printed g c =
+pub returns-in-Ok-clause-printed : goal.returns-in-Ok-clause-printed
+returns-in-Ok-clause-printed g c =
     let told = c.in_ok-trace_run-in-Ok.ensures in
     let played = told.printed.0 in
     let ended = c.trace_run.new.run in (
@@ -43,9 +43,9 @@ returns-in_ok-trace_run-in-Ok-clause-printed g c =
           (append_assoc c.args.output.now.text.items played (pending_line ended)) told.printed.2,
     )
 
-pub returns-in_ok-write_line-in-Err-NotAudited-clause-printed :
-    goal.returns-in_ok-write_line-in-Err-NotAudited-clause-printed
-returns-in_ok-write_line-in-Err-NotAudited-clause-printed g c =
+pub returns-in-Err-NotAudited-clause-printed :
+    goal.returns-in-Err-NotAudited-clause-printed
+returns-in-Err-NotAudited-clause-printed g c =
     let fault = c.in-Err-NotAudited.fault in
     let text = c.args.output.now.text.items in
     let line_is : c.as_bytes.result.now ≡ verdict_line (No fault) =

@@ -9,66 +9,66 @@ use Rattle.world.specs.Acting.{KeepsFirst}
 use Rattle.world.specs.Received.{AreReceived, got}
 use Rattle.world.specs.Ticking.{IsTick, Plays}
 use Rattle.world.specs.Worlds.{Ticks, TicksOn, Worldly}
-use Rattle.world.proofs.world.World.play.Goals as goal
+use Rattle.world.proofs.world.World.run_tick.Goals as goal
 
-pub play-played-requires-clause-seated : goal.play-played-requires-clause-seated
-play-played-requires-clause-seated g c =
+pub run_phases-played-requires-clause-seated : goal.run_phases-played-requires-clause-seated
+run_phases-played-requires-clause-seated g c =
     subst (λ (w : Wires). AreSeated w.cabling.seats (map ports_of c.self.inside.stations.items)) (sym c.set_losing.ensures)
     (laid_seated _ c.self.invariant)
 
 pub invariant_of-self : goal.invariant_of-self
 invariant_of-self g c =
     let old = c.self.inside in
-    let new = c.play-played.new.wires in
-    laid_after _ _ c.self.invariant refl c.play-played.ensures.ports
-    (c.play-played.ensures.goes.seats ∙ ap (λ (w : Wires). w.cabling.seats) c.set_losing.ensures)
-    (c.play-played.ensures.goes.limit ∙ ap (λ (w : Wires). w.cabling.limit) c.set_losing.ensures) c.self.invariant.few
+    let new = c.run_phases-played.new.wires in
+    laid_after _ _ c.self.invariant refl c.run_phases-played.ensures.ports
+    (c.run_phases-played.ensures.goes.seats ∙ ap (λ (w : Wires). w.cabling.seats) c.set_losing.ensures)
+    (c.run_phases-played.ensures.goes.limit ∙ ap (λ (w : Wires). w.cabling.limit) c.set_losing.ensures) c.self.invariant.few
     (due_ticks old.plan old.passed old.wires new
     (ticks_goes old.plan old.passed old.wires new c.in-Ok.losing.items c.in-Ok.ensures.losing c.self.invariant.seats
-    c.recall_numbered.ensures c.set_losing.new.self c.set_losing.ensures c.play-played.ensures.goes)
+    c.recall_numbered.ensures c.set_losing.new.self c.set_losing.ensures c.run_phases-played.ensures.goes)
     c.self.invariant.due)
-    (c.play-played.ensures.received
+    (c.run_phases-played.ensures.received
     (subst (λ (w : Wires). AreReceived (happened w) (map got old.stations.items)) (sym c.set_losing.ensures) c.self.invariant.received))
 
 pub returns-clause-ticks : goal.returns-clause-ticks
 returns-clause-ticks g c =
     let old = c.self.inside in
-    let new = c.play-played.new.wires in
+    let new = c.run_phases-played.new.wires in
     subst (λ (w : Worldly). Ticks w.plan w.now w.wires new) c.self.view_is
     (ticks_goes old.plan old.passed old.wires new c.in-Ok.losing.items c.in-Ok.ensures.losing c.self.invariant.seats
-    c.recall_numbered.ensures c.set_losing.new.self c.set_losing.ensures c.play-played.ensures.goes)
+    c.recall_numbered.ensures c.set_losing.new.self c.set_losing.ensures c.run_phases-played.ensures.goes)
 
 pub returns-clause-ticks_on : goal.returns-clause-ticks_on
 returns-clause-ticks_on g c =
     let old = c.self.inside in
-    let new = c.play-played.new.wires in
-    subst (λ (w : Worldly). OnOk c.play-played.result (TicksOn w.plan w.now w.wires new)) c.self.view_is
-    (on_ok_weaker c.play-played.result
+    let new = c.run_phases-played.new.wires in
+    subst (λ (w : Worldly). OnOk c.run_phases-played.result (TicksOn w.plan w.now w.wires new)) c.self.view_is
+    (on_ok_weaker c.run_phases-played.result
     (λ d. ticks_ends old.plan old.passed old.wires new c.in-Ok.losing.items c.in-Ok.ensures.losing c.self.invariant.seats
-    c.recall_numbered.ensures c.set_losing.new.self c.set_losing.ensures d) c.play-played.ensures.done)
+    c.recall_numbered.ensures c.set_losing.new.self c.set_losing.ensures d) c.run_phases-played.ensures.done)
 
 pub returns-clause-plays : goal.returns-clause-plays
 returns-clause-plays g c =
     let old = c.self.inside in
     let new : Worldly = record {
       plan = old.plan;
-      stations = c.play-played.new.stations.items;
-      wires = c.play-played.new.wires;
+      stations = c.run_phases-played.new.stations.items;
+      wires = c.run_phases-played.new.wires;
       now = old.passed;
       stopped = old.stopped;
-      refused = c.play-played.new.refused.items;
-      schedule = c.play-played.new.schedule.items;
+      refused = c.run_phases-played.new.refused.items;
+      schedule = c.run_phases-played.new.schedule.items;
     } in
-    subst (λ (w : Worldly). OnOk c.play-played.result (IsTick w new)) c.self.view_is
-    (on_ok_weaker c.play-played.result
+    subst (λ (w : Worldly). OnOk c.run_phases-played.result (IsTick w new)) c.self.view_is
+    (on_ok_weaker c.run_phases-played.result
     (λ p. record {
       losing = c.in-Ok.losing.items;
       loses = c.in-Ok.ensures.losing;
       plays =
           subst (λ (w : Wires). Plays old.plan old.passed old.stations.items new.stations w new.wires old.refused.items new.refused
           old.schedule.items new.schedule) c.set_losing.ensures p;
-    }) c.play-played.ensures.plays)
+    }) c.run_phases-played.ensures.plays)
 
 pub returns-clause-keeps : goal.returns-clause-keeps
 returns-clause-keeps g c =
-    subst (λ (w : Worldly). KeepsFirst w.refused c.play-played.new.refused.items) c.self.view_is c.play-played.ensures.keeps
+    subst (λ (w : Worldly). KeepsFirst w.refused c.run_phases-played.new.refused.items) c.self.view_is c.run_phases-played.ensures.keeps
