@@ -91,6 +91,8 @@ pub fn run_frozen<I: Read, S: Read, W: Write>(
         IfSome (I.remaining image.old.reader) (λ bytes. v.items ≡ bytes)) }
 {
     let image = read_image(alloc, image)?;
-    let steps = read_steps(alloc, script)?;
-    trace_script::<PlainTable, W>(alloc, image, steps.as_slice(), output)
+    match read_steps(alloc, script) {
+        Ok(steps) => trace_script::<PlainTable, W>(alloc, image, steps.as_slice(), output),
+        Err(error) => Err(error),
+    }
 }
