@@ -1,13 +1,15 @@
 //! The trace of a script.
 
-ghost use Rattle.std.specs.Prelude.{◌≡◌, ◌⊎◌, ◌++◌, List, ℕ, true, IfErr, IfOk, OnOk};
+ghost use Rattle.std.specs.Prelude.{◌≡◌, ◌⊎◌, ◌∷◌, ◌++◌, [], List, ℕ, true, IfErr, IfOk, OnOk};
 ghost use Rattle.std.specs.Io.KnownBytes.{Appends};
 ghost use Rattle.frozen_trace.specs.Traces.{IsPrinted, PlaysAll, all_printed, pending_line};
+ghost use Rattle.audit.specs.Verdicts.{verdict_line};
+ghost use Rattle.audit.specs.declared.verdict.Verdict.TheVariants.{No};
 ghost use Rattle.frozen.specs.Runs.{IsFrozen};
 
 use crate::playing::play;
 use crate::printing::print_pending;
-use at_base::Error;
+use at_base::{Error, Fault};
 use audit::Verdict;
 use frozen::Frozen;
 use rtmp::RouteTable;
@@ -49,13 +51,25 @@ pub fn trace_script<T: RouteTable, W: Write>(
             Ok(true)
         }
         Err(Error::NotAudited(fault)) => {
-            let line = Verdict::No(fault).line(alloc)?;
-            output.flush()?;
-            output.write_line(line.as_bytes())?;
+            print_no(alloc, fault, output)?;
             Ok(false)
         }
         Err(_) => Err(Error::Memory),
     }
+}
+
+/// Prints the line of a no. Errors: `Memory`; `WriteFault`, only if the writer failed.
+fn print_no<W: Write>(alloc: Global, fault: Fault, output: &mut Output<W>) -> Result<(), Error>
+    ensures printed { OnOk result (Appends (W.contents output.old.writer)
+        (W.contents output.new.writer)
+        (output.old.text.items ++ (verdict_line (No fault) ++ 10 ∷ []))) }
+    ensures refused { IfErr result (λ e.
+        (e ≡ Error.Memory) ⊎ ((e ≡ Error.WriteFault) × (output.new.failed ≡ true))) }
+    ensures stays { OnOk result (output.new.failed ≡ output.old.failed) }
+{
+    let line = Verdict::No(fault).line(alloc)?;
+    output.flush()?;
+    output.write_line(line.as_bytes())
 }
 
 /// Carries out a script over a run, and prints its trace.

@@ -43,13 +43,9 @@ returns-in-Ok-clause-printed g c =
           (append_assoc c.args.output.now.text.items played (pending_line ended)) told.printed.2,
     )
 
-pub returns-in-Err-NotAudited-clause-printed :
-    goal.returns-in-Err-NotAudited-clause-printed
+pub returns-in-Err-NotAudited-clause-printed : goal.returns-in-Err-NotAudited-clause-printed
 returns-in-Err-NotAudited-clause-printed g c =
-    let fault = c.in-Err-NotAudited.fault in
-    let text = c.args.output.now.text.items in
-    let line_is : c.as_bytes.result.now ≡ verdict_line (No fault) =
-    c.as_bytes.ensures.value ∙ c.in_ok-line-in-Err-NotAudited.ensures.ok in (
+    let fault = c.in-Err-NotAudited.fault in (
       verdict_line (No fault) ++ 10 ∷ [],
       (
         fault,
@@ -57,8 +53,5 @@ returns-in-Err-NotAudited-clause-printed g c =
             c.in-Err-NotAudited.ensures.refused,
         refl,
       ),
-      subst (λ (l : List ℕ). Appends (g.W.Write.contents c.args.output.now.writer) (g.W.Write.contents c.write_line.new.self.writer)
-          (text ++ (l ++ 10 ∷ []))) line_is
-          (appends_then _ (g.W.Write.contents c.flush.new.self.writer) _ text (c.as_bytes.result.now ++ 10 ∷ [])
-          c.in_ok-flush-in-Err-NotAudited.ensures.ok c.in_ok-write_line-in-Err-NotAudited.ensures.ok),
+      c.in_ok-print_no-in-Err-NotAudited.ensures.printed,
     )
