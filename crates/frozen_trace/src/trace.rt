@@ -1,15 +1,14 @@
 //! The trace of a script.
 
-ghost use Rattle.std.specs.Prelude.{◌≡◌, ◌⊎◌, ◌∷◌, ◌++◌, [], List, ℕ, true, IfErr, IfOk, OnOk};
+ghost use Rattle.std.specs.Prelude.{◌≡◌, ◌⊎◌, ◌++◌, [], List, ℕ, true, IfErr, IfOk, OnOk};
 ghost use Rattle.std.specs.Io.KnownBytes.{Appends};
 ghost use Rattle.frozen_trace.specs.Traces.{IsPrinted, PlaysAll, all_printed, pending_line};
-ghost use Rattle.audit.specs.Verdicts.{verdict_line};
-ghost use Rattle.audit.specs.declared.verdict.Verdict.TheVariants.{No};
 ghost use Rattle.frozen.specs.Runs.{IsFrozen};
+ghost use Rattle.trace_lines.specs.Stations.{directory_of};
 
 use crate::playing::play;
 use crate::printing::print_pending;
-use at_base::{Error, Fault};
+use at_base::Error;
 use audit::Verdict;
 use frozen::Frozen;
 use rtmp::RouteTable;
@@ -44,32 +43,40 @@ pub fn trace_script<T: RouteTable, W: Write>(
     ensures stays { OnOk result (output.new.failed ≡ output.old.failed) }
 {
     let mut lines = Lines::new(alloc, &image)?;
-    match Frozen::<T>::start(alloc, image, LIMIT) {
-        Ok(run) => {
-            let mut run = run;
-            trace_run(alloc, &mut run, steps, &mut lines, output)?;
-            Ok(true)
-        }
-        Err(Error::NotAudited(fault)) => {
-            print_no(alloc, fault, output)?;
-            Ok(false)
-        }
-        Err(_) => Err(Error::Memory),
-    }
+    trace_image::<T, W>(alloc, image, steps, &mut lines, output)
 }
 
-/// Prints the line of a no. Errors: `Memory`; `WriteFault`, only if the writer failed.
-fn print_no<W: Write>(alloc: Global, fault: Fault, output: &mut Output<W>) -> Result<(), Error>
-    ensures printed { OnOk result (Appends (W.contents output.old.writer)
-        (W.contents output.new.writer)
-        (output.old.text.items ++ (verdict_line (No fault) ++ 10 ∷ []))) }
+/// Carries out a script over the frozen tables of an image, and prints its trace, or the line of a
+/// no. The lines have the image's addresses.
+fn trace_image<T: RouteTable, W: Write>(
+    alloc: Global,
+    image: Image,
+    steps: &[Step],
+    lines: &mut Lines,
+    output: &mut Output<W>,
+) -> Result<bool, Error>
+    requires known { lines.old ≡ record { directory = directory_of image; cables = [] } }
+    ensures printed { IfOk result (λ yes. (text : List ℕ) × IsPrinted image steps.now yes text
+        × Appends (W.contents output.old.writer) (W.contents output.new.writer)
+        (output.old.text.items ++ text)) }
     ensures refused { IfErr result (λ e.
         (e ≡ Error.Memory) ⊎ ((e ≡ Error.WriteFault) × (output.new.failed ≡ true))) }
     ensures stays { OnOk result (output.new.failed ≡ output.old.failed) }
 {
-    let line = Verdict::No(fault).line(alloc)?;
-    output.flush()?;
-    output.write_line(line.as_bytes())
+    match Frozen::<T>::start(alloc, image, LIMIT) {
+        Ok(run) => {
+            let mut run = run;
+            trace_run(alloc, &mut run, steps, lines, output)?;
+            Ok(true)
+        }
+        Err(Error::NotAudited(fault)) => {
+            let line = Verdict::No(fault).line(alloc)?;
+            output.flush()?;
+            output.write_line(line.as_bytes())?;
+            Ok(false)
+        }
+        Err(_) => Err(Error::Memory),
+    }
 }
 
 /// Carries out a script over a run, and prints its trace.

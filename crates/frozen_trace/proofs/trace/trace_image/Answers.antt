@@ -10,7 +10,7 @@ use Rattle.frozen.specs.Events.{IsUnstarted}
 use Rattle.text.proofs.Going.{appends_then}
 use Rattle.frozen_trace.specs.Traces.{pending_line}
 use Rattle.table_image.specs.Internet.{Internet}
-use Rattle.frozen_trace.proofs.trace.trace_script.Goals as goal
+use Rattle.frozen_trace.proofs.trace.trace_image.Goals as goal
 
 -- The fault because of which no run starts is the audit's first.
 first_fault : (i : Internet) (fault : Fault) (e : Error) → e ≡ NotAudited fault → IsUnstarted i e → IsFirst i fault
@@ -19,8 +19,8 @@ first_fault i fault e is (inl known) =
     subst (IsFirst i) same known.2
 first_fault i fault e is (inr memory) = let odd = sym is ∙ memory.0 in absurd cc
 
-pub returns-in-Ok-clause-printed : goal.returns-in-Ok-clause-printed
-returns-in-Ok-clause-printed g c =
+pub returns-in_ok-trace_run-in-Ok-clause-printed : goal.returns-in_ok-trace_run-in-Ok-clause-printed
+returns-in_ok-trace_run-in-Ok-clause-printed g c =
     let told = c.in_ok-trace_run-in-Ok.ensures in
     let played = told.printed.0 in
     let ended = c.trace_run.new.run in (
@@ -43,9 +43,13 @@ returns-in-Ok-clause-printed g c =
           (append_assoc c.args.output.now.text.items played (pending_line ended)) told.printed.2,
     )
 
-pub returns-in-Err-NotAudited-clause-printed : goal.returns-in-Err-NotAudited-clause-printed
-returns-in-Err-NotAudited-clause-printed g c =
-    let fault = c.in-Err-NotAudited.fault in (
+pub returns-in_ok-write_line-in-Err-NotAudited-clause-printed :
+    goal.returns-in_ok-write_line-in-Err-NotAudited-clause-printed
+returns-in_ok-write_line-in-Err-NotAudited-clause-printed g c =
+    let fault = c.in-Err-NotAudited.fault in
+    let text = c.args.output.now.text.items in
+    let line_is : c.as_bytes.result.now ≡ verdict_line (No fault) =
+    c.as_bytes.ensures.value ∙ c.in_ok-line-in-Err-NotAudited.ensures.ok in (
       verdict_line (No fault) ++ 10 ∷ [],
       (
         fault,
@@ -53,5 +57,8 @@ returns-in-Err-NotAudited-clause-printed g c =
             c.in-Err-NotAudited.ensures.refused,
         refl,
       ),
-      c.in_ok-print_no-in-Err-NotAudited.ensures.printed,
+      subst (λ (l : List ℕ). Appends (g.W.Write.contents c.args.output.now.writer) (g.W.Write.contents c.write_line.new.self.writer)
+          (text ++ (l ++ 10 ∷ []))) line_is
+          (appends_then _ (g.W.Write.contents c.flush.new.self.writer) _ text (c.as_bytes.result.now ++ 10 ∷ [])
+          c.in_ok-flush-in-Err-NotAudited.ensures.ok c.in_ok-write_line-in-Err-NotAudited.ensures.ok),
     )
