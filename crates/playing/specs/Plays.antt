@@ -1,6 +1,6 @@
 -- The result of a play: the printed lines, whether the image passes the audit, and the image.
 use Rattle.std.specs.Prelude.{◌≡◌, ℕ, zero, suc, ◌+◌, Bool, List, [], ◌∷◌, ◌++◌, None, length}
-use Rattle.audit.specs.Verdicts.{Judges, verdict_line}
+use Rattle.audit.specs.Verdicts.{Judges, is_yes, verdict_line}
 use Rattle.audit.specs.declared.verdict.Verdict.{Verdict}
 use Rattle.internet_file.specs.Files.{IsFile}
 use Rattle.playing.specs.Lines.{received_lines, refused_lines}
