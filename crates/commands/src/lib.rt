@@ -11,5 +11,5 @@ mod tracing;
 pub use auditing::audit_file;
 pub use input::{Input, READS, append};
 pub use play_file::play_bytes;
-pub use sources::{Twice, discard, read_images, read_steps};
+pub use sources::{read_image, read_steps};
 pub use tracing::run_frozen;
