@@ -101,6 +101,7 @@ impl Bench for Program {
             "play" => self.play(words, text),
             "audit" => run::audit(self.alloc, self.image.as_slice(), text),
             "trace" => run::trace(self.alloc, self.image.as_slice(), words, text),
+            "trace-lines" => run::trace_lines(self.alloc, self.image.as_slice(), words, text),
             "begin" => self.begin_world(words),
             "world" => self.on_world(words, text),
             "arguments" => arguments::answer(self.alloc, words, text),

@@ -74,6 +74,49 @@ pub(crate) fn trace(
     put_status(text, &answer)
 }
 
+/// The number of line feeds.
+fn line_count(bytes: &[u8]) -> u32 {
+    let mut count = 0u32;
+    for byte in bytes {
+        if *byte == b'\n' {
+            count = count.saturating_add(1);
+        }
+    }
+    count
+}
+
+/// The bytes, so many times.
+fn repeated(alloc: Global, bytes: &[u8], times: u32) -> Result<Vec<u8>, AllocError> {
+    let mut whole = Vec::new(alloc);
+    for _ in 0..times {
+        whole.extend_from_slice(bytes)?;
+    }
+    Ok(whole)
+}
+
+/// Appends how many lines `atalk trace` prints for the image and a script that is repeated, and its
+/// status.
+pub(crate) fn trace_lines(
+    alloc: Global,
+    image: &[u8],
+    mut words: Words<'_>,
+    text: &mut String,
+) -> Answer {
+    let times = words.number()?;
+    let once = words.text(alloc)?;
+    let script = repeated(alloc, once.as_slice(), times)?;
+    let mut image = Input::new(image);
+    let mut script = Input::new(script.as_slice());
+    let mut output = Output::new(alloc, Vec::with_capacity(alloc, ROOM)?);
+    let answer = run_frozen(alloc, &mut image, &mut script, &mut output);
+    if answer == Err(Error::Memory) {
+        return Err(Error::Memory.into());
+    }
+    let lines = line_count(output.writer.as_slice());
+    writeln!(text, "{lines} lines")?;
+    put_status(text, &answer)
+}
+
 /// Appends the output of `atalk play --image` for the file, its image, and its status.
 pub(crate) fn play_files(alloc: Global, bytes: &[u8], text: &mut String) -> Answer {
     let mut input = Input::new(bytes);
