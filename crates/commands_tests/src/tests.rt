@@ -235,34 +235,47 @@ fn text_is_flushed_after_it_is_written(rt: HostRuntime) -> Result<(), Fail> {
     Ok(())
 }
 
+/// Audits an internet of nothing, after an earlier call of the input and of the output has failed.
+fn audit_after_failures(alloc: Global) -> Result<bool, Error> {
+    let mut room = [0u8; 80];
+    let mut input = Input::new(Pieces::new(EMPTY, 3));
+    let mut output = Output::new(alloc, room.as_mut_slice());
+    input.failed = true;
+    output.failed = true;
+    audit_file(alloc, &mut input, &mut output)
+}
+
 #[test]
 fn an_earlier_failure_refuses_nothing(rt: HostRuntime) {
-    for _attempt in 0..2 {
-        let mut room = [0u8; 80];
-        let mut input = Input::new(Pieces::new(EMPTY, 3));
-        let mut output = Output::new(rt.alloc(), room.as_mut_slice());
-        input.failed = true;
-        output.failed = true;
-        let answer = audit_file(rt.alloc(), &mut input, &mut output);
-        assert!(rt; matches!(answer, Ok(true) | Err(Error::Memory)));
+    let answer = match audit_after_failures(rt.alloc()) {
+        Err(Error::Memory) => audit_after_failures(rt.alloc()),
+        answer => answer,
+    };
+    assert_eq!(rt; answer, Ok(true));
+}
+
+/// Whether an input keeps its bytes when it is audited, unless an allocation fails.
+fn keeps(alloc: Global, bytes: &[u8]) -> Option<bool> {
+    let mut room = [0u8; 80];
+    let mut input = Input::new(Pieces::new(bytes, 3));
+    let mut output = Output::new(alloc, room.as_mut_slice());
+    let answer = audit_file(alloc, &mut input, &mut output);
+    let kept = matches!(&input.kept, Some(kept) if kept.as_slice() == bytes);
+    if answer == Err(Error::Memory) {
+        None
+    } else {
+        Some(kept)
     }
 }
 
 #[test]
 fn an_input_keeps_its_bytes(rt: HostRuntime) {
     for bytes in [EMPTY, BACKWARD, b"ATIN".as_slice()] {
-        for _attempt in 0..2 {
-            let mut room = [0u8; 80];
-            let mut input = Input::new(Pieces::new(bytes, 3));
-            let mut output = Output::new(rt.alloc(), room.as_mut_slice());
-            if audit_file(rt.alloc(), &mut input, &mut output) != Err(Error::Memory) {
-                let kept = match &input.kept {
-                    Some(kept) => kept.as_slice(),
-                    None => b"".as_slice(),
-                };
-                assert_eq!(rt; kept, bytes);
-            }
-        }
+        let kept = match keeps(rt.alloc(), bytes) {
+            None => keeps(rt.alloc(), bytes),
+            kept => kept,
+        };
+        assert_eq!(rt; kept, Some(true));
     }
 }
 

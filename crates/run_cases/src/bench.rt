@@ -100,6 +100,7 @@ impl Bench for Runs {
             "seats" => seats::answer(self.alloc, rest, text),
             "takes" => taking::answer(self.alloc, rest, text),
             "takes-both" => taking::answer_both(self.alloc, rest, text),
+            "takes-lost" => taking::answer_lost(self.alloc, rest, text),
             "cables" => self.on_cables(rest, text),
             "script" => scripts::answer(self.alloc, rest, text),
             "start" => self.start(rest),

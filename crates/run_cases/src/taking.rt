@@ -6,7 +6,7 @@ ghost use Rattle.cable_model.specs.Outcomes.{AreSeatsOf};
 use crate::cables::{Known, put_first, put_waiting, resolver};
 use crate::entries::put_entries;
 use crate::relay::{Act, Relay};
-use crate::seats::EIGHT;
+use crate::seats::{EIGHT, THREE};
 use at_base::{Addr, Bytes, Error, Hw};
 use cable_model::{Cables, Kind};
 use case_words::{Answer, Stop, Words};
@@ -98,6 +98,37 @@ pub(crate) fn answer(alloc: Global, mut words: Words<'_>, text: &mut String) -> 
     take(&mut cables, 0, &mut relay, &known, text)?;
     take(&mut cables, 0, &mut relay, &known, text)?;
     take(&mut cables, 9, &mut relay, &known, text)?;
+    put_all(&cables, text)
+}
+
+/// Cables with the seats of the three-cable internet, for at most `limit` entries.
+fn three_seated(alloc: Global, limit: u32) -> Result<Cables, Error>
+    ensures { IfOk result (λ cables. AreSeatsOf cables.seats 0 2) }
+{
+    let cables = Cables::new(alloc, &THREE, limit)?;
+    Ok(cables)
+}
+
+/// Loses a frame for all stations.
+fn lose(cables: &mut Cables, stamp: u32) -> Result<(), Error>
+    ensures { cables.new.seats ≡ cables.old.seats }
+{
+    cables.lose(stamp)
+}
+
+/// Loses the frame that station 2 of the three-cable internet put for station 0, and then lets
+/// station 0 take it: `takes-lost limit 1000 passes knows cable 1 20.2 nobody listed 30 BYTES`.
+pub(crate) fn answer_lost(alloc: Global, mut words: Words<'_>, text: &mut String) -> Answer {
+    let limit = words.named("limit")?;
+    let act = act(&mut words)?;
+    words.expect("knows")?;
+    let known = resolver(&mut words)?;
+    let bytes = Bytes::from_vec(words.bytes(alloc)?);
+    let mut cables = three_seated(alloc, limit)?;
+    put(&mut cables, 0, 2, ROUTER_HW, bytes)?;
+    lose(&mut cables, 0)?;
+    let mut relay = Relay { alloc, act };
+    take(&mut cables, 0, &mut relay, &known, text)?;
     put_all(&cables, text)
 }
 

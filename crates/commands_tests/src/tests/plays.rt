@@ -71,18 +71,26 @@ fn pieces(text: &[u8]) -> Pieces<'_> {
     Pieces::new(text, 40)
 }
 
+/// Whether the lines and the image of a play are flushed after their ends.
+fn flushes(alloc: Global) -> Result<bool, Error> {
+    let mut input = Input::new(pieces(EARLY));
+    let mut output = Output::new(alloc, Holding::new());
+    let mut image = Output::new(alloc, Holding::new());
+    let answer = play_bytes(alloc, &mut input, &mut output, &mut image, &mut Silent);
+    let flushed = output.writer.flushed() == NO && image.writer.flushed().len() == IMAGE_LEN;
+    match answer {
+        Ok(yes) => Ok(!yes && flushed),
+        Err(error) => Err(error),
+    }
+}
+
 #[test]
 fn lines_and_images_are_flushed_after_their_ends(rt: HostRuntime) {
-    for _attempt in 0..2 {
-        let mut input = Input::new(pieces(EARLY));
-        let mut output = Output::new(rt.alloc(), Holding::new());
-        let mut image = Output::new(rt.alloc(), Holding::new());
-        let answer = play_bytes(rt.alloc(), &mut input, &mut output, &mut image, &mut Silent);
-        if answer.is_ok() {
-            assert_eq!(rt; output.writer.flushed(), NO);
-            assert_eq!(rt; image.writer.flushed().len(), IMAGE_LEN);
-        }
-    }
+    let flushed = match flushes(rt.alloc()) {
+        Err(Error::Memory) => flushes(rt.alloc()),
+        answer => answer,
+    };
+    assert_eq!(rt; flushed, Ok(true));
 }
 
 #[test]
@@ -132,22 +140,29 @@ fn every_write_may_fail(rt: HostRuntime) {
     assert_eq!(rt; play_frail(rt.alloc(), 4, 4), Ok(true));
 }
 
+/// Plays the small internet, whose lines can't be written. The results are the answer, and the
+/// number of calls of the image's writer.
+fn play_unwritten(alloc: Global) -> (Result<bool, Error>, u32) {
+    let mut input = Input::new(pieces(SMALL));
+    let lines = Frail {
+        calls: 0,
+        fails_at: 1,
+    };
+    let whole = Frail {
+        calls: 0,
+        fails_at: 9,
+    };
+    let mut output = Output::new(alloc, lines);
+    let mut image = Output::new(alloc, whole);
+    let answer = play_bytes(alloc, &mut input, &mut output, &mut image, &mut Silent);
+    (answer, image.writer.calls)
+}
+
 #[test]
 fn no_byte_of_the_image_is_written_before_all_lines(rt: HostRuntime) {
-    for _attempt in 0..2 {
-        let mut input = Input::new(pieces(SMALL));
-        let lines = Frail {
-            calls: 0,
-            fails_at: 1,
-        };
-        let whole = Frail {
-            calls: 0,
-            fails_at: 9,
-        };
-        let mut output = Output::new(rt.alloc(), lines);
-        let mut image = Output::new(rt.alloc(), whole);
-        let answer = play_bytes(rt.alloc(), &mut input, &mut output, &mut image, &mut Silent);
-        assert!(rt; matches!(answer, Err(Error::WriteFault | Error::Memory)));
-        assert_eq!(rt; image.writer.calls, 0);
+    let mut played = play_unwritten(rt.alloc());
+    if played == (Err(Error::Memory), 0) {
+        played = play_unwritten(rt.alloc());
     }
+    assert_eq!(rt; played, (Err(Error::WriteFault), 0));
 }

@@ -1,0 +1,7 @@
+use Rattle.std.proofs.Common.{refl, ap}
+use Rattle.run_cases.proofs.FirstTwo.{seats_of}
+use Rattle.run_cases.proofs.taking.three_seated.Goals as goal
+
+pub returns : goal.returns
+returns c =
+    seats_of _ _ _ _ (ap (λ cables. cables.seats) ((c.in_ok-cables.ensures {u = tt}).ok)) refl refl refl refl refl
