@@ -21,6 +21,7 @@ class Payloads:
         self.asked = [self.echo, self.echo, self.names, self.names, self.names, self.zones_of, self.zones_of, self.zone_page,
                       self.zone_page]
         self.kinds = [*self.asked, self.routes, self.noise, self.noise]
+        self.used = []
 
     def socket(self, usual):
         """The usual number of a socket or a type, and now and then another."""
@@ -121,14 +122,22 @@ class Payloads:
         return self.own_socket(6), self.socket(6), self.socket(6), self.spoiled(data)
 
     def zone_page(self, asker, target):
-        """A packet of ATP: mostly a request for a list of zones, of few transactions, so that some are repeated."""
+        """A packet of ATP: mostly a request for a list of zones, and often of a transaction that was used before."""
         chance = self.chance
         control = chance.choice([0x40] * 3 + [0x60] * 6 + [0xC0, 0xC0, 0x90, 0x00]) | chance.choice([0, 0, 0, 1, 4, 7, 0x08])
         index = chance.choice([0, 1, 1, 2, 3, 17, 60, 65535])
         user = struct.pack(">BBH", chance.choice([7, 8, 8, 9, 9, 6, 0]), chance.choice([0, 0, 1]), index)
-        data = bytes([control, chance.choice([1, 1, 1, 0, 2, 255])]) + struct.pack(">H", chance.choice([1, 1, 1, 1, 2])) + user
+        data = bytes([control, chance.choice([1, 1, 1, 0, 2, 255])]) + struct.pack(">H", self.transaction_id()) + user
         own = chance.choice([252, 252, 252, 252, 128, 6])
         return own, self.socket(chance.choice([6, 6, 6, 6, 252])), self.socket(3), self.spoiled(data)
+
+    def transaction_id(self):
+        """Any number of 16 bits, and more often one that was used before."""
+        chance = self.chance
+        if self.used and chance.random() < 0.7:
+            return chance.choice(self.used)
+        self.used.append(chance.choice([0, 1, 255, 256, 65535] + [chance.randrange(65536)] * 5))
+        return self.used[-1]
 
     def routes(self, asker, target):
         """What a router says of ranges, which frozen stations don't believe."""

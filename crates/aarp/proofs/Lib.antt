@@ -5,3 +5,4 @@ mod Known
 mod Turns
 mod Ticks
 mod Counts
+pub mod Settled

@@ -10,9 +10,19 @@ ghost use Rattle.aarp.specs.Packets.{station_bytes};
 
 use at_base::packet::{address_at, byte_at, hardware_at, u16_only, u16_within};
 use at_base::{Addr, Error, Field, Hw};
+use byteorder::{BigEndian, ByteOrder};
 
 /// The length of an AARP packet, in bytes.
 pub const PACKET_LEN: usize = 28;
+
+/// The hardware type of Ethernet.
+const ETHERNET: u16 = 1;
+
+/// The protocol type of AppleTalk.
+const APPLETALK: u16 = 0x809B;
+
+/// The lengths of a hardware address, 6 bytes, and of a protocol address, 4 bytes.
+const LENGTHS: u16 = 0x0604;
 
 /// The function of an AARP packet.
 ///
@@ -54,7 +64,12 @@ fn head(function: Function) -> [u8; 8]
         Function::Response => 2,
         Function::Probe => 3,
     };
-    [0x00, 0x01, 0x80, 0x9B, 0x06, 0x04, 0x00, number]
+    let mut bytes = [0; 8];
+    BigEndian::write_u16(&mut bytes, ETHERNET);
+    BigEndian::write_u16(&mut bytes[2..], APPLETALK);
+    BigEndian::write_u16(&mut bytes[4..], LENGTHS);
+    BigEndian::write_u16(&mut bytes[6..], number);
+    bytes
 }
 
 /// The bytes of a station: its hardware address, a 0, and its address.
@@ -63,8 +78,9 @@ fn station(hw: Hw, addr: Addr) -> [u8; 10]
     ensures fits { (length hw.0 ≡ 6) × (addr.net < 65536) × (addr.node < 256) }
 {
     let Hw([a, b, c, d, e, f]) = hw;
-    let [high, low] = addr.net.to_be_bytes();
-    [a, b, c, d, e, f, 0x00, high, low, addr.node]
+    let mut bytes = [a, b, c, d, e, f, 0, 0, 0, addr.node];
+    BigEndian::write_u16(&mut bytes[7..], addr.net);
+    bytes
 }
 
 /// The function of a number from 1 to 3.
@@ -87,9 +103,9 @@ fn whole_at(bytes: &[u8]) -> Result<(Packet, u8, u8, &[u8]), Error>
     if bytes.len() < PACKET_LEN {
         return Err(Error::Truncated);
     }
-    let (_, rest) = u16_only(bytes, 1, Field::HardwareType)?;
-    let (_, rest) = u16_only(rest, 0x809B, Field::ProtocolType)?;
-    let (_, rest) = u16_only(rest, 0x0604, Field::Lengths)?;
+    let (_, rest) = u16_only(bytes, ETHERNET, Field::HardwareType)?;
+    let (_, rest) = u16_only(rest, APPLETALK, Field::ProtocolType)?;
+    let (_, rest) = u16_only(rest, LENGTHS, Field::Lengths)?;
     let (function, rest) = u16_within(rest, 1, 3, Field::Function)?;
     let (source_hw, rest) = hardware_at(rest)?;
     let (source_first, rest) = byte_at(rest)?;

@@ -1,6 +1,6 @@
 //! The outcome of a run of the program.
 
-ghost use Rattle.std.specs.Prelude.{◌≡◌};
+ghost use Rattle.std.specs.Prelude.{◌≡◌, Some};
 
 use crate::explain::Evidence;
 use command_line::{Outcome, Source};
@@ -31,7 +31,8 @@ impl<'a> Performed<'a> {
 
     /// A run that couldn't open a source.
     pub fn not_opened(source: Source<'a>, kind: io::ErrorKind) -> Performed<'a>
-        ensures { result.outcome ≡ Outcome.NotOpened kind }
+        ensures outcome { result.outcome ≡ Outcome.NotOpened kind }
+        ensures source { result.evidence.source ≡ Some source }
     {
         Performed {
             outcome: Outcome::NotOpened(kind),
@@ -43,9 +44,11 @@ impl<'a> Performed<'a> {
             },
         }
     }
+
     /// A run that couldn't create the file for the image.
     pub fn not_created(path: &'a str, kind: io::ErrorKind) -> Performed<'a>
-        ensures { result.outcome ≡ Outcome.NotCreated kind }
+        ensures outcome { result.outcome ≡ Outcome.NotCreated kind }
+        ensures source { result.evidence.source ≡ Some (Source.File path) }
     {
         Performed {
             outcome: Outcome::NotCreated(kind),

@@ -1,6 +1,6 @@
 //! A run of the program.
 
-ghost use Rattle.std.specs.Prelude.{◌≡◌, Bool};
+ghost use Rattle.std.specs.Prelude.{◌≡◌, Bool, Err, Some, if◌then◌else◌, is_some, ℕ};
 ghost use Rattle.clap.specs.Words.{kind_of};
 ghost use Rattle.command_line.specs.Exits.{exit_at};
 
@@ -79,6 +79,44 @@ fn audit_source<'a, R: Files + Input + Print + Eprint + AllocGlobal>(
     }
 }
 
+/// What explains a trace: its script, if that has a bad line or wasn't read to its end, and
+/// otherwise its image.
+fn evidence_of<'a, I: Drop, S: Drop>(
+    sources: Sources<'a>,
+    answer: &Result<bool, Error>,
+    image: commands::Input<I>,
+    script: commands::Input<S>,
+) -> Evidence<'a>
+    ensures bad_line { (n : ℕ) → answer.now ≡ Err (Error.BadScript n)
+        → result.source ≡ Some sources.script }
+    // An image that was read to its end is kept, so the read that failed is that of the script.
+    ensures read_fault { answer.now ≡ Err Error.ReadFault → result.source
+        ≡ Some (if is_some image.kept then sources.script else sources.image) }
+    ensures reason { answer.now ≡ Err Error.ReadFault → result.fault
+        ≡ (if is_some image.kept then script.fault else image.fault) }
+{
+    let by_script = match answer {
+        Err(Error::BadScript(_)) => true,
+        Err(Error::ReadFault) => image.kept.is_some(),
+        _ => false,
+    };
+    if by_script {
+        Evidence {
+            source: Some(sources.script),
+            fault: script.fault,
+            bytes: None,
+            unwritten: None,
+        }
+    } else {
+        Evidence {
+            source: Some(sources.image),
+            fault: image.fault,
+            bytes: image.kept,
+            unwritten: None,
+        }
+    }
+}
+
 /// Runs the script that one reader has over the image that the other has, and prints the trace on
 /// standard output.
 fn trace_readers<'a, R: Print + AllocGlobal, I: Read + Drop, S: Read + Drop>(
@@ -91,28 +129,7 @@ fn trace_readers<'a, R: Print + AllocGlobal, I: Read + Drop, S: Read + Drop>(
     let mut script = commands::Input::new(script);
     let mut output = Output::new(rt.alloc(), writer(rt));
     let answer = run_frozen(rt.alloc(), &mut image, &mut script, &mut output);
-    let commands::Input { fault, kept, .. } = image;
-    let by_script = match answer {
-        Err(Error::BadScript(_)) => true,
-        // An image that was read to its end is kept, so the failed read was that of the script.
-        Err(Error::ReadFault) => kept.is_some(),
-        _ => false,
-    };
-    let evidence = if by_script {
-        Evidence {
-            source: Some(sources.script),
-            fault: script.fault,
-            bytes: None,
-            unwritten: None,
-        }
-    } else {
-        Evidence {
-            source: Some(sources.image),
-            fault,
-            bytes: kept,
-            unwritten: None,
-        }
-    };
+    let evidence = evidence_of(sources, &answer, image, script);
     Performed {
         outcome: Outcome::Answered(answer),
         evidence,

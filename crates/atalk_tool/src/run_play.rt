@@ -1,5 +1,7 @@
 //! Plays internet files, from their sources to the outputs for their lines and images.
 
+ghost use Rattle.std.specs.Prelude.{◌≡◌, ◌==◌, None, if◌then◌else◌};
+
 use crate::explain::{Evidence, prompt};
 use crate::performed::Performed;
 use crate::run::Terminals;
@@ -17,6 +19,13 @@ use text::Output;
 pub struct PlayJob<'a> {
     pub source: Source<'a>,
     pub image: Option<&'a str>,
+}
+
+/// The file for the image, if a write to it failed.
+fn unwritten<'a, I>(image: &Output<I>, path: Option<&'a str>) -> Option<&'a str>
+    ensures { result ≡ (if image.now.faults == 0 then None else path) }
+{
+    if image.faults == 0 { None } else { path }
 }
 
 /// Plays the internet file that the reader has, and prints its lines on standard output; the image
@@ -47,7 +56,7 @@ fn play_reader<'a, R: Print + Eprint + AllocGlobal, S: Read + Drop, I: Write + D
             source: Some(job.source),
             fault,
             bytes: kept,
-            unwritten: if image.failed { job.image } else { None },
+            unwritten: unwritten(&image, job.image),
         },
     }
 }

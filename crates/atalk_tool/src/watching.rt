@@ -1,8 +1,13 @@
 //! Shows the progress of a long play to a person at a terminal.
 
+ghost use Rattle.std.specs.Prelude.{◌≡◌, ◌&&◌};
+ghost use Rattle.std.specs.List.{list_any};
+ghost use Rattle.audit.specs.Rules.{is_for};
+ghost use Rattle.rtmp.specs.States.{is_usable};
+
 use playing::Progress;
 use rtmp::PlainTable;
-use table_image::{Cable, Image, Router};
+use table_image::{Cable, Image, Router, Row};
 use world::World;
 
 /// Plays with more ticks than this are long.
@@ -69,11 +74,19 @@ impl<R: Eprint> Progress for Watching<'_, R> {
     }
 }
 
+/// Whether the row is a usable one for the cable.
+fn is_route(row: &Row, cable: &Cable) -> bool
+    ensures { result ≡ (is_for row.now cable.now && is_usable row.now.state) }
+{
+    row.start == cable.start && row.end == cable.end && row.state.is_usable()
+}
+
 /// Whether the router has a usable row for the cable.
-fn has_row(router: &Router, cable: &Cable) -> bool {
-    router.rows.iter().any(|row| {
-        row.start == cable.start && row.end == cable.end && row.state.is_usable()
-    })
+fn has_row(router: &Router, cable: &Cable) -> bool
+    ensures { result
+        ≡ list_any (λ row. is_for row cable.now && is_usable row.state) router.now.rows }
+{
+    router.rows.iter().any(|row| is_route(row, cable))
 }
 
 /// The number of cables for which some router has no usable row.

@@ -42,7 +42,7 @@ known_none id [] h = refl
 known_none id (None ∷ slots) h = known_none id slots (λ k. h (suc k))
 known_none id (Some u ∷ slots) h = rw (is_other u id (h 0 u refl)) (known_none id slots (λ k. h (suc k)))
 
-apart_rest : (o : Option Transaction) (slots : Slots) → AreApart (o ∷ slots) → AreApart slots
+pub apart_rest : (o : Option Transaction) (slots : Slots) → AreApart (o ∷ slots) → AreApart slots
 apart_rest o slots h = λ j k t u a b e. (let r = h (suc j) (suc k) t u a b e in omega (arith, r))
 
 -- a transaction in a slot is known

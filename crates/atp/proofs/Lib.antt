@@ -6,6 +6,7 @@ mod Free
 mod Slots
 mod Steps
 mod Due
+mod OpenIds
 mod Copies
 mod Requests
 pub mod Complete

@@ -1,7 +1,7 @@
 -- A requester: its open transactions, by their IDs. (Inside AppleTalk, the chapter on ATP)
 use Rattle.std.specs.Prelude.{◌≡◌, ℕ, ◌+◌, ◌-◌, ◌%◌, ◌<◌, ◌≤◌, Bool, true, false, not, ◌&&◌, ◌==◌, List, [], ◌∷◌, ◌++◌, length, map, take}
 use Rattle.std.specs.Prelude.{drop, filter_map, Option, Some, None, slice_set, slice_index_or, count_by, is_some, nat_lt, if◌then◌else◌}
-use Rattle.std.specs.List.{list_any}
+use Rattle.std.specs.List.{list_any, IsDistinct}
 use Rattle.at_base.specs.Address.{same_address}
 use Rattle.atp.specs.declared.ask.Ask.{Ask}
 use Rattle.atp.specs.declared.ask.Peer.{Peer}
@@ -157,6 +157,11 @@ abbrev pub AreApart : List (Option Transaction) → Type 0
 AreApart slots =
     (j k : ℕ) (t u : Transaction) → slice_index_or slots j None ≡ Some t → slice_index_or slots k None ≡ Some u
     → t.id ≡ u.id → j ≡ k
+
+-- The IDs are those of the open transactions, each once.
+pub record AreOpen (slots : List (Option Transaction)) (ids : List ℕ) : Type 0 where
+  pub each : (id : ℕ) → list_any (λ n. n == id) ids ≡ is_some (known id slots)
+  pub once : IsDistinct ◌==◌ ids
 
 -- the number of open transactions
 abbrev pub open_count : List (Option Transaction) → ℕ

@@ -57,6 +57,10 @@ of_kind once requests = length (filter (λ r. if once then r.once else not r.onc
 abbrev pub has_room : AtpPacket → List Request → Bool
 has_room p requests = nat_lt (of_kind (is_exactly_once p.control) requests) 64
 
+-- the request is new, and the responder has no room for it
+abbrev pub is_full_for : Peer → AtpPacket → List Request → Bool
+is_full_for from p requests = not (is_some (request_of from p.id requests)) && not (has_room p requests)
+
 -- The action for a request that came before, and the requests after it: a kept answer is sent again, and its time is
 -- restarted; a request without an answer still waits.
 abbrev pub asked_again : Peer → ℕ → List Request → Request → Todo × List Request

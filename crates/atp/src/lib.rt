@@ -19,5 +19,5 @@ pub use outcome::{Outcome, Response};
 pub use packet::{HEADER_LEN, MAX_DATA, MAX_PARTS, Packet, write};
 pub use replying::reply;
 pub use request::Todo;
-pub use requester::{MAX_OPEN, Requester};
+pub use requester::{MAX_OPEN, Requester, transactions_are_counted};
 pub use responder::{MAX_REQUESTS, Responder, requests_are_few};

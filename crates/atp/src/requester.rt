@@ -2,15 +2,16 @@
 //! number of tries.
 
 ghost use Rattle.std.specs.Prelude.{◌≡◌, ◌≢◌, ◌⊎◌, ◌↔◌, ◌<◌, ◌≤◌, ◌+◌, ◌%◌, Some, None, true};
-ghost use Rattle.std.specs.Prelude.{false, ℕ, length, IfOk, IfErr, IfNone, IfSome, IsOkUnless};
-ghost use Rattle.std.specs.Prelude.{OnErr, OnOk, nat_le};
+ghost use Rattle.std.specs.Prelude.{false, ℕ, length, IfOk, IfErr, IfNone, IfSome, IsOk, IsOkUnless};
+ghost use Rattle.std.specs.Prelude.{List, OnErr, OnOk, nat_le};
 ghost use Rattle.std.specs.Option.{option_map};
 ghost use Rattle.at_base.specs.Spelling.{bytes_of};
 ghost use Rattle.at_base.specs.declared.error.What.TheVariants.{Transaction as Missing};
 ghost use Rattle.atp.specs.InPlace.{packet_value};
 ghost use Rattle.atp.specs.Packets as spec;
-ghost use Rattle.atp.specs.Requesting.{known, begun, sent, ticked, after_hearing, IsAsk, IsNextId};
-ghost use Rattle.atp.specs.Requesting.{IsLeastDue, is_due_in, open_count, release_for, request_of};
+ghost use Rattle.atp.specs.Requesting.{known, begun, sent, ticked, after_hearing, AreOpen, IsAsk};
+ghost use Rattle.atp.specs.Requesting.{IsLeastDue, is_due_in, is_heard, open_count, release_for};
+ghost use Rattle.atp.specs.Requesting.{IsNextId, request_of};
 ghost use Rattle.atp.specs.Outcomes.{left_open, outcome_of};
 
 use crate::ask::{Ask, Peer};
@@ -165,6 +166,9 @@ impl Requester {
         ensures next { self.new.next ≡ self.old.next }
         ensures release { IfOk result (λ release. release
             ≡ release_for from (packet_value packet.now) (known packet.now.id self.old.slots)) }
+        // A packet that no transaction accepts needs no memory.
+        ensures ignored { IfSome (known packet.now.id self.old.slots)
+            (λ t. is_heard from (packet_value packet.now) t ≡ false) → IsOk result }
         ensures refused { IsOkUnless result Error.Memory }
         ensures kept { OnErr result (self.new ≡ self.old) }
     {
@@ -204,4 +208,13 @@ impl Requester {
             None => Err(Error::NoSuch(What::Transaction)),
         }
     }
+}
+
+/// Does nothing. Its contract says what `open_count` counts: the IDs that are known, each once. So
+/// `begin` returns `Full` where 32 IDs are known.
+pub fn transactions_are_counted(requester: &Requester)
+    ensures { (ids : List ℕ) × AreOpen requester.now.slots ids
+        × (length ids ≡ open_count requester.now.slots) }
+{
+    let _table = &requester.table;
 }

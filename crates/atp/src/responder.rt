@@ -214,6 +214,17 @@ impl Responder {
         }
     }
 
+    /// Whether a request from an asker is new and there is no room for it, so that it is dropped.
+    /// Allocates nothing.
+    pub fn is_full_for(&self, from: Peer, packet: &Packet<'_>) -> bool
+        ensures { result ≡ spec.is_full_for from (packet_value packet.now) self.now }
+    {
+        if find(self.requests.as_slice(), from, packet.id).is_some() {
+            return false;
+        }
+        count_of(self.requests.as_slice(), packet.is_exactly_once()) >= MAX_REQUESTS
+    }
+
     /// Handles a packet from an asker, and returns the action for it. A release removes the request
     /// that it names.
     ///

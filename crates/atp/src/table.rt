@@ -1,7 +1,7 @@
 //! Open transactions in a slab.
 
 ghost use Rattle.std.specs.Prelude.{◌≡◌, ◌≢◌, ◌⊎◌, ◌≤◌, ◌<◌, ◌+◌, suc, Some, None, false, true, ℕ};
-ghost use Rattle.std.specs.Prelude.{if◌then◌else◌, IfOk, IfErr, IfNone, IfSome, IsOkUnless, OnErr};
+ghost use Rattle.std.specs.Prelude.{if◌then◌else◌, IfOk, IfErr, IfNone, IfSome, IsOk, IsOkUnless, OnErr};
 ghost use Rattle.std.specs.Prelude.{OnOk};
 ghost use Rattle.std.specs.Option.{option_map};
 ghost use Rattle.slab.specs.Slab.{get, slab_len};
@@ -298,6 +298,8 @@ pub(crate) fn hear_at(
         → Put table.old table.new t.id (Some (after_hearing from (packet_value packet.now) t))) }
     ensures release { IfOk result (λ release. (t : Value) → get table.old key ≡ Some t
         → release ≡ release_for from (packet_value packet.now) (Some t)) }
+    ensures ignored { (t : Value) → get table.old key ≡ Some t
+        → is_heard from (packet_value packet.now) t ≡ false → IsOk result }
     ensures refused { IsOkUnless result Error.Memory }
     ensures kept { OnErr result (table.new ≡ table.old) }
 {

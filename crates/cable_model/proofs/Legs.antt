@@ -1,7 +1,7 @@
 -- The legs of datagrams, by their routes; and the room that outputs need.
-use Rattle.std.proofs.Common.{◌≡◌, ℕ, ◌+◌, ◌*◌, Bool, true, false, not, cond, List, [], ◌∷◌, length, refl, arith, sym, ap, ◌∙◌, subst}
+use Rattle.std.proofs.Common.{◌≡◌, ℕ, ◌+◌, ◌*◌, Bool, true, false, not, ◌&&◌, cond, List, [], ◌∷◌, length, refl, arith, sym, ap, ◌∙◌, subst}
 use Rattle.at_base.specs.Address.{same_address}
-use Rattle.cable_model.specs.Outcomes.{Places, Sender, held_by, held_next, leg, to_other, to_target}
+use Rattle.cable_model.specs.Outcomes.{Places, Sender, goes_nowhere, held_by, held_next, is_nobody, leg, to_other, to_target}
 use Rattle.cable_model.specs.Ways.{all_lines, all_spare, is_nowhere_way, sender_at, way_entries, way_held, way_of}
 use Rattle.cable_model.proofs.Steps.{same_grows}
 use Rattle.cable_model.specs.Books.{Grows}
@@ -53,6 +53,19 @@ left_grows places exit to bytes b w old new n stamp e p q x =
     ap (λ b. way_held exit.port b w) q ∙ (ap (way_held exit.port bytes) e ∙ sym (held_is places exit.cable exit.port to bytes)) in
     subst (λ es. Grows old new es (held_next places exit.cable exit.port to bytes)) entries
     (subst (λ hs. Grows old new (way_entries (sender_at exit n) b w) hs) waits x)
+
+-- a datagram goes nowhere on its route just if it goes nowhere
+pub nowhere_is : (places : Places) (cable : ℕ) (to : Next) (bytes : List ℕ)
+    → is_nowhere_way (way_of places cable to bytes) ≡ goes_nowhere places cable to bytes
+nowhere_is places cable (next.Station a) bytes = by (same_address (target bytes) a) (places.finds cable a)
+  where
+    by : (b : Bool) (f : Found) → is_nowhere_way (cond b (way.Target a f) (way.Other a f)) ≡ (not b && is_nobody f)
+    by true f = refl
+    by false Nobody = refl
+    by false Later = refl
+    by false (At hw) = refl
+nowhere_is places cable next.All bytes = refl
+nowhere_is places cable (next.Group g) bytes = refl
 
 nowhere_none : (s : Sender) (port : ℕ) (bytes : List ℕ) (w : Route) → is_nowhere_way w ≡ true
     → (way_entries s bytes w ≡ []) × (way_held port bytes w ≡ [])

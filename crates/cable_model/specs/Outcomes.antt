@@ -1,5 +1,5 @@
 -- The entries of a station's outputs on the cables.
-use Rattle.std.specs.Prelude.{◌≡◌, ◌⊎◌, ℕ, ◌+◌, ◌<◌, ◌≤◌, Bool, ◌&&◌, ◌==◌, cond, List, [], ◌∷◌, ◌++◌, find, map, slice_index}
+use Rattle.std.specs.Prelude.{◌≡◌, ◌⊎◌, ℕ, ◌+◌, ◌<◌, ◌≤◌, Bool, true, false, ◌&&◌, ◌==◌, cond, List, [], ◌∷◌, ◌++◌, find, map, slice_index}
 use Rattle.std.specs.Prelude.{Option, Some, None, Contains, if◌then◌else◌, not}
 use Rattle.std.specs.List.{list_any}
 use Rattle.at_base.specs.Address.{same_address}
@@ -130,6 +130,32 @@ all_held places seats station (o ∷ os) = held_of places seats station o ++ all
 abbrev pub held_at : List (List ℕ) → Waiting → Held
 held_at kept w = record { port = w.port; next = w.next; bytes = bytes_at kept w.bytes }
 
+-- nobody has the address
+abbrev pub is_nobody : Found → Bool
+is_nobody Nobody = true
+is_nobody Later = false
+is_nobody (At hw) = false
+
+-- a datagram for another station than the next one, whose address nobody has, goes nowhere
+abbrev pub goes_nowhere : Places → ℕ → Next → List ℕ → Bool
+goes_nowhere places cable (next.Station a) bytes = not (same_address (target bytes) a) && is_nobody (places.finds cable a)
+goes_nowhere places cable next.All bytes = false
+goes_nowhere places cable (next.Group g) bytes = false
+
+-- the bytes that are stored for an output, for its entries: none if it is passed on and goes nowhere
+abbrev pub stored_of : Places → List Seat → ℕ → Output → List (List ℕ)
+stored_of places seats station (output.Made port to bytes) = bytes ∷ []
+stored_of places seats station (output.Passed port to bytes) =
+    cond (goes_nowhere places (cable_of seats station port) to bytes) [] (bytes ∷ [])
+stored_of places seats station (output.Kept port bytes) = bytes ∷ []
+stored_of places seats station (output.Dropped cause bytes) = bytes ∷ []
+stored_of places seats station (output.Wire port to bytes) = bytes ∷ []
+
+-- the bytes that are stored for outputs, in order
+abbrev pub all_stored : Places → List Seat → ℕ → List Output → List (List ℕ)
+all_stored places seats station [] = []
+all_stored places seats station (o ∷ os) = stored_of places seats station o ++ all_stored places seats station os
+
 -- the kind of address that a frame is sent to, as its receivers see it
 abbrev pub link_of : Hw → Link
 link_of to = if is_all to then link.All else if is_group to then link.Group (slice_index to.0 5) else link.Own
@@ -149,8 +175,8 @@ pub record AreSeatsOf (seats : List Seat) (station ports : ℕ) : Type 0 where
   pub inside : (s : Seat) → Contains seats s → s.station ≡ station → s.port < ports
   pub seated : (port : ℕ) → port < ports → (s : Seat) × Contains seats s × (s.station ≡ station) × (s.port ≡ port)
 
--- A station with this many ports took a frame that was pending for it and sent `added`. Datagrams to a station whose
--- hardware address isn't known yet are in `waiting`.
+-- A station with this many ports took a frame that was pending for it and sent `added`. The bytes of the new entries are
+-- those of `added`. Datagrams to a station whose hardware address isn't known yet are in `waiting`.
 pub record IsTaken (places : Places) (ports : ℕ) (old new : Cabling) (stamp station : ℕ)
     (Hears : Hearing → List Output → Type 0) : Type 0 where
   pub pair : Pair
@@ -162,6 +188,7 @@ pub record IsTaken (places : Places) (ports : ℕ) (old new : Cabling) (stamp st
   pub lawful : AreLawful ports added
   pub entries :
       Adds old new (Took stamp station ∷ all_entries places old.seats station (stamps (transcript old)) added)
+  pub stored : new.kept ≡ old.kept ++ all_stored places old.seats station added
   pub waits : map (held_at new.kept) new.waiting ≡ all_held places old.seats station added
 
 -- The frame with this stamp is pending for the station, which receives it as h.

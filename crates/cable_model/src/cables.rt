@@ -1,6 +1,6 @@
 //! Cables, their frames and their transcript.
 
-ghost use Rattle.std.specs.Prelude.{◌≡◌, ◌⊎◌, ◌↔◌, ◌<◌, ◌≤◌, ◌+◌, [], ◌∷◌};
+ghost use Rattle.std.specs.Prelude.{◌≡◌, ◌⊎◌, ◌↔◌, ◌<◌, ◌≤◌, ◌+◌, [], ◌∷◌, ◌++◌};
 ghost use Rattle.std.specs.Prelude.{true, false, length, map};
 ghost use Rattle.std.specs.Prelude.{IfErr, IfNone, IfOk, IfSome, IsOkUnless, OnErr, OnOk};
 ghost use Rattle.std.specs.List.{list_any};
@@ -165,6 +165,7 @@ impl Cables {
         ensures ok { IfOk result (λ stamp. (stamp ≡ stamps (logs_spec.transcript self.old))
             × Adds self.old self.new
             (framed (record { stamp = stamp; cable = cable; station = station }) to kind bytes ∷ [])) }
+        ensures stored { OnOk result (self.new.kept ≡ self.old.kept ++ bytes ∷ []) }
         ensures waiting { self.new.waiting ≡ self.old.waiting }
         ensures no_cable { (result ≡ Err (Error.NoSuch Cable))
             ↔ (has_cable self.old.seats cable ≡ false) }
@@ -201,8 +202,8 @@ impl Cables {
     /// next station isn't known yet. The caller ensures that a group is below 253, and is
     /// responsible for the bytes being a datagram.
     ///
-    /// Errors, in this order: `NoSuch(Cable)`, `NoSuch(Station)`, `Full` where fewer than 3 entries
-    /// are left, `Memory`. A refusal changes nothing.
+    /// Errors, in this order: `NoSuch(Cable)`, `NoSuch(Station)`, `TooLong` above 599 bytes, `Full`
+    /// where fewer than 3 entries are left, `Memory`. A refusal changes nothing.
     pub fn send<R: Resolve>(
         &mut self,
         station: u16,
@@ -214,6 +215,7 @@ impl Cables {
         requires { IsNext next }
         ensures ok { let places : Places = record { finds = R.finds resolver.now; lists = R.lists resolver.now } in
             OnOk result (Adds self.old self.new (sent_entries places self.old cable station next bytes)) }
+        ensures stored { OnOk result (self.new.kept ≡ self.old.kept ++ bytes ∷ []) }
         ensures waits { let places : Places = record { finds = R.finds resolver.now; lists = R.lists resolver.now } in
             OnOk result (map (held_at self.new.kept) self.new.waiting
             ≡ held_next places cable (port_on self.old.seats cable station) next bytes) }
@@ -222,16 +224,21 @@ impl Cables {
         ensures no_station { (result ≡ Err (Error.NoSuch Station))
             ↔ ((has_cable self.old.seats cable ≡ true)
             × (is_seated self.old.seats cable station ≡ false)) }
+        ensures long { (result ≡ Err Error.TooLong)
+            ↔ ((is_seated self.old.seats cable station ≡ true) × (599 < length bytes)) }
         ensures full { (result ≡ Err Error.Full)
-            ↔ ((is_seated self.old.seats cable station ≡ true)
+            ↔ ((is_seated self.old.seats cable station ≡ true) × (length bytes ≤ 599)
             × (self.old.limit < length self.old.lines + 3)) }
         ensures refused { IfErr result (λ e. (e ≡ Error.NoSuch Cable) ⊎ (e ≡ Error.NoSuch Station)
-            ⊎ (e ≡ Error.Full) ⊎ (e ≡ Error.Memory)) }
+            ⊎ (e ≡ Error.TooLong) ⊎ (e ≡ Error.Full) ⊎ (e ≡ Error.Memory)) }
         ensures kept { OnErr result (self.new ≡ self.old) }
     {
         match seating::check(&self.seats, cable, station) {
             Ok(()) => {}
             Err(stop) => return Err(stop),
+        }
+        if bytes.len() > MAX_FRAME {
+            return Err(Error::TooLong);
         }
         match make_room(&mut self.log, self.limit, SEND_ROOM, 1, self.seats.len()) {
             Ok(()) => {}

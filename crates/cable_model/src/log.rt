@@ -1,6 +1,6 @@
 //! The transcript of cables as it is stored.
 
-ghost use Rattle.std.specs.Prelude.{◌≡◌, ◌<◌, [], ◌∷◌, List, ℕ, ◌+◌, length, vec_capacity, vec_len};
+ghost use Rattle.std.specs.Prelude.{◌≡◌, ◌<◌, [], ◌∷◌, ◌++◌, List, ℕ, ◌+◌, length, vec_capacity, vec_len};
 ghost use Rattle.cable_model.specs.declared.seat.Seat.{Seat as SeatValue};
 ghost use Rattle.cable_model.specs.Books.{Grows, HasOneSeat, HasRoom, IsBook, IsKept, IsQuiet, Names, Uses};
 ghost use Rattle.cable_model.specs.Logs.{bytes_at, entry_at};
@@ -50,6 +50,7 @@ pub fn keep(log: &mut Log, bytes: Bytes) -> u32
     ensures book { (seats : List SeatValue) → IsBook seats log.old → IsBook seats log.new }
     ensures within { result < length log.new.kept.items }
     ensures bytes { bytes_at log.new.kept.items result ≡ bytes }
+    ensures stored { log.new.kept.items ≡ log.old.kept.items ++ bytes ∷ [] }
     ensures puts { log.new.puts ≡ log.old.puts }
     ensures waiting { log.new.waiting ≡ log.old.waiting }
     ensures lines { log.new.lines ≡ log.old.lines }

@@ -1,9 +1,9 @@
 //! The entries of a station's outputs.
 
-ghost use Rattle.std.specs.Prelude.{◌≡◌, ◌≤◌, ◌+◌, ◌*◌, [], ◌∷◌, List, length, vec_len};
+ghost use Rattle.std.specs.Prelude.{◌≡◌, ◌≤◌, ◌+◌, ◌*◌, [], ◌∷◌, ◌++◌, List, cond, length, vec_len};
 ghost use Rattle.cable_model.specs.Books.{Grows, HasRoom, IsBook, Uses};
 ghost use Rattle.cable_model.specs.Outcomes.{Places, all_entries, all_held, entries_of, framed};
-ghost use Rattle.cable_model.specs.Outcomes.{held_next, held_of, leg};
+ghost use Rattle.cable_model.specs.Outcomes.{all_stored, goes_nowhere, held_next, held_of, leg, stored_of};
 ghost use Rattle.cable_model.specs.Transcript.{Dropped, Reached, Sent};
 ghost use Rattle.cable_model.specs.Ways.{all_lines, all_spare, is_nowhere_way, lines_for, sender_at, spare_for};
 ghost use Rattle.cable_model.specs.declared.entry.How.TheVariants.{Own};
@@ -38,6 +38,7 @@ pub fn sent<R: Resolve>(
         Grows log.old log.new
         (Sent exit.station (body bytes) ∷ leg places (sender_at exit log.old.puts) next bytes)
         (held_next places exit.cable exit.port next bytes) }
+    ensures stored { log.new.kept.items ≡ log.old.kept.items ++ bytes ∷ [] }
     ensures book { IsBook seats.now log.new }
     ensures uses { Uses log.old log.new 3 1 1 (length seats.now) }
     ensures named { vec_len log.new.kept + vec_len log.old.lines
@@ -70,6 +71,9 @@ fn passed<R: Resolve>(
     ensures grows { let places : Places = record { finds = R.finds resolver.now; lists = R.lists resolver.now } in
         Grows log.old log.new (leg places (sender_at exit log.old.puts) next bytes)
         (held_next places exit.cable exit.port next bytes) }
+    ensures stored { let places : Places = record { finds = R.finds resolver.now; lists = R.lists resolver.now } in
+        log.new.kept.items ≡ log.old.kept.items
+        ++ cond (goes_nowhere places exit.cable next bytes) [] (bytes ∷ []) }
     ensures book { IsBook seats.now log.new }
     ensures uses { Uses log.old log.new 2 1 1 (length seats.now) }
     ensures named { vec_len log.new.kept + vec_len log.old.lines
@@ -101,6 +105,7 @@ fn own(log: &mut Log, exit: Outlet, bytes: Bytes)
     requires room { HasRoom log.old 2 1 0 0 }
     ensures grows { (seats : List SeatValue) → IsBook seats log.old
         → Grows log.old log.new (Reached exit.cable exit.station Own (body bytes) ∷ []) [] }
+    ensures stored { log.new.kept.items ≡ log.old.kept.items ++ bytes ∷ [] }
     ensures book { (seats : List SeatValue) → IsBook seats log.old → IsBook seats log.new }
     ensures uses { Uses log.old log.new 2 1 0 0 }
     ensures named { vec_len log.new.kept + vec_len log.old.lines
@@ -123,6 +128,7 @@ fn dropped(log: &mut Log, router: u16, cause: DropCause, bytes: Bytes)
     requires room { HasRoom log.old 2 1 0 0 }
     ensures grows { (seats : List SeatValue) → IsBook seats log.old
         → Grows log.old log.new (Dropped router cause (body bytes) ∷ []) [] }
+    ensures stored { log.new.kept.items ≡ log.old.kept.items ++ bytes ∷ [] }
     ensures book { (seats : List SeatValue) → IsBook seats log.old → IsBook seats log.new }
     ensures uses { Uses log.old log.new 2 1 0 0 }
     ensures named { vec_len log.new.kept + vec_len log.old.lines
@@ -145,6 +151,7 @@ fn wire(log: &mut Log, seats: &Seats, exit: Outlet, to: Hw, bytes: Bytes)
     requires book { IsBook seats.now log.old }
     ensures grows { Grows log.old log.new
         (framed (sender_at exit log.old.puts) to Aarp bytes ∷ []) [] }
+    ensures stored { log.new.kept.items ≡ log.old.kept.items ++ bytes ∷ [] }
     ensures book { IsBook seats.now log.new }
     ensures uses { Uses log.old log.new 3 1 0 (length seats.now) }
     ensures named { vec_len log.new.kept + vec_len log.old.lines
@@ -161,6 +168,8 @@ fn add<R: Resolve>(log: &mut Log, seats: &Seats, resolver: &R, station: u16, out
     ensures grows { let places : Places = record { finds = R.finds resolver.now; lists = R.lists resolver.now } in
         Grows log.old log.new (entries_of places seats.now station log.old.puts output)
         (held_of places seats.now station output) }
+    ensures stored { let places : Places = record { finds = R.finds resolver.now; lists = R.lists resolver.now } in
+        log.new.kept.items ≡ log.old.kept.items ++ stored_of places seats.now station output }
     ensures book { IsBook seats.now log.new }
     ensures uses { Uses log.old log.new (lines_for output) 1 1 (length seats.now) }
     ensures named { vec_len log.new.kept + vec_len log.old.lines
@@ -210,6 +219,9 @@ pub fn add_all<R: Resolve>(
         Grows log.old log.new
         (all_entries places seats.now station log.old.puts outputs.old.items)
         (all_held places seats.now station outputs.old.items) }
+    ensures stored { let places : Places = record { finds = R.finds resolver.now; lists = R.lists resolver.now } in
+        log.new.kept.items
+        ≡ log.old.kept.items ++ all_stored places seats.now station outputs.old.items }
     ensures book { IsBook seats.now log.new }
     ensures few { vec_len log.new.lines ≤ vec_len log.old.lines + all_lines outputs.old.items }
     ensures named { vec_len log.new.kept + vec_len log.old.lines

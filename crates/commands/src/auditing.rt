@@ -44,21 +44,21 @@ pub fn audit_file<R: Read, W: Write>(
         (i : Internet) → Spells image_spelling bytes i → IfErr result (λ e.
         (e ≡ Error.Memory) ⊎ (e ≡ Error.ReadFault) ⊎ (e ≡ Error.WriteFault))) }
     ensures read_fault { result ≡ Err Error.ReadFault
-        → (input.new.failed ≡ true) ⊎ (input.new.reads ≡ READS) }
+        → (input.new.faults ≢ input.old.faults) ⊎ (input.new.reads ≡ READS) }
     // If no read failed, the number of reads is at its limit.
-    ensures limit { result ≡ Err Error.ReadFault → input.new.failed ≡ false
+    ensures limit { result ≡ Err Error.ReadFault → input.new.faults ≡ input.old.faults
         → input.new.reads ≡ READS }
-    ensures write_fault { result ≡ Err Error.WriteFault → output.new.failed ≡ true }
+    ensures write_fault { result ≡ Err Error.WriteFault → output.new.faults ≢ output.old.faults }
     // After an error other than `WriteFault`, nothing was written.
     ensures nothing_written { IfErr result (λ e. e ≢ Error.WriteFault → output.new ≡ output.old) }
     // After Ok, the input was read to its end, and no read or write failed.
     ensures end { OnOk result (IsAtEnd (R.remaining input.new.reader)) }
-    ensures reads_stay { OnOk result (input.new.failed ≡ input.old.failed) }
-    ensures writes_stay { OnOk result (output.new.failed ≡ output.old.failed) }
+    ensures reads_stay { OnOk result (input.new.faults ≡ input.old.faults) }
+    ensures writes_stay { OnOk result (output.new.faults ≡ output.old.faults) }
     // The reason of a failed read is kept.
-    ensures reason { input.old.failed ≡ false → input.new.failed ≡ true → IsSome input.new.fault }
+    ensures reason { input.new.faults ≢ input.old.faults → IsSome input.new.fault }
     // A failed read is reported as `ReadFault`.
-    ensures told { input.old.failed ≡ false → input.new.failed ≡ true
+    ensures told { input.new.faults ≢ input.old.faults
         → result ≡ Err Error.ReadFault }
     // Input that was read to its end is kept, whatever the result is.
     ensures kept { result ≢ Err Error.ReadFault → result ≢ Err Error.Memory

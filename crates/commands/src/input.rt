@@ -1,6 +1,6 @@
 //! Reads an input to its end, in a bounded number of reads.
 
-ghost use Rattle.std.specs.Prelude.{None, false, length, take, true, ◌++◌, ◌<◌, ◌≡◌, ◌≢◌, ◌≤◌, ◌⊎◌};
+ghost use Rattle.std.specs.Prelude.{None, length, take, ◌++◌, ◌<◌, ◌≡◌, ◌≢◌, ◌≤◌, ◌⊎◌};
 ghost use Rattle.std.specs.Prelude.{IfOk, IfErr, IfSome, IsSome, OnOk, OnErr, IsOkUnless};
 ghost use Rattle.std.specs.Io.{ReadsAtMost};
 ghost use Rattle.std.specs.Io.KnownBytes.{Consumes, IsAtEnd};
@@ -18,12 +18,13 @@ pub const READS: u32 = 16_777_216;
 /// copied by an instruction that is repeated for each of its bytes.
 const PIECE: usize = 8_192;
 
-/// A reader, with the number of its reads and whether one failed.
+/// A reader, with the number of its reads and of those that failed.
 #[derive(Drop)]
 pub struct Input<R> {
     pub reader: R,
     pub reads: u32,
-    pub failed: bool,
+    /// The number of reads that failed, modulo 2^32.
+    pub faults: u32,
     /// The reason of the last read that failed.
     pub fault: Option<ErrorKind>,
     /// The bytes that explain the result: the input that was read to its end, or the image of a
@@ -37,14 +38,14 @@ impl<R: Read> Input<R> {
     pub fn new(reader: R) -> Input<R>
         ensures reader { result.reader ≡ reader }
         ensures unread { result.reads ≡ 0 }
-        ensures sound { result.failed ≡ false }
+        ensures sound { result.faults ≡ 0 }
         ensures reason { result.fault ≡ None }
         ensures empty { result.kept ≡ None }
     {
         Input {
             reader,
             reads: 0,
-            failed: false,
+            faults: 0,
             fault: None,
             kept: None,
         }
@@ -57,18 +58,18 @@ impl<R: Read> Input<R> {
             IfSome (R.remaining self.old.reader) (λ bytes. v.items ≡ bytes)) }
         ensures end { OnOk result (IsAtEnd (R.remaining self.new.reader)) }
         ensures fault { result ≡ Err Error.ReadFault
-            → (self.new.failed ≡ true) ⊎ (self.new.reads ≡ READS) }
+            → (self.new.faults ≢ self.old.faults) ⊎ (self.new.reads ≡ READS) }
         // If no read failed, the number of reads is at its limit.
-        ensures limit { result ≡ Err Error.ReadFault → self.new.failed ≡ false
+        ensures limit { result ≡ Err Error.ReadFault → self.new.faults ≡ self.old.faults
             → self.new.reads ≡ READS }
         ensures refused { IfErr result (λ e. (e ≡ Error.ReadFault) ⊎ (e ≡ Error.Memory)) }
-        // Only a failed read sets `failed`.
-        ensures stays { result ≢ Err Error.ReadFault → self.new.failed ≡ self.old.failed }
+        // Only a failed read is counted.
+        ensures stays { result ≢ Err Error.ReadFault → self.new.faults ≡ self.old.faults }
         // The reason of a failed read is kept.
-        ensures reason { self.old.failed ≡ false → self.new.failed ≡ true → IsSome self.new.fault }
+        ensures reason { self.new.faults ≢ self.old.faults → IsSome self.new.fault }
         ensures reason_stays { result ≢ Err Error.ReadFault → self.new.fault ≡ self.old.fault }
         // An input that is given up has no reason, because none of its reads failed.
-        ensures no_reason { self.new.failed ≡ false → self.new.fault ≡ self.old.fault }
+        ensures no_reason { self.new.faults ≡ self.old.faults → self.new.fault ≡ self.old.fault }
         ensures kept { self.new.kept ≡ self.old.kept }
         ensures counted { self.old.reads ≤ self.new.reads }
     {
@@ -92,12 +93,12 @@ impl<R: Read> Input<R> {
         ensures end { IfOk result (λ n. n ≡ 0 → 0 < length buffer.old
             → IsAtEnd (R.remaining self.new.reader)) }
         ensures more { OnOk result (self.old.reads < self.new.reads) }
-        ensures stays { OnOk result (self.new.failed ≡ self.old.failed) }
-        ensures fault { OnErr result ((self.new.failed ≡ true) ⊎ (self.new.reads ≡ READS)) }
+        ensures stays { OnOk result (self.new.faults ≡ self.old.faults) }
+        ensures fault { OnErr result ((self.new.faults ≢ self.old.faults) ⊎ (self.new.reads ≡ READS)) }
         ensures refused { IsOkUnless result Error.ReadFault }
-        ensures reason { self.old.failed ≡ false → self.new.failed ≡ true → IsSome self.new.fault }
+        ensures reason { self.new.faults ≢ self.old.faults → IsSome self.new.fault }
         ensures reason_stays { OnOk result (self.new.fault ≡ self.old.fault) }
-        ensures no_reason { self.new.failed ≡ false → self.new.fault ≡ self.old.fault }
+        ensures no_reason { self.new.faults ≡ self.old.faults → self.new.fault ≡ self.old.fault }
         ensures kept { self.new.kept ≡ self.old.kept }
         ensures counted { self.old.reads ≤ self.new.reads }
     {
@@ -108,7 +109,7 @@ impl<R: Read> Input<R> {
                 Err(e) => {
                     if e.kind() != ErrorKind::Interrupted {
                         self.fault = Some(e.kind());
-                        self.failed = true;
+                        self.faults = self.faults.wrapping_add(1);
                         return Err(Error::ReadFault);
                     }
                 }

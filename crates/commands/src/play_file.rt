@@ -6,6 +6,7 @@ ghost use Rattle.std.specs.Prelude.{IsSome, IsSomeAnd, OnErr, OnOk};
 ghost use Rattle.std.specs.Io.KnownBytes.{Appends, IsAtEnd};
 ghost use Rattle.at_base.specs.Spelling.{Spells};
 ghost use Rattle.internet_file.specs.Files.{IsFile, IsFileRefused, Planned};
+ghost use Rattle.playing.specs.Lives.{Fills};
 ghost use Rattle.playing.specs.Plays.{IsPlay};
 ghost use Rattle.table_image.specs.Internet.{Internet};
 ghost use Rattle.table_image.specs.Spelling.{image_spelling};
@@ -33,15 +34,15 @@ fn write_bytes<W: Write>(output: &mut Output<W>, bytes: &[u8]) -> Result<(), Err
     ensures ok { OnOk result (Appends (W.contents output.old.writer) (W.contents output.new.writer)
         (output.old.text.items ++ bytes.now)) }
     ensures empty { OnOk result (output.new.text.items ≡ []) }
-    ensures fault { OnErr result (output.new.failed ≡ true) }
+    ensures fault { OnErr result (output.new.faults ≢ output.old.faults) }
     ensures refused { IsOkUnless result Error.WriteFault }
-    ensures stays { OnOk result (output.new.failed ≡ output.old.failed) }
+    ensures stays { OnOk result (output.new.faults ≡ output.old.faults) }
 {
     output.flush()?;
     match put(&mut output.writer, bytes) {
         Ok(()) => Ok(()),
         Err(_) => {
-            output.failed = true;
+            output.faults = output.faults.wrapping_add(1);
             Err(Error::WriteFault)
         }
     }
@@ -52,7 +53,7 @@ fn keep_text<R>(input: &mut Input<R>, text: Vec<u8>)
     ensures kept { input.new.kept ≡ Some text }
     ensures reader { input.new.reader ≡ input.old.reader }
     ensures reads { input.new.reads ≡ input.old.reads }
-    ensures stays { input.new.failed ≡ input.old.failed }
+    ensures stays { input.new.faults ≡ input.old.faults }
     ensures reason_stays { input.new.fault ≡ input.old.fault }
 {
     input.kept = Some(text);
@@ -71,16 +72,19 @@ fn read_and_play<R: Read, P: Progress>(
     ensures refused { IfSome (R.remaining input.old.reader) (λ text. IfErr result (λ e.
         (e ≡ Error.ReadFault) ⊎ IsFileRefused text e
         ⊎ (((plan : Planned) × IsFile text plan) × ((e ≡ Error.Full) ⊎ (e ≡ Error.Memory))))) }
+    // The error is `Full` only if one of the plan's ticks has no room.
+    ensures full { result ≡ Err Error.Full → IfSome (R.remaining input.old.reader) (λ text.
+        (plan : Planned) × IsFile text plan × Fills plan) }
     ensures read_fault { result ≡ Err Error.ReadFault
-        → (input.new.failed ≡ true) ⊎ (input.new.reads ≡ READS) }
-    ensures limit { result ≡ Err Error.ReadFault → input.new.failed ≡ false
+        → (input.new.faults ≢ input.old.faults) ⊎ (input.new.reads ≡ READS) }
+    ensures limit { result ≡ Err Error.ReadFault → input.new.faults ≡ input.old.faults
         → input.new.reads ≡ READS }
     ensures not_written { IfErr result (λ e. e ≢ Error.WriteFault) }
     ensures end { OnOk result (IsAtEnd (R.remaining input.new.reader)) }
-    ensures stays { OnOk result (input.new.failed ≡ input.old.failed) }
-    ensures reason { input.old.failed ≡ false → input.new.failed ≡ true → IsSome input.new.fault }
+    ensures stays { OnOk result (input.new.faults ≡ input.old.faults) }
+    ensures reason { input.new.faults ≢ input.old.faults → IsSome input.new.fault }
     // A failed read is reported as `ReadFault`.
-    ensures told { input.old.failed ≡ false → input.new.failed ≡ true
+    ensures told { input.new.faults ≢ input.old.faults
         → result ≡ Err Error.ReadFault }
     // A text that was read to its end is kept if its play has an error.
     ensures kept { IfErr result (λ e. e ≢ Error.ReadFault → e ≢ Error.Memory
@@ -107,14 +111,14 @@ fn write_played<W: Write, I: Write>(
         (W.contents output.new.writer) (output.old.text.items ++ played.now.lines.items)) }
     ensures image { OnOk result (Appends (I.contents image.old.writer)
         (I.contents image.new.writer) (image.old.text.items ++ played.now.image.items)) }
-    ensures fault { OnErr result ((output.new.failed ≡ true) ⊎ (image.new.failed ≡ true)) }
+    ensures fault { OnErr result ((output.new.faults ≢ output.old.faults) ⊎ (image.new.faults ≢ image.old.faults)) }
     // After an error, either the image's writer is untouched, or the writer of the lines hasn't
     // failed.
     ensures blamed { OnErr result ((image.new ≡ image.old)
-        ⊎ (output.new.failed ≡ output.old.failed)) }
+        ⊎ (output.new.faults ≡ output.old.faults)) }
     ensures refused { IsOkUnless result Error.WriteFault }
-    ensures stays { OnOk result (output.new.failed ≡ output.old.failed) }
-    ensures image_stays { OnOk result (image.new.failed ≡ image.old.failed) }
+    ensures stays { OnOk result (output.new.faults ≡ output.old.faults) }
+    ensures image_stays { OnOk result (image.new.faults ≡ image.old.faults) }
     // The image isn't written before all lines are.
     ensures order { (image.new ≡ image.old)
         ⊎ Appends (W.contents output.old.writer) (W.contents output.new.writer)
@@ -132,7 +136,7 @@ fn keep<R>(input: &mut Input<R>, played: Played) -> bool
     ensures kept { input.new.kept ≡ Some played.image }
     ensures reader { input.new.reader ≡ input.old.reader }
     ensures reads { input.new.reads ≡ input.old.reads }
-    ensures stays { input.new.failed ≡ input.old.failed }
+    ensures stays { input.new.faults ≡ input.old.faults }
     ensures reason_stays { input.new.fault ≡ input.old.fault }
 {
     let Played { yes, image, .. } = played;
@@ -153,17 +157,17 @@ fn hand_over<R, W: Write, I: Write>(
         (W.contents output.new.writer) (output.old.text.items ++ played.lines.items)) }
     ensures image { OnOk result (Appends (I.contents image.old.writer)
         (I.contents image.new.writer) (image.old.text.items ++ played.image.items)) }
-    ensures fault { OnErr result ((output.new.failed ≡ true) ⊎ (image.new.failed ≡ true)) }
+    ensures fault { OnErr result ((output.new.faults ≢ output.old.faults) ⊎ (image.new.faults ≢ image.old.faults)) }
     // After an error, either the image's writer is untouched, or the writer of the lines hasn't
     // failed.
     ensures blamed { OnErr result ((image.new ≡ image.old)
-        ⊎ (output.new.failed ≡ output.old.failed)) }
+        ⊎ (output.new.faults ≡ output.old.faults)) }
     ensures refused { IsOkUnless result Error.WriteFault }
     ensures reader { input.new.reader ≡ input.old.reader }
-    ensures reads_stay { input.new.failed ≡ input.old.failed }
+    ensures reads_stay { input.new.faults ≡ input.old.faults }
     ensures reason_stays { input.new.fault ≡ input.old.fault }
-    ensures stays { OnOk result (output.new.failed ≡ output.old.failed) }
-    ensures image_stays { OnOk result (image.new.failed ≡ image.old.failed) }
+    ensures stays { OnOk result (output.new.faults ≡ output.old.faults) }
+    ensures image_stays { OnOk result (image.new.faults ≡ image.old.faults) }
     // The image isn't written before all lines are.
     ensures order { (image.new ≡ image.old)
         ⊎ Appends (W.contents output.old.writer) (W.contents output.new.writer)
@@ -207,28 +211,31 @@ pub fn play_bytes<R: Read, W: Write, I: Write, P: Progress>(
         (e ≡ Error.ReadFault) ⊎ IsFileRefused text e
         ⊎ (((plan : Planned) × IsFile text plan)
         × ((e ≡ Error.Full) ⊎ (e ≡ Error.Memory) ⊎ (e ≡ Error.WriteFault))))) }
+    // The error is `Full` only if one of the plan's ticks has no room.
+    ensures full { result ≡ Err Error.Full → IfSome (R.remaining input.old.reader) (λ text.
+        (plan : Planned) × IsFile text plan × Fills plan) }
     ensures read_fault { result ≡ Err Error.ReadFault
-        → (input.new.failed ≡ true) ⊎ (input.new.reads ≡ READS) }
+        → (input.new.faults ≢ input.old.faults) ⊎ (input.new.reads ≡ READS) }
     // If no read failed, the number of reads is at its limit.
-    ensures limit { result ≡ Err Error.ReadFault → input.new.failed ≡ false
+    ensures limit { result ≡ Err Error.ReadFault → input.new.faults ≡ input.old.faults
         → input.new.reads ≡ READS }
     ensures write_fault { result ≡ Err Error.WriteFault
-        → (output.new.failed ≡ true) ⊎ (image.new.failed ≡ true) }
+        → (output.new.faults ≢ output.old.faults) ⊎ (image.new.faults ≢ image.old.faults) }
     // If the image can't be written, the writer of the lines hasn't failed.
     ensures blamed { OnErr result ((image.new ≡ image.old)
-        ⊎ (output.new.failed ≡ output.old.failed)) }
+        ⊎ (output.new.faults ≡ output.old.faults)) }
     // After an error other than `WriteFault`, nothing was written.
     ensures nothing_written { IfErr result (λ e. e ≢ Error.WriteFault
         → (output.new ≡ output.old) × (image.new ≡ image.old)) }
     // After Ok, the input was read to its end, and no read or write failed.
     ensures end { OnOk result (IsAtEnd (R.remaining input.new.reader)) }
-    ensures reads_stay { OnOk result (input.new.failed ≡ input.old.failed) }
-    ensures writes_stay { OnOk result (output.new.failed ≡ output.old.failed) }
-    ensures image_stays { OnOk result (image.new.failed ≡ image.old.failed) }
+    ensures reads_stay { OnOk result (input.new.faults ≡ input.old.faults) }
+    ensures writes_stay { OnOk result (output.new.faults ≡ output.old.faults) }
+    ensures image_stays { OnOk result (image.new.faults ≡ image.old.faults) }
     // The reason of a failed read is kept.
-    ensures reason { input.old.failed ≡ false → input.new.failed ≡ true → IsSome input.new.fault }
+    ensures reason { input.new.faults ≢ input.old.faults → IsSome input.new.fault }
     // A failed read is reported as `ReadFault`.
-    ensures told { input.old.failed ≡ false → input.new.failed ≡ true
+    ensures told { input.new.faults ≢ input.old.faults
         → result ≡ Err Error.ReadFault }
     // The image isn't written before all lines of the play are.
     ensures order { (image.new ≡ image.old)

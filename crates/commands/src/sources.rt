@@ -33,13 +33,15 @@ pub fn read_image<R: Read>(alloc: Global, input: &mut Input<R>) -> Result<Image,
         (e ≡ Error.Memory) ⊎ (e ≡ Error.ReadFault))) }
     ensures refused { IfErr result (λ e. e ≢ Error.WriteFault) }
     ensures read_fault { result ≡ Err Error.ReadFault
-        → (input.new.failed ≡ true) ⊎ (input.new.reads ≡ READS) }
+        → (input.new.faults ≢ input.old.faults) ⊎ (input.new.reads ≡ READS) }
     ensures end { OnOk result (IsAtEnd (R.remaining input.new.reader)) }
-    ensures stays { OnOk result (input.new.failed ≡ input.old.failed) }
-    ensures reason { input.old.failed ≡ false → input.new.failed ≡ true → IsSome input.new.fault }
+    ensures stays { OnOk result (input.new.faults ≡ input.old.faults) }
+    ensures reason { input.new.faults ≢ input.old.faults → IsSome input.new.fault }
     // A failed read is reported as `ReadFault`.
-    ensures told { input.old.failed ≡ false → input.new.failed ≡ true
+    ensures told { input.new.faults ≢ input.old.faults
         → result ≡ Err Error.ReadFault }
+    ensures kept_image { OnOk result (IsSomeAnd input.new.kept (λ v.
+        IfSome (R.remaining input.old.reader) (λ bytes. v.items ≡ bytes))) }
     // Input that was read to its end is kept, whatever the result is.
     ensures kept { result ≢ Err Error.ReadFault → result ≢ Err Error.Memory
         → IsSomeAnd input.new.kept (λ v.
@@ -65,12 +67,12 @@ pub fn read_steps<R: Read>(alloc: Global, input: &mut Input<R>) -> Result<Vec<St
         (e ≡ Error.Memory) ⊎ (e ≡ Error.ReadFault))) }
     ensures refused { IfErr result (λ e. e ≢ Error.WriteFault) }
     ensures read_fault { result ≡ Err Error.ReadFault
-        → (input.new.failed ≡ true) ⊎ (input.new.reads ≡ READS) }
+        → (input.new.faults ≢ input.old.faults) ⊎ (input.new.reads ≡ READS) }
     ensures end { OnOk result (IsAtEnd (R.remaining input.new.reader)) }
-    ensures stays { OnOk result (input.new.failed ≡ input.old.failed) }
-    ensures reason { input.old.failed ≡ false → input.new.failed ≡ true → IsSome input.new.fault }
+    ensures stays { OnOk result (input.new.faults ≡ input.old.faults) }
+    ensures reason { input.new.faults ≢ input.old.faults → IsSome input.new.fault }
     // A failed read is reported as `ReadFault`.
-    ensures told { input.old.failed ≡ false → input.new.failed ≡ true
+    ensures told { input.new.faults ≢ input.old.faults
         → result ≡ Err Error.ReadFault }
 {
     // Only the prover needs this call: a script has no bad line.

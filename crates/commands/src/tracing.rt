@@ -63,28 +63,31 @@ pub fn run_frozen<I: Read, S: Read, W: Write>(
         → IsScript text steps → IfErr result (λ e.
         (e ≡ Error.Memory) ⊎ (e ≡ Error.ReadFault) ⊎ (e ≡ Error.WriteFault)))) }
     ensures read_fault { result ≡ Err Error.ReadFault
-        → (image.new.failed ≡ true) ⊎ (image.new.reads ≡ READS)
-        ⊎ (script.new.failed ≡ true) ⊎ (script.new.reads ≡ READS) }
-    ensures write_fault { result ≡ Err Error.WriteFault → output.new.failed ≡ true }
+        → (image.new.faults ≢ image.old.faults) ⊎ (image.new.reads ≡ READS)
+        ⊎ (script.new.faults ≢ script.old.faults) ⊎ (script.new.reads ≡ READS) }
+    ensures write_fault { result ≡ Err Error.WriteFault → output.new.faults ≢ output.old.faults }
     // After an error other than `WriteFault` and `Memory`, nothing was written.
     ensures nothing_written { IfErr result (λ e. e ≢ Error.WriteFault → e ≢ Error.Memory
         → output.new ≡ output.old) }
     // After Ok, both inputs were read to their ends, and no read or write failed.
     ensures image_end { OnOk result (IsAtEnd (I.remaining image.new.reader)) }
     ensures script_end { OnOk result (IsAtEnd (S.remaining script.new.reader)) }
-    ensures image_reads_stay { OnOk result (image.new.failed ≡ image.old.failed) }
-    ensures script_reads_stay { OnOk result (script.new.failed ≡ script.old.failed) }
-    ensures writes_stay { OnOk result (output.new.failed ≡ output.old.failed) }
+    ensures image_reads_stay { OnOk result (image.new.faults ≡ image.old.faults) }
+    ensures script_reads_stay { OnOk result (script.new.faults ≡ script.old.faults) }
+    ensures writes_stay { OnOk result (output.new.faults ≡ output.old.faults) }
     // The reason of a failed read is kept.
-    ensures image_reason { image.old.failed ≡ false → image.new.failed ≡ true
+    ensures image_reason { image.new.faults ≢ image.old.faults
         → IsSome image.new.fault }
-    ensures script_reason { script.old.failed ≡ false → script.new.failed ≡ true
+    ensures script_reason { script.new.faults ≢ script.old.faults
         → IsSome script.new.fault }
     // A failed read is reported as `ReadFault`.
-    ensures image_told { image.old.failed ≡ false → image.new.failed ≡ true
+    ensures image_told { image.new.faults ≢ image.old.faults
         → result ≡ Err Error.ReadFault }
-    ensures script_told { script.old.failed ≡ false → script.new.failed ≡ true
+    ensures script_told { script.new.faults ≢ script.old.faults
         → result ≡ Err Error.ReadFault }
+    // The script isn't read before the image was read to its end and kept.
+    ensures touched { (script.new ≡ script.old) ⊎ IsSomeAnd image.new.kept (λ v.
+        IfSome (I.remaining image.old.reader) (λ bytes. v.items ≡ bytes)) }
     // An image that was read to its end is kept, whatever the result is.
     ensures kept { result ≢ Err Error.ReadFault → result ≢ Err Error.Memory
         → IsSomeAnd image.new.kept (λ v.

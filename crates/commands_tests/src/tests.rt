@@ -240,8 +240,8 @@ fn audit_after_failures(alloc: Global) -> Result<bool, Error> {
     let mut room = [0u8; 80];
     let mut input = Input::new(Pieces::new(EMPTY, 3));
     let mut output = Output::new(alloc, room.as_mut_slice());
-    input.failed = true;
-    output.failed = true;
+    input.faults = 1;
+    output.faults = 1;
     audit_file(alloc, &mut input, &mut output)
 }
 

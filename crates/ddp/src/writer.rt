@@ -1,6 +1,6 @@
 //! A writer of datagrams.
 
-ghost use Rattle.std.specs.Prelude.{◌≡◌, ◌⊎◌, ◌<◌, ◌≤◌, ◌↔◌, ◌++◌, length, drop, IfOk, IfErr};
+ghost use Rattle.std.specs.Prelude.{◌≡◌, ◌⊎◌, ◌<◌, ◌≤◌, ◌↔◌, ◌+◌, ◌++◌, length, drop, IfOk, IfErr};
 ghost use Rattle.std.specs.Prelude.{IsOkUnless, IsTrue, if◌then◌else◌};
 ghost use Rattle.at_base.specs.Spelling.{Spells};
 ghost use Rattle.at_base.specs.Checksum.{sum_of};
@@ -33,7 +33,7 @@ fn header_bytes(header: &Header, payload: &[u8]) -> [u8; HEADER_LEN]
 fn unsummed_bytes(alloc: Global, header: &Header, payload: &[u8]) -> Result<Vec<u8>, Error>
     requires { length payload.now ≤ 586 }
     ensures written { IfOk result (λ v. Spells datagram v.items (unsummed header.now payload.now)) }
-    ensures there { IfOk result (λ v. 13 ≤ length v.items) }
+    ensures len { IfOk result (λ v. length v.items ≡ 13 + length payload.now) }
     ensures refused { IsOkUnless result Error.Memory }
 {
     let mut bytes = Vec::with_capacity(alloc, HEADER_LEN + payload.len())?;
@@ -46,6 +46,7 @@ fn unsummed_bytes(alloc: Global, header: &Header, payload: &[u8]) -> Result<Vec<
 fn with_checksum(summed: bool, mut bytes: Vec<u8>) -> Vec<u8>
     requires { 13 ≤ length bytes.items }
     ensures put { result.items ≡ (if summed then with_sum bytes.items else bytes.items) }
+    ensures len { length result.items ≡ length bytes.items }
     ensures fits { IsTrue summed → sum_of (drop 4 bytes.items) < 65536 }
 {
     if summed {
@@ -64,6 +65,7 @@ fn with_checksum(summed: bool, mut bytes: Vec<u8>) -> Vec<u8>
 pub fn write(alloc: Global, header: &Header, payload: &[u8]) -> Result<Bytes, Error>
     ensures written { IfOk result
         (λ bytes. Spells datagram bytes (datagram_of header.now payload.now)) }
+    ensures len { IfOk result (λ bytes. length bytes ≡ 13 + length payload.now) }
     ensures long { (result ≡ Err Error.TooLong) ↔ (586 < length payload.now) }
     ensures refused { IfErr result (λ e. (e ≡ Error.TooLong) ⊎ (e ≡ Error.Memory)) }
 {

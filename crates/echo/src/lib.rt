@@ -1,7 +1,7 @@
 //! The echo service: the reply that a station sends back.
 #![tactic(auto)]
 
-ghost use Rattle.std.specs.Prelude.{◌≡◌, ◌≤◌, ◌∷◌, length, IfOk, IfSome, IsOkUnless};
+ghost use Rattle.std.specs.Prelude.{◌≡◌, ◌≤◌, ◌∷◌, length, None, IfOk, IfSome, IsOk, IsOkUnless};
 ghost use Rattle.echo.specs.Echo.{echo_reply};
 
 use at_base::{Bytes, Error};
@@ -33,6 +33,8 @@ pub fn reply(alloc: Global, view: &View<'_>) -> Result<Option<Bytes>, Error>
     ensures made { IfOk result (λ answer. answer ≡ echo_reply view.now) }
     // The data fits in a datagram.
     ensures short { IfOk result (λ answer. IfSome answer (λ bytes. length bytes ≤ 586)) }
+    // Only a request needs memory.
+    ensures silent { echo_reply view.now ≡ None → IsOk result }
     ensures refused { IsOkUnless result Error.Memory }
 {
     if view.kind() != kind::AEP || view.target_socket() != socket::ECHO {

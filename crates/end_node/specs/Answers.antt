@@ -1,6 +1,6 @@
 -- The outputs of a node for a frame that it receives, and its state after it. (Inside AppleTalk, the chapters on DDP,
 -- AEP, NBP, ATP and AARP)
-use Rattle.std.specs.Prelude.{◌≡◌, ◌≢◌, ℕ, Bool, true, false, ◌&&◌, ◌||◌, ◌==◌, cond, List, [], ◌∷◌, ◌++◌, drop, length, nat_lt, Option, Some, None}
+use Rattle.std.specs.Prelude.{◌≡◌, ◌≢◌, ℕ, Bool, true, false, ◌&&◌, ◌||◌, ◌==◌, cond, List, [], ◌∷◌, ◌++◌, Option, Some, None}
 use Rattle.std.specs.Prelude.{option_map, option_to_list, if◌then◌else◌}
 use Rattle.aarp.specs.Choosing.{answer, heard as port_heard, settled}
 use Rattle.aarp.specs.declared.packet.Packet.{Packet}
@@ -11,6 +11,7 @@ use Rattle.at_base.specs.Reading.{read}
 use Rattle.atp.specs.Packets.{AtpPacket, packet as atp_packet}
 use Rattle.atp.specs.Requesting.{Transactions, after_hearing, known}
 use Rattle.atp.specs.declared.ask.Peer.{Peer}
+use Rattle.circular_buffer.specs.Buffer.{keep_last}
 use Rattle.ddp.specs.Datagram.{Datagram}
 use Rattle.echo.specs.Echo.{echo_reply}
 use Rattle.station.specs.Hearing.{Hearing}
@@ -62,7 +63,7 @@ kept d = record {
 
 -- the datagrams that are kept, with one more; if there are 64, the oldest is dropped
 abbrev pub keeping : Received → List Received → List Received
-keeping d ds = cond (nat_lt (length ds) 64) (ds ++ d ∷ []) (drop 1 ds ++ d ∷ [])
+keeping d ds = keep_last 64 (ds ++ d ∷ [])
 
 -- The datagrams that are kept, with one more if there is one; if there are 64, the oldest is dropped for it.
 abbrev pub keeping_any : Option Received → List Received → List Received

@@ -5,3 +5,4 @@ pub mod Lookups
 pub mod Answers
 pub mod Asking
 pub mod Taking
+pub mod Stays

@@ -1,7 +1,7 @@
 //! A node's lookups, the names that it registers, and the datagrams that it received.
 
-ghost use Rattle.std.specs.Prelude.{◌≡◌, ◌↔◌, ◌≤◌, ◌&&◌, ◌⊎◌, ◌∷◌, [], length, true, false};
-ghost use Rattle.std.specs.Prelude.{IfErr, IfOk, IsOkUnless, OnErr, OnOk};
+ghost use Rattle.std.specs.Prelude.{◌≡◌, ◌↔◌, ◌≤◌, ◌&&◌, ◌⊎◌, ◌∷◌, ◌++◌, [], length, true, false};
+ghost use Rattle.std.specs.Prelude.{IfErr, IfOk, IsOk, IsOkUnless, OnErr, OnOk};
 ghost use Rattle.at_base.specs.declared.error.Field.TheVariants.{Taken};
 ghost use Rattle.aarp.specs.Choosing.{settled};
 ghost use Rattle.end_node.specs.Asking as spec;
@@ -14,13 +14,47 @@ use crate::lookups::{is_any, text_of};
 use crate::node::{Datagram, EndNode};
 use crate::sending::put_out;
 use at_base::{Error, Text32, What};
+use circular_buffer::HeapCircularBuffer;
 use ddp::{Header, kind as types, socket as sockets};
 use nbp::{Function, Tuple, write};
 use station::{Next, Outputs, Way};
-use std::mem;
 
 /// The socket at which a node receives the replies to its lookups.
 const REPLIES: u8 = 253;
+
+/// Adds copies of the datagrams, in order. Error: `Memory`.
+fn put_copies(copies: &mut Vec<Datagram>, datagrams: &[Datagram]) -> Result<(), Error>
+    ensures ok { OnOk result (copies.new.items ≡ copies.old.items ++ datagrams.now) }
+    ensures refused { IsOkUnless result Error.Memory }
+{
+    match datagrams {
+        [] => Ok(()),
+        [datagram, rest @ ..] => {
+            let copy = datagram.copy(*copies.allocator())?;
+            copies.push(copy)?;
+            put_copies(copies, rest)
+        }
+    }
+}
+
+/// Copies of the datagrams, in order. Error: `Memory`, which no datagrams never need.
+fn copies_of(received: &HeapCircularBuffer<Datagram>) -> Result<Vec<Datagram>, Error>
+    requires { received.now.capacity ≡ 64 }
+    ensures ok { IfOk result (λ datagrams. datagrams.items ≡ received.now.items) }
+    ensures few { IfOk result (λ datagrams. length datagrams.items ≤ 64) }
+    ensures none { received.now.items ≡ [] → IsOk result }
+    ensures refused { IsOkUnless result Error.Memory }
+{
+    let alloc = *received.allocator();
+    if received.is_empty() {
+        return Ok(Vec::new(alloc));
+    }
+    let mut copies = Vec::with_capacity(alloc, received.len())?;
+    let (older, newer) = received.as_slices();
+    put_copies(&mut copies, older)?;
+    put_copies(&mut copies, newer)?;
+    Ok(copies)
+}
 
 impl EndNode {
     /// The way of a request of this type to the router, or why there is none.
@@ -114,17 +148,15 @@ impl EndNode {
         }
     }
 
-    /// Removes and returns the datagrams that were received, the last 64 at most, the oldest first.
-    /// Error: `Memory`, which this never needs.
-    pub fn received(&mut self) -> Result<Vec<Datagram>, Error>
-        ensures taken { IfOk result (λ datagrams. datagrams.items ≡ self.old.received) }
+    /// Copies of the datagrams that were received, the last 64 at most, the oldest first. Error:
+    /// `Memory`.
+    pub fn received(&self) -> Result<Vec<Datagram>, Error>
+        ensures ok { IfOk result (λ datagrams. datagrams.items ≡ self.now.received) }
         ensures few { IfOk result (λ datagrams. length datagrams.items ≤ 64) }
-        ensures left { OnOk result (self.new ≡ record self.old { received = [] }) }
+        ensures none { self.now.received ≡ [] → IsOk result }
         ensures refused { IsOkUnless result Error.Memory }
-        ensures stay { OnErr result (self.new ≡ self.old) }
     {
-        let none = Vec::new(*self.received.allocator());
-        Ok(mem::replace(&mut self.received, none))
+        copies_of(&self.received)
     }
 
     /// Registers a name for a socket, as `Names::register` does, and returns its enumerator: the

@@ -3,6 +3,7 @@
 
 mod asking;
 mod hearing;
+mod laws;
 mod lists;
 mod lookups;
 mod node;
@@ -11,4 +12,5 @@ mod sending;
 mod setters;
 mod ways;
 
+pub use laws::node_stays;
 pub use node::{Datagram, EndNode, MAX_RECEIVED};

@@ -1,7 +1,7 @@
 //! A node's replies to lookups.
 
 ghost use Rattle.std.specs.Prelude.{◌≡◌, ◌≤◌, ◌+◌, [], ◌∷◌, ◌++◌, length, map, ℕ, Some};
-ghost use Rattle.std.specs.Prelude.{IfOk, IsOkUnless, OnOk};
+ghost use Rattle.std.specs.Prelude.{IfOk, IsOk, IsOkUnless, None, OnOk};
 ghost use Rattle.at_base.specs.Text.{is_only, same_name};
 ghost use Rattle.nbp.specs.Registered.{answers};
 ghost use Rattle.end_node.specs.Lookups as spec;
@@ -99,11 +99,15 @@ fn put_reply(
 ) -> Result<(), Error>
     ensures put { OnOk result (made.new.items
         ≡ made.old.items ++ replying way.now (reply_of own zone.now id tuple.now ∷ [])) }
+    ensures silent { way.now ≡ None → IsOk result }
     ensures few { OnOk result (length made.new.items ≤ length made.old.items + 1) }
     ensures good { OnOk result ((n : ℕ) → IsWayIn n way.now → AreMade n made.old.items
         → AreMade n made.new.items) }
     ensures refused { IsOkUnless result Error.Memory }
 {
+    if way.is_none() {
+        return Ok(());
+    }
     let tuple = named_at(own, zone, tuple);
     let payload = write(*made.allocator(), Function::Reply, id, &tuple)?;
     put(made, way, payload.as_slice())
@@ -120,6 +124,8 @@ fn put_replies(
 ) -> Result<(), Error>
     ensures put { OnOk result (made.new.items
         ≡ made.old.items ++ replying way.now (map (reply_of own zone.now id) tuples.now)) }
+    ensures silent { replying way.now (map (reply_of own zone.now id) tuples.now) ≡ []
+        → IsOk result }
     ensures few { OnOk result (length made.new.items ≤ length made.old.items + length tuples.now) }
     ensures good { OnOk result ((n : ℕ) → IsWayIn n way.now → AreMade n made.old.items
         → AreMade n made.new.items) }
@@ -138,6 +144,7 @@ fn put_replies(
 fn asked(names: &Names, tuple: &Tuple) -> Result<Vec<Tuple>, Error>
     ensures ok { IfOk result (λ tuples. tuples.items
         ≡ answers tuple.now.object tuple.now.kind names.now) }
+    ensures none { answers tuple.now.object tuple.now.kind names.now ≡ [] → IsOk result }
     ensures few { IfOk result (λ tuples. length tuples.items ≤ 32) }
     ensures refused { IsOkUnless result Error.Memory }
 {
@@ -159,11 +166,15 @@ impl EndNode {
     ) -> Result<(), Error>
         ensures put { OnOk result (made.new.items
             ≡ made.old.items ++ replies self.now summed id tuple.now (Some own)) }
+        ensures silent { replies self.now summed id tuple.now (Some own) ≡ [] → IsOk result }
         ensures few { OnOk result (length made.new.items ≤ length made.old.items + 32) }
         ensures good { OnOk result (AreMade 1 made.old.items → AreMade 1 made.new.items) }
         ensures refused { IsOkUnless result Error.Memory }
     {
         let way = self.reply_way(answer_header(summed, tuple));
+        if way.is_none() {
+            return Ok(());
+        }
         let tuples = asked(&self.names, tuple)?;
         put_replies(made, &way, own, &self.zone, id, tuples.as_slice())
     }
@@ -179,6 +190,7 @@ impl EndNode {
     ) -> Result<(), Error>
         ensures put { OnOk result (made.new.items
             ≡ made.old.items ++ looked_up self.now summed id tuple.now) }
+        ensures silent { looked_up self.now summed id tuple.now ≡ [] → IsOk result }
         ensures few { OnOk result (length made.new.items ≤ length made.old.items + 32) }
         ensures good { OnOk result (AreMade 1 made.old.items → AreMade 1 made.new.items) }
         ensures refused { IsOkUnless result Error.Memory }
@@ -201,6 +213,7 @@ impl EndNode {
     ) -> Result<(), Error>
         ensures put { OnOk result (made.new.items
             ≡ made.old.items ++ told self.now view.now (Some packet.now)) }
+        ensures silent { told self.now view.now (Some packet.now) ≡ [] → IsOk result }
         ensures few { OnOk result (length made.new.items ≤ length made.old.items + 32) }
         ensures good { OnOk result (AreMade 1 made.old.items → AreMade 1 made.new.items) }
         ensures refused { IsOkUnless result Error.Memory }
@@ -217,6 +230,8 @@ impl EndNode {
     pub(crate) fn tell(&self, made: &mut Vec<Output>, view: &View<'_>) -> Result<(), Error>
         ensures put { OnOk result (made.new.items
             ≡ made.old.items ++ told self.now view.now (names_in view.now.payload)) }
+        // Without a reply, no memory is needed.
+        ensures silent { told self.now view.now (names_in view.now.payload) ≡ [] → IsOk result }
         ensures few { OnOk result (length made.new.items ≤ length made.old.items + 32) }
         ensures good { OnOk result (AreMade 1 made.old.items → AreMade 1 made.new.items) }
         ensures refused { IsOkUnless result Error.Memory }

@@ -8,6 +8,7 @@ ghost use Rattle.station.specs.Ports.{is_planned, planned};
 use aarp::Chooser;
 use at_base::{Addr, Bytes, Error, Name};
 use atp::Requester;
+use circular_buffer::HeapCircularBuffer;
 use nbp::Names;
 use station::PortPlan;
 use std::alloc::Global;
@@ -31,6 +32,23 @@ pub struct Datagram {
     pub payload: Bytes,
 }
 
+impl Datagram {
+    /// A copy. Error: `Memory`.
+    pub(crate) fn copy(&self, alloc: Global) -> Result<Datagram, Error>
+        ensures ok { IfOk result (λ d. d ≡ self.now) }
+        ensures refused { IsOkUnless result Error.Memory }
+    {
+        let payload = Bytes::copy(alloc, self.payload.as_slice())?;
+        Ok(Datagram {
+            source: self.source,
+            source_socket: self.source_socket,
+            target_socket: self.target_socket,
+            kind: self.kind,
+            payload,
+        })
+    }
+}
+
 /// A node on one cable, with a zone, a router and names. Receiving frames changes none of these;
 /// only the setters and `register` do.
 ///
@@ -41,12 +59,12 @@ pub struct EndNode {
     pub(crate) zone: Name,
     pub(crate) router: Option<Addr>,
     pub(crate) names: Names,
-    pub(crate) received: Vec<Datagram>,
+    pub(crate) received: HeapCircularBuffer<Datagram>,
     pub(crate) requester: Requester,
 }
 
 impl Model for EndNode {
-    ghost use Rattle.std.specs.Prelude.{◌≤◌, length};
+    ghost use Rattle.std.specs.Prelude.{◌≡◌};
     ghost use Rattle.end_node.specs.Holding.{NodeHolding};
 
     ghost Value = { NodeHolding };
@@ -60,7 +78,7 @@ impl Model for EndNode {
       asks = n.requester;
     } };
 
-    ghost invariant = { λ n. length n.received.items ≤ 64 };
+    ghost invariant = { λ n. n.received.capacity ≡ 64 };
 }
 
 impl EndNode {
@@ -89,12 +107,13 @@ impl EndNode {
     {
         let port = plan.chooser(alloc)?;
         let requester = Requester::new(alloc, 1)?;
+        let received = HeapCircularBuffer::with_capacity(alloc, MAX_RECEIVED)?;
         Ok(EndNode {
             port,
             zone,
             router,
             names,
-            received: Vec::new(alloc),
+            received,
             requester,
         })
     }

@@ -1,12 +1,11 @@
 //! A node's handling of the datagrams that it receives.
 
-ghost use Rattle.std.specs.Prelude.{◌≡◌, ◌<◌, ◌≤◌, ◌+◌, ◌++◌, ◌&&◌, length, option_to_list, Some};
-ghost use Rattle.std.specs.Prelude.{vec_capacity, vec_len};
-ghost use Rattle.std.specs.Prelude.{IfOk, IsOkUnless, OnErr, OnOk};
+ghost use Rattle.std.specs.Prelude.{◌≡◌, ◌≤◌, ◌+◌, [], ◌++◌, ◌&&◌, length, option_to_list, Some};
+ghost use Rattle.std.specs.Prelude.{IfOk, IsOk, IsOkUnless, OnErr, OnOk};
 ghost use Rattle.echo.specs.Echo.{echo_reply};
 ghost use Rattle.end_node.specs.Answers.{AsksHearDatagram, AsksHearOwn, heard_datagram, heard_own};
 ghost use Rattle.end_node.specs.Answers as answers_spec;
-ghost use Rattle.end_node.specs.Answers.{keeping, keeping_any, kept, received_of, served};
+ghost use Rattle.end_node.specs.Answers.{keeping_any, kept, received_of, served};
 ghost use Rattle.end_node.specs.Taking.{taken_datagram};
 ghost use Rattle.end_node.specs.Ways as ways_spec;
 ghost use Rattle.station.specs.Lawful.{AreLawful, PutsOut};
@@ -16,8 +15,9 @@ ghost use Rattle.station.specs.Ways as ways_of;
 ghost use Rattle.station.specs.Ways.{replying};
 
 use crate::lists::hear_answer;
-use crate::node::{Datagram, EndNode, MAX_RECEIVED};
+use crate::node::{Datagram, EndNode};
 use at_base::{Addr, Bytes, Error};
+use circular_buffer::HeapCircularBuffer;
 use ddp::{View, kind, socket};
 use station::making::put_one;
 use station::ways::{EVERY_NODE, checks, is_to};
@@ -76,28 +76,14 @@ fn received_from(alloc: Global, view: &View<'_>) -> Result<Option<Datagram>, Err
     Ok(Some(datagram))
 }
 
-/// Adds a datagram to those kept. If 64 are kept, the oldest is dropped.
-fn put(received: &mut Vec<Datagram>, datagram: Datagram)
-    requires room { vec_len received.old < vec_capacity received.old }
-    requires old { length received.old.items ≤ 64 }
-    ensures kept { received.new.items ≡ keeping datagram received.old.items }
-    ensures few { length received.new.items ≤ 64 }
-{
-    if received.len() >= MAX_RECEIVED {
-        received.remove(0);
-    }
-    received.push(datagram).unwrap();
-}
-
 /// Adds a datagram, if there is one, to those kept. If 64 are kept, the oldest is dropped.
-fn keep(received: &mut Vec<Datagram>, datagram: Option<Datagram>)
-    requires room { vec_len received.old < vec_capacity received.old }
-    requires old { length received.old.items ≤ 64 }
+fn keep(received: &mut HeapCircularBuffer<Datagram>, datagram: Option<Datagram>)
+    requires { received.old.capacity ≡ 64 }
     ensures kept { received.new.items ≡ keeping_any datagram received.old.items }
-    ensures few { length received.new.items ≤ 64 }
+    ensures capacity { received.new.capacity ≡ received.old.capacity }
 {
     if let Some(datagram) = datagram {
-        put(received, datagram);
+        let _ = received.push_back(datagram);
     }
 }
 
@@ -124,11 +110,16 @@ impl EndNode {
     fn hear_echo(&self, made: &mut Vec<Output>, view: &View<'_>) -> Result<(), Error>
         ensures put { OnOk result (made.new.items ≡ made.old.items
             ++ replying (ways_spec.way_back self.now view.now) (option_to_list (echo_reply view.now))) }
+        ensures silent { replying (ways_spec.way_back self.now view.now)
+            (option_to_list (echo_reply view.now)) ≡ [] → IsOk result }
         ensures few { OnOk result (length made.new.items ≤ length made.old.items + 1) }
         ensures good { OnOk result (AreMade 1 made.old.items → AreMade 1 made.new.items) }
         ensures refused { IsOkUnless result Error.Memory }
     {
         let way = self.way_back(view);
+        if way.is_none() {
+            return Ok(());
+        }
         let payload = echo::reply(*made.allocator(), view)?;
         put_one(made, &way, &payload)
     }
@@ -137,6 +128,8 @@ impl EndNode {
     fn serve(&self, made: &mut Vec<Output>, view: &View<'_>) -> Result<(), Error>
         ensures put { OnOk result
             (made.new.items ≡ made.old.items ++ served self.now view.now) }
+        // Without a reply, no memory is needed.
+        ensures silent { served self.now view.now ≡ [] → IsOk result }
         ensures few { OnOk result (length made.new.items ≤ length made.old.items + 32) }
         ensures good { OnOk result (AreMade 1 made.old.items → AreMade 1 made.new.items) }
         ensures refused { IsOkUnless result Error.Memory }
@@ -154,6 +147,7 @@ impl EndNode {
     /// node and that there are at most 256. Error: `Memory`.
     fn made_of(&self, view: &View<'_>) -> Result<Vec<Output>, Error>
         ensures made { IfOk result (λ made. made.items ≡ served self.now view.now) }
+        ensures silent { served self.now view.now ≡ [] → IsOk result }
         ensures few { IfOk result (λ made. length made.items ≤ 256) }
         ensures good { IfOk result (λ made. AreMade 1 made.items) }
         ensures refused { IsOkUnless result Error.Memory }
@@ -167,6 +161,7 @@ impl EndNode {
     /// `Memory`.
     fn answer(&self, view: &View<'_>) -> Result<Vec<Output>, Error>
         ensures made { IfOk result (λ made. made.items ≡ served self.now view.now) }
+        ensures silent { served self.now view.now ≡ [] → IsOk result }
         ensures lawful { IfOk result (λ made. AreLawful 1 made.items) }
         ensures refused { IsOkUnless result Error.Memory }
     {
@@ -187,7 +182,6 @@ impl EndNode {
         let made = self.answer(view)?;
         let received = received_from(*self.received.allocator(), view)?;
         outputs.room(made.len())?;
-        self.received.reserve(1)?;
         hear_answer(&mut self.requester, view)?;
         keep(&mut self.received, received);
         outputs.append(made);

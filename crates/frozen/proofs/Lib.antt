@@ -5,3 +5,4 @@ pub mod Refused
 pub mod Asked
 pub mod Asking
 pub mod Promised
+mod Examples

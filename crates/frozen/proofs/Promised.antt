@@ -17,6 +17,8 @@ use Rattle.image_stations.specs.Finding.{station_at}
 use Rattle.legal_runs.proofs.Carried.{are_carried}
 use Rattle.legal_runs.proofs.Conserved.{conserved, hops_are_left}
 use Rattle.legal_runs.proofs.LookedUp.{are_looked_up}
+use Rattle.legal_runs.proofs.Handing.{are_by_hand}
+use Rattle.legal_runs.proofs.Takers.{are_taken_there}
 use Rattle.legal_runs.specs.Counts.{carries, reached, sent}
 use Rattle.legal_runs.specs.Lookups.{asked, forwarded, lookups, taken, waits}
 use Rattle.legal_runs.specs.Requests.{is_among, listing, zone_of}
@@ -29,7 +31,11 @@ pub has_hops : (r : Running) → IsFrozen r → HasHops r
 has_hops r f = hops_are_left r.internet (transcript r.cabling) f.passes f.legal
 
 pub all_carried : (r : Running) → IsFrozen r → AreAllCarried r
-all_carried r f = are_carried r.internet (transcript r.cabling) f.passes f.legal
+all_carried r f = (
+  are_carried r.internet (transcript r.cabling) f.passes f.legal,
+  are_taken_there r.internet (transcript r.cabling) f.passes f.legal,
+  are_by_hand r.internet f.passes (transcript r.cabling) f.legal,
+)
 
 pub looks_up : (r : Running) → IsFrozen r → HaveOnlyAsked r → LooksUp r
 looks_up r f only = (only, λ k. are_looked_up r.internet (transcript r.cabling) k f.passes f.legal only)

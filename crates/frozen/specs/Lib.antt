@@ -2,3 +2,4 @@ pub mod Runs
 pub mod Orders
 pub mod Events
 pub mod Promises
+pub mod Examples

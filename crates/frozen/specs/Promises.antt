@@ -10,7 +10,7 @@ use Rattle.frozen.specs.Events.{header_for}
 use Rattle.frozen.specs.Orders.{bytes_for, send_order}
 use Rattle.frozen.specs.Runs.{Running}
 use Rattle.frozen.specs.declared.order.Order.{Order}
-use Rattle.legal_runs.specs.Carriage.{AreCarried, none_yet}
+use Rattle.legal_runs.specs.Carriage.{AreByHand, AreCarried, AreTakenThere, none_yet}
 use Rattle.legal_runs.specs.Counts.{HasHopsLeft, IsConserved}
 use Rattle.legal_runs.specs.Lookups.{IsLookedUp, NodesOnlyAsk}
 use Rattle.legal_runs.specs.Requests.{is_forward, is_lookup, request}
@@ -25,9 +25,13 @@ IsEachOnce r = IsConserved r.internet (transcript r.cabling)
 abbrev pub HasHops : Running → Type 0
 HasHops r = HasHopsLeft r.internet (transcript r.cabling)
 
--- A datagram that reached a cable was carried by at most fifteen routers, each of which shares a cable with the next.
+-- A datagram that reached a cable was carried by at most fifteen routers, each of which shares a cable with the next;
+-- a station that takes a frame is on the frame's cable; and a router that carries a datagram on puts it on the cable of
+-- the walk's step.
 abbrev pub AreAllCarried : Running → Type 0
-AreAllCarried r = AreCarried r.internet none_yet (transcript r.cabling)
+AreAllCarried r =
+    AreCarried r.internet none_yet (transcript r.cabling) × AreTakenThere r.internet [] (transcript r.cabling)
+    × AreByHand r.internet false (transcript r.cabling)
 
 -- No node has sent a forward request or a lookup, which only routers make from requests.
 abbrev pub HaveOnlyAsked : Running → Type 0

@@ -17,6 +17,7 @@ ghost use Rattle.frozen.specs.Orders.{IsFair, bytes_for};
 ghost use Rattle.frozen.specs.Promises.{AreAllCarried, HasHops, HaveOnlyAsked, IsEachOnce};
 ghost use Rattle.frozen.specs.Promises.{LooksUp, OnlyAsks, is_routers_request};
 ghost use Rattle.frozen.specs.Runs.{IsFrozen, TakenBy, take_refusal};
+ghost use Rattle.image_stations.specs.Holders.{AreFresh};
 ghost use Rattle.legal_runs.specs.Requests as requests_spec;
 ghost use Rattle.legal_runs.specs.Stations.{cable_seats};
 ghost use Rattle.station.specs.Lawful.{IsNext};
@@ -75,7 +76,8 @@ impl<T: RouteTable> Model for Frozen<T> {
 }
 
 impl<T: RouteTable> Frozen<T> {
-    /// A run over the tables of an image, with an empty transcript, for at most `limit` entries.
+    /// A run over the tables of an image, with an empty transcript and stations that have received
+    /// nothing, for at most `limit` entries.
     ///
     /// Errors: `NotAudited` with the audit's fault if the image fails the audit; `Memory`.
     pub fn start(alloc: Global, image: Image, limit: u32) -> Result<Frozen<T>, Error>
@@ -86,6 +88,8 @@ impl<T: RouteTable> Frozen<T> {
           kept = [];
           waiting = [];
         })) }
+        // Its stations have received nothing yet.
+        ensures fresh { IfOk result (λ run. AreFresh run.stations) }
         ensures passes { OnOk result (Passes image) }
         ensures conserved { IfOk result IsEachOnce }
         ensures hops { IfOk result HasHops }

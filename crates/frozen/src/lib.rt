@@ -9,4 +9,4 @@ mod steps;
 
 pub use events::Event;
 pub use frozen::Frozen;
-pub use laws::{promises_hold, the_headline};
+pub use laws::{promises_hold, the_examples_of_conditions, the_headline};

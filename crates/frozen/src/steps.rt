@@ -1,6 +1,6 @@
 //! The effects of a run's events on its cables and its stations.
 
-ghost use Rattle.std.specs.Prelude.{◌≡◌, ◌<◌, ◌+◌, ◌↔◌, ◌⊎◌, false, length, slice_get, true};
+ghost use Rattle.std.specs.Prelude.{◌≡◌, ◌<◌, ◌≤◌, ◌+◌, ◌↔◌, ◌⊎◌, false, length, slice_get, true};
 ghost use Rattle.std.specs.Prelude.{IfErr, OnErr, OnOk, Some};
 ghost use Rattle.std.specs.List.{list_any};
 ghost use Rattle.cable_model.specs.Logs as logs_spec;
@@ -37,6 +37,7 @@ pub fn send(
     requires next { IsNext order.now.next }
     requires cable { has_cable cables.old.seats order.now.cable ≡ true }
     requires seated { is_seated cables.old.seats order.now.cable order.now.station ≡ true }
+    requires short { length bytes ≤ 599 }
     ensures ok { OnOk result (Adds cables.old cables.new (sent_entries (places_of places.now)
         cables.old order.now.cable order.now.station order.now.next bytes)) }
     ensures full { (result ≡ Err Error.Full)

@@ -15,6 +15,7 @@ use Rattle.cable_model.specs.Transcript.{Entry}
 use Rattle.events.specs.declared.event.Event.{Event}
 use Rattle.frozen.specs.Events.{DrainStops, DrainsTo, Happens, refusal}
 use Rattle.frozen.specs.Runs.{IsFrozen, Running}
+use Rattle.image_stations.specs.Holders.{AreFresh}
 use Rattle.legal_runs.specs.Stations.{cable_seats}
 use Rattle.script.specs.declared.step.Step.{Step}
 use Rattle.script.specs.declared.step.Step.TheVariants as step
@@ -65,13 +66,15 @@ pub data PlaysAll : Running → List Step → List ℕ → Running → Type 0 wh
   Played : (old between new : Running) (steps : List Step) (s : Step) (text more : List ℕ) → PlaysAll old steps text between
       → Plays between s more new → PlaysAll old (steps ++ s ∷ []) (text ++ more) new
 
--- The text is the trace of these steps over the frozen tables of an internet: the run starts with an empty transcript
--- and room for 4,000,000 entries, the steps are carried out, and the last line has the number of pending pairs.
+-- The text is the trace of these steps over the frozen tables of an internet: the run starts with an empty transcript,
+-- room for 4,000,000 entries and stations that have received nothing, the steps are carried out, and the last line has
+-- the number of pending pairs.
 pub record IsTrace (i : Internet) (steps : List Step) (text : List ℕ) : Type 0 where
   pub begun : Running
   pub ended : Running
   pub internet : begun.internet ≡ i
   pub cabling : begun.cabling ≡ record { seats = cable_seats i; limit = 4000000; lines = []; kept = []; waiting = [] }
+  pub fresh : AreFresh begun.stations
   pub begun_frozen : IsFrozen begun
   pub ended_frozen : IsFrozen ended
   pub played : List ℕ

@@ -1,6 +1,6 @@
 //! Carries out the steps of a script, one at a time.
 
-ghost use Rattle.std.specs.Prelude.{◌≡◌, ◌⊎◌, List, ℕ, true, IfErr, OnOk};
+ghost use Rattle.std.specs.Prelude.{◌≡◌, ◌≢◌, ◌⊎◌, List, ℕ, IfErr, OnOk};
 ghost use Rattle.text.specs.Going.{Goes};
 ghost use Rattle.frozen_trace.specs.Traces.{Plays, PlaysAll, all_printed};
 ghost use Rattle.script.specs.declared.step.Step.TheVariants as step;
@@ -31,8 +31,8 @@ fn play_event<T: RouteTable, W: Write>(
         (W.contents output.new.writer) output.new.text.items) }
     ensures known { OnOk result (lines.new ≡ all_printed run.new) }
     ensures refused { IfErr result (λ e.
-        (e ≡ Error.Memory) ⊎ ((e ≡ Error.WriteFault) × (output.new.failed ≡ true))) }
-    ensures stays { OnOk result (output.new.failed ≡ output.old.failed) }
+        (e ≡ Error.Memory) ⊎ ((e ≡ Error.WriteFault) × (output.new.faults ≢ output.old.faults))) }
+    ensures stays { OnOk result (output.new.faults ≡ output.old.faults) }
 {
     let before = run.transcript().len();
     match run.event(event) {
@@ -57,8 +57,8 @@ fn play_drain<T: RouteTable, W: Write>(
         (W.contents output.new.writer) output.new.text.items) }
     ensures known { OnOk result (lines.new ≡ all_printed run.new) }
     ensures refused { IfErr result (λ e.
-        (e ≡ Error.Memory) ⊎ ((e ≡ Error.WriteFault) × (output.new.failed ≡ true))) }
-    ensures stays { OnOk result (output.new.failed ≡ output.old.failed) }
+        (e ≡ Error.Memory) ⊎ ((e ≡ Error.WriteFault) × (output.new.faults ≢ output.old.faults))) }
+    ensures stays { OnOk result (output.new.faults ≡ output.old.faults) }
 {
     for _turn in 0..most {
         let before = run.transcript().len();
@@ -90,8 +90,8 @@ fn play_step<T: RouteTable, W: Write>(
         (W.contents output.new.writer) output.new.text.items) }
     ensures known { OnOk result (lines.new ≡ all_printed run.new) }
     ensures refused { IfErr result (λ e.
-        (e ≡ Error.Memory) ⊎ ((e ≡ Error.WriteFault) × (output.new.failed ≡ true))) }
-    ensures stays { OnOk result (output.new.failed ≡ output.old.failed) }
+        (e ≡ Error.Memory) ⊎ ((e ≡ Error.WriteFault) × (output.new.faults ≢ output.old.faults))) }
+    ensures stays { OnOk result (output.new.faults ≡ output.old.faults) }
 {
     match step {
         Step::Event(event) => play_event(alloc, run, event, lines, output),
@@ -113,8 +113,8 @@ pub fn play<T: RouteTable, W: Write>(
         × Goes (W.contents output.old.writer) output.old.text.items more
         (W.contents output.new.writer) output.new.text.items) }
     ensures refused { IfErr result (λ e.
-        (e ≡ Error.Memory) ⊎ ((e ≡ Error.WriteFault) × (output.new.failed ≡ true))) }
-    ensures stays { OnOk result (output.new.failed ≡ output.old.failed) }
+        (e ≡ Error.Memory) ⊎ ((e ≡ Error.WriteFault) × (output.new.faults ≢ output.old.faults))) }
+    ensures stays { OnOk result (output.new.faults ≡ output.old.faults) }
 {
     for step in steps {
         play_step(alloc, run, step, lines, output)?;

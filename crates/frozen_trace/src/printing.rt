@@ -1,6 +1,6 @@
 //! Prints parts of a run.
 
-ghost use Rattle.std.specs.Prelude.{◌≡◌, ◌≢◌, ◌≤◌, ◌⊎◌, true, [], ◌∷◌, ◌++◌, drop, length, map, take};
+ghost use Rattle.std.specs.Prelude.{◌≡◌, ◌≢◌, ◌≤◌, ◌⊎◌, [], ◌∷◌, ◌++◌, drop, length, map, take};
 ghost use Rattle.std.specs.Prelude.{IfErr, OnOk};
 ghost use Rattle.cable_model.specs.Logs as logs_spec;
 ghost use Rattle.cable_model.specs.Logs.{entry_at};
@@ -51,8 +51,8 @@ fn print_entry<T: RouteTable, W: Write>(
       cables = lines.old.cables ++ cable_of (entry_at run.now.cabling.kept entry.now);
     }) }
     ensures refused { IfErr result (λ e.
-        (e ≡ Error.Memory) ⊎ ((e ≡ Error.WriteFault) × (output.new.failed ≡ true))) }
-    ensures stays { OnOk result (output.new.failed ≡ output.old.failed) }
+        (e ≡ Error.Memory) ⊎ ((e ≡ Error.WriteFault) × (output.new.faults ≢ output.old.faults))) }
+    ensures stays { OnOk result (output.new.faults ≡ output.old.faults) }
 {
     let bytes = bytes_of(run, entry);
     lines.append(&mut output.text, entry, bytes)?;
@@ -76,8 +76,8 @@ fn print_entries<T: RouteTable, W: Write>(
           ++ cables_of (map (entry_at run.now.cabling.kept) entries.now);
     }) }
     ensures refused { IfErr result (λ e.
-        (e ≡ Error.Memory) ⊎ ((e ≡ Error.WriteFault) × (output.new.failed ≡ true))) }
-    ensures stays { OnOk result (output.new.failed ≡ output.old.failed) }
+        (e ≡ Error.Memory) ⊎ ((e ≡ Error.WriteFault) × (output.new.faults ≢ output.old.faults))) }
+    ensures stays { OnOk result (output.new.faults ≡ output.old.faults) }
 {
     for entry in entries {
         print_entry(run, entry, lines, output)?;
@@ -102,8 +102,8 @@ pub fn print_from<T: RouteTable, W: Write>(
         (W.contents output.new.writer) output.new.text.items) }
     ensures known { OnOk result (lines.new ≡ all_printed run.now) }
     ensures refused { IfErr result (λ e.
-        (e ≡ Error.Memory) ⊎ ((e ≡ Error.WriteFault) × (output.new.failed ≡ true))) }
-    ensures stays { OnOk result (output.new.failed ≡ output.old.failed) }
+        (e ≡ Error.Memory) ⊎ ((e ≡ Error.WriteFault) × (output.new.faults ≢ output.old.faults))) }
+    ensures stays { OnOk result (output.new.faults ≡ output.old.faults) }
 {
     print_entries(run, &run.transcript()[from..], lines, output)
 }
@@ -113,8 +113,8 @@ fn end_line<W: Write>(output: &mut Output<W>, line: &str) -> Result<(), Error>
     ensures gone { OnOk result (Goes (W.contents output.old.writer) output.old.text.items
         (line.now ++ 10 ∷ []) (W.contents output.new.writer) output.new.text.items) }
     ensures refused { IfErr result (λ e.
-        (e ≡ Error.Memory) ⊎ ((e ≡ Error.WriteFault) × (output.new.failed ≡ true))) }
-    ensures stays { OnOk result (output.new.failed ≡ output.old.failed) }
+        (e ≡ Error.Memory) ⊎ ((e ≡ Error.WriteFault) × (output.new.faults ≢ output.old.faults))) }
+    ensures stays { OnOk result (output.new.faults ≡ output.old.faults) }
 {
     output.text.extend_from_slice(line.as_bytes())?;
     output.text.push(b'\n')?;
@@ -130,8 +130,8 @@ fn print_refusal<W: Write>(
     ensures gone { OnOk result (Goes (W.contents output.old.writer) output.old.text.items
         (refused_line error.now) (W.contents output.new.writer) output.new.text.items) }
     ensures refused { IfErr result (λ e.
-        (e ≡ Error.Memory) ⊎ ((e ≡ Error.WriteFault) × (output.new.failed ≡ true))) }
-    ensures stays { OnOk result (output.new.failed ≡ output.old.failed) }
+        (e ≡ Error.Memory) ⊎ ((e ≡ Error.WriteFault) × (output.new.faults ≢ output.old.faults))) }
+    ensures stays { OnOk result (output.new.faults ≡ output.old.faults) }
 {
     let number = error.number();
     let mut line = String::with_capacity(alloc, MAX_LINE)?;
@@ -146,8 +146,8 @@ pub fn refuse<W: Write>(alloc: Global, output: &mut Output<W>, error: &Error) ->
     ensures gone { OnOk result (Goes (W.contents output.old.writer) output.old.text.items
         (refused_line error.now) (W.contents output.new.writer) output.new.text.items) }
     ensures refused { IfErr result (λ e.
-        (e ≡ Error.Memory) ⊎ ((e ≡ Error.WriteFault) × (output.new.failed ≡ true))) }
-    ensures stays { OnOk result (output.new.failed ≡ output.old.failed) }
+        (e ≡ Error.Memory) ⊎ ((e ≡ Error.WriteFault) × (output.new.faults ≢ output.old.faults))) }
+    ensures stays { OnOk result (output.new.faults ≡ output.old.faults) }
 {
     match error {
         Error::Memory => Err(Error::Memory),
@@ -164,8 +164,8 @@ pub fn print_pending<T: RouteTable, W: Write>(
     ensures gone { OnOk result (Goes (W.contents output.old.writer) output.old.text.items
         (pending_line run.now) (W.contents output.new.writer) output.new.text.items) }
     ensures refused { IfErr result (λ e.
-        (e ≡ Error.Memory) ⊎ ((e ≡ Error.WriteFault) × (output.new.failed ≡ true))) }
-    ensures stays { OnOk result (output.new.failed ≡ output.old.failed) }
+        (e ≡ Error.Memory) ⊎ ((e ≡ Error.WriteFault) × (output.new.faults ≢ output.old.faults))) }
+    ensures stays { OnOk result (output.new.faults ≡ output.old.faults) }
 {
     let count = run.pending_count();
     let mut line = String::with_capacity(alloc, MAX_LINE)?;

@@ -1,6 +1,6 @@
 //! The trace of a script.
 
-ghost use Rattle.std.specs.Prelude.{◌≡◌, ◌⊎◌, ◌++◌, [], List, ℕ, true, IfErr, IfOk, OnOk};
+ghost use Rattle.std.specs.Prelude.{◌≡◌, ◌≢◌, ◌⊎◌, ◌++◌, [], List, ℕ, IfErr, IfOk, OnOk};
 ghost use Rattle.std.specs.Io.KnownBytes.{Appends};
 ghost use Rattle.frozen_trace.specs.Traces.{IsPrinted, PlaysAll, all_printed, pending_line};
 ghost use Rattle.frozen.specs.Runs.{IsFrozen};
@@ -39,8 +39,8 @@ pub fn trace_script<T: RouteTable, W: Write>(
         × Appends (W.contents output.old.writer) (W.contents output.new.writer)
         (output.old.text.items ++ text)) }
     ensures refused { IfErr result (λ e.
-        (e ≡ Error.Memory) ⊎ ((e ≡ Error.WriteFault) × (output.new.failed ≡ true))) }
-    ensures stays { OnOk result (output.new.failed ≡ output.old.failed) }
+        (e ≡ Error.Memory) ⊎ ((e ≡ Error.WriteFault) × (output.new.faults ≢ output.old.faults))) }
+    ensures stays { OnOk result (output.new.faults ≡ output.old.faults) }
 {
     let mut lines = Lines::new(alloc, &image)?;
     trace_image::<T, W>(alloc, image, steps, &mut lines, output)
@@ -60,8 +60,8 @@ fn trace_image<T: RouteTable, W: Write>(
         × Appends (W.contents output.old.writer) (W.contents output.new.writer)
         (output.old.text.items ++ text)) }
     ensures refused { IfErr result (λ e.
-        (e ≡ Error.Memory) ⊎ ((e ≡ Error.WriteFault) × (output.new.failed ≡ true))) }
-    ensures stays { OnOk result (output.new.failed ≡ output.old.failed) }
+        (e ≡ Error.Memory) ⊎ ((e ≡ Error.WriteFault) × (output.new.faults ≢ output.old.faults))) }
+    ensures stays { OnOk result (output.new.faults ≡ output.old.faults) }
 {
     match Frozen::<T>::start(alloc, image, LIMIT) {
         Ok(run) => {
@@ -93,8 +93,8 @@ fn trace_run<T: RouteTable, W: Write>(
         (output.old.text.items ++ played ++ pending_line run.new)) }
     ensures frozen { OnOk result (IsFrozen run.old × IsFrozen run.new) }
     ensures refused { IfErr result (λ e.
-        (e ≡ Error.Memory) ⊎ ((e ≡ Error.WriteFault) × (output.new.failed ≡ true))) }
-    ensures stays { OnOk result (output.new.failed ≡ output.old.failed) }
+        (e ≡ Error.Memory) ⊎ ((e ≡ Error.WriteFault) × (output.new.faults ≢ output.old.faults))) }
+    ensures stays { OnOk result (output.new.faults ≡ output.old.faults) }
 {
     // Only the prover needs these reads: the run is over frozen tables, before and after.
     let _begun = run.image();

@@ -1,11 +1,14 @@
 -- A list of stations with one more.
-use Rattle.std.proofs.Common.{◌≡◌, ◌⊎◌, ℕ, zero, suc, ◌+◌, inl, inr, List, [], ◌∷◌, ◌++◌, refl, subst, arith, length}
+use Rattle.std.proofs.Common.{◌≡◌, ◌⊎◌, ℕ, zero, suc, ◌+◌, inl, inr, None, List, [], ◌∷◌, ◌++◌, refl, subst, arith, length}
 use Rattle.std.proofs.lemmas.List.{length-append}
+use Rattle.std.proofs.lemmas.List.Elements.{All-push}
+use Rattle.atp.specs.Requesting.{known}
 use Rattle.audit.proofs.WalkLists.{At, at_append}
 use Rattle.end_node.specs.Holding.{NodeHolding}
 use Rattle.image_stations.specs.Building.{AreFirst}
-use Rattle.image_stations.specs.Holders.{HoldsStation}
+use Rattle.image_stations.specs.Holders.{AreFresh, HoldsStation, IsFresh}
 use Rattle.station.specs.declared.member.Member.{Member}
+use Rattle.station.specs.declared.member.Member.TheVariants as member
 use Rattle.router.specs.Holding.{Holding}
 use Rattle.table_image.specs.Internet.{Internet}
 
@@ -32,3 +35,8 @@ with_next i n stations m first holds = record {
         → HoldsStation i s x
     by s x (inl at) = first.each s x at
     by s x (inr w) = last s w.0 x w.1 w.2
+
+-- A node that has received nothing, after stations that haven't either.
+pub node_fresh : (stations : List (Member Holding NodeHolding)) (n : NodeHolding) → AreFresh stations → n.received ≡ []
+    → n.asks.next ≡ 1 → ((id : ℕ) → known id n.asks.slots ≡ None) → AreFresh (stations ++ member.Node n ∷ [])
+node_fresh stations n fresh heard next none = All-push IsFresh stations (member.Node n) fresh (heard, next, none)

@@ -1,9 +1,11 @@
 -- The contents of the stations of an internet whose tables are those of its image.
-use Rattle.std.specs.Prelude.{◌≡◌, ℕ, ◌+◌, List, map, length, Option, Some, None, is_some, slice_get}
+use Rattle.std.specs.Prelude.{◌≡◌, ℕ, ◌+◌, List, [], map, length, Option, Some, None, is_some, slice_get}
+use Rattle.std.specs.List.{All}
 use Rattle.aarp.specs.Choosing.{Choice, decided}
 use Rattle.at_base.specs.Range.{Span}
 use Rattle.at_base.specs.declared.address.Addr.{Addr}
 use Rattle.at_base.specs.declared.address.Hw.{Hw}
+use Rattle.atp.specs.Requesting.{known}
 use Rattle.audit.specs.Routing.{home}
 use Rattle.table_image.specs.Seats.{Seat, seat_at}
 use Rattle.cable_model.specs.Outcomes.{Places}
@@ -77,3 +79,13 @@ HoldsStation i s (member.Node h) = (k : ℕ) × (s ≡ length i.routers + k) × 
 pub record HoldStations (i : Internet) (stations : List (Member Holding NodeHolding)) : Type 0 where
   pub number : length stations ≡ length i.routers + length i.nodes
   pub each : (s : ℕ) (m : Member Holding NodeHolding) → slice_get stations s ≡ Some m → HoldsStation i s m
+
+-- The station has received nothing yet: a router keeps no answers; a node has no datagrams and no open transactions, and
+-- the ID of its first transaction is looked for from 1 on.
+abbrev pub IsFresh : Member Holding NodeHolding → Type 0
+IsFresh (member.Router h) = h.requests ≡ []
+IsFresh (member.Node h) = (h.received ≡ []) × (h.asks.next ≡ 1) × ((id : ℕ) → known id h.asks.slots ≡ None)
+
+-- None of the stations has received anything yet.
+abbrev pub AreFresh : List (Member Holding NodeHolding) → Type 0
+AreFresh stations = All IsFresh stations

@@ -1,9 +1,9 @@
 //! Builds the stations of an internet, each with the tables that the image has for it.
 
-ghost use Rattle.std.specs.Prelude.{IfOk, IsOkUnless, OnOk, length, ◌+◌, ◌≤◌};
+ghost use Rattle.std.specs.Prelude.{IfOk, IsOkUnless, OnOk, length, ◌+◌, ◌<◌, ◌≤◌};
 ghost use Rattle.audit.specs.Rules.{Passes};
 ghost use Rattle.image_stations.specs.Building.{AreFirst};
-ghost use Rattle.image_stations.specs.Holders.{HoldStations};
+ghost use Rattle.image_stations.specs.Holders.{AreFresh, HoldStations};
 
 use crate::nodes::node_of;
 use crate::routers::router_of;
@@ -25,8 +25,10 @@ fn put_routers<T: RouteTable>(
     requires passes { Passes image.now }
     requires within { from ≤ length image.now.routers }
     requires first { AreFirst image.now from stations.old.items }
+    requires fresh { AreFresh stations.old.items }
     ensures put { OnOk result
         (AreFirst image.now (length image.now.routers) stations.new.items) }
+    ensures fresh { OnOk result (AreFresh stations.new.items) }
     ensures refused { IsOkUnless result Error.Memory }
 {
     if (from as usize) < image.routers().len() {
@@ -38,8 +40,28 @@ fn put_routers<T: RouteTable>(
     }
 }
 
+/// Appends the node with this index.
+#[tactic(auto, using(crate::proofs::Pushed::with_next, crate::proofs::Pushed::node_fresh))]
+fn put_node<T: RouteTable>(
+    stations: &mut Vec<Member<Router<T>, EndNode>>,
+    image: &Image,
+    index: u8,
+) -> Result<(), Error>
+    requires passes { Passes image.now }
+    requires there { index < length image.now.nodes }
+    requires first { AreFirst image.now (length image.now.routers + index) stations.old.items }
+    requires fresh { AreFresh stations.old.items }
+    ensures put { OnOk result
+        (AreFirst image.now (length image.now.routers + index + 1) stations.new.items) }
+    ensures fresh { OnOk result (AreFresh stations.new.items) }
+    ensures refused { IsOkUnless result Error.Memory }
+{
+    let node = node_of(*stations.allocator(), image, index)?;
+    stations.push(Member::Node(node))?;
+    Ok(())
+}
+
 /// Appends the nodes with indexes from `from` on.
-#[tactic(auto, using(crate::proofs::Pushed::with_next))]
 fn put_nodes<T: RouteTable>(
     stations: &mut Vec<Member<Router<T>, EndNode>>,
     image: &Image,
@@ -48,12 +70,13 @@ fn put_nodes<T: RouteTable>(
     requires passes { Passes image.now }
     requires within { from ≤ length image.now.nodes }
     requires first { AreFirst image.now (length image.now.routers + from) stations.old.items }
+    requires fresh { AreFresh stations.old.items }
     ensures put { OnOk result (HoldStations image.now stations.new.items) }
+    ensures fresh { OnOk result (AreFresh stations.new.items) }
     ensures refused { IsOkUnless result Error.Memory }
 {
     if (from as usize) < image.nodes().len() {
-        let node = node_of(*stations.allocator(), image, from)?;
-        stations.push(Member::Node(node))?;
+        put_node(stations, image, from)?;
         put_nodes(stations, image, from + 1)
     } else {
         Ok(())
@@ -68,6 +91,8 @@ pub fn stations_of<T: RouteTable>(
 ) -> Result<Vec<Member<Router<T>, EndNode>>, Error>
     requires passes { Passes image.now }
     ensures ok { IfOk result (λ stations. HoldStations image.now stations.items) }
+    // They have received nothing yet.
+    ensures fresh { IfOk result (λ stations. AreFresh stations.items) }
     ensures refused { IsOkUnless result Error.Memory }
 {
     let mut stations = Vec::new(alloc);

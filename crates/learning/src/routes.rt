@@ -1,6 +1,6 @@
 //! Learning from packets of routing data.
 
-ghost use Rattle.std.specs.Prelude.{◌≡◌, OnErr, OnOk, IsOkUnless};
+ghost use Rattle.std.specs.Prelude.{◌≡◌, false, OnErr, OnOk, IsOk, IsOkUnless};
 ghost use Rattle.rtmp.specs.Data.{tuples_of};
 ghost use Rattle.rtmp.specs.Routes.{IsHeardInPart};
 ghost use Rattle.learning.specs.Heard.{is_from_neighbour, routes_after};
@@ -31,6 +31,8 @@ pub fn learn_routes<T: RouteTable>(
 ) -> Result<(), Error>
     ensures ok { OnOk result
         (T.rows routes.new ≡ routes_after range port packet.now (T.rows routes.old)) }
+    // A packet that is ignored needs no memory.
+    ensures ignored { is_from_neighbour range packet.now ≡ false → IsOk result }
     ensures in_part { OnErr result (IsHeardInPart packet.now.router port
         (tuples_of packet.now.written) (T.rows routes.old) (T.rows routes.new)) }
     ensures refused { IsOkUnless result Error.Memory }

@@ -270,7 +270,7 @@ module _ (i : Internet) (ok : Passes i) where
       let at = contained_at (pending (cable_seats i) t) p there in
       took_carries t p at.0 ls at.1 made r c
 
-  carries : (t : List Entry) → IsLegal i t → Carries i t
+  pub carries : (t : List Entry) → IsLegal i t → Carries i t
   carries t Begins = record { numbered = tt; carried = tt; paths = tt }
   carries t (Goes front block legal b) = event front block b (run_is i ok front legal) (carries front legal)
 

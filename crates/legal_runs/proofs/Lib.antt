@@ -11,6 +11,8 @@ pub mod Runs
 pub mod Conserved
 pub mod Paths
 pub mod Carried
+pub mod Takers
+pub mod Handing
 pub mod Listing
 pub mod Requested
 pub mod Tallies

@@ -1,5 +1,5 @@
 -- Transcripts that aren't legal: each breaks one of the laws.
-use Rattle.std.proofs.Common.{◌≡◌, ◌≤◌, ℕ, None, refl, sym, arith, true≢false}
+use Rattle.std.proofs.Common.{◌≡◌, ◌≤◌, ℕ, Option, None, Some, refl, sym, arith, true≢false}
 use Rattle.audit.specs.Example.{addr, hardware, three_cables}
 use Rattle.audit.specs.Routing.{Here, On}
 use Rattle.audit.proofs.ExampleWalks.{example_passes}
@@ -8,15 +8,17 @@ use Rattle.at_base.specs.Packets.{address, text}
 use Rattle.nbp.specs.Packets.{packet, tuple}
 use Rattle.legal_runs.specs.Example.{echo_request}
 use Rattle.legal_runs.specs.Illegal.{asked_alone, dropped_too, gone, looked_elsewhere, looked_nowhere, many_hops, out_of_hops}
-use Rattle.legal_runs.specs.Illegal.{passed_from_all, put_from_afar, reached_alone, reached_elsewhere, reached_from_afar}
-use Rattle.legal_runs.specs.Illegal.{reached_unlisted, same_hops, taken_twice, to_all, to_unlisted}
+use Rattle.legal_runs.specs.Illegal.{passed_back, passed_from_all, put_from_afar, reached_alone, reached_elsewhere, reached_from_afar}
+use Rattle.legal_runs.specs.Illegal.{dropped_on_its_way, dropped_twice, reached_unlisted, same_hops, taken_from_afar, taken_twice, to_all, to_unlisted}
 use Rattle.legal_runs.specs.Legal.{IsLegal}
 use Rattle.legal_runs.specs.LookupExample.{blue_request}
 use Rattle.legal_runs.specs.Requests.{key_in, request, zone_of}
 use Rattle.legal_runs.proofs.ByHand.{frame, not_zero, pair}
 use Rattle.legal_runs.proofs.Carried.{are_carried}
 use Rattle.legal_runs.proofs.Conserved.{conserved, hops_are_left}
+use Rattle.legal_runs.proofs.Handing.{are_by_hand}
 use Rattle.legal_runs.proofs.LookedUp.{are_looked_up}
+use Rattle.legal_runs.proofs.Takers.{are_taken_there}
 
 zero_one : ◌≡◌ {A = ℕ} 0 1 → ⊥
 zero_one e = cc
@@ -65,6 +67,24 @@ not_reached_unlisted legal =
 
 pub not_out_of_hops : IsLegal three_cables out_of_hops → ⊥
 not_out_of_hops legal = one_zero (conserved three_cables out_of_hops example_passes legal).no_hop_limit
+
+pub not_dropped_twice : IsLegal three_cables dropped_twice → ⊥
+not_dropped_twice legal =
+    one_two ((conserved three_cables dropped_twice example_passes legal).unlisted to_unlisted refl (not_zero 50 (omega arith))).counted
+
+pub not_dropped_on_its_way : IsLegal three_cables dropped_on_its_way → ⊥
+not_dropped_on_its_way legal =
+    one_two ((conserved three_cables dropped_on_its_way example_passes legal).unlisted to_unlisted refl
+    (not_zero 50 (omega arith))).counted
+
+pub not_taken_from_afar : IsLegal three_cables taken_from_afar → ⊥
+not_taken_from_afar legal = true≢false (sym (are_taken_there three_cables taken_from_afar example_passes legal).0)
+
+pub not_passed_back : IsLegal three_cables passed_back → ⊥
+not_passed_back legal = other (are_by_hand three_cables example_passes passed_back legal).1.0
+  where
+    other : ◌≡◌ {A = Option ℕ} (Some 1) (Some 0) → ⊥
+    other e = cc
 
 pub not_asked_alone : IsLegal three_cables asked_alone → ⊥
 unfolding request zone_of datagram packet tuple address text

@@ -1,9 +1,10 @@
 -- Which routers carried a datagram.
-use Rattle.std.specs.Prelude.{◌≡◌, ℕ, ◌≤◌, true, List, [], ◌∷◌, ◌++◌, Option, Some, None, length, slice_get}
+use Rattle.std.specs.Prelude.{◌≡◌, ℕ, ◌≤◌, Bool, true, false, List, [], ◌∷◌, ◌++◌, Option, Some, None, length, slice_get}
 use Rattle.ddp.specs.Bodies.{hops, target}
 use Rattle.table_image.specs.Internet.{Internet}
+use Rattle.audit.specs.Routing.{Hand, Here, On, Nowhere, hand}
 use Rattle.audit.specs.Walks.{IsWalk}
-use Rattle.cable_model.specs.Transcript.{Entry, Sent, Put, Took, Reached, Dropped, Lost}
+use Rattle.cable_model.specs.Transcript.{Entry, Frame, Sent, Put, Took, Reached, Dropped, Lost}
 use Rattle.legal_runs.specs.Stations.{is_on}
 
 -- The routers that carried the datagram that is being handled, and those that carried each frame, by its stamp.
@@ -49,3 +50,42 @@ IsCarried i w (Lost stamp) = Unit {0}
 abbrev pub AreCarried : Internet → Chains → List Entry → Type 0
 AreCarried i w [] = Unit {0}
 AreCarried i w (e ∷ es) = IsCarried i w e × AreCarried i (after e w) es
+
+-- The station is on the cable, and there is such a cable.
+abbrev pub IsOnSome : Internet → ℕ → Option ℕ → Type 0
+IsOnSome i station None = ⊥
+IsOnSome i station (Some cable) = is_on i station cable ≡ true
+
+-- A station that takes a frame is on the cable of that frame; `cables` has the cables of the earlier frames, by their
+-- stamps.
+abbrev pub AreTakenThere : Internet → List ℕ → List Entry → Type 0
+AreTakenThere i cables [] = Unit {0}
+AreTakenThere i cables (Put frame ∷ es) = AreTakenThere i (cables ++ frame.cable ∷ []) es
+AreTakenThere i cables (Took stamp station ∷ es) = IsOnSome i station (slice_get cables stamp) × AreTakenThere i cables es
+AreTakenThere i cables (Sent station body ∷ es) = AreTakenThere i cables es
+AreTakenThere i cables (Reached cable station how body ∷ es) = AreTakenThere i cables es
+AreTakenThere i cables (Dropped router cause body ∷ es) = AreTakenThere i cables es
+AreTakenThere i cables (Lost stamp ∷ es) = AreTakenThere i cables es
+
+-- The cable onto which a router hands a datagram, if it has a route.
+abbrev pub cable_of_hand : Hand → Option ℕ
+cable_of_hand Nowhere = None
+cable_of_hand (Here cable) = Some cable
+cable_of_hand (On router cable address) = Some cable
+
+-- If a router carries the datagram of the frame on, the frame is on the cable onto which the router hands datagrams for
+-- its network.
+abbrev pub IsByHand : Internet → Bool → Frame → Type 0
+IsByHand i false frame = Unit {0}
+IsByHand i true frame = cable_of_hand (hand i frame.sender (target frame.bytes).net) ≡ Some frame.cable
+
+-- A router that carries a datagram on puts it on the cable of the walk's step. After a Took the datagram that was taken
+-- is carried on; after a Sent a new one is put.
+abbrev pub AreByHand : Internet → Bool → List Entry → Type 0
+AreByHand i carried [] = Unit {0}
+AreByHand i carried (Put frame ∷ es) = IsByHand i carried frame × AreByHand i carried es
+AreByHand i carried (Took stamp station ∷ es) = AreByHand i true es
+AreByHand i carried (Sent station body ∷ es) = AreByHand i false es
+AreByHand i carried (Reached cable station how body ∷ es) = AreByHand i carried es
+AreByHand i carried (Dropped router cause body ∷ es) = AreByHand i carried es
+AreByHand i carried (Lost stamp ∷ es) = AreByHand i carried es

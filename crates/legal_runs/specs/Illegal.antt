@@ -49,6 +49,19 @@ reached_unlisted = Sent 2 to_unlisted ∷ framed 0 0 2 1 to_unlisted ∷ Reached
 abbrev pub out_of_hops : List Entry
 out_of_hops = Sent 2 to_unlisted ∷ framed 0 0 2 1 to_unlisted ∷ Took 0 0 ∷ Dropped 0 HopLimit to_unlisted ∷ []
 
+-- A datagram to an unlisted network is dropped twice.
+abbrev pub dropped_twice : List Entry
+dropped_twice =
+    Sent 2 to_unlisted ∷ framed 0 0 2 1 to_unlisted ∷ Took 0 0 ∷ Dropped 0 NoRoute to_unlisted ∷ Dropped 0 NoRoute to_unlisted ∷ []
+
+-- A datagram to an unlisted network is dropped, and is under way.
+abbrev pub dropped_on_its_way : List Entry
+dropped_on_its_way = Sent 2 to_unlisted ∷ framed 0 0 2 1 to_unlisted ∷ Dropped 0 NoRoute to_unlisted ∷ []
+
+-- The second router takes a frame on a cable that it isn't on.
+abbrev pub taken_from_afar : List Entry
+taken_from_afar = Sent 2 (echo_request 0) ∷ framed 0 0 2 1 (echo_request 0) ∷ Took 0 1 ∷ []
+
 -- The first router takes one frame twice.
 abbrev pub taken_twice : List Entry
 taken_twice =
@@ -65,6 +78,10 @@ passed_from_all =
     Sent 2 (to_all 0) ∷ Reached 0 2 how.All (to_all 0)
     ∷ Put (record { stamp = 0; cable = 0; sender = 2; to = all_hw; kind = Ddp; bytes = to_all 0 })
     ∷ Took 0 0 ∷ framed 1 1 0 3 (to_all 4) ∷ []
+
+-- The first router puts a datagram for the last cable on the cable on which it heard it, for its own address there.
+abbrev pub passed_back : List Entry
+passed_back = Sent 2 (echo_request 0) ∷ framed 0 0 2 1 (echo_request 0) ∷ Took 0 0 ∷ framed 1 0 0 1 (echo_request 4) ∷ []
 
 -- The first router passes a datagram on with its hop count unchanged.
 abbrev pub same_hops : List Entry

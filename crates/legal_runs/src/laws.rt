@@ -1,17 +1,19 @@
 //! Laws of legal transcripts of an internet that passes the audit, for use by other crates. The
 //! functions do nothing: each law is the function's ensures clause.
 
-ghost use Rattle.std.specs.Prelude.{◌≡◌, List, None, true, ℕ};
+ghost use Rattle.std.specs.Prelude.{◌≡◌, [], List, None, false, true, ℕ};
 ghost use Rattle.table_image.specs.Internet.{Internet};
 ghost use Rattle.audit.specs.Example.{three_cables};
 ghost use Rattle.audit.specs.Rules.{Passes};
 ghost use Rattle.cable_model.specs.Transcript.{Entry};
-ghost use Rattle.legal_runs.specs.Carriage.{AreCarried, none_yet};
+ghost use Rattle.legal_runs.specs.Carriage.{AreByHand, AreCarried, AreTakenThere, none_yet};
 ghost use Rattle.legal_runs.specs.Counts.{HasHopsLeft, IsConserved, reached, sent, under_way};
 ghost use Rattle.legal_runs.specs.Example.{echo, echo_reply, echo_request};
 ghost use Rattle.legal_runs.specs.Example.{to_everybody, to_nobody, to_nowhere};
-ghost use Rattle.legal_runs.specs.Illegal.{asked_alone, dropped_too, gone, looked_elsewhere};
-ghost use Rattle.legal_runs.specs.Illegal.{looked_nowhere, many_hops, out_of_hops, passed_from_all};
+ghost use Rattle.legal_runs.specs.Illegal.{asked_alone, dropped_on_its_way, dropped_too};
+ghost use Rattle.legal_runs.specs.Illegal.{dropped_twice, gone, looked_elsewhere, taken_from_afar};
+ghost use Rattle.legal_runs.specs.Illegal.{looked_nowhere, many_hops, out_of_hops, passed_back};
+ghost use Rattle.legal_runs.specs.Illegal.{passed_from_all};
 ghost use Rattle.legal_runs.specs.Illegal.{put_from_afar, reached_alone, reached_elsewhere};
 ghost use Rattle.legal_runs.specs.Illegal.{reached_from_afar, reached_unlisted, same_hops};
 ghost use Rattle.legal_runs.specs.Illegal.{taken_twice};
@@ -36,9 +38,16 @@ pub fn hops_left()
 
 /// Carriage. A datagram that reached a cable was carried by no router, or by the routers of its
 /// only walk, at most 15. A station that puts a frame on a cable is on that cable, and the hop
-/// count in the frame is the number of routers that have carried its datagram.
+/// count in the frame is the number of routers that have carried its datagram. A station that takes
+/// a frame is on the frame's cable, and a router that carries a datagram on puts it on the cable
+/// onto which it hands datagrams for its network, which is that of the walk's step.
 pub fn carriage()
-    ensures { (i : Internet) (t : List Entry) → Passes i → IsLegal i t → AreCarried i none_yet t }
+    ensures carried { (i : Internet) (t : List Entry) → Passes i → IsLegal i t
+        → AreCarried i none_yet t }
+    ensures taken { (i : Internet) (t : List Entry) → Passes i → IsLegal i t
+        → AreTakenThere i [] t }
+    ensures handed { (i : Internet) (t : List Entry) → Passes i → IsLegal i t
+        → AreByHand i false t }
 {}
 
 /// Lookups, provided that no node sends a forward request or a lookup. For each broadcast request
@@ -90,10 +99,11 @@ pub fn others_are_no_requests()
 /// Transcripts that are not legal, so that each part of the laws excludes something. They have a
 /// datagram that reached a cable but was never sent; one under way that reached another cable, or
 /// was dropped; a cable reached, or a frame put on it, by a station that isn't on it; a frame that
-/// one station takes twice; a broadcast frame that a router passes on; a datagram passed on with
+/// one station takes twice, or takes from a cable that it isn't on; a broadcast frame that a router
+/// passes on, or puts on another cable than that of the walk's step; a datagram passed on with
 /// its hop count unchanged, or with too many hops for the routers that remain; a datagram to an
-/// unlisted network that is neither under way nor dropped, that reached a cable, or that is dropped
-/// because of its hop count; a lookup on a cable that doesn't list the zone, and none on one that
+/// unlisted network that is neither under way nor dropped, that reached a cable, that is dropped
+/// because of its hop count, dropped twice, or both dropped and under way; a lookup on a cable that doesn't list the zone, and none on one that
 /// does; and a request that is neither taken nor to be taken.
 pub fn words_exclude()
     ensures reached { ¬ IsLegal three_cables reached_alone }
@@ -102,10 +112,14 @@ pub fn words_exclude()
     ensures afar { (¬ IsLegal three_cables reached_from_afar)
         × (¬ IsLegal three_cables put_from_afar) }
     ensures taken { ¬ IsLegal three_cables taken_twice }
+    ensures taken_afar { ¬ IsLegal three_cables taken_from_afar }
     ensures heard { ¬ IsLegal three_cables passed_from_all }
+    ensures handed { ¬ IsLegal three_cables passed_back }
     ensures hops { (¬ IsLegal three_cables same_hops) × (¬ IsLegal three_cables many_hops) }
     ensures unlisted { (¬ IsLegal three_cables gone) × (¬ IsLegal three_cables reached_unlisted)
         × (¬ IsLegal three_cables out_of_hops) }
+    ensures unlisted_twice { (¬ IsLegal three_cables dropped_twice)
+        × (¬ IsLegal three_cables dropped_on_its_way) }
     ensures looked { ¬ IsLegal three_cables looked_elsewhere }
     ensures not_looked { ¬ IsLegal three_cables looked_nowhere }
     ensures asked { ¬ IsLegal three_cables asked_alone }

@@ -34,7 +34,8 @@ use Rattle.table_image.specs.declared.port.Port.{Port}
 use Rattle.legal_stations.proofs.Arrivals.{Arrives}
 use Rattle.legal_stations.proofs.Bridge.{legs_agree}
 use Rattle.legal_stations.proofs.Datagrams.{Inside}
-use Rattle.legal_stations.proofs.Hands.{BothHere, BothNowhere, BothOn, hands_agree}
+use Rattle.legal_stations.proofs.Hands.{hands_agree}
+use Rattle.legal_stations.specs.Agreeing.{BothHere, BothNowhere, BothOn}
 use Rattle.legal_stations.proofs.Ports.{cable_is, has_at, port_of}
 
 -- Setting the hop count twice is setting it once.

@@ -25,16 +25,7 @@ use Rattle.table_image.specs.declared.port.Port.{Port}
 use Rattle.table_image.specs.declared.row.Row.{Row}
 use Rattle.table_image.specs.declared.router.Router.{Router}
 use Rattle.legal_stations.proofs.Handed.{find_map}
-
--- A router with the image's tables makes the image's routing decision for a network: neither has a route; or both put
--- datagrams on the cable of a port, which is the network's home; or both hand them, over the cable of a port, to the
--- owner of an address there.
-pub data Agree (i : Internet) (r : ℕ) (router : Router) (h : Holding) (n : ℕ) : Type 0 where
-  BothNowhere : hand_in h.routes n ≡ to.Nowhere → hand i r n ≡ Nowhere → Agree i r router h n
-  BothHere : (q : ℕ) (port : Port) → At router.ports q port → hand_in h.routes n ≡ to.Here q → hand i r n ≡ Here port.cable
-      → home i n ≡ Some port.cable → Agree i r router h n
-  BothOn : (q : ℕ) (port : Port) (s : ℕ) (a : Addr) → At router.ports q port → hand_in h.routes n ≡ to.On q a
-      → hand i r n ≡ On s port.cable a → owner i port.cable a ≡ Some s → Agree i r router h n
+use Rattle.legal_stations.specs.Agreeing.{Agree, BothHere, BothNowhere, BothOn}
 
 module _ (i : Internet) (ok : Passes i) (r : ℕ) (h : Holding) (holds : HoldsRouter i r h) (n : ℕ) where
   abbrev router : Router

@@ -34,7 +34,8 @@ use Rattle.station.specs.declared.way.Way.{Way}
 use Rattle.table_image.specs.Internet.{Internet}
 use Rattle.table_image.specs.declared.port.Port.{Port}
 use Rattle.legal_stations.proofs.Datagrams.{names_of}
-use Rattle.legal_stations.proofs.Hands.{BothHere, BothNowhere, BothOn, hands_agree}
+use Rattle.legal_stations.proofs.Hands.{hands_agree}
+use Rattle.legal_stations.specs.Agreeing.{BothHere, BothNowhere, BothOn}
 use Rattle.legal_stations.proofs.Leaving.{AsksNothing, IsQuiet, IsWay, Leaves, MayGo, goes_straight, is_quiet, replies_leave, replies_quiet}
 use Rattle.legal_stations.proofs.Ports.{cable_is, own_is, port_addressed, seated}
 

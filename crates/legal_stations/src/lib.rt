@@ -5,5 +5,5 @@
 mod requests;
 mod takes;
 
-pub use requests::{broadcast_requests_expand, forward_requests_are_looked_up};
+pub use requests::{broadcast_requests_expand, forward_requests_are_looked_up, hands_agree};
 pub use takes::{nodes_takes_are_legal, routers_takes_are_legal, sendings_are_legal};

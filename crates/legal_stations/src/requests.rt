@@ -9,6 +9,7 @@ ghost use Rattle.audit.specs.Rules.{Passes};
 ghost use Rattle.audit.specs.Walks.{HasPort};
 ghost use Rattle.ddp.specs.Datagram.{Datagram};
 ghost use Rattle.image_stations.specs.Holders.{HoldsRouter};
+ghost use Rattle.legal_stations.specs.Agreeing.{Agree};
 ghost use Rattle.legal_stations.specs.Made.{legs};
 ghost use Rattle.legal_runs.specs.Answers.{Expands, IsLookup, IsMade};
 ghost use Rattle.legal_runs.specs.Legs.{Leg};
@@ -20,6 +21,15 @@ ghost use Rattle.router.specs.Requests.{names_in, requests_made};
 ghost use Rattle.station.specs.Lawful.{IsGood, are_bytes};
 ghost use Rattle.table_image.specs.Bounds.{IsBounded};
 ghost use Rattle.table_image.specs.Internet.{Internet};
+
+/// A router that holds the tables of the image hands a datagram on as the image says: neither has a
+/// route; or both put it on the cable of one of the router's ports, which is the home of the
+/// network; or both hand it, over the cable of one of the router's ports, to the owner of an
+/// address there.
+pub fn hands_agree()
+    ensures { (i : Internet) (r n : ℕ) (h : Holding) → Passes i → (holds : HoldsRouter i r h)
+        → Agree i r holds.router h n }
+{}
 
 /// The requests that a router makes from a broadcast request that ends at it: for each cable that
 /// lists the zone, in increasing order of ranges, one lookup on that cable or one forward request

@@ -21,6 +21,7 @@ use Rattle.live_cables.proofs.Played.{due_append, losses-append, nothing_played,
 use Rattle.live_cables.proofs.Quiet.{are_quiet, quiet-append}
 use Rattle.live_cables.specs.Living.{IsTakenBy, Plays, PlaysOn, Stays, Wires, happened, loses}
 use Rattle.live_cables.specs.Playing.{AreDue, IsDueThen, IsPlayed, is_in, is_took, losses, may_be}
+use Rattle.live_cables.proofs.Losses.{all_losses}
 use Rattle.live_cables.specs.Steps.{IsSendable, Loses, Puts, Takes, are_gone, is_loss, losses_since}
 use Rattle.station.specs.Hearing.{Hearing}
 use Rattle.station.specs.Lawful.{IsGood}
@@ -196,7 +197,7 @@ module _ (taken : ℕ) (old new : Wires) (mid : Cabling) (front : List Line) (lo
       (ap length front_is ∙ sym (length-map old.cabling.lines (entry_at old.cabling.kept)))))
 
   ends_with : IsTrue (list_all (is_loss (losses (loses old) m.added)) l.added)
-  ends_with = subst (λ ss. IsTrue (list_all (is_loss ss) l.added)) these l.losses
+  ends_with = subst (λ ss. IsTrue (list_all (is_loss ss) l.added)) these (all_losses _ l.added l.losses)
 
   grown : happened new ≡ happened old ++ (m.added ++ l.added)
   grown = l.grown ∙ (ap (λ es. es ++ l.added) m.grown ∙ append_assoc (transcript old.cabling) m.added l.added)

@@ -1,6 +1,6 @@
 -- Frames that are lost at the end of a call.
 use Rattle.std.proofs.Common.{◌≡◌, ℕ, zero, suc, Bool, true, false, not, ◌-◌, ◌<◌, ◌≤◌, ◌||◌, ◌&&◌, ◌==◌, cond, IsTrue, List, [], ◌∷◌, ◌++◌, refl, sym, ap, ◌∙◌, subst}
-use Rattle.std.proofs.Common.{append-nil, append_assoc, arith, drop, eq-eqb, get_or, length, take, eqb-true, map, slice_get, true≢false}
+use Rattle.std.proofs.Common.{append-nil, append_assoc, arith, inl, inr, drop, eq-eqb, get_or, length, take, eqb-true, map, slice_get, true≢false}
 use Rattle.std.specs.List.{list_all, list_any}
 use Rattle.std.specs.Option.{unwrap_or}
 use Rattle.std.proofs.lemmas.Bool.{and_parts, not-true}
@@ -15,18 +15,18 @@ use Rattle.cable_model.specs.declared.entry.Entry.TheVariants as line
 use Rattle.cable_model.specs.declared.seat.Seat.{Seat}
 use Rattle.live_cables.proofs.Pending.{both, Has, has_any, lost_ends, none_any, pending_since}
 use Rattle.live_cables.specs.Playing.{is_in, losses}
-use Rattle.live_cables.specs.Steps.{Loses, are_gone, is_loss, line_losses}
+use Rattle.live_cables.specs.Steps.{AreLossesOf, Loses, are_gone, is_loss, line_losses}
 
 -- ---- Losses of frames
 
 pub loses_none : (ss : List ℕ) (c : Cabling) → Loses ss c c
-loses_none ss c = record { added = []; grown = sym (append-nil (transcript c)); losses = refl; seats = refl; limit = refl }
+loses_none ss c = record { added = []; grown = sym (append-nil (transcript c)); losses = tt; seats = refl; limit = refl }
 
 pub loses_one : (stamp : ℕ) (old new : Cabling) → Adds old new (Lost stamp ∷ []) → Loses (stamp ∷ []) old new
 loses_one stamp old new x = record {
   added = Lost stamp ∷ [];
   grown = x.added;
-  losses = ap (λ b. (b || false) && true) (eq-eqb stamp stamp refl);
+  losses = inl (refl, tt);
   seats = x.seats;
   limit = x.limit;
 }
@@ -51,20 +51,41 @@ in_rest s ss n h = by (s == n) h
     by true h = refl
     by false h = h
 
-in_head : (s : ℕ) (ss : List ℕ) (n : ℕ) → is_in (s ∷ []) n ≡ true → is_in (s ∷ ss) n ≡ true
-in_head s ss n h = by (s == n) h
+-- Losses of frames in their order are losses of these frames.
+pub all_losses : (ss : List ℕ) (es : List Entry) → AreLossesOf ss es → IsTrue (list_all (is_loss ss) es)
+all_losses ss [] h = refl
+all_losses [] (e ∷ es) h = absurd h
+all_losses (s ∷ ss) (e ∷ es) (inl h) =
+    let here : is_in (s ∷ ss) s ≡ true = ap (λ b. b || is_in ss s) (eq-eqb s s refl) in
+    let rest = loss_of ss (s ∷ ss) (in_rest s ss) es (all_losses ss es h.1) in
+    subst (λ x. IsTrue (is_loss (s ∷ ss) x && list_all (is_loss (s ∷ ss)) es)) (sym h.0)
+    (both (is_in (s ∷ ss) s) (list_all (is_loss (s ∷ ss)) es) here rest)
+all_losses (s ∷ ss) (e ∷ es) (inr h) = loss_of ss (s ∷ ss) (in_rest s ss) (e ∷ es) (all_losses ss (e ∷ es) h)
+
+losses_then : (s : ℕ) (ss : List ℕ) (xs ys : List Entry) → AreLossesOf (s ∷ []) xs → AreLossesOf ss ys → AreLossesOf (s ∷ ss) (xs ++ ys)
+losses_then s ss [] [] h g = tt
+losses_then s ss [] (y ∷ ys) h g = inr g
+losses_then s ss (x ∷ xs) ys (inl h) g = inl (h.0, after xs h.1)
   where
-    by : (b : Bool) → (b || false) ≡ true → (b || is_in ss n) ≡ true
-    by true h = refl
-    by false h = cc
+    after : (zs : List Entry) → AreLossesOf [] zs → AreLossesOf ss (zs ++ ys)
+    after [] none = g
+    after (z ∷ zs) none = absurd none
+losses_then s ss (x ∷ xs) ys (inr h) g = absurd h
+
+losses_first : (s : ℕ) (ss : List ℕ) (xs : List Entry) → AreLossesOf (s ∷ []) xs → AreLossesOf (s ∷ ss) xs
+losses_first s ss [] h = tt
+losses_first s ss (x ∷ xs) (inl h) = inl (h.0, after xs h.1)
+  where
+    after : (zs : List Entry) → AreLossesOf [] zs → AreLossesOf ss zs
+    after [] none = tt
+    after (z ∷ zs) none = absurd none
+losses_first s ss (x ∷ xs) (inr h) = absurd h
 
 pub loses_then : (s : ℕ) (ss : List ℕ) (a b c : Cabling) → Loses (s ∷ []) a b → Loses ss b c → Loses (s ∷ ss) a c
 loses_then s ss a b c x y = record {
   added = x.added ++ y.added;
   grown = y.grown ∙ (ap (λ l. l ++ y.added) x.grown ∙ append_assoc (transcript a) x.added y.added);
-  losses =
-      list_all-append (is_loss (s ∷ ss)) x.added y.added
-      ∙ both _ _ (loss_of (s ∷ []) (s ∷ ss) (in_head s ss) x.added x.losses) (loss_of ss (s ∷ ss) (in_rest s ss) y.added y.losses);
+  losses = losses_then s ss x.added y.added x.losses y.losses;
   seats = y.seats ∙ x.seats;
   limit = y.limit ∙ x.limit;
 }
@@ -73,7 +94,7 @@ pub loses_first : (s : ℕ) (ss : List ℕ) (a b : Cabling) → Loses (s ∷ [])
 loses_first s ss a b x = record {
   added = x.added;
   grown = x.grown;
-  losses = loss_of (s ∷ []) (s ∷ ss) (in_head s ss) x.added x.losses;
+  losses = losses_first s ss x.added x.losses;
   seats = x.seats;
   limit = x.limit;
 }
@@ -133,7 +154,7 @@ gone_then s ss b c first x rest =
   where
     before : (p : Pair) → Has (pending c.seats (transcript c)) p → Has (pending b.seats (transcript b)) p
     before p g =
-        pending_since b.seats (transcript b) x.added p (has_none (pairs b.seats x.added) p (pairs_none b.seats ss x.added x.losses))
+        pending_since b.seats (transcript b) x.added p (has_none (pairs b.seats x.added) p (pairs_none b.seats ss x.added (all_losses ss x.added x.losses)))
         (subst (λ l. Has (pending b.seats l) p) x.grown (subst (λ l. Has (pending l (transcript c)) p) x.seats g))
 
     split : (p : Pair) → Has (pending c.seats (transcript c)) p → (t : Bool) → (s == p.frame.stamp) ≡ t

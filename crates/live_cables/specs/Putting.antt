@@ -34,12 +34,13 @@ IsPut s to kind bytes old new =
     Adds old new (framed (record { stamp = stamps (transcript old); cable = s.cable; station = s.station }) to kind bytes ∷ [])
     ⊎ ((new ≡ old) × (IsNowhere s old ⊎ (599 < length bytes)))
 
--- A datagram was sent by a seat, or waits; or nothing changed, because the station isn't on the cable.
+-- A datagram was sent by a seat, or waits; or nothing changed, because the station isn't on the cable or the datagram is
+-- too long.
 abbrev pub IsSent : Places → Seat → Next → List ℕ → Cabling → Cabling → Type 0
 IsSent places s next bytes old new =
     (Adds old new (sent_entries places old s.cable s.station next bytes)
     × (map (held_at new.kept) new.waiting ≡ held_next places s.cable (port_on old.seats s.cable s.station) next bytes))
-    ⊎ ((new ≡ old) × IsNowhere s old)
+    ⊎ ((new ≡ old) × (IsNowhere s old ⊎ (599 < length bytes)))
 
 -- A seat's station sent an AARP request for an address on its cable; if there is no seat, nothing changed.
 abbrev pub IsAsked : Option Seat → Option (Option Addr) → Addr → Cabling → Cabling → Type 0

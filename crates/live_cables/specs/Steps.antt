@@ -1,5 +1,5 @@
 -- The steps of one call on live cables.
-use Rattle.std.specs.Prelude.{◌≡◌, ◌<◌, ◌+◌, ℕ, Bool, true, false, not, cond, drop, length, slice_get, Contains, IsTrue, List, [], ◌∷◌, ◌++◌}
+use Rattle.std.specs.Prelude.{◌≡◌, ◌⊎◌, ◌<◌, ◌+◌, ℕ, Bool, true, false, not, cond, drop, length, slice_get, Contains, IsTrue, List, [], ◌∷◌, ◌++◌}
 use Rattle.std.specs.List.{list_all, list_any}
 use Rattle.std.specs.Option.{unwrap_or}
 use Rattle.cable_model.specs.Logs.{Cabling, transcript}
@@ -37,11 +37,17 @@ abbrev pub is_loss : List ℕ → Entry → Bool
 is_loss stamps (Lost stamp) = is_in stamps stamp
 is_loss stamps _ = false
 
--- Entries were added that are losses of these frames; the seats and the limit stay the same.
+-- The entries are losses of some of these frames, in the order of their stamps in the list.
+abbrev pub AreLossesOf : List ℕ → List Entry → Type 0
+AreLossesOf stamps [] = Unit {0}
+AreLossesOf [] (e ∷ es) = ⊥
+AreLossesOf (s ∷ ss) (e ∷ es) = ((e ≡ Lost s) × AreLossesOf ss es) ⊎ AreLossesOf ss (e ∷ es)
+
+-- Entries were added that are losses of these frames, in their order; the seats and the limit stay the same.
 pub record Loses (stamps : List ℕ) (old new : Cabling) : Type 0 where
   pub added : List Entry
   pub grown : transcript new ≡ transcript old ++ added
-  pub losses : IsTrue (list_all (is_loss stamps) added)
+  pub losses : AreLossesOf stamps added
   pub seats : new.seats ≡ old.seats
   pub limit : new.limit ≡ old.limit
 

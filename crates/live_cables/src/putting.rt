@@ -62,7 +62,7 @@ pub fn send<R: Resolve>(
     ensures sent { let places : Places = record { finds = R.finds resolver.now; lists = R.lists resolver.now } in
         OnOk result (IsSent places seat next bytes cables.old cables.new) }
     ensures full { (result ≡ Err Error.Full)
-        ↔ ((is_seated cables.old.seats seat.cable seat.station ≡ true)
+        ↔ ((is_seated cables.old.seats seat.cable seat.station ≡ true) × (length bytes ≤ 599)
         × (cables.old.limit < length cables.old.lines + 3)) }
     ensures kept { OnErr result (cables.new ≡ cables.old) }
     ensures puts { Puts cables.old cables.new }

@@ -1,4 +1,4 @@
-//! The calls of a live node's user: sending, lookups, names, zone lists and received datagrams.
+//! The calls of a live node's user: sending, lookups, names and zone lists.
 
 ghost use Rattle.std.specs.Prelude.{◌≡◌, ◌≢◌, ◌↔◌, ◌⊎◌, ◌≤◌, ◌+◌, ◌%◌, ◌&&◌, ◌∷◌, [], ℕ, length};
 ghost use Rattle.std.specs.Prelude.{true, false, None, Some};
@@ -17,7 +17,6 @@ ghost use Rattle.station.specs.Making.{made};
 use crate::live::LiveNode;
 use at_base::{Addr, Error, Text32};
 use atp::Outcome;
-use end_node::Datagram;
 use station::Outputs;
 
 impl LiveNode {
@@ -86,19 +85,6 @@ impl LiveNode {
         ensures outputs_stay { OnErr result (outputs.new.items ≡ outputs.old.items) }
     {
         self.node.lookup(id, object, kind, zone, outputs)
-    }
-
-    /// Removes and returns the datagrams that were received, the last 64 at most, the oldest first.
-    /// Error: `Memory`, which this never needs.
-    pub fn received(&mut self) -> Result<Vec<Datagram>, Error>
-        ensures taken { IfOk result (λ datagrams. datagrams.items ≡ self.old.node.received) }
-        ensures few { IfOk result (λ datagrams. length datagrams.items ≤ 64) }
-        ensures left { OnOk result
-            (self.new ≡ record self.old { node = record self.old.node { received = [] } }) }
-        ensures refused { IsOkUnless result Error.Memory }
-        ensures stay { OnErr result (self.new ≡ self.old) }
-    {
-        self.node.received()
     }
 
     /// Registers a name for a socket, as `Names::register` does, and returns its enumerator: the

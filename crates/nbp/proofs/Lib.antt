@@ -2,3 +2,4 @@ pub mod Patterns
 pub mod Shape
 pub mod InPlace
 pub mod Registering
+pub mod Answering

@@ -1,7 +1,8 @@
 //! The names registered on a node.
 
 ghost use Rattle.std.specs.Prelude.{◌≡◌, ◌↔◌, ◌≤◌, ◌<◌, ◌&&◌, ◌⊎◌, [], length, true, false, not};
-ghost use Rattle.std.specs.Prelude.{IsTrue, IfOk, IfErr, OnOk, OnErr, IsOkUnless, vec_len};
+ghost use Rattle.std.specs.Prelude.{IsTrue, IfOk, IfErr, OnOk, OnErr, IsOk, IsOkUnless, vec_len};
+ghost use Rattle.std.specs.List.{list_any};
 ghost use Rattle.std.specs.Prelude.{vec_capacity};
 ghost use Rattle.at_base.specs.declared.error.Field.TheVariants.{Taken};
 ghost use Rattle.at_base.specs.declared.error.What.TheVariants.{Name as NoName};
@@ -155,7 +156,15 @@ fn answer_for(name: &Named) -> Tuple
     }
 }
 
-/// The tuples of the names whose object and type match the patterns. Error: `Memory`.
+/// Whether the object and type of one of the names match the patterns.
+fn is_any_asked_for(object: &[u8], kind: &[u8], names: &[Named]) -> bool
+    ensures { result ≡ list_any (spec.is_asked_for object.now kind.now) names.now }
+{
+    names.iter().any(|name| is_asked_for(object, kind, name))
+}
+
+/// The tuples of the names whose object and type match the patterns. Error: `Memory`, only if there
+/// are any.
 fn answers_of(
     alloc: Global,
     names: &[Named],
@@ -163,8 +172,12 @@ fn answers_of(
     kind: &[u8],
 ) -> Result<Vec<Tuple>, Error>
     ensures ok { IfOk result (λ tuples. tuples.items ≡ answers object.now kind.now names.now) }
+    ensures none { answers object.now kind.now names.now ≡ [] → IsOk result }
     ensures refused { IsOkUnless result Error.Memory }
 {
+    if !is_any_asked_for(object, kind, names) {
+        return Ok(Vec::new(alloc));
+    }
     let mut tuples = Vec::with_capacity(alloc, names.len())?;
     for name in names {
         if is_asked_for(object, kind, name) {
@@ -282,9 +295,11 @@ impl Names {
     }
 
     /// The tuples for the replies to a lookup: the names whose object and type match these
-    /// patterns, by rising enumerator, each without an address and a zone. Error: `Memory`.
+    /// patterns, by rising enumerator, each without an address and a zone. Error: `Memory`, only if
+    /// there are any.
     pub fn answer(&self, object: &[u8], kind: &[u8]) -> Result<Vec<Tuple>, Error>
         ensures ok { IfOk result (λ tuples. tuples.items ≡ answers object.now kind.now self.now) }
+        ensures none { answers object.now kind.now self.now ≡ [] → IsOk result }
         ensures refused { IsOkUnless result Error.Memory }
     {
         let alloc = *self.names.allocator();

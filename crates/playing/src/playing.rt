@@ -122,7 +122,7 @@ fn play_plan<P: Progress>(
 }
 
 /// The lines of a world before its verdict, and the image of its tables. Error: `Memory`.
-fn end(alloc: Global, mut world: World<PlainTable>) -> Result<Ended, Error>
+fn end(alloc: Global, world: World<PlainTable>) -> Result<Ended, Error>
     ensures lines { IfOk result (λ e. e.lines.items ≡ refused_lines world.refused
         ++ all_received world 1 (length world.plan.nodes)) }
     ensures frozen { IfOk result (λ e. e.image ≡ frozen world) }
@@ -133,8 +133,7 @@ fn end(alloc: Global, mut world: World<PlainTable>) -> Result<Ended, Error>
         Err(error) => return Err(error),
     };
     let mut lines = Vec::new(alloc);
-    // `put_world` removes received datagrams from nodes, so the tables are frozen first.
-    match put_world(&mut lines, &mut world) {
+    match put_world(&mut lines, &world) {
         Ok(()) => Ok(Ended { lines, image }),
         Err(error) => Err(error),
     }

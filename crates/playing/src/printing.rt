@@ -3,7 +3,7 @@
 ghost use Rattle.std.specs.Prelude.{◌≡◌, ◌≤◌, ◌+◌, ◌++◌, IsOkUnless, OnOk, length};
 ghost use Rattle.playing.specs.Lines.{received_lines, refused_lines};
 ghost use Rattle.playing.specs.Plays.{all_received};
-ghost use Rattle.world.specs.Seen.{node_at, received_by, taken_out};
+ghost use Rattle.world.specs.Seen.{node_at, received_by};
 
 use crate::received::put_received;
 use crate::refused::put_refused;
@@ -11,30 +11,30 @@ use at_base::Error;
 use rtmp::PlainTable;
 use world::World;
 
-/// Removes the datagrams that a node received, and appends their lines. Error: `Memory`.
-fn put_node(text: &mut Vec<u8>, world: &mut World<PlainTable>, number: u16) -> Result<(), Error>
+/// Appends the lines of the datagrams that a node received. Error: `Memory`.
+fn put_node(text: &mut Vec<u8>, world: &World<PlainTable>, number: u16) -> Result<(), Error>
     ensures lines { OnOk result (text.new.items
-        ≡ text.old.items ++ received_lines number (received_by (node_at world.old number))) }
-    ensures left { OnOk result (world.new ≡ taken_out world.old number) }
+        ≡ text.old.items ++ received_lines number (received_by (node_at world.now number))) }
     ensures refused { IsOkUnless result Error.Memory }
 {
-    let datagrams = world.received(number)?;
-    put_received(text, number, datagrams.as_slice())?;
+    if let Some(node) = world.node(number) {
+        let datagrams = node.received()?;
+        put_received(text, number, datagrams.as_slice())?;
+    }
     Ok(())
 }
 
-/// Removes the datagrams that the `left` nodes from `number` on received, and appends their lines.
-/// Error: `Memory`.
+/// Appends the lines of the datagrams that the `left` nodes from `number` on received. Error:
+/// `Memory`.
 fn put_nodes(
     text: &mut Vec<u8>,
-    world: &mut World<PlainTable>,
+    world: &World<PlainTable>,
     number: u16,
     left: u16,
 ) -> Result<(), Error>
-    requires counted { 1 ≤ number }
     requires within { number + left ≤ 65535 }
     ensures lines { OnOk result
-        (text.new.items ≡ text.old.items ++ all_received world.old number left) }
+        (text.new.items ≡ text.old.items ++ all_received world.now number left) }
     ensures refused { IsOkUnless result Error.Memory }
 {
     if left == 0 {
@@ -52,11 +52,11 @@ fn nodes_of(world: &World<PlainTable>) -> u16
     world.plan().nodes().len() as u16
 }
 
-/// Appends the lines of the actions that had an error; removes the datagrams that the nodes
-/// received, and appends their lines. Error: `Memory`.
-pub fn put_world(text: &mut Vec<u8>, world: &mut World<PlainTable>) -> Result<(), Error>
-    ensures lines { OnOk result (text.new.items ≡ text.old.items ++ refused_lines world.old.refused
-        ++ all_received world.old 1 (length world.old.plan.nodes)) }
+/// Appends the lines of the actions that had an error, and then those of the datagrams that the
+/// nodes received. Error: `Memory`.
+pub fn put_world(text: &mut Vec<u8>, world: &World<PlainTable>) -> Result<(), Error>
+    ensures lines { OnOk result (text.new.items ≡ text.old.items ++ refused_lines world.now.refused
+        ++ all_received world.now 1 (length world.now.plan.nodes)) }
     ensures refused { IsOkUnless result Error.Memory }
 {
     put_refused(text, world.refused())?;

@@ -76,7 +76,6 @@ impl Begun {
         match words.word() {
             "tick" => self.tick(1),
             "ticks" => self.tick(words.number()?),
-            "received" => { put_received(text, self.world.received(words.number()?)?.as_slice()) }
             question => answer(alloc, &self.world, question, words, text),
         }
     }
@@ -183,7 +182,15 @@ fn put_node(text: &mut String, node: Option<&EndNode>) -> Answer {
     Ok(())
 }
 
-fn put_received(text: &mut String, received: &[Datagram]) -> Answer {
+/// Appends the datagrams that a node received.
+fn put_received(text: &mut String, node: Option<&EndNode>) -> Answer {
+    match node {
+        Some(node) => put_datagrams(text, node.received()?.as_slice()),
+        None => Ok(()),
+    }
+}
+
+fn put_datagrams(text: &mut String, received: &[Datagram]) -> Answer {
     for datagram in received {
         let (source, from) = (datagram.source, datagram.source_socket);
         let (socket, kind) = (datagram.target_socket, datagram.kind);
@@ -212,6 +219,7 @@ fn answer(
         "entries" => put_entries(text, world, words.number()?),
         "counts" => put_counts(text, world),
         "node" => put_node(text, world.node(words.number()?)),
+        "received" => put_received(text, world.node(words.number()?)),
         "refused" => put_refused(text, world),
         "frozen" => {
             put_line(text, write(alloc, &world.freeze()?)?.as_slice())?;

@@ -17,6 +17,7 @@ mod of_router;
 mod of_rtmp;
 mod of_script;
 mod of_table_image;
+mod of_text;
 mod of_trace_lines;
 mod of_zip_zones;
 mod three_cables;

@@ -2,9 +2,9 @@
 -- aren't settled.
 use Rattle.std.proofs.Common.{◌≡◌, ℕ, zero, suc, Bool, true, false, List, [], ◌∷◌, Option, Some, None, refl, ap, subst, sym, ◌∙◌}
 use Rattle.std.specs.Prelude.{option_and_then, slice_get, slice_set}
-use Rattle.aarp.specs.Choosing.{Choice, heard as hears_choice, is_conflict, moved, settled}
+use Rattle.aarp.specs.Choosing.{Choice, heard as hears_choice, settled}
+use Rattle.aarp.proofs.Settled.{address_stays}
 use Rattle.aarp.specs.declared.packet.Packet.{Packet}
-use Rattle.at_base.specs.declared.address.Addr.{Addr}
 use Rattle.ddp.specs.Datagram.{Datagram}
 use Rattle.station.specs.Hearing.{Hearing}
 use Rattle.station.specs.Values.{datagram_at}
@@ -17,31 +17,11 @@ use Rattle.router.specs.Resolution.{ports_after, with_choice}
 use Rattle.station.specs.Resolution.{packet_at}
 use Rattle.router.specs.Stays.{TablesStay}
 
--- A choice has the same address after it received a packet: a settled one stays, and any other has none.
-moved_is : (c : Choice) (left : List Addr) → left ≡ c.left → (moved c).is_settled ≡ c.is_settled
-moved_is c [] e = subst (λ l. (moved (record c { left = l })).is_settled ≡ c.is_settled) e refl
-moved_is c (a ∷ left) e = subst (λ l. (moved (record c { left = l })).is_settled ≡ c.is_settled) e refl
-
-same_address : (w : Packet) (c : Choice) (s : Bool) → c.is_settled ≡ s → settled (hears_choice w c) ≡ settled c
-same_address w c true e = rw e refl
-same_address w c false e = by (is_conflict c.tentative c.hw w) refl
-  where
-    none : (d : Choice) → d.is_settled ≡ false → settled d ≡ None
-    none d f = rw f refl
-
-    by : (b : Bool) → is_conflict c.tentative c.hw w ≡ b → settled (hears_choice w c) ≡ settled c
-    by true f =
-        let is : hears_choice w c ≡ moved c = rw (e, f) refl in
-        ap settled is ∙ none (moved c) (moved_is c c.left refl ∙ e) ∙ sym (none c e)
-    by false f =
-        let is : hears_choice w c ≡ c = rw (e, f) refl in
-        ap settled is
-
 -- each port has the same address after one of them received a packet
 port_same : (ports : List Choice) (p q : ℕ) (w : Packet) (c : Choice) → slice_get ports p ≡ Some c
     → own_at (slice_set ports p (hears_choice w c)) q ≡ own_at ports q
 port_same [] p q w c at = absurd cc
-port_same (x ∷ xs) zero zero w c at = same_address w c c.is_settled refl ∙ ap (option_and_then settled) (sym at)
+port_same (x ∷ xs) zero zero w c at = address_stays w c ∙ ap (option_and_then settled) (sym at)
 port_same (x ∷ xs) zero (suc q) w c at = refl
 port_same (x ∷ xs) (suc p) zero w c at = refl
 port_same (x ∷ xs) (suc p) (suc q) w c at = port_same xs p q w c at

@@ -1,6 +1,6 @@
 -- The outputs of a router for a frame that it receives, and its state after it. (Inside AppleTalk, the chapters on DDP,
 -- AEP, NBP, ZIP, ATP and AARP)
-use Rattle.std.specs.Prelude.{◌≡◌, ℕ, Bool, ◌&&◌, ◌==◌, cond, List, [], ◌++◌, Option, Some, None, option_to_list, if◌then◌else◌}
+use Rattle.std.specs.Prelude.{◌≡◌, ℕ, Bool, ◌&&◌, ◌||◌, ◌==◌, cond, List, [], ◌++◌, Option, Some, None, option_to_list, if◌then◌else◌}
 use Rattle.atp.specs.Answers.{bytes_of_all}
 use Rattle.atp.specs.declared.request.Request.{Request}
 use Rattle.ddp.specs.Datagram.{Datagram}
@@ -20,6 +20,10 @@ use Rattle.router.specs.Ways.{way_back}
 use Rattle.router.specs.Zones.{transacted, transaction_in, zones_in, zones_told}
 use Rattle.router.specs.declared.course.Course.{Course}
 use Rattle.router.specs.declared.course.Ending.{Ending}
+
+-- the datagram may be a request for names, or a transaction about zone lists
+abbrev pub may_ask : Datagram → Bool
+may_ask d = is_to 2 2 d || is_to 3 6 d
 
 -- The outputs that a router makes for a datagram that ended at it and isn't an ATP packet for the zone socket, by its
 -- type and socket: echo replies, lookups and forward requests, and replies about zones.

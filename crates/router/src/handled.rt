@@ -1,12 +1,12 @@
 //! The replies and requests that a router makes for the datagrams that end at it.
 
 ghost use Rattle.std.specs.Prelude.{◌≡◌, ◌<◌, ◌≤◌, ◌+◌, ◌++◌, length};
-ghost use Rattle.std.specs.Prelude.{IfOk, IfSome, IsOkUnless, None, OnOk, Some};
+ghost use Rattle.std.specs.Prelude.{[], false, IfOk, IfSome, IsOk, IsOkUnless, None, OnOk, Some};
 ghost use Rattle.std.specs.Prelude.{option_map, option_to_list};
 ghost use Rattle.std.specs.Option.{unwrap_or};
 ghost use Rattle.echo.specs.Echo.{echo_reply};
 ghost use Rattle.router.specs.Answers as answers_spec;
-ghost use Rattle.router.specs.Answers.{made_for, requests_after, served};
+ghost use Rattle.router.specs.Answers.{made_for, may_ask, requests_after, served};
 ghost use Rattle.router.specs.Ending.{ended_by};
 ghost use Rattle.router.specs.Zones.{transacted, transaction_in};
 ghost use Rattle.atp.specs.Answers.{bytes_of_all};
@@ -42,12 +42,17 @@ impl<T: RouteTable> Router<T> {
     fn hear_echo(&self, made: &mut Vec<Output>, port: u8, view: &View<'_>) -> Result<(), Error>
         ensures put { OnOk result (made.new.items ≡ made.old.items
             ++ replying (ways_spec.way_back self.now port view.now) (option_to_list (echo_reply view.now))) }
+        ensures silent { replying (ways_spec.way_back self.now port view.now)
+            (option_to_list (echo_reply view.now)) ≡ [] → IsOk result }
         ensures few { OnOk result (length made.new.items ≤ length made.old.items + 1) }
         ensures good { OnOk result (AreMade (length self.now.ports) made.old.items
             → AreMade (length self.now.ports) made.new.items) }
         ensures refused { IsOkUnless result Error.Memory }
     {
         let way = self.way_back(port, view);
+        if way.is_none() {
+            return Ok(());
+        }
         let payload = echo::reply(*made.allocator(), view)?;
         put_one(made, &way, &payload)
     }
@@ -64,6 +69,8 @@ impl<T: RouteTable> Router<T> {
         requires short { AreShort packets.now }
         ensures put { OnOk result (made.new.items ≡ made.old.items
             ++ replying (ways_spec.way_back self.now port view.now) packets.now) }
+        ensures silent { replying (ways_spec.way_back self.now port view.now) packets.now ≡ []
+            → IsOk result }
         ensures few { OnOk result (length made.new.items ≤ length made.old.items + 8) }
         ensures good { OnOk result (AreMade (length self.now.ports) made.old.items
             → AreMade (length self.now.ports) made.new.items) }
@@ -79,6 +86,9 @@ impl<T: RouteTable> Router<T> {
         requires { ending.port < length self.now.ports }
         ensures put { OnOk result
             (made.new.items ≡ made.old.items ++ served self.now ending view.now) }
+        // Without a reply, no memory is needed, except for a request for names.
+        ensures silent { may_ask view.now ≡ false → served self.now ending view.now ≡ []
+            → IsOk result }
         ensures few { OnOk result (length made.new.items ≤ length made.old.items + 200) }
         ensures good { OnOk result (AreMade (length self.now.ports) made.old.items
             → AreMade (length self.now.ports) made.new.items) }
@@ -108,6 +118,8 @@ impl<T: RouteTable> Router<T> {
         ensures ended { IfOk result (λ x. x.ended ≡ Some ending.port) }
         ensures few { IfOk result (λ x. length x.made.items ≤ 256) }
         ensures good { IfOk result (λ x. AreMade (length self.now.ports) x.made.items) }
+        ensures silent { may_ask view.now ≡ false → served self.now ending view.now ≡ []
+            → IsOk result }
         ensures refused { IsOkUnless result Error.Memory }
     {
         let mut made = Vec::new(*self.ports.allocator());
@@ -151,6 +163,8 @@ impl<T: RouteTable> Router<T> {
         ensures ended { IfOk result (λ x. x.ended ≡ Some ending.port) }
         ensures few { IfOk result (λ x. length x.made.items ≤ 256) }
         ensures good { IfOk result (λ x. AreMade (length self.now.ports) x.made.items) }
+        ensures silent { may_ask view.now ≡ false → made_for self.now ending view.now ≡ []
+            → IsOk result }
         ensures refused { IsOkUnless result Error.Memory }
     {
         if is_to(view, kind::ATP, socket::ZIP) {
@@ -172,6 +186,8 @@ impl<T: RouteTable> Router<T> {
         ensures inside { IfOk result (λ x. IfSome x.ended (λ p. p < length self.now.ports)) }
         ensures few { IfOk result (λ x. length x.made.items ≤ 256) }
         ensures good { IfOk result (λ x. AreMade (length self.now.ports) x.made.items) }
+        ensures silent { may_ask view.now ≡ false
+            → (answers_spec.handled self.now ending view.now).0 ≡ [] → IsOk result }
         ensures refused { IsOkUnless result Error.Memory }
     {
         if let Some(ending) = ending {

@@ -1,7 +1,7 @@
 //! Zone lists, which nodes ask for in ATP transactions.
 
-ghost use Rattle.std.specs.Prelude.{◌≡◌, ◌≤◌, [], ◌∷◌, false, length, option_map, Some, None};
-ghost use Rattle.std.specs.Prelude.{IfOk, IsOkUnless};
+ghost use Rattle.std.specs.Prelude.{◌≡◌, ◌≤◌, [], ◌∷◌, false, true, length, option_map, Some, None};
+ghost use Rattle.std.specs.Prelude.{IfOk, IsOk, IsOkUnless};
 ghost use Rattle.std.specs.Option.{unwrap_or};
 ghost use Rattle.atp.specs.Answers.{bytes_of_all};
 ghost use Rattle.atp.specs.InPlace.{packet_value};
@@ -108,6 +108,7 @@ fn release(
     ensures packets { IfOk result (λ x. x.packets.items ≡ []) }
     ensures requests { IfOk result (λ x. unwrap_or x.responder responder.now
         ≡ (responding_spec.heard from (packet_value packet.now) responder.now).1) }
+    ensures ignored { packets_spec.is_release packet.now.control ≡ false → IsOk result }
     ensures refused { IsOkUnless result Error.Memory }
 {
     if !packet.is_release() {
@@ -133,18 +134,27 @@ impl<T: RouteTable> Router<T> {
         page_for(alloc, function, start, local.as_slice(), &self.zones)
     }
 
-    /// Handles a request: responds if it asks for a zone list. Error: `Memory`.
+    /// Handles a request: responds if it asks for a zone list, unless the request is new and there
+    /// is no room for it. Error: `Memory`.
     fn list(&self, view: &View<'_>, packet: &Packet<'_>) -> Result<Transacted, Error>
+        requires { packets_spec.is_request packet.now.control ≡ true }
         ensures packets { IfOk result (λ x. x.packets.items ≡ bytes_of_all
             (listed self.now view.now (packet_value packet.now) (asked_page packet.now.user)).0) }
         ensures requests { IfOk result (λ x. unwrap_or x.responder self.now.requests ≡
             (listed self.now view.now (packet_value packet.now) (asked_page packet.now.user)).1) }
         ensures few { IfOk result (λ x. length x.packets.items ≤ 8) }
         ensures short { IfOk result (λ x. AreShort x.packets.items) }
+        // A request that isn't answered needs no memory: one for anything but a zone list, and a
+        // new one for which there is no room.
+        ensures ignored { asked_page packet.now.user ≡ None → IsOk result }
+        ensures full { responding_spec.is_full_for (spec.peer view.now) (packet_value packet.now)
+            self.now.requests ≡ true → IsOk result }
         ensures refused { IsOkUnless result Error.Memory }
     {
+        let alloc = *self.ports.allocator();
         match ZoneFunction::asked(&packet.user) {
-            None => Ok(nothing(*self.ports.allocator())),
+            None => Ok(nothing(alloc)),
+            Some(_) if self.responder.is_full_for(peer(view), packet) => Ok(nothing(alloc)),
             Some((function, start)) => {
                 let page = self.page_for(view, function, start)?;
                 respond(&self.responder, peer(view), packet, page_part(page))
@@ -160,6 +170,7 @@ impl<T: RouteTable> Router<T> {
             ≡ (transacted self.now view.now (transaction_in view.now.payload)).1) }
         ensures few { IfOk result (λ x. length x.packets.items ≤ 8) }
         ensures short { IfOk result (λ x. AreShort x.packets.items) }
+        ensures unread { transaction_in view.now.payload ≡ None → IsOk result }
         ensures refused { IsOkUnless result Error.Memory }
     {
         let alloc = *self.ports.allocator();

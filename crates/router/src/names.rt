@@ -1,10 +1,10 @@
 //! The lookups and forward requests that a router makes for NBP requests that end at it.
 
 ghost use Rattle.std.specs.Prelude.{◌≡◌, ◌<◌, ◌≤◌, ◌+◌, [], ◌++◌, ℕ, length, position};
-ghost use Rattle.std.specs.Prelude.{IfOk, IfSome, IsOkUnless, OnOk};
+ghost use Rattle.std.specs.Prelude.{IfOk, IfSome, IsOk, IsOkUnless, OnOk, false};
 ghost use Rattle.std.specs.List.{flat_map, All};
 ghost use Rattle.at_base.specs.Range.{is_between};
-ghost use Rattle.at_base.specs.Text.{IsName};
+ghost use Rattle.at_base.specs.Text.{IsName, is_name};
 ghost use Rattle.nbp.specs.Expansion.{IsAskIn};
 ghost use Rattle.station.specs.Made.{AreMade, IsWayIn};
 ghost use Rattle.router.specs.Requests as spec;
@@ -139,12 +139,16 @@ impl<T: RouteTable> Router<T> {
         requires port { port < length self.now.ports }
         ensures put { OnOk result
             (made.new.items ≡ made.old.items ++ looked_by self.now request.now port) }
+        ensures silent { looked_by self.now request.now port ≡ [] → IsOk result }
         ensures few { OnOk result (length made.new.items ≤ length made.old.items + 1) }
         ensures good { OnOk result (AreMade (length self.now.ports) made.old.items
             → AreMade (length self.now.ports) made.new.items) }
         ensures refused { IsOkUnless result Error.Memory }
     {
         let way = self.lookup_way(request, port);
+        if way.is_none() {
+            return Ok(());
+        }
         let payload = write(
             *made.allocator(),
             Function::Lookup,
@@ -158,12 +162,16 @@ impl<T: RouteTable> Router<T> {
     fn forward(&self, made: &mut Vec<Output>, request: &Request, net: u16) -> Result<(), Error>
         ensures put { OnOk result
             (made.new.items ≡ made.old.items ++ asked self.now request.now (Ask.Forward net)) }
+        ensures silent { asked self.now request.now (Ask.Forward net) ≡ [] → IsOk result }
         ensures few { OnOk result (length made.new.items ≤ length made.old.items + 1) }
         ensures good { OnOk result (AreMade (length self.now.ports) made.old.items
             → AreMade (length self.now.ports) made.new.items) }
         ensures refused { IsOkUnless result Error.Memory }
     {
         let way = self.forward_way(request, net);
+        if way.is_none() {
+            return Ok(());
+        }
         let function = Function::ForwardRequest;
         let payload = write(*made.allocator(), function, request.id, &request.tuple)?;
         put(made, &way, payload.as_slice())
@@ -175,6 +183,7 @@ impl<T: RouteTable> Router<T> {
         requires port { IsAskIn (length self.now.ports) ask }
         ensures put { OnOk result
             (made.new.items ≡ made.old.items ++ asked self.now request.now ask) }
+        ensures silent { asked self.now request.now ask ≡ [] → IsOk result }
         ensures few { OnOk result (length made.new.items ≤ length made.old.items + 1) }
         ensures good { OnOk result (AreMade (length self.now.ports) made.old.items
             → AreMade (length self.now.ports) made.new.items) }
@@ -192,6 +201,7 @@ impl<T: RouteTable> Router<T> {
         requires ports { All (IsAskIn (length self.now.ports)) asks.now }
         ensures put { OnOk result
             (made.new.items ≡ made.old.items ++ flat_map (asked self.now request.now) asks.now) }
+        ensures silent { flat_map (asked self.now request.now) asks.now ≡ [] → IsOk result }
         ensures few { OnOk result
             (length made.new.items ≤ length made.old.items + length asks.now) }
         ensures good { OnOk result (AreMade (length self.now.ports) made.old.items
@@ -211,6 +221,7 @@ impl<T: RouteTable> Router<T> {
     fn ask_for(&self, made: &mut Vec<Output>, request: &Request) -> Result<(), Error>
         ensures put { OnOk result (made.new.items ≡ made.old.items
             ++ made_of self.now Function.BroadcastRequest request.now 0) }
+        ensures nameless { is_name request.now.tuple.zone ≡ false → IsOk result }
         ensures few { OnOk result (length made.new.items ≤ length made.old.items + 200) }
         ensures good { OnOk result (AreMade (length self.now.ports) made.old.items
             → AreMade (length self.now.ports) made.new.items) }
@@ -231,6 +242,8 @@ impl<T: RouteTable> Router<T> {
     fn look_up(&self, made: &mut Vec<Output>, request: &Request, net: u16) -> Result<(), Error>
         ensures put { OnOk result (made.new.items ≡ made.old.items
             ++ made_of self.now Function.ForwardRequest request.now net) }
+        ensures silent { made_of self.now Function.ForwardRequest request.now net ≡ []
+            → IsOk result }
         ensures few { OnOk result (length made.new.items ≤ length made.old.items + 200) }
         ensures good { OnOk result (AreMade (length self.now.ports) made.old.items
             → AreMade (length self.now.ports) made.new.items) }
@@ -253,6 +266,7 @@ impl<T: RouteTable> Router<T> {
         requires port { IfSome port (λ q. q < length self.now.ports) }
         ensures put { OnOk result
             (made.new.items ≡ made.old.items ++ looked_on self.now request.now port) }
+        ensures silent { looked_on self.now request.now port ≡ [] → IsOk result }
         ensures few { OnOk result (length made.new.items ≤ length made.old.items + 1) }
         ensures good { OnOk result (AreMade (length self.now.ports) made.old.items
             → AreMade (length self.now.ports) made.new.items) }

@@ -1,11 +1,11 @@
 //! A router's reaction to the datagrams that it receives.
 
-ghost use Rattle.std.specs.Prelude.{◌≡◌, ◌<◌, ◌≤◌, ◌++◌, ◌+◌, ℕ, false, length, option_to_list, Some};
-ghost use Rattle.std.specs.Prelude.{IfOk, IfSome, IsOkUnless, OnErr, OnOk, option_map};
+ghost use Rattle.std.specs.Prelude.{◌≡◌, ◌<◌, ◌≤◌, [], ◌++◌, ℕ, false, length, option_to_list, None, Some};
+ghost use Rattle.std.specs.Prelude.{IfOk, IfSome, IsOk, IsOkUnless, OnErr, OnOk, option_map};
 ghost use Rattle.std.specs.Option.{unwrap_or};
 ghost use Rattle.station.specs.Hearing.{hearing};
 ghost use Rattle.station.specs.Lawful.{AreLawful, IsGood, PutsOut, is_made};
-ghost use Rattle.router.specs.Answers.{heard_datagram};
+ghost use Rattle.router.specs.Answers.{heard_datagram, may_ask};
 ghost use Rattle.router.specs.Ending.{ended_datagram};
 ghost use Rattle.router.specs.Forwarding as spec;
 ghost use Rattle.router.specs.Forwarding.{IsBy, IsNear};
@@ -26,6 +26,7 @@ fn fate(alloc: Global, step: Option<Step>, view: &View<'_>) -> Result<Option<Out
     ensures other { IfOk result (λ made. IfSome made (λ o. is_made o ≡ false)) }
     ensures good { IfOk result (λ made. (n : ℕ) → IfSome step (IsBy n)
         → IfSome made (λ o. IsGood n o)) }
+    ensures silent { step ≡ None → IsOk result }
     ensures refused { IsOkUnless result Error.Memory }
 {
     match step {
@@ -51,10 +52,20 @@ pub struct Reaction {
     pub ended: Option<u8>,
 }
 
+/// The number of outputs: the one for the datagram itself, if any, and those that the router makes.
+fn number_of(fate: &Option<Output>, made: &[Output]) -> usize
+    ensures { result ≡ length (option_to_list fate.now ++ made.now) }
+{
+    match fate {
+        Some(_) => 1 + made.len(),
+        None => made.len(),
+    }
+}
+
 /// Adds the output for a datagram itself, if any, and then the outputs that the router makes. The
 /// queue must have room for them.
 fn put_out(outputs: &mut Outputs, fate: Option<Output>, made: Vec<Output>)
-    requires { length made.items + 1 ≤ outputs.old.spare }
+    requires { length (option_to_list fate ++ made.items) ≤ outputs.old.spare }
     ensures { outputs.new.items ≡ outputs.old.items ++ (option_to_list fate ++ made.items) }
 {
     if let Some(output) = fate {
@@ -80,6 +91,11 @@ impl<T: RouteTable> Router<T> {
         ensures ended { IfOk result (λ x. option_map (λ p. (p, view.now)) x.ended
             ≡ ended_datagram self.now (hearing heard.now) (Some view.now)) }
         ensures inside { IfOk result (λ x. IfSome x.ended (λ p. p < length self.now.ports)) }
+        // Where nothing is put out, no memory is needed, except for requests for names and for
+        // zone lists.
+        ensures silent { may_ask view.now ≡ false
+            → (heard_datagram self.now (hearing heard.now) (Some view.now)).0 ≡ []
+            → IsOk result }
         ensures refused { IsOkUnless result Error.Memory }
     {
         let course = self.course(heard.port, heard.link, view.hops(), view.target());
@@ -116,6 +132,7 @@ impl<T: RouteTable> Router<T> {
           requests = unwrap_or reaction.responder self.old.requests;
         }) }
         ensures ports_stay { self.new.ports ≡ self.old.ports }
+        ensures silent { option_to_list reaction.fate ++ reaction.made.items ≡ [] → IsOk result }
         ensures refused { IsOkUnless result Error.Memory }
         ensures station_stays { OnErr result (self.new ≡ self.old) }
         ensures outputs_stay { OnErr result (outputs.new.items ≡ outputs.old.items) }
@@ -126,7 +143,7 @@ impl<T: RouteTable> Router<T> {
             responder,
             ..
         } = reaction;
-        outputs.room(made.len() + 1)?;
+        outputs.room(number_of(&fate, made.as_slice()))?;
         put_out(outputs, fate, made);
         self.keep(responder);
         Ok(())
@@ -145,6 +162,9 @@ impl<T: RouteTable> Router<T> {
             (PutsOut (length self.old.ports) outputs.old.items outputs.new.items (λ added.
             (added, self.new) ≡ heard_datagram self.old (hearing heard.now) (Some view.now))) }
         ensures ports_stay { self.new.ports ≡ self.old.ports }
+        ensures silent { may_ask view.now ≡ false
+            → (heard_datagram self.old (hearing heard.now) (Some view.now)).0 ≡ []
+            → IsOk result }
         ensures refused { IsOkUnless result Error.Memory }
         ensures station_stays { OnErr result (self.new ≡ self.old) }
         ensures outputs_stay { OnErr result (outputs.new.items ≡ outputs.old.items) }

@@ -1,6 +1,6 @@
 //! The ZIP packets that a router answers: queries and GetNetInfo requests.
 
-ghost use Rattle.std.specs.Prelude.{IsOkUnless, OnOk, Some, length, map, ◌++◌, ◌+◌, ◌<◌, ◌≡◌, ◌≤◌};
+ghost use Rattle.std.specs.Prelude.{[], IsOk, IsOkUnless, OnOk, Some, length, map, ◌++◌, ◌+◌, ◌<◌, ◌≡◌, ◌≤◌};
 ghost use Rattle.at_base.specs.Spelling.{bytes_of};
 ghost use Rattle.zip_zones.specs.Answers.{replies};
 ghost use Rattle.zip_zones.specs.Formats as formats_spec;
@@ -67,14 +67,19 @@ impl<T: RouteTable> Router<T> {
         requires { port < length self.now.ports }
         ensures put { OnOk result (made.new.items ≡ made.old.items
             ++ replying (zones_spec.info_way self.now port range view.now) (info self.now range zone.now)) }
+        ensures silent { replying (zones_spec.info_way self.now port range view.now)
+            (info self.now range zone.now) ≡ [] → IsOk result }
         ensures few { OnOk result (length made.new.items ≤ length made.old.items + 1) }
         ensures good { OnOk result (AreMade (length self.now.ports) made.old.items
             → AreMade (length self.now.ports) made.new.items) }
         ensures refused { IsOkUnless result Error.Memory }
     {
+        let way = self.info_way(port, range, view);
+        if way.is_none() {
+            return Ok(());
+        }
         let names = self.zones.names_of(range.start())?;
         let payload = reply_net_info(*made.allocator(), zone, range, names.as_slice())?;
-        let way = self.info_way(port, range, view);
         put_one(made, &way, &payload)
     }
 
@@ -89,6 +94,7 @@ impl<T: RouteTable> Router<T> {
         requires { port < length self.now.ports }
         ensures put { OnOk result
             (made.new.items ≡ made.old.items ++ zones_spec.told self.now port view.now zone.now) }
+        ensures silent { zones_spec.told self.now port view.now zone.now ≡ [] → IsOk result }
         ensures few { OnOk result (length made.new.items ≤ length made.old.items + 1) }
         ensures good { OnOk result (AreMade (length self.now.ports) made.old.items
             → AreMade (length self.now.ports) made.new.items) }
@@ -111,12 +117,18 @@ impl<T: RouteTable> Router<T> {
         ensures put { OnOk result (made.new.items ≡ made.old.items ++ replying
             (ways_spec.way_back self.now port view.now)
             (map (bytes_of formats_spec.packet) (replies self.now.zones networks.entry))) }
+        ensures silent { replying (ways_spec.way_back self.now port view.now)
+            (map (bytes_of formats_spec.packet) (replies self.now.zones networks.entry)) ≡ []
+            → IsOk result }
         ensures few { OnOk result (length made.new.items ≤ length made.old.items + 64) }
         ensures good { OnOk result (AreMade (length self.now.ports) made.old.items
             → AreMade (length self.now.ports) made.new.items) }
         ensures refused { IsOkUnless result Error.Memory }
     {
         let way = self.way_back(port, view);
+        if way.is_none() {
+            return Ok(());
+        }
         let payloads = answer_query(*made.allocator(), &self.zones, networks)?;
         put_all(made, &way, payloads.as_slice())
     }
@@ -132,6 +144,9 @@ impl<T: RouteTable> Router<T> {
         requires { port < length self.now.ports }
         ensures put { OnOk result (made.new.items
             ≡ made.old.items ++ zones_told self.now port view.now (zones_in view.now.payload)) }
+        // Without a reply, no memory is needed.
+        ensures silent { zones_told self.now port view.now (zones_in view.now.payload) ≡ []
+            → IsOk result }
         ensures few { OnOk result (length made.new.items ≤ length made.old.items + 64) }
         ensures good { OnOk result (AreMade (length self.now.ports) made.old.items
             → AreMade (length self.now.ports) made.new.items) }
@@ -155,6 +170,7 @@ impl<T: RouteTable> Router<T> {
         requires { port < length self.now.ports }
         ensures put { OnOk result (made.new.items
             ≡ made.old.items ++ zones_told self.now port view.now (Some packet.entry)) }
+        ensures silent { zones_told self.now port view.now (Some packet.entry) ≡ [] → IsOk result }
         ensures few { OnOk result (length made.new.items ≤ length made.old.items + 64) }
         ensures good { OnOk result (AreMade (length self.now.ports) made.old.items
             → AreMade (length self.now.ports) made.new.items) }

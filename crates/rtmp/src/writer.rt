@@ -1,7 +1,7 @@
 //! A writer of the routing data that a router sends.
 
 ghost use Rattle.std.specs.Prelude.{◌≡◌, ◌≤◌, ◌++◌, length, map, take, drop, IfOk, OnOk};
-ghost use Rattle.std.specs.Prelude.{IsOkUnless};
+ghost use Rattle.std.specs.Prelude.{IsOk, IsOkUnless, None};
 ghost use Rattle.at_base.specs.Range.{IsRange};
 ghost use Rattle.rtmp.specs.Bytes as bytes_spec;
 ghost use Rattle.rtmp.specs.Bytes.{head_bytes, tuples_bytes};
@@ -143,6 +143,8 @@ pub fn write_data<T: RouteTable>(
 ) -> Result<Option<Bytes>, Error>
     ensures made { IfOk result
         (λ packet. IsPacket (packet_numbered port own me number (T.rows table.now)) packet) }
+    // No memory is needed after the last packet.
+    ensures past { packet_numbered port own me number (T.rows table.now) ≡ None → IsOk result }
     ensures refused { IsOkUnless result Error.Memory }
 {
     let left_out = number as usize * MAX_ROWS_IN_PACKET;

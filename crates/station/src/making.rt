@@ -1,10 +1,9 @@
 //! The datagrams that a station makes.
 
 ghost use Rattle.std.specs.Prelude.{◌≡◌, ◌≤◌, ◌+◌, ◌∷◌, [], ◌++◌, ℕ, List, length, option_to_list};
-ghost use Rattle.std.specs.Prelude.{IfSome, IsOkUnless, OnErr, OnOk};
+ghost use Rattle.std.specs.Prelude.{IfSome, IsOk, IsOkUnless, OnErr, OnOk};
 ghost use Rattle.station.specs.Made.{AreMade, AreShort, IsWayIn};
 ghost use Rattle.station.specs.Ways.{replying};
-ghost use Rattle.station.specs.declared.output.Output.{Output as OutputValue};
 
 use crate::output::Output;
 use crate::way::Way;
@@ -19,6 +18,8 @@ pub fn put(made: &mut Vec<Output>, way: &Option<Way>, payload: &[u8]) -> Result<
     ensures few { OnOk result (length made.new.items ≤ length made.old.items + 1) }
     ensures good { OnOk result ((n : ℕ) → IsWayIn n way.now → AreMade n made.old.items
         → AreMade n made.new.items) }
+    // Without a way, no memory is needed.
+    ensures silent { replying way.now (payload.now ∷ []) ≡ [] → IsOk result }
     ensures stays { OnErr result (made.new.items ≡ made.old.items) }
     ensures refused { IsOkUnless result Error.Memory }
 {
@@ -33,15 +34,17 @@ pub fn put(made: &mut Vec<Output>, way: &Option<Way>, payload: &[u8]) -> Result<
 }
 
 /// Adds the datagrams with these data, one for each, if there is a way. The caller ensures that
-/// each has at most 586 bytes. Error: `Memory`; some datagrams may have been added then.
+/// each has at most 586 bytes. Error: `Memory`; only the first of the datagrams were added then.
 pub fn put_all(made: &mut Vec<Output>, way: &Option<Way>, payloads: &[Bytes]) -> Result<(), Error>
     requires { AreShort payloads.now }
     ensures put { OnOk result (made.new.items ≡ made.old.items ++ replying way.now payloads.now) }
     ensures few { OnOk result (length made.new.items ≤ length made.old.items + length payloads.now) }
     ensures good { OnOk result ((n : ℕ) → IsWayIn n way.now → AreMade n made.old.items
         → AreMade n made.new.items) }
-    ensures in_part { OnErr result
-        ((added : List OutputValue) × (made.new.items ≡ made.old.items ++ added)) }
+    // If nothing is to be added, no memory is needed.
+    ensures silent { replying way.now payloads.now ≡ [] → IsOk result }
+    ensures in_part { OnErr result ((first rest : List (List ℕ)) × (payloads.now ≡ first ++ rest)
+        × (made.new.items ≡ made.old.items ++ replying way.now first)) }
     ensures refused { IsOkUnless result Error.Memory }
 {
     match payloads {
@@ -66,6 +69,8 @@ pub fn put_one(
     ensures few { OnOk result (length made.new.items ≤ length made.old.items + 1) }
     ensures good { OnOk result ((n : ℕ) → IsWayIn n way.now → AreMade n made.old.items
         → AreMade n made.new.items) }
+    // If nothing is to be added, no memory is needed.
+    ensures silent { replying way.now (option_to_list payload.now) ≡ [] → IsOk result }
     ensures stays { OnErr result (made.new.items ≡ made.old.items) }
     ensures refused { IsOkUnless result Error.Memory }
 {

@@ -1,7 +1,7 @@
 //! The outputs of a station, in order.
 
 ghost use Rattle.std.specs.Prelude.{◌≡◌, ◌<◌, ◌≤◌, ◌+◌, ◌-◌, [], ◌∷◌, ◌++◌, ◌==◌, length};
-ghost use Rattle.std.specs.Prelude.{IfNone, IfOk, IfSome, IsOkUnless, OnErr, OnOk, slice_get};
+ghost use Rattle.std.specs.Prelude.{IfNone, IfOk, IfSome, IsOk, IsOkUnless, OnErr, OnOk, slice_get};
 ghost use Rattle.std.specs.Option.{option_copied};
 ghost use Rattle.std.specs.VecDeque.{deque_capacity, deque_len};
 
@@ -54,12 +54,17 @@ impl Outputs {
         })
     }
 
-    /// Makes room for `n` more outputs. Error: `Memory`. The outputs don't change.
+    /// Makes room for `n` more outputs. Error: `Memory`, which no outputs never need. The outputs
+    /// don't change.
     pub fn room(&mut self, n: usize) -> Result<(), Error>
         ensures ok { OnOk result (n ≤ self.new.spare) }
+        ensures none { n ≡ 0 → IsOk result }
         ensures refused { IsOkUnless result Error.Memory }
         ensures kept { self.new.items ≡ self.old.items }
     {
+        if n == 0 {
+            return Ok(());
+        }
         self.items.reserve(n)?;
         Ok(())
     }

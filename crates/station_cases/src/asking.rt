@@ -171,7 +171,7 @@ pub(crate) fn ask_user<U: User>(
     match words.word() {
         "node" => put_node(text, user.held())?,
         "names" => put_names(text, user.held().names())?,
-        "received" => put_received(text, user.takes_received()?.as_slice())?,
+        "received" => put_received(text, user.held().received()?.as_slice())?,
         "send" => send(alloc, user, words, text)?,
         "lookup" => look_up(alloc, user, words, text)?,
         "register" => register(alloc, user, words, text)?,

@@ -4,7 +4,7 @@ ghost use Rattle.std.specs.Prelude.{◌≤◌};
 
 use at_base::{Addr, Error, Text32};
 use atp::Outcome;
-use end_node::{Datagram, EndNode};
+use end_node::EndNode;
 use live_node::LiveNode;
 use station::Outputs;
 
@@ -47,9 +47,6 @@ pub(crate) trait User: Drop {
 
     /// The outcome of a request for zones.
     fn zones_of(&mut self, id: u16) -> Result<Outcome, Error>;
-
-    /// Removes and returns the datagrams that were received.
-    fn takes_received(&mut self) -> Result<Vec<Datagram>, Error>;
 }
 
 impl User for EndNode {
@@ -85,10 +82,6 @@ impl User for EndNode {
     fn zones_of(&mut self, id: u16) -> Result<Outcome, Error> {
         self.zone_list(id)
     }
-
-    fn takes_received(&mut self) -> Result<Vec<Datagram>, Error> {
-        self.received()
-    }
 }
 
 impl User for LiveNode {
@@ -123,9 +116,5 @@ impl User for LiveNode {
 
     fn zones_of(&mut self, id: u16) -> Result<Outcome, Error> {
         self.zone_list(id)
-    }
-
-    fn takes_received(&mut self) -> Result<Vec<Datagram>, Error> {
-        self.received()
     }
 }

@@ -1,6 +1,6 @@
-//! A buffered writer of text that records whether a write failed.
+//! A buffered writer of text that counts the writes that failed.
 
-ghost use Rattle.std.specs.Prelude.{◌≡◌, ◌<◌, length, true, false, [], ◌∷◌, ◌++◌, ◌⊎◌, OnOk, OnErr, IfErr, IsOkUnless};
+ghost use Rattle.std.specs.Prelude.{◌≡◌, ◌≢◌, ◌<◌, length, [], ◌∷◌, ◌++◌, ◌⊎◌, OnOk, OnErr, IfErr, IsOkUnless};
 ghost use Rattle.std.specs.Io.KnownBytes.{Appends};
 ghost use Rattle.text.specs.Going.{Goes};
 
@@ -12,28 +12,28 @@ use std::io::Write;
 /// The number of buffered bytes from which on `pass_on` writes.
 const FULL: usize = 65_536;
 
-/// A writer, the text that is still to be written, and whether a write failed.
+/// A writer, the text that is still to be written, and how many writes failed.
 #[derive(Drop)]
 pub struct Output<W> {
     /// The writer.
     pub writer: W,
     /// The text that is still to be written.
     pub text: Vec<u8>,
-    /// Whether a write failed.
-    pub failed: bool,
+    /// The number of writes that failed, modulo 2^32.
+    pub faults: u32,
 }
 
 impl<W: Write> Output<W> {
-    /// An output with nothing to be written, and no failed write.
+    /// An output with nothing to be written, of which no write failed.
     pub fn new(alloc: Global, writer: W) -> Output<W>
         ensures writer { result.writer ≡ writer }
         ensures empty { result.text.items ≡ [] }
-        ensures sound { result.failed ≡ false }
+        ensures sound { result.faults ≡ 0 }
     {
         Output {
             writer,
             text: Vec::new(alloc),
-            failed: false,
+            faults: 0,
         }
     }
 
@@ -43,15 +43,15 @@ impl<W: Write> Output<W> {
         ensures ok { OnOk result
             (Appends (W.contents self.old.writer) (W.contents self.new.writer)
             (text.now ++ 10 ∷ [])) }
-        ensures fault { OnErr result (self.new.failed ≡ true) }
+        ensures fault { OnErr result (self.new.faults ≢ self.old.faults) }
         ensures refused { IsOkUnless result Error.WriteFault }
-        ensures stays { OnOk result (self.new.failed ≡ self.old.failed) }
+        ensures stays { OnOk result (self.new.faults ≡ self.old.faults) }
         ensures text { self.new.text ≡ self.old.text }
     {
         match put_line(&mut self.writer, text) {
             Ok(()) => Ok(()),
             Err(_) => {
-                self.failed = true;
+                self.faults = self.faults.wrapping_add(1);
                 Err(Error::WriteFault)
             }
         }
@@ -65,9 +65,9 @@ impl<W: Write> Output<W> {
         ensures empty { OnOk result (self.new.text.items ≡ []) }
         // Text that can't be written stays buffered.
         ensures left { OnErr result (self.new.text ≡ self.old.text) }
-        ensures fault { OnErr result (self.new.failed ≡ true) }
+        ensures fault { OnErr result (self.new.faults ≢ self.old.faults) }
         ensures refused { IsOkUnless result Error.WriteFault }
-        ensures stays { OnOk result (self.new.failed ≡ self.old.failed) }
+        ensures stays { OnOk result (self.new.faults ≡ self.old.faults) }
     {
         match put(&mut self.writer, self.text.as_slice()) {
             Ok(()) => {
@@ -75,7 +75,7 @@ impl<W: Write> Output<W> {
                 Ok(())
             }
             Err(_) => {
-                self.failed = true;
+                self.faults = self.faults.wrapping_add(1);
                 Err(Error::WriteFault)
             }
         }
@@ -88,9 +88,9 @@ impl<W: Write> Output<W> {
         ensures gone { OnOk result (Goes (W.contents self.old.writer) self.old.text.items []
             (W.contents self.new.writer) self.new.text.items) }
         ensures left { OnErr result (self.new.text ≡ self.old.text) }
-        ensures fault { OnErr result (self.new.failed ≡ true) }
+        ensures fault { OnErr result (self.new.faults ≢ self.old.faults) }
         ensures refused { IsOkUnless result Error.WriteFault }
-        ensures stays { OnOk result (self.new.failed ≡ self.old.failed) }
+        ensures stays { OnOk result (self.new.faults ≡ self.old.faults) }
     {
         if self.text.len() >= FULL {
             self.flush()

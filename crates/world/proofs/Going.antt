@@ -97,6 +97,7 @@ module _ (taken : ℕ) (a b c : Wires) (x : GoesOn taken a b) where
   ends_then most none y = record {
     taken = y.taken;
     goes_on = goes_on_then y.taken y.taken (omega (arith, none)) y.goes_on;
+    few = y.few;
     ended = y.ended;
   }
 

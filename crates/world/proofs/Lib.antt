@@ -1,6 +1,6 @@
 pub mod Going
 pub mod Received
-pub mod Emptied
+pub mod Begun
 pub mod Stations
 pub mod Losses
 pub mod Ticked

@@ -1,6 +1,6 @@
 -- Stations receive the datagrams of frames that they take.
 use Rattle.std.proofs.Common.{◌≡◌, ◌≢◌, ◌⊎◌, inl, inr, ℕ, zero, suc, Bool, true, false, ◌&&◌, not, cond, List, [], ◌∷◌, ◌++◌}
-use Rattle.std.proofs.Common.{Option, None, Some, Contains, refl, sym, ap, ◌∙◌, subst, arith, drop, filter, length, map, nat_lt, slice_set}
+use Rattle.std.proofs.Common.{Option, None, Some, Contains, ◌-◌, refl, sym, ap, ◌∙◌, subst, arith, filter, length, map, slice_set}
 use Rattle.std.specs.List.{All, AllByRecursion as Each}
 use Rattle.std.specs.Option.{unwrap_or}
 use Rattle.std.specs.Prelude.{if◌then◌else◌, OnErr, OnOk, Result}
@@ -102,11 +102,7 @@ received_goes old new gots later x same h =
 -- ---- One more
 
 all_keeping : (P : Received → Type 0) (d : Received) (ds : List Received) → P d → All P ds → All P (keeping d ds)
-all_keeping P d ds p h = by (nat_lt (length ds) 64)
-  where
-    by : (b : Bool) → All P (cond b (ds ++ d ∷ []) (drop 1 ds ++ d ∷ []))
-    by true = All-push P ds d h p
-    by false = All-push P (drop 1 ds) d (All-drop P 1 ds h) p
+all_keeping P d ds p h = All-drop P (length (ds ++ d ∷ []) - 64) (ds ++ d ∷ []) (All-push P ds d h p)
 
 -- The element at an index of a list in which an element was set.
 pub set_either : {X : Type 0} (xs : List X) (k j : ℕ) (y z : X) → At (slice_set xs k y) j z

@@ -27,7 +27,6 @@ use Rattle.planned_stations.proofs.Seated.{plan_seated}
 use Rattle.planned_stations.specs.Planning.{AreSeated, planned_ports, ports_of}
 use Rattle.world.specs.Keeping.{IsLaid}
 use Rattle.planned_stations.specs.Seating.{plan_seats}
-use Rattle.world.specs.Seen.{emptied, emptied_at, emptied_by}
 use Rattle.world.specs.Received.{AreReceived, got}
 use Rattle.world.specs.Worlds.{IsWorld, Worldly}
 
@@ -174,23 +173,6 @@ laid_lives w h = record {
   few = h.few;
   limit = h.limit;
 }
-
--- ---- Removing received datagrams
-
-pub emptied_is : (ms : List (Member Living LivingNode)) (k : ℕ) (m : Member Living LivingNode) → At ms k m
-    → slice_set ms k (emptied m) ≡ emptied_at ms k
-emptied_is ms k m at = ap (emptied_by ms k) (sym at)
-
-emptied_ports : (m : Member Living LivingNode) → ports_of (emptied m) ≡ ports_of m
-emptied_ports (member.Router l) = refl
-emptied_ports (member.Node n) = refl
-
-pub ports_emptied : (ms : List (Member Living LivingNode)) (k : ℕ) → map ports_of (emptied_at ms k) ≡ map ports_of ms
-ports_emptied ms k = by (slice_get ms k) refl
-  where
-    by : (o : Option (Member Living LivingNode)) → slice_get ms k ≡ o → map ports_of (emptied_by ms k o) ≡ map ports_of ms
-    by None e = refl
-    by (Some m) e = ports_set ms k m (emptied m) e (emptied_ports m)
 
 -- A fact that holds for both results.
 pub either_way : {T E : Type 0} (r : Result T E) (P : Type 0) → OnOk r P → OnErr r P → P

@@ -1,5 +1,5 @@
 -- The effect of a tick, from the effects of its steps.
-use Rattle.std.proofs.Common.{◌≡◌, ◌⊎◌, inl, inr, ℕ, Bool, List, [], sym, ◌∙◌, subst, append-nil}
+use Rattle.std.proofs.Common.{◌≡◌, ◌⊎◌, ◌≤◌, inl, inr, ℕ, Bool, List, [], sym, ◌∙◌, subst, append-nil}
 use Rattle.std.specs.Prelude.{IsTrue}
 use Rattle.cable_model.specs.Pending.{pending}
 use Rattle.cable_model.specs.Transcript.{AreNumbered, count}
@@ -41,6 +41,7 @@ module _ (plan : Planned) (tick : ℕ) (old new : Wires) (losing : List Bool)
     lost =
         lost_same (loses_by losing) (loses_at plan tick) same (plan_seats plan) (happened old) x.goes_on.goes.added
         (subst (λ s. IsTrue (are_lost s (loses_by losing) (happened old) x.goes_on.goes.added)) seats (x.goes_on.lost numbered));
+    few = subst (λ n. n ≤ 10000) (sym x.goes_on.takes) x.few;
     ended = by x.ended;
   }
     where

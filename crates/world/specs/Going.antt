@@ -1,5 +1,5 @@
 -- The effects of a tick's steps on the cables.
-use Rattle.std.specs.Prelude.{◌≡◌, ◌⊎◌, ℕ, IsTrue, List, [], ◌++◌}
+use Rattle.std.specs.Prelude.{◌≡◌, ◌⊎◌, ℕ, ◌≤◌, IsTrue, List, [], ◌++◌}
 use Rattle.cable_model.specs.Pending.{pending}
 use Rattle.cable_model.specs.Transcript.{AreNumbered, Entry, count}
 use Rattle.live_cables.specs.Living.{Wires, happened, loses}
@@ -27,4 +27,5 @@ pub record GoesOn (taken : ℕ) (old new : Wires) : Type 0 where
 pub record Ends (most : ℕ) (old new : Wires) : Type 0 where
   pub taken : ℕ
   pub goes_on : GoesOn taken old new
+  pub few : taken ≤ most
   pub ended : (pending new.cabling.seats (happened new) ≡ []) ⊎ (taken ≡ most)

@@ -13,7 +13,7 @@ use Rattle.station.specs.Hearing.{Hearing}
 use Rattle.station.specs.Values.{datagram_at}
 use Rattle.world.specs.Worlds.{IsReceived}
 
--- The datagrams that a station has received and that weren't removed yet; a router has none.
+-- The last datagrams that a station has received; a router has none.
 abbrev pub got : Member Living LivingNode → List Received
 got (Router l) = []
 got (Node n) = n.node.received

@@ -82,9 +82,10 @@ pub record Ticks (plan : Planned) (tick : ℕ) (old new : Wires) : Type 0 where
   pub grown : happened new ≡ happened old ++ added
   pub played : IsPlayed (plan_seats plan) (loses_at plan tick) (happened old) added
 
--- In this tick, entries were added that `Ticks` allows, and the tick finished: no frame that was put on a cable that
--- loses frames is pending, and no frame is pending at all unless 10,000 were taken.
+-- In this tick, entries were added that `Ticks` allows, and the tick finished: at most 10,000 frames were taken, no frame
+-- that was put on a cable that loses frames is pending, and no frame is pending at all unless 10,000 were taken.
 pub record TicksOn (plan : Planned) (tick : ℕ) (old new : Wires) : Type 0 where
   pub ticks : Ticks plan tick old new
   pub lost : IsTrue (are_lost (plan_seats plan) (loses_at plan tick) (happened old) ticks.added)
+  pub few : count is_took ticks.added ≤ 10000
   pub ended : (pending (plan_seats plan) (happened new) ≡ []) ⊎ (count is_took ticks.added ≡ 10000)

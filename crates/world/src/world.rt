@@ -1,6 +1,6 @@
 //! Worlds, and what can be read from them.
 
-ghost use Rattle.std.specs.Prelude.{◌≡◌, [], None, IfOk, IsOk, IsOkUnless, OnErr, OnOk};
+ghost use Rattle.std.specs.Prelude.{◌≡◌, [], None, IfOk, IsOkUnless};
 ghost use Rattle.std.specs.Prelude.{map, option_copied};
 ghost use Rattle.cable_model.specs.Logs.{bytes_at};
 ghost use Rattle.internet_file.specs.Sound.{IsSound};
@@ -10,15 +10,15 @@ ghost use Rattle.planned_stations.specs.Beginning.{AreBegun};
 ghost use Rattle.planned_stations.specs.Seating.{plan_seats};
 ghost use Rattle.world.specs.Scheduling.{IsSchedule};
 ghost use Rattle.world.specs.Seen as seen_spec;
-ghost use Rattle.world.specs.Seen.{node_at, received_by, taken_out};
+ghost use Rattle.world.specs.Seen.{node_at};
 ghost use Rattle.world.specs.Worlds.{IsWorld, wires_begun};
 
 use crate::beginning::stations_begun;
 use crate::scheduling::schedule_of;
-use crate::seen::{node_by, take_at};
+use crate::seen::node_by;
 use at_base::{Error, Range};
 use cable_model::{Entry, Seat};
-use end_node::{Datagram, EndNode};
+use end_node::EndNode;
 use freeze::image_of;
 use internet_file::Plan;
 use live_cables::LiveCables;
@@ -182,24 +182,6 @@ impl<T: RouteTable> World<T> {
             return None;
         }
         node_by(stations, self.station_of(number))
-    }
-
-    /// Removes and returns the datagrams that the node with this number, from 1, has received since
-    /// the last call: at most 64, the oldest first; none if there is no such node. The contract
-    /// permits the error `Memory`, but the call allocates nothing and never returns it.
-    pub fn received(&mut self, number: u16) -> Result<Vec<Datagram>, Error>
-        ensures taken { IfOk result
-            (λ datagrams. datagrams.items ≡ received_by (node_at self.old number)) }
-        ensures left { OnOk result (self.new ≡ taken_out self.old number) }
-        ensures nobody { node_at self.old number ≡ None → IsOk result }
-        ensures refused { IsOkUnless result Error.Memory }
-        ensures stay { OnErr result (self.new ≡ self.old) }
-    {
-        if number == 0 {
-            return Ok(Vec::new(self.alloc));
-        }
-        let station = self.station_of(number);
-        take_at(self.alloc, &mut self.stations, station)
     }
 
     /// The actions that had an error, in order: the number of each, from 1, and the number of its

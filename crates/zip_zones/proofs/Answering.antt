@@ -1,7 +1,9 @@
 -- The replies for several networks, one network after the other.
-use Rattle.std.proofs.Common.{◌≡◌, ℕ, suc, ◌-◌, List, ◌∷◌, ◌++◌, map, take, ap, sym, ◌∙◌, append_assoc, arith}
+use Rattle.std.proofs.Common.{◌≡◌, ℕ, suc, ◌-◌, true, List, [], ◌∷◌, ◌++◌, map, take, Option, Some, None, refl, ap, sym, ◌∙◌, append_assoc, arith}
 use Rattle.std.specs.List.{flat_map}
 use Rattle.std.proofs.lemmas.List.{map-append}
+use Rattle.zip_zones.specs.Answers.{grouped, onto_first, replies_for}
+use Rattle.zip_zones.specs.Zones.{Known, complete_at, known_of, names_at}
 
 first_of : {A B : Type 0} (f : ℕ → List A) (g : A → B) (old mid new : List B) (net m : ℕ) (rest : List ℕ) → mid ≡ old ++ map g (f net)
     → new ≡ mid ++ map g (flat_map f (take m rest)) → new ≡ old ++ map g (flat_map f (take (suc m) (net ∷ rest)))
@@ -18,3 +20,37 @@ first_made f g old mid new net most nets rest some begins one others =
     first_of f g old mid new net (most - 1) rest one others
     ∙ ap (λ (n : ℕ). old ++ map g (flat_map f (take n (net ∷ rest)))) (sym next)
     ∙ ap (λ (l : List ℕ). old ++ map g (flat_map f (take most l))) (sym begins)
+
+-- ---- without replies
+
+append_none : {A : Type 0} (xs ys : List A) → xs ++ ys ≡ [] → (xs ≡ []) × (ys ≡ [])
+append_none [] ys h = (refl, h)
+append_none (x ∷ xs) ys h = absurd cc
+
+-- if there are no replies for all networks, there are none for the first, and none for the others
+pub none_made : {A : Type 0} (f : ℕ → List A) (net most : ℕ) (nets rest : List ℕ) → (most ≡ 0 → ⊥) → nets ≡ net ∷ rest
+    → flat_map f (take most nets) ≡ [] → (f net ≡ []) × (flat_map f (take (most - 1) rest) ≡ [])
+none_made f net most nets rest some begins none =
+    let next : most ≡ suc (most - 1) = omega (arith, some) in
+    append_none (f net) (flat_map f (take (most - 1) rest))
+    (sym (ap (λ (n : ℕ). flat_map f (take n (net ∷ rest))) next) ∙ sym (ap (λ (l : List ℕ). flat_map f (take most l)) begins) ∙ none)
+
+some_group : (name : List ℕ) (groups : List (List (List ℕ))) → onto_first name groups ≡ [] → ⊥
+some_group name [] h = cc
+some_group name (group ∷ groups) h = cc
+
+no_names : (names : List (List ℕ)) → grouped names ≡ [] → names ≡ []
+no_names [] h = refl
+no_names (name ∷ names) h = absurd (some_group name _ h)
+
+map_none : {A B : Type 0} (f : A → B) (xs : List A) → map f xs ≡ [] → xs ≡ []
+map_none f [] h = refl
+map_none f (x ∷ xs) h = absurd cc
+
+-- a complete list for which there are no replies has no names
+pub no_replies : (table : List Known) (net : ℕ) → complete_at net table ≡ true → replies_for table net ≡ [] → names_at net table ≡ []
+no_replies table net complete none = by (known_of net table) refl
+  where
+    by : (k : Option Known) → known_of net table ≡ k → names_at net table ≡ []
+    by None e = rw e refl
+    by (Some k) e = rw e (no_names k.names (map_none _ _ (rw (e, rw e at complete) at none)))

@@ -1,7 +1,7 @@
 //! A writer of NetInfo replies.
 
 ghost use Rattle.std.specs.Prelude.{◌≡◌, ◌<◌, ◌≤◌, ◌+◌, ◌/◌, ◌==◌, ◌∷◌, ◌++◌, [], length, find};
-ghost use Rattle.std.specs.Prelude.{is_some, option_copied, option_map, IfOk, IfSome, IsOkUnless};
+ghost use Rattle.std.specs.Prelude.{is_some, option_copied, option_map, IfOk, IfSome, IsOk, IsOkUnless};
 ghost use Rattle.std.specs.Prelude.{OnOk};
 ghost use Rattle.std.specs.Int.{to_be_bytes, w16};
 ghost use Rattle.at_base.specs.Packets.{any, text};
@@ -195,6 +195,7 @@ pub fn reply_net_info(
     ensures ok { IfOk result (λ made. made
         ≡ option_map (bytes_of formats_spec.packet) (net_info_reply asked.now range names.now)) }
     ensures short { IfOk result (λ made. IfSome made (λ bytes. length bytes ≤ 586)) }
+    ensures silent { names.now ≡ [] → IsOk result }
     ensures refused { IsOkUnless result Error.Memory }
 {
     if names.is_empty() {

@@ -1,7 +1,7 @@
 //! The replies of a router to queries.
 
 ghost use Rattle.std.specs.Prelude.{◌≡◌, ◌<◌, ◌≤◌, ◌+◌, ◌*◌, ◌++◌, ◌∷◌, [], length, map, take};
-ghost use Rattle.std.specs.Prelude.{IfOk, IsOkUnless, OnOk};
+ghost use Rattle.std.specs.Prelude.{IfOk, IsOk, IsOkUnless, OnOk};
 ghost use Rattle.std.specs.List.{flat_map};
 ghost use Rattle.at_base.specs.Spelling.{bytes_of};
 ghost use Rattle.zip_zones.specs.Answers.{first_group, grouped, replies, replies_for};
@@ -62,6 +62,7 @@ fn put_groups(made: &mut Vec<Bytes>, net: u16, total: u8, names: &[Name]) -> Res
     ensures few { OnOk result
         (16 * length made.new.items ≤ 16 * length made.old.items + length names.now + 15) }
     ensures short { OnOk result (AreShort made.old.items → AreShort made.new.items) }
+    ensures silent { names.now ≡ [] → IsOk result }
     ensures refused { IsOkUnless result Error.Memory }
 {
     match names {
@@ -82,6 +83,7 @@ fn put_replies(made: &mut Vec<Bytes>, table: &ZoneTable, net: u16) -> Result<(),
     // A list has at most 64 names, and each reply but the last has 16 of them or more.
     ensures few { OnOk result (length made.new.items ≤ length made.old.items + 4) }
     ensures short { OnOk result (AreShort made.old.items → AreShort made.new.items) }
+    ensures silent { replies_for table.now net ≡ [] → IsOk result }
     ensures refused { IsOkUnless result Error.Memory }
 {
     if !table.complete(net) {
@@ -103,6 +105,8 @@ fn put_first(
         (flat_map (replies_for table.now) (take most networks.entry))) }
     ensures few { OnOk result (length made.new.items ≤ length made.old.items + 4 * most) }
     ensures short { OnOk result (AreShort made.old.items → AreShort made.new.items) }
+    ensures silent { flat_map (replies_for table.now) (take most networks.entry) ≡ []
+        → IsOk result }
     ensures refused { IsOkUnless result Error.Memory }
 {
     if most == 0 {
@@ -134,6 +138,8 @@ pub fn answer_query(
     ensures few { IfOk result (λ made. length made.items ≤ 64) }
     // Each is the data of a datagram.
     ensures short { IfOk result (λ made. AreShort made.items) }
+    // Without a reply, no memory is needed.
+    ensures silent { replies table.now networks.entry ≡ [] → IsOk result }
     ensures refused { IsOkUnless result Error.Memory }
 {
     let mut made = Vec::new(alloc);

@@ -66,11 +66,15 @@ fn copy_all(alloc: Global, lists: &[KnownZones]) -> Result<Vec<KnownZones>, Erro
     Ok(copies)
 }
 
-/// The names of zones. Error: `Memory`.
+/// The names of zones. Error: `Memory`, which no names never need.
 fn names_from(alloc: Global, zones: &[Zone]) -> Result<Vec<Name>, Error>
     ensures ok { IfOk result (λ names. names.items ≡ zones.now) }
+    ensures none { zones.now ≡ [] → IsOk result }
     ensures err { IsOkUnless result Error.Memory }
 {
+    if zones.is_empty() {
+        return Ok(Vec::new(alloc));
+    }
     let mut names = Vec::with_capacity(alloc, zones.len())?;
     for zone in zones {
         names.push(*zone.name())?;
@@ -315,10 +319,11 @@ impl ZoneTable {
     }
 
     /// The names in the list of the network's range, which needn't be complete; none if it has no
-    /// list. Error: `Memory`.
+    /// list. Error: `Memory`, which no names never need.
     pub fn names_of(&self, net: u16) -> Result<Vec<Name>, Error>
         ensures ok { IfOk result (λ names. names.items ≡ names_at net self.now) }
         ensures few { IfOk result (λ names. length names.items ≤ 64) }
+        ensures none { names_at net self.now ≡ [] → IsOk result }
         ensures refused { IsOkUnless result Error.Memory }
     {
         let alloc = *self.lists.allocator();

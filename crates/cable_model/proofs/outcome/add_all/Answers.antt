@@ -1,6 +1,6 @@
-use Rattle.std.proofs.Common.{◌+◌, ◌*◌, ◌∙◌, ap, arith, length}
+use Rattle.std.proofs.Common.{◌+◌, ◌*◌, ◌++◌, ◌∙◌, ap, append_assoc, arith, length, refl, sym}
 use Rattle.cable_model.proofs.Outs.{first_so_far, next_so_far, product, room_for, room_left}
-use Rattle.cable_model.specs.Outcomes.{Places}
+use Rattle.cable_model.specs.Outcomes.{Places, all_stored, stored_of}
 use Rattle.cable_model.specs.Ways.{all_lines, all_spare, lines_for}
 use Rattle.cable_model.proofs.outcome.add_all.Goals as goal
 
@@ -11,6 +11,7 @@ loop-output-init g c =
       book = c.requires.book;
       room = c.requires.room;
       so_far = first_so_far places c.args.seats.now c.args.station c.args.log.now c.args.outputs.now.items;
+      stored = refl;
       few = omega arith;
       named = omega arith;
     }
@@ -36,6 +37,11 @@ loop-output-preserved g c =
       so_far =
           next_so_far places c.args.seats.now c.args.station c.args.log.now c.loop-output.log c.add.new.log c.args.outputs.now.items
           c.loop-output.outputs.items rest o split i.so_far i.book c.add.ensures.book c.add.ensures.grows;
+      stored =
+          ap (λ k. k ++ all_stored places c.args.seats.now c.args.station rest) c.add.ensures.stored
+          ∙ (append_assoc c.loop-output.log.kept.items (stored_of places c.args.seats.now c.args.station o)
+          (all_stored places c.args.seats.now c.args.station rest)
+          ∙ (ap (λ os. c.loop-output.log.kept.items ++ all_stored places c.args.seats.now c.args.station os) (sym split) ∙ i.stored));
       few = omega (arith, i.few, lines, c.add.ensures.uses.lines);
       named = omega (arith, i.named, spare, c.add.ensures.named);
     }

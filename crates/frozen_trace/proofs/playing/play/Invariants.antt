@@ -9,4 +9,4 @@ invariant-loop-step g l =
     × Goes (g.W.Write.contents l.fn.output.writer) l.fn.output.text.items more
     (g.W.Write.contents l.output.writer) l.output.text.items)
     × (l.lines ≡ all_printed l.run)
-    × (l.output.failed ≡ l.fn.output.failed)
+    × (l.output.faults ≡ l.fn.output.faults)

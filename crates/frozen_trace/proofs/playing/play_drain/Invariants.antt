@@ -10,4 +10,4 @@ invariant-loop-turn g l =
     × Goes (g.W.Write.contents l.fn.output.writer) l.fn.output.text.items (told l.fn.run l.run)
     (g.W.Write.contents l.output.writer) l.output.text.items
     × (l.lines ≡ all_printed l.run)
-    × (l.output.failed ≡ l.fn.output.failed)
+    × (l.output.faults ≡ l.fn.output.faults)

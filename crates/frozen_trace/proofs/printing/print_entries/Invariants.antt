@@ -14,4 +14,4 @@ invariant-loop-entry g l =
       directory = l.fn.lines.directory;
       cables = l.fn.lines.cables ++ cables_of (map (entry_at l.run.cabling.kept) (take l.entry-index l.entries));
     })
-    × (l.output.failed ≡ l.fn.output.failed)
+    × (l.output.faults ≡ l.fn.output.faults)

@@ -32,6 +32,7 @@ returns-in_ok-trace_run-in-Ok-clause-printed g c =
           ended = ended;
           internet = c.in-Ok.ensures.started.0;
           cabling = c.in-Ok.ensures.started.1;
+          fresh = c.in-Ok.ensures.fresh;
           begun_frozen = told.frozen.0;
           ended_frozen = told.frozen.1;
           played = played;

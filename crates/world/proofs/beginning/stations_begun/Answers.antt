@@ -1,4 +1,4 @@
-use Rattle.world.proofs.Emptied.{begun_received}
+use Rattle.world.proofs.Begun.{begun_received}
 use Rattle.world.proofs.beginning.stations_begun.Goals as goal
 
 pub returns-clause-received : goal.returns-clause-received

@@ -51,6 +51,7 @@ returns-in-Ok-false-clause-done g c = record {
   goes_on =
       goes_on_then c.loop-step._step _ _ _ c.loop-step.invariant.1 0 c.loop-step._step (omega arith)
       (subst (λ b. GoesOn (one b) c.loop-step.wires c.take_first.new.wires) c.in-Ok-false.field-0-test c.in-Ok-false.ensures.took);
+  few = omega (arith, c.loop-step);
   ended = inl (c.in-Ok-false.ensures.none c.in-Ok-false.field-0-test);
 }
 

@@ -9,7 +9,7 @@ use Rattle.cable_model.proofs.Steps.{grows_then}
 use Rattle.cable_model.proofs.Takes.{adds_from, few_times, held_from, kept_after, room_forgotten, seat_there}
 use Rattle.cable_model.specs.Books.{Grows, IsBook, IsDue, pair_at, said as said_in, seat_at}
 use Rattle.cable_model.specs.Logs.{Cabling, entry_at, transcript as said}
-use Rattle.cable_model.specs.Outcomes.{Places, all_entries, all_held, heard_by, is_named}
+use Rattle.cable_model.specs.Outcomes.{Places, all_entries, all_held, all_stored, heard_by, is_named}
 use Rattle.cable_model.specs.Pending.{pending as pending_on}
 use Rattle.cable_model.specs.Transcript.{Took, stamps}
 use Rattle.cable_model.specs.Ways.{all_lines, all_spare}
@@ -163,6 +163,8 @@ returns-clause-ok g c =
     (subst (λ hs. Grows c.took.new.log new
     (all_entries places ss c.args.station c.took.new.log.puts c.receive.new.outputs.items) hs) waits
     c.add_all.ensures.grows) in
+    let base : c.took.new.log.kept.items ≡ old.kept.items =
+    ap (λ v. v.items) c.took.ensures.kept ∙ (ap (λ v. v.items) c.forget_waiting.ensures.kept ∙ room.kept) in
     let whole = grows_then mid c.took.new.log new (Took c.args.stamp c.args.station ∷ []) _ [] _ c.took.ensures.grows rest in
     rw (← c.self.view_is)
     (record {
@@ -179,6 +181,10 @@ returns-clause-ok g c =
       entries =
           adds_from ss c.self.inside.limit old mid new _ _ (ap (λ v. v.items) c.forget_waiting.ensures.lines ∙ room.lines)
           (ap (λ v. v.items) c.forget_waiting.ensures.kept ∙ room.kept) whole;
+      stored =
+          c.add_all.ensures.stored
+          ∙ (ap (λ k. k ++ all_stored places ss c.args.station c.receive.new.outputs.items) base
+          ∙ ap (λ os. old.kept.items ++ all_stored places ss c.args.station os) same);
       waits = held_from mid new _ _ c.forget_waiting.ensures.none whole;
     })
 

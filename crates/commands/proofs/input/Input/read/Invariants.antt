@@ -5,7 +5,7 @@ use Rattle.commands.proofs.input.Input.read.Given as goal
 abbrev pub invariant-loop-turn : goal.invariant-loop-turn
 invariant-loop-turn g l = record {
   turns : l.self.reads ≡ l._turn;
-  sound : l.self.failed ≡ l.initial.self.failed;
+  sound : l.self.faults ≡ l.initial.self.faults;
   reason : l.self.fault ≡ l.initial.self.fault;
   held : l.self.kept ≡ l.initial.self.kept;
   kept : Keeps (g.R.Read.remaining l.initial.self.reader) (g.R.Read.remaining l.self.reader);

@@ -5,7 +5,7 @@ use Rattle.commands.proofs.input.Input.read_all.Given as goal
 abbrev pub invariant-loop-turn : goal.invariant-loop-turn
 invariant-loop-turn g l = record {
   turns : l._turn ≤ l.self.reads;
-  sound : l.self.failed ≡ l.initial.self.failed;
+  sound : l.self.faults ≡ l.initial.self.faults;
   reason : l.self.fault ≡ l.initial.self.fault;
   held : l.self.kept ≡ l.initial.self.kept;
   counted : l.initial.self.reads ≤ l.self.reads;
