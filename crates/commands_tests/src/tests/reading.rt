@@ -23,7 +23,7 @@ fn read_once<R: Read + Drop>(alloc: Global, reader: R) -> Reading {
     Reading {
         answer,
         reads: input.reads,
-        failed: input.failed,
+        failed: input.faults > 0,
         fault: input.fault,
     }
 }
@@ -44,7 +44,7 @@ pub fn nearly_given_up<R>(reader: R, left: u32) -> Input<R>
     Input {
         reader,
         reads: READS - left,
-        failed: false,
+        faults: 0,
         fault: None,
         kept: None,
     }
