@@ -32,7 +32,7 @@ impl<'a> Performed<'a> {
     /// A run that couldn't open a source.
     pub fn not_opened(source: Source<'a>, kind: io::ErrorKind) -> Performed<'a>
         ensures outcome { result.outcome ≡ Outcome.NotOpened kind }
-        ensures source { result.evidence.source ≡ Some source }
+        ensures source { result.evidence.source ≡ Some source.entry }
     {
         Performed {
             outcome: Outcome::NotOpened(kind),
@@ -48,7 +48,7 @@ impl<'a> Performed<'a> {
     /// A run that couldn't create the file for the image.
     pub fn not_created(path: &'a str, kind: io::ErrorKind) -> Performed<'a>
         ensures outcome { result.outcome ≡ Outcome.NotCreated kind }
-        ensures source { result.evidence.source ≡ Some (Source.File path) }
+        ensures source { result.evidence.source ≡ Some (Source.File path.entry) }
     {
         Performed {
             outcome: Outcome::NotCreated(kind),

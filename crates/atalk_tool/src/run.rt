@@ -88,10 +88,10 @@ fn evidence_of<'a, I: Drop, S: Drop>(
     script: commands::Input<S>,
 ) -> Evidence<'a>
     ensures bad_line { (n : ℕ) → answer.now ≡ Err (Error.BadScript n)
-        → result.source ≡ Some sources.script }
+        → result.source ≡ Some sources.entry.script }
     // An image that was read to its end is kept, so the read that failed is that of the script.
     ensures read_fault { answer.now ≡ Err Error.ReadFault → result.source
-        ≡ Some (if is_some image.kept then sources.script else sources.image) }
+        ≡ Some (if is_some image.kept then sources.entry.script else sources.entry.image) }
     ensures reason { answer.now ≡ Err Error.ReadFault → result.fault
         ≡ (if is_some image.kept then script.fault else image.fault) }
 {

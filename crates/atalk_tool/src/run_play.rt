@@ -23,7 +23,7 @@ pub struct PlayJob<'a> {
 
 /// The file for the image, if a write to it failed.
 fn unwritten<'a, I>(image: &Output<I>, path: Option<&'a str>) -> Option<&'a str>
-    ensures { result ≡ (if image.now.faults == 0 then None else path) }
+    ensures { result ≡ (if image.now.faults == 0 then None else path.entry) }
 {
     if image.faults == 0 { None } else { path }
 }
