@@ -13,3 +13,4 @@ pub mod Complete
 mod CompleteExample
 mod Replies
 pub mod Keeping
+mod Renewals

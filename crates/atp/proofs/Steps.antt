@@ -6,7 +6,10 @@ use Rattle.std.proofs.lemmas.Bool.{ltb-true}
 use Rattle.at_base.specs.Address.{same_address}
 use Rattle.atp.specs.declared.ask.Peer.{Peer}
 use Rattle.atp.specs.Packets.{AtpPacket, is_response, is_end, wants_status}
-use Rattle.atp.specs.Requesting.{ticked, with_part, with_end, with_status, cut, part_of, is_waiting, is_heard, answers}
+use Rattle.atp.specs.Repeating.{stepped}
+use Rattle.atp.specs.Requesting.{ticked, with_part, with_end, with_status, cut, part_of, is_due, is_waiting, is_heard, answers, sent}
+use Rattle.atp.specs.declared.repeats.Step.{Step}
+use Rattle.atp.specs.declared.repeats.Step.TheVariants as step
 
 -- the ID and the request, which no step changes
 abbrev key : Transaction → ℕ × Ask
@@ -33,11 +36,18 @@ ticked_key t =
     let b = keeps t.due t (third t) t refl c in
     keeps (not (is_waiting t)) t (second t) t refl b
 
-pub ticked_id : (t : Transaction) → (ticked t).id ≡ t.id
-ticked_id t = ap (λ (k : ℕ × Ask). k.0) (ticked_key t)
-
 pub ticked_ask : (t : Transaction) → (ticked t).ask ≡ t.ask
 ticked_ask t = ap (λ (k : ℕ × Ask). k.1) (ticked_key t)
+
+stepped_key : (s : Step) (t : Transaction) → key (stepped s t) ≡ key t
+stepped_key step.Tick t = ticked_key t
+stepped_key step.Renew t = keeps (is_due (ticked t)) (sent (ticked t)) (ticked t) t (ticked_key t) (ticked_key t)
+
+pub stepped_id : (s : Step) (t : Transaction) → (stepped s t).id ≡ t.id
+stepped_id s t = ap (λ (k : ℕ × Ask). k.0) (stepped_key s t)
+
+pub stepped_ask : (s : Step) (t : Transaction) → (stepped s t).ask ≡ t.ask
+stepped_ask s t = ap (λ (k : ℕ × Ask). k.1) (stepped_key s t)
 
 -- the transaction after it accepted a packet
 abbrev pub taken : AtpPacket → Transaction → Transaction

@@ -5,6 +5,7 @@ pub mod Answers
 pub mod Places
 pub mod Responding
 pub mod Requesting
+pub mod Repeating
 pub mod Slots
 pub mod Copies
 pub mod Outcomes

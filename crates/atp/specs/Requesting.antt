@@ -171,12 +171,21 @@ open_count slots = count_by is_some slots
 abbrev pub AllSendable : List (Option Transaction) → Type 0
 AllSendable slots = (k : ℕ) (t : Transaction) → slice_index_or slots k None ≡ Some t → IsSendable t.ask
 
+-- the transaction is open and passes a test
+abbrev pub passes : (Transaction → Bool) → Option Transaction → Bool
+passes test None = false
+passes test (Some t) = test t
+
 -- the transaction is open, and its request is due
 abbrev pub is_due_in : Option Transaction → Bool
-is_due_in None = false
-is_due_in (Some t) = is_due t
+is_due_in t = passes is_due t
 
--- The request with this ID is due, and none with a lesser ID is.
-pub record IsLeastDue (slots : List (Option Transaction)) (id : ℕ) : Type 0 where
-  pub due : is_due_in (known id slots) ≡ true
-  pub least : (other : ℕ) → is_due_in (known other slots) ≡ true → id ≤ other
+-- The transaction with this ID passes a test, and none does whose ID lies below it but not below the first.
+pub record IsLeast (test : Transaction → Bool) (first : ℕ) (slots : List (Option Transaction)) (id : ℕ) : Type 0 where
+  pub from : first ≤ id
+  pub due : passes test (known id slots) ≡ true
+  pub least : (other : ℕ) → first ≤ other → passes test (known other slots) ≡ true → id ≤ other
+
+-- the request with this ID is due, and none with a lesser ID is
+abbrev pub IsLeastDue : List (Option Transaction) → ℕ → Type 0
+IsLeastDue slots id = IsLeast is_due 0 slots id

@@ -3,12 +3,13 @@
 
 ghost use Rattle.std.specs.Prelude.{◌≡◌, ◌≢◌, ◌⊎◌, ◌↔◌, ◌<◌, ◌≤◌, ◌+◌, ◌%◌, Some, None, true};
 ghost use Rattle.std.specs.Prelude.{false, ℕ, length, IfOk, IfErr, IfNone, IfSome, IsOk, IsOkUnless};
-ghost use Rattle.std.specs.Prelude.{List, OnErr, OnOk, nat_le};
+ghost use Rattle.std.specs.Prelude.{[], List, OnErr, OnOk, nat_le};
 ghost use Rattle.std.specs.Option.{option_map};
 ghost use Rattle.at_base.specs.Spelling.{bytes_of};
 ghost use Rattle.at_base.specs.declared.error.What.TheVariants.{Transaction as Missing};
 ghost use Rattle.atp.specs.InPlace.{packet_value};
 ghost use Rattle.atp.specs.Packets as spec;
+ghost use Rattle.atp.specs.Repeating.{AreShort, renewed, repeats};
 ghost use Rattle.atp.specs.Requesting.{known, begun, sent, ticked, after_hearing, AreOpen, IsAsk};
 ghost use Rattle.atp.specs.Requesting.{IsLeastDue, is_due_in, is_heard, open_count, release_for};
 ghost use Rattle.atp.specs.Requesting.{IsNextId, request_of};
@@ -17,9 +18,9 @@ ghost use Rattle.atp.specs.Outcomes.{left_open, outcome_of};
 use crate::ask::{Ask, Peer};
 use crate::outcome::Outcome;
 use crate::packet::{MAX_DATA, Packet};
+use crate::repeats::{Repeat, Step, When, repeats_in};
 use crate::table::{
-    close_at, copy_all, hear_at, insert, key_of, least_due, next_id, request_at, send_at, take,
-    tick_all,
+    close_at, copy_all, hear_at, insert, key_of, least_due, next_id, request_at, send_at, step_all,
 };
 use crate::transaction::Transaction;
 use at_base::{Bytes, Error, What};
@@ -124,7 +125,7 @@ impl Requester {
         ensures some { IfSome result (λ id. IsLeastDue self.now.slots id) }
         ensures none { IfNone result ((id : ℕ) → is_due_in (known id self.now.slots) ≡ false) }
     {
-        least_due(&self.table)
+        least_due(&self.table, When::Now, 0)
     }
 
     /// The bytes of a request that is due, for the missing parts. The request then counts as sent.
@@ -184,7 +185,31 @@ impl Requester {
             ≡ option_map ticked (known id self.old.slots) }
         ensures next { self.new.next ≡ self.old.next }
     {
-        tick_all(&mut self.table);
+        step_all(&mut self.table, Step::Tick);
+    }
+
+    /// The requests that the next tick makes due, by rising IDs of their transactions. Error:
+    /// `Memory`, which no requests never need.
+    pub fn repeats(&self) -> Result<Vec<Repeat>, Error>
+        ensures ok { IfOk result (λ made. made.items ≡ repeats self.now.slots) }
+        ensures few { IfOk result (λ made. length made.items ≤ 32) }
+        ensures short { IfOk result (λ made. AreShort made.items) }
+        ensures none { repeats self.now.slots ≡ [] → IsOk result }
+        ensures refused { IsOkUnless result Error.Memory }
+    {
+        repeats_in(self.alloc, &self.table)
+    }
+
+    /// Advances each transaction by one tick; each request that is due then counts as sent.
+    /// Allocates nothing.
+    pub fn renew(&mut self)
+        ensures renewed { (id : ℕ) → known id self.new.slots
+            ≡ option_map renewed (known id self.old.slots) }
+        ensures next { self.new.next ≡ self.old.next }
+    {
+        if !self.table.is_empty() {
+            step_all(&mut self.table, Step::Renew);
+        }
     }
 
     /// The outcome of a transaction. The transaction is closed unless it waits. Allocates nothing.

@@ -9,11 +9,12 @@ ghost use Rattle.at_base.specs.Spelling.{bytes_of};
 ghost use Rattle.at_base.specs.declared.error.What.TheVariants.{Transaction as Missing};
 ghost use Rattle.atp.specs.InPlace.{packet_value};
 ghost use Rattle.atp.specs.Packets as spec;
-ghost use Rattle.atp.specs.Requesting.{known, IsNextId, IsSendable, is_due, is_due_in, request_of};
-ghost use Rattle.atp.specs.Requesting.{sent, ticked};
+ghost use Rattle.atp.specs.Requesting.{known, IsNextId, IsSendable, is_due, request_of};
+ghost use Rattle.atp.specs.Repeating.{is_due_by, stepped};
+ghost use Rattle.atp.specs.Requesting.{passes, sent};
 ghost use Rattle.atp.specs.Requesting.{is_complete, part_of, with_part, with_end, with_status};
 ghost use Rattle.atp.specs.Outcomes.{left_open, outcome_of};
-ghost use Rattle.atp.specs.Requesting.{IsLeastDue, is_heard, is_waiting, after_hearing};
+ghost use Rattle.atp.specs.Requesting.{IsLeast, is_heard, is_waiting, after_hearing};
 ghost use Rattle.atp.specs.Requesting.{release_for, release_of};
 ghost use Rattle.atp.specs.Slots.{IsTable, Put};
 ghost use Rattle.atp.specs.Copies.{CopiedTo, IsCopy};
@@ -22,6 +23,7 @@ ghost use Rattle.atp.specs.declared.transaction.Transaction.{Transaction as Valu
 use crate::ask::{AnswerPart, Peer};
 use crate::outcome::{Outcome, closed};
 use crate::packet::Packet;
+use crate::repeats::{Step, When};
 use crate::requester::MAX_OPEN;
 use crate::transaction::{Transaction, part_from};
 use at_base::{Bytes, Error, What};
@@ -125,26 +127,26 @@ pub(crate) fn send_at(table: &mut Slab<Transaction>, key: usize)
 }
 
 /// Advances the transaction with this key by one tick.
-fn tick_at(table: &mut Slab<Transaction>, key: usize)
+fn step_at(table: &mut Slab<Transaction>, key: usize, step: Step)
     requires { IsTable table.old }
     ensures table { IsTable table.new }
-    ensures at { get table.new key ≡ option_map ticked (get table.old key) }
+    ensures at { get table.new key ≡ option_map (stepped step) (get table.old key) }
     ensures others { (k : ℕ) → k ≢ key → get table.new k ≡ get table.old k }
 {
     if let Some(transaction) = table.get_mut(key) {
-        transaction.tick();
+        transaction.step(step);
     }
 }
 
 /// Advances each transaction by one tick.
-pub(crate) fn tick_all(table: &mut Slab<Transaction>)
+pub(crate) fn step_all(table: &mut Slab<Transaction>, step: Step)
     requires { IsTable table.old }
     ensures table { IsTable table.new }
     ensures known { (id : ℕ)
-        → known id table.new.slots ≡ option_map ticked (known id table.old.slots) }
+        → known id table.new.slots ≡ option_map (stepped step) (known id table.old.slots) }
 {
     for key in 0..table.capacity() {
-        tick_at(table, key);
+        step_at(table, key, step);
     }
 }
 
@@ -171,29 +173,32 @@ pub(crate) fn hear_in(
     }
 }
 
-/// The ID of the transaction with this key, if its request is due.
-fn due_at(table: &Slab<Transaction>, key: usize) -> Option<u16>
-    ensures none { IfNone result ((t : Value) → get table.now key ≡ Some t → is_due t ≡ false) }
+/// The ID of the transaction with this key, if it is at least `first` and the request is due by
+/// then.
+fn due_at(table: &Slab<Transaction>, key: usize, when: When, first: u16) -> Option<u16>
+    ensures none { IfNone result ((t : Value) → get table.now key ≡ Some t → first ≤ t.id
+        → is_due_by when t ≡ false) }
     ensures some { IfSome result (λ id. (t : Value) × (get table.now key ≡ Some t)
-        × (t.id ≡ id) × (is_due t ≡ true)) }
+        × (t.id ≡ id) × (first ≤ id) × (is_due_by when t ≡ true)) }
 {
     let transaction = table.get(key)?;
-    if transaction.is_due() {
+    if first <= transaction.id && transaction.is_due_by(when) {
         Some(transaction.id)
     } else {
         None
     }
 }
 
-/// The least ID of a transaction whose request is due, if any.
-pub(crate) fn least_due(table: &Slab<Transaction>) -> Option<u16>
+/// The least ID from `first` on of a transaction whose request is due by then, if any.
+pub(crate) fn least_due(table: &Slab<Transaction>, when: When, first: u16) -> Option<u16>
     requires { IsTable table.now }
-    ensures some { IfSome result (λ id. IsLeastDue table.now.slots id) }
-    ensures none { IfNone result ((id : ℕ) → is_due_in (known id table.now.slots) ≡ false) }
+    ensures some { IfSome result (λ id. IsLeast (is_due_by when) first table.now.slots id) }
+    ensures none { IfNone result ((id : ℕ) → first ≤ id
+        → passes (is_due_by when) (known id table.now.slots) ≡ false) }
 {
     let mut best = None;
     for key in 0..table.capacity() {
-        if let Some(id) = due_at(table, key) {
+        if let Some(id) = due_at(table, key, when, first) {
             match best {
                 Some(least) if least <= id => {}
                 _ => best = Some(id),

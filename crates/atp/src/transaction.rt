@@ -209,6 +209,7 @@ impl Transaction {
         requires short { length self.now.ask.payload ≤ 578 }
         requires release { self.now.ask.release ≤ 7 }
         ensures ok { IfOk result (λ bytes. bytes ≡ bytes_of packets_spec.packet (request_of self.now)) }
+        ensures short { IfOk result (λ bytes. length bytes ≤ 586) }
         ensures err { IsOkUnless result Error.Memory }
     {
         write(

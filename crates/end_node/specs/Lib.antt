@@ -4,5 +4,6 @@ pub mod Sending
 pub mod Lookups
 pub mod Answers
 pub mod Asking
+pub mod Repeating
 pub mod Taking
 pub mod Stays

@@ -13,7 +13,7 @@ ghost use Rattle.station.specs.Making.{made};
 use crate::lookups::{is_any, text_of};
 use crate::node::{Datagram, EndNode};
 use crate::sending::put_out;
-use at_base::{Error, Text32, What};
+use at_base::{Addr, Error, Text32, What};
 use circular_buffer::HeapCircularBuffer;
 use ddp::{Header, kind as types, socket as sockets};
 use nbp::{Function, Tuple, write};
@@ -56,6 +56,30 @@ fn copies_of(received: &HeapCircularBuffer<Datagram>) -> Result<Vec<Datagram>, E
     Ok(copies)
 }
 
+/// The way of a request of this type from one socket to another, from this address to the router.
+pub(crate) fn request_way(
+    kind: u8,
+    target_socket: u8,
+    source_socket: u8,
+    own: Addr,
+    router: Addr,
+) -> Way
+    ensures { result ≡ spec.way_to_router kind target_socket source_socket own router }
+{
+    Way {
+        port: 0,
+        next: Next::Station(router),
+        header: Header {
+            summed: false,
+            target: router,
+            source: own,
+            target_socket,
+            source_socket,
+            kind,
+        },
+    }
+}
+
 impl EndNode {
     /// The way of a request of this type to the router, or why there is none.
     pub(crate) fn way_to_router(
@@ -74,18 +98,7 @@ impl EndNode {
         let Some(router) = self.router else {
             return Err(Error::NoRouter);
         };
-        Ok(Way {
-            port: 0,
-            next: Next::Station(router),
-            header: Header {
-                summed: false,
-                target: router,
-                source: own,
-                target_socket,
-                source_socket,
-                kind,
-            },
-        })
+        Ok(request_way(kind, target_socket, source_socket, own, router))
     }
 
     /// The way of an NBP request to the router, or why there is none.

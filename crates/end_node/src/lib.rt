@@ -8,6 +8,7 @@ mod lists;
 mod lookups;
 mod node;
 mod receive;
+mod repeats;
 mod sending;
 mod setters;
 mod ways;

@@ -40,12 +40,12 @@ carried-append : (i : Internet) (es fs : List Entry) (w : Chains) → AreCarried
 carried-append i [] fs w h g = g
 carried-append i (e ∷ es) fs w h g = (h.0, carried-append i es fs (after e w) h.1 g)
 
-at_front : {X : Type 0} (xs ys : List X) (k : ℕ) (x : X) → At xs k x → At (xs ++ ys) k x
+pub at_front : {X : Type 0} (xs ys : List X) (k : ℕ) (x : X) → At xs k x → At (xs ++ ys) k x
 at_front [] ys k x e = cc
 at_front (y ∷ xs) ys zero x e = e
 at_front (y ∷ xs) ys (suc k) x e = at_front xs ys k x e
 
-at_end : {X : Type 0} (xs : List X) (x : X) → At (xs ++ x ∷ []) (length xs) x
+pub at_end : {X : Type 0} (xs : List X) (x : X) → At (xs ++ x ∷ []) (length xs) x
 at_end [] x = refl
 at_end (y ∷ xs) x = at_end xs x
 

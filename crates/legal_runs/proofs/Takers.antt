@@ -21,7 +21,7 @@ use Rattle.legal_runs.specs.Carriage.{AreTakenThere, IsOnSome}
 use Rattle.legal_runs.specs.Legal.{Block, IsLegal, Sends, Takes, Begins, Goes, said}
 use Rattle.legal_runs.specs.Legs.{Leg, fate, fate_by, final, is_copy, leg, leg_to, passed, put, reach, to_other, to_target}
 use Rattle.legal_runs.specs.Stations.{cable_seat, cable_seats, has_address, is_on}
-use Rattle.legal_runs.proofs.Carried.{carries}
+use Rattle.legal_runs.proofs.Carried.{at_end, at_front, carries}
 use Rattle.station.specs.declared.output.Next.{Next}
 use Rattle.station.specs.declared.output.Next.TheVariants as next
 
@@ -100,15 +100,6 @@ module _ (i : Internet) where
   quiet_fate stamp p = either (is_copy i p) _ _ (quiet_by stamp p.seat.station p (hand i p.seat.station (target p.frame.bytes).net)) tt
 
   -- ---- The cables of frames, by their stamps
-
-  at_front : {X : Type 0} (xs ys : List X) (k : ℕ) (x : X) → At xs k x → At (xs ++ ys) k x
-  at_front [] ys k x e = cc
-  at_front (y ∷ xs) ys zero x e = e
-  at_front (y ∷ xs) ys (suc k) x e = at_front xs ys k x e
-
-  at_end : {X : Type 0} (xs : List X) (x : X) → At (xs ++ x ∷ []) (length xs) x
-  at_end [] x = refl
-  at_end (y ∷ xs) x = at_end xs x
 
   kept : (es : List Entry) (w : List ℕ) (k c : ℕ) → At w k c → At (cables_after es w) k c
   kept [] w k c e = e

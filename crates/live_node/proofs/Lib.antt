@@ -1,3 +1,3 @@
 pub mod Heard
 pub mod Short
-pub mod Turns
+mod Starting

@@ -1,4 +1,4 @@
--- A tick of a live node. (Inside AppleTalk, the chapters on AARP, RTMP and ZIP; the times, and the order within a tick,
+-- A tick of a live node. (Inside AppleTalk, the chapters on AARP, RTMP, ZIP and ATP; the times, and the order within a tick,
 -- are this project's own)
 use Rattle.std.specs.Prelude.{◌≡◌, ℕ, ◌+◌, ◌-◌, Bool, false, is_some, not, ◌&&◌, ◌==◌, List, [], ◌∷◌, ◌++◌, nat_lt}
 use Rattle.std.specs.Prelude.{Option, Some, None, if◌then◌else◌}
@@ -8,6 +8,8 @@ use Rattle.aarp.specs.declared.packet.Packet.{Packet}
 use Rattle.at_base.specs.Spelling.{bytes_of}
 use Rattle.at_base.specs.declared.address.Addr.{Addr}
 use Rattle.at_base.specs.Multicast.{all_hw}
+use Rattle.atp.specs.Requesting.{Transactions}
+use Rattle.end_node.specs.Repeating.{AreRenewed, repeats_by}
 use Rattle.live_node.specs.Living.{LivingNode}
 use Rattle.station.specs.Making.{made}
 use Rattle.station.specs.declared.output.Next.TheVariants as next
@@ -73,21 +75,28 @@ wait_after own l = if is_asking own l then (if l.wait == 0 then 4 else l.wait - 
 abbrev pub choice_after : LivingNode → Choice
 choice_after l = (ticked l.node.port).0
 
--- the node after a tick, after which it has this address or none
-abbrev pub living_after : Option Addr → LivingNode → LivingNode
-living_after own l = record {
-  node = record l.node { port = choice_after l; router = (silent l.node.router l.silence).0 };
+-- the node after a tick, after which it has this address or none, and these transactions
+abbrev pub living_after : Option Addr → Transactions → LivingNode → LivingNode
+living_after own asks l = record {
+  node = record l.node { port = choice_after l; router = (silent l.node.router l.silence).0; asks = asks };
   silence = (silent l.node.router l.silence).1;
   asked = asked_after own l;
   wait = wait_after own l;
   answered = l.answered;
 }
 
--- The output of a live node in a tick, and its state after it: a probe, or a GetNetInfo request, or nothing.
-abbrev pub ticked_live : LivingNode → List Output × LivingNode
-ticked_live l =
-    (probe (ticked l.node.port).1 ++ questions (settled (choice_after l)) l, living_after (settled (choice_after l)) l)
+-- The outputs of a live node in a tick, after which it has this address or none: a probe, or a GetNetInfo request, or
+-- neither, and then the requests for zones that the tick makes due.
+abbrev pub sent_live : Option Addr → LivingNode → List Output
+sent_live own l = probe (ticked l.node.port).1 ++ questions own l ++ repeats_by own l.node.asks.slots
+
+-- A live node in state old has these outputs in a tick, after which it has this address or none, and is in state new
+-- after it.
+pub record TicksAs (own : Option Addr) (old : LivingNode) (added : List Output) (new : LivingNode) : Type 0 where
+  pub sends : added ≡ sent_live own old
+  pub asks : AreRenewed own old.node.asks new.node.asks
+  pub left : new ≡ living_after own new.node.asks old
 
 -- a live node in state old has these outputs in a tick, and is in state new after it
 abbrev pub LiveTicks : LivingNode → List Output → LivingNode → Type 0
-LiveTicks old added new = (added, new) ≡ ticked_live old
+LiveTicks old added new = TicksAs (settled (choice_after old)) old added new

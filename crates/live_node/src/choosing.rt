@@ -1,61 +1,80 @@
 //! A tick of a live node, and the choice of its address.
 
-ghost use Rattle.std.specs.Prelude.{◌≡◌, ◌++◌, IfSome, IsOkUnless, None, OnErr, OnOk, Some};
+ghost use Rattle.std.specs.Prelude.{◌≡◌, ◌≤◌, ◌+◌, ◌++◌, length, IfOk, IsOkUnless, OnErr, OnOk, Some};
 ghost use Rattle.aarp.specs.Choosing.{settled};
+ghost use Rattle.end_node.specs.Repeating.{AreRenewed};
 ghost use Rattle.live_node.specs.Passing.{passed};
-ghost use Rattle.live_node.specs.Ticking.{probe, questions, ticked_live};
-ghost use Rattle.station.specs.Lawful.{PutsOut};
+ghost use Rattle.live_node.specs.Ticking.{LiveTicks, probe, questions};
+ghost use Rattle.end_node.specs.Repeating.{repeats_by};
+ghost use Rattle.station.specs.Lawful.{AreLawful, PutsOut};
+ghost use Rattle.station.specs.Made.{AreMade};
 
 use crate::live::LiveNode;
 use aarp::Packet;
 use at_base::{Addr, Bytes, Error, Hw};
 use station::{Output, Outputs};
-use std::alloc::Global;
 
-/// Adds a probe, to all stations of the cable. Error: `Memory`; the outputs don't change then.
-fn put_probe(alloc: Global, sent: &Packet, outputs: &mut Outputs) -> Result<(), Error>
-    ensures sent { OnOk result (PutsOut 1 outputs.old.items outputs.new.items
-        (λ added. added ≡ probe (Some sent.now))) }
+/// Adds the probe of this tick, if there is one, to all stations of the cable. Error: `Memory`.
+fn put_probe(made: &mut Vec<Output>, sent: &Option<Packet>) -> Result<(), Error>
+    ensures put { OnOk result (made.new.items ≡ made.old.items ++ probe sent.now) }
+    ensures few { OnOk result (length made.new.items ≤ length made.old.items + 1) }
+    ensures good { OnOk result (AreMade 1 made.old.items → AreMade 1 made.new.items) }
     ensures refused { IsOkUnless result Error.Memory }
-    ensures outputs_stay { OnErr result (outputs.new.items ≡ outputs.old.items) }
 {
-    let bytes = Bytes::copy(alloc, &sent.write())?;
-    outputs.room(1)?;
-    outputs.add(Output::Wire {
+    let Some(sent) = sent else { return Ok(()) };
+    let bytes = Bytes::copy(*made.allocator(), &sent.write())?;
+    made.push(Output::Wire {
         port: 0,
         to: Hw::ALL,
         bytes,
-    });
+    })?;
     Ok(())
 }
 
 impl LiveNode {
     /// Counts a tick, after which the node has this address or none.
     fn pass(&mut self, own: Option<Addr>)
-        ensures { self.new ≡ passed own self.old }
+        ensures asks { AreRenewed own self.old.node.asks self.new.node.asks }
+        ensures left { self.new ≡ passed own self.new.node.asks self.old }
     {
         self.count_silence();
         self.count_question(own);
+        self.node.renew(own);
     }
 
-    /// Adds the probe of this tick if there is one, and otherwise the GetNetInfo request if there
-    /// is one. Error: `Memory`; the outputs don't change then.
+    /// The outputs of a tick with this probe or none, after which the node has this address or
+    /// none. Error: `Memory`.
+    fn made(&self, sent: &Option<Packet>, own: Option<Addr>) -> Result<Vec<Output>, Error>
+        ensures ok { IfOk result (λ made. made.items
+            ≡ probe sent.now ++ questions own self.now ++ repeats_by own self.now.node.asks.slots) }
+        ensures few { IfOk result (λ made. length made.items ≤ 34) }
+        ensures good { IfOk result (λ made. AreMade 1 made.items) }
+        ensures refused { IsOkUnless result Error.Memory }
+    {
+        let mut made = Vec::new(self.node.allocator());
+        put_probe(&mut made, sent)?;
+        self.put_question(own, &mut made)?;
+        self.node.put_repeats(own, &mut made)?;
+        Ok(made)
+    }
+
+    /// Adds the outputs of a tick with this probe or none, after which the node has this address or
+    /// none. Error: `Memory`; the outputs don't change then.
     fn put(
         &self,
-        sent: Option<Packet>,
+        sent: &Option<Packet>,
         own: Option<Addr>,
         outputs: &mut Outputs,
     ) -> Result<(), Error>
-        requires { IfSome sent (λ _. own ≡ None) }
-        ensures sent { OnOk result (PutsOut 1 outputs.old.items outputs.new.items
-            (λ added. added ≡ probe sent ++ questions own self.now)) }
+        ensures sent { OnOk result (PutsOut 1 outputs.old.items outputs.new.items (λ added. added
+            ≡ probe sent.now ++ questions own self.now ++ repeats_by own self.now.node.asks.slots)) }
         ensures refused { IsOkUnless result Error.Memory }
         ensures outputs_stay { OnErr result (outputs.new.items ≡ outputs.old.items) }
     {
-        match sent {
-            Some(sent) => put_probe(self.node.allocator(), &sent, outputs),
-            None => self.put_question(own, outputs),
-        }
+        let made = self.made(sent, own)?;
+        outputs.room(made.len())?;
+        outputs.append(made);
+        Ok(())
     }
 
     /// Advances a node whose address is settled already by a tick. Error: `Memory`; neither the
@@ -63,12 +82,12 @@ impl LiveNode {
     pub(crate) fn tick_settled(&mut self, own: Addr, outputs: &mut Outputs) -> Result<(), Error>
         requires { settled self.old.node.port ≡ Some own }
         ensures ok { OnOk result (PutsOut 1 outputs.old.items outputs.new.items
-            (λ added. (added, self.new) ≡ ticked_live self.old)) }
+            (λ added. LiveTicks self.old added self.new)) }
         ensures refused { IsOkUnless result Error.Memory }
         ensures station_stays { OnErr result (self.new ≡ self.old) }
         ensures outputs_stay { OnErr result (outputs.new.items ≡ outputs.old.items) }
     {
-        self.put_question(Some(own), outputs)?;
+        self.put(&None, Some(own), outputs)?;
         self.pass(Some(own));
         Ok(())
     }
@@ -77,7 +96,7 @@ impl LiveNode {
     /// `Memory`; neither the node nor the outputs change then.
     pub(crate) fn tick_choosing(&mut self, outputs: &mut Outputs) -> Result<(), Error>
         ensures ok { OnOk result (PutsOut 1 outputs.old.items outputs.new.items
-            (λ added. (added, self.new) ≡ ticked_live self.old)) }
+            (λ added. LiveTicks self.old added self.new)) }
         ensures refused { IsOkUnless result Error.Memory }
         ensures station_stays { OnErr result (self.new ≡ self.old) }
         ensures outputs_stay { OnErr result (outputs.new.items ≡ outputs.old.items) }
@@ -85,7 +104,7 @@ impl LiveNode {
         let mut port = self.node.port_now().copy()?;
         let sent = port.tick();
         let own = port.settled();
-        self.put(sent, own, outputs)?;
+        self.put(&sent, own, outputs)?;
         self.node.set_port(port);
         self.pass(own);
         Ok(())

@@ -1,19 +1,20 @@
 //! A node's GetNetInfo requests about its cable.
 
-ghost use Rattle.std.specs.Prelude.{◌≡◌, ◌≤◌, length, IfOk, IsOkUnless, OnErr, OnOk, Some};
+ghost use Rattle.std.specs.Prelude.{◌≡◌, ◌≤◌, ◌+◌, ◌++◌, length, IfOk, IsOkUnless, OnOk, Some};
 ghost use Rattle.at_base.specs.Spelling.{bytes_of};
 ghost use Rattle.live_node.specs.Ticking as spec;
 ghost use Rattle.live_node.specs.Ticking.{asked_after, asked_from, question_way, questions};
 ghost use Rattle.live_node.specs.Ticking.{wait_after};
-ghost use Rattle.station.specs.Lawful.{PutsOut};
+ghost use Rattle.station.specs.Made.{AreMade};
 ghost use Rattle.zip_zones.specs.Formats as formats_spec;
 ghost use Rattle.zip_zones.specs.Written.{question};
 
 use crate::live::LiveNode;
 use at_base::{Addr, Bytes, Error, Name, Text32};
 use ddp::{Header, kind, socket};
+use station::making::put;
 use station::ways::EVERY_NODE;
-use station::{Next, Outputs, Way};
+use station::{Next, Output, Way};
 use std::alloc::Global;
 use zip_zones::write_get_net_info;
 
@@ -77,31 +78,31 @@ impl LiveNode {
         self.is_asking(own) && self.wait == 0
     }
 
-    /// Adds a GetNetInfo request from this address. Error: `Memory`; the outputs don't change then.
-    fn ask_from(&self, me: Addr, outputs: &mut Outputs) -> Result<(), Error>
-        ensures sent { OnOk result (PutsOut 1 outputs.old.items outputs.new.items
-            (λ added. added ≡ asked_from (Some me) self.now.node.zone)) }
+    /// Adds a GetNetInfo request from this address. Error: `Memory`.
+    fn ask_from(&self, me: Addr, made: &mut Vec<Output>) -> Result<(), Error>
+        ensures put { OnOk result
+            (made.new.items ≡ made.old.items ++ asked_from (Some me) self.now.node.zone) }
+        ensures few { OnOk result (length made.new.items ≤ length made.old.items + 1) }
+        ensures good { OnOk result (AreMade 1 made.old.items → AreMade 1 made.new.items) }
         ensures refused { IsOkUnless result Error.Memory }
-        ensures outputs_stay { OnErr result (outputs.new.items ≡ outputs.old.items) }
     {
-        let alloc = self.node.allocator();
-        let data = data_for(alloc, self.node.zone())?;
-        let output = way_from(me).make(alloc, data.as_slice())?;
-        outputs.room(1)?;
-        outputs.add(output);
-        Ok(())
+        let data = data_for(self.node.allocator(), self.node.zone())?;
+        put(made, &Some(way_from(me)), data.as_slice())
     }
 
-    /// Adds the GetNetInfo request of this tick, if there is one. Error: `Memory`; the outputs
-    /// don't change then.
-    pub(crate) fn put_question(&self, own: Option<Addr>, outputs: &mut Outputs) -> Result<(), Error>
-        ensures sent { OnOk result (PutsOut 1 outputs.old.items outputs.new.items
-            (λ added. added ≡ questions own self.now)) }
+    /// Adds the GetNetInfo request of this tick, if there is one. Error: `Memory`.
+    pub(crate) fn put_question(
+        &self,
+        own: Option<Addr>,
+        made: &mut Vec<Output>,
+    ) -> Result<(), Error>
+        ensures put { OnOk result (made.new.items ≡ made.old.items ++ questions own self.now) }
+        ensures few { OnOk result (length made.new.items ≤ length made.old.items + 1) }
+        ensures good { OnOk result (AreMade 1 made.old.items → AreMade 1 made.new.items) }
         ensures refused { IsOkUnless result Error.Memory }
-        ensures outputs_stay { OnErr result (outputs.new.items ≡ outputs.old.items) }
     {
         match own {
-            Some(me) if self.asks(own) => self.ask_from(me, outputs),
+            Some(me) if self.asks(own) => self.ask_from(me, made),
             _ => Ok(()),
         }
     }

@@ -238,7 +238,7 @@ pub member_ticks : (old new : Member Living LivingNode) (added : List Output) �
 member_ticks (Router old) (Router new) added h = refl
 member_ticks (Router old) (Node new) added h = absurd h
 member_ticks (Node old) (Router new) added h = absurd h
-member_ticks (Node old) (Node new) added h = ap (λ (p : List Output × LivingNode). p.1.node.received) h
+member_ticks (Node old) (Node new) added h = ap (λ (l : LivingNode). l.node.received) h.left
 
 -- ---- Lists of stations
 

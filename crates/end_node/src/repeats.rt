@@ -1,0 +1,64 @@
+//! The requests for zones that a node sends again.
+
+ghost use Rattle.std.specs.Prelude.{◌≡◌, ◌≤◌, ◌+◌, ◌++◌, length, map, IsOkUnless, OnOk};
+ghost use Rattle.atp.specs.Repeating.{AreShort};
+ghost use Rattle.end_node.specs.Repeating.{AreRenewed, repeated, repeats_by};
+ghost use Rattle.station.specs.Made.{AreMade};
+
+use crate::asking::request_way;
+use crate::node::EndNode;
+use crate::receive::TRANSACTIONS;
+use at_base::{Addr, Error};
+use atp::Repeat;
+use ddp::kind;
+use station::Output;
+use station::making::put;
+
+/// Adds these requests, each as a datagram from this address. Error: `Memory`.
+fn put_all(made: &mut Vec<Output>, own: Addr, repeats: &[Repeat]) -> Result<(), Error>
+    requires { AreShort repeats.now }
+    ensures put { OnOk result (made.new.items ≡ made.old.items ++ map (repeated own) repeats.now) }
+    ensures few { OnOk result (length made.new.items ≤ length made.old.items + length repeats.now) }
+    ensures good { OnOk result (AreMade 1 made.old.items → AreMade 1 made.new.items) }
+    ensures refused { IsOkUnless result Error.Memory }
+{
+    match repeats {
+        [] => Ok(()),
+        [repeat, rest @ ..] => {
+            let to = repeat.to;
+            let way = request_way(kind::ATP, to.socket, TRANSACTIONS, own, to.addr);
+            put(made, &Some(way), repeat.bytes.as_slice())?;
+            put_all(made, own, rest)
+        }
+    }
+}
+
+impl EndNode {
+    /// Adds the requests for zones that the next tick makes due, at most 32, by rising IDs of their
+    /// transactions, if the node has this address and not none. Error: `Memory`.
+    ///
+    /// Inside AppleTalk, the chapter on ATP.
+    pub fn put_repeats(&self, own: Option<Addr>, made: &mut Vec<Output>) -> Result<(), Error>
+        ensures put { OnOk result
+            (made.new.items ≡ made.old.items ++ repeats_by own self.now.asks.slots) }
+        ensures few { OnOk result (length made.new.items ≤ length made.old.items + 32) }
+        ensures good { OnOk result (AreMade 1 made.old.items → AreMade 1 made.new.items) }
+        ensures refused { IsOkUnless result Error.Memory }
+    {
+        match own {
+            Some(own) => put_all(made, own, self.requester.repeats()?.as_slice()),
+            None => Ok(()),
+        }
+    }
+
+    /// Advances the transactions of a node that has this address by a tick; each request that is
+    /// due then counts as sent. Without an address, nothing changes. Allocates nothing.
+    pub fn renew(&mut self, own: Option<Addr>)
+        ensures asks { AreRenewed own self.old.asks self.new.asks }
+        ensures left { self.new ≡ record self.old { asks = self.new.asks } }
+    {
+        if own.is_some() {
+            self.requester.renew();
+        }
+    }
+}
