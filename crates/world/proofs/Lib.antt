@@ -6,3 +6,4 @@ pub mod Losses
 pub mod Ticked
 mod Doing
 pub mod Kept
+pub mod Stopped

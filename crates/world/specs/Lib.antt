@@ -10,4 +10,5 @@ pub mod Passing
 pub mod Taking
 pub mod Acting
 pub mod Ticking
+pub mod Stopping
 pub mod Scheduling

@@ -3,6 +3,7 @@
 
 mod acting;
 mod beginning;
+mod laws;
 mod losing;
 mod phases;
 mod scheduling;
@@ -12,4 +13,5 @@ mod taking;
 mod tick;
 mod world;
 
+pub use laws::frozen_is_read_back;
 pub use world::{MAX_ENTRIES, MAX_TAKES, World};

@@ -1,12 +1,13 @@
 //! The phases of a tick.
 
-ghost use Rattle.std.specs.Prelude.{◌≡◌, ◌⊎◌, ◌≤◌, length, map, IfErr, OnOk};
+ghost use Rattle.std.specs.Prelude.{◌≡◌, ◌⊎◌, ◌≤◌, length, map, IfErr, OnErr, OnOk};
 ghost use Rattle.live_cables.specs.Living.{happened};
 ghost use Rattle.live_cables.specs.Steps.{HasNoRoom};
 ghost use Rattle.planned_stations.specs.Planning.{AreSeated, ports_of};
 ghost use Rattle.world.specs.Acting.{KeepsFirst};
 ghost use Rattle.world.specs.Going.{Ends, Goes, GoesOn};
 ghost use Rattle.world.specs.Received.{AreReceived, got};
+ghost use Rattle.world.specs.Stopping.{StopsBefore, StopsIn};
 ghost use Rattle.world.specs.Ticking.{Begins, Plays};
 
 use crate::acting::act_all;
@@ -40,6 +41,8 @@ fn before_takings<T: RouteTable>(
     ensures begins { OnOk result (Begins plan.now now stations.old.items stations.new.items
         wires.old wires.new refused.old.items refused.new.items
         schedule.old.items schedule.new.items) }
+    ensures stopped { OnErr result
+        (StopsBefore stations.old.items stations.new.items wires.old wires.new) }
     ensures full { (result ≡ Err Error.Full) → HasNoRoom 3 wires.new.cabling }
     ensures refused { IfErr result (λ e. (e ≡ Error.Full) ⊎ (e ≡ Error.Memory)) }
 {
@@ -67,6 +70,9 @@ pub fn run_phases<T: RouteTable>(
     ensures goes { Goes wires.old wires.new }
     ensures done { OnOk result (Ends 10000 wires.old wires.new) }
     ensures plays { OnOk result (Plays plan.now now stations.old.items stations.new.items
+        wires.old wires.new refused.old.items refused.new.items
+        schedule.old.items schedule.new.items) }
+    ensures stopped { OnErr result (StopsIn plan.now now stations.old.items stations.new.items
         wires.old wires.new refused.old.items refused.new.items
         schedule.old.items schedule.new.items) }
     ensures received { AreReceived (happened wires.old) (map got stations.old.items)

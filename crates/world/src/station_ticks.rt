@@ -1,7 +1,7 @@
 //! Advances the stations of a world by a tick.
 
 ghost use Rattle.std.specs.Prelude.{◌≡◌, ◌⊎◌, ◌≤◌, ℕ, fold, length, map, slice_get};
-ghost use Rattle.std.specs.Prelude.{IfErr, OnOk, Some};
+ghost use Rattle.std.specs.Prelude.{IfErr, OnErr, OnOk, Some};
 ghost use Rattle.station.specs.declared.member.Member.{Member as MemberValue};
 ghost use Rattle.live_cables.specs.Steps.{HasNoRoom};
 ghost use Rattle.live_node.specs.Living.{LivingNode};
@@ -12,6 +12,7 @@ ghost use Rattle.world.specs.Doing.{own_in, settled_own};
 ghost use Rattle.world.specs.Going.{Goes, GoesOn};
 ghost use Rattle.world.specs.Passing.{AreAged, HasPassed, HasTicked, HavePassed, IsAged};
 ghost use Rattle.world.specs.Received.{got};
+ghost use Rattle.world.specs.Stopping.{ArePassing, MayTick, StopsAt, StopsPassing};
 
 use at_base::{Addr, Error};
 use live_cables::LiveCables;
@@ -82,6 +83,7 @@ fn age_mappings<T: RouteTable>(
     ensures ports { ports_of station.new ≡ ports_of station.old }
     ensures got { got station.new ≡ got station.old }
     ensures aged { OnOk result (IsAged seat station.old station.new wires.old wires.new) }
+    ensures stopped { OnErr result (station.new ≡ station.old) }
     ensures goes { Goes wires.old wires.new }
     ensures done { OnOk result (GoesOn 0 wires.old wires.new) }
     ensures full { (result ≡ Err Error.Full) → HasNoRoom 3 wires.new.cabling }
@@ -108,6 +110,8 @@ fn age_all_mappings<T: RouteTable>(
     ensures ports { ports_of station.new ≡ ports_of station.old }
     ensures got { got station.new ≡ got station.old }
     ensures aged { OnOk result (AreAged seat ports station.old station.new wires.old wires.new) }
+    ensures stopped { OnErr result
+        (StopsAt seat ports station.old station.new wires.old wires.new) }
     ensures goes { Goes wires.old wires.new }
     ensures done { OnOk result (GoesOn 0 wires.old wires.new) }
     ensures full { (result ≡ Err Error.Full) → HasNoRoom 3 wires.new.cabling }
@@ -135,6 +139,7 @@ fn tick<T: RouteTable>(
     ensures got { got station.new ≡ got station.old }
     ensures ticked { OnOk result
         (HasTicked number seat station.old station.new wires.old wires.new) }
+    ensures stopped { OnErr result (MayTick seat station.old station.new wires.old wires.new) }
     ensures goes { Goes wires.old wires.new }
     ensures done { OnOk result (GoesOn 0 wires.old wires.new) }
     ensures full { (result ≡ Err Error.Full) → HasNoRoom 3 wires.new.cabling }
@@ -166,6 +171,8 @@ fn tick_station<T: RouteTable>(
     ensures got { got station.new ≡ got station.old }
     ensures passed { OnOk result
         (HasPassed number seat station.old station.new wires.old wires.new) }
+    ensures stopped { OnErr result
+        (StopsPassing number seat station.old station.new wires.old wires.new) }
     ensures goes { Goes wires.old wires.new }
     ensures done { OnOk result (GoesOn 0 wires.old wires.new) }
     ensures full { (result ≡ Err Error.Full) → HasNoRoom 3 wires.new.cabling }
@@ -202,6 +209,8 @@ pub fn tick_all<T: RouteTable>(
     ensures got { map got stations.new.items ≡ map got stations.old.items }
     ensures passed { OnOk result ((seats : ℕ) × HavePassed (length stations.old.items) seats
         stations.old.items stations.new.items wires.old wires.new) }
+    ensures stopped { OnErr result
+        (ArePassing stations.old.items stations.new.items wires.old wires.new) }
     ensures goes { Goes wires.old wires.new }
     ensures done { OnOk result (GoesOn 0 wires.old wires.new) }
     ensures full { (result ≡ Err Error.Full) → HasNoRoom 3 wires.new.cabling }

@@ -1,7 +1,7 @@
 //! The stations of a world take frames.
 
 ghost use Rattle.std.specs.Prelude.{◌≡◌, ◌⊎◌, ◌↔◌, ◌<◌, ℕ, [], false, length, map, true};
-ghost use Rattle.std.specs.Prelude.{IfErr, IfOk, OnOk};
+ghost use Rattle.std.specs.Prelude.{IfErr, IfOk, OnErr, OnOk};
 ghost use Rattle.std.specs.List.{list_any};
 ghost use Rattle.cable_model.specs.Outcomes.{is_named};
 ghost use Rattle.cable_model.specs.Pending as spec;
@@ -11,6 +11,7 @@ ghost use Rattle.live_cables.specs.Steps.{HasNoRoom};
 ghost use Rattle.planned_stations.specs.Planning.{AreSeated, ports_of};
 ghost use Rattle.world.specs.Going.{Ends, Goes, GoesOn};
 ghost use Rattle.world.specs.Received.{AreReceived, got};
+ghost use Rattle.world.specs.Stopping.{AreTaking, IsHearer, MayHear};
 ghost use Rattle.world.specs.Taking.{AreTaken, IsTaken, IsTaker};
 
 use at_base::Error;
@@ -34,6 +35,9 @@ fn take<T: RouteTable>(
     ensures done { OnOk result (GoesOn 1 wires.old wires.new) }
     ensures taken { OnOk result (IsTaker stamp station stations.old.items stations.new.items
         wires.old wires.new) }
+    ensures stopped { OnErr result (((stations.new.items ≡ stations.old.items)
+        × (wires.new ≡ wires.old))
+        ⊎ IsHearer stamp station stations.old.items stations.new.items wires.old wires.new) }
     ensures received { AreReceived (happened wires.old) (map got stations.old.items)
         → AreReceived (happened wires.new) (map got stations.new.items) }
     ensures not_pending { (result ≡ Err Error.NotPending) ↔ (list_any (is_named stamp station)
@@ -58,6 +62,8 @@ fn take_first<T: RouteTable>(
     ensures took { IfOk result (λ was_one. GoesOn (one was_one) wires.old wires.new) }
     ensures taken { IfOk result (λ was_one. was_one ≡ true
         → IsTaken stations.old.items stations.new.items wires.old wires.new) }
+    ensures stopped { OnErr result
+        (MayHear stations.old.items stations.new.items wires.old wires.new) }
     ensures stay { IfOk result (λ was_one. was_one ≡ false
         → (stations.new.items ≡ stations.old.items) × (wires.new ≡ wires.old)) }
     ensures none { IfOk result (λ was_one. was_one ≡ false
@@ -87,6 +93,8 @@ pub fn take_all<T: RouteTable>(
     ensures goes { Goes wires.old wires.new }
     ensures done { OnOk result (Ends most wires.old wires.new) }
     ensures taken { OnOk result ((n : ℕ) × AreTaken n stations.old.items stations.new.items
+        wires.old wires.new) }
+    ensures stopped { OnErr result (AreTaking most stations.old.items stations.new.items
         wires.old wires.new) }
     ensures received { AreReceived (happened wires.old) (map got stations.old.items)
         → AreReceived (happened wires.new) (map got stations.new.items) }

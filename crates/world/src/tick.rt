@@ -1,10 +1,11 @@
 //! A tick of a world.
 
-ghost use Rattle.std.specs.Prelude.{◌≡◌, ◌<◌, ◌≤◌, ◌+◌, ◌⊎◌, IfErr, IfSome, None, OnOk, Some};
+ghost use Rattle.std.specs.Prelude.{◌≡◌, ◌<◌, ◌≤◌, ◌+◌, ◌⊎◌, IfErr, IfSome, None, OnErr, OnOk, Some};
 ghost use Rattle.cable_model.specs.Transcript.{AreNumbered};
 ghost use Rattle.live_cables.specs.Living.{happened};
 ghost use Rattle.live_cables.specs.Steps.{HasNoRoom};
 ghost use Rattle.world.specs.Acting.{KeepsFirst};
+ghost use Rattle.world.specs.Stopping.{MayStop};
 ghost use Rattle.world.specs.Ticking.{IsTick};
 ghost use Rattle.world.specs.Worlds.{Ticks, TicksOn};
 
@@ -32,6 +33,7 @@ impl<T: RouteTable> World<T> {
         ensures ticks_on { OnOk result
             (TicksOn self.old.plan self.old.now self.old.wires self.new.wires) }
         ensures plays { OnOk result (IsTick self.old self.new) }
+        ensures steps_stay { OnErr result (MayStop self.old self.new) }
         ensures keeps { KeepsFirst self.old.refused self.new.refused }
         ensures full { (result ≡ Err Error.Full) → HasNoRoom 771 self.new.wires.cabling }
         ensures refused { IfErr result (λ e. (e ≡ Error.Full) ⊎ (e ≡ Error.Memory)) }
@@ -65,6 +67,7 @@ impl<T: RouteTable> World<T> {
         ensures ticks_on { OnOk result
             (TicksOn self.old.plan self.new.now self.old.wires self.new.wires) }
         ensures plays { OnOk result (IsTick self.old self.new) }
+        ensures steps_stay { OnErr result (MayStop self.old self.new) }
         ensures keeps { KeepsFirst self.old.refused self.new.refused }
         ensures full { (result ≡ Err Error.Full)
             → (self.old.plan.ticks ≤ self.old.now) ⊎ HasNoRoom 771 self.new.wires.cabling }
@@ -102,6 +105,7 @@ impl<T: RouteTable> World<T> {
         ensures ticks_on { OnOk result
             (TicksOn self.old.plan self.new.now self.old.wires self.new.wires) }
         ensures plays { OnOk result (IsTick self.old self.new) }
+        ensures steps_stay { OnErr result (MayStop self.old self.new) }
         ensures keeps { KeepsFirst self.old.refused self.new.refused }
         // A tick within the plan is full only if the transcript has no room.
         ensures full { self.old.stopped ≡ None → (result ≡ Err Error.Full)

@@ -1,5 +1,9 @@
+use Rattle.std.proofs.Common.{inr, ap, ◌∙◌, subst}
 use Rattle.std.proofs.lemmas.Result.{on_ok_weaker}
+use Rattle.live_cables.specs.Living.{Wires}
+use Rattle.world.specs.Going.{Goes}
 use Rattle.world.proofs.Going.{goes_on_settled, goes_plays, goes_plays_on, goes_settled}
+use Rattle.world.proofs.Stopped.{any_error}
 use Rattle.world.proofs.station_ticks.tick.Goals as goal
 
 pub returns-clause-goes : goal.returns-clause-goes
@@ -8,3 +12,13 @@ returns-clause-goes g c = goes_settled _ c.settle.new.wires _ c.settle.ensures.o
 pub returns-clause-done : goal.returns-clause-done
 returns-clause-done g c =
     on_ok_weaker c.give.result (λ d. goes_on_settled _ c.settle.new.wires _ c.settle.ensures.others 0 (goes_plays_on 0 _ _ d)) c.give.ensures.done
+
+pub returns-clause-stopped : goal.returns-clause-stopped
+returns-clause-stopped g c =
+    let put = c.in-Ok-tick.ensures.ok in
+    let set = c.settle.ensures.others ∙ ap (λ own. record c.args.wires.now { own = own }) c.settle.ensures.own in
+    any_error c.give.result (inr (record {
+      outputs = put.added;
+      ticks = put.holds;
+      goes = subst (λ (w : Wires). Goes w c.give.new.self) set (goes_plays _ _ c.give.ensures.plays);
+    }))

@@ -4,6 +4,7 @@ use Rattle.std.proofs.lemmas.Result.{on_ok_weaker}
 use Rattle.world.proofs.Going.{goes_plays, goes_plays_on}
 use Rattle.world.proofs.Received.{take_received}
 use Rattle.world.proofs.Stations.{ports_set, seats_at}
+use Rattle.world.proofs.Stopped.{take_stopped}
 use Rattle.world.proofs.taking.take.Goals as goal
 
 pub take-requires : goal.take-requires
@@ -46,3 +47,11 @@ returns-clause-taken g c =
       takes = t;
       set = refl;
     }) c.take.ensures.taken
+
+pub returns-clause-stopped : goal.returns-clause-stopped
+returns-clause-stopped g c =
+    let ms = c.args.stations.now.items in
+    let taker = c.index_mut-taker.result.now in
+    take_stopped ms c.args.station c.args.stamp c.args.wires.now c.take.new.self taker c.take.new.taker
+    (slice_get_read ms (length ms) c.args.station taker refl c.requires.there c.index_mut-taker.ensures.value) c.take.result
+    c.take.ensures.stopped
