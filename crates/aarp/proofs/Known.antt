@@ -10,7 +10,7 @@ use Rattle.lru.specs.LruCache.{LruCache, put_entries}
 use Rattle.at_base.specs.declared.address.Addr.{Addr}
 use Rattle.at_base.specs.declared.address.Hw.{Hw}
 use Rattle.at_base.specs.Address.{same_address}
-use Rattle.aarp.specs.Mapping.{mapping_of}
+use Rattle.aarp.specs.Mapping.{forgotten, mapping_of}
 
 cut : {X : Type 0} (x : X) (xs : List X) (n : ℕ) → 0 < n → x ∷ take (n - 1) xs ≡ take n (x ∷ xs)
 cut x xs zero h = absurd (omega arith)
@@ -47,6 +47,22 @@ module _ {K V : Type 0} (eq : K → K → Bool) (same : (x y : K) → eq x y ≡
             (on.0, rw t (ap (λ l. e ∷ l) on.1), rw t (ap suc on.2))
       ]) refl
 
+  removed-absent : (k : K) (es : List (K × V)) → lookup_entry (eq k) es ≡ None → remove_entry (eq k) es ≡ es
+  removed-absent k [] h = refl
+  removed-absent k (e ∷ es) h = (elim (eq k e.0) as (λ b. eq k e.0 ≡ b → remove_entry (eq k) (e ∷ es) ≡ e ∷ es) [
+    | true ↦ λ t. let bad = rw t at h in cc
+    | false ↦ λ t. rw t (ap (λ l. e ∷ l) (removed-absent k es (rw t at h)))
+  ]) refl
+
+  -- the entries after `pop`, as a filter
+  pub removed-forgotten : (k : K) (es : List (K × V)) → IsDistinct eq (keys_of es) → remove_entry (eq k) es
+      ≡ filter (λ e. not (eq k e.0)) es
+  removed-forgotten k es d = by (lookup_entry (eq k) es) refl
+    where
+      by : (o : Option (K × V)) → lookup_entry (eq k) es ≡ o → remove_entry (eq k) es ≡ others k es
+      by None h = removed-absent k es h ∙ sym (others-absent k es h)
+      by (Some f) h = (others-present k f es d h).1
+
   module _ (c : LruCache K V) (k : K) (v : V) (d : IsDistinct eq (keys_of c.entries)) (fits : length c.entries ≤ c.cap) (some : 0 <
       c.cap) where
     by_case : (o : Option (K × V)) → lookup_entry (eq k) c.entries ≡ o
@@ -73,3 +89,31 @@ mapping_found a (m ∷ known) = elim (same_address a m.0) as (λ t. cond t (Some
       | true ↦ refl
       | false ↦ mapping_found a known
     ]
+
+-- an address that was forgotten isn't known
+pub forgotten_unknown : (a : Addr) (known : List (Addr × Hw)) → mapping_of a (forgotten a known) ≡ None
+forgotten_unknown a [] = refl
+forgotten_unknown a (m ∷ known) = (elim (same_address a m.0) as (λ t. same_address a m.0 ≡ t
+    → mapping_of a (cond (not t) (m ∷ forgotten a known) (forgotten a known)) ≡ None) [
+      | true ↦ λ e. forgotten_unknown a known
+      | false ↦ λ e. rw e (forgotten_unknown a known)
+    ]) refl
+
+-- nothing is left out with the mapping of an address that isn't known
+pub unknown_apart : (a : Addr) (known : List (Addr × Hw)) → mapping_of a known ≡ None → forgotten a known ≡ known
+unknown_apart a [] h = refl
+unknown_apart a (m ∷ known) h = (elim (same_address a m.0) as (λ t. same_address a m.0 ≡ t → forgotten a (m ∷ known) ≡ m ∷ known) [
+  | true ↦ λ e. let bad = rw e at h in cc
+  | false ↦ λ e. rw e (ap (λ l. m ∷ l) (unknown_apart a known (rw e at h)))
+]) refl
+
+-- what was cut twice
+pub cut_again : {X : Type 0} (m n : ℕ) (xs : List X) → m ≤ n → take m (take n xs) ≡ take m xs
+cut_again zero n xs h = refl
+cut_again (suc m) zero xs h = absurd (omega arith)
+cut_again (suc m) (suc n) [] h = refl
+cut_again (suc m) (suc n) (x ∷ xs) h = ap (λ l. x ∷ l) (cut_again m n xs (omega arith))
+
+-- one of 257 elements is left out, or none of fewer
+pub above_cut : {X : Type 0} (xs : List X) → 256 < length xs → length xs ≤ 257 → take (length xs - 1) xs ≡ take 256 xs
+above_cut xs h few = let is : length xs - 1 ≡ 256 = omega (arith, h, few) in rw is refl

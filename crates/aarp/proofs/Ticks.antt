@@ -2,13 +2,14 @@
 use Rattle.std.proofs.Common.{◌≡◌, ℕ, suc, ◌+◌, ◌<◌, ◌≤◌, Bool, true, false, not, cond, List, [], ◌∷◌, ◌++◌, length, map, filter, take}
 use Rattle.std.proofs.Common.{drop, get_or, slice_get, Some, None, refl, ap, ◌∙◌, arith, append_assoc, append-nil, length-append}
 use Rattle.std.proofs.Common.{length-drop, length-take}
-use Rattle.std.specs.List.{list_any}
 use Rattle.std.proofs.lemmas.List.{drop_more, take_more, map-append, take_all, drop_all}
 use Rattle.std.proofs.lemmas.List.Elements.{filter-append}
+use Rattle.std.proofs.lemmas.Grind.{flat_map-append}
+use Rattle.std.specs.List.{flat_map, list_any}
 use Rattle.at_base.specs.declared.address.Addr.{Addr}
 use Rattle.at_base.specs.Address.{same_address}
 use Rattle.aarp.specs.declared.held.Held.{Held}
-use Rattle.aarp.specs.Mapping.{each_once, noted, is_asked_again, asked_once_more, waited, to_ask, given_up}
+use Rattle.aarp.specs.Mapping.{each_once, noted, is_asked_again, asked_once_more, waited, to_ask, given_up, shed, stamp_of}
 
 -- ---- addresses, each once
 
@@ -87,6 +88,16 @@ nexts_more p xs h =
     by_case true e parts = ap each_once (rw e at parts) ∙ each_once_more (nexts p xs) h.next
     by_case false e parts = ap each_once (rw e at parts) ∙ ap each_once (append-nil (nexts p xs))
 
+shed_more : (xs : List Held) (h : Held) → shed (xs ++ h ∷ []) ≡ shed xs ++ cond (is_asked_again h) [] (stamp_of h)
+shed_more xs h =
+    let gone : Held → Bool = λ g. not (is_asked_again g) in
+    ap (flat_map stamp_of) (filter-append gone xs (h ∷ []))
+    ∙ (flat_map-append stamp_of (filter gone xs) (filter gone (h ∷ [])) ∙ ap (λ l. shed xs ++ l) (last (is_asked_again h)))
+  where
+    last : (b : Bool) → flat_map stamp_of (cond (not b) (h ∷ []) []) ≡ cond b [] (stamp_of h)
+    last true = refl
+    last false = append-nil (stamp_of h)
+
 length-waited : (xs : List Held) → length (waited xs) ≤ length xs
 length-waited [] = omega arith
 length-waited (h ∷ xs) = elim (is_asked_again h) as (λ t. length (map asked_once_more (cond t (h ∷ filter is_asked_again xs) (filter
@@ -100,6 +111,7 @@ pub record Next (old : List Held) (i : ℕ) (h : Held) : Type 0 where
   pub items : drop 1 (drop i old ++ waited (take i old)) ++ waited (h ∷ []) ≡ drop (i + 1) old ++ waited (take (i + 1) old)
   pub ask : to_ask (take (i + 1) old) ≡ cond (is_asked_again h) (noted h.next (to_ask (take i old))) (to_ask (take i old))
   pub given_up : given_up (take (i + 1) old) ≡ cond (is_asked_again h) (given_up (take i old)) (noted h.next (given_up (take i old)))
+  pub shed : shed (take (i + 1) old) ≡ shed (take i old) ++ cond (is_asked_again h) [] (stamp_of h)
   pub room : length (drop 1 (drop i old ++ waited (take i old))) < length old
 
 pub next : (old : List Held) (i : ℕ) (h : Held) → i < length old → slice_get (drop i old ++ waited (take i old)) 0 ≡ Some h
@@ -115,6 +127,7 @@ next old i h lt first =
           [])));
       ask = rw taken_is (nexts_more is_asked_again (take i old) h);
       given_up = rw taken_is (nexts_more (λ g. not (is_asked_again g)) (take i old) h ∙ turned (is_asked_again h) _ _);
+      shed = rw taken_is (shed_more (take i old) h);
       room = rw rest_is (let l = length-waited (take i old) in omega (
         arith,
         length-append (drop (i + 1) old) (waited (take i old)),

@@ -1,16 +1,16 @@
 -- The mapping of addresses to hardware addresses, and the datagrams that wait for one.
 -- (Inside AppleTalk, the chapter on AARP; the counts and limits are this project's own)
 use Rattle.std.specs.Prelude.{ℕ, ◌+◌, ◌≤◌, Bool, ◌&&◌, not, IsTrue, List, [], ◌∷◌, ◌++◌, length, map, filter, take, find, position, remove}
-use Rattle.std.specs.Prelude.{slice_get, Option, Some, None, option_and_then, nat_lt, nat_le, if◌then◌else◌}
-use Rattle.std.specs.List.{list_any, list_all, IsDistinct}
+use Rattle.std.specs.Prelude.{slice_get, Option, Some, None, option_and_then, option_to_list, nat_lt, nat_le, if◌then◌else◌}
+use Rattle.std.specs.List.{flat_map, list_any, list_all, IsDistinct}
 use Rattle.std.specs.Option.{option_map_or}
 use Rattle.at_base.specs.declared.address.Addr.{Addr}
 use Rattle.at_base.specs.declared.address.Hw.{Hw}
 use Rattle.at_base.specs.Address.{same_address}
 use Rattle.aarp.specs.declared.held.Held.{Held}
 
--- The mappings that a port knows, the one learnt last first, at most 256; and the datagrams that it holds, oldest
--- first, at most 16.
+-- The mappings that a port knows, the one learnt last first: at most 256, or one more while a frame is taken that tells
+-- it; and the datagrams that it holds, oldest first, at most 16.
 pub record Mappings : Type 0 where
   pub known : List (Addr × Hw)
   pub held : List Held
@@ -19,11 +19,11 @@ pub record Mappings : Type 0 where
 abbrev pub is_counted : Held → Bool
 is_counted h = nat_le 1 h.asked && nat_le h.asked 10
 
--- The invariants of a mapper: each address has at most one mapping, at most 256 are known, at most 16 datagrams wait,
+-- The invariants of a mapper: each address has at most one mapping, at most 257 are known, at most 16 datagrams wait,
 -- and the address of each was requested from one to ten times.
 pub record IsMappings (m : Mappings) : Type 0 where
   pub distinct : IsDistinct same_address (map (λ p. p.0) m.known)
-  pub few : length m.known ≤ 256
+  pub few : length m.known ≤ 257
   pub counted : IsTrue (list_all is_counted m.held)
   pub waiting : length m.held ≤ 16
 
@@ -35,6 +35,14 @@ mapping_of a (m ∷ known) = if same_address a m.0 then Some m.1 else mapping_of
 -- the mappings after one was learnt: it comes first, and above 256 the oldest is discarded
 abbrev pub learnt : Addr → Hw → List (Addr × Hw) → List (Addr × Hw)
 learnt a hw known = take 256 ((a, hw) ∷ filter (λ m. not (same_address a m.0)) known)
+
+-- the mappings after one was learnt ahead of its taking: it comes first, and none is discarded
+abbrev pub met : Addr → Hw → List (Addr × Hw) → List (Addr × Hw)
+met a hw known = (a, hw) ∷ known
+
+-- the mappings without that of an address
+abbrev pub forgotten : Addr → List (Addr × Hw) → List (Addr × Hw)
+forgotten a known = filter (λ m. not (same_address a m.0)) known
 
 -- the datagram is held for the address
 abbrev pub is_for : Addr → Held → Bool
@@ -100,3 +108,11 @@ to_ask held = each_once (map (λ h. h.next) (filter is_asked_again held))
 -- the addresses that are given up in a tick, each once, in the order of the oldest datagram held for them
 abbrev pub given_up : List Held → List Addr
 given_up held = each_once (map (λ h. h.next) (filter (λ h. not (is_asked_again h)) held))
+
+-- the stamp of a datagram, if it has one
+abbrev pub stamp_of : Held → List ℕ
+stamp_of h = option_to_list h.stamp
+
+-- the stamps of the datagrams that are given up in a tick, oldest first
+abbrev pub shed : List Held → List ℕ
+shed held = flat_map stamp_of (filter (λ h. not (is_asked_again h)) held)

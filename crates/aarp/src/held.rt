@@ -12,6 +12,8 @@ pub struct Held {
     pub next: Addr,
     /// The number of requests for that address, 1 to 10. `Mapper::hold` sets it.
     pub asked: u8,
+    /// The stamp under which the datagram's wait was recorded, if it was.
+    pub stamp: Option<u32>,
     /// The datagram.
     pub bytes: Bytes,
 }

@@ -1,9 +1,12 @@
 //! The address mappings that a port knows, and the datagrams that it holds.
 
-ghost use Rattle.std.specs.Prelude.{◌≡◌, [], IfOk, OnOk, OnErr, IsOk, IsSome, IsOkUnless};
+ghost use Rattle.std.specs.Prelude.{◌≡◌, ◌≤◌, [], IfOk, OnOk, OnErr, IsOk, IsSome, IsOkUnless, None};
+ghost use Rattle.std.specs.Prelude.{length, take};
 ghost use Rattle.std.specs.List.{list_any};
-ghost use Rattle.aarp.specs.Mapping.{IsMappings, mapping_of, learnt, is_for, holding, pushed_out};
-ghost use Rattle.aarp.specs.Mapping.{released, without_oldest, to_ask, given_up, waited};
+ghost use Rattle.lru.specs.LruCache.{lru_cache};
+ghost use Rattle.aarp.specs.Mapping as spec;
+ghost use Rattle.aarp.specs.Mapping.{IsMappings, forgotten, mapping_of, met, learnt, is_for, holding};
+ghost use Rattle.aarp.specs.Mapping.{pushed_out, released, without_oldest, to_ask, given_up, waited};
 
 use crate::held::{Held, MAX_HELD};
 use crate::waiting::{self, Asks};
@@ -16,6 +19,9 @@ use std::num::NonZeroUsize;
 
 /// The greatest number of mappings that a port knows.
 pub const MAX_MAPPINGS: usize = 256;
+
+/// The room for mappings: one more, for a mapping that is learnt ahead.
+const ROOM: usize = MAX_MAPPINGS + 1;
 
 /// The mappings of addresses to hardware addresses that a port knows, and the datagrams that wait
 /// for one.
@@ -36,9 +42,19 @@ impl Model for Mapper {
 
     ghost view = { λ m. record { known = m.known.entries; held = m.held.items } };
 
-    ghost invariant = { λ m. (m.known.cap ≡ 256)
+    ghost invariant = { λ m. (m.known.cap ≡ 257)
         × (m.held.capacity ≡ 16)
         × IsTrue (list_all is_counted m.held.items) };
+}
+
+/// Discards the mapping learnt longest ago where 257 are known.
+fn discard(known: &mut LruCache<Addr, Hw>)
+    requires { known.old.cap ≡ 257 }
+    ensures { known.new ≡ lru_cache (take 256 known.old.entries) known.old.cap }
+{
+    if known.len() > MAX_MAPPINGS {
+        let _discarded = known.pop_lru();
+    }
 }
 
 impl Mapper {
@@ -47,7 +63,7 @@ impl Mapper {
         ensures ok { IfOk result (λ m. m ≡ record { known = []; held = [] }) }
         ensures refused { IsOkUnless result Error.Memory }
     {
-        let cap = NonZeroUsize::new(MAX_MAPPINGS).unwrap();
+        let cap = NonZeroUsize::new(ROOM).unwrap();
         let known = LruCache::new(alloc, cap)?;
         let held = HeapCircularBuffer::with_capacity(alloc, MAX_HELD)?;
         Ok(Mapper { known, held })
@@ -78,7 +94,35 @@ impl Mapper {
     {
         let _len = self.known.len();
         self.known.put(addr, hw)?;
+        discard(&mut self.known);
         Ok(())
+    }
+
+    /// Learns the mapping of an address that isn't known, ahead of the frame that tells it: none is
+    /// discarded. If the frame is taken, `learn` learns the mapping again, which can't fail;
+    /// otherwise `forget` undoes the call.
+    ///
+    /// Error: `Memory`; nothing changes then.
+    pub fn meet(&mut self, addr: Addr, hw: Hw) -> Result<(), Error>
+        requires unknown { mapping_of addr self.old.known ≡ None }
+        requires few { length self.old.known ≤ 256 }
+        ensures ok { OnOk result
+            (self.new ≡ record self.old { known = met addr hw self.old.known }) }
+        ensures refused { IsOkUnless result Error.Memory }
+        ensures unchanged { OnErr result (self.new ≡ self.old) }
+    {
+        let _len = self.known.len();
+        self.known.put(addr, hw)?;
+        Ok(())
+    }
+
+    /// Forgets the mapping of an address, if it is known. Allocates nothing.
+    pub fn forget(&mut self, addr: Addr)
+        ensures forgotten { self.new ≡ record self.old { known = forgotten addr self.old.known } }
+        ensures unknown { mapping_of addr self.new.known ≡ None }
+    {
+        let _len = self.known.len();
+        let _forgotten = self.known.pop(&addr);
     }
 
     /// Whether a datagram is held for the address. Allocates nothing.
@@ -109,11 +153,12 @@ impl Mapper {
         waiting::release(&mut self.held, addr)
     }
 
-    /// Advances by one tick: returns the addresses to request, and those that are given up.
-    /// Allocates nothing.
+    /// Advances by one tick: returns the addresses to request and those that are given up, and the
+    /// stamps of the datagrams that are gone. Allocates nothing.
     pub fn tick(&mut self) -> Asks
         ensures ask { result.ask ≡ to_ask self.old.held }
         ensures given_up { result.given_up ≡ given_up self.old.held }
+        ensures shed { result.shed.items ≡ spec.shed self.old.held }
         ensures waits { self.new ≡ record self.old { held = waited self.old.held } }
     {
         waiting::wait(&mut self.held)

@@ -2,15 +2,17 @@
 //! take one out of its middle.
 
 ghost use Rattle.std.specs.Prelude.{◌≡◌, ◌<◌, ◌≤◌, ◌+◌, ◌++◌, ◌∷◌, [], length, take, drop};
-ghost use Rattle.std.specs.Prelude.{find, position, remove, slice_get, if◌then◌else◌};
+ghost use Rattle.std.specs.Prelude.{find, option_to_list, position, remove, slice_get, if◌then◌else◌};
 ghost use Rattle.std.specs.Option.{option_copied};
 ghost use Rattle.std.specs.List.{list_any};
 ghost use Rattle.aarp.specs.Mapping as spec;
 ghost use Rattle.aarp.specs.Mapping.{is_for, released, without_oldest};
-ghost use Rattle.aarp.specs.Mapping.{waited, to_ask, given_up, is_asked_again, noted};
+ghost use Rattle.aarp.specs.Mapping.{waited, to_ask, given_up, is_asked_again, noted, stamp_of};
+ghost use Rattle.arrayvec.specs.ArrayVec.{array_vec_len};
 
 use crate::addresses::Addresses;
-use crate::held::Held;
+use crate::held::{Held, MAX_HELD};
+use arrayvec::ArrayVec;
 use at_base::Addr;
 use circular_buffer::HeapCircularBuffer;
 
@@ -18,14 +20,29 @@ use circular_buffer::HeapCircularBuffer;
 const MAX_ASKED: u8 = 10;
 
 /// The addresses of a tick: two lists of at most 16 addresses, each address once, in the order of
-/// the oldest datagram held for it.
-#[derive(Debug, Drop)]
+/// the oldest datagram held for it; and the stamps of the datagrams that are gone.
+#[derive(Drop)]
 pub struct Asks {
     /// The addresses to request now.
     pub ask: Addresses,
     /// The addresses that were requested ten times without a response. The datagrams held for them
     /// are gone.
     pub given_up: Addresses,
+    /// The stamps of the datagrams that are gone, where they have one, oldest first.
+    pub shed: ArrayVec<u32, MAX_HELD>,
+}
+
+impl Asks {
+    /// Nothing to ask for, and nothing given up.
+    pub fn none() -> Asks
+        ensures { (result.ask ≡ []) × (result.given_up ≡ []) × (result.shed.items ≡ []) }
+    {
+        Asks {
+            ask: Addresses::new(),
+            given_up: Addresses::new(),
+            shed: ArrayVec::new(),
+        }
+    }
 }
 
 /// Whether a datagram waits for the address.
@@ -119,18 +136,33 @@ fn note(addresses: &mut Addresses, addr: Addr)
     }
 }
 
+/// Adds the stamp, if there is one.
+fn note_stamp(stamps: &mut ArrayVec<u32, MAX_HELD>, stamp: Option<u32>)
+    requires { array_vec_len stamps.old < 16 }
+    ensures noted { stamps.new.items ≡ stamps.old.items ++ option_to_list stamp }
+    ensures few { array_vec_len stamps.new ≤ 1 + array_vec_len stamps.old }
+{
+    if let Some(stamp) = stamp {
+        stamps.push(stamp);
+    }
+}
+
 /// Puts a datagram back at the end of the queue, with one more request for its address; after ten
 /// requests it is given up instead.
 fn wait_on(queue: &mut HeapCircularBuffer<Held>, asks: &mut Asks, held: Held)
     requires room { length queue.old.items < queue.old.capacity }
     requires ask_room { length asks.old.ask < 16 }
     requires given_up_room { length asks.old.given_up < 16 }
+    requires shed_room { array_vec_len asks.old.shed < 16 }
     ensures items { queue.new.items ≡ queue.old.items ++ waited (held ∷ []) }
     ensures capacity { queue.new.capacity ≡ queue.old.capacity }
     ensures ask { asks.new.ask
         ≡ (if is_asked_again held then noted held.next asks.old.ask else asks.old.ask) }
     ensures given_up { asks.new.given_up
         ≡ (if is_asked_again held then asks.old.given_up else noted held.next asks.old.given_up) }
+    ensures shed { asks.new.shed.items ≡ asks.old.shed.items
+        ++ (if is_asked_again held then [] else stamp_of held) }
+    ensures shed_few { array_vec_len asks.new.shed ≤ 1 + array_vec_len asks.old.shed }
     ensures ask_few { length asks.new.ask ≤ 1 + length asks.old.ask }
     ensures given_up_few { length asks.new.given_up ≤ 1 + length asks.old.given_up }
 {
@@ -141,21 +173,21 @@ fn wait_on(queue: &mut HeapCircularBuffer<Held>, asks: &mut Asks, held: Held)
         let _ = queue.push_back(held);
     } else {
         note(&mut asks.given_up, held.next);
+        note_stamp(&mut asks.shed, held.stamp);
     }
 }
 
-/// Advances by one tick: returns the addresses to request, and those that are given up.
+/// Advances by one tick: returns the addresses to request and those that are given up, and the
+/// stamps of the datagrams that are gone.
 pub(crate) fn wait(queue: &mut HeapCircularBuffer<Held>) -> Asks
     requires { queue.old.capacity ≡ 16 }
     ensures ask { result.ask ≡ to_ask queue.old.items }
     ensures given_up { result.given_up ≡ given_up queue.old.items }
+    ensures shed { result.shed.items ≡ spec.shed queue.old.items }
     ensures waits { queue.new.items ≡ waited queue.old.items }
     ensures capacity { queue.new.capacity ≡ queue.old.capacity }
 {
-    let mut asks = Asks {
-        ask: Addresses::new(),
-        given_up: Addresses::new(),
-    };
+    let mut asks = Asks::none();
     for _step in 0..queue.len() {
         if let Some(held) = queue.pop_front() {
             wait_on(queue, &mut asks, held);

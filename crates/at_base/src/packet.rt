@@ -2,7 +2,6 @@
 //! the error of the packet's reader: `Truncated` where the input ends within the field, `BadField`
 //! where its value is wrong.
 
-ghost use Rattle.std.specs.Prelude.{◌≡◌, ◌≤◌, length};
 ghost use Rattle.at_base.specs.Grammar.{number, run, one, two};
 ghost use Rattle.at_base.specs.Reading.{Gives, bytes_at, field_at, read};
 ghost use Rattle.at_base.specs.Packets.{packets, any, within, only, address, text};

@@ -106,8 +106,10 @@ part_came p t lt i = (elim (get_or t.missing p.part false)
     as (λ b. get_or t.missing p.part false ≡ b
     → get_or (with_part p t).came i None ≡ cond (eqb p.part i && b) (Some (part_of p)) (get_or t.came i None)) [
       | true ↦ λ e. rw e (elim (cases_eq i p.part) [
-        | inl same ↦ let q : eqb p.part p.part ≡ true = grind arith in rw (same, q) (get_or-set_same t.came p.part (Some (part_of p)) None lt)
-        | inr differs ↦ let q : eqb p.part i ≡ false = grind arith in rw q (get_or-set_other t.came p.part i (Some (part_of p)) None differs)
+        | inl same ↦ let q : eqb p.part p.part ≡ true =
+            grind arith in rw (same, q) (get_or-set_same t.came p.part (Some (part_of p)) None lt)
+        | inr differs ↦ let q : eqb p.part i ≡ false =
+            grind arith in rw q (get_or-set_other t.came p.part i (Some (part_of p)) None differs)
       ])
       | false ↦ λ e. rw e (never (eqb p.part i))
     ]) refl ∙ refl

@@ -1,6 +1,7 @@
 -- The IDs of the open transactions, one for each.
-use Rattle.std.proofs.Common.{◌≡◌, ◌≢◌, ℕ, suc, ◌+◌, true, false, cond, eqb, List, [], ◌∷◌, Option, Some, None, is_some, get_or, length, count_by, refl}
-use Rattle.std.proofs.Common.{sym, arith}
+use Rattle.std.proofs.Common.{◌≡◌, ◌≢◌, ℕ, suc, true, false, cond, eqb, List, [], ◌∷◌, Option, Some, None, is_some}
+use Rattle.std.proofs.Common.{get_or, length, refl}
+use Rattle.std.proofs.Common.{arith}
 use Rattle.std.specs.Prelude.{◌==◌}
 use Rattle.std.specs.List.{AllByRecursion, IsDistinct, list_any}
 use Rattle.std.proofs.lemmas.Bool.{ne_eqb}
@@ -26,7 +27,8 @@ each_known : (id : ℕ) (slots : Slots) → list_any (λ n. n == id) (ids_of slo
 each_known id [] = refl
 each_known id (None ∷ slots) = each_known id slots
 each_known id (Some t ∷ slots) =
-    (elim (eqb t.id id) as (λ b. eqb t.id id ≡ b → list_any (λ n. n == id) (ids_of (Some t ∷ slots)) ≡ is_some (known id (Some t ∷ slots))) [
+    (elim (eqb t.id id) as (λ b. eqb t.id id ≡ b → list_any (λ n. n == id) (ids_of (Some t ∷ slots))
+    ≡ is_some (known id (Some t ∷ slots))) [
       | true ↦ λ e. rw e refl
       | false ↦ λ e. rw e (each_known id slots)
     ]) refl
@@ -41,8 +43,11 @@ each_once : (slots : Slots) → AreApart slots → IsDistinct ◌==◌ (ids_of s
 unfolding IsDistinct
 each_once [] h = tt
 each_once (None ∷ slots) h = each_once slots (apart_rest None slots h)
-each_once (Some t ∷ slots) h =
-    (unlike t.id slots (λ k u at same. (let r = h 0 (suc k) t u refl at same in omega (arith, r))), each_once slots (apart_rest (Some t) slots h))
+each_once (Some t ∷ slots) h = (
+  unlike t.id slots (λ k u at same. (let r = h 0 (suc k) t u refl at same in omega (arith, r))),
+  each_once slots
+      (apart_rest (Some t) slots h),
+)
 
 pub are_open : (slots : Slots) → AreApart slots → AreOpen slots (ids_of slots)
 are_open slots h = record { each = λ id. each_known id slots; once = each_once slots h }

@@ -1,12 +1,14 @@
 -- The requests that the next tick makes due, ID by ID.
-use Rattle.std.proofs.Common.{◌≡◌, ◌≢◌, ℕ, zero, suc, ◌+◌, ◌-◌, ◌<◌, ◌≤◌, Bool, true, false, not, ◌&&◌, ◌||◌, cond, eqb, ltb, List, [], ◌∷◌, ◌++◌}
-use Rattle.std.proofs.Common.{Option, Some, None, length, length-append, append_assoc, append-nil, is_some, count_by, refl, sym, ap, subst, ◌∙◌, inl, inr, arith}
+use Rattle.std.proofs.Common.{◌≡◌, ℕ, zero, suc, ◌+◌, ◌-◌, ◌<◌, ◌≤◌, Bool, true, false, cond, eqb}
+use Rattle.std.proofs.Common.{List, [], ◌∷◌, ◌++◌}
+use Rattle.std.proofs.Common.{Option, Some, None, length, length-append, append_assoc, append-nil, is_some, count_by}
+use Rattle.std.proofs.Common.{refl, sym, ap, ◌∙◌, inl, inr, arith}
 use Rattle.std.specs.Option.{option_map}
 use Rattle.std.specs.Prelude.{option_to_list}
 use Rattle.std.proofs.lemmas.Bool.{cases_lt, eqb-true}
 use Rattle.std.proofs.lemmas.List.Sums.{sum_by-cons}
 use Rattle.atp.specs.Repeating.{AreShort, is_due_by, repeat_in, repeat_of, repeats, repeats_from}
-use Rattle.atp.specs.Requesting.{IsLeast, is_due, is_waiting, known, passes, ticked}
+use Rattle.atp.specs.Requesting.{IsLeast, known, passes}
 use Rattle.atp.specs.declared.repeats.Repeat.{Repeat}
 use Rattle.atp.specs.declared.repeats.When.TheVariants as when
 use Rattle.atp.specs.declared.transaction.Transaction.{Transaction}
@@ -66,7 +68,8 @@ least_first first id slots t x lt e =
     let count : 65536 - first ≡ suc (65536 - suc id) + (id - first) = omega (arith, low, lt) in
     let there : first + (id - first) ≡ id = omega (arith, low) in
     ap (λ n. repeats_from first n slots) count
-    ∙ passed_over (id - first) first (suc (65536 - suc id)) slots (λ other le less. below first id slots x other le (omega (arith, less, there)))
+    ∙ passed_over (id - first) first (suc (65536 - suc id)) slots
+    (λ other le less. below first id slots x other le (omega (arith, less, there)))
     ∙ ap (λ n. repeats_from n (suc (65536 - suc id)) slots) there
     ∙ ap (λ l. l ++ repeats_from (suc id) (65536 - suc id) slots) (due_in (known id slots) t e x.due)
 
@@ -167,7 +170,8 @@ none_known (suc more) first = none_known more (suc first)
 pub few : (first more : ℕ) (slots : Slots) → length (repeats_from first more slots) ≤ count_by is_some slots
 few first more [] = rw (none_known more first) (omega arith)
 few first more (None ∷ slots) =
-    rw (vacant more first slots) (omega (arith, few first more slots, sum_by-cons (λ (o : Option Transaction). cond (is_some o) 1 0) None slots))
+    rw (vacant more first slots)
+    (omega (arith, few first more slots, sum_by-cons (λ (o : Option Transaction). cond (is_some o) 1 0) None slots))
 few first more (Some t ∷ slots) =
     omega (
       arith,

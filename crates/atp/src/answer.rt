@@ -1,7 +1,6 @@
 //! Answers that a responder keeps.
 
 ghost use Rattle.std.specs.Prelude.{◌≡◌, ◌<◌, ◌≤◌, IsTrue, length, nat_le, IfOk, IsOkUnless};
-ghost use Rattle.std.specs.Prelude.{vec_len};
 ghost use Rattle.std.specs.List.{list_all};
 ghost use Rattle.at_base.specs.Spelling.{bytes_of};
 ghost use Rattle.atp.specs.Answers.{AreShort, is_answer, answer_packets, bytes_of_all, response_of};

@@ -1,7 +1,7 @@
 //! A requester: it sends requests, sends them again while parts are missing, and gives up after a
 //! number of tries.
 
-ghost use Rattle.std.specs.Prelude.{◌≡◌, ◌≢◌, ◌⊎◌, ◌↔◌, ◌<◌, ◌≤◌, ◌+◌, ◌%◌, Some, None, true};
+ghost use Rattle.std.specs.Prelude.{◌≡◌, ◌≢◌, ◌⊎◌, ◌↔◌, ◌<◌, ◌≤◌, ◌+◌, ◌%◌, Some, None};
 ghost use Rattle.std.specs.Prelude.{false, ℕ, length, IfOk, IfErr, IfNone, IfSome, IsOk, IsOkUnless};
 ghost use Rattle.std.specs.Prelude.{[], List, OnErr, OnOk, nat_le};
 ghost use Rattle.std.specs.Option.{option_map};

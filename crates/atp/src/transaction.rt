@@ -1,15 +1,15 @@
 //! One open transaction of a requester.
 
 ghost use Rattle.std.specs.Prelude.{◌≡◌, ◌≤◌, ◌<◌, ◌+◌, ◌^◌, None, false, length, map};
-ghost use Rattle.std.specs.Prelude.{slice_index_or, take, drop, IfOk, IsOkUnless};
+ghost use Rattle.std.specs.Prelude.{IfOk, IsOkUnless};
 ghost use Rattle.std.specs.List.{list_any};
 ghost use Rattle.at_base.specs.Spelling.{bytes_of};
 ghost use Rattle.atp.specs.Bitmaps as bitmaps_spec;
 ghost use Rattle.atp.specs.InPlace.{packet_value};
 ghost use Rattle.atp.specs.Packets as packets_spec;
 ghost use Rattle.atp.specs.Requesting as requesting_spec;
-ghost use Rattle.atp.specs.Requesting.{IsAsk, begun, request_control, request_of, sent, ticked};
-ghost use Rattle.atp.specs.Requesting.{answers, cut, is_heard, with_end, with_part, with_status};
+ghost use Rattle.atp.specs.Requesting.{begun, request_control, request_of, sent, ticked};
+ghost use Rattle.atp.specs.Requesting.{answers, is_heard, with_end, with_part, with_status};
 ghost use Rattle.atp.specs.Requesting.{part_of, release_of};
 
 use crate::ask::{AnswerPart, Ask, Peer};

@@ -10,7 +10,8 @@ use Rattle.audit.proofs.ExamplePlaces.{keeps_others, passes}
 
 pub example_passes : Passes three_cables
 example_passes =
-    passes three_cables (record { one = refl; two = refl; three = refl; four = refl; five = refl; six = refl; eight = refl; nine = refl }) refl
+    passes three_cables
+    (record { one = refl; two = refl; three = refl; four = refl; five = refl; six = refl; eight = refl; nine = refl }) refl
 
 pub example_walk : IsWalk three_cables 30 0 (1 ∷ []) 2
 example_walk = (1, addr 20 2, refl, refl)

@@ -88,7 +88,8 @@ pub(crate) fn breaks_next(
     row: &Row,
 ) -> bool
     requires { FirstPlace (c2 image.now) None }
-    ensures { result ≡ (not (rows_spec.is_direct row.now) && rules_spec.is_no_other r (rules_spec.next_router image.now router.now row.now)) }
+    ensures { result ≡ (not (rows_spec.is_direct row.now)
+        && rules_spec.is_no_other r (rules_spec.next_router image.now router.now row.now)) }
 {
     if row.is_direct() {
         return false;

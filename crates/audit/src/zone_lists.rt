@@ -1,14 +1,14 @@
 //! Rule C8: each zone list is complete and has the zones of its cable, and each router has a list
 //! for each cable.
 
-ghost use Rattle.std.specs.Prelude.{◌≡◌, ◌<◌, ◌≤◌, ◌||◌, ℕ, not, suc, true, false, None, Some};
+ghost use Rattle.std.specs.Prelude.{◌≡◌, ◌<◌, ◌≤◌, suc, true, false, None, Some};
 ghost use Rattle.std.specs.Prelude.{IsTrue, IfSome, length, position, slice_get};
 ghost use Rattle.std.specs.List.{list_any};
 ghost use Rattle.audit.specs.Places.{index_of};
 ghost use Rattle.audit.specs.Firsts.{FirstNumber, FirstPlace};
 ghost use Rattle.audit.specs.Rules.{c1, c8};
 ghost use Rattle.audit.specs.ZoneLists as spec;
-ghost use Rattle.audit.specs.ZoneLists.{bad_list, has_double, same_zones};
+ghost use Rattle.audit.specs.ZoneLists.{bad_list};
 ghost use Rattle.audit.specs.GoodLists.{AreGood, AreGoodBelow};
 
 use crate::places::from_one;

@@ -1,6 +1,6 @@
 -- Each step keeps the invariant of a log.
 use Rattle.std.proofs.Common.{◌≡◌, ℕ, zero, suc, ◌+◌, ◌<◌, ◌≤◌, Bool, true, false, not, cond, ◌||◌, ◌&&◌, List, [], ◌∷◌, ◌++◌, Some}
-use Rattle.std.proofs.Common.{ap, append-nil, arith, filter, length, length-append, map, refl, slice_get, subst, sym, ◌∙◌}
+use Rattle.std.proofs.Common.{ap, ap₂, append-nil, arith, filter, length, length-append, map, refl, slice_get, subst, sym, ◌∙◌}
 use Rattle.std.specs.List.{AllByRecursion as Each}
 use Rattle.std.proofs.lemmas.List.{map-append}
 use Rattle.std.proofs.lemmas.List.Elements.{filter-append}
@@ -8,9 +8,11 @@ use Rattle.cable_model.proofs.Counting.{any-append, count-append, each-append, e
 use Rattle.cable_model.proofs.Pairs.{numbered-append, not_ended_yet, pairs-append, below_more}
 use Rattle.cable_model.specs.Books.{EndsBelow, Grows, IsBook, IsDue, IsQuiet, Names, frame_of, held, pair_at, said, seat_at}
 use Rattle.cable_model.specs.Logs.{bytes_at, entry_at}
+use Rattle.cable_model.specs.Order.{in_order}
 use Rattle.cable_model.specs.Outcomes.{Held, held_at}
 use Rattle.cable_model.specs.Pending.{Pair, ends, pairs, pairs_of, pending, was_ended}
 use Rattle.cable_model.specs.Transcript.{AreNumbered, Entry, Sent, Put, Reached, Dropped, is_put, one, stamps}
+use Rattle.cable_model.specs.Waits.{due_key, pair_key}
 use Rattle.cable_model.specs.declared.due.Due.{Due}
 use Rattle.cable_model.specs.declared.entry.Entry.{Entry as Line}
 use Rattle.cable_model.specs.declared.entry.Entry.TheVariants as line
@@ -113,9 +115,18 @@ extends seats old new ls bs ws book lines kept waiting names waits =
 
 -- ---- stored pairs, after entries were added
 
+-- the frame of a stored pair has the pair's stamp
+pub stamp_is : (seats : List Seat) (t : List Entry) (d : Due) → IsDue seats t d → (frame_of (slice_get t d.put)).stamp ≡ d.stamp
+stamp_is seats t d h = ap (λ o. (frame_of o).stamp) h.put ∙ h.stamp
+
+-- a stored pair stands where the pair does that it names
+pub key_is : (seats : List Seat) (t : List Entry) (d : Due) → IsDue seats t d → pair_key (pair_at seats t d) ≡ due_key d
+key_is seats t d h = ap₂ (λ (m n : ℕ). (m, n)) (stamp_is seats t d h) h.station
+
 module _ (seats : List Seat) (t es : List Entry) where
   due_one : (d : Due) → IsDue seats t d → IsDue seats (t ++ es) d
-  due_one d h = record { seat = h.seat; frame = h.frame; put = get_more t es d.put (Put h.frame) h.put; stamp = h.stamp }
+  due_one d h =
+      record { seat = h.seat; frame = h.frame; put = get_more t es d.put (Put h.frame) h.put; stamp = h.stamp; station = h.station }
 
   pub due_more : (ds : List Due) → Each (IsDue seats t) ds → Each (IsDue seats (t ++ es)) ds
   due_more ds h = each_more (IsDue seats t) (IsDue seats (t ++ es)) ds due_one h
@@ -179,7 +190,8 @@ module _ (seats : List Seat) (kept : List (List ℕ)) (t : List Entry) (n : ℕ)
   same_after e h = h ∙ (append-nil _ ∙ filter_all (λ q. true) (pending seats t) (each_all _ _ (λ q. refl)))
 
   pending_quiet : (l : Line) → IsQuiet l → pending seats (t ++ entry_at kept l ∷ []) ≡ pending seats t
-  pending_quiet (line.Sent s k) h = same_after (entry_at kept (line.Sent s k)) (pending_step seats t (entry_at kept (line.Sent s k)) n below tt)
+  pending_quiet (line.Sent s k) h =
+      same_after (entry_at kept (line.Sent s k)) (pending_step seats t (entry_at kept (line.Sent s k)) n below tt)
   pending_quiet (line.Reached c s how k) h =
       same_after (entry_at kept (line.Reached c s how k)) (pending_step seats t (entry_at kept (line.Reached c s how k)) n below tt)
   pending_quiet (line.Dropped r cause k) h =
@@ -216,8 +228,8 @@ quiet_below kept (line.Lost p) n h = absurd h
 
 pub book_after : (seats : List Seat) (old new : Log) (es : List Entry) (hs : List Held) → IsBook seats old → Extends old new es hs
     → new.puts ≡ old.puts + stamps es → AreNumbered old.puts es → Each (EndsBelow new.puts) es
-    → Each (IsDue seats (said old ++ es)) new.due.items
-    → map (pair_at seats (said old ++ es)) new.due.items ≡ pending seats (said old ++ es) → IsBook seats new
+    → Each (IsDue seats (said old ++ es)) new.due.dues
+    → map (pair_at seats (said old ++ es)) new.due.dues ≡ in_order pair_key (pending seats (said old ++ es)) → IsBook seats new
 book_after seats old new es hs book x puts numbered below due pending' =
     let t = sym x.grows.said in
     let more : old.puts ≤ new.puts = omega (arith, puts) in
@@ -234,18 +246,19 @@ book_after seats old new es hs book x puts numbered below due pending' =
           subst (λ l. Each (EndsBelow new.puts) l) t
           (each-append (EndsBelow new.puts) (said old) es
           (each_more (EndsBelow old.puts) (EndsBelow new.puts) (said old) (below_more old.puts new.puts more) book.below) below);
-      due = subst (λ l. Each (IsDue seats l) new.due.items) t due;
-      pending = subst (λ l. map (pair_at seats l) new.due.items ≡ pending seats l) t pending';
+      due = subst (λ l. Each (IsDue seats l) new.due.dues) t due;
+      pending = subst (λ l. map (pair_at seats l) new.due.dues ≡ in_order pair_key (pending seats l)) t pending';
     }
 
 -- only bytes and datagrams that wait were added
 pub book_same : (seats : List Seat) (old new : Log) (hs : List Held) → IsBook seats old → Extends old new [] hs → new.puts ≡ old.puts
-    → new.due.items ≡ old.due.items → IsBook seats new
+    → new.due.dues ≡ old.due.dues → IsBook seats new
 book_same seats old new hs book x puts due =
     let t : said old ≡ said old ++ [] = sym (append-nil (said old)) in
     book_after seats old new [] hs book x (omega (arith, puts)) tt tt
-    (subst (λ l. Each (IsDue seats l) new.due.items) t (subst (λ ds. Each (IsDue seats (said old)) ds) (sym due) book.due))
-    (subst (λ l. map (pair_at seats l) new.due.items ≡ pending seats l) t (ap (map (pair_at seats (said old))) due ∙ book.pending))
+    (subst (λ l. Each (IsDue seats l) new.due.dues) t (subst (λ ds. Each (IsDue seats (said old)) ds) (sym due) book.due))
+    (subst (λ l. map (pair_at seats l) new.due.dues ≡ in_order pair_key (pending seats l)) t
+    (ap (map (pair_at seats (said old))) due ∙ book.pending))
 
 -- a quiet entry was added
 pub book_noted : (seats : List Seat) (old new : Log) (l : Line) → IsBook seats old → new.lines.items ≡ old.lines.items ++ l ∷ []
@@ -257,10 +270,10 @@ book_noted seats old new l book lines kept waiting due puts names quiet =
     let x = extends seats old new (l ∷ []) [] [] book lines (k ∙ sym (append-nil _)) (ap (λ w. w.items) waiting ∙ sym (append-nil _))
     (named, tt) tt in
     let none = ap one (quiet_put new.kept.items l quiet) in
-    let ds : new.due.items ≡ old.due.items = ap (λ d. d.items) due in
+    let ds : new.due.dues ≡ old.due.dues = ap (λ d. d.dues) due in
     let es = entry_at new.kept.items l ∷ [] in
     book_after seats old new es [] book x (omega (arith, puts, none)) (quiet_numbered new.kept.items l old.puts quiet)
     (quiet_below new.kept.items l new.puts quiet, tt)
-    (subst (λ ds. Each (IsDue seats (said old ++ es)) ds) (sym ds) (due_more seats (said old) es old.due.items book.due))
-    (ap (map (pair_at seats (said old ++ es))) ds ∙ (pairs_same seats (said old) es old.due.items book.due
-    ∙ (book.pending ∙ sym (pending_quiet seats new.kept.items (said old) old.puts book.below l quiet))))
+    (subst (λ ds. Each (IsDue seats (said old ++ es)) ds) (sym ds) (due_more seats (said old) es old.due.dues book.due))
+    (ap (map (pair_at seats (said old ++ es))) ds ∙ (pairs_same seats (said old) es old.due.dues book.due
+    ∙ (book.pending ∙ ap (in_order pair_key) (sym (pending_quiet seats new.kept.items (said old) old.puts book.below l quiet)))))

@@ -1,12 +1,15 @@
 -- The log after a frame was taken or lost.
 use Rattle.std.proofs.Common.{◌≡◌, ◌≤◌, Bool, true, false, not, cond, List, [], ◌∷◌, ◌++◌, length, refl, sym, ap}
-use Rattle.std.proofs.Common.{◌∙◌, subst, arith, map, filter, append-nil, slice_get}
+use Rattle.std.proofs.Common.{◌∙◌, subst, arith, map, filter, append-nil}
 use Rattle.std.specs.List.{AllByRecursion as Each}
 use Rattle.cable_model.proofs.Books.{book_after, due_more, extends, pairs_same, pending_step}
-use Rattle.cable_model.specs.Books.{EndsBelow, IsBook, IsDue, Names, frame_of, pair_at, said}
+use Rattle.cable_model.proofs.Order.{in_order-filter}
+use Rattle.cable_model.specs.Books.{EndsBelow, IsBook, IsDue, Names, pair_at, said}
 use Rattle.cable_model.specs.Logs.{entry_at}
+use Rattle.cable_model.specs.Order.{in_order}
 use Rattle.cable_model.specs.Pending.{ends, pairs_of, pending}
 use Rattle.cable_model.specs.Transcript.{AreNumbered, Entry, is_put, one}
+use Rattle.cable_model.specs.Waits.{pair_key}
 use Rattle.cable_model.specs.declared.due.Due.{Due}
 use Rattle.cable_model.specs.declared.entry.Entry.{Entry as Line}
 use Rattle.cable_model.specs.declared.log.Log.{Log}
@@ -38,14 +41,10 @@ module _ (seats : List Seat) (t : List Entry) (test : Due → Bool) (e : Entry)
       by true h = h
       by false h = ap (λ l. pair_at seats t d ∷ l) h
 
--- the frame of a stored pair has the pair's stamp
-pub stamp_is : (seats : List Seat) (t : List Entry) (d : Due) → IsDue seats t d → (frame_of (slice_get t d.put)).stamp ≡ d.stamp
-stamp_is seats t d h = ap (λ o. (frame_of o).stamp) h.put ∙ h.stamp
-
 -- an entry that ends pairs and puts no frame keeps the invariant
 pub book_ended : (seats : List Seat) (old new : Log) (l : Line) (test : Due → Bool) → IsBook seats old
     → new.lines.items ≡ old.lines.items ++ l ∷ [] → new.kept ≡ old.kept → new.waiting ≡ old.waiting → new.puts ≡ old.puts
-    → new.due.items ≡ filter (λ d. not (test d)) old.due.items → Names (length new.kept.items) l
+    → new.due.dues ≡ filter (λ d. not (test d)) old.due.dues → Names (length new.kept.items) l
     → pairs_of seats (entry_at new.kept.items l) ≡ [] → is_put (entry_at new.kept.items l) ≡ false
     → AreNumbered old.puts (entry_at new.kept.items l ∷ []) → EndsBelow new.puts (entry_at new.kept.items l)
     → ((d : Due) → IsDue seats (said old) d → test d ≡ ends (pair_at seats (said old) d) (entry_at new.kept.items l)) → IsBook seats new
@@ -55,16 +54,19 @@ book_ended seats old new l test book lines kept waiting puts due names none quie
     (names, tt) tt in
     let e = entry_at new.kept.items l in
     let es = e ∷ [] in
-    let few : Each (IsDue seats (said old)) new.due.items =
-    subst (λ ds. Each (IsDue seats (said old)) ds) (sym due) (each_filter (IsDue seats (said old)) (λ d. not (test d)) old.due.items book.due) in
+    let few : Each (IsDue seats (said old)) new.due.dues =
+    subst (λ ds. Each (IsDue seats (said old)) ds) (sym due)
+    (each_filter (IsDue seats (said old)) (λ d. not (test d)) old.due.dues book.due) in
     let gone =
     pending_step seats (said old) e old.puts book.below
     (subst (λ l. Each (λ q. (old.puts ≤ q.frame.stamp) × (ends q e ≡ false)) l) (sym none) tt) in
     let plain = ap one quiet in
     book_after seats old new es [] book x (omega (arith, puts, plain)) numbered (below, tt)
-    (due_more seats (said old) es new.due.items few)
-    (pairs_same seats (said old) es new.due.items few
+    (due_more seats (said old) es new.due.dues few)
+    (pairs_same seats (said old) es new.due.dues few
     ∙ (ap (map (pair_at seats (said old))) due
-    ∙ (left seats (said old) test e agree old.due.items book.due
+    ∙ (left seats (said old) test e agree old.due.dues book.due
     ∙ (ap (filter (λ q. not (ends q e))) book.pending
-    ∙ sym (gone ∙ (ap (λ l. filter (λ q. not (ends q e)) (pending seats (said old)) ++ l) none ∙ append-nil _))))))
+    ∙ (in_order-filter pair_key (λ q. not (ends q e)) (pending seats (said old))
+    ∙ ap (in_order pair_key)
+    (sym (gone ∙ (ap (λ l. filter (λ q. not (ends q e)) (pending seats (said old)) ++ l) none ∙ append-nil _))))))))

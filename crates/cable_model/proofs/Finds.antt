@@ -1,16 +1,18 @@
 -- Finding pairs by stamp and station.
 use Rattle.std.proofs.Common.{◌≡◌, ℕ, zero, suc, ◌+◌, ◌<◌, Bool, true, false, ◌||◌, ◌&&◌, ◌==◌, List, [], ◌∷◌, Option, Some, None, refl}
-use Rattle.std.proofs.Common.{sym, ap, ◌∙◌, subst, arith, map, Contains, find, eqb-true, if◌then◌else◌, IfSome, OnSome}
+use Rattle.std.proofs.Common.{sym, ap, ◌∙◌, subst, arith, map, Contains, find, eqb-true, if◌then◌else◌, IfSome, OnSome, slice_get}
 use Rattle.std.specs.List.{list_any, AllByRecursion as Each}
 use Rattle.std.specs.Prelude.{is_some}
 use Rattle.std.proofs.lemmas.Bool.{and_parts}
 use Rattle.std.proofs.lemmas.Option.{get_or_from_slice_get, slice_get_within}
 use Rattle.cable_model.proofs.Counting.{At, each_at, map_at}
-use Rattle.cable_model.proofs.Ended.{stamp_is}
-use Rattle.cable_model.specs.Books.{IsBook, IsDue, is_of, pair_at, said, seat_at}
+use Rattle.cable_model.proofs.Books.{stamp_is}
+use Rattle.cable_model.proofs.Order.{Has, any_in_order, in_order_has}
+use Rattle.cable_model.specs.Books.{IsBook, IsDue, frame_of, pair_at, said}
 use Rattle.cable_model.specs.Outcomes.{has_cable, has_stamp, is_named, is_seated}
-use Rattle.cable_model.specs.Pending.{pending}
+use Rattle.cable_model.specs.Pending.{Pair, pending}
 use Rattle.cable_model.specs.Transcript.{AreNumbered, Entry, Frame, Sent, Put, Took, Reached, Dropped, Lost, is_put, one, stamps}
+use Rattle.cable_model.specs.Waits.{due_key, is_at, pair_key}
 use Rattle.cable_model.specs.declared.due.Due.{Due}
 use Rattle.cable_model.specs.declared.log.Log.{Log}
 use Rattle.cable_model.specs.declared.seat.Seat.{Seat}
@@ -82,67 +84,68 @@ module _ (seats : List Seat) (log : Log) (book : IsBook seats log) where
       let less = numbered_at 0 d.put (said log) h.frame book.numbered h.put in
       omega (arith, less, h.stamp, book.puts)
 
-  -- a frame with this stamp is pending, as a test of the stored pairs
-  pub stamped : (stamp : ℕ) → list_any (λ d. stamp == d.stamp) log.due.items ≡ list_any (has_stamp stamp) (pending seats (said log))
-  stamped stamp =
-      any_map (IsDue seats (said log)) (pair_at seats (said log)) (λ d. stamp == d.stamp) (has_stamp stamp) log.due.items
-      (λ d h. ap (λ n. stamp == n) (sym (stamp_is seats (said log) d h))) book.due ∙ ap (list_any (has_stamp stamp)) book.pending
+  -- a stored pair that passes a test of stored pairs, as a test of the pending ones
+  agrees : (t : Due → Bool) (u : Pair → Bool) → ((d : Due) → IsDue seats (said log) d → t d ≡ u (pair_at seats (said log) d))
+      → list_any t log.due.dues ≡ list_any u (pending seats (said log))
+  agrees t u same =
+      any_map (IsDue seats (said log)) (pair_at seats (said log)) t u log.due.dues same book.due
+      ∙ (ap (list_any u) book.pending ∙ any_in_order pair_key u (pending seats (said log)))
 
-  pub stamped_below : (stamp : ℕ) → list_any (λ d. stamp == d.stamp) log.due.items ≡ true → stamp < log.puts
-  stamped_below stamp e =
-      let a = any_at (λ d. stamp == d.stamp) log.due.items e in
-      let less = below a.1 (each_at (IsDue seats (said log)) log.due.items a.0 a.1 a.2 book.due) in
-      let same = eqb-true stamp a.1.stamp a.3 in
-      omega (arith, less, same)
+  stored_at : (d : Due) → Has due_key log.due.dues d → Contains (pending seats (said log)) (pair_at seats (said log) d)
+  stored_at d (k, at) =
+      let h = in_order_has pair_key (pending seats (said log)) (pair_at seats (said log) d)
+      (k, subst (λ l. At l k (pair_at seats (said log) d)) book.pending (map_at (pair_at seats (said log)) log.due.dues k d at)) in
+      contains_at (pending seats (said log)) h.0 (pair_at seats (said log) d) h.1
 
-  module _ (stamp station : ℕ) where
-    found_any : is_some (find (is_of seats stamp station) log.due.items) ≡ list_any (is_named stamp station) (pending seats (said log))
-    found_any =
-        any_find (is_of seats stamp station) log.due.items
-        ∙ (any_map (IsDue seats (said log)) (pair_at seats (said log)) (is_of seats stamp station) (is_named stamp station) log.due.items
-        (λ d h. ap (λ n. stamp == n && station == (seat_at seats d.seat).station) (sym (stamp_is seats (said log) d h))) book.due
-        ∙ ap (list_any (is_named stamp station)) book.pending)
+  -- The facts about a search for a pair that passes a test.
+  pub record IsFound (stamp : ℕ) (t : Due → Bool) (u : Pair → Bool) (r : Option Due) : Type 0 where
+    pub value : is_some r ≡ list_any u (pending seats (said log))
+    pub due : IfSome r (λ d. IsDue seats (said log) d)
+    pub pending : IfSome r (λ d. Contains (pending seats (said log)) (pair_at seats (said log) d))
+    pub earlier : OnSome r (stamp < log.puts)
 
-    found_due : (d : Due) → find (is_of seats stamp station) log.due.items ≡ Some d → IsDue seats (said log) d
-    found_due d e =
-        let a = find_at (is_of seats stamp station) log.due.items d e in
-        each_at (IsDue seats (said log)) log.due.items a.0 d a.1 book.due
+  module _ (stamp : ℕ) (t : Due → Bool) (u : Pair → Bool)
+      (same : (d : Due) → IsDue seats (said log) d → t d ≡ u (pair_at seats (said log) d))
+      (of_stamp : (d : Due) → t d ≡ true → stamp ≡ d.stamp) where
+    pub is_found : (r : Option Due) → r ≡ find t log.due.dues → IsFound stamp t u r
+    is_found None e =
+        record { value = ap is_some e ∙ (any_find t log.due.dues ∙ agrees t u same); due = tt; pending = tt; earlier = tt }
+    is_found (Some d) e =
+        let a = find_at t log.due.dues d (sym e) in
+        let is = each_at (IsDue seats (said log)) log.due.dues a.0 d a.1 book.due in
+        let less = below d is in
+        let at = of_stamp d a.2 in
+        record {
+          value = ap is_some e ∙ (any_find t log.due.dues ∙ agrees t u same);
+          due = is;
+          pending = stored_at d (a.0, a.1);
+          earlier = omega (arith, less, at);
+        }
 
-    found_pending : (d : Due) → find (is_of seats stamp station) log.due.items ≡ Some d
-        → Contains (pending seats (said log)) (pair_at seats (said log) d)
-    found_pending d e =
-        let a = find_at (is_of seats stamp station) log.due.items d e in
-        contains_at (pending seats (said log)) a.0 (pair_at seats (said log) d)
-        (subst (λ l. At l a.0 (pair_at seats (said log) d)) book.pending (map_at (pair_at seats (said log)) log.due.items a.0 d a.1))
+  -- the tests by stamp and station, and by stamp alone
+  pub at_named : (stamp station : ℕ) (d : Due) → IsDue seats (said log) d
+      → is_at stamp station d ≡ is_named stamp station (pair_at seats (said log) d)
+  at_named stamp station d h =
+      ap (λ n. stamp == n && station == d.station) (sym (stamp_is seats (said log) d h))
+      ∙ ap (λ n. stamp == (frame_of (slice_get (said log) d.put)).stamp && station == n) (sym h.station)
 
-    found_of : (d : Due) → find (is_of seats stamp station) log.due.items ≡ Some d → is_of seats stamp station d ≡ true
-    found_of d e = (find_at (is_of seats stamp station) log.due.items d e).2
+  pub stamp_named : (stamp : ℕ) (d : Due) → IsDue seats (said log) d
+      → (stamp == d.stamp) ≡ has_stamp stamp (pair_at seats (said log) d)
+  stamp_named stamp d h = ap (λ n. stamp == n) (sym (stamp_is seats (said log) d h))
 
-    found_below : (d : Due) → find (is_of seats stamp station) log.due.items ≡ Some d → stamp < log.puts
-    found_below d e =
-        let less = below d (found_due d e) in
-        let same = eqb-true stamp d.stamp (and_parts (stamp == d.stamp) (station == (seat_at seats d.seat).station) (found_of d e)).0 in
-        omega (arith, less, same)
+-- a stored pair that passes has the stamp
+pub of_stamp : (stamp station : ℕ) (d : Due) → is_at stamp station d ≡ true → stamp ≡ d.stamp
+of_stamp stamp station d e = eqb-true stamp d.stamp (and_parts (stamp == d.stamp) (station == d.station) e).0
 
--- The facts about a search for a pair.
-pub record IsFound (seats : List Seat) (log : Log) (stamp station : ℕ) (r : Option Due) : Type 0 where
-  pub value : is_some r ≡ list_any (is_named stamp station) (pending seats (said log))
-  pub due : IfSome r (λ d. IsDue seats (said log) d)
-  pub pending : IfSome r (λ d. Contains (pending seats (said log)) (pair_at seats (said log) d))
-  pub of_it : IfSome r (λ d. is_of seats stamp station d ≡ true)
-  pub earlier : OnSome r (stamp < log.puts)
+-- a pair that is found by its stamp has it
+pub found_is : (stamp : ℕ) (r : Option Due) → IfSome r (λ d. (stamp == d.stamp) ≡ true) → IfSome r (λ d. stamp ≡ d.stamp)
+found_is stamp None e = tt
+found_is stamp (Some d) e = eqb-true stamp d.stamp e
 
-pub is_found : (seats : List Seat) (log : Log) (stamp station : ℕ) (r : Option Due) → IsBook seats log
-    → r ≡ find (is_of seats stamp station) log.due.items → IsFound seats log stamp station r
-is_found seats log stamp station None book e =
-    record { value = ap is_some e ∙ found_any seats log book stamp station; due = tt; pending = tt; of_it = tt; earlier = tt }
-is_found seats log stamp station (Some d) book e = record {
-  value = ap is_some e ∙ found_any seats log book stamp station;
-  due = found_due seats log book stamp station d (sym e);
-  pending = found_pending seats log book stamp station d (sym e);
-  of_it = found_of seats log book stamp station d (sym e);
-  earlier = found_below seats log book stamp station d (sym e);
-}
+-- what is found passes the test
+pub found_passes : (t : Due → Bool) (ds : List Due) (r : Option Due) → r ≡ find t ds → IfSome r (λ d. t d ≡ true)
+found_passes t ds None e = tt
+found_passes t ds (Some d) e = (find_at t ds d (sym e)).2
 
 -- ---- seats
 

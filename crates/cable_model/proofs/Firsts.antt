@@ -1,117 +1,78 @@
 -- The first of the pending pairs.
-use Rattle.std.proofs.Common.{◌≡◌, ℕ, zero, suc, ◌<◌, ◌≤◌, ◌⊎◌, inl, inr, Bool, true, false, cond, ◌||◌, ◌&&◌, ◌==◌, List, [], ◌∷◌, refl}
-use Rattle.std.proofs.Common.{sym, ap, ◌∙◌, subst, arith, map, Contains, nat_lt, eqb-true}
-use Rattle.std.proofs.lemmas.Bool.{eqb-false, ltb-false, ltb-true}
-use Rattle.std.specs.List.{AllByRecursion as Each}
+use Rattle.std.proofs.Common.{◌≡◌, ℕ, zero, suc, ◌<◌, ◌≤◌, ◌⊎◌, false, List, [], ◌∷◌, Option, Some, None, refl, sym, ap, ◌∙◌}
+use Rattle.std.proofs.Common.{subst, arith, map, Contains, slice_get, length, IfSome}
+use Rattle.cable_model.proofs.Books.{key_is, stamp_is}
 use Rattle.cable_model.proofs.Counting.{At, contained_at, each_at, map_at}
-use Rattle.cable_model.proofs.Ended.{stamp_is}
 use Rattle.cable_model.proofs.Finds.{contains_at}
-use Rattle.cable_model.specs.Books.{IsBook, IsDue, is_before, least, pair_at, said, seat_at}
+use Rattle.cable_model.proofs.Order.{Has, first_least, has_in_order, in_order_has, length_all_placed}
+use Rattle.cable_model.specs.Books.{IsBook, IsDue, pair_at, said}
+use Rattle.cable_model.specs.Order.{Rises, in_order, is_before}
 use Rattle.cable_model.specs.Outcomes.{IsLeast}
 use Rattle.cable_model.specs.Pending.{Pair, pending}
+use Rattle.cable_model.specs.Waits.{due_key, pair_key}
 use Rattle.cable_model.specs.declared.due.Due.{Due}
 use Rattle.cable_model.specs.declared.log.Log.{Log}
 use Rattle.cable_model.specs.declared.seat.Seat.{Seat}
 
--- the pair of numbers doesn't come after x
-abbrev UpTo : ℕ × ℕ → ℕ → ℕ → Type 0
-UpTo r stamp station = (r.0 < stamp) ⊎ ((r.0 ≡ stamp) × (r.1 ≤ station))
+-- an element of a mapped list is that of an element
+at_map : {X Y : Type 0} (f : X → Y) (xs : List X) (k : ℕ) (y : Y) → At (map f xs) k y → (x : X) × At xs k x × (f x ≡ y)
+at_map f [] k y e = cc
+at_map f (x ∷ xs) zero y e = let s : f x ≡ y = cc in (x, refl, s)
+at_map f (x ∷ xs) (suc k) y e = at_map f xs k y e
 
-up_to_trans : (r : ℕ × ℕ) (a b c d : ℕ) → UpTo r a b → UpTo (a, b) c d → UpTo r c d
-up_to_trans r a b c d (inl x) (inl y) = inl (omega (arith, x, y))
-up_to_trans r a b c d (inl x) (inr y) = inl (omega (arith, x, y.0))
-up_to_trans r a b c d (inr x) (inl y) = inl (omega (arith, x.0, y))
-up_to_trans r a b c d (inr x) (inr y) = inr (x.0 ∙ y.0, omega (arith, x.1, y.1))
+-- what doesn't come before
+up_to : (a b : ℕ × ℕ) → is_before b a ≡ false → (a.0 < b.0) ⊎ ((a.0 ≡ b.0) × (a.1 ≤ b.1))
+up_to a b h = grind arith
 
-before_is : (a b c d : ℕ) → is_before a b c d ≡ true → UpTo (a, b) c d
-before_is a b c d e = by (nat_lt a c) refl (a == c) refl (nat_lt b d) refl e
-  where
-    by : (x : Bool) → nat_lt a c ≡ x → (y : Bool) → (a == c) ≡ y → (z : Bool) → nat_lt b d ≡ z → (x || (y && z)) ≡ true → UpTo (a, b) c d
-    by true p y q z r e = let less : a < c = ltb-true a c p in inl less
-    by false p true q true r e = let less : b < d = ltb-true b d r in inr (eqb-true a c q, omega (arith, less))
-    by false p true q false r e = cc
-    by false p false q z r e = cc
+module _ (seats : List Seat) (log : Log) (book : IsBook seats log) where
+  -- a pending pair is stored
+  stored : (p : Pair) → Contains (pending seats (said log)) p
+      → (d : Due) × Has due_key log.due.dues d × (pair_at seats (said log) d ≡ p)
+  stored p there =
+      let at = contained_at (pending seats (said log)) p there in
+      let h = has_in_order pair_key (pending seats (said log)) p (at.0, at.1) in
+      let d = at_map (pair_at seats (said log)) log.due.dues h.0 p (subst (λ l. At l h.0 p) (sym book.pending) h.1) in
+      (d.0, (h.0, d.1), d.2)
 
-after_is : (a b c d : ℕ) → is_before a b c d ≡ false → UpTo (c, d) a b
-after_is a b c d e = by (nat_lt a c) refl (a == c) refl (nat_lt b d) refl e
-  where
-    by : (x : Bool) → nat_lt a c ≡ x → (y : Bool) → (a == c) ≡ y → (z : Bool) → nat_lt b d ≡ z → (x || (y && z)) ≡ false → UpTo (c, d) a b
-    by true p y q z r e = cc
-    by false p true q true r e = cc
-    by false p true q false r e =
-        let least : d ≤ b = ltb-false b d r in
-        inr (sym (eqb-true a c q), least)
-    by false p false q z r e =
-        let least : c ≤ a = ltb-false a c p in
-        let other = eqb-false a c q in
-        inl (omega (arith, least, other))
+  pub first_is : (d : Due) → Rises due_key log.due.dues → slice_get log.due.dues 0 ≡ Some d
+      → IsLeast (pending seats (said log)) d.stamp d.station
+  first_is d rises first =
+      let is : IsDue seats (said log) d = each_at (IsDue seats (said log)) log.due.dues 0 d first book.due in
+      let p = pair_at seats (said log) d in
+      let h = in_order_has pair_key (pending seats (said log)) p
+      (0, subst (λ l. At l 0 p) book.pending (map_at (pair_at seats (said log)) log.due.dues 0 d first)) in
+      record {
+        there = (p, contains_at (pending seats (said log)) h.0 p h.1, stamp_is seats (said log) d is, is.station);
+        first = λ q there.
+            let s = stored q there in
+            let last : IsDue seats (said log) s.0 =
+            each_at (IsDue seats (said log)) log.due.dues s.1.0 s.0 s.1.1 book.due in
+            let same : due_key s.0 ≡ pair_key q = sym (key_is seats (said log) s.0 last) ∙ ap pair_key s.2 in
+            up_to (due_key d) (pair_key q)
+            (subst (λ k. is_before k (due_key d) ≡ false) same (first_least due_key log.due.dues d s.0 rises first s.1));
+      }
 
-module _ (seats : List Seat) where
-  abbrev of : Due → ℕ
-  of d = (seat_at seats d.seat).station
-
-  -- The facts about the least of all: it is the one that was given, or one of the pairs, and none comes before it.
-  record IsFirst (a b : ℕ) (ds : List Due) (r : ℕ × ℕ) : Type 0 where
-    there : (r ≡ (a, b)) ⊎ ((k : ℕ) × (d : Due) × At ds k d × (r ≡ (d.stamp, of d)))
-    given : UpTo r a b
-    all : Each (λ d. UpTo r d.stamp (of d)) ds
-
-  least_is : (a b : ℕ) (ds : List Due) → IsFirst a b ds (least seats a b ds)
-  least_is a b [] = record { there = inl refl; given = inr (refl, omega arith); all = tt }
-  least_is a b (d ∷ ds) = by (is_before d.stamp (of d) a b) refl (least_is d.stamp (of d) ds) (least_is a b ds)
+  pub none_pending : slice_get log.due.dues 0 ≡ None → pending seats (said log) ≡ []
+  none_pending none =
+      let same : length log.due.dues ≡ length (in_order pair_key (pending seats (said log))) =
+      sym (length_mapped log.due.dues) ∙ ap length book.pending in
+      let all = length_all_placed pair_key [] (pending seats (said log)) in
+      let zero = is_empty log.due.dues none in
+      no_elements (pending seats (said log)) (omega (arith, same, all, zero))
     where
-      later : (r : ℕ × ℕ) (x y : ℕ) → (r ≡ (x, y)) ⊎ ((k : ℕ) × (e : Due) × At ds k e × (r ≡ (e.stamp, of e)))
-          → ((r ≡ (x, y)) → (r ≡ (a, b)) ⊎ ((k : ℕ) × (e : Due) × At (d ∷ ds) k e × (r ≡ (e.stamp, of e))))
-          → (r ≡ (a, b)) ⊎ ((k : ℕ) × (e : Due) × At (d ∷ ds) k e × (r ≡ (e.stamp, of e)))
-      later r x y (inl e) f = f e
-      later r x y (inr h) f = inr (suc h.0, h.1, h.2, h.3)
+      length_mapped : (ds : List Due) → length (map (pair_at seats (said log)) ds) ≡ length ds
+      length_mapped [] = refl
+      length_mapped (d ∷ ds) = ap suc (length_mapped ds)
 
-      by : (c : Bool) → is_before d.stamp (of d) a b ≡ c → IsFirst d.stamp (of d) ds (least seats d.stamp (of d) ds)
-          → IsFirst a b ds (least seats a b ds)
-          → IsFirst a b (d ∷ ds) (cond c (least seats d.stamp (of d) ds) (least seats a b ds))
-      by true e x y = record {
-        there = later (least seats d.stamp (of d) ds) d.stamp (of d) x.there (λ e. inr (zero, d, refl, e));
-        given = up_to_trans (least seats d.stamp (of d) ds) d.stamp (of d) a b x.given (before_is d.stamp (of d) a b e);
-        all = (x.given, x.all);
-      }
-      by false e x y = record {
-        there = later (least seats a b ds) a b y.there (λ e. inl e);
-        given = y.given;
-        all = (up_to_trans (least seats a b ds) a b d.stamp (of d) y.given (after_is d.stamp (of d) a b e), y.all);
-      }
+      is_empty : (ds : List Due) → slice_get ds 0 ≡ None → length ds ≡ 0
+      is_empty [] e = refl
+      is_empty (d ∷ ds) e = cc
 
-  module _ (log : Log) (book : IsBook seats log) where
-    up_to_pairs : (r : ℕ × ℕ) (ds : List Due) → Each (IsDue seats (said log)) ds → Each (λ d. UpTo r d.stamp (of d)) ds
-        → Each (λ q. UpTo r q.frame.stamp q.seat.station) (map (pair_at seats (said log)) ds)
-    up_to_pairs r [] h g = tt
-    up_to_pairs r (d ∷ ds) h g =
-        (subst (λ n. UpTo r n (of d)) (sym (stamp_is seats (said log) d h.0)) g.0, up_to_pairs r ds h.1 g.1)
+      no_elements : {X : Type 0} (xs : List X) → length xs ≡ 0 → xs ≡ []
+      no_elements [] e = refl
+      no_elements (x ∷ xs) e = absurd (omega (arith, e))
 
-    pub least_pair : (d : Due) → At log.due.items 0 d
-        → IsLeast (pending seats (said log)) (least seats d.stamp (of d) log.due.items).0 (least seats d.stamp (of d) log.due.items).1
-    least_pair d e =
-        let r = least seats d.stamp (of d) log.due.items in
-        let x = least_is d.stamp (of d) log.due.items in
-        let all = subst (λ l. Each (λ q. UpTo r q.frame.stamp q.seat.station) l) book.pending (up_to_pairs r log.due.items book.due x.all) in
-        record {
-          there = found r x.there;
-          first = λ p c.
-              let a = contained_at (pending seats (said log)) p c in
-              each_at (λ q. UpTo r q.frame.stamp q.seat.station) (pending seats (said log)) a.0 p a.1 all;
-        }
-      where
-        at_pair : (r : ℕ × ℕ) (k : ℕ) (f : Due) → At log.due.items k f → r ≡ (f.stamp, of f)
-            → (p : Pair) × Contains (pending seats (said log)) p × (p.frame.stamp ≡ r.0) × (p.seat.station ≡ r.1)
-        at_pair r k f h q =
-            let due = each_at (IsDue seats (said log)) log.due.items k f h book.due in (
-              pair_at seats (said log) f,
-              contains_at (pending seats (said log)) k (pair_at seats (said log) f)
-                  (subst (λ l. At l k (pair_at seats (said log) f)) book.pending (map_at (pair_at seats (said log)) log.due.items k f h)),
-              stamp_is seats (said log) f due ∙ sym (ap (λ (v : ℕ × ℕ). v.0) q),
-              sym (ap (λ (v : ℕ × ℕ). v.1) q),
-            )
-
-        found : (r : ℕ × ℕ) → (r ≡ (d.stamp, of d)) ⊎ ((k : ℕ) × (f : Due) × At log.due.items k f × (r ≡ (f.stamp, of f)))
-            → (p : Pair) × Contains (pending seats (said log)) p × (p.frame.stamp ≡ r.0) × (p.seat.station ≡ r.1)
-        found r (inl q) = at_pair r 0 d e q
-        found r (inr h) = at_pair r h.0 h.1 h.2 h.3
+  pub first_some : (r : Option Due) → Rises due_key log.due.dues → r ≡ slice_get log.due.dues 0
+      → IfSome r (λ d. IsLeast (pending seats (said log)) d.stamp d.station)
+  first_some None rises e = tt
+  first_some (Some d) rises e = first_is d rises (sym e)

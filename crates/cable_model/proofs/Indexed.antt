@@ -1,5 +1,5 @@
 -- Looking only at the seats with a key gives the same as looking at all seats.
-use Rattle.std.proofs.Common.{◌≡◌, ℕ, suc, ◌+◌, ◌≤◌, Bool, true, false, not, cond, ◌&&◌, ◌||◌, List, [], ◌∷◌, ◌++◌, Option, Some, None}
+use Rattle.std.proofs.Common.{◌≡◌, ℕ, suc, ◌+◌, ◌≤◌, Bool, true, false, cond, ◌&&◌, ◌||◌, List, [], ◌∷◌, ◌++◌, Option, Some, None}
 use Rattle.std.proofs.Common.{length, refl, sym, ap, ◌∙◌, subst, arith, slice_get, find, nat_lt}
 use Rattle.std.specs.List.{list_any, position, position_from, position_or_len}
 use Rattle.std.specs.Prelude.{option_and_then}
@@ -44,7 +44,7 @@ module _ (p q : Seat → Bool) (seats : List Seat) where
   dues_there stamp put k (s ∷ ss) rest = by (p s) (q s) refl (dues_there stamp put (k + 1) ss (rest_next seats ss s k rest))
     where
       one : List Due
-      one = record { stamp = stamp; put = put; seat = k } ∷ []
+      one = record { stamp = stamp; station = s.station; put = put; seat = k } ∷ []
 
       here : due_at q (slice_get seats k) stamp put k ≡ cond (q s) one []
       here = ap (λ o. due_at q o stamp put k) (rest_first seats ss s k rest)
@@ -54,7 +54,7 @@ module _ (p q : Seat → Bool) (seats : List Seat) where
 
       by : (b c : Bool) → q s ≡ c → dues_at q seats stamp put (indices p (k + 1) ss) ≡ more
           → dues_at q seats stamp put (cond b (k ∷ indices p (k + 1) ss) (indices p (k + 1) ss))
-          ≡ cond (b && q s) (record { stamp = stamp; put = put; seat = k } ∷ more) more
+          ≡ cond (b && q s) (record { stamp = stamp; station = s.station; put = put; seat = k } ∷ more) more
       by true true e h =
           ap (λ l. l ++ dues_at q seats stamp put (indices p (k + 1) ss)) (here ∙ ap (λ c. cond c one []) e)
           ∙ (ap (λ l. one ++ l) h ∙ sym (ap (λ c. cond c (one ++ more) more) e))

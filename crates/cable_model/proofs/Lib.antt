@@ -8,6 +8,8 @@ pub mod Legs
 pub mod Outs
 pub mod Pairs
 pub mod PutOn
-pub mod Rising
+pub mod Looking
 pub mod Steps
 pub mod Takes
+pub mod Order
+pub mod Stored

@@ -3,10 +3,13 @@ use Rattle.std.proofs.Common.{List, [], ap, append-nil, append_assoc, arith, len
 use Rattle.std.specs.List.{AllByRecursion as Each}
 use Rattle.cable_model.specs.Books.{EndsBelow, Grows, IsBook, IsDue, IsKept, IsSame, Names, held, pair_at, said}
 use Rattle.cable_model.specs.Logs.{Adds, Cabling, entry_at}
+use Rattle.cable_model.specs.Order.{in_order}
 use Rattle.cable_model.specs.Outcomes.{Held, held_at}
 use Rattle.cable_model.specs.Pending.{pending}
 use Rattle.cable_model.specs.Transcript.{AreNumbered, Entry, stamps}
+use Rattle.cable_model.specs.Waits.{pair_key}
 use Rattle.cable_model.specs.declared.log.Log.{Log}
+use Rattle.cable_model.specs.declared.room.Rooms.{Rooms}
 use Rattle.cable_model.specs.declared.seat.Seat.{Seat}
 
 -- ---- making room
@@ -26,10 +29,10 @@ same_book seats old new same book =
       numbered = subst (AreNumbered 0) (sym t) book.numbered;
       puts = same.puts ∙ (book.puts ∙ ap stamps (sym t));
       below = subst (λ n. Each (EndsBelow n) (said new)) (sym same.puts) (subst (λ l. Each (EndsBelow old.puts) l) (sym t) book.below);
-      due = subst (λ l. Each (IsDue seats l) new.due.items) (sym t) (subst (λ l. Each (IsDue seats (said old)) l) (sym same.due) book.due);
+      due = subst (λ l. Each (IsDue seats l) new.due.dues) (sym t) (subst (λ l. Each (IsDue seats (said old)) l) (sym same.due) book.due);
       pending =
           ap (map (pair_at seats (said new))) same.due
-          ∙ subst (λ l. map (pair_at seats l) old.due.items ≡ pending seats l) (sym t) book.pending;
+          ∙ subst (λ l. map (pair_at seats l) old.due.dues ≡ in_order pair_key (pending seats l)) (sym t) book.pending;
     }
 
 pub same_kept : (seats : List Seat) (limit : ℕ) (old new : Log) → IsSame old new → IsKept seats limit old → IsKept seats limit new
@@ -73,16 +76,18 @@ grows_then a b c es fs hs gs x y = record {
   kept = (x.kept.0 ++ y.kept.0, chained a.kept.items b.kept.items c.kept.items x.kept.0 y.kept.0 x.kept.1 y.kept.1);
 }
 
--- the state of cables with these seats, this limit and this log
-abbrev pub cabling : List Seat → ℕ → Log → Cabling
-cabling seats limit log = record {
+-- the state of cables with these seats, this limit, these rooms and this log
+abbrev pub cabling : List Seat → ℕ → Rooms → Log → Cabling
+cabling seats limit rooms log = record {
   seats = seats;
   limit = limit;
+  rooms = rooms;
   lines = log.lines.items;
   kept = log.kept.items;
   waiting = log.waiting.items;
 }
 
-pub adds_of : (seats : List Seat) (limit : ℕ) (old new : Log) (es : List Entry) (hs : List Held) → Grows old new es hs
-    → Adds (cabling seats limit old) (cabling seats limit new) es
-adds_of seats limit old new es hs x = record { seats = refl; limit = refl; added = x.said; further = x.lines; kept = x.kept }
+pub adds_of : (seats : List Seat) (limit : ℕ) (rooms : Rooms) (old new : Log) (es : List Entry) (hs : List Held) → Grows old new es hs
+    → Adds (cabling seats limit rooms old) (cabling seats limit rooms new) es
+adds_of seats limit rooms old new es hs x =
+    record { seats = refl; limit = refl; rooms = refl; added = x.said; further = x.lines; kept = x.kept }

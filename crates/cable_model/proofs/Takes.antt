@@ -1,5 +1,6 @@
 -- The log after a frame was taken or a datagram sent.
-use Rattle.std.proofs.Common.{◌≡◌, ℕ, ◌+◌, ◌-◌, ◌≤◌, Bool, true, false, List, [], ◌∷◌, ◌++◌, length, refl, arith, sym, ap, ◌∙◌, subst, map, slice_get, Some, ◌*◌, vec_capacity}
+use Rattle.std.proofs.Common.{◌≡◌, inl, inr, ℕ, ◌+◌, ◌-◌, ◌≤◌, Bool, true, false, List, [], ◌∷◌, ◌++◌, length, refl, arith, sym}
+use Rattle.std.proofs.Common.{ap, ◌∙◌, subst, map, slice_get, Some, ◌*◌, vec_capacity}
 use Rattle.std.proofs.Common.{get_or, Contains, vec_len}
 use Rattle.std.proofs.lemmas.List.{length-map}
 use Rattle.std.proofs.lemmas.Option.{slice_get-get_or}
@@ -9,9 +10,11 @@ use Rattle.cable_model.proofs.Steps.{cabling}
 use Rattle.cable_model.specs.Books.{Grows, HasRoom, IsBook, IsDue, IsKept, held, said, seat_at}
 use Rattle.cable_model.specs.Logs.{Adds, entry_at}
 use Rattle.cable_model.specs.Outcomes.{Held, held_at}
+use Rattle.cable_model.specs.Rooms.{AreRooms}
 use Rattle.cable_model.specs.Transcript.{Entry, count, is_put, one}
 use Rattle.cable_model.specs.declared.due.Due.{Due}
 use Rattle.cable_model.specs.declared.log.Log.{Log}
+use Rattle.cable_model.specs.declared.room.Rooms.{Rooms}
 use Rattle.cable_model.specs.declared.seat.Seat.{Seat}
 
 -- the seat of a pair is one of the seats
@@ -45,12 +48,13 @@ kept_after seats limit old new k book few named =
     record { book = book; few = few; named = named; frames = frames_few seats new book; one_seat = k.one_seat }
 
 -- growth after a step that changes nothing is growth from the start
-pub adds_from : (seats : List Seat) (limit : ℕ) (old mid new : Log) (es : List Entry) (hs : List Held)
+pub adds_from : (seats : List Seat) (limit : ℕ) (rooms : Rooms) (old mid new : Log) (es : List Entry) (hs : List Held)
     → mid.lines.items ≡ old.lines.items → mid.kept.items ≡ old.kept.items → Grows mid new es hs
-    → Adds (cabling seats limit old) (cabling seats limit new) es
-adds_from seats limit old mid new es hs lines kept x = record {
+    → Adds (cabling seats limit rooms old) (cabling seats limit rooms new) es
+adds_from seats limit rooms old mid new es hs lines kept x = record {
   seats = refl;
   limit = refl;
+  rooms = refl;
   added =
       x.said
       ∙ ap (λ l. l ++ es)
@@ -71,8 +75,8 @@ room_forgotten a b l k w d r lines kept due puts none room =
     let lc = ap (λ v. v.cap) lines in
     let kl = ap (λ v. v.len) kept in
     let kc = ap (λ v. v.cap) kept in
-    let dl = ap (λ v. v.len) due in
-    let dc = ap (λ v. v.cap) due in
+    let dl = ap (λ w. length w.dues) due in
+    let dc = ap (λ w. w.room) due in
     record {
       lines = omega (arith, r.lines, ll, lc);
       kept = omega (arith, r.kept, kl, kc);
@@ -90,3 +94,42 @@ few_times m n le =
     let whole = ap (λ k. k * n) e in
     let parts = add-mul m (257 - m) n in
     omega (arith, whole, parts)
+
+-- The rooms of cables are enough for what calls add.
+pub record IsEnough (rooms : Rooms) : Type 0 where
+  pub lines : 771 ≤ rooms.take.lines
+  pub bytes : 257 ≤ rooms.take.bytes
+  pub pairs : rooms.take.pairs ≡ 257
+  pub few : rooms.take.lines ≤ 1285
+  pub fewer : rooms.take.bytes ≤ rooms.take.lines
+  pub sent_lines : 3 ≤ rooms.send.lines
+  pub sent_bytes : 1 ≤ rooms.send.bytes
+  pub sent_pairs : rooms.send.pairs ≡ 1
+  pub sent_few : rooms.send.lines ≤ 1285
+  pub sent_fewer : rooms.send.bytes ≤ rooms.send.lines
+
+pub enough : (rooms : Rooms) → AreRooms rooms → IsEnough rooms
+enough rooms (inl e) = rw e (record {
+  lines = omega arith;
+  bytes = omega arith;
+  pairs = refl;
+  few = omega arith;
+  fewer = omega arith;
+  sent_lines = omega arith;
+  sent_bytes = omega arith;
+  sent_pairs = refl;
+  sent_few = omega arith;
+  sent_fewer = omega arith;
+})
+enough rooms (inr e) = rw e (record {
+  lines = omega arith;
+  bytes = omega arith;
+  pairs = refl;
+  few = omega arith;
+  fewer = omega arith;
+  sent_lines = omega arith;
+  sent_bytes = omega arith;
+  sent_pairs = refl;
+  sent_few = omega arith;
+  sent_fewer = omega arith;
+})

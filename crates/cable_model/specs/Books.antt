@@ -1,14 +1,15 @@
 -- How cables store their transcript and the pending pairs.
-use Rattle.std.specs.Prelude.{◌≡◌, ℕ, ◌+◌, ◌≤◌, ◌<◌, ◌^◌, Bool, ◌&&◌, ◌==◌, List, [], ◌∷◌, ◌++◌, map, length, slice_get, cond, nat_lt, ◌||◌}
+use Rattle.std.specs.Prelude.{◌≡◌, ℕ, ◌+◌, ◌≤◌, ◌<◌, ◌^◌, Bool, ◌&&◌, ◌==◌, List, [], ◌∷◌, ◌++◌, map, length, slice_get, cond}
 use Rattle.std.specs.Prelude.{Option, Some, None, vec_len, vec_capacity}
-use Rattle.std.specs.VecDeque.{deque_len, deque_capacity}
 use Rattle.std.specs.List.{AllByRecursion as Each}
+use Rattle.cable_model.specs.Waits.{pair_key}
 use Rattle.cable_model.specs.declared.due.Due.{Due}
 use Rattle.cable_model.specs.declared.entry.Entry.{Entry as Line}
 use Rattle.cable_model.specs.declared.entry.Entry.TheVariants as line
 use Rattle.cable_model.specs.declared.log.Log.{Log}
 use Rattle.cable_model.specs.declared.seat.Seat.{Seat}
 use Rattle.cable_model.specs.Logs.{entry_at}
+use Rattle.cable_model.specs.Order.{in_order}
 use Rattle.cable_model.specs.Outcomes.{Held, held_at}
 use Rattle.cable_model.specs.Pending.{Pair, pending}
 use Rattle.cable_model.specs.Transcript.{AreNumbered, Entry, Frame, Put, Took, Lost, count, stamps}
@@ -39,26 +40,24 @@ seat_at seats k = or_none (slice_get seats k)
 abbrev pub pair_at : List Seat → List Entry → Due → Pair
 pair_at seats entries d = record { frame = frame_of (slice_get entries d.put); seat = seat_at seats d.seat }
 
--- the indices of the stored pair are those of a frame with its stamp, and of a seat
+-- the indices of the stored pair are those of a frame with its stamp, and of a seat of its station
 pub record IsDue (seats : List Seat) (entries : List Entry) (d : Due) : Type 0 where
   pub seat : d.seat < length seats
   pub frame : Frame
   pub put : slice_get entries d.put ≡ Some (Put frame)
   pub stamp : frame.stamp ≡ d.stamp
+  pub station : (seat_at seats d.seat).station ≡ d.station
 
 -- each station has at most one seat on a cable
 abbrev pub HasOneSeat : List Seat → Type 0
 HasOneSeat seats = (cable station : ℕ) → count (λ s. s.cable == cable && s.station == station) seats ≤ 1
 
--- the stored pair has this stamp and this station
-abbrev pub is_of : List Seat → ℕ → ℕ → Due → Bool
-is_of seats stamp station d = stamp == d.stamp && station == (seat_at seats d.seat).station
-
 -- the stored pairs of a frame and the seats that pass a test, where the first seat has the index k
 abbrev pub dues : (Seat → Bool) → ℕ → ℕ → ℕ → List Seat → List Due
 dues test stamp put k [] = []
 dues test stamp put k (s ∷ ss) =
-    cond (test s) (record { stamp = stamp; put = put; seat = k } ∷ dues test stamp put (k + 1) ss) (dues test stamp put (k + 1) ss)
+    cond (test s) (record { stamp = stamp; station = s.station; put = put; seat = k } ∷ dues test stamp put (k + 1) ss)
+    (dues test stamp put (k + 1) ss)
 
 -- the bytes that an entry names are among the first k stored ones
 abbrev pub Names : ℕ → Line → Type 0
@@ -82,16 +81,16 @@ EndsBelow n (Took stamp station) = stamp < n
 EndsBelow n (Lost stamp) = stamp < n
 EndsBelow n _ = Unit {0}
 
--- The invariant of a log: entries name stored bytes, frames are numbered, and the stored pairs are the pending ones, in
--- order.
+-- The invariant of a log: entries name stored bytes, frames are numbered, and the stored pairs are the pending ones, by
+-- stamp and then by station.
 pub record IsBook (seats : List Seat) (log : Log) : Type 0 where
   pub named : Each (Names (length log.kept.items)) log.lines.items
   pub waits : Each (λ w. w.bytes < length log.kept.items) log.waiting.items
   pub numbered : AreNumbered 0 (said log)
   pub puts : log.puts ≡ stamps (said log)
   pub below : Each (EndsBelow log.puts) (said log)
-  pub due : Each (IsDue seats (said log)) log.due.items
-  pub pending : map (pair_at seats (said log)) log.due.items ≡ pending seats (said log)
+  pub due : Each (IsDue seats (said log)) log.due.dues
+  pub pending : map (pair_at seats (said log)) log.due.dues ≡ in_order pair_key (pending seats (said log))
 
 -- Entries and datagrams that wait were added to a log, and nothing else changed.
 pub record Grows (old new : Log) (entries : List Entry) (more : List Held) : Type 0 where
@@ -105,7 +104,7 @@ pub record HasRoom (log : Log) (l k w d : ℕ) : Type 0 where
   pub lines : vec_len log.lines + l ≤ vec_capacity log.lines
   pub kept : vec_len log.kept + k ≤ vec_capacity log.kept
   pub waiting : vec_len log.waiting + w ≤ vec_capacity log.waiting
-  pub due : deque_len log.due + d ≤ deque_capacity log.due
+  pub due : length log.due.dues + d ≤ log.due.room
   pub line_numbers : vec_len log.lines + l < 2 ^ 32
   pub byte_numbers : vec_len log.kept + k < 2 ^ 32
   pub stamps : log.puts + l < 2 ^ 32
@@ -115,12 +114,12 @@ pub record Uses (old new : Log) (l k w d : ℕ) : Type 0 where
   pub lines : vec_len new.lines ≤ vec_len old.lines + l
   pub kept : vec_len new.kept ≤ vec_len old.kept + k
   pub waiting : vec_len new.waiting ≤ vec_len old.waiting + w
-  pub due : deque_len new.due ≤ deque_len old.due + d
+  pub due : length new.due.dues ≤ length old.due.dues + d
   pub puts : new.puts ≤ old.puts + l
   pub lines_room : vec_capacity new.lines ≡ vec_capacity old.lines
   pub kept_room : vec_capacity new.kept ≡ vec_capacity old.kept
   pub waiting_room : vec_capacity new.waiting ≡ vec_capacity old.waiting
-  pub due_room : deque_capacity new.due ≡ deque_capacity old.due
+  pub due_room : old.due.room ≤ new.due.room
   pub grown : vec_len old.lines ≤ vec_len new.lines
 
 -- The invariant of cables, where a station has at most one seat on a cable.
@@ -136,21 +135,5 @@ pub record IsSame (old new : Log) : Type 0 where
   pub lines : new.lines.items ≡ old.lines.items
   pub kept : new.kept.items ≡ old.kept.items
   pub waiting : new.waiting.items ≡ old.waiting.items
-  pub due : new.due.items ≡ old.due.items
+  pub due : new.due.dues ≡ old.due.dues
   pub puts : new.puts ≡ old.puts
-
--- the first stamp and station come before the others, by stamp and then by station
-abbrev pub is_before : ℕ → ℕ → ℕ → ℕ → Bool
-is_before stamp station other_stamp other = nat_lt stamp other_stamp || (stamp == other_stamp && nat_lt station other)
-
--- the least of a stamp with a station and of the pairs, by stamp and then by station
-abbrev pub least : List Seat → ℕ → ℕ → List Due → ℕ × ℕ
-least seats stamp station [] = (stamp, station)
-least seats stamp station (d ∷ ds) =
-    cond (is_before d.stamp (seat_at seats d.seat).station stamp station) (least seats d.stamp (seat_at seats d.seat).station ds)
-    (least seats stamp station ds)
-
--- the stamps of the pairs are at least n and never fall
-abbrev pub RiseFrom : ℕ → List Due → Type 0
-RiseFrom n [] = Unit {0}
-RiseFrom n (d ∷ ds) = (n ≤ d.stamp) × RiseFrom d.stamp ds

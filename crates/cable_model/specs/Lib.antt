@@ -1,7 +1,10 @@
 pub mod Books
 pub mod Logs
+pub mod Order
 pub mod Outcomes
 pub mod Pending
 pub mod Places
+pub mod Rooms
 pub mod Transcript
 pub mod Ways
+pub mod Waits

@@ -3,15 +3,17 @@ use Rattle.std.specs.Prelude.{List, None, Option, Some, [], map, slice_get, ℕ,
 use Rattle.ddp.specs.Bodies.{body}
 use Rattle.cable_model.specs.declared.entry.Entry.{Entry as Line}
 use Rattle.cable_model.specs.declared.entry.Entry.TheVariants as line
+use Rattle.cable_model.specs.declared.room.Rooms.{Rooms}
 use Rattle.cable_model.specs.declared.seat.Seat.{Seat}
 use Rattle.cable_model.specs.declared.waiting.Waiting.{Waiting}
 use Rattle.cable_model.specs.Transcript.{Entry, Sent, Put, Took, Reached, Dropped, Lost}
 
--- The state of cables: the seats on them, the greatest number of entries, the entries, the bytes that these name, and
--- the datagrams of the last take or send that wait for a hardware address.
+-- The state of cables: the seats on them, the greatest number of entries, the room that calls need, the entries, the
+-- bytes that these name, and the datagrams of the last take or send that wait for a hardware address.
 pub record Cabling : Type 0 where
   pub seats : List Seat
   pub limit : ℕ
+  pub rooms : Rooms
   pub lines : List Line
   pub kept : List (List ℕ)
   pub waiting : List Waiting
@@ -43,6 +45,7 @@ transcript c = map (entry_at c.kept) c.lines
 pub record Adds (old new : Cabling) (entries : List Entry) : Type 0 where
   pub seats : new.seats ≡ old.seats
   pub limit : new.limit ≡ old.limit
+  pub rooms : new.rooms ≡ old.rooms
   pub added : transcript new ≡ transcript old ++ entries
   pub further : (more : List Line) × (new.lines ≡ old.lines ++ more)
   pub kept : (more : List (List ℕ)) × (new.kept ≡ old.kept ++ more)

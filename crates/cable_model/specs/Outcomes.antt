@@ -234,3 +234,12 @@ pub record IsLeast (pairs : List Pair) (stamp station : ℕ) : Type 0 where
   pub there : (p : Pair) × Contains pairs p × (p.frame.stamp ≡ stamp) × (p.seat.station ≡ station)
   pub first : (p : Pair) → Contains pairs p
       → (stamp < p.frame.stamp) ⊎ ((stamp ≡ p.frame.stamp) × (station ≤ p.seat.station))
+
+-- The frame of a pending pair that has this stamp: its cable, its kind and its bytes.
+pub record IsFrame (pairs : List Pair) (stamp cable : ℕ) (kind : Kind) (bytes : List ℕ) : Type 0 where
+  pub pair : Pair
+  pub was_pending : Contains pairs pair
+  pub of_stamp : pair.frame.stamp ≡ stamp
+  pub of_cable : pair.frame.cable ≡ cable
+  pub of_kind : pair.frame.kind ≡ kind
+  pub has : pair.frame.bytes ≡ bytes

@@ -1,6 +1,6 @@
 -- Which stations receive a frame, and which frames are pending.
 use Rattle.std.specs.Prelude.{ℕ, Bool, false, not, ◌&&◌, ◌==◌, if◌then◌else◌, List, [], ◌∷◌, ◌++◌, Option, Some, None, map, filter}
-use Rattle.std.specs.Prelude.{nat_lt, take, slice_index}
+use Rattle.std.specs.Prelude.{slice_index}
 use Rattle.std.specs.List.{list_any}
 use Rattle.at_base.specs.Multicast.{is_all, is_group}
 use Rattle.at_base.specs.Text.{same_bytes}

@@ -29,7 +29,7 @@ pub record AreIndexed (seats : List Seat) (on of : List (List ℕ)) : Type 0 whe
 -- the stored pair of a frame and a seat, if the seat exists and passes the test
 abbrev pub due_at : (Seat → Bool) → Option Seat → ℕ → ℕ → ℕ → List Due
 due_at test None stamp put k = []
-due_at test (Some s) stamp put k = cond (test s) (record { stamp = stamp; put = put; seat = k } ∷ []) []
+due_at test (Some s) stamp put k = cond (test s) (record { stamp = stamp; station = s.station; put = put; seat = k } ∷ []) []
 
 -- the stored pairs of a frame and those of the seats with these indices that pass the test
 abbrev pub dues_at : (Seat → Bool) → List Seat → ℕ → ℕ → List ℕ → List Due

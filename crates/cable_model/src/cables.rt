@@ -8,10 +8,11 @@ ghost use Rattle.at_base.specs.declared.error.What.TheVariants.{Cable, Station};
 ghost use Rattle.cable_model.specs.Books.{HasOneSeat};
 ghost use Rattle.cable_model.specs.Logs as logs_spec;
 ghost use Rattle.cable_model.specs.Logs.{Adds, bytes_at};
-ghost use Rattle.cable_model.specs.Outcomes.{AreSeatsOf, IsHeard, IsLeast, IsTaken, Places, framed, has_cable, has_stamp};
+ghost use Rattle.cable_model.specs.Outcomes.{AreSeatsOf, IsFrame, IsHeard, IsLeast, IsTaken, Places, framed, has_cable, has_stamp};
 ghost use Rattle.cable_model.specs.Outcomes.{held_at, held_next, is_named, is_seated, port_on};
 ghost use Rattle.cable_model.specs.Outcomes.{sent_entries};
 ghost use Rattle.cable_model.specs.Pending as pending_spec;
+ghost use Rattle.cable_model.specs.Rooms.{AreRooms, held_rooms};
 ghost use Rattle.cable_model.specs.Transcript.{AreNumbered, Lost, stamps};
 ghost use Rattle.station.specs.Hearing.{hearing};
 ghost use Rattle.station.specs.Lawful.{IsNext};
@@ -19,9 +20,10 @@ ghost use Rattle.station.specs.Lawful.{IsNext};
 use crate::entry::Entry;
 use crate::log::{self, Log};
 use crate::resolve::Resolve;
-use crate::room::{make_room, pairs_of};
+use crate::room::{Room, Rooms, make_room};
 use crate::seat::Seat;
 use crate::seats::Seats;
+use crate::taking::PendingFrame;
 use crate::waiting::Waiting;
 use crate::{earliest, ending, outcome, putting, seating, taking};
 use at_base::{Bytes, Error, Hw};
@@ -29,21 +31,29 @@ use station::{Heard, Kind, Next, Outputs, Station as Taker};
 use std::alloc::Global;
 use std::marker::Model;
 
-/// The greatest number of entries that one take adds: one for the frame that is taken; three for
-/// each of 256 outputs that the station makes; and two for the datagram that it forwards.
-pub const TAKE_ROOM: usize = 771;
-
-/// The greatest number of entries that one send adds.
-pub const SEND_ROOM: usize = 3;
-
 /// The greatest length of a frame, in bytes. Inside AppleTalk, the chapter on DDP.
 pub const MAX_FRAME: usize = 599;
+
+/// The room of a put.
+const PUT: Room = Room {
+    lines: 1,
+    bytes: 1,
+    pairs: 1,
+};
+
+/// The room of a loss.
+const LOSS: Room = Room {
+    lines: 1,
+    bytes: 0,
+    pairs: 0,
+};
 
 /// Cables, the seats on them, and the transcript of what happened there.
 #[derive(Drop)]
 pub struct Cables {
     seats: Seats,
     limit: u32,
+    rooms: Rooms,
     log: Log,
     // The outputs of the station that takes a frame. The queue is empty between takes, and keeps
     // the room that was made for the first take.
@@ -53,33 +63,44 @@ pub struct Cables {
 impl Model for Cables {
     ghost use Rattle.cable_model.specs.Books.{IsKept};
     ghost use Rattle.cable_model.specs.Logs.{Cabling};
+    ghost use Rattle.cable_model.specs.Rooms.{AreRooms};
 
     ghost Value = { Cabling };
 
     ghost view = { λ c. record {
       seats = c.seats;
       limit = c.limit;
+      rooms = c.rooms;
       lines = c.log.lines.items;
       kept = c.log.kept.items;
       waiting = c.log.waiting.items;
     } };
 
-    ghost invariant = { λ c. IsKept c.seats c.limit c.log };
+    ghost invariant = { λ c. IsKept c.seats c.limit c.log × AreRooms c.rooms };
 }
 
 impl Cables {
-    /// Cables with these seats and an empty transcript, which may get at most `limit` entries. The
-    /// caller ensures that a station has at most one seat on a cable. Error: `Memory`.
-    pub fn new(alloc: Global, seats: &[Seat], limit: u32) -> Result<Cables, Error>
-        requires { HasOneSeat seats.now }
-        ensures ok { IfOk result (λ cables. cables
-            ≡ record { seats = seats.now; limit = limit; lines = []; kept = []; waiting = [] }) }
+    /// Cables with these seats and an empty transcript, which may get at most `limit` entries, and
+    /// where calls need this room. The caller ensures that a station has at most one seat on a
+    /// cable, and that the rooms are `Rooms::KNOWN` or `Rooms::HELD`. Error: `Memory`.
+    pub fn new(alloc: Global, seats: &[Seat], limit: u32, rooms: Rooms) -> Result<Cables, Error>
+        requires one_seat { HasOneSeat seats.now }
+        requires rooms { AreRooms rooms }
+        ensures ok { IfOk result (λ cables. cables ≡ record {
+          seats = seats.now;
+          limit = limit;
+          rooms = rooms;
+          lines = [];
+          kept = [];
+          waiting = [];
+        }) }
         ensures refused { IsOkUnless result Error.Memory }
     {
         let seats = Seats::of(alloc, seats)?;
         Ok(Cables {
             seats,
             limit,
+            rooms,
             log: log::empty(alloc),
             outputs: Outputs::new(alloc)?,
         })
@@ -107,7 +128,7 @@ impl Cables {
         ensures { result ≡ list_any (is_named stamp station)
             (pending_spec.pending self.now.seats (logs_spec.transcript self.now)) }
     {
-        ending::find_pair(&self.log, self.seats.as_slice(), stamp, station).is_some()
+        ending::find_pair(&self.log, stamp, station).is_some()
     }
 
     /// The frame with this stamp as the station receives it, if it is pending for the station.
@@ -118,8 +139,21 @@ impl Cables {
         ensures none { IfNone result (list_any (is_named stamp station)
             (pending_spec.pending self.now.seats (logs_spec.transcript self.now)) ≡ false) }
     {
-        match ending::find_pair(&self.log, self.seats.as_slice(), stamp, station) {
+        match ending::find_pair(&self.log, stamp, station) {
             Some(due) => Some(taking::heard_of(&self.log, self.seats.as_slice(), due)),
+            None => None,
+        }
+    }
+
+    /// The frame with this stamp, if it is pending for any station. Allocates nothing.
+    pub fn frame(&self, stamp: u32) -> Option<PendingFrame<'_>>
+        ensures some { IfSome result (λ f. IsFrame (pending_spec.pending self.now.seats (logs_spec.transcript self.now))
+            stamp f.cable f.kind f.bytes.now) }
+        ensures none { IfNone result (list_any (has_stamp stamp)
+            (pending_spec.pending self.now.seats (logs_spec.transcript self.now)) ≡ false) }
+    {
+        match ending::find_frame(&self.log, stamp) {
+            Some(due) => Some(taking::frame_of(&self.log, due)),
             None => None,
         }
     }
@@ -131,7 +165,7 @@ impl Cables {
             IsLeast (pending_spec.pending self.now.seats (logs_spec.transcript self.now)) pair.0 pair.1) }
         ensures none { IfNone result (pending_spec.pending self.now.seats (logs_spec.transcript self.now) ≡ []) }
     {
-        earliest::first_pair(&self.log, self.seats.as_slice())
+        earliest::first_pair(&self.log)
     }
 
     /// The number of pending pairs of a frame and a station. Allocates nothing.
@@ -188,7 +222,7 @@ impl Cables {
         if bytes.len() > MAX_FRAME {
             return Err(Error::TooLong);
         }
-        match make_room(&mut self.log, self.limit, 1, 1, self.seats.len()) {
+        match make_room(&mut self.log, self.limit, PUT, self.seats.len()) {
             Ok(()) => {}
             Err(stop) => return Err(stop),
         }
@@ -203,7 +237,7 @@ impl Cables {
     /// responsible for the bytes being a datagram.
     ///
     /// Errors, in this order: `NoSuch(Cable)`, `NoSuch(Station)`, `TooLong` above 599 bytes, `Full`
-    /// where fewer than 3 entries are left, `Memory`. A refusal changes nothing.
+    /// where fewer entries are left than a send needs, `Memory`. A refusal changes nothing.
     pub fn send<R: Resolve>(
         &mut self,
         station: u16,
@@ -228,7 +262,9 @@ impl Cables {
             ↔ ((is_seated self.old.seats cable station ≡ true) × (599 < length bytes)) }
         ensures full { (result ≡ Err Error.Full)
             ↔ ((is_seated self.old.seats cable station ≡ true) × (length bytes ≤ 599)
-            × (self.old.limit < length self.old.lines + 3)) }
+            × (self.old.limit < length self.old.lines + self.old.rooms.send.lines)) }
+        ensures most { (result ≡ Err Error.Full)
+            → self.old.limit < length self.old.lines + held_rooms.send.lines }
         ensures refused { IfErr result (λ e. (e ≡ Error.NoSuch Cable) ⊎ (e ≡ Error.NoSuch Station)
             ⊎ (e ≡ Error.TooLong) ⊎ (e ≡ Error.Full) ⊎ (e ≡ Error.Memory)) }
         ensures kept { OnErr result (self.new ≡ self.old) }
@@ -240,7 +276,7 @@ impl Cables {
         if bytes.len() > MAX_FRAME {
             return Err(Error::TooLong);
         }
-        match make_room(&mut self.log, self.limit, SEND_ROOM, 1, self.seats.len()) {
+        match make_room(&mut self.log, self.limit, self.rooms.send, self.seats.len()) {
             Ok(()) => {}
             Err(stop) => return Err(stop),
         }
@@ -253,7 +289,8 @@ impl Cables {
     /// Lets a station take a frame that is pending for it, and puts the station's outputs on its
     /// cables. The caller ensures that the station's ports are those of its seats.
     ///
-    /// Errors, in this order: `NotPending`; `Full` where fewer than 771 entries are left; `Memory`.
+    /// Errors, in this order: `NotPending`; `Full` where fewer entries are left than a take
+    /// needs; `Memory`.
     /// A refusal changes neither the cables nor the station, and the frame is still pending.
     pub fn take<S: Taker, R: Resolve>(
         &mut self,
@@ -271,17 +308,18 @@ impl Cables {
             ↔ (list_any (is_named stamp station) (pending_spec.pending self.old.seats (logs_spec.transcript self.old)) ≡ false) }
         ensures full { (result ≡ Err Error.Full)
             ↔ ((list_any (is_named stamp station) (pending_spec.pending self.old.seats (logs_spec.transcript self.old)) ≡ true)
-            × (self.old.limit < length self.old.lines + 771)) }
+            × (self.old.limit < length self.old.lines + self.old.rooms.take.lines)) }
+        ensures most { (result ≡ Err Error.Full)
+            → self.old.limit < length self.old.lines + held_rooms.take.lines }
         ensures refused { IfErr result (λ e. (e ≡ Error.NotPending) ⊎ (e ≡ Error.Full)
             ⊎ (e ≡ Error.Memory)) }
         ensures kept { OnErr result (self.new ≡ self.old) }
         ensures taker_stays { OnErr result (taker.new ≡ taker.old) }
     {
-        let Some(due) = ending::find_pair(&self.log, self.seats.as_slice(), stamp, station) else {
+        let Some(due) = ending::find_pair(&self.log, stamp, station) else {
             return Err(Error::NotPending);
         };
-        let pairs = pairs_of(self.seats.len());
-        match make_room(&mut self.log, self.limit, TAKE_ROOM, 257, pairs) {
+        match make_room(&mut self.log, self.limit, self.rooms.take, self.seats.len()) {
             Ok(()) => {}
             Err(stop) => return Err(stop),
         }
@@ -295,7 +333,7 @@ impl Cables {
             Err(stop) => return Err(stop),
         }
         log::forget_waiting(&mut self.log);
-        ending::took(&mut self.log, self.seats.as_slice(), stamp, station);
+        ending::took(&mut self.log, stamp, station);
         outcome::add_all(
             &mut self.log,
             &self.seats,
@@ -322,14 +360,14 @@ impl Cables {
             ⊎ (e ≡ Error.Memory)) }
         ensures kept { OnErr result (self.new ≡ self.old) }
     {
-        if !ending::is_stamped(&self.log, stamp) {
+        if ending::find_frame(&self.log, stamp).is_none() {
             return Err(Error::NotPending);
         }
-        match make_room(&mut self.log, self.limit, 1, 0, 0) {
+        match make_room(&mut self.log, self.limit, LOSS, self.seats.len()) {
             Ok(()) => {}
             Err(stop) => return Err(stop),
         }
-        ending::lost(&mut self.log, self.seats.as_slice(), stamp);
+        ending::lost(&mut self.log, stamp);
         Ok(())
     }
 }

@@ -6,12 +6,11 @@ ghost use Rattle.cable_model.specs.Books.{Grows, HasOneSeat, HasRoom, IsBook, Is
 ghost use Rattle.cable_model.specs.Logs.{bytes_at, entry_at};
 ghost use Rattle.cable_model.specs.Outcomes.{held_at};
 
-use crate::due::Due;
 use crate::entry::Entry;
+use crate::pendings::Pendings;
 use crate::waiting::Waiting;
 use at_base::Bytes;
 use std::alloc::Global;
-use std::collections::VecDeque;
 
 /// The entries, the bytes that they name, the pending pairs, and the datagrams that wait.
 #[derive(Drop)]
@@ -20,8 +19,8 @@ pub struct Log {
     pub lines: Vec<Entry>,
     /// The bytes that entries and waiting datagrams name, by their numbers.
     pub kept: Vec<Bytes>,
-    /// The pending pairs of a frame and a seat, in the order in which they were added.
-    pub due: VecDeque<Due>,
+    /// The pending pairs of a frame and a seat.
+    pub due: Pendings,
     /// The number of frames.
     pub puts: u32,
     /// The datagrams that wait for an address.
@@ -37,7 +36,7 @@ pub fn empty(alloc: Global) -> Log
     Log {
         lines: Vec::new(alloc),
         kept: Vec::new(alloc),
-        due: VecDeque::new(alloc),
+        due: Pendings::new(alloc),
         puts: 0,
         waiting: Vec::new(alloc),
     }

@@ -1,22 +1,23 @@
 //! Putting frames on a cable.
 
-ghost use Rattle.std.specs.Prelude.{◌≡◌, ◌<◌, ◌≤◌, ◌+◌, ◌&&◌, ◌==◌, [], ◌∷◌, ◌++◌, length, slice_get};
+ghost use Rattle.std.specs.Prelude.{◌≡◌, ◌<◌, ◌≤◌, ◌+◌, ◌&&◌, ◌==◌, [], ◌∷◌, length, slice_get};
 ghost use Rattle.std.specs.Prelude.{vec_len};
-ghost use Rattle.std.specs.VecDeque.{deque_capacity, deque_len};
+ghost use Rattle.cable_model.specs.Order.{all_placed};
 ghost use Rattle.cable_model.specs.Books.{Grows, HasRoom, IsBook, Uses, dues};
 ghost use Rattle.cable_model.specs.Logs.{bytes_at};
 ghost use Rattle.cable_model.specs.Outcomes.{framed, is_for_as, link_of};
 ghost use Rattle.cable_model.specs.Places.{due_at, dues_at};
+ghost use Rattle.cable_model.specs.Waits.{due_key};
 
 use crate::due::Due;
 use crate::entry::Entry;
 use crate::hearing::{self, is_for};
 use crate::log::Log;
+use crate::pendings::Pendings;
 use crate::seat::Seat;
 use crate::seats::{Seats, seat_at};
 use at_base::Hw;
 use station::{Kind, Link};
-use std::collections::VecDeque;
 
 /// Puts a frame on a cable, for all stations that receive it there.
 pub fn put(log: &mut Log, seats: &Seats, cable: u8, sender: u16, to: Hw, kind: Kind, bytes: u32)
@@ -49,7 +50,7 @@ pub fn put(log: &mut Log, seats: &Seats, cable: u8, sender: u16, to: Hw, kind: K
 
 /// Adds the pair of a frame and the seat with an index, if the frame is for the seat's station.
 fn add_due(
-    due: &mut VecDeque<Due>,
+    due: &mut Pendings,
     seats: &[Seat],
     seat: usize,
     sender: u16,
@@ -58,24 +59,29 @@ fn add_due(
     stamp: u32,
     put: u32,
 )
-    requires room { deque_len due.old + 1 ≤ deque_capacity due.old }
-    ensures added { due.new.items ≡ due.old.items
-        ++ due_at (is_for_as link to.now sender) (slice_get seats.now seat) stamp put seat }
-    ensures few { deque_len due.new ≤ deque_len due.old + 1 }
-    ensures capacity { deque_capacity due.new ≡ deque_capacity due.old }
+    requires room { length due.old.dues + 1 ≤ due.old.room }
+    ensures added { due.new.dues ≡ all_placed due_key due.old.dues
+        (due_at (is_for_as link to.now sender) (slice_get seats.now seat) stamp put seat) }
+    ensures few { length due.new.dues ≤ length due.old.dues + 1 }
+    ensures capacity { due.old.room ≤ due.new.room }
 {
     let Some(s) = seat_at(seats, seat) else {
         return;
     };
     if is_for(&s, sender, to, link) {
-        due.push_back_reserved(Due { stamp, put, seat });
+        due.add(Due {
+            stamp,
+            station: s.station,
+            put,
+            seat,
+        });
     }
 }
 
 /// Adds the pairs of a frame and those of the seats with these indices whose stations the frame is
 /// for.
 fn add_those(
-    due: &mut VecDeque<Due>,
+    due: &mut Pendings,
     seats: &[Seat],
     indices: &[usize],
     sender: u16,
@@ -84,11 +90,11 @@ fn add_those(
     stamp: u32,
     put: u32,
 )
-    requires room { deque_len due.old + length indices.now ≤ deque_capacity due.old }
-    ensures added { due.new.items ≡ due.old.items
-        ++ dues_at (is_for_as link to.now sender) seats.now stamp put indices.now }
-    ensures few { deque_len due.new ≤ deque_len due.old + length indices.now }
-    ensures capacity { deque_capacity due.new ≡ deque_capacity due.old }
+    requires room { length due.old.dues + length indices.now ≤ due.old.room }
+    ensures added { due.new.dues ≡ all_placed due_key due.old.dues
+        (dues_at (is_for_as link to.now sender) seats.now stamp put indices.now) }
+    ensures few { length due.new.dues ≤ length due.old.dues + length indices.now }
+    ensures capacity { due.old.room ≤ due.new.room }
 {
     match indices {
         [] => {}
@@ -101,7 +107,7 @@ fn add_those(
 
 /// Adds the pairs of a frame and all seats that receive it.
 fn add_dues(
-    due: &mut VecDeque<Due>,
+    due: &mut Pendings,
     seats: &Seats,
     cable: u8,
     sender: u16,
@@ -109,12 +115,12 @@ fn add_dues(
     stamp: u32,
     put: u32,
 )
-    requires room { deque_len due.old + length seats.now ≤ deque_capacity due.old }
-    ensures added { due.new.items ≡ due.old.items
-        ++ dues (λ s. s.cable == cable && is_for_as (link_of to.now) to.now sender s) stamp put 0
-        seats.now }
-    ensures few { deque_len due.new ≤ deque_len due.old + length seats.now }
-    ensures capacity { deque_capacity due.new ≡ deque_capacity due.old }
+    requires room { length due.old.dues + length seats.now ≤ due.old.room }
+    ensures added { due.new.dues ≡ all_placed due_key due.old.dues
+        (dues (λ s. s.cable == cable && is_for_as (link_of to.now) to.now sender s) stamp put 0
+        seats.now) }
+    ensures few { length due.new.dues ≤ length due.old.dues + length seats.now }
+    ensures capacity { due.old.room ≤ due.new.room }
 {
     let link = hearing::link_of(to);
     let indices = seats.on(cable);

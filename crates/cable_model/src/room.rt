@@ -1,4 +1,4 @@
-//! Allocation of room before anything changes.
+//! The room that calls need, and its allocation before anything changes.
 
 ghost use Rattle.std.specs.Prelude.{◌≡◌, ◌≤◌, ◌<◌, ◌+◌, ◌*◌, ◌^◌, ◌↔◌, ◌⊎◌, List, length, vec_len, IfErr, OnOk};
 ghost use Rattle.cable_model.specs.declared.seat.Seat.{Seat as SeatValue};
@@ -7,43 +7,101 @@ ghost use Rattle.cable_model.specs.Books.{HasRoom, IsKept, IsSame};
 use crate::log::Log;
 use at_base::Error;
 
-/// Makes room for `lines` entries, `kept` stored bytes and as many waiting datagrams, and `due`
-/// pairs. The contents of the log don't change. Errors: `Full` where the entries would exceed the
-/// limit; `Memory`.
-pub fn make_room(
-    log: &mut Log,
-    limit: u32,
-    lines: usize,
-    kept: usize,
-    due: usize,
-) -> Result<(), Error>
+/// The most outputs that a station makes itself in one call.
+const MADE: usize = 256;
+
+/// The entries of a datagram that a station sends.
+const SENT: usize = 3;
+
+/// The entries of a datagram that a router passes on.
+const PASSED: usize = 2;
+
+/// The further entries of a datagram that may be held.
+const HELD: usize = 2;
+
+/// The room that one call needs at most.
+#[derive(Clone, Copy, Debug, PartialEq, Eq)]
+pub struct Room {
+    /// Entries of the transcript.
+    pub lines: usize,
+    /// Bytes that entries name.
+    pub bytes: usize,
+    /// Pending pairs of a frame and a station, for each seat.
+    pub pairs: usize,
+}
+
+/// The room of a take and of a send.
+#[derive(Clone, Copy, Debug, PartialEq, Eq)]
+pub struct Rooms {
+    /// The room of a take.
+    pub take: Room,
+    /// The room of a send.
+    pub send: Room,
+}
+
+impl Rooms {
+    /// The rooms where the hardware address of every station is known: 771 entries a take, and 3 a
+    /// send.
+    pub const KNOWN: Rooms = Rooms {
+        take: Room {
+            lines: 1 + MADE * SENT + PASSED,
+            bytes: MADE + 1,
+            pairs: MADE + 1,
+        },
+        send: Room {
+            lines: SENT,
+            bytes: 1,
+            pairs: 1,
+        },
+    };
+
+    /// The rooms where datagrams may be held until a hardware address is known: 1,285 entries a
+    /// take, and 5 a send.
+    pub const HELD: Rooms = Rooms {
+        take: Room {
+            lines: 1 + MADE * (SENT + HELD) + PASSED + HELD,
+            bytes: (MADE + 1) * 2,
+            pairs: MADE + 1,
+        },
+        send: Room {
+            lines: SENT + HELD,
+            bytes: 2,
+            pairs: 1,
+        },
+    };
+}
+
+/// Makes room in a log for cables with so many seats. The contents of the log don't change. Errors:
+/// `Full` where the entries would exceed the limit; `Memory`.
+pub fn make_room(log: &mut Log, limit: u32, room: Room, seats: usize) -> Result<(), Error>
     requires kept { (seats : List SeatValue) × IsKept seats limit log.old }
-    requires fewer { kept ≤ lines }
-    requires few { lines ≤ 771 }
-    ensures room { OnOk result (HasRoom log.new lines kept kept due) }
-    ensures full { (result ≡ Err Error.Full) ↔ (limit < length log.old.lines.items + lines) }
+    requires fewer { room.bytes ≤ room.lines }
+    requires few { room.lines ≤ 1285 }
+    ensures room { OnOk result
+        (HasRoom log.new room.lines room.bytes room.bytes (room.pairs * seats)) }
+    ensures full { (result ≡ Err Error.Full) ↔ (limit < length log.old.lines.items + room.lines) }
     ensures refused { IfErr result (λ e. (e ≡ Error.Full) ⊎ (e ≡ Error.Memory)) }
-    ensures within { OnOk result (vec_len log.new.lines + lines ≤ limit) }
+    ensures within { OnOk result (vec_len log.new.lines + room.lines ≤ limit) }
     ensures same { IsSame log.old log.new }
     ensures kept { (seats : List SeatValue) → IsKept seats limit log.old
         → IsKept seats limit log.new }
 {
-    if (limit as usize) < log.lines.len() + lines {
+    if (limit as usize) < log.lines.len() + room.lines {
         return Err(Error::Full);
     }
-    log.lines.reserve(lines)?;
-    log.kept.reserve(kept)?;
-    log.waiting.reserve(kept)?;
-    log.due.reserve(due)?;
+    log.lines.reserve(room.lines)?;
+    log.kept.reserve(room.bytes)?;
+    log.waiting.reserve(room.bytes)?;
+    log.due.reserve(pairs_of(room.pairs, seats))?;
     Ok(())
 }
 
-/// The greatest number of pairs that one take makes, or `usize::MAX`, for which no allocation
+/// The number of pairs of so many frames and seats, or `usize::MAX`, for which no allocation
 /// succeeds.
-pub fn pairs_of(seats: usize) -> usize
-    ensures { result < 2 ^ 63 → result ≡ seats * 257 }
+fn pairs_of(frames: usize, seats: usize) -> usize
+    ensures { result < 2 ^ 63 → result ≡ frames * seats }
 {
-    match seats.checked_mul(257) {
+    match frames.checked_mul(seats) {
         None => usize::MAX,
         Some(pairs) => pairs,
     }

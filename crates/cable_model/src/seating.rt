@@ -1,7 +1,6 @@
 //! The stations on a cable.
 
-ghost use Rattle.std.specs.Prelude.{◌≡◌, ◌⊎◌, ◌==◌, ◌&&◌, true, false, IfErr, OnOk};
-ghost use Rattle.std.specs.List.{list_any};
+ghost use Rattle.std.specs.Prelude.{◌≡◌, ◌⊎◌, true, false, IfErr, OnOk};
 ghost use Rattle.at_base.specs.declared.error.What.TheVariants.{Cable, Station};
 ghost use Rattle.cable_model.specs.Outcomes as spec;
 

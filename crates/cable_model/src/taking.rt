@@ -1,7 +1,8 @@
 //! The frame that a station takes, as it receives it.
 
-ghost use Rattle.std.specs.Prelude.{◌≡◌, ◌<◌, List};
-ghost use Rattle.cable_model.specs.Books.{IsDue, is_of, pair_at, said, seat_at};
+ghost use Rattle.std.specs.Prelude.{◌≡◌, ◌<◌, slice_get};
+ghost use Rattle.cable_model.specs.Books as spec;
+ghost use Rattle.cable_model.specs.Books.{pair_at, said, seat_at};
 ghost use Rattle.cable_model.specs.Logs.{bytes_at};
 ghost use Rattle.cable_model.specs.Outcomes.{heard_by};
 ghost use Rattle.station.specs.Hearing.{hearing};
@@ -56,6 +57,44 @@ pub fn heard_of<'a>(log: &'a Log, seats: &[Seat], due: Due) -> Heard<'a>
         _ => Heard {
             port,
             link: Link::Own,
+            kind: Kind::Ddp,
+            bytes: &[],
+        },
+    }
+}
+
+/// A frame that is pending.
+#[derive(Clone, Copy, Debug)]
+pub struct PendingFrame<'a> {
+    /// The cable.
+    pub cable: u8,
+    /// Whether it has a datagram or an AARP packet.
+    pub kind: Kind,
+    /// Its bytes.
+    pub bytes: &'a [u8],
+}
+
+/// The frame of a pair. It borrows the bytes.
+pub fn frame_of(log: &Log, due: Due) -> PendingFrame<'_>
+    ensures cable { result.cable ≡ (spec.frame_of (slice_get (said log.now) due.put)).cable }
+    ensures kind { result.kind ≡ (spec.frame_of (slice_get (said log.now) due.put)).kind }
+    ensures bytes { result.bytes.now ≡ (spec.frame_of (slice_get (said log.now) due.put)).bytes }
+{
+    match log.lines.get(due.put as usize) {
+        Some(
+            Entry::Put {
+                cable,
+                kind,
+                bytes,
+                ..
+            },
+        ) => PendingFrame {
+            cable: *cable,
+            kind: *kind,
+            bytes: bytes_of(&log.kept, *bytes),
+        },
+        _ => PendingFrame {
+            cable: 0,
             kind: Kind::Ddp,
             bytes: &[],
         },

@@ -1,5 +1,6 @@
 -- The parse of the arguments of a play.
-use Rattle.std.proofs.Common.{◌≡◌, ◌&&◌, ℕ, Bool, false, Option, Some, List, [], ◌∷◌, None, true, codes, slice_index_or, refl, ap, ap₂, subst, ◌∙◌}
+use Rattle.std.proofs.Common.{◌≡◌, ◌&&◌, ℕ, Bool, false, Option, Some, List, [], ◌∷◌, None, true, codes, slice_index_or}
+use Rattle.std.proofs.Common.{refl, ap, ap₂, subst, ◌∙◌}
 use Rattle.clap.specs.Words.{Row, Shape, Text, built, first_of, subcommand_of, takes}
 use Rattle.clap.specs.Walk.{Held, Step, Walk, value, option, plain_word, word_met, walked, walk_from, nothing_held}
 use Rattle.clap.specs.Takes.{step_passes, walk_passes, word_passes}

@@ -5,8 +5,6 @@ use Rattle.at_base.specs.declared.error.Error.{Error}
 use Rattle.at_base.specs.declared.error.Error.TheVariants.{BadScript, Memory, ReadFault}
 use Rattle.script.specs.Scripts.{IsBadAt, IsScript}
 use Rattle.script.specs.declared.step.Step.{Step}
-use Rattle.table_image.specs.Reading.{IsFirstFlaw, refusal}
-use Rattle.table_image.specs.declared.flaw.Flaw.{Flaw}
 
 -- A consequence of an error that exists.
 pub err_and : {A E : Type 0} {P Q : E → Type 0} (r : Result A E) → IsErrAnd r P → ((e : E) → P e → Q e) → IsErrAnd r Q

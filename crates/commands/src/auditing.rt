@@ -1,7 +1,7 @@
 //! Audits the image in an input, and writes the line of the verdict.
 
 ghost use Rattle.std.specs.Prelude.{◌≡◌, ◌≢◌, ◌⊎◌, ◌∷◌, ◌++◌};
-ghost use Rattle.std.specs.Prelude.{true, false, [], IfOk, IfErr, IfSome, IsErrAnd};
+ghost use Rattle.std.specs.Prelude.{[], IfOk, IfErr, IfSome, IsErrAnd};
 ghost use Rattle.std.specs.Prelude.{IsSome, IsSomeAnd, OnOk};
 ghost use Rattle.std.specs.Io.KnownBytes.{Appends, IsAtEnd};
 ghost use Rattle.at_base.specs.Spelling.{Spells};

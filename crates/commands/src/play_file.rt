@@ -1,6 +1,6 @@
 //! Plays an internet file, and writes its lines and its image.
 
-ghost use Rattle.std.specs.Prelude.{◌≡◌, ◌≢◌, ◌⊎◌, ◌++◌, ℕ, Bool, List, [], Some, true, false};
+ghost use Rattle.std.specs.Prelude.{◌≡◌, ◌≢◌, ◌⊎◌, ◌++◌, ℕ, Bool, List, [], Some};
 ghost use Rattle.std.specs.Prelude.{Err, IfOk, IfErr, IfSome, IsOkUnless};
 ghost use Rattle.std.specs.Prelude.{IsSome, IsSomeAnd, OnErr, OnOk};
 ghost use Rattle.std.specs.Io.KnownBytes.{Appends, IsAtEnd};

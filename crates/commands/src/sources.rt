@@ -1,13 +1,13 @@
 //! The sources of a trace: an image and a script, each read to its end.
 
-ghost use Rattle.std.specs.Prelude.{◌≡◌, ◌≢◌, ◌⊎◌, ℕ, List, true, false};
+ghost use Rattle.std.specs.Prelude.{◌≡◌, ◌≢◌, ◌⊎◌, ℕ, List};
 ghost use Rattle.std.specs.Prelude.{IfOk, IfErr, IfSome, IsErrAnd, IsSome, IsSomeAnd, OnOk};
 ghost use Rattle.std.specs.Io.KnownBytes.{IsAtEnd};
 ghost use Rattle.at_base.specs.Spelling.{Spells};
 ghost use Rattle.script.specs.Scripts.{IsBadAt, IsScript};
 ghost use Rattle.script.specs.declared.step.Step.{Step as StepValue};
 ghost use Rattle.table_image.specs.Internet.{Internet};
-ghost use Rattle.table_image.specs.Reading.{IsFirstFlaw, Refuses, refusal};
+ghost use Rattle.table_image.specs.Reading.{IsFirstFlaw, refusal};
 ghost use Rattle.table_image.specs.Spelling.{image_spelling};
 ghost use Rattle.table_image.specs.declared.flaw.Flaw.{Flaw};
 ghost use Rattle.commands.specs.declared.input.TheConstants.{READS};

@@ -1,6 +1,6 @@
 -- Receiving a frame changes nothing of a node's state but the choice of an address that isn't settled, its received
 -- datagrams and its transactions.
-use Rattle.std.proofs.Common.{◌≡◌, Bool, true, false, ◌&&◌, cond, List, [], Option, Some, None, refl, ap, subst, sym}
+use Rattle.std.proofs.Common.{Bool, true, false, ◌&&◌, cond, List, [], Option, Some, None, refl, ap, subst, sym}
 use Rattle.aarp.specs.declared.packet.Packet.{Packet}
 use Rattle.aarp.proofs.Settled.{address_stays}
 use Rattle.ddp.specs.Datagram.{Datagram}

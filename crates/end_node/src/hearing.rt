@@ -1,6 +1,6 @@
 //! Nodes as stations.
 
-ghost use Rattle.std.specs.Prelude.{IfOk, IsOkUnless, OnErr, OnOk, Some, [], ◌∷◌, ◌≡◌};
+ghost use Rattle.std.specs.Prelude.{IfOk, IsOkUnless, OnErr, OnOk, Some, ◌≡◌};
 ghost use Rattle.aarp.specs.Choosing.{answer};
 ghost use Rattle.end_node.specs.Answers.{Hears, heard_packet};
 ghost use Rattle.end_node.specs.Taking as spec;

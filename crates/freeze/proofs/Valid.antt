@@ -123,8 +123,11 @@ image_value i few_c few_r few_n cables routers nodes =
     let a = 5 + length (bytes_of gc i.cables) in
     let b = a + length (bytes_of gr i.routers) in
     let c = b + length (bytes_of gn i.nodes) in
-    (image_checks i a b (Ok c)
-    (counted_value max_cables (λ low. cable_spelling) (λ c. 0) i.cables few_c (omega arith) (passes cable_spelling 0 i.cables cables), refl) (
+    (image_checks i a b (Ok c) (
+      counted_value max_cables (λ low. cable_spelling) (λ c. 0) i.cables few_c (omega arith)
+          (passes cable_spelling 0 i.cables cables),
+      refl,
+    ) (
       counted_value max_routers (λ low. router_spelling count) (λ r. 0) i.routers few_r (omega arith)
           (passes (router_spelling count) 0 i.routers routers),
       refl,

@@ -1,13 +1,12 @@
 -- The parts for the contents of routers and nodes are valid parts of an image.
-use Rattle.std.proofs.Common.{◌≡◌, ℕ, suc, ◌+◌, ◌^◌, ◌<◌, ◌≤◌, Bool, true, ◌&&◌, List, [], ◌∷◌, length, map, Option, Some, None, Ok}
-use Rattle.std.proofs.Common.{refl, sym, ap, ◌∙◌, subst, arith, nat_lt, nat_le, leb-true, ltb-true, IsTrue}
+use Rattle.std.proofs.Common.{◌≡◌, ℕ, suc, ◌+◌, ◌<◌, ◌≤◌, true, ◌&&◌, List, [], ◌∷◌, length, map, Ok}
+use Rattle.std.proofs.Common.{refl, sym, ap, subst, arith, nat_lt, nat_le, leb-true, ltb-true, IsTrue}
 use Rattle.std.specs.List.{list_all, All, AllByRecursion as Each}
 use Rattle.std.proofs.lemmas.Bool.{and_parts}
 use Rattle.aarp.specs.Choosing.{Choice}
-use Rattle.at_base.specs.declared.address.Addr.{Addr}
 use Rattle.at_base.specs.Grammar.{Grammar}
 use Rattle.at_base.specs.Spelling.{IsValue, ListPasses, bytes_of, list_bytes}
-use Rattle.at_base.specs.Text.{IsName, is_entity, is_name}
+use Rattle.at_base.specs.Text.{IsName, is_name}
 use Rattle.end_node.specs.Holding.{NodeHolding}
 use Rattle.freeze.specs.Fits.{FitsCable, FitsList}
 use Rattle.freeze.specs.Freezing.{frozen_list, frozen_name, frozen_node, frozen_port, frozen_ports, frozen_router, frozen_row}
@@ -17,16 +16,15 @@ use Rattle.router.specs.Holding.{Holding}
 use Rattle.rtmp.specs.Routes.{IsRouteMap, are_above as rows_above, is_row}
 use Rattle.rtmp.specs.declared.row.Row.{Row}
 use Rattle.table_image.proofs.Checked.{FitsPort, FitsRow, counted_checks, entity_passes, name_length, port_passes, row_passes, text_value}
-use Rattle.table_image.proofs.CheckedParts.{FitsName, FitsNode, cable_checks, list_checks, name_kind, node_checks, none_value, router_checks, some_value}
+use Rattle.table_image.proofs.CheckedParts.{FitsName, FitsNode, cable_checks, list_checks, name_kind, node_checks}
+use Rattle.table_image.proofs.CheckedParts.{router_checks}
 use Rattle.table_image.specs.Checking.{Checks}
 use Rattle.table_image.specs.Flaws.{Wrong}
 use Rattle.table_image.specs.Limits.{max_names, max_ports, max_rows, max_zone_lists, max_zones}
-use Rattle.table_image.specs.Spelling.{cable_spelling, counted, name_spelling, node_spelling, own_router_spelling, port_spelling, router_spelling}
+use Rattle.table_image.specs.Spelling.{cable_spelling, counted, name_spelling, node_spelling, own_router_spelling}
+use Rattle.table_image.specs.Spelling.{port_spelling, router_spelling}
 use Rattle.table_image.specs.Spelling.{row_spelling, zone_list_spelling, zone_spelling, zones_spelling}
 use Rattle.table_image.specs.declared.cable.Cable.{Cable}
-use Rattle.table_image.specs.declared.node.NodeName.{NodeName}
-use Rattle.table_image.specs.declared.port.Port.{Port}
-use Rattle.table_image.specs.declared.zone_list.ZoneList.{ZoneList}
 use Rattle.zip_zones.proofs.Tables.{known_ends}
 use Rattle.zip_zones.specs.Zones.{IsZoneMap, Known, are_above as lists_above, are_distinct, is_known}
 use Rattle.at_base.specs.Range.{is_range}
@@ -42,7 +40,8 @@ checked : {A : Type 0} (g : Grammar Wrong true A) (y : A) (at : ℕ) → IsValue
 checked g y at h = (h, refl)
 
 -- Items that pass are a valid list with a count.
-pub counted_value : {B : Type 0} (limit : ℕ) (item : ℕ → Grammar Wrong true B) (next : B → ℕ) (xs : List B) → length xs ≤ limit → limit < 256
+pub counted_value : {B : Type 0} (limit : ℕ) (item : ℕ → Grammar Wrong true B) (next : B → ℕ) (xs : List B)
+    → length xs ≤ limit → limit < 256
     → ListPasses (λ low. IsValue (item low)) next 0 xs → IsValue (counted limit item next) xs
 counted_value limit item next xs few small h =
     (counted_checks limit item next xs 0 (Ok (1 + length (list_bytes (λ low. bytes_of (item low)) next 0 xs))) few small (h, refl)).0
@@ -114,7 +113,8 @@ rows_pass ports low above (r ∷ rs) le rise each there fits =
 
 few_names : (k : Known) → is_known k ≡ true → length k.names ≤ 64
 few_names k h =
-    let a = and_parts (is_range k.range.start k.range.end && nat_le k.total 64 && nat_le (length k.names) k.total) (are_distinct k.names) h in
+    let a = and_parts (is_range k.range.start k.range.end && nat_le k.total 64 && nat_le (length k.names) k.total)
+    (are_distinct k.names) h in
     let b = and_parts (is_range k.range.start k.range.end && nat_le k.total 64) (nat_le (length k.names) k.total) a.0 in
     let c = and_parts (is_range k.range.start k.range.end) (nat_le k.total 64) b.0 in
     let total = leb-true k.total 64 c.1 in

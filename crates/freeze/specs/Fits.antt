@@ -1,5 +1,5 @@
 -- Cables and zone lists whose numbers and zones fit their fields in an image.
-use Rattle.std.specs.Prelude.{ℕ, ◌<◌, ◌^◌}
+use Rattle.std.specs.Prelude.{◌<◌, ◌^◌}
 use Rattle.std.specs.List.{AllByRecursion as Each}
 use Rattle.at_base.specs.Text.{IsName}
 use Rattle.table_image.specs.declared.cable.Cable.{Cable}

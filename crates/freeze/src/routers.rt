@@ -4,7 +4,7 @@ ghost use Rattle.std.specs.Prelude.{◌≡◌, ◌++◌, ℕ, length, map, nat_l
 ghost use Rattle.std.specs.Prelude.{IfOk, IsOkUnless, IsTrue, OnOk};
 ghost use Rattle.std.specs.List.{list_all};
 ghost use Rattle.at_base.specs.Spelling.{IsValue};
-ghost use Rattle.freeze.specs.Freezing.{address_of, frozen_list, frozen_port, frozen_ports};
+ghost use Rattle.freeze.specs.Freezing.{address_of, frozen_list, frozen_ports};
 ghost use Rattle.freeze.specs.Freezing.{frozen_router, frozen_row};
 ghost use Rattle.table_image.specs.Spelling.{router_spelling};
 

@@ -1,14 +1,13 @@
 -- The entries in which a node sends a forward request or a lookup: only a Send event adds one.
-use Rattle.std.proofs.Common.{Bool, List, None, Option, Some, [], cond, false, is_some, not, true, ℕ, ◌&&◌, ◌++◌, ◌+◌, ◌==◌, ◌||◌, ◌∷◌, ◌≡◌}
+use Rattle.std.proofs.Common.{Bool, List, [], cond, false, not, true, ℕ, ◌&&◌, ◌++◌, ◌+◌, ◌==◌, ◌||◌, ◌∷◌, ◌≡◌}
 use Rattle.std.proofs.Common.{refl, sym, ap, ◌∙◌, subst, arith}
 use Rattle.std.specs.List.{AllByRecursion as Each}
 use Rattle.std.proofs.lemmas.Bool.{and_right}
 use Rattle.at_base.specs.Address.{same_address}
-use Rattle.audit.specs.Routing.{Hand, Here, On, Nowhere, hand, home}
-use Rattle.table_image.specs.Seats.{Seat as PlaceOf, seat_at}
+use Rattle.audit.specs.Routing.{Hand, Here, On, Nowhere, hand}
 use Rattle.cable_model.proofs.Counting.{count-append}
 use Rattle.cable_model.specs.Logs.{transcript}
-use Rattle.cable_model.specs.Outcomes.{Places, Sender, leg as leg_on, sent_entries, to_other as to_other_on, to_target as to_target_on}
+use Rattle.cable_model.specs.Outcomes.{Places, Sender, leg as leg_on, sent_entries, to_other, to_target}
 use Rattle.cable_model.specs.Pending.{Pair}
 use Rattle.cable_model.specs.Transcript.{Entry, Sent, Took, count, stamps}
 use Rattle.cable_model.specs.declared.resolve.Found.{Found}
@@ -20,12 +19,11 @@ use Rattle.frozen.specs.Orders.{bytes_for}
 use Rattle.frozen.specs.Promises.{HaveOnlyAsked, is_routers_request}
 use Rattle.frozen.specs.Runs.{IsFrozen, Running, TakenBy}
 use Rattle.frozen.specs.declared.order.Order.{Order}
-use Rattle.image_stations.specs.Holders.{places_of}
 use Rattle.legal_stations.proofs.Asked.{unended}
 use Rattle.legal_runs.proofs.Listing.{other_alone}
 use Rattle.legal_runs.specs.Answers.{Answers, Expanded, LookedUp, Others, asks_here, ends_at, is_other, seeks_here}
 use Rattle.legal_runs.specs.Legal.{Block, Sends, Takes, said}
-use Rattle.legal_runs.specs.Legs.{Leg, fate, fate_by, final, is_copy, is_unicast, leg, leg_to, passed, to_other, to_target}
+use Rattle.legal_runs.specs.Legs.{Leg, fate, fate_by, final, is_copy, is_unicast, leg, leg_bytes, passed, places_of, sender}
 use Rattle.legal_runs.specs.Lookups.{is_unasked}
 use Rattle.legal_runs.specs.Requests.{is_forward, is_lookup, request}
 use Rattle.legal_runs.specs.Stations.{has_address, is_router}
@@ -46,7 +44,7 @@ module _ (i : Internet) where
   sent_leg : (places : Places) (s : Sender) (to : Next) (bytes : List ℕ) → unasked (leg_on places s to bytes) ≡ 0
   sent_leg places s (next.Station a) bytes = by (same_address (target bytes) a) (places.finds s.cable a)
     where
-      by : (b : Bool) (f : Found) → unasked (cond b (to_target_on s bytes f) (to_other_on s bytes f)) ≡ 0
+      by : (b : Bool) (f : Found) → unasked (cond b (to_target s bytes f) (to_other s bytes f)) ≡ 0
       by true (At hw) = refl
       by true Nobody = refl
       by true Later = refl
@@ -56,25 +54,17 @@ module _ (i : Internet) where
   sent_leg places s next.All bytes = either_none (places.lists (target bytes).net) _ _ refl refl
   sent_leg places s (next.Group g) bytes = refl
 
-  leg_none : (stamp : ℕ) (l : Leg) (n : Next) → unasked (leg_to i stamp l n) ≡ 0
-  leg_none stamp l (next.Station a) = by (same_address (target l.body) a) (seat_at i l.cable a)
-    where
-      by : (b : Bool) (o : Option PlaceOf) → unasked (cond b (to_target stamp l o) (to_other stamp l o)) ≡ 0
-      by true None = refl
-      by true (Some s) = refl
-      by false None = refl
-      by false (Some s) = refl
-  leg_none stamp l next.All = either_none (is_some (home i (target l.body).net)) _ _ refl refl
-  leg_none stamp l (next.Group g) = refl
+  leg_none : (stamp : ℕ) (l : Leg) → unasked (leg i stamp l) ≡ 0
+  leg_none stamp l = sent_leg (places_of i) (sender stamp l) l.next (leg_bytes l)
 
   fate_none : (stamp r : ℕ) (p : Pair) (h : Hand) → unasked (fate_by i stamp r p h) ≡ 0
   fate_none stamp r p Nowhere = refl
   fate_none stamp r p (Here c) =
       either_none ((target p.frame.bytes).node == 0 || has_address i r c (target p.frame.bytes)) _ _ refl
       (either_none (hops p.frame.bytes == 15) _ _ refl
-      (leg_none stamp (passed r p c (final (target p.frame.bytes))) (final (target p.frame.bytes))))
+      (leg_none stamp (passed r p c (final (target p.frame.bytes)))))
   fate_none stamp r p (On s c a) =
-      either_none (hops p.frame.bytes == 15) _ _ refl (leg_none stamp (passed r p c (next.Station a)) (next.Station a))
+      either_none (hops p.frame.bytes == 15) _ _ refl (leg_none stamp (passed r p c (next.Station a)))
 
   -- ---- Answers
 
@@ -86,7 +76,7 @@ module _ (i : Internet) where
   said_none stamp [] h = refl
   said_none stamp (l ∷ ls) h =
       let first = h.0 in
-      let now = leg_none stamp l l.next in
+      let now = leg_none stamp l in
       let rest = said_none (stamp + stamps (leg i stamp l)) ls h.1 in
       let parts = count-append (is_unasked i) (leg i stamp l) (said i (stamp + stamps (leg i stamp l)) ls) in
       let none = ap (λ b. count (λ (x : Bool). x) (b ∷ [])) first in

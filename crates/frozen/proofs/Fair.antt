@@ -1,5 +1,6 @@
 -- Nodes may send the datagrams that events make them send.
-use Rattle.std.proofs.Common.{◌≡◌, ◌≢◌, ℕ, ◌+◌, true, false, ◌&&◌, ◌==◌, cond, inl, inr, List, Some, None, Option, length, refl, sym, ap, ◌∙◌, subst, arith}
+use Rattle.std.proofs.Common.{◌≡◌, ◌≢◌, ℕ, ◌+◌, true, false, ◌&&◌, ◌==◌, cond, inl, inr, List, Some, None, Option}
+use Rattle.std.proofs.Common.{length, refl, sym, ap, ◌∙◌, subst, arith}
 use Rattle.std.proofs.Common.{IsTrue, Result, Ok, Err, is_some, nat_lt, slice_get, eqb-true, eq-eqb}
 use Rattle.std.proofs.lemmas.Bool.{and_from, and_parts, eqb-false, le-ltb}
 use Rattle.at_base.specs.Spelling.{Spells}
@@ -20,7 +21,8 @@ use Rattle.at_base.specs.Address.{same_address}
 use Rattle.ddp.proofs.Shape.{value_laid}
 use Rattle.ddp.specs.Datagram.{datagram, datagram_of}
 use Rattle.ddp.specs.declared.header.Header.{Header}
-use Rattle.frozen.specs.Orders.{IsFair, ask_order, asked_at, asking_for, asked_of, next_for, node_at, order_for, own_router, router_for, send_order, sent_at, sent_by, to_station}
+use Rattle.frozen.specs.Orders.{IsFair, ask_order, asked_at, asking_for, asked_of, next_for, node_at, order_for}
+use Rattle.frozen.specs.Orders.{own_router, router_for, send_order, sent_at, sent_by, to_station}
 use Rattle.frozen.specs.declared.order.Order.{Order}
 use Rattle.legal_stations.proofs.Making.{IsSent, is_sent}
 use Rattle.legal_stations.proofs.NodeSeats.{node_seat, seat_of_node}
@@ -151,7 +153,8 @@ module _ (i : Internet) (ok : Passes i) where
         (elim (header.target.net == 0) as (λ b. (header.target.net == 0) ≡ b → order_for station node header len (cond b
         (cond (header.target.node == 255) (Ok next.All) (Err (NoSuch what.Station))) (to_station (router_for i node via))) ≡ Ok o
         → IsFair i o) [
-          | true ↦ λ none h. (elim (header.target.node == 255) as (λ b. (header.target.node == 255) ≡ b → order_for station node header len (cond b
+          | true ↦ λ none h. (elim (header.target.node == 255) as
+              (λ b. (header.target.node == 255) ≡ b → order_for station node header len (cond b
               (Ok next.All) (Err (NoSuch what.Station))) ≡ Ok o → IsFair i o) [
                 | true ↦ λ all h. order_fair header len o next.All
                     (fair_here header (eqb-true _ _ none) (eqb-true _ _ all)) h

@@ -6,6 +6,7 @@ use Rattle.audit.proofs.WalkLists.{At}
 use Rattle.audit.specs.Rules.{Passes}
 use Rattle.cable_model.specs.Logs.{Cabling, transcript}
 use Rattle.cable_model.specs.Outcomes.{all_entries, heard_by, leg as leg_on}
+use Rattle.cable_model.specs.Rooms.{known_rooms}
 use Rattle.cable_model.specs.Pending.{Pair, pending}
 use Rattle.cable_model.specs.Transcript.{Entry, Sent, Took, stamps}
 use Rattle.cable_model.specs.declared.seat.Seat.{Seat}
@@ -17,18 +18,18 @@ use Rattle.frozen.specs.Orders.{IsFair, bytes_for}
 use Rattle.frozen.specs.Promises.{HaveOnlyAsked}
 use Rattle.frozen.specs.Runs.{IsFrozen, Running, TakenBy}
 use Rattle.frozen.specs.declared.order.Order.{Order}
-use Rattle.image_stations.specs.Holders.{HoldStations, HoldsStation, places_of}
+use Rattle.image_stations.specs.Holders.{HoldStations, HoldsStation}
 use Rattle.station.specs.Members.{EitherHears}
 use Rattle.station.specs.declared.member.Member.{Member}
 use Rattle.station.specs.declared.member.Member.TheVariants as member
-use Rattle.legal_stations.proofs.Bridge.{sendings}
+use Rattle.legal_stations.proofs.Leaving.{sendings}
 use Rattle.legal_stations.proofs.Making.{IsSent}
 use Rattle.legal_stations.proofs.NodeTakes.{node_takes}
 use Rattle.legal_stations.proofs.RouterTakes.{router_takes}
 use Rattle.legal_runs.proofs.Frames.{whole}
 use Rattle.legal_runs.specs.Answers.{IsMade, IsOwn}
 use Rattle.legal_runs.specs.Legal.{Begins, Block, Goes, IsLegal}
-use Rattle.legal_runs.specs.Legs.{Leg}
+use Rattle.legal_runs.specs.Legs.{Leg, places_of}
 use Rattle.legal_runs.specs.Stations.{cable_seats}
 use Rattle.router.specs.Answers.{Hears as RouterHears}
 use Rattle.router.specs.Holding.{Holding}
@@ -88,7 +89,8 @@ frozen_of r i e ok bounded holders seats legal = record {
 
 -- A run with an empty transcript.
 pub begun : (i j : Internet) (stations : List (Member Holding NodeHolding)) (k : Cabling) (seats : List Seat) (limit : ℕ) → j ≡ i
-    → k ≡ record { seats = seats; limit = limit; lines = []; kept = []; waiting = [] } → seats ≡ cable_seats i → Passes i
+    → k ≡ record { seats = seats; limit = limit; rooms = known_rooms; lines = []; kept = []; waiting = [] } → seats
+    ≡ cable_seats i → Passes i
     → IsBounded i → HoldStations i stations → IsFrozen (record { internet = j; stations = stations; cabling = k })
 begun i j stations k seats limit same is on ok bounded holders =
     frozen_of (record { internet = j; stations = stations; cabling = k }) i same ok bounded holders (ap (λ (c : Cabling). c.seats) is ∙ on)
@@ -96,7 +98,7 @@ begun i j stations k seats limit same is on ok bounded holders =
 
 -- In a run with an empty transcript, no node has asked.
 pub begun_asks : (j : Internet) (stations : List (Member Holding NodeHolding)) (k : Cabling) (seats : List Seat) (limit : ℕ)
-    → k ≡ record { seats = seats; limit = limit; lines = []; kept = []; waiting = [] }
+    → k ≡ record { seats = seats; limit = limit; rooms = known_rooms; lines = []; kept = []; waiting = [] }
     → HaveOnlyAsked (record { internet = j; stations = stations; cabling = k })
 begun_asks j stations k seats limit is =
     subst (λ c. HaveOnlyAsked (record { internet = j; stations = stations; cabling = c })) (sym is) refl

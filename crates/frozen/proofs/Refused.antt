@@ -1,5 +1,7 @@
 -- Why a call returned an error, and what follows from both results.
-use Rattle.std.proofs.Common.{◌≡◌, ◌<◌, ◌↔◌, ◌⊎◌, ℕ, Bool, true, false, cond, inl, inr, Option, Some, None, Result, Ok, Err, IfErr, OnOk, OnErr, nat_lt, refl, sym, ap, ◌∙◌, ◌+◌, ◌++◌, ◌∷◌, [], List, take, slice_get}
+use Rattle.std.proofs.Common.{◌≡◌, ◌<◌, ◌↔◌, ◌⊎◌, ℕ, Bool, true, false, cond, inl, inr, Option, Some, None, Result, Ok}
+use Rattle.std.proofs.Common.{Err, IfErr, OnOk, OnErr, nat_lt, refl, sym, ap, ◌∙◌, ◌+◌, ◌++◌, ◌∷◌, [], List, take}
+use Rattle.std.proofs.Common.{slice_get}
 use Rattle.std.proofs.lemmas.Bool.{lt-ltb, ltb-true}
 use Rattle.std.proofs.lemmas.List.{take_more}
 use Rattle.std.proofs.lemmas.Option.{get_or_from_slice_get, slice_get_within}

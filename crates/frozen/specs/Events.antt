@@ -18,7 +18,7 @@ use Rattle.events.specs.declared.event.Event.{Event}
 use Rattle.events.specs.declared.event.Event.TheVariants.{Send, Request, Take}
 use Rattle.frozen.specs.declared.order.Order.{Order}
 use Rattle.image_stations.specs.Finding.{station_at}
-use Rattle.image_stations.specs.Holders.{places_of}
+use Rattle.legal_runs.specs.Legs.{places_of}
 use Rattle.table_image.specs.Internet.{Internet}
 
 -- The header of a datagram whose source isn't set yet.

@@ -1,6 +1,7 @@
 -- Events and runs that show what the headline's conditions mean, over the internet of three cables.
 use Rattle.std.specs.Prelude.{ℕ, false, List, [], ◌∷◌, None}
 use Rattle.audit.specs.Example.{addr, hardware, three_cables}
+use Rattle.cable_model.specs.Rooms.{known_rooms}
 use Rattle.cable_model.specs.declared.entry.Entry.{Entry as Line}
 use Rattle.cable_model.specs.declared.entry.Entry.TheVariants as line
 use Rattle.events.specs.declared.event.Event.{Event}
@@ -20,7 +21,14 @@ abbrev pub run_of : List Line → Running
 run_of lines = record {
   internet = three_cables;
   stations = [];
-  cabling = record { seats = cable_seats three_cables; limit = 4; lines = lines; kept = plain 0 50 9 ∷ []; waiting = [] };
+  cabling = record {
+    seats = cable_seats three_cables;
+    limit = 4;
+    rooms = known_rooms;
+    lines = lines;
+    kept = plain 0 50 9 ∷ [];
+    waiting = [];
+  };
 }
 
 -- Its router hasn't taken the datagram yet.

@@ -1,6 +1,7 @@
 -- The datagrams that events make nodes send. Inside AppleTalk, the chapters on DDP and NBP; the choice of the router is
 -- this project's own.
-use Rattle.std.specs.Prelude.{◌≡◌, ◌⊎◌, true, ℕ, ◌+◌, false, ◌==◌, cond, List, Option, Some, None, Result, Ok, Err, length, is_some, nat_lt, []}
+use Rattle.std.specs.Prelude.{◌≡◌, ◌⊎◌, true, ℕ, ◌+◌, false, ◌==◌, cond, List, Option, Some, None, Result, Ok, Err}
+use Rattle.std.specs.Prelude.{length, is_some, nat_lt, []}
 use Rattle.std.specs.Prelude.{position, slice_get}
 use Rattle.at_base.specs.Address.{same_address}
 use Rattle.at_base.specs.Spelling.{bytes_of}

@@ -9,10 +9,11 @@ use Rattle.cable_model.specs.Outcomes.{IsTaken, Places, is_named}
 use Rattle.cable_model.specs.Pending.{pending}
 use Rattle.end_node.specs.Answers.{Hears as NodeHears}
 use Rattle.end_node.specs.Holding.{NodeHolding}
-use Rattle.image_stations.specs.Holders.{HoldStations, places_of}
+use Rattle.image_stations.specs.Holders.{HoldStations}
 use Rattle.station.specs.Members.{EitherHears, either}
 use Rattle.station.specs.declared.member.Member.{Member}
 use Rattle.legal_runs.specs.Legal.{IsLegal}
+use Rattle.legal_runs.specs.Legs.{places_of}
 use Rattle.legal_runs.specs.Stations.{cable_seats}
 use Rattle.router.specs.Answers.{Hears as RouterHears}
 use Rattle.router.specs.Holding.{Holding}

@@ -1,10 +1,11 @@
 //! Runs over frozen tables.
 
-ghost use Rattle.std.specs.Prelude.{◌≡◌, ◌<◌, ◌≤◌, ◌+◌, ◌⊎◌, ◌↔◌, ℕ, [], Some, None, length};
-ghost use Rattle.std.specs.Prelude.{nat_lt, not, slice_get, take, true, false};
-ghost use Rattle.std.specs.Prelude.{IfErr, IfOk, IsOkUnless, OnErr, OnOk};
+ghost use Rattle.std.specs.Prelude.{◌≡◌, ◌<◌, ◌≤◌, ◌+◌, ◌⊎◌, ◌↔◌, [], Some, None, length};
+ghost use Rattle.std.specs.Prelude.{nat_lt, not, take, true, false};
+ghost use Rattle.std.specs.Prelude.{IfErr, IfOk, OnErr, OnOk};
 ghost use Rattle.std.specs.List.{AllByRecursion as Each};
 ghost use Rattle.audit.specs.Rules.{Passes};
+ghost use Rattle.cable_model.specs.Rooms.{known_rooms};
 ghost use Rattle.cable_model.specs.Logs as logs_spec;
 ghost use Rattle.cable_model.specs.Logs.{bytes_at};
 ghost use Rattle.cable_model.specs.Pending as pending_spec;
@@ -27,7 +28,7 @@ use crate::orders::{ask_data, ask_order, send_order};
 use crate::steps;
 use at_base::{Addr, Error, What};
 use audit::{Verdict, audit};
-use cable_model::{Cables, Entry, SEND_ROOM};
+use cable_model::{Cables, Entry, Rooms};
 use ddp::Header;
 use end_node::EndNode;
 use events::Event;
@@ -57,6 +58,7 @@ pub struct Frozen<T: RouteTable> {
 }
 
 impl<T: RouteTable> Model for Frozen<T> {
+    ghost use Rattle.cable_model.specs.Rooms.{known_rooms};
     ghost use Rattle.frozen.specs.Runs.{IsFrozen, Running};
     ghost use Rattle.std.specs.Prelude.{◌≡◌};
 
@@ -72,7 +74,7 @@ impl<T: RouteTable> Model for Frozen<T> {
       internet = f.places;
       stations = f.stations.items;
       cabling = f.cables;
-    }) × (f.limit ≡ f.cables.limit) };
+    }) × (f.limit ≡ f.cables.limit) × (f.cables.rooms ≡ known_rooms) };
 }
 
 impl<T: RouteTable> Frozen<T> {
@@ -84,6 +86,7 @@ impl<T: RouteTable> Frozen<T> {
         ensures started { IfOk result (λ run. (run.internet ≡ image) × (run.cabling ≡ record {
           seats = cable_seats image;
           limit = limit;
+          rooms = known_rooms;
           lines = [];
           kept = [];
           waiting = [];
@@ -104,7 +107,7 @@ impl<T: RouteTable> Frozen<T> {
         // Only the prover needs this read: it shows that the image is within its limits.
         let _cables = image.cables();
         let seats = seats_of(alloc, &image)?;
-        let cables = Cables::new(alloc, seats.as_slice(), limit)?;
+        let cables = Cables::new(alloc, seats.as_slice(), limit, Rooms::KNOWN)?;
         let stations = stations_of(alloc, &image)?;
         let places = Whereabouts::of(alloc, image)?;
         Ok(Frozen {
@@ -173,7 +176,7 @@ impl<T: RouteTable> Frozen<T> {
         ensures refused { IfErr result (λ e. (e ≡ Error.Full) ⊎ (e ≡ Error.Memory)) }
         ensures kept { OnErr result (self.new ≡ self.old) }
     {
-        if !self.has_room(SEND_ROOM) {
+        if !self.has_room(Rooms::KNOWN.send.lines) {
             return Err(Error::Full);
         }
         match ddp::write(self.alloc, &order.header, payload) {
@@ -201,7 +204,7 @@ impl<T: RouteTable> Frozen<T> {
             Ok(order) => order,
             Err(error) => return Err(error),
         };
-        if !self.has_room(SEND_ROOM) {
+        if !self.has_room(Rooms::KNOWN.send.lines) {
             return Err(Error::Full);
         }
         let data = match ask_data(self.alloc, self.places.image(), node, id, name) {

@@ -20,8 +20,9 @@ ghost use Rattle.legal_runs.specs.Requests.{is_among, listing, zone_of};
 /// In every run over frozen tables (`Frozen::image` returns the proof of that): each datagram to a
 /// listed network is under way once or has reached its destination's cable once; it has enough hops
 /// left; it was carried by at most fifteen routers, each of which shares a cable with the next, over
-/// the cables of its walk's steps; a station that takes a frame is on the frame's cable; and, if no node sends a forward request or a lookup, each request for names that was taken has
-/// had one lookup, or has a forward request under way, on exactly the cables that list its zone.
+/// the cables of its walk's steps; a station that takes a frame is on the frame's cable; and, if no
+/// node sends a forward request or a lookup, each request for names that was taken has had one
+/// lookup, or has a forward request under way, on exactly the cables that list its zone.
 pub fn promises_hold()
     ensures conservation { (r : Running) → IsFrozen r → IsConserved r.internet (transcript r.cabling) }
     ensures hops { (r : Running) → IsFrozen r → HasHopsLeft r.internet (transcript r.cabling) }

@@ -3,6 +3,7 @@
 ghost use Rattle.std.specs.Prelude.{◌≡◌, ◌<◌, ◌≤◌, ◌+◌, ◌↔◌, ◌⊎◌, false, length, slice_get, true};
 ghost use Rattle.std.specs.Prelude.{IfErr, OnErr, OnOk, Some};
 ghost use Rattle.std.specs.List.{list_any};
+ghost use Rattle.cable_model.specs.Rooms.{known_rooms};
 ghost use Rattle.cable_model.specs.Logs as logs_spec;
 ghost use Rattle.cable_model.specs.Logs.{Adds};
 ghost use Rattle.cable_model.specs.Outcomes.{AreSeatsOf, has_cable, is_named, is_seated};
@@ -10,7 +11,7 @@ ghost use Rattle.cable_model.specs.Outcomes.{sent_entries};
 ghost use Rattle.cable_model.specs.Pending as pending_spec;
 ghost use Rattle.end_node.specs.Holding.{NodeHolding};
 ghost use Rattle.frozen.specs.Runs.{TakenFrom, ports_of};
-ghost use Rattle.image_stations.specs.Holders.{places_of};
+ghost use Rattle.legal_runs.specs.Legs.{places_of};
 ghost use Rattle.station.specs.declared.member.Member.{Member as MemberValue};
 ghost use Rattle.router.specs.Holding.{Holding};
 ghost use Rattle.station.specs.Lawful.{IsNext};
@@ -34,6 +35,7 @@ pub fn send(
     order: &Order,
     bytes: Bytes,
 ) -> Result<(), Error>
+    requires rooms { cables.old.rooms ≡ known_rooms }
     requires next { IsNext order.now.next }
     requires cable { has_cable cables.old.seats order.now.cable ≡ true }
     requires seated { is_seated cables.old.seats order.now.cable order.now.station ≡ true }
@@ -59,6 +61,7 @@ pub fn take<T: RouteTable>(
     stamp: u32,
     station: u16,
 ) -> Result<(), Error>
+    requires rooms { cables.old.rooms ≡ known_rooms }
     requires there { station < length stations.old.items }
     requires seated { (m : MemberValue Holding NodeHolding)
         → slice_get stations.old.items station ≡ Some m

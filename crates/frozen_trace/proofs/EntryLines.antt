@@ -1,5 +1,6 @@
 -- The lines of entries, one part after the other.
-use Rattle.std.proofs.Common.{◌≡◌, ℕ, ◌+◌, ◌-◌, ◌≤◌, ◌<◌, List, [], ◌∷◌, ◌++◌, Some, ap, drop, get_or, length, map, slice_get, sym, subst, take, refl, ◌∙◌, arith}
+use Rattle.std.proofs.Common.{◌≡◌, ℕ, ◌+◌, ◌-◌, ◌≤◌, ◌<◌, List, [], ◌∷◌, ◌++◌, Some, ap, drop, get_or, length, map}
+use Rattle.std.proofs.Common.{slice_get, sym, subst, take, refl, ◌∙◌, arith}
 use Rattle.std.proofs.lemmas.Grind.{flat_map-append}
 use Rattle.std.proofs.lemmas.List.{append_assoc, append-nil, drop-map, get_or_default, length-drop, map-append, take_all}
 use Rattle.std.proofs.lemmas.Option.{slice_get_read}

@@ -1,5 +1,6 @@
 -- Runs grow: new entries come after the earlier ones.
-use Rattle.std.proofs.Common.{◌≡◌, ◌≢◌, ℕ, ◌+◌, ◌<◌, ◌≤◌, List, [], ◌++◌, Option, Some, None, Result, Ok, Err, inl, inr, true, false, ◌==◌, drop, length, slice_get, take, ap, ap₂, sym, subst, refl, ◌∙◌, arith}
+use Rattle.std.proofs.Common.{◌≡◌, ◌≢◌, ℕ, ◌+◌, ◌<◌, ◌≤◌, List, [], ◌++◌, Option, Some, None, Result, Ok, Err, inl, inr}
+use Rattle.std.proofs.Common.{true, false, ◌==◌, drop, length, slice_get, take, ap, ap₂, sym, subst, refl, ◌∙◌, arith}
 use Rattle.std.proofs.Math.Seq.{drop-append_seam, take-append_seam}
 use Rattle.std.proofs.lemmas.Grind.{flat_map-append}
 use Rattle.std.proofs.lemmas.List.{append_assoc, append-nil, length-append, length-map}
@@ -118,7 +119,8 @@ told_then a b c m n x y =
     let cb : List ℕ = cables_of (transcript b.cabling) in
     let known : cb ≡ ca ++ cables_of m =
     ap cables_of x.said ∙ flat_map-append cable_of (transcript a.cabling) m in
-    ap (lines (directory_of a.internet) ca) (added_are a c (m ++ n) (grows_then a b c m n x y)) ∙ lines_append (directory_of a.internet) ca m n
+    ap (lines (directory_of a.internet) ca) (added_are a c (m ++ n) (grows_then a b c m n x y))
+    ∙ lines_append (directory_of a.internet) ca m n
     ∙ ap (λ (k : List ℕ). lines (directory_of a.internet) ca m ++ lines (directory_of a.internet) k n) (sym known)
     ∙ ap (λ i. lines (directory_of a.internet) ca m ++ lines (directory_of i) cb n) (sym x.internet)
     ∙ ap (λ (l : List Entry). lines (directory_of a.internet) ca l ++ lines (directory_of b.internet) cb n) (sym (added_are a b m x))
@@ -143,7 +145,8 @@ prints a b m known before x k l = record {
       ∙ ap (λ (t : List Line). cables_of (take (length t) (transcript b.cabling))) (sym l));
   told_is =
       ap (λ (p : Printed). lines p.directory p.cables (drop (length before) (transcript b.cabling))) k
-      ∙ ap (λ (t : List Line). lines (directory_of a.internet) (cables_of (transcript a.cabling)) (drop (length t) (transcript b.cabling))) l;
+      ∙ ap (λ (t : List Line). lines (directory_of a.internet) (cables_of (transcript a.cabling))
+      (drop (length t) (transcript b.cabling))) l;
 }
 
 -- An event with an error other than Memory.

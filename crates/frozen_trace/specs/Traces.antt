@@ -9,6 +9,7 @@ use Rattle.at_base.specs.declared.error.Fault.{Fault}
 use Rattle.audit.specs.Rules.{Passes}
 use Rattle.audit.specs.Verdicts.{IsFirst, verdict_line}
 use Rattle.audit.specs.declared.verdict.Verdict.TheVariants.{No}
+use Rattle.cable_model.specs.Rooms.{known_rooms}
 use Rattle.cable_model.specs.Logs.{transcript}
 use Rattle.cable_model.specs.Pending.{pending}
 use Rattle.cable_model.specs.Transcript.{Entry}
@@ -73,7 +74,14 @@ pub record IsTrace (i : Internet) (steps : List Step) (text : List ℕ) : Type 0
   pub begun : Running
   pub ended : Running
   pub internet : begun.internet ≡ i
-  pub cabling : begun.cabling ≡ record { seats = cable_seats i; limit = 4000000; lines = []; kept = []; waiting = [] }
+  pub cabling : begun.cabling ≡ record {
+    seats = cable_seats i;
+    limit = 4000000;
+    rooms = known_rooms;
+    lines = [];
+    kept = [];
+    waiting = [];
+  }
   pub fresh : AreFresh begun.stations
   pub begun_frozen : IsFrozen begun
   pub ended_frozen : IsFrozen ended

@@ -44,7 +44,8 @@ ports_seated i r router ok known = all_when (is_port_seated i.cables) router.por
   where
     bad : (p : ℕ) (port : Port) → At router.ports p port → bad_port i r p router port ≡ false
     bad p port at =
-        sym (ap (λ o. on o (λ router. on (slice_get router.ports p) (bad_port i r p router))) known ∙ ap (λ o. on o (bad_port i r p router)) at)
+        sym (ap (λ o. on o (λ router. on (slice_get router.ports p) (bad_port i r p router))) known
+        ∙ ap (λ o. on o (bad_port i r p router)) at)
         ∙ ok 2 (place.Port (suc r) (suc p))
 
     one : (p : ℕ) (port : Port) → At router.ports p port → is_port_seated i.cables port ≡ true

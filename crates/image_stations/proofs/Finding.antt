@@ -1,5 +1,6 @@
 -- A search of two lists of seats, one after the other.
-use Rattle.std.proofs.Common.{◌≡◌, ℕ, Bool, true, false, cond, List, [], ◌∷◌, ◌++◌, refl, sym, ap, ◌∙◌, suc, ◌+◌, ◌≤◌, length, map, drop, take, ◌-◌, is_some, nat_lt, slice_index_or, arith}
+use Rattle.std.proofs.Common.{◌≡◌, ℕ, Bool, true, false, cond, List, [], ◌∷◌, ◌++◌, refl, sym, ap, ◌∙◌, suc, ◌+◌, ◌≤◌}
+use Rattle.std.proofs.Common.{length, map, drop, take, ◌-◌, is_some, nat_lt, slice_index_or, arith}
 use Rattle.std.proofs.lemmas.List.{take_all}
 use Rattle.std.proofs.lemmas.Option.{none-some}
 use Rattle.std.proofs.Common.{Option, Some, None, option_map, find}
@@ -51,4 +52,5 @@ router_spot i cable a = by (seat_at i cable a)
   where
     by : (o : Option Seat) → is_some (router_of i o) ≡ is_routers i (option_map spot_of o)
     by None = refl
-    by (Some s) = elim (nat_lt s.station (length i.routers)) as (λ b. is_some (cond b (Some s.station) None) ≡ b) [ true ↦ refl | false ↦ refl ]
+    by (Some s) =
+        elim (nat_lt s.station (length i.routers)) as (λ b. is_some (cond b (Some s.station) None) ≡ b) [ true ↦ refl | false ↦ refl ]

@@ -1,12 +1,13 @@
 -- The stations of each cable are those that the internet has on it.
-use Rattle.std.proofs.Common.{◌≡◌, ◌⊎◌, ℕ, zero, suc, ◌+◌, inl, inr, Bool, true, false, cond, ◌&&◌, ◌==◌, List, [], ◌∷◌, ◌++◌, length, refl, sym, ap, ◌∙◌, arith, filter, map, find, slice_get}
+use Rattle.std.proofs.Common.{◌≡◌, ◌⊎◌, ℕ, zero, suc, ◌+◌, inl, inr, Bool, true, false, cond, ◌&&◌, ◌==◌, List, [], ◌∷◌}
+use Rattle.std.proofs.Common.{◌++◌, length, refl, sym, ap, ◌∙◌, arith, filter, map, find, slice_get}
 use Rattle.std.proofs.Common.{Option, Some, None, option_map}
 use Rattle.at_base.specs.Address.{same_address}
 use Rattle.at_base.specs.declared.address.Addr.{Addr}
 use Rattle.audit.proofs.WalkLists.{At, at_append}
 use Rattle.table_image.specs.Seats.{Seat, seat_at, seats}
 use Rattle.cable_model.specs.declared.resolve.Found.{Found}
-use Rattle.image_stations.specs.Holders.{found_at}
+use Rattle.legal_runs.specs.Legs.{found_at}
 use Rattle.image_stations.specs.Homes.{AreHomes, found_home, has, home_of, homes_on}
 use Rattle.image_stations.specs.declared.homes.Home.{Home}
 use Rattle.table_image.specs.Internet.{Internet}

@@ -33,13 +33,15 @@ module _ (i : Internet) where
       ap (λ o. seat_with r p (port_on o p.cable) (option_map (λ node. group_of node.zone) (node_of i r))) at
       ∙ ap (λ o. seat_with r p (unwrap_or o 0) (option_map (λ node. group_of node.zone) (node_of i r)))
       (sym (index_position (λ q. q.cable == p.cable) x.ports))
-      ∙ ap (λ o. seat_with r p (unwrap_or (position (λ q. q.cable == p.cable) x.ports) 0) (option_map (λ node. group_of node.zone) o)) (router_node r x at)
+      ∙ ap (λ o. seat_with r p (unwrap_or (position (λ q. q.cable == p.cable) x.ports) 0) (option_map (λ node. group_of node.zone) o))
+      (router_node r x at)
 
   ports_are : (r : ℕ) (x : Router) (ps : List Port) → slice_get i.routers r ≡ Some x
       → map (cable_seat i) (map (port_seat r) ps) ≡ map (router_seat r x.ports) ps
   ports_are r x [] at = refl
   ports_are r x (p ∷ ps) at =
-      ap (λ s. s ∷ map (cable_seat i) (map (port_seat r) ps)) (port_is r x p at) ∙ ap (λ l. router_seat r x.ports p ∷ l) (ports_are r x ps at)
+      ap (λ s. s ∷ map (cable_seat i) (map (port_seat r) ps)) (port_is r x p at)
+      ∙ ap (λ l. router_seat r x.ports p ∷ l) (ports_are r x ps at)
 
   routers_are : (r : ℕ) (rs : List Router) → ((k : ℕ) (x : Router) → slice_get rs k ≡ Some x → slice_get i.routers (r + k) ≡ Some x)
       → map (cable_seat i) (router_seats r rs) ≡ seats_from r rs
@@ -60,7 +62,8 @@ module _ (i : Internet) where
       → cable_seat i (record { station = s; cable = x.cable; address = x.address; hardware = x.hardware }) ≡ node_seat s x
   node_is s k x e at =
       ap (λ o. node_with s x (port_on o x.cable) (node_of i s)) (slice_get_past i.routers s (omega (arith, e)))
-      ∙ ap (node_with s x 0) (ap (λ b. cond b None (slice_get i.nodes (s - length i.routers))) (le-ltb s (length i.routers) (omega (arith, e)))
+      ∙ ap (node_with s x 0)
+      (ap (λ b. cond b None (slice_get i.nodes (s - length i.routers))) (le-ltb s (length i.routers) (omega (arith, e)))
       ∙ ap (slice_get i.nodes) (omega (arith, e)) ∙ at)
 
   nodes_are : (s k : ℕ) (ns : List Node) → s ≡ length i.routers + k
@@ -77,8 +80,10 @@ module _ (i : Internet) where
   pub seats_are : seats_on i ≡ cable_seats i
   seats_are =
       sym (map-append (cable_seat i) (router_seats 0 i.routers) (node_seats (length i.routers) i.nodes)
-      ∙ ap (λ l. l ++ map (cable_seat i) (node_seats (length i.routers) i.nodes)) (routers_are 0 i.routers (λ k x h. subst (λ n. slice_get i.routers n ≡ Some x) (omega arith) h))
-      ∙ ap (λ l. seats_from 0 i.routers ++ l) (nodes_are (length i.routers) 0 i.nodes (omega arith) (λ j x h. subst (λ n. slice_get i.nodes n ≡ Some x) (omega arith) h)))
+      ∙ ap (λ l. l ++ map (cable_seat i) (node_seats (length i.routers) i.nodes))
+      (routers_are 0 i.routers (λ k x h. subst (λ n. slice_get i.routers n ≡ Some x) (omega arith) h))
+      ∙ ap (λ l. seats_from 0 i.routers ++ l)
+      (nodes_are (length i.routers) 0 i.nodes (omega arith) (λ j x h. subst (λ n. slice_get i.nodes n ≡ Some x) (omega arith) h)))
 
 -- The routers of an image within its limits have at most 16 ports.
 each_few : (rs : List Router) → ((k : ℕ) (x : Router) → slice_get rs k ≡ Some x → length x.ports ≤ 16)

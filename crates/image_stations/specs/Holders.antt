@@ -1,16 +1,11 @@
 -- The contents of the stations of an internet whose tables are those of its image.
-use Rattle.std.specs.Prelude.{◌≡◌, ℕ, ◌+◌, List, [], map, length, Option, Some, None, is_some, slice_get}
+use Rattle.std.specs.Prelude.{◌≡◌, ℕ, ◌+◌, List, [], map, length, Option, Some, None, slice_get}
 use Rattle.std.specs.List.{All}
 use Rattle.aarp.specs.Choosing.{Choice, decided}
 use Rattle.at_base.specs.Range.{Span}
 use Rattle.at_base.specs.declared.address.Addr.{Addr}
 use Rattle.at_base.specs.declared.address.Hw.{Hw}
 use Rattle.atp.specs.Requesting.{known}
-use Rattle.audit.specs.Routing.{home}
-use Rattle.table_image.specs.Seats.{Seat, seat_at}
-use Rattle.cable_model.specs.Outcomes.{Places}
-use Rattle.cable_model.specs.declared.resolve.Found.{Found}
-use Rattle.cable_model.specs.declared.resolve.Found.TheVariants.{At, Nobody}
 use Rattle.station.specs.declared.member.Member.{Member}
 use Rattle.station.specs.declared.member.Member.TheVariants as member
 use Rattle.router.specs.Holding.{Holding}
@@ -24,16 +19,6 @@ use Rattle.end_node.specs.Holding.{NodeHolding}
 use Rattle.nbp.specs.declared.names.Named.{Named}
 use Rattle.table_image.specs.declared.node.Node.{Node}
 use Rattle.table_image.specs.declared.node.NodeName.{NodeName}
-
--- The result of a search: the hardware address of the seat, or nobody if there is no seat.
-abbrev pub found_at : Option Seat → Found
-found_at None = Nobody
-found_at (Some s) = At s.hardware
-
--- Where the stations of an internet are, and which networks have a cable; the hardware address of every station is
--- known.
-abbrev pub places_of : Internet → Places
-places_of i = record { finds = λ cable a. found_at (seat_at i cable a); lists = λ net. is_some (home i net) }
 
 -- The range of a cable, and 0 to 0 if there is no cable.
 abbrev pub range_of : Option Cable → Span

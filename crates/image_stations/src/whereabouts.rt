@@ -8,7 +8,7 @@ ghost use Rattle.audit.specs.Routing.{owner};
 ghost use Rattle.table_image.specs.Seats.{node_seats, port_seat, router_seats, seat_at, seats};
 ghost use Rattle.image_stations.specs.Finding as spec;
 ghost use Rattle.image_stations.specs.Finding.{spot_in};
-ghost use Rattle.image_stations.specs.Holders.{found_at};
+ghost use Rattle.legal_runs.specs.Legs.{found_at};
 
 use crate::homes::Homes;
 use at_base::{Addr, Error, Hw};
@@ -192,7 +192,7 @@ impl Whereabouts {
 }
 
 impl Resolve for Whereabouts {
-    ghost use Rattle.image_stations.specs.Holders.{places_of};
+    ghost use Rattle.legal_runs.specs.Legs.{places_of};
 
     ghost finds = { λ w. (places_of w).finds };
 

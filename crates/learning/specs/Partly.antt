@@ -1,5 +1,5 @@
 -- The zone table after only a part of a reply was learned.
-use Rattle.std.specs.Prelude.{◌≡◌, ℕ, List, ◌++◌, fold}
+use Rattle.std.specs.Prelude.{◌≡◌, List, ◌++◌, fold}
 use Rattle.rtmp.specs.declared.row.Row.{Row}
 use Rattle.zip_zones.specs.declared.packet.Packet.{Packet}
 use Rattle.zip_zones.specs.declared.packet.Packet.TheVariants as p

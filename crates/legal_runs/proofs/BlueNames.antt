@@ -77,21 +77,24 @@ abbrev reply_leg : Leg
 reply_leg = record { station = 3; cable = 2; next = next.Station (addr 30 1); body = lab_reply 0; hops = 0 }
 
 request_is_made : IsMade three_cables request_leg
-request_is_made = record { seated = refl; whole = request_is_body; fresh = refl; goes = ByRouter (addr 10 1) 0 refl refl (not_zero 10 (omega arith)) }
+request_is_made =
+    record { seated = refl; whole = request_is_body; fresh = refl; goes = ByRouter (addr 10 1) 0 refl refl (not_zero 10 (omega arith)) }
 
 second_is_made : IsMade three_cables second_leg
 second_is_made =
     record { seated = refl; whole = second_is_body; fresh = refl; goes = ToThese (group_of (codes "blue")) (omega arith) refl refl refl }
 
 forward_is_made : IsMade three_cables forward_leg
-forward_is_made = record { seated = refl; whole = forward_is_body; fresh = refl; goes = ByRouter (addr 20 2) 1 refl refl (not_zero 30 (omega arith)) }
+forward_is_made =
+    record { seated = refl; whole = forward_is_body; fresh = refl; goes = ByRouter (addr 20 2) 1 refl refl (not_zero 30 (omega arith)) }
 
 third_is_made : IsMade three_cables third_leg
 third_is_made =
     record { seated = refl; whole = third_is_body; fresh = refl; goes = ToThese (group_of (codes "blue")) (omega arith) refl refl refl }
 
 reply_is_made : IsMade three_cables reply_leg
-reply_is_made = record { seated = refl; whole = reply_is_body; fresh = refl; goes = ByRouter (addr 30 1) 1 refl refl (not_zero 10 (omega arith)) }
+reply_is_made =
+    record { seated = refl; whole = reply_is_body; fresh = refl; goes = ByRouter (addr 30 1) 1 refl refl (not_zero 10 (omega arith)) }
 
 -- ---- The blocks
 

@@ -6,7 +6,7 @@ use Rattle.std.specs.List.{AllByRecursion as Each}
 use Rattle.std.proofs.lemmas.Bool.{and_left, false_from_ne_true}
 use Rattle.at_base.specs.Text.{same_bytes}
 use Rattle.at_base.specs.declared.address.Hw.{Hw}
-use Rattle.ddp.specs.Bodies.{body, hops, target, with_hops}
+use Rattle.ddp.specs.Bodies.{body, hops, target}
 use Rattle.table_image.specs.Internet.{Internet}
 use Rattle.audit.specs.Routing.{distance, home}
 use Rattle.audit.specs.Rules.{Passes}
@@ -20,7 +20,7 @@ use Rattle.cable_model.specs.Transcript.{Entry, Frame, Put, Reached, Dropped, Ar
 use Rattle.cable_model.proofs.Counting.{At, count_none, each_all, each_map, each_more}
 use Rattle.cable_model.proofs.Pairs.{EndsNone}
 use Rattle.legal_runs.specs.Counts.{carries, sent}
-use Rattle.legal_runs.specs.Legs.{Leg, is_copy, is_datagram, is_unicast, put, reach}
+use Rattle.legal_runs.specs.Legs.{Leg, is_copy, is_datagram, is_unicast, leg_bytes}
 use Rattle.legal_runs.specs.Stations.{cable_seat, cable_seats, has_address, is_on, is_router}
 use Rattle.legal_runs.proofs.Frames.{Framed, Whole, body_stays, hops_are, target_stays}
 use Rattle.legal_runs.proofs.Seated.{heard_alone}
@@ -158,12 +158,12 @@ module _ (i : Internet) (ok : Passes i) (N A : ℕ → Type 0) where
     -- The frame of the leg to a hardware address.
     abbrev pub frame_to : Hw → Frame
     frame_to to =
-        record { stamp = stamp; cable = l.cable; sender = l.station; to = to; kind = Ddp; bytes = with_hops l.hops l.body }
+        record { stamp = stamp; cable = l.cable; sender = l.station; to = to; kind = Ddp; bytes = leg_bytes l }
 
-    pub frame_body : body (with_hops l.hops l.body) ≡ l.body
+    pub frame_body : body (leg_bytes l) ≡ l.body
     frame_body = body_stays l.hops few l.body ∙ whole.same
 
-    is_framed : (to : Hw) → Each (λ p. Framed p.frame.bytes) (pairs (cable_seats i) (put stamp l to ∷ []))
+    is_framed : (to : Hw) → Each (λ p. Framed p.frame.bytes) (pairs (cable_seats i) (Put (frame_to to) ∷ []))
     is_framed to =
         subst (Each (λ p. Framed p.frame.bytes)) (sym (pairs_put (frame_to to)))
         (each_map (λ p. Framed p.frame.bytes) (λ (s : Seat). record { frame = frame_to to; seat = s })
@@ -178,24 +178,34 @@ module _ (i : Internet) (ok : Passes i) (N A : ℕ → Type 0) where
         ap (λ a. is_datagram Ddp && is_unicast to && is_router i s.station && not (a.net == 0) && not (has_address i s.station s.cable a))
         (target_stays l.hops few l.body)
 
+    -- No frame, and the datagram reached the cable.
+    pub does_end : (how : How) → home i (target l.body).net ≡ Some l.cable → A l.cable
+        → Does i N A stamp l.body l.hops (Reached l.cable l.station how (body (leg_bytes l)) ∷ [])
+    does_end how home_is there =
+        subst (λ b. Does i N A stamp l.body l.hops (Reached l.cable l.station how b ∷ [])) (sym frame_body)
+        (does_reach stamp l.cable l.station how l.body l.hops home_is there)
+
     -- A frame without copies, after the datagram reached the cable.
     pub does_arrive : (how : How) (to : Hw) → home i (target l.body).net ≡ Some l.cable → A l.cable
-        → IsNoCopy (frame_to to) → Does i N A stamp l.body l.hops (reach how l ∷ put stamp l to ∷ [])
+        → IsNoCopy (frame_to to)
+        → Does i N A stamp l.body l.hops (Reached l.cable l.station how (body (leg_bytes l)) ∷ Put (frame_to to) ∷ [])
     unfolding copies
-    does_arrive how to home_is there none = record {
-      adds = λ b some. let rest = no_copies (frame_to to) none b in omega (arith, rest);
-      unsent = λ b. refl;
-      right = (home_is, (tt, tt));
-      hops_left = no_hops (frame_to to) none;
-      framed = is_framed to;
-      goes_to = no_next (frame_to to) l.body none;
-      of = ((refl, there), ((seated, frame_body, refl, hops_are l.hops few l.body whole.long), tt));
-      ends_none = (tt, (tt, tt));
-      numbered = (tt, ((omega arith), tt));
-    }
+    does_arrive how to home_is there none =
+        subst (λ b. Does i N A stamp l.body l.hops (Reached l.cable l.station how b ∷ Put (frame_to to) ∷ []))
+        (sym frame_body) (record {
+          adds = λ b some. let rest = no_copies (frame_to to) none b in omega (arith, rest);
+          unsent = λ b. refl;
+          right = (home_is, (tt, tt));
+          hops_left = no_hops (frame_to to) none;
+          framed = is_framed to;
+          goes_to = no_next (frame_to to) l.body none;
+          of = ((refl, there), ((seated, frame_body, refl, hops_are l.hops few l.body whole.long), tt));
+          ends_none = (tt, (tt, tt));
+          numbered = (tt, ((omega arith), tt));
+        })
 
     -- A frame whose datagram is for this cable only.
-    pub does_stay : (to : Hw) → (target l.body).net ≡ 0 → Does i N A stamp l.body l.hops (put stamp l to ∷ [])
+    pub does_stay : (to : Hw) → (target l.body).net ≡ 0 → Does i N A stamp l.body l.hops (Put (frame_to to) ∷ [])
     unfolding copies
     does_stay to zero_net = record {
       adds = λ b some.
@@ -228,13 +238,13 @@ module _ (i : Internet) (ok : Passes i) (N A : ℕ → Type 0) where
     pub does_go : (k : ℕ) (s : PlaceOf) → At (seats i) k s → s.cable ≡ l.cable
         → is_copy i (record { frame = frame_to s.hardware; seat = cable_seat i s }) ≡ true
         → ((c : ℕ) → home i (target l.body).net ≡ Some c → l.hops + distance i s.station (target l.body).net ≤ 14) → N s.station
-        → Does i N A stamp l.body l.hops (put stamp l s.hardware ∷ [])
+        → Does i N A stamp l.body l.hops (Put (frame_to s.hardware) ∷ [])
     unfolding copies
     does_go k s at cable copy near next = record {
       adds = λ b some.
           let here = ap (count (carries i b)) alone in
           let value : one (carries i b only) ≡ one (same_bytes b l.body) =
-          ap (λ v. one (v && same_bytes b (body (with_hops l.hops l.body)))) copy ∙ ap (λ x. one (same_bytes b x)) frame_body in
+          ap (λ v. one (v && same_bytes b (body (leg_bytes l)))) copy ∙ ap (λ x. one (same_bytes b x)) frame_body in
           omega (arith, here, value);
       unsent = λ b. refl;
       right = (tt, tt);
@@ -249,11 +259,11 @@ module _ (i : Internet) (ok : Passes i) (N A : ℕ → Type 0) where
         only : Pair
         only = record { frame = frame_to s.hardware; seat = cable_seat i s }
 
-        alone : pairs (cable_seats i) (put stamp l s.hardware ∷ []) ≡ only ∷ []
+        alone : pairs (cable_seats i) (Put (frame_to s.hardware) ∷ []) ≡ only ∷ []
         alone = pairs_put (frame_to s.hardware) ∙ heard_alone i ok (frame_to s.hardware) k s at cable refl
 
-        fine : (c : ℕ) → home i (target (with_hops l.hops l.body)).net ≡ Some c
-            → hops (with_hops l.hops l.body) + distance i s.station (target (with_hops l.hops l.body)).net ≤ 14
+        fine : (c : ℕ) → home i (target (leg_bytes l)).net ≡ Some c
+            → hops (leg_bytes l) + distance i s.station (target (leg_bytes l)).net ≤ 14
         fine c home_is =
             let same = target_stays l.hops few l.body in
             let count_is = hops_are l.hops few l.body whole.long in

@@ -46,10 +46,12 @@ abbrev reply_leg : Leg
 reply_leg = record { station = 3; cable = 2; next = next.Station (addr 30 1); body = echo_reply 0; hops = 0 }
 
 request_is_made : IsMade three_cables request_leg
-request_is_made = record { seated = refl; whole = request_is_body; fresh = refl; goes = ByRouter (addr 10 1) 0 refl refl (not_zero 30 (omega arith)) }
+request_is_made =
+    record { seated = refl; whole = request_is_body; fresh = refl; goes = ByRouter (addr 10 1) 0 refl refl (not_zero 30 (omega arith)) }
 
 reply_is_made : IsMade three_cables reply_leg
-reply_is_made = record { seated = refl; whole = reply_is_body; fresh = refl; goes = ByRouter (addr 30 1) 1 refl refl (not_zero 10 (omega arith)) }
+reply_is_made =
+    record { seated = refl; whole = reply_is_body; fresh = refl; goes = ByRouter (addr 30 1) 1 refl refl (not_zero 10 (omega arith)) }
 
 asked : IsLegal three_cables (take 2 echo)
 unfolding request datagram

@@ -87,7 +87,8 @@ module _ (i : Internet) (ok : Passes i) (N A : ℕ → Type 0) (stamp : ℕ) (p 
           (cond (hops p.frame.bytes == 15) (Dropped r HopLimit (body p.frame.bytes) ∷ [])
           (leg i stamp (passed r p c (cond b next.All (next.Station (target p.frame.bytes))))))
       by single true e =
-          passed_on r c next.All few seated (ToThem refl there (node_same ∙ eqb-true _ _ e)) (λ a s d n own apart h. absurd (all_is_none a n)) (λ h. at)
+          passed_on r c next.All few seated (ToThem refl there (node_same ∙ eqb-true _ _ e))
+          (λ a s d n own apart h. absurd (all_is_none a n)) (λ h. at)
           (λ a s n own apart. absurd (all_is_none a n))
         where
           all_is_none : (a : Addr) → next.All ≡ next.Station a → ⊥
@@ -98,7 +99,8 @@ module _ (i : Internet) (ok : Passes i) (N A : ℕ → Type 0) (stamp : ℕ) (p 
           (λ z. eqb-false _ _ e (sym node_same ∙ z)))
           (λ a s d n own apart h. absurd (no_other a n apart)) (λ h. at) (λ a s n own apart. absurd (no_other a n apart))
         where
-          no_other : (a : Addr) → next.Station (target p.frame.bytes) ≡ next.Station a → same_address (target (body p.frame.bytes)) a ≡ false → ⊥
+          no_other : (a : Addr) → next.Station (target p.frame.bytes) ≡ next.Station a
+              → same_address (target (body p.frame.bytes)) a ≡ false → ⊥
           no_other a n apart =
               let it : target p.frame.bytes ≡ a = cc in
               let self : same_address (target (body p.frame.bytes)) a ≡ true =

@@ -8,6 +8,14 @@ use Rattle.ddp.specs.Datagram.{Datagram, datagram}
 use Rattle.ddp.proofs.Agreement.{value_agrees}
 use Rattle.legal_runs.specs.Answers.{IsBody}
 
+-- Setting the hop count twice is setting it once.
+pub set_again : (m n : ℕ) → n ≤ 15 → (bytes : List ℕ) → with_hops m (with_hops n bytes) ≡ with_hops m bytes
+set_again m n few [] = refl
+set_again m n few (b ∷ bytes) =
+    let first = b / 64 * 64 + n * 4 + b % 4 in
+    let e : first / 64 * 64 + m * 4 + first % 4 ≡ b / 64 * 64 + m * 4 + b % 4 = omega (arith, few) in
+    ap (λ (x : ℕ). x ∷ bytes) e
+
 -- The length field has a valid length of a datagram.
 abbrev pub IsLong : List ℕ → Type 0
 IsLong bytes = 13 ≤ named_length bytes
@@ -47,6 +55,10 @@ module _ (n : ℕ) (few : n ≤ 15) where
 pub record Whole (b : List ℕ) : Type 0 where
   pub long : IsLong b
   pub same : body b ≡ b
+
+-- Its hop count is 0 already.
+pub no_hops : (b : List ℕ) → Whole b → with_hops 0 b ≡ b
+no_hops b w = ap (with_hops 0) (sym w.same) ∙ (set_again 0 0 (omega arith) (take (named_length b) b) ∙ w.same)
 
 pub whole : (b : List ℕ) → IsBody b → Whole b
 whole b is =

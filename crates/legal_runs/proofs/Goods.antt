@@ -4,12 +4,13 @@ use Rattle.std.proofs.Common.{inl, inr, refl, sym, ap, ◌∙◌, subst, arith, 
 use Rattle.std.specs.List.{AllByRecursion as Each}
 use Rattle.std.proofs.lemmas.Bool.{and_left}
 use Rattle.at_base.specs.declared.address.Addr.{Addr}
-use Rattle.ddp.specs.Bodies.{body, hops, target, with_hops}
+use Rattle.ddp.specs.Bodies.{body, hops, target}
 use Rattle.table_image.specs.Internet.{Internet}
 use Rattle.audit.specs.Routing.{hand}
 use Rattle.audit.specs.Rules.{Passes}
 use Rattle.station.specs.declared.heard.Kind.TheVariants.{Ddp}
 use Rattle.cable_model.specs.declared.seat.Seat.{Seat}
+use Rattle.cable_model.specs.Outcomes.{framed as framed_by}
 use Rattle.cable_model.specs.Pending.{Pair, pairs, pairs_of}
 use Rattle.at_base.specs.Multicast.{group_hw, group_of, is_all}
 use Rattle.cable_model.specs.Transcript.{Entry, count, one, stamps}
@@ -17,7 +18,7 @@ use Rattle.cable_model.proofs.Counting.{each-append, each_all, each_map, each_mo
 use Rattle.cable_model.proofs.Pairs.{pairs-append}
 use Rattle.legal_runs.specs.Answers.{Expands, IsLookup, IsMade, IsOwn, ends_at, is_other}
 use Rattle.legal_runs.specs.Legal.{said}
-use Rattle.legal_runs.specs.Legs.{Leg, fate, fate_by, is_copy, is_datagram, is_unicast, leg, leg_to, put}
+use Rattle.legal_runs.specs.Legs.{Leg, fate, fate_by, is_copy, is_datagram, is_unicast, leg, leg_bytes, sender}
 use Rattle.legal_runs.specs.Lookups.{asks, is_request, waits}
 use Rattle.legal_runs.specs.Requests.{is_forward, is_lookup, request, zone_of}
 use Rattle.legal_runs.specs.Stations.{cable_seats}
@@ -25,6 +26,7 @@ use Rattle.legal_runs.proofs.Does.{Does, HopsFine, IsOf}
 use Rattle.legal_runs.proofs.FateCounts.{pair_good}
 use Rattle.legal_runs.proofs.Fates.{fate_does}
 use Rattle.legal_runs.proofs.Frames.{Framed, target_inside, whole}
+use Rattle.legal_runs.proofs.Legs.{to_group}
 use Rattle.legal_runs.proofs.Listing.{forward_alone, lookup_alone, other_alone}
 use Rattle.legal_runs.proofs.Passing.{PairOk, end_none, fate_of, goes_on, not_unicast, request_some}
 use Rattle.legal_runs.proofs.Requested.{OnePair, of_bodies, of_kinds, via_one}
@@ -140,10 +142,18 @@ module _ (i : Internet) (ok : Passes i) where
       (pairs (cable_seats i) (leg i stamp l))
       (each_both (λ p. body p.frame.bytes ≡ l.body) (λ p. p.frame.kind ≡ Ddp) (pairs (cable_seats i) (leg i stamp l))
       (of_bodies i any l.body l.hops (leg i stamp l) does.of) (of_kinds i any l.body l.hops (leg i stamp l) does.of))
-      (subst (λ n. Each (λ p. p.frame.to ≡ group_hw g) (pairs (cable_seats i) (leg_to i stamp l n))) (sym h.next)
-      (each-append (λ p. p.frame.to ≡ group_hw g) (pairs_of (cable_seats i) (put stamp l (group_hw g))) []
+      (subst (λ es. Each (λ p. p.frame.to ≡ group_hw g) (pairs (cable_seats i) es)) (sym (to_group i stamp l g h.next))
+      (each-append (λ p. p.frame.to ≡ group_hw g)
+      (pairs_of (cable_seats i) (framed_by (sender stamp l) (group_hw g) Ddp (leg_bytes l))) []
       (each_map (λ p. p.frame.to ≡ group_hw g) (λ (s : Seat). record {
-        frame = record { stamp = stamp; cable = l.cable; sender = l.station; to = group_hw g; kind = Ddp; bytes = with_hops l.hops l.body };
+        frame = record {
+          stamp = stamp;
+          cable = l.cable;
+          sender = l.station;
+          to = group_hw g;
+          kind = Ddp;
+          bytes = leg_bytes l;
+        };
         seat = s;
       }) _ (each_all _ _ (λ s. refl))) tt)))
 
@@ -174,7 +184,8 @@ module _ (i : Internet) (ok : Passes i) where
       → Each (PairOk i) (pairs (cable_seats i) (said i stamp (l ∷ [])))
   looked_good stamp key r d l made h = said_one stamp l [] (lookup_good stamp key r d l made h) tt
 
-  pub others_good : (stamp : ℕ) (ls : List Leg) → Each (IsMade i) ls → Each (λ l. is_other l.body ≡ true) ls → Each (PairOk i) (pairs (cable_seats i) (said i stamp ls))
+  pub others_good : (stamp : ℕ) (ls : List Leg) → Each (IsMade i) ls → Each (λ l. is_other l.body ≡ true) ls
+      → Each (PairOk i) (pairs (cable_seats i) (said i stamp ls))
   others_good stamp [] made h = tt
   others_good stamp (l ∷ ls) made h =
       let e = other_alone l.body h.0 in

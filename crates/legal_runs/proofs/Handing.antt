@@ -1,22 +1,23 @@
 -- A router that carries a datagram on puts it on the cable onto which it hands datagrams for its network.
-use Rattle.std.proofs.Common.{◌≡◌, ℕ, ◌+◌, Bool, true, false, not, cond, List, [], ◌∷◌, ◌++◌, Option, Some, None, refl, sym, ap, ◌∙◌, is_some}
+use Rattle.std.proofs.Common.{◌≡◌, ℕ, ◌+◌, Bool, true, false, not, cond, List, [], ◌∷◌, ◌++◌, Some, refl}
+use Rattle.std.proofs.Common.{ap, ◌∙◌}
 use Rattle.std.specs.Prelude.{◌==◌, ◌||◌}
 use Rattle.std.specs.List.{AllByRecursion as Each}
 use Rattle.at_base.specs.Address.{same_address}
-use Rattle.at_base.specs.Multicast.{all_hw}
 use Rattle.at_base.specs.declared.address.Addr.{Addr}
 use Rattle.ddp.specs.Bodies.{body, hops, target, with_hops}
 use Rattle.table_image.specs.Internet.{Internet}
-use Rattle.table_image.specs.Seats.{Seat as PlaceOf, seat_at}
-use Rattle.audit.specs.Routing.{Hand, Here, On, Nowhere, hand, home}
+use Rattle.audit.specs.Routing.{Hand, Here, On, Nowhere, hand}
 use Rattle.audit.specs.Rules.{Passes}
-use Rattle.cable_model.specs.declared.entry.How.TheVariants as how
+use Rattle.cable_model.specs.Outcomes.{Places, Sender, leg as leg_on, to_other, to_target}
+use Rattle.cable_model.specs.declared.resolve.Found.{Found}
+use Rattle.cable_model.specs.declared.resolve.Found.TheVariants.{At, Nobody, Later}
 use Rattle.cable_model.specs.Pending.{Pair, pairs, pending, was_ended}
 use Rattle.cable_model.specs.Transcript.{Entry, Sent, Put, Took, Reached, Dropped, Lost, stamps}
 use Rattle.cable_model.proofs.Counting.{contained_at, each_at, filter_at}
 use Rattle.legal_runs.specs.Carriage.{AreByHand, cable_of_hand}
 use Rattle.legal_runs.specs.Legal.{Block, IsLegal, Sends, Takes, Begins, Goes, said}
-use Rattle.legal_runs.specs.Legs.{Leg, fate, fate_by, final, is_copy, leg, leg_to, passed, put, reach, to_other, to_target}
+use Rattle.legal_runs.specs.Legs.{Leg, fate, fate_by, final, is_copy, leg, leg_bytes, passed, places_of, sender}
 use Rattle.legal_runs.specs.Stations.{cable_seats, has_address}
 use Rattle.legal_runs.proofs.Frames.{Framed, target_inside}
 use Rattle.legal_runs.proofs.Runs.{run_is}
@@ -67,22 +68,22 @@ module _ (i : Internet) where
   either true es fs h g = h
   either false es fs h g = g
 
-  leg_by : (stamp : ℕ) (l : Leg) (to : Next)
-      → cable_of_hand (hand i l.station (target (with_hops l.hops l.body)).net) ≡ Some l.cable → AreByHand i true (leg_to i stamp l to)
-  leg_by stamp l (next.Station a) h =
-      either (same_address (target l.body) a) (to_target stamp l (seat_at i l.cable a)) (to_other stamp l (seat_at i l.cable a))
-      (straight (seat_at i l.cable a)) (onward (seat_at i l.cable a))
+  leg_by : (places : Places) (s : Sender) (to : Next) (bytes : List ℕ)
+      → cable_of_hand (hand i s.station (target bytes).net) ≡ Some s.cable → AreByHand i true (leg_on places s to bytes)
+  leg_by places s (next.Station a) bytes h =
+      either (same_address (target bytes) a) _ _ (straight (places.finds s.cable a)) (onward (places.finds s.cable a))
     where
-      straight : (o : Option PlaceOf) → AreByHand i true (to_target stamp l o)
-      straight None = tt
-      straight (Some s) = (h, tt)
+      straight : (f : Found) → AreByHand i true (to_target s bytes f)
+      straight (At hw) = (h, tt)
+      straight Nobody = tt
+      straight Later = tt
 
-      onward : (o : Option PlaceOf) → AreByHand i true (to_other stamp l o)
-      onward None = tt
-      onward (Some s) = (h, tt)
-  leg_by stamp l next.All h =
-      either (is_some (home i (target l.body).net)) (reach how.All l ∷ put stamp l all_hw ∷ []) (put stamp l all_hw ∷ []) (h, tt) (h, tt)
-  leg_by stamp l (next.Group g) h = (h, tt)
+      onward : (f : Found) → AreByHand i true (to_other s bytes f)
+      onward (At hw) = (h, tt)
+      onward Nobody = tt
+      onward Later = tt
+  leg_by places s next.All bytes h = either (places.lists (target bytes).net) _ _ (h, tt) (h, tt)
+  leg_by places s (next.Group g) bytes h = (h, tt)
 
   module _ (stamp : ℕ) (p : Pair) (framed : Framed p.frame.bytes) where
     -- The frame that is passed on is for the same network.
@@ -90,20 +91,19 @@ module _ (i : Internet) where
     same_net =
         ap (λ (a : Addr). a.net) (target_with (hops p.frame.bytes + 1) (body p.frame.bytes) ∙ target_inside p.frame.bytes framed)
 
-    on_cable : (r c : ℕ) → cable_of_hand (hand i r (target p.frame.bytes).net) ≡ Some c
-        → cable_of_hand (hand i r (target (with_hops (hops p.frame.bytes + 1) (body p.frame.bytes))).net) ≡ Some c
-    on_cable r c h = ap (λ n. cable_of_hand (hand i r n)) same_net ∙ h
+    passed_on : (r c : ℕ) (whom : Next) → cable_of_hand (hand i r (target p.frame.bytes).net) ≡ Some c
+        → AreByHand i true (leg i stamp (passed r p c whom))
+    passed_on r c whom h =
+        let l = passed r p c whom in
+        leg_by (places_of i) (sender stamp l) whom (leg_bytes l) (ap (λ n. cable_of_hand (hand i r n)) same_net ∙ h)
 
     by_fate : (r : ℕ) (h : Hand) → hand i r (target p.frame.bytes).net ≡ h → AreByHand i true (fate_by i stamp r p h)
     by_fate r Nowhere e = tt
     by_fate r (Here c) e =
         either ((target p.frame.bytes).node == 0 || has_address i r c (target p.frame.bytes)) _ _ tt
-        (either (hops p.frame.bytes == 15) _ _ tt
-        (leg_by stamp (passed r p c (final (target p.frame.bytes))) (final (target p.frame.bytes))
-        (on_cable r c (ap cable_of_hand e))))
+        (either (hops p.frame.bytes == 15) _ _ tt (passed_on r c (final (target p.frame.bytes)) (ap cable_of_hand e)))
     by_fate r (On s c a) e =
-        either (hops p.frame.bytes == 15) _ _ tt
-        (leg_by stamp (passed r p c (next.Station a)) (next.Station a) (on_cable r c (ap cable_of_hand e)))
+        either (hops p.frame.bytes == 15) _ _ tt (passed_on r c (next.Station a) (ap cable_of_hand e))
 
     fate_by_hand : AreByHand i true (fate i stamp p)
     fate_by_hand = either (is_copy i p) _ _ (by_fate p.seat.station (hand i p.seat.station (target p.frame.bytes).net) refl) tt

@@ -5,7 +5,7 @@ use Rattle.std.proofs.lemmas.Bool.{and_parts, cases_eq, false_from_ne_true, ne_e
 use Rattle.at_base.specs.Address.{same_address}
 use Rattle.at_base.specs.Range.{is_between}
 use Rattle.at_base.specs.declared.address.Addr.{Addr}
-use Rattle.ddp.specs.Bodies.{target}
+use Rattle.ddp.specs.Bodies.{body, target}
 use Rattle.table_image.specs.Internet.{Internet}
 use Rattle.audit.specs.Places.{on}
 use Rattle.audit.specs.Routing.{distance, home, owner}
@@ -15,17 +15,20 @@ use Rattle.audit.proofs.Finding.{any_at, any_from}
 use Rattle.audit.proofs.SeatUnique.{addressed, unique}
 use Rattle.audit.proofs.WalkFacts.{owner_is}
 use Rattle.audit.proofs.WalkLists.{at_one, find_at}
+use Rattle.cable_model.specs.Outcomes.{framed, leg as leg_on, to_other, to_target}
+use Rattle.cable_model.specs.Transcript.{Reached}
 use Rattle.cable_model.specs.declared.entry.How.TheVariants as how
 use Rattle.station.specs.declared.heard.Kind.TheVariants.{Ddp}
 use Rattle.at_base.specs.Multicast.{all_hw, group_hw, is_all, is_group}
 use Rattle.cable_model.proofs.Counting.{At}
 use Rattle.legal_runs.specs.Answers.{Goes, Straight, ByRouter, ToThem, OnCable, ToThese}
-use Rattle.legal_runs.specs.Legs.{Leg, is_datagram, leg, leg_to, put, reach, to_other, to_target}
+use Rattle.legal_runs.specs.Legs.{Leg, found_at, is_datagram, leg, leg_bytes, places_of, sender}
 use Rattle.legal_runs.specs.Stations.{cable_holds, cable_seat, has_address, is_on, is_router}
-use Rattle.legal_runs.proofs.Does.{Does, copy_is, does_arrive, does_go, does_reach, does_stay, none_alone, none_at_all, frame_to}
-use Rattle.legal_runs.proofs.Frames.{Whole}
+use Rattle.legal_runs.proofs.Does.{Does, copy_is, does_arrive, does_end, does_go, does_stay, none_alone, none_at_all, frame_to}
+use Rattle.legal_runs.proofs.Frames.{Whole, target_stays}
 use Rattle.legal_runs.proofs.Tests.{all_three, three_are}
 use Rattle.legal_runs.proofs.Seated.{home_is, listed_some, not_all, not_group}
+use Rattle.station.specs.declared.output.Next.{Next}
 use Rattle.station.specs.declared.output.Next.TheVariants as next
 
 -- ---- Equal addresses
@@ -84,13 +87,44 @@ module _ (i : Internet) (ok : Passes i) where
       let one : w.1 ≡ s = at_one (seats i) k w.1 s (subst (λ n. At (seats i) n w.1) same w.2) at in
       true≢false (sym (ap (λ (t : PlaceOf). same_address a t.address) (sym one) ∙ h.2) ∙ apart))
 
+-- ---- The entries of a leg, by its next receiver
+
+module _ (i : Internet) (stamp : ℕ) (l : Leg) where
+  by_next : (n : Next) → l.next ≡ n → leg i stamp l ≡ leg_on (places_of i) (sender stamp l) n (leg_bytes l)
+  by_next n e = ap (λ n. leg_on (places_of i) (sender stamp l) n (leg_bytes l)) e
+
+  pub to_group : (g : ℕ) → l.next ≡ next.Group g
+      → leg i stamp l ≡ framed (sender stamp l) (group_hw g) Ddp (leg_bytes l) ∷ []
+  to_group g e = by_next (next.Group g) e
+
+  -- Hops don't change whom a datagram is for, so that its body tells it.
+  module _ (few : l.hops ≤ 15) where
+    pub to_station : (a : Addr) → l.next ≡ next.Station a
+        → leg i stamp l ≡ cond (same_address (target l.body) a)
+        (to_target (sender stamp l) (leg_bytes l) (found_at (seat_at i l.cable a)))
+        (to_other (sender stamp l) (leg_bytes l) (found_at (seat_at i l.cable a)))
+    to_station a e =
+        by_next (next.Station a) e
+        ∙ ap (λ t. cond (same_address t a) (to_target (sender stamp l) (leg_bytes l) (found_at (seat_at i l.cable a)))
+        (to_other (sender stamp l) (leg_bytes l) (found_at (seat_at i l.cable a)))) (target_stays l.hops few l.body)
+
+    pub to_everybody : l.next ≡ next.All
+        → leg i stamp l ≡ cond (is_some (home i (target l.body).net))
+        (Reached l.cable l.station how.All (body (leg_bytes l)) ∷ framed (sender stamp l) all_hw Ddp (leg_bytes l) ∷ [])
+        (framed (sender stamp l) all_hw Ddp (leg_bytes l) ∷ [])
+    to_everybody e =
+        by_next next.All e
+        ∙ ap (λ (t : Addr). cond (is_some (home i t.net))
+        (Reached l.cable l.station how.All (body (leg_bytes l)) ∷ framed (sender stamp l) all_hw Ddp (leg_bytes l) ∷ [])
+        (framed (sender stamp l) all_hw Ddp (leg_bytes l) ∷ [])) (target_stays l.hops few l.body)
+
 -- ---- Legs
 
 module _ (i : Internet) (ok : Passes i) (N A : ℕ → Type 0) where
   -- A leg to its target, at a seat that exists.
   to_there : (stamp : ℕ) (l : Leg) (whole : Whole l.body) (few : l.hops ≤ 15) (seated : is_on i l.station l.cable ≡ true) (s : PlaceOf)
       → SeatThere i l.cable (target l.body) s → A l.cable
-      → Does i N A stamp l.body l.hops (to_target stamp l (Some s))
+      → Does i N A stamp l.body l.hops (to_target (sender stamp l) (leg_bytes l) (found_at (Some s)))
   to_there stamp l whole few seated s w there =
       does_arrive i ok N A stamp l whole few seated how.Station s.hardware (seat_home i ok l.cable (target l.body) s w) there
       (none_alone i ok N A (frame_to i ok N A stamp l whole few seated s.hardware) w.place s w.at w.cable_is refl
@@ -110,9 +144,10 @@ module _ (i : Internet) (ok : Passes i) (N A : ℕ → Type 0) where
   -- A leg to its target, which may not exist.
   straight : (stamp : ℕ) (l : Leg) (whole : Whole l.body) (few : l.hops ≤ 15) (seated : is_on i l.station l.cable ≡ true) → home i
       (target l.body).net ≡ Some l.cable → A l.cable
-      → (o : Option PlaceOf) → seat_at i l.cable (target l.body) ≡ o → Does i N A stamp l.body l.hops (to_target stamp l o)
-  straight stamp l whole few seated home_is there None e = does_reach i ok N A stamp l.cable l.station how.Absent l.body l.hops home_is
-      there
+      → (o : Option PlaceOf) → seat_at i l.cable (target l.body) ≡ o
+      → Does i N A stamp l.body l.hops (to_target (sender stamp l) (leg_bytes l) (found_at o))
+  straight stamp l whole few seated home_is there None e =
+      does_end i ok N A stamp l whole few seated how.Absent home_is there
   straight stamp l whole few seated home_is there (Some s) e =
       to_there stamp l whole few seated s (seat_there i l.cable (target l.body) s e) there
 
@@ -121,7 +156,7 @@ module _ (i : Internet) (ok : Passes i) (N A : ℕ → Type 0) where
       (s : PlaceOf) → SeatThere i l.cable a s
       → s.station < length i.routers → same_address (target l.body) a ≡ false
       → ((c : ℕ) → home i (target l.body).net ≡ Some c → l.hops + distance i s.station (target l.body).net ≤ 14) → N s.station
-      → Does i N A stamp l.body l.hops (to_other stamp l (Some s))
+      → Does i N A stamp l.body l.hops (to_other (sender stamp l) (leg_bytes l) (found_at (Some s)))
   onward stamp l whole few seated a s w router apart near next =
       elim (cases_eq (target l.body).net 0) [
         | inl none ↦ does_stay i ok N A stamp l whole few seated s.hardware none
@@ -152,9 +187,10 @@ module _ (i : Internet) (ok : Passes i) (N A : ℕ → Type 0) where
       → ((a : Addr) (r : ℕ) → l.next ≡ next.Station a → owner i l.cable a ≡ Some r → same_address (target l.body) a ≡ false → N r)
       → Does i N A stamp l.body l.hops (leg i stamp l)
   leg_does stamp l whole few seated (Straight e on single one) near there next =
-      subst (λ n. Does i N A stamp l.body l.hops (leg_to i stamp l n)) (sym e)
-      (subst (λ b. Does i N A stamp l.body l.hops (cond b (to_target stamp l (seat_at i l.cable (target l.body)))
-      (to_other stamp l (seat_at i l.cable (target l.body)))))
+      let found = found_at (seat_at i l.cable (target l.body)) in
+      subst (Does i N A stamp l.body l.hops) (sym (to_station i stamp l few (target l.body) e))
+      (subst (λ b. Does i N A stamp l.body l.hops
+      (cond b (to_target (sender stamp l) (leg_bytes l) found) (to_other (sender stamp l) (leg_bytes l) found)))
       (sym (same_address_self (target l.body)))
       (straight stamp l whole few seated (home_is i ok (target l.body).net l.cable on)
       (there (home_is i ok (target l.body).net l.cable on)) (seat_at i l.cable (target l.body)) refl))
@@ -162,11 +198,13 @@ module _ (i : Internet) (ok : Passes i) (N A : ℕ → Type 0) where
       let w = owner_is i l.cable a r own in
       let s = w.0.0 in
       let place = seat_there i l.cable a s w.0.1 in
-      subst (λ n. Does i N A stamp l.body l.hops (leg_to i stamp l n)) (sym e)
-      (subst (λ o. Does i N A stamp l.body l.hops (cond (same_address (target l.body) a) (to_target stamp l o) (to_other stamp l o)))
+      subst (Does i N A stamp l.body l.hops) (sym (to_station i stamp l few a e))
+      (subst (λ o. Does i N A stamp l.body l.hops (cond (same_address (target l.body) a)
+      (to_target (sender stamp l) (leg_bytes l) (found_at o)) (to_other (sender stamp l) (leg_bytes l) (found_at o))))
       (sym w.0.1)
       ((elim (same_address (target l.body) a) as (λ b. same_address (target l.body) a ≡ b
-      → Does i N A stamp l.body l.hops (cond b (to_target stamp l (Some s)) (to_other stamp l (Some s)))) [
+      → Does i N A stamp l.body l.hops (cond b (to_target (sender stamp l) (leg_bytes l) (found_at (Some s)))
+      (to_other (sender stamp l) (leg_bytes l) (found_at (Some s))))) [
         | true ↦ λ same. (let mine = at_target (same_address_is (target l.body) a same) place in
             to_there stamp l whole few seated s mine (there (seat_home i ok l.cable (target l.body) s mine)))
         | false ↦ λ apart.
@@ -181,18 +219,24 @@ module _ (i : Internet) (ok : Passes i) (N A : ℕ → Type 0) where
       at_target {s} {a} e w = subst (λ x. SeatThere i l.cable x s) (sym e) w
   leg_does stamp l whole few seated (ToThem e on all) near there next =
       let home_is_there = home_is i ok (target l.body).net l.cable on in
-      subst (λ n. Does i N A stamp l.body l.hops (leg_to i stamp l n)) (sym e)
-      (subst (λ o. Does i N A stamp l.body l.hops (cond (is_some o) (reach how.All l ∷ put stamp l all_hw ∷ []) (put stamp l all_hw ∷ [])))
+      subst (Does i N A stamp l.body l.hops) (sym (to_everybody i stamp l few e))
+      (subst (λ o. Does i N A stamp l.body l.hops (cond (is_some o)
+      (Reached l.cable l.station how.All (body (leg_bytes l)) ∷ framed (sender stamp l) all_hw Ddp (leg_bytes l) ∷ [])
+      (framed (sender stamp l) all_hw Ddp (leg_bytes l) ∷ [])))
       (sym home_is_there)
       (does_arrive i ok N A stamp l whole few seated how.All all_hw home_is_there (there home_is_there)
       (none_at_all i ok N A (frame_to i ok N A stamp l whole few seated all_hw) (λ s. refl))))
   leg_does stamp l whole few seated (OnCable e none all) near there next =
-      subst (λ n. Does i N A stamp l.body l.hops (leg_to i stamp l n)) (sym e) (by (home i (target l.body).net) refl)
+      subst (Does i N A stamp l.body l.hops) (sym (to_everybody i stamp l few e))
+      (by (home i (target l.body).net) refl)
     where
       by : (o : Option ℕ) → home i (target l.body).net ≡ o
-          → Does i N A stamp l.body l.hops (cond (is_some o) (reach how.All l ∷ put stamp l all_hw ∷ []) (put stamp l all_hw ∷ []))
+          → Does i N A stamp l.body l.hops (cond (is_some o)
+          (Reached l.cable l.station how.All (body (leg_bytes l))
+          ∷ framed (sender stamp l) all_hw Ddp (leg_bytes l) ∷ [])
+          (framed (sender stamp l) all_hw Ddp (leg_bytes l) ∷ []))
       by None h = does_stay i ok N A stamp l whole few seated all_hw none
       by (Some c) h = let low = listed_some i ok (target l.body).net c h in absurd (omega (arith, low, none))
   leg_does stamp l whole few seated (ToThese g lt e none all) near there next =
-      subst (λ n. Does i N A stamp l.body l.hops (leg_to i stamp l n)) (sym e)
+      subst (Does i N A stamp l.body l.hops) (sym (to_group i stamp l g e))
       (does_stay i ok N A stamp l whole few seated (group_hw g) none)

@@ -146,7 +146,8 @@ module _ (i : Internet) (ok : Passes i) where
             omega (arith, a, a2, a3, b2, d, d2, d3, x);
       }
 
-  takes_more : (t : List Entry) (p : Pair) (n : ℕ) (ls : List Leg) → At (pending (cable_seats i) t) n p → Each (IsMade i) ls → Answers i p ls
+  takes_more : (t : List Entry) (p : Pair) (n : ℕ) (ls : List Leg) → At (pending (cable_seats i) t) n p
+      → Each (IsMade i) ls → Answers i p ls
       → Run i ok t → Requests t → Requests (t ++ Took p.frame.stamp p.seat.station ∷ handled i (stamps t) p ls)
   takes_more t p n ls at made law r req =
       let took = Took p.frame.stamp p.seat.station in

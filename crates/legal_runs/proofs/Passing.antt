@@ -246,7 +246,8 @@ module _ (i : Internet) (ok : Passes i) where
           | GoesBy s d a there own less nearer port its other ↦
               subst (λ h. OnePair i (body p.frame.bytes) (fate_by i stamp p.seat.station p h)) (sym there)
               (subst (λ b. OnePair i (body p.frame.bytes)
-              (cond b (Dropped p.seat.station HopLimit (body p.frame.bytes) ∷ []) (leg i stamp (passed p.seat.station p d (next.Station a)))))
+              (cond b (Dropped p.seat.station HopLimit (body p.frame.bytes) ∷ [])
+              (leg i stamp (passed p.seat.station p d (next.Station a)))))
               (sym (ne_eqb (hops p.frame.bytes) 15 (λ e. absurd (omega (arith, e, few)))))
               (via_one i ok stamp (passed p.seat.station p d (next.Station a)) a s (whole_inside p.frame.bytes f)
               (omega (arith, few, nearer)) refl own))

@@ -9,7 +9,8 @@ use Rattle.nbp.specs.Packets.{packet, tuple}
 use Rattle.legal_runs.specs.Example.{echo_request}
 use Rattle.legal_runs.specs.Illegal.{asked_alone, dropped_too, gone, looked_elsewhere, looked_nowhere, many_hops, out_of_hops}
 use Rattle.legal_runs.specs.Illegal.{passed_back, passed_from_all, put_from_afar, reached_alone, reached_elsewhere, reached_from_afar}
-use Rattle.legal_runs.specs.Illegal.{dropped_on_its_way, dropped_twice, reached_unlisted, same_hops, taken_from_afar, taken_twice, to_all, to_unlisted}
+use Rattle.legal_runs.specs.Illegal.{dropped_on_its_way, dropped_twice, reached_unlisted, same_hops, taken_from_afar}
+use Rattle.legal_runs.specs.Illegal.{taken_twice, to_all, to_unlisted}
 use Rattle.legal_runs.specs.Legal.{IsLegal}
 use Rattle.legal_runs.specs.LookupExample.{blue_request}
 use Rattle.legal_runs.specs.Requests.{key_in, request, zone_of}

@@ -5,7 +5,7 @@ use Rattle.std.specs.List.{AllByRecursion as Each}
 use Rattle.std.proofs.lemmas.Bool.{and_left, and_right}
 use Rattle.at_base.specs.Address.{same_address}
 use Rattle.at_base.specs.declared.address.Addr.{Addr}
-use Rattle.ddp.specs.Bodies.{body, hops, target, with_hops}
+use Rattle.ddp.specs.Bodies.{body, hops, target}
 use Rattle.table_image.specs.Internet.{Internet}
 use Rattle.audit.specs.Routing.{Hand, Here, On, Nowhere, owner}
 use Rattle.audit.specs.Rules.{Passes}
@@ -16,18 +16,19 @@ use Rattle.station.specs.declared.output.DropCause.TheVariants.{HopLimit}
 use Rattle.cable_model.specs.declared.entry.How.TheVariants as how
 use Rattle.station.specs.declared.heard.Kind.TheVariants.{Ddp}
 use Rattle.cable_model.specs.declared.seat.Seat.{Seat}
+use Rattle.cable_model.specs.Outcomes.{to_other, to_target}
 use Rattle.cable_model.specs.Pending.{Pair, is_heard, pairs, pairs_of}
 use Rattle.at_base.specs.Multicast.{is_all, is_group}
 use Rattle.cable_model.specs.Transcript.{Entry, Frame, Sent, Put, Took, Reached, Dropped, Lost, count, one}
 use Rattle.cable_model.proofs.Counting.{At, count_none, each-append, each_all, each_map, each_more}
 use Rattle.legal_runs.specs.Answers.{keeps_by}
-use Rattle.legal_runs.specs.Legs.{Leg, fate_by, final, is_unicast, leg, leg_to, passed, to_other, to_target}
+use Rattle.legal_runs.specs.Legs.{Leg, fate_by, final, found_at, is_unicast, leg, leg_bytes, passed, sender}
 use Rattle.legal_runs.specs.Lookups.{is_asked, looks}
 use Rattle.legal_runs.specs.Requests.{request, is_lookup}
 use Rattle.legal_runs.specs.Stations.{cable_seat, cable_seats, is_router}
 use Rattle.legal_runs.proofs.Does.{IsOf}
 use Rattle.legal_runs.proofs.Frames.{Whole, body_stays, target_stays}
-use Rattle.legal_runs.proofs.Legs.{SeatThere, seat_there}
+use Rattle.legal_runs.proofs.Legs.{SeatThere, seat_there, to_station}
 use Rattle.legal_runs.proofs.Seated.{heard_alone, not_all, not_group}
 use Rattle.station.specs.declared.output.Next.TheVariants as next
 
@@ -163,8 +164,10 @@ module _ (i : Internet) where
       seat = s;
       at = w.at;
       only =
-          ap (λ n. pairs (cable_seats i) (leg_to i stamp l n)) next
-          ∙ (ap (λ o. pairs (cable_seats i) (cond (same_address (target l.body) a) (to_target stamp l o) (to_other stamp l o))) e
+          ap (pairs (cable_seats i)) (to_station i stamp l few a next)
+          ∙ (ap (λ o. pairs (cable_seats i) (cond (same_address (target l.body) a)
+          (to_target (sender stamp l) (leg_bytes l) (found_at o))
+          (to_other (sender stamp l) (leg_bytes l) (found_at o)))) e
           ∙ (either (same_address (target l.body) a)
           ∙ (append-nil (pairs_of (cable_seats i) (Put f)) ∙ heard_alone i ok f w.place s w.at w.cable_is refl)));
       same = body_stays l.hops few l.body ∙ whole.same;
@@ -180,9 +183,18 @@ module _ (i : Internet) where
         w = seat_there i l.cable a s e
 
         f : Frame
-        f = record { stamp = stamp; cable = l.cable; sender = l.station; to = s.hardware; kind = Ddp; bytes = with_hops l.hops l.body }
+        f = record {
+          stamp = stamp;
+          cable = l.cable;
+          sender = l.station;
+          to = s.hardware;
+          kind = Ddp;
+          bytes = leg_bytes l;
+        }
 
-        either : (b : Bool) → pairs (cable_seats i) (cond b (to_target stamp l (Some s)) (to_other stamp l (Some s)))
+        either : (b : Bool)
+            → pairs (cable_seats i) (cond b (to_target (sender stamp l) (leg_bytes l) (found_at (Some s)))
+            (to_other (sender stamp l) (leg_bytes l) (found_at (Some s))))
             ≡ pairs_of (cable_seats i) (Put f) ++ []
         either true = refl
         either false = refl
@@ -192,7 +204,8 @@ module _ (i : Internet) where
         both true b ea eb = cc
         both false true ea eb = cc
 
-    pub via_one : (stamp : ℕ) (l : Leg) (a : Addr) (r : ℕ) → Whole l.body → l.hops ≤ 15 → l.next ≡ next.Station a → owner i l.cable a ≡ Some r
+    pub via_one : (stamp : ℕ) (l : Leg) (a : Addr) (r : ℕ) → Whole l.body → l.hops ≤ 15 → l.next ≡ next.Station a
+        → owner i l.cable a ≡ Some r
         → OnePair l.body (leg i stamp l)
     via_one stamp l a r whole few next own =
         let w = owner_is i l.cable a r own in

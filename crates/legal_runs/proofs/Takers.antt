@@ -1,25 +1,26 @@
 -- A station that takes a frame is on the cable of that frame.
-use Rattle.std.proofs.Common.{◌≡◌, ℕ, zero, suc, ◌+◌, Bool, true, false, not, cond, List, [], ◌∷◌, ◌++◌, Option, Some, None, length, map}
-use Rattle.std.proofs.Common.{slice_get, refl, sym, ap, ◌∙◌, subst, arith, length-append, eqb-true, eq-eqb, is_some}
+use Rattle.std.proofs.Common.{◌≡◌, ℕ, suc, ◌+◌, Bool, true, false, not, cond, List, [], ◌∷◌, ◌++◌, length, map}
+use Rattle.std.proofs.Common.{refl, sym, ap, ◌∙◌, subst, arith, length-append, eqb-true, eq-eqb}
 use Rattle.std.specs.Prelude.{◌==◌, ◌||◌, ◌&&◌, filter}
-use Rattle.std.specs.List.{AllByRecursion as Each, list_any}
+use Rattle.std.specs.List.{AllByRecursion as Each}
 use Rattle.std.proofs.lemmas.Bool.{and_parts}
 use Rattle.at_base.specs.Address.{same_address}
-use Rattle.at_base.specs.Multicast.{all_hw}
 use Rattle.ddp.specs.Bodies.{hops, target}
 use Rattle.table_image.specs.Internet.{Internet}
-use Rattle.table_image.specs.Seats.{Seat as PlaceOf, seat_at, seats}
-use Rattle.audit.specs.Routing.{Hand, Here, On, Nowhere, hand, home}
+use Rattle.table_image.specs.Seats.{Seat as PlaceOf, seats}
+use Rattle.audit.specs.Routing.{Hand, Here, On, Nowhere, hand}
 use Rattle.audit.specs.Rules.{Passes}
 use Rattle.audit.proofs.Finding.{any_from}
-use Rattle.cable_model.specs.declared.entry.How.TheVariants as how
+use Rattle.cable_model.specs.Outcomes.{Places, Sender, leg as leg_on, to_other, to_target}
+use Rattle.cable_model.specs.declared.resolve.Found.{Found}
+use Rattle.cable_model.specs.declared.resolve.Found.TheVariants as found
 use Rattle.cable_model.specs.declared.seat.Seat.{Seat}
 use Rattle.cable_model.specs.Pending.{Pair, is_for, is_heard, pairs, pairs_of, pending, was_ended}
 use Rattle.cable_model.specs.Transcript.{Entry, Frame, Sent, Put, Took, Reached, Dropped, Lost, AreNumbered, stamps}
-use Rattle.cable_model.proofs.Counting.{At, contained_at, each-append, each_at, each_map, filter_at, map_at}
+use Rattle.cable_model.proofs.Counting.{At, contained_at, each-append, each_at, each_map, filter_at}
 use Rattle.legal_runs.specs.Carriage.{AreTakenThere, IsOnSome}
 use Rattle.legal_runs.specs.Legal.{Block, IsLegal, Sends, Takes, Begins, Goes, said}
-use Rattle.legal_runs.specs.Legs.{Leg, fate, fate_by, final, is_copy, leg, leg_to, passed, put, reach, to_other, to_target}
+use Rattle.legal_runs.specs.Legs.{Leg, fate, fate_by, final, is_copy, leg, leg_bytes, passed, places_of, sender}
 use Rattle.legal_runs.specs.Stations.{cable_seat, cable_seats, has_address, is_on}
 use Rattle.legal_runs.proofs.Carried.{at_end, at_front, carries}
 use Rattle.station.specs.declared.output.Next.{Next}
@@ -66,24 +67,26 @@ module _ (i : Internet) where
   either true es fs h g = h
   either false es fs h g = g
 
-  quiet_to : (stamp : ℕ) (l : Leg) (o : Option PlaceOf) → Each IsNoTook (to_target stamp l o) × Each IsNoTook (to_other stamp l o)
-  quiet_to stamp l None = ((tt, tt), tt)
-  quiet_to stamp l (Some s) = ((tt, (tt, tt)), (tt, tt))
+  quiet_to : (s : Sender) (bytes : List ℕ) (f : Found)
+      → Each IsNoTook (to_target s bytes f) × Each IsNoTook (to_other s bytes f)
+  quiet_to s bytes (found.At hw) = ((tt, (tt, tt)), (tt, tt))
+  quiet_to s bytes found.Nobody = ((tt, tt), tt)
+  quiet_to s bytes found.Later = ((tt, tt), tt)
 
-  pub quiet_leg : (stamp : ℕ) (l : Leg) (to : Next) → Each IsNoTook (leg_to i stamp l to)
-  quiet_leg stamp l (next.Station a) =
-      let both = quiet_to stamp l (seat_at i l.cable a) in
-      either (same_address (target l.body) a) (to_target stamp l (seat_at i l.cable a)) (to_other stamp l (seat_at i l.cable a)) both.0 both.1
-  quiet_leg stamp l next.All =
-      either (is_some (home i (target l.body).net)) (reach how.All l ∷ put stamp l all_hw ∷ []) (put stamp l all_hw ∷ []) (tt, (tt, tt))
-      (tt, tt)
-  quiet_leg stamp l (next.Group g) = (tt, tt)
+  quiet_on : (places : Places) (s : Sender) (to : Next) (bytes : List ℕ) → Each IsNoTook (leg_on places s to bytes)
+  quiet_on places s (next.Station a) bytes =
+      let both = quiet_to s bytes (places.finds s.cable a) in either (same_address (target bytes) a) _ _ both.0 both.1
+  quiet_on places s next.All bytes = either (places.lists (target bytes).net) _ _ (tt, (tt, tt)) (tt, tt)
+  quiet_on places s (next.Group g) bytes = (tt, tt)
+
+  pub quiet_leg : (stamp : ℕ) (l : Leg) → Each IsNoTook (leg i stamp l)
+  quiet_leg stamp l = quiet_on (places_of i) (sender stamp l) l.next (leg_bytes l)
 
   pub quiet_said : (stamp : ℕ) (ls : List Leg) → Each IsNoTook (said i stamp ls)
   quiet_said stamp [] = tt
   quiet_said stamp (l ∷ ls) = (
     tt,
-    each-append IsNoTook (leg i stamp l) (said i (stamp + stamps (leg i stamp l)) ls) (quiet_leg stamp l l.next)
+    each-append IsNoTook (leg i stamp l) (said i (stamp + stamps (leg i stamp l)) ls) (quiet_leg stamp l)
         (quiet_said (stamp + stamps (leg i stamp l)) ls),
   )
 
@@ -92,9 +95,9 @@ module _ (i : Internet) where
   quiet_by stamp r p (Here c) =
       either ((target p.frame.bytes).node == 0 || has_address i r c (target p.frame.bytes)) _ _ (tt, tt)
       (either (hops p.frame.bytes == 15) _ _ (tt, tt)
-      (quiet_leg stamp (passed r p c (final (target p.frame.bytes))) (final (target p.frame.bytes))))
+      (quiet_leg stamp (passed r p c (final (target p.frame.bytes)))))
   quiet_by stamp r p (On s c a) =
-      either (hops p.frame.bytes == 15) _ _ (tt, tt) (quiet_leg stamp (passed r p c (next.Station a)) (next.Station a))
+      either (hops p.frame.bytes == 15) _ _ (tt, tt) (quiet_leg stamp (passed r p c (next.Station a)))
 
   quiet_fate : (stamp : ℕ) (p : Pair) → Each IsNoTook (fate i stamp p)
   quiet_fate stamp p = either (is_copy i p) _ _ (quiet_by stamp p.seat.station p (hand i p.seat.station (target p.frame.bytes).net)) tt

@@ -4,9 +4,10 @@ use Rattle.std.proofs.Common.{length, inl, inr, refl, sym, ap, ◌∙◌, subst,
 use Rattle.std.specs.List.{AllByRecursion as Each}
 use Rattle.std.proofs.lemmas.Bool.{and_left, and_right, ne_eqb}
 use Rattle.at_base.specs.Address.{same_address}
+use Rattle.at_base.specs.Multicast.{group_of}
 use Rattle.at_base.specs.Text.{same_bytes}
 use Rattle.at_base.specs.declared.address.Addr.{Addr}
-use Rattle.ddp.specs.Bodies.{body, target, with_hops}
+use Rattle.ddp.specs.Bodies.{body, target}
 use Rattle.table_image.specs.Internet.{Internet}
 use Rattle.audit.specs.Routing.{Here, On, hand, home, owner}
 use Rattle.audit.specs.Rules.{Passes}
@@ -21,13 +22,13 @@ use Rattle.cable_model.proofs.Counting.{count-append}
 use Rattle.cable_model.proofs.Pairs.{pairs-append}
 use Rattle.legal_runs.specs.Answers.{Expands, IsForward, IsLookup, IsMade, is_other}
 use Rattle.legal_runs.specs.Legal.{said}
-use Rattle.legal_runs.specs.Legs.{Leg, is_copy, is_datagram, is_unicast, leg, leg_to}
+use Rattle.legal_runs.specs.Legs.{Leg, is_copy, is_datagram, is_unicast, leg, leg_bytes}
 use Rattle.legal_runs.specs.Lookups.{forwarded, is_asked, is_home, is_request, looks, seeks, waits}
-use Rattle.legal_runs.specs.Requests.{is_broadcast, is_forward, is_lookup, key_in, request}
+use Rattle.legal_runs.specs.Requests.{is_broadcast, is_forward, is_lookup, key_in, request, zone_of}
 use Rattle.legal_runs.specs.Stations.{cable_seat, cable_seats, has_address, is_router}
 use Rattle.legal_runs.proofs.Does.{IsOf}
 use Rattle.legal_runs.proofs.Frames.{body_stays, whole}
-use Rattle.legal_runs.proofs.Legs.{has_no_other}
+use Rattle.legal_runs.proofs.Legs.{has_no_other, to_group}
 use Rattle.legal_runs.proofs.Listing.{forward_alone, lookup_alone, other_alone}
 use Rattle.legal_runs.proofs.Requested.{OnePair, of_no_lookup, of_none, of_unasked, via_one}
 use Rattle.legal_runs.proofs.Runs.{any, made_does}
@@ -118,8 +119,8 @@ module _ (i : Internet) where
         let none = no_request l.body alone.0 in
         let fresh = made.fresh in
         let inside = body_stays l.hops (omega (arith, fresh)) l.body ∙ (whole l.body made.whole).same in
-        let value : (l.cable == c && (is_router i l.station && (is_lookup (request (body (with_hops l.hops l.body))) && same_bytes k
-        (key_in (request (body (with_hops l.hops l.body))))))) ≡ (d == c && same_bytes k key) =
+        let value : (l.cable == c && (is_router i l.station && (is_lookup (request (body (leg_bytes l)))
+        && same_bytes k (key_in (request (body (leg_bytes l))))))) ≡ (d == c && same_bytes k key) =
         ap (λ b. l.cable == c && (is_router i l.station && (is_lookup (request b) && same_bytes k (key_in (request b))))) inside
         ∙ (ap (λ x. x == c && (is_router i l.station && (is_lookup (request l.body) && same_bytes k (key_in (request l.body))))) h.here
         ∙ (ap (λ x. d == c && (is_router i x && (is_lookup (request l.body) && same_bytes k (key_in (request l.body))))) h.by
@@ -127,7 +128,8 @@ module _ (i : Internet) where
         ∙ (ap (λ x. d == c && (x && same_bytes k (key_in (request l.body)))) h.kind
         ∙ ap (λ x. d == c && same_bytes k x) h.key)))) in
         let looked : count (looks i k c) (leg i stamp l) ≡ one (d == c && same_bytes k key) =
-        ap (λ n. count (looks i k c) (leg_to i stamp l n)) h.next ∙ (let v = ap one value in omega (arith, v)) in
+        ap (count (looks i k c)) (to_group i stamp l (group_of (zone_of key)) h.next)
+        ∙ (let v = ap one value in omega (arith, v)) in
         record {
           found = let y = forwarded_none any l.body l.hops (leg i stamp l) of k c alone.1 in omega (arith, looked, y);
           unasked = of_unasked i any l.body l.hops k (leg i stamp l) of;
@@ -218,7 +220,8 @@ module _ (i : Internet) where
     none_said k c = record { found = refl; unasked = refl; no_wait = refl }
 
     -- The answers to a broadcast request.
-    pub expanded : (k : List ℕ) (c stamp : ℕ) (key : List ℕ) (r : ℕ) (cs : List ℕ) (ls : List Leg) → Each (IsMade i) ls → r < length i.routers
+    pub expanded : (k : List ℕ) (c stamp : ℕ) (key : List ℕ) (r : ℕ) (cs : List ℕ) (ls : List Leg)
+        → Each (IsMade i) ls → r < length i.routers
         → Expands i key r cs ls → Tally k c (count (λ d. d == c && same_bytes k key) cs) (said i stamp ls)
     expanded k c stamp key r [] [] made within h = none_said k c
     expanded k c stamp key r [] (l ∷ ls) made within h = absurd h
@@ -242,7 +245,8 @@ module _ (i : Internet) where
         (lookup_leg k c stamp key r d l made within h) 0 [] (none_said k c)
 
     -- Answers that are no requests.
-    pub others_said : (k : List ℕ) (c stamp : ℕ) (ls : List Leg) → Each (IsMade i) ls → Each (λ l. is_other l.body ≡ true) ls → Tally k c 0 (said i stamp ls)
+    pub others_said : (k : List ℕ) (c stamp : ℕ) (ls : List Leg) → Each (IsMade i) ls → Each (λ l. is_other l.body ≡ true) ls
+        → Tally k c 0 (said i stamp ls)
     others_said k c stamp [] made h = none_said k c
     others_said k c stamp (l ∷ ls) made h =
         let e = other_alone l.body h.0 in

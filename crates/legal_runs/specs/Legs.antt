@@ -1,21 +1,22 @@
 -- Legs: how a station puts a datagram on a cable, and the fate of a datagram that a router has to pass on. Inside
 -- AppleTalk, the chapter on DDP; the entries are this project's own.
 use Rattle.std.specs.Prelude.{ℕ, ◌+◌, Bool, true, false, not, ◌&&◌, ◌||◌, ◌==◌, cond, List, [], ◌∷◌, Option, Some, None, is_some}
-use Rattle.at_base.specs.Address.{same_address}
 use Rattle.at_base.specs.declared.address.Addr.{Addr}
-use Rattle.at_base.specs.Multicast.{all_hw, group_hw, is_all, is_group}
+use Rattle.at_base.specs.Multicast.{is_all, is_group}
 use Rattle.at_base.specs.declared.address.Hw.{Hw}
 use Rattle.ddp.specs.Bodies.{body, hops, target, with_hops}
 use Rattle.table_image.specs.Internet.{Internet}
 use Rattle.audit.specs.Routing.{Hand, Here, On, Nowhere, hand, home}
 use Rattle.table_image.specs.Seats.{Seat, seat_at}
 use Rattle.station.specs.declared.output.DropCause.TheVariants.{NoRoute, HopLimit}
-use Rattle.cable_model.specs.declared.entry.How.{How}
+use Rattle.cable_model.specs.Outcomes.{Places, Sender, leg as leg_on}
 use Rattle.cable_model.specs.declared.entry.How.TheVariants as how
+use Rattle.cable_model.specs.declared.resolve.Found.{Found}
+use Rattle.cable_model.specs.declared.resolve.Found.TheVariants.{At, Nobody}
 use Rattle.station.specs.declared.heard.Kind.{Kind}
 use Rattle.station.specs.declared.heard.Kind.TheVariants.{Ddp}
 use Rattle.cable_model.specs.Pending.{Pair}
-use Rattle.cable_model.specs.Transcript.{Entry, Put, Reached, Dropped}
+use Rattle.cable_model.specs.Transcript.{Entry, Reached, Dropped}
 use Rattle.legal_runs.specs.Stations.{has_address, is_router}
 use Rattle.station.specs.declared.output.Next.{Next}
 use Rattle.station.specs.declared.output.Next.TheVariants as next
@@ -29,37 +30,27 @@ pub record Leg : Type 0 where
   pub body : List ℕ
   pub hops : ℕ
 
--- The Put entry of a leg whose frame goes to this hardware address.
-abbrev pub put : ℕ → Leg → Hw → Entry
-put stamp l to =
-    Put (record { stamp = stamp; cable = l.cable; sender = l.station; to = to; kind = Ddp; bytes = with_hops l.hops l.body })
+-- The result of a search: the hardware address of the seat, or nobody if there is no seat.
+abbrev pub found_at : Option Seat → Found
+found_at None = Nobody
+found_at (Some s) = At s.hardware
 
--- The entry that the leg's datagram reached the cable.
-abbrev pub reach : How → Leg → Entry
-reach how l = Reached l.cable l.station how l.body
+-- Where the stations of an internet are, and which networks have a cable; the hardware address of every station is
+-- known.
+abbrev pub places_of : Internet → Places
+places_of i = record { finds = λ cable a. found_at (seat_at i cable a); lists = λ net. is_some (home i net) }
 
--- The entries of a leg that goes directly to the datagram's target, at this seat if any station has the address.
-abbrev pub to_target : ℕ → Leg → Option Seat → List Entry
-to_target stamp l None = reach how.Absent l ∷ []
-to_target stamp l (Some s) = reach how.Station l ∷ put stamp l s.hardware ∷ []
+-- The sender of a leg whose frame has this stamp.
+abbrev pub sender : ℕ → Leg → Sender
+sender stamp l = record { stamp = stamp; cable = l.cable; station = l.station }
 
--- The entries of a leg that goes to a station other than the target, at this seat; no frame is put if no station has
--- the address.
-abbrev pub to_other : ℕ → Leg → Option Seat → List Entry
-to_other stamp l None = []
-to_other stamp l (Some s) = put stamp l s.hardware ∷ []
+-- The bytes of a leg's datagram.
+abbrev pub leg_bytes : Leg → List ℕ
+leg_bytes l = with_hops l.hops l.body
 
--- The entries of a leg to this receiver, whose frame has this stamp.
-abbrev pub leg_to : Internet → ℕ → Leg → Next → List Entry
-leg_to i stamp l (next.Station a) =
-    cond (same_address (target l.body) a) (to_target stamp l (seat_at i l.cable a)) (to_other stamp l (seat_at i l.cable a))
-leg_to i stamp l next.All =
-    cond (is_some (home i (target l.body).net)) (reach how.All l ∷ put stamp l all_hw ∷ []) (put stamp l all_hw ∷ [])
-leg_to i stamp l (next.Group g) = put stamp l (group_hw g) ∷ []
-
--- The entries of a leg to its own `next`, whose frame has this stamp.
+-- The entries of a leg whose frame has this stamp: those that its datagram has on the cable.
 abbrev pub leg : Internet → ℕ → Leg → List Entry
-leg i stamp l = leg_to i stamp l l.next
+leg i stamp l = leg_on (places_of i) (sender stamp l) l.next (leg_bytes l)
 
 -- ---- The fate of a datagram that a router has to pass on
 

@@ -1,5 +1,5 @@
 -- The stations of an internet on its cables, numbered from 0: the routers, then the nodes.
-use Rattle.std.specs.Prelude.{ℕ, ◌-◌, ◌%◌, Bool, ◌&&◌, ◌==◌, List, Option, Some, None, length, map, option_map, slice_get, nat_lt}
+use Rattle.std.specs.Prelude.{ℕ, ◌-◌, Bool, ◌&&◌, ◌==◌, List, Option, Some, None, length, map, option_map, slice_get, nat_lt}
 use Rattle.std.specs.Prelude.{if◌then◌else◌}
 use Rattle.std.specs.Option.{unwrap_or}
 use Rattle.std.specs.List.{list_any}

@@ -103,8 +103,9 @@ pub fn others_are_no_requests()
 /// passes on, or puts on another cable than that of the walk's step; a datagram passed on with
 /// its hop count unchanged, or with too many hops for the routers that remain; a datagram to an
 /// unlisted network that is neither under way nor dropped, that reached a cable, that is dropped
-/// because of its hop count, dropped twice, or both dropped and under way; a lookup on a cable that doesn't list the zone, and none on one that
-/// does; and a request that is neither taken nor to be taken.
+/// because of its hop count, dropped twice, or both dropped and under way; a lookup on a cable that
+/// doesn't list the zone, and none on one that does; and a request that is neither taken nor to be
+/// taken.
 pub fn words_exclude()
     ensures reached { ¬ IsLegal three_cables reached_alone }
     ensures elsewhere { ¬ IsLegal three_cables reached_elsewhere }

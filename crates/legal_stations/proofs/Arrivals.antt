@@ -10,6 +10,7 @@ use Rattle.audit.specs.Routing.{Hand, Here, On, Nowhere, hand, home}
 use Rattle.audit.specs.Rules.{Passes}
 use Rattle.table_image.specs.Seats.{Seat as PlaceOf, seat_at, seats}
 use Rattle.audit.proofs.WalkLists.{at_append, at_map}
+use Rattle.cable_model.specs.Outcomes.{framed, leg as leg_on, to_other, to_target}
 use Rattle.cable_model.specs.Pending.{Pair, is_heard, pairs, pairs_of, pending, was_ended}
 use Rattle.at_base.specs.Multicast.{all_hw, group_hw, is_all}
 use Rattle.cable_model.specs.Transcript.{Entry, Dropped, Frame, Lost, Put, Reached, Sent, Took, stamps}
@@ -19,7 +20,7 @@ use Rattle.cable_model.proofs.Counting.{At, contained_at, each-append, each_at, 
 use Rattle.ddp.specs.Bodies.{body, hops, target}
 use Rattle.legal_runs.specs.Answers.{ByRouter, Goes, IsBody, IsMade, OnCable, Straight, ToThem, ToThese}
 use Rattle.legal_runs.specs.Legal.{Begins, Block, Goes as GoesOn, IsLegal, Sends, Takes, said}
-use Rattle.legal_runs.specs.Legs.{Leg, fate, fate_by, final, is_copy, is_unicast, leg, leg_to, passed, put, to_other, to_target}
+use Rattle.legal_runs.specs.Legs.{Leg, fate, fate_by, final, found_at, is_copy, is_unicast, leg, leg_bytes, passed, places_of, sender}
 use Rattle.legal_runs.specs.Stations.{cable_seat, cable_seats, has_address}
 use Rattle.legal_runs.proofs.Frames.{Framed, body_stays, hops_are, target_inside, target_stays, whole}
 use Rattle.legal_runs.proofs.Passing.{copy_parts}
@@ -90,33 +91,39 @@ module _ (i : Internet) (ok : Passes i) where
   goes_next l (ToThese g lt e none all) = subst (IsNextOf (target l.body).net) (sym e) lt
 
   module _ (stamp : ℕ) (l : Leg) (is : IsBody l.body) (few : l.hops ≤ 15) where
-    put_fine : (to : Hw) → (is_unicast to ≡ true → (target l.body).net ≢ 0) → AreFine (put stamp l to)
+    put_fine : (to : Hw) → (is_unicast to ≡ true → (target l.body).net ≢ 0)
+        → AreFine (framed (sender stamp l) to Ddp (leg_bytes l))
     put_fine to some = record {
       kind = refl;
       is_body = subst IsBody (sym (body_stays l.hops few l.body ∙ (whole l.body is).same)) is;
       some = λ u z. some u (sym (ap (λ (a : Addr). a.net) (target_stays l.hops few l.body)) ∙ z);
     }
 
-    target_fine : (o : Option PlaceOf) → (target l.body).net ≢ 0 → Each AreFine (to_target stamp l o)
+    target_fine : (o : Option PlaceOf) → (target l.body).net ≢ 0
+        → Each AreFine (to_target (sender stamp l) (leg_bytes l) (found_at o))
     target_fine None some = (tt, tt)
     target_fine (Some s) some = (tt, (put_fine s.hardware (λ u. some), tt))
 
-    other_fine : (o : Option PlaceOf) → (target l.body).net ≢ 0 → Each AreFine (to_other stamp l o)
+    other_fine : (o : Option PlaceOf) → (target l.body).net ≢ 0
+        → Each AreFine (to_other (sender stamp l) (leg_bytes l) (found_at o))
     other_fine None some = tt
     other_fine (Some s) some = (put_fine s.hardware (λ u. some), tt)
 
-    leg_fine : (n : Next) → IsNextOf (target l.body).net n → Each AreFine (leg_to i stamp l n)
+    leg_fine : (n : Next) → IsNextOf (target l.body).net n
+        → Each AreFine (leg_on (places_of i) (sender stamp l) n (leg_bytes l))
     leg_fine (next.Station a) some =
-        elim (same_address (target l.body) a) as (λ b. Each AreFine (cond b (to_target stamp l (seat_at i l.cable a))
-        (to_other stamp l (seat_at i l.cable a)))) [
+        let found = found_at (seat_at i l.cable a) in
+        elim (same_address (target (leg_bytes l)) a) as (λ b. Each AreFine (cond b
+        (to_target (sender stamp l) (leg_bytes l) found)
+        (to_other (sender stamp l) (leg_bytes l) found))) [
           | true ↦ target_fine (seat_at i l.cable a) some
           | false ↦ other_fine (seat_at i l.cable a) some
         ]
     leg_fine next.All some =
         let all = put_fine all_hw (λ u. absurd (true≢false (sym u))) in
-        elim (is_some (home i (target l.body).net)) as (λ b. Each AreFine (cond b
-        (Reached l.cable l.station how.All l.body ∷ put stamp l all_hw ∷ [])
-        (put stamp l all_hw ∷ []))) [
+        let frame = framed (sender stamp l) all_hw Ddp (leg_bytes l) in
+        elim (is_some (home i (target (leg_bytes l)).net)) as (λ b. Each AreFine (cond b
+        (Reached l.cable l.station how.All (body (leg_bytes l)) ∷ frame ∷ []) (frame ∷ []))) [
           | true ↦ (tt, (all, tt))
           | false ↦ (all, tt)
         ]
@@ -186,7 +193,6 @@ module _ (i : Internet) (ok : Passes i) where
   pub record Arrives (p : Pair) : Type 0 where
     pub fine : IsFine p.frame
     pub framed : Framed p.frame.bytes
-    pub few : hops p.frame.bytes ≤ 15
     pub place : ℕ
     pub seat : PlaceOf
     pub at : At (seats i) place seat
@@ -203,7 +209,6 @@ module _ (i : Internet) (ok : Passes i) where
       record {
         fine = mine;
         framed = framed;
-        few = few_hops 0 p framed mine.is_body;
         place = from.1.0;
         seat = s.0;
         at = s.1;

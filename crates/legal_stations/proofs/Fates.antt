@@ -1,7 +1,6 @@
 -- The fate of a datagram that a router takes, by the image's tables.
-use Rattle.std.proofs.Common.{◌≡◌, ℕ, ◌+◌, ◌*◌, ◌/◌, ◌%◌, ◌≤◌, Bool, true, false, not, ◌&&◌, ◌||◌, ◌==◌, cond, if◌then◌else◌, List, []}
-use Rattle.std.proofs.Common.{◌∷◌, ◌++◌, Option, Some, None, refl, sym, ap, ◌∙◌, subst, arith, append-nil, true≢false, slice_index}
-use Rattle.std.proofs.lemmas.Bool.{eqb-false}
+use Rattle.std.proofs.Common.{◌≡◌, ℕ, ◌+◌, Bool, true, false, not, ◌&&◌, ◌||◌, ◌==◌, cond, if◌then◌else◌, List, []}
+use Rattle.std.proofs.Common.{◌∷◌, ◌++◌, Option, Some, None, refl, sym, ap, ◌∙◌, subst, append-nil, true≢false, slice_index}
 use Rattle.at_base.specs.declared.address.Addr.{Addr}
 use Rattle.at_base.specs.declared.address.Hw.{Hw}
 use Rattle.audit.specs.Routing.{Hand, Here, On, hand, home}
@@ -14,11 +13,11 @@ use Rattle.cable_model.specs.Transcript.{Entry, Dropped, Reached}
 use Rattle.cable_model.specs.declared.entry.How.TheVariants as how
 use Rattle.cable_model.specs.declared.seat.Seat.{Seat}
 use Rattle.ddp.specs.Bodies.{body, hops, target, with_hops}
-use Rattle.image_stations.specs.Holders.{HoldsRouter, places_of}
+use Rattle.image_stations.specs.Holders.{HoldsRouter}
 use Rattle.legal_runs.specs.Answers.{keeps_by}
-use Rattle.legal_runs.specs.Legs.{fate_by, is_unicast, leg, passed}
+use Rattle.legal_runs.specs.Legs.{fate_by, is_unicast, leg, passed, places_of}
 use Rattle.legal_runs.specs.Stations.{cable_seats, has_address}
-use Rattle.legal_runs.proofs.Frames.{inside_is, whole}
+use Rattle.legal_runs.proofs.Frames.{inside_is, set_again}
 use Rattle.router.specs.Forwarding.{arrived, bytes_in, course_by, ended, fate, goes, handed_on, is_own, onward}
 use Rattle.router.specs.Holding.{Holding, hand as hand_in, own_at}
 use Rattle.router.specs.declared.course.Course.{Course}
@@ -32,19 +31,10 @@ use Rattle.station.specs.declared.output.Next.TheVariants as next
 use Rattle.table_image.specs.Internet.{Internet}
 use Rattle.table_image.specs.declared.port.Port.{Port}
 use Rattle.legal_stations.proofs.Arrivals.{Arrives}
-use Rattle.legal_stations.proofs.Bridge.{legs_agree}
 use Rattle.legal_stations.proofs.Datagrams.{Inside}
 use Rattle.legal_stations.proofs.Hands.{hands_agree}
 use Rattle.legal_stations.specs.Agreeing.{BothHere, BothNowhere, BothOn}
 use Rattle.legal_stations.proofs.Ports.{cable_is, has_at, port_of}
-
--- Setting the hop count twice is setting it once.
-set_again : (m n : ℕ) → n ≤ 15 → (bytes : List ℕ) → with_hops m (with_hops n bytes) ≡ with_hops m bytes
-set_again m n few [] = refl
-set_again m n few (b ∷ bytes) =
-    let e : (b / 64 * 64 + n * 4 + b % 4) / 64 * 64 + m * 4 + (b / 64 * 64 + n * 4 + b % 4) % 4 ≡ b / 64 * 64 + m * 4 + b % 4 =
-    omega (arith, few) in
-    ap (λ (x : ℕ). x ∷ bytes) e
 
 -- A frame is to the station's own address if and only if it is to one station.
 pub own_unicast : (to : Hw) → is_own (link_of to) ≡ is_unicast to
@@ -115,16 +105,13 @@ module _ (i : Internet) (ok : Passes i) (p : Pair) (h : Holding) (holds : HoldsR
 
   module _ (stamp : ℕ) where
     -- The entries of a datagram that is passed on.
-    pass_is : (q : ℕ) (port : Port) → At holds.router.ports q port → (whom : Next) → (hops p.frame.bytes == 15) ≡ false
+    pass_is : (q : ℕ) (port : Port) → At holds.router.ports q port → (whom : Next)
         → leg_on (places_of i) (sender_by (cable_seats i) r stamp q) whom (onward x.d) ++ [] ≡ leg i stamp (passed r p port.cable whom)
-    pass_is q port at whom near =
-        let l = passed r p port.cable whom in
-        let few = a.few in
-        let apart = eqb-false (hops p.frame.bytes) 15 near in
+    pass_is q port at whom =
         append-nil (leg_on (places_of i) (sender_by (cable_seats i) r stamp q) whom (onward x.d))
         ∙ (ap (λ c. leg_on (places_of i) (record { stamp = stamp; cable = c; station = r }) whom (onward x.d))
         (cable_is i ok r holds.router holds.known q port at)
-        ∙ legs_agree i stamp l (onward x.d) (whole (body p.frame.bytes) a.fine.is_body) (omega (arith, few, apart)) onward_is)
+        ∙ ap (leg_on (places_of i) (record { stamp = stamp; cable = port.cable; station = r }) whom) onward_is)
 
     -- ---- On the target's cable
 
@@ -141,19 +128,21 @@ module _ (i : Internet) (ok : Passes i) (p : Pair) (h : Holding) (holds : HoldsR
           (cond far (Dropped r HopLimit (body p.frame.bytes) ∷ []) (leg i stamp (passed r p port.cable (cond all next.All
           (next.Station to)))))
 
-      arrived_so : (kept far all : Bool) → (hops p.frame.bytes == 15) ≡ far
-          → Outcome stamp (arrived_by to kept far all) (entries_by kept far all) kept
-      arrived_so true far all e = record {
+      arrived_so : (kept far all : Bool) → Outcome stamp (arrived_by to kept far all) (entries_by kept far all) kept
+      arrived_so true far all = record {
         fate_is = ap (λ c. Reached c r how.Own (body (bytes_in x.d)) ∷ []) (cable_is i ok r holds.router holds.known q port at)
             ∙ ap (λ b. Reached port.cable r how.Own b ∷ []) body_are;
         ends = refl;
         on = (port, at, λ u. listed);
       }
-      arrived_so false true all e =
+      arrived_so false true all =
           record { fate_is = ap (λ b. Dropped r HopLimit b ∷ []) body_are; ends = refl; on = tt }
-      arrived_so false false true e =
-          record { fate_is = pass_is q port at next.All e; ends = refl; on = (port, at, λ u. absurd (true≢false (sym u))) }
-      arrived_so false false false e = record { fate_is = pass_is q port at (next.Station to) e; ends = refl; on = tt }
+      arrived_so false false true = record {
+        fate_is = pass_is q port at next.All;
+        ends = refl;
+        on = (port, at, λ u. absurd (true≢false (sym u)));
+      }
+      arrived_so false false false = record { fate_is = pass_is q port at (next.Station to); ends = refl; on = tt }
 
       own_tests : (to.node == 0 || has_address i r port.cable to) ≡ (x.d.target.node == 0 || has x.d.target (own_at h.ports q))
       own_tests =
@@ -172,7 +161,7 @@ module _ (i : Internet) (ok : Passes i) (p : Pair) (h : Holding) (holds : HoldsR
           (Here port.cable))
       arrived_comes =
           subst (λ c. Outcome stamp c (fate_by i stamp r p (Here port.cable)) (keeps_by i r to (Here port.cable))) arrived_is
-          (arrived_so (to.node == 0 || has_address i r port.cable to) (hops p.frame.bytes == 15) (to.node == 255) refl)
+          (arrived_so (to.node == 0 || has_address i r port.cable to) (hops p.frame.bytes == 15) (to.node == 255))
 
     -- ---- To the next router
 
@@ -180,13 +169,12 @@ module _ (i : Internet) (ok : Passes i) (p : Pair) (h : Holding) (holds : HoldsR
         → Outcome stamp (handed_on q t x.d.hops) (fate_by i stamp r p (On s port.cable t)) false
     on_so q port at s t =
         subst (λ n. Outcome stamp (handed_on q t n) (fate_by i stamp r p (On s port.cable t)) false) x.hops_is
-        (by (hops p.frame.bytes == 15) refl)
+        (by (hops p.frame.bytes == 15))
       where
-        by : (far : Bool) → (hops p.frame.bytes == 15) ≡ far
-            → Outcome stamp (cond far (goes (step.Drop HopLimit)) (goes (step.Pass q (next.Station t))))
+        by : (far : Bool) → Outcome stamp (cond far (goes (step.Drop HopLimit)) (goes (step.Pass q (next.Station t))))
             (cond far (Dropped r HopLimit (body p.frame.bytes) ∷ []) (leg i stamp (passed r p port.cable (next.Station t)))) false
-        by true e = record { fate_is = ap (λ b. Dropped r HopLimit b ∷ []) body_are; ends = refl; on = tt }
-        by false e = record { fate_is = pass_is q port at (next.Station t) e; ends = refl; on = tt }
+        by true = record { fate_is = ap (λ b. Dropped r HopLimit b ∷ []) body_are; ends = refl; on = tt }
+        by false = record { fate_is = pass_is q port at (next.Station t); ends = refl; on = tt }
 
     -- ---- By the router's routing decision
 

@@ -1,9 +1,8 @@
 -- The next hop for a network, by a router's tables and by the image's.
-use Rattle.std.proofs.Common.{◌≡◌, ℕ, suc, Bool, true, false, ◌&&◌, cond, List, [], ◌∷◌, Option, Some, None, is_some, map, find}
+use Rattle.std.proofs.Common.{◌≡◌, ℕ, suc, Bool, true, false, ◌&&◌, cond, Option, Some, None, is_some}
 use Rattle.std.proofs.Common.{refl, sym, ap, ◌∙◌, arith, slice_get, option_map}
 use Rattle.std.proofs.lemmas.Bool.{and_parts, not-false}
 use Rattle.at_base.specs.Range.{is_between}
-use Rattle.at_base.specs.declared.address.Addr.{Addr}
 use Rattle.at_base.specs.declared.error.Place.TheVariants as place
 use Rattle.audit.specs.Places.{on}
 use Rattle.audit.specs.Routing.{Here, On, Nowhere, hand, hand_at, hand_by, hand_over, hand_to, home, owner, row_for}

@@ -1,35 +1,32 @@
 -- The datagrams that a station made, as legs: each is sent and goes onto a cable.
 use Rattle.std.proofs.Common.{◌≡◌, ℕ, ◌+◌, Bool, true, false, not, ◌||◌, ◌==◌, cond, List, [], ◌∷◌, ◌++◌, Option, Some, None}
-use Rattle.std.proofs.Common.{refl, sym, ap, ◌∙◌, arith, append_assoc}
+use Rattle.std.proofs.Common.{refl, sym, ap, ◌∙◌, subst, arith, append-nil, append_assoc}
 use Rattle.std.specs.List.{AllByRecursion as Each}
 use Rattle.at_base.specs.Spelling.{bytes_of}
 use Rattle.at_base.specs.declared.address.Addr.{Addr}
 use Rattle.cable_model.specs.Outcomes.{all_entries, cable_of, entries_of, leg as leg_on, sender_by}
-use Rattle.cable_model.specs.Transcript.{Sent, is_put, stamps}
+use Rattle.cable_model.specs.Transcript.{Entry, Sent, is_put, stamps}
 use Rattle.cable_model.proofs.Counting.{count-append}
-use Rattle.ddp.specs.Bodies.{target}
+use Rattle.ddp.specs.Bodies.{target, with_hops}
 use Rattle.ddp.specs.Datagram.{datagram, datagram_of}
 use Rattle.ddp.proofs.Written.{Fitting}
-use Rattle.image_stations.specs.Holders.{places_of}
 use Rattle.legal_stations.specs.Made.{legs}
-use Rattle.legal_runs.specs.Answers.{Goes, IsMade, Straight, ToThem, is_other}
-use Rattle.legal_runs.specs.Legal.{said}
-use Rattle.legal_runs.specs.Legs.{Leg, leg}
+use Rattle.legal_runs.specs.Answers.{Goes, IsBody, IsMade, IsOwn, Straight, ToThem, is_other}
+use Rattle.legal_runs.specs.Legal.{Block, Sends, said}
+use Rattle.legal_runs.specs.Legs.{Leg, leg, leg_bytes, places_of, sender}
 use Rattle.legal_runs.specs.Requests.{is_broadcast, is_forward, is_lookup}
 use Rattle.legal_runs.specs.Stations.{cable_holds, cable_seats, is_on}
-use Rattle.legal_runs.proofs.Frames.{whole}
+use Rattle.legal_runs.proofs.Frames.{no_hops, whole}
 use Rattle.nbp.specs.Packets.{NbpPacket}
 use Rattle.std.proofs.lemmas.Bool.{eqb-false, eqb-true}
 use Rattle.station.specs.Lawful.{IsGood}
 use Rattle.station.specs.Making.{all_made}
 use Rattle.station.specs.Ways.{replying, straight}
-use Rattle.station.specs.declared.output.Next.{Next}
 use Rattle.station.specs.declared.output.Next.TheVariants as next
 use Rattle.station.specs.declared.output.Output.{Output}
 use Rattle.station.specs.declared.output.Output.TheVariants.{Made, Passed, Kept, Dropped, Wire}
 use Rattle.station.specs.declared.way.Way.{Way}
 use Rattle.table_image.specs.Internet.{Internet}
-use Rattle.legal_stations.proofs.Bridge.{made_agrees}
 use Rattle.legal_stations.proofs.Datagrams.{names_of}
 use Rattle.legal_stations.proofs.Making.{is_sent}
 use Rattle.legal_stations.proofs.Answered.{leg_by}
@@ -53,6 +50,22 @@ entries_more i s stamp (x ∷ xs) ys =
     ∙ ap (λ k. (first ++ rest) ++ all_entries (places_of i) (cable_seats i) s k ys) n)
 
 -- ---- Datagrams that stations made
+
+-- A datagram that a station made has no hops yet, so its body is what goes onto the cable.
+made_bytes : (l : Leg) → IsBody l.body → l.hops ≡ 0 → leg_bytes l ≡ l.body
+made_bytes l is fresh = ap (λ n. with_hops n l.body) fresh ∙ no_hops l.body (whole l.body is)
+
+made_agrees : (i : Internet) (stamp : ℕ) (l : Leg) → IsBody l.body → l.hops ≡ 0
+    → leg_on (places_of i) (sender stamp l) l.next l.body ≡ leg i stamp l
+made_agrees i stamp l is fresh = ap (leg_on (places_of i) (sender stamp l) l.next) (sym (made_bytes l is fresh))
+
+-- A node that sends a datagram on its own initiative adds a block of a legal transcript.
+pub sendings : (i : Internet) (t : List Entry) (l : Leg) → IsMade i l → IsOwn i l
+    → Block i t (Sent l.station l.body ∷ leg_on (places_of i) (sender (stamps t) l) l.next l.body)
+sendings i t l made own =
+    subst (λ es. Block i t (Sent l.station l.body ∷ es)) (append-nil (leg i (stamps t) l)
+    ∙ sym (made_agrees i (stamps t) l made.whole made.fresh))
+    (Sends l made own)
 
 -- The station made the output, and it leaves in an allowed way.
 abbrev pub Leaves : Internet → ℕ → Output → Type 0

@@ -6,7 +6,6 @@ pub mod Looking
 pub mod Answered
 pub mod LookedUp
 pub mod Expanding
-pub mod Bridge
 pub mod Ports
 pub mod Hands
 pub mod Arrivals

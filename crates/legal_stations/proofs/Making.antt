@@ -1,11 +1,9 @@
 -- Datagrams that a station made from a header and data.
-use Rattle.std.proofs.Common.{◌≡◌, ℕ, ◌+◌, ◌*◌, ◌/◌, ◌%◌, ◌<◌, ◌≤◌, ◌⊎◌, inl, inr, Bool, true, false, ◌==◌, cond, if◌then◌else◌, List, []}
+use Rattle.std.proofs.Common.{◌≡◌, ℕ, ◌+◌, ◌≤◌, ◌⊎◌, inl, inr, Bool, true, false, if◌then◌else◌, List, []}
 use Rattle.std.proofs.Common.{ap, arith, drop, length, refl, sym, ◌++◌, ◌∙◌, ◌∷◌}
-use Rattle.std.specs.Prelude.{fold}
 use Rattle.std.specs.List.{All, AllByRecursion as Each}
 use Rattle.std.proofs.lemmas.List.Elements.{All-cons, All-nil, All-tail}
-use Rattle.std.proofs.lemmas.Nat.{or_lt}
-use Rattle.at_base.specs.Checksum.{folded, step, sum_of}
+use Rattle.at_base.specs.Checksum.{sum_of}
 use Rattle.at_base.specs.Spelling.{IsValue, Spells, bytes_of}
 use Rattle.ddp.specs.Bodies.{target}
 use Rattle.ddp.specs.Datagram.{Datagram, checksum_of, datagram, datagram_of, unsummed}

@@ -20,11 +20,11 @@ use Rattle.station.specs.Ways.{checks, is_summed, is_to, reply_header, replying}
 use Rattle.end_node.specs.Holding.{NodeHolding}
 use Rattle.end_node.specs.Lookups.{answer_header, is_in, looked_up, names_in as node_names, replies, reply_of, told, told_by, told_of}
 use Rattle.end_node.specs.Ways.{reply_way, way_back}
-use Rattle.image_stations.specs.Holders.{HoldsNode, places_of}
+use Rattle.image_stations.specs.Holders.{HoldsNode}
 use Rattle.legal_stations.proofs.Requested.{requested}
 use Rattle.legal_runs.specs.Answers.{Others, ends_at}
 use Rattle.legal_runs.specs.Legal.{Block, IsLegal}
-use Rattle.legal_runs.specs.Legs.{fate as fate_in, fate_by, is_datagram, is_unicast}
+use Rattle.legal_runs.specs.Legs.{fate as fate_in, fate_by, is_datagram, is_unicast, places_of}
 use Rattle.legal_runs.specs.Stations.{cable_seats, has_address, is_router}
 use Rattle.nbp.specs.Packets.{NbpPacket}
 use Rattle.nbp.specs.Registered.{answers}

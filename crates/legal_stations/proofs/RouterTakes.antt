@@ -6,10 +6,10 @@ use Rattle.audit.specs.Rules.{Passes}
 use Rattle.cable_model.specs.Outcomes.{all_entries, heard_by}
 use Rattle.cable_model.specs.Pending.{Pair, pending}
 use Rattle.cable_model.specs.Transcript.{Entry, Took, stamps}
-use Rattle.image_stations.specs.Holders.{HoldsRouter, places_of}
+use Rattle.image_stations.specs.Holders.{HoldsRouter}
 use Rattle.legal_stations.specs.Made.{legs}
 use Rattle.legal_runs.specs.Legal.{Block, IsLegal, Takes, handled as handled_in}
-use Rattle.legal_runs.specs.Legs.{fate as fate_in}
+use Rattle.legal_runs.specs.Legs.{fate as fate_in, places_of}
 use Rattle.legal_runs.specs.Stations.{cable_seats}
 use Rattle.router.specs.Answers.{Hears, followed, handled, heard_datagram, heard_kind}
 use Rattle.router.specs.Forwarding.{fate}

@@ -64,7 +64,8 @@ module _ (seats : List Seat) (losing : ℕ → Bool) where
   lost_may : (ss : List ℕ) (es : List Entry) → IsTrue (list_all (is_loss ss) es) → IsTrue (list_all (may_be ss) es)
   lost_may ss [] h = refl
   lost_may ss (Lost p ∷ es) h =
-      let parts = and_parts (is_in ss p) (list_all (is_loss ss) es) h in both (is_in ss p) (list_all (may_be ss) es) parts.0 (lost_may ss es parts.1)
+      let parts = and_parts (is_in ss p) (list_all (is_loss ss) es) h in both (is_in ss p) (list_all (may_be ss) es) parts.0
+      (lost_may ss es parts.1)
   lost_may ss (Sent s x ∷ es) h = cc
   lost_may ss (Put f ∷ es) h = cc
   lost_may ss (Reached c s w x ∷ es) h = cc
@@ -223,7 +224,8 @@ module _ (taken : ℕ) (old new : Wires) (mid : Cabling) (front : List Line) (lo
         plays = plays_to;
         takes = omega (arith, sum, none, m.takes);
         lost =
-            subst (λ ss. not (list_any (λ (p : Pair). is_in ss p.frame.stamp) (pending old.cabling.seats (happened old ++ (m.added ++ l.added)))) ≡ true)
+            subst (λ ss. not (list_any (λ (p : Pair). is_in ss p.frame.stamp)
+            (pending old.cabling.seats (happened old ++ (m.added ++ l.added)))) ≡ true)
             (these ∙ sym (same_losses old.cabling.seats (loses old) m.added l.added ends_with))
             (subst (λ t. not (list_any
             (λ (p : Pair). is_in (losses_since losing (length front) mid) p.frame.stamp) (pending old.cabling.seats t)) ≡ true)

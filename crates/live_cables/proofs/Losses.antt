@@ -1,11 +1,12 @@
 -- Frames that are lost at the end of a call.
-use Rattle.std.proofs.Common.{◌≡◌, ℕ, zero, suc, Bool, true, false, not, ◌-◌, ◌<◌, ◌≤◌, ◌||◌, ◌&&◌, ◌==◌, cond, IsTrue, List, [], ◌∷◌, ◌++◌, refl, sym, ap, ◌∙◌, subst}
-use Rattle.std.proofs.Common.{append-nil, append_assoc, arith, inl, inr, drop, eq-eqb, get_or, length, take, eqb-true, map, slice_get, true≢false}
+use Rattle.std.proofs.Common.{◌≡◌, ℕ, zero, suc, Bool, true, false, not, ◌-◌, ◌<◌, ◌≤◌, ◌||◌, ◌&&◌, ◌==◌, cond, IsTrue}
+use Rattle.std.proofs.Common.{List, [], ◌∷◌, ◌++◌, refl, sym, ap, ◌∙◌, subst}
+use Rattle.std.proofs.Common.{append-nil, append_assoc, arith, inl, inr, drop, eq-eqb, get_or, length, take, eqb-true}
+use Rattle.std.proofs.Common.{map, slice_get, true≢false}
 use Rattle.std.specs.List.{list_all, list_any}
 use Rattle.std.specs.Option.{unwrap_or}
 use Rattle.std.proofs.lemmas.Bool.{and_parts, not-true}
 use Rattle.std.proofs.lemmas.List.{drop-map}
-use Rattle.std.proofs.lemmas.List.Folds.{list_all-append}
 use Rattle.cable_model.specs.Logs.{Adds, Cabling, entry_at, transcript}
 use Rattle.cable_model.specs.Outcomes.{has_stamp}
 use Rattle.cable_model.specs.Pending.{Pair, pairs, pending}
@@ -144,7 +145,8 @@ pub gone_unheard : (stamp : ℕ) (c : Cabling) → list_any (has_stamp stamp) (p
     → IsTrue (are_gone (stamp ∷ []) c)
 gone_unheard stamp c h =
     gone_by (stamp ∷ []) c (λ p g e.
-    true≢false (sym (has_any (has_stamp stamp) (pending c.seats (transcript c)) p g (eq-eqb stamp p.frame.stamp (in_one stamp p.frame.stamp e)))
+    true≢false
+    (sym (has_any (has_stamp stamp) (pending c.seats (transcript c)) p g (eq-eqb stamp p.frame.stamp (in_one stamp p.frame.stamp e)))
     ∙ h))
 
 pub gone_then : (s : ℕ) (ss : List ℕ) (b c : Cabling) → IsTrue (are_gone (s ∷ []) b) → Loses ss b c → IsTrue (are_gone ss c)
@@ -154,7 +156,8 @@ gone_then s ss b c first x rest =
   where
     before : (p : Pair) → Has (pending c.seats (transcript c)) p → Has (pending b.seats (transcript b)) p
     before p g =
-        pending_since b.seats (transcript b) x.added p (has_none (pairs b.seats x.added) p (pairs_none b.seats ss x.added (all_losses ss x.added x.losses)))
+        pending_since b.seats (transcript b) x.added p
+        (has_none (pairs b.seats x.added) p (pairs_none b.seats ss x.added (all_losses ss x.added x.losses)))
         (subst (λ l. Has (pending b.seats l) p) x.grown (subst (λ l. Has (pending l (transcript c)) p) x.seats g))
 
     split : (p : Pair) → Has (pending c.seats (transcript c)) p → (t : Bool) → (s == p.frame.stamp) ≡ t

@@ -1,5 +1,6 @@
 -- Pending pairs after further entries.
-use Rattle.std.proofs.Common.{◌≡◌, ◌⊎◌, inl, inr, ℕ, zero, suc, ◌+◌, ◌<◌, ◌≤◌, Bool, true, false, not, ◌||◌, ◌==◌, cond, List, [], ◌∷◌, ◌++◌}
+use Rattle.std.proofs.Common.{◌≡◌, ◌⊎◌, inl, inr, ℕ, zero, suc, ◌+◌, ◌<◌, ◌≤◌, Bool, true, false, not, ◌||◌, ◌==◌, cond}
+use Rattle.std.proofs.Common.{List, [], ◌∷◌, ◌++◌}
 use Rattle.std.proofs.Common.{ap, arith, eq-eqb, filter, refl, subst, sym, true≢false, ◌&&◌, ◌∙◌}
 use Rattle.std.specs.List.{list_any}
 use Rattle.std.proofs.lemmas.Bool.{not-true}
@@ -123,7 +124,8 @@ module _ (seats : List Seat) where
       absurd (omega (arith, s, less))) h
 
   -- A frame that is lost isn't pending for any station, whatever follows.
-  pub lost_ends : (t b : List Entry) (stamp : ℕ) (p : Pair) → p.frame.stamp ≡ stamp → Has (pending seats ((t ++ Lost stamp ∷ []) ++ b)) p → ⊥
+  pub lost_ends : (t b : List Entry) (stamp : ℕ) (p : Pair) → p.frame.stamp ≡ stamp
+      → Has (pending seats ((t ++ Lost stamp ∷ []) ++ b)) p → ⊥
   lost_ends t b stamp p e h =
       let whole = (t ++ Lost stamp ∷ []) ++ b in
       let w = filter_at (λ p. not (was_ended whole p)) (pairs seats whole) h.0 p h.1 in

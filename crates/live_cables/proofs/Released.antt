@@ -1,5 +1,6 @@
 -- The datagrams for an address, as they are released one by one.
-use Rattle.std.proofs.Common.{◌≡◌, ℕ, suc, ◌+◌, ◌<◌, ◌≤◌, Bool, true, false, List, [], ◌∷◌, length, filter, Option, Some, None, Result, Ok, Err, ◌⊎◌, inl, inr, get_or, refl, sym, ap, ◌∙◌, arith}
+use Rattle.std.proofs.Common.{◌≡◌, ℕ, suc, ◌+◌, ◌<◌, ◌≤◌, Bool, true, false, List, [], ◌∷◌, length, filter, Option}
+use Rattle.std.proofs.Common.{Some, None, Result, Ok, Err, ◌⊎◌, inl, inr, get_or, refl, sym, ap, ◌∙◌, arith}
 use Rattle.std.specs.Prelude.{OnOk, cond, nat_lt, not, option_and_then, slice_get, slice_set}
 use Rattle.std.specs.List.{position, position_or_len, remove}
 use Rattle.std.specs.Option.{option_map_or}

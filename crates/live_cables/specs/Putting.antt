@@ -1,5 +1,6 @@
 -- The frames that a seat's station puts on its cable, and the datagrams that are held there.
-use Rattle.std.specs.Prelude.{◌≡◌, ◌⊎◌, ◌<◌, ℕ, Bool, true, false, not, List, [], ◌∷◌, length, filter, map, Option, Some, None, slice_get, slice_set, option_and_then}
+use Rattle.std.specs.Prelude.{◌≡◌, ◌⊎◌, ◌<◌, ℕ, Bool, true, false, not, List, [], ◌∷◌, length, filter, map, Option}
+use Rattle.std.specs.Prelude.{Some, None, slice_get, slice_set, option_and_then}
 use Rattle.std.specs.List.{list_any}
 use Rattle.aarp.specs.Mapping.{Mappings, holding, is_for, learnt, waited}
 use Rattle.aarp.specs.Packets.{packet, written}
@@ -54,7 +55,7 @@ with_held maps k a bytes = by (slice_get maps k)
   where
     by : Option Mappings → List Mappings
     by None = maps
-    by (Some m) = slice_set maps k (record m { held = holding (record { next = a; asked = 1; bytes = bytes }) m.held })
+    by (Some m) = slice_set maps k (record m { held = holding (record { next = a; asked = 1; stamp = None; bytes = bytes }) m.held })
 
 -- The mappings after those of a seat advanced by a tick.
 abbrev pub with_tick : List Mappings → ℕ → List Mappings

@@ -1,5 +1,6 @@
 -- The steps of one call on live cables.
-use Rattle.std.specs.Prelude.{◌≡◌, ◌⊎◌, ◌<◌, ◌+◌, ℕ, Bool, true, false, not, cond, drop, length, slice_get, Contains, IsTrue, List, [], ◌∷◌, ◌++◌}
+use Rattle.std.specs.Prelude.{◌≡◌, ◌⊎◌, ◌<◌, ◌+◌, ℕ, Bool, true, false, not, cond, drop, length, slice_get, Contains}
+use Rattle.std.specs.Prelude.{IsTrue, List, [], ◌∷◌, ◌++◌}
 use Rattle.std.specs.List.{list_all, list_any}
 use Rattle.std.specs.Option.{unwrap_or}
 use Rattle.cable_model.specs.Logs.{Cabling, transcript}

@@ -43,7 +43,7 @@ fn made(
     ensures made { OnOk result (IsMade ports.now.seats ports.now.own.items ports.now.ranges.items seat
         next bytes (cables.old, mappers.old) (cables.new, mappers.new)) }
     ensures puts { Puts cables.old cables.new }
-    ensures full { (result ≡ Err Error.Full) → HasNoRoom 3 cables.new }
+    ensures full { (result ≡ Err Error.Full) → HasNoRoom 5 cables.new }
     ensures refused { IfErr result (λ e. (e ≡ Error.Full) ⊎ (e ≡ Error.Memory)) }
     ensures mappers { length mappers.new ≡ length mappers.old }
 {
@@ -73,7 +73,7 @@ fn give(
     ensures given { OnOk result (IsGiven ports.now.seats ports.now.own.items ports.now.ranges.items
         station output (cables.old, mappers.old) (cables.new, mappers.new)) }
     ensures puts { Puts cables.old cables.new }
-    ensures full { (result ≡ Err Error.Full) → HasNoRoom 3 cables.new }
+    ensures full { (result ≡ Err Error.Full) → HasNoRoom 5 cables.new }
     ensures refused { IfErr result (λ e. (e ≡ Error.Full) ⊎ (e ≡ Error.Memory)) }
     ensures mappers { length mappers.new ≡ length mappers.old }
 {
@@ -103,7 +103,7 @@ pub fn give_all(
     ensures given { OnOk result (AreGiven ports.now.seats ports.now.own.items ports.now.ranges.items
         station outputs.old.items (cables.old, mappers.old) (cables.new, mappers.new)) }
     ensures puts { Puts cables.old cables.new }
-    ensures full { (result ≡ Err Error.Full) → HasNoRoom 3 cables.new }
+    ensures full { (result ≡ Err Error.Full) → HasNoRoom 5 cables.new }
     ensures refused { IfErr result (λ e. (e ≡ Error.Full) ⊎ (e ≡ Error.Memory)) }
     ensures mappers { length mappers.new ≡ length mappers.old }
     ensures emptied { OnOk result (outputs.new.items ≡ []) }

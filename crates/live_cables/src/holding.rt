@@ -1,7 +1,7 @@
 //! Datagrams that wait for a hardware address.
 
 ghost use Rattle.std.specs.Prelude.{◌≡◌, ◌⊎◌, IfErr, OnErr, OnOk, drop};
-ghost use Rattle.std.specs.Prelude.{filter, length, not, slice_get};
+ghost use Rattle.std.specs.Prelude.{filter, length, not};
 ghost use Rattle.aarp.specs.Mapping.{is_for};
 ghost use Rattle.cable_model.specs.Logs.{bytes_at};
 ghost use Rattle.live_cables.specs.Finding.{is_first_for, seat_by};
@@ -31,6 +31,7 @@ fn hold_at(mappers: &mut [Mapper], seat: usize, next: Addr, bytes: Bytes) -> boo
     let _dropped = mappers[seat].hold(Held {
         next,
         asked: 1,
+        stamp: None,
         bytes,
     });
     is_first

@@ -1,7 +1,7 @@
 //! Laws of entries on cables where frames are lost, for use by other crates. The functions do
 //! nothing: each law is the function's ensures clause.
 
-ghost use Rattle.std.specs.Prelude.{◌≡◌, ◌++◌, Bool, IsTrue, List, [], ℕ};
+ghost use Rattle.std.specs.Prelude.{◌++◌, Bool, IsTrue, List, [], ℕ};
 ghost use Rattle.cable_model.specs.declared.seat.Seat.{Seat as SeatValue};
 ghost use Rattle.cable_model.specs.Transcript.{AreNumbered, Entry};
 ghost use Rattle.live_cables.specs.Playing.{IsPlayed, are_lost};

@@ -10,6 +10,7 @@ ghost use Rattle.cable_model.specs.Logs as logs_spec;
 ghost use Rattle.cable_model.specs.Logs.{bytes_at};
 ghost use Rattle.cable_model.specs.Outcomes.{AreSeatsOf, IsLeast, is_named};
 ghost use Rattle.cable_model.specs.Pending as pending_spec;
+ghost use Rattle.cable_model.specs.Rooms.{held_rooms};
 ghost use Rattle.cable_model.specs.Transcript.{AreNumbered};
 ghost use Rattle.live_cables.specs.Finding.{held_at};
 ghost use Rattle.live_cables.specs.Living.{GivesOut, IsTakenBy, PassesFor, Plays, PlaysOn};
@@ -25,7 +26,7 @@ use crate::resolver::Resolver;
 use crate::taking::{answer_of, follow, take};
 use aarp::{Addresses, Mapper};
 use at_base::{Addr, Error, Range};
-use cable_model::{Cables, Entry, Seat, Seats};
+use cable_model::{Cables, Entry, Rooms, Seat, Seats};
 use station::{Outputs, Station as Taker};
 use std::alloc::Global;
 use std::marker::Model;
@@ -112,6 +113,7 @@ impl LiveCables {
           cabling = record {
             seats = seats.now;
             limit = limit;
+            rooms = held_rooms;
             lines = [];
             kept = [];
             waiting = [];
@@ -123,7 +125,7 @@ impl LiveCables {
         }) }
         ensures refused { IsOkUnless result Error.Memory }
     {
-        let cables = Cables::new(alloc, seats, limit)?;
+        let cables = Cables::new(alloc, seats, limit, Rooms::HELD)?;
         let mut own = Vec::new(alloc);
         add_unsettled(&mut own, seats)?;
         let mut mappers = Vec::new(alloc);
@@ -203,7 +205,7 @@ impl LiveCables {
             (GivesOut station outputs.old.items self.old self.new) }
         ensures done { OnOk result (PlaysOn 0 self.old self.new) }
         ensures emptied { OnOk result (outputs.new.items ≡ []) }
-        ensures full { (result ≡ Err Error.Full) → HasNoRoom 3 self.new.cabling }
+        ensures full { (result ≡ Err Error.Full) → HasNoRoom 5 self.new.cabling }
         ensures refused { IfErr result (λ e. (e ≡ Error.Full) ⊎ (e ≡ Error.Memory)) }
     {
         let from = self.cables.transcript().len();
@@ -242,7 +244,7 @@ impl LiveCables {
         ensures ports_stay { S.ports_of taker.new ≡ S.ports_of taker.old }
         ensures not_pending { (result ≡ Err Error.NotPending) ↔ (list_any (is_named stamp station)
             (pending_spec.pending self.old.cabling.seats (happened self.old)) ≡ false) }
-        ensures full { (result ≡ Err Error.Full) → HasNoRoom 771 self.new.cabling }
+        ensures full { (result ≡ Err Error.Full) → HasNoRoom 1285 self.new.cabling }
         ensures refused { IfErr result (λ e. (e ≡ Error.NotPending) ⊎ (e ≡ Error.Full)
             ⊎ (e ≡ Error.Memory)) }
     {

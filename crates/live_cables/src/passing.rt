@@ -9,7 +9,7 @@ ghost use Rattle.live_cables.specs.Steps.{HasNoRoom, Puts};
 
 use crate::ports::Ports;
 use crate::putting::ask;
-use aarp::{Addresses, Asks, Mapper};
+use aarp::{Asks, Mapper};
 use at_base::{Addr, Error};
 use cable_model::Cables;
 use std::alloc::Global;
@@ -22,10 +22,7 @@ pub fn tick(mappers: &mut [Mapper], seat: usize) -> Asks
     ensures mappers { length mappers.new ≡ length mappers.old }
 {
     if seat >= mappers.len() {
-        return Asks {
-            ask: Addresses::new(),
-            given_up: Addresses::new(),
-        };
+        return Asks::none();
     }
     mappers[seat].tick()
 }

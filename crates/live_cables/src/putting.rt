@@ -63,7 +63,8 @@ pub fn send<R: Resolve>(
         OnOk result (IsSent places seat next bytes cables.old cables.new) }
     ensures full { (result ≡ Err Error.Full)
         ↔ ((is_seated cables.old.seats seat.cable seat.station ≡ true) × (length bytes ≤ 599)
-        × (cables.old.limit < length cables.old.lines + 3)) }
+        × (cables.old.limit < length cables.old.lines + cables.old.rooms.send.lines)) }
+    ensures most { (result ≡ Err Error.Full) → cables.old.limit < length cables.old.lines + 5 }
     ensures kept { OnErr result (cables.new ≡ cables.old) }
     ensures puts { Puts cables.old cables.new }
     ensures refused { IfErr result (λ e. (e ≡ Error.Full) ⊎ (e ≡ Error.Memory)) }

@@ -35,7 +35,7 @@ pub fn take<S: Taker, R: Resolve>(
     ensures ports_stay { S.ports_of taker.new ≡ S.ports_of taker.old }
     ensures not_pending { (result ≡ Err Error.NotPending) ↔ (list_any (is_named stamp station)
         (pending_spec.pending cables.old.seats (logs_spec.transcript cables.old)) ≡ false) }
-    ensures full { (result ≡ Err Error.Full) → HasNoRoom 771 cables.new }
+    ensures full { (result ≡ Err Error.Full) → HasNoRoom 1285 cables.new }
     ensures refused { IfErr result (λ e. (e ≡ Error.NotPending) ⊎ (e ≡ Error.Full)
         ⊎ (e ≡ Error.Memory)) }
     ensures kept { OnErr result (cables.new ≡ cables.old) }

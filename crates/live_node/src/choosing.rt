@@ -6,7 +6,7 @@ ghost use Rattle.end_node.specs.Repeating.{AreRenewed};
 ghost use Rattle.live_node.specs.Passing.{passed};
 ghost use Rattle.live_node.specs.Ticking.{LiveTicks, probe, questions};
 ghost use Rattle.end_node.specs.Repeating.{repeats_by};
-ghost use Rattle.station.specs.Lawful.{AreLawful, PutsOut};
+ghost use Rattle.station.specs.Lawful.{PutsOut};
 ghost use Rattle.station.specs.Made.{AreMade};
 
 use crate::live::LiveNode;

@@ -10,7 +10,8 @@ pub none_asked_for : (object kind : List ℕ) (names : List Named) → list_any 
 none_asked_for object kind [] e = refl
 none_asked_for object kind (n ∷ names) e = by (is_asked_for object kind n) (none_asked_for object kind names) e
   where
-    by : (b : Bool) → (list_any (is_asked_for object kind) names ≡ false → answers object kind names ≡ []) → (b || list_any (is_asked_for object kind) names) ≡ false
+    by : (b : Bool) → (list_any (is_asked_for object kind) names ≡ false → answers object kind names ≡ [])
+        → (b || list_any (is_asked_for object kind) names) ≡ false
         → map tuple_of (cond b (n ∷ filter (is_asked_for object kind) names) (filter (is_asked_for object kind) names)) ≡ []
     by true others x = cc
     by false others x = others x
@@ -21,7 +22,8 @@ pub some_asked_for : (object kind : List ℕ) (names : List Named) → list_any 
 some_asked_for object kind [] e none = cc
 some_asked_for object kind (n ∷ names) e none = by (is_asked_for object kind n) (some_asked_for object kind names) e none
   where
-    by : (b : Bool) → (list_any (is_asked_for object kind) names ≡ true → answers object kind names ≡ [] → ⊥) → (b || list_any (is_asked_for object kind) names) ≡ true
+    by : (b : Bool) → (list_any (is_asked_for object kind) names ≡ true → answers object kind names ≡ [] → ⊥)
+        → (b || list_any (is_asked_for object kind) names) ≡ true
         → map tuple_of (cond b (n ∷ filter (is_asked_for object kind) names) (filter (is_asked_for object kind) names)) ≡ [] → ⊥
     by true others x y = cc
     by false others x y = others x y

@@ -1,7 +1,7 @@
 //! The names registered on a node.
 
-ghost use Rattle.std.specs.Prelude.{◌≡◌, ◌↔◌, ◌≤◌, ◌<◌, ◌&&◌, ◌⊎◌, [], length, true, false, not};
-ghost use Rattle.std.specs.Prelude.{IsTrue, IfOk, IfErr, OnOk, OnErr, IsOk, IsOkUnless, vec_len};
+ghost use Rattle.std.specs.Prelude.{◌≡◌, ◌↔◌, ◌≤◌, ◌<◌, ◌&&◌, ◌⊎◌, [], length, true, false};
+ghost use Rattle.std.specs.Prelude.{IfOk, IfErr, OnOk, OnErr, IsOk, IsOkUnless, vec_len};
 ghost use Rattle.std.specs.List.{list_any};
 ghost use Rattle.std.specs.Prelude.{vec_capacity};
 ghost use Rattle.at_base.specs.declared.error.Field.TheVariants.{Taken};

@@ -1,6 +1,7 @@
 -- A router's zone table accepts the lists of its cables.
 use Rattle.std.proofs.Common.{◌≡◌, ◌⊎◌, inl, inr, ℕ, suc, ◌+◌, ◌-◌, ◌<◌, ◌≤◌, Bool, true, false, not, ◌||◌, IsTrue, List, [], ◌∷◌, length}
-use Rattle.std.proofs.Common.{Option, Some, None, drop, take, slice_index_or, refl, sym, ap, ◌∙◌, subst, arith, nat_lt, nat_le, if◌then◌else◌}
+use Rattle.std.proofs.Common.{Option, Some, None, drop, take, slice_index_or, refl, sym, ap, ◌∙◌, subst, arith, nat_lt}
+use Rattle.std.proofs.Common.{nat_le, if◌then◌else◌}
 use Rattle.std.proofs.Common.{◌↔◌, ◌++◌, IfErr, IsOkUnless, OnOk, Ok, Err, Result, append_assoc, leb-true, map, slice_get, zero}
 use Rattle.std.specs.Prelude.{is_some}
 use Rattle.std.proofs.lemmas.Bool.{and_parts, and_from}
@@ -47,7 +48,8 @@ none_with f known (k ∷ table) e none =
     let first = false_left (f k) (list_any f table) none in
     let rest = false_right (f k) (list_any f table) none in
     elim (nat_lt k.range.start known.range.start) as (λ b.
-    list_any f (if b then k ∷ with_known known table else if same_range k.range known.range then known ∷ table else known ∷ k ∷ table) ≡ false) [
+    list_any f (if b then k ∷ with_known known table else if same_range k.range known.range then known ∷ table else known ∷ k ∷ table)
+    ≡ false) [
       | true ↦ rw (first, none_with f known table e rest) refl
       | false ↦
           elim (same_range k.range known.range) as (λ b.

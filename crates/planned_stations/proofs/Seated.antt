@@ -283,7 +283,8 @@ module _ (cables : List Cable) (valid : IsTrue (list_all is_cable cables)) where
       let parts = and_parts (is_between 1 16 (length r.port) && list_all (is_port cables) r.port) (are_apart cables r.port) h in
       let ports = and_parts (is_between 1 16 (length r.port)) (list_all (is_port cables) r.port) parts.0 in
       record {
-        inside = each_more (λ s. (s.station ≡ station) × (s.port < 0 + length r.port)) (λ s. (s.station ≡ station) × (s.port < length r.port))
+        inside = each_more (λ s. (s.station ≡ station) × (s.port < 0 + length r.port))
+            (λ s. (s.station ≡ station) × (s.port < length r.port))
             (port_seats station 0 r.port) (λ s h. let less = h.1 in (h.0, omega (arith, less))) (ports_inside station 0 r.port);
         seated = λ q less. ports_seated station 0 r.port q (omega arith) (omega (arith, less));
         one = λ c. one_port station 0 c r.port ports.1 parts.1;
@@ -293,8 +294,13 @@ module _ (cables : List Cable) (valid : IsTrue (list_all is_cable cables)) where
       → Laid station (map (λ r. length r.port) rs) (router_seats station rs)
   routers_laid station [] h = refl
   routers_laid station (r ∷ rs) h =
-      let parts = and_parts (is_router cables r) (list_all (is_router cables) rs) h in
-      (port_seats station 0 r.port, router_seats (station + 1) rs, refl, router_row station r parts.0, routers_laid (station + 1) rs parts.1)
+      let parts = and_parts (is_router cables r) (list_all (is_router cables) rs) h in (
+        port_seats station 0 r.port,
+        router_seats (station + 1) rs,
+        refl,
+        router_row station r parts.0,
+        routers_laid (station + 1) rs parts.1,
+      )
 
 -- ---- A node
 

@@ -18,7 +18,7 @@ pub data Lives : Worldly → Type 0 where
       → TicksOn old.plan new.now old.wires new.wires → IsTick old new → Lives new
 
 -- A plan for whose play the transcript has no room: the ticks before one of its ticks finished, and after some entries
--- of that tick, fewer than 771 of the 4,000,000 entries are free, as many as one take may need.
+-- of that tick, fewer than 1,285 of the 4,000,000 entries are free, as many as one take may need.
 pub record Fills (plan : Planned) : Type 0 where
   pub before : Worldly
   pub of : before.plan ≡ plan
@@ -27,4 +27,4 @@ pub record Fills (plan : Planned) : Type 0 where
   pub wires : Wires
   pub ticks : Ticks plan (before.now + 1) before.wires wires
   pub limit : wires.cabling.limit ≡ 4000000
-  pub full : HasNoRoom 771 wires.cabling
+  pub full : HasNoRoom 1285 wires.cabling

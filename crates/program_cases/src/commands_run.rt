@@ -55,6 +55,22 @@ pub(crate) fn audit(alloc: Global, image: &[u8], text: &mut String) -> Answer {
     put_status(text, &answer)
 }
 
+/// The output of `atalk trace` for an image and a script, and its result.
+fn traced(
+    alloc: Global,
+    image: &[u8],
+    script: &[u8],
+) -> Result<(Vec<u8>, Result<bool, Error>), Stop> {
+    let mut image = Input::new(image);
+    let mut script = Input::new(script);
+    let mut output = Output::new(alloc, Vec::with_capacity(alloc, ROOM)?);
+    let answer = run_frozen(alloc, &mut image, &mut script, &mut output);
+    if answer == Err(Error::Memory) {
+        return Err(Error::Memory.into());
+    }
+    Ok((output.writer, answer))
+}
+
 /// Appends the output of `atalk trace` for the image and a script, and its status.
 pub(crate) fn trace(
     alloc: Global,
@@ -63,14 +79,8 @@ pub(crate) fn trace(
     text: &mut String,
 ) -> Answer {
     let script = words.text(alloc)?;
-    let mut image = Input::new(image);
-    let mut script = Input::new(script.as_slice());
-    let mut output = Output::new(alloc, Vec::with_capacity(alloc, ROOM)?);
-    let answer = run_frozen(alloc, &mut image, &mut script, &mut output);
-    if answer == Err(Error::Memory) {
-        return Err(Error::Memory.into());
-    }
-    put_ascii(text, output.writer.as_slice())?;
+    let (output, answer) = traced(alloc, image, script.as_slice())?;
+    put_ascii(text, output.as_slice())?;
     put_status(text, &answer)
 }
 
@@ -105,14 +115,8 @@ pub(crate) fn trace_lines(
     let times = words.number()?;
     let once = words.text(alloc)?;
     let script = repeated(alloc, once.as_slice(), times)?;
-    let mut image = Input::new(image);
-    let mut script = Input::new(script.as_slice());
-    let mut output = Output::new(alloc, Vec::with_capacity(alloc, ROOM)?);
-    let answer = run_frozen(alloc, &mut image, &mut script, &mut output);
-    if answer == Err(Error::Memory) {
-        return Err(Error::Memory.into());
-    }
-    let lines = line_count(output.writer.as_slice());
+    let (output, answer) = traced(alloc, image, script.as_slice())?;
+    let lines = line_count(output.as_slice());
     writeln!(text, "{lines} lines")?;
     put_status(text, &answer)
 }

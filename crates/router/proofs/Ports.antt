@@ -36,4 +36,5 @@ by_row n (Some r) h = by_next (is_direct r)
     by_next false = h
 
 pub hand_in : (n : ℕ) (rows : List Row) (net : ℕ) → list_all (λ r. nat_lt r.port n) rows ≡ true → IsHandIn n (hand rows net)
-hand_in n rows net h = by_row n (row_for net rows) (row_in n (λ row. is_usable row.state && is_between row.range.start row.range.end net) rows h)
+hand_in n rows net h =
+    by_row n (row_for net rows) (row_in n (λ row. is_usable row.state && is_between row.range.start row.range.end net) rows h)

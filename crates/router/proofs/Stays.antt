@@ -1,6 +1,6 @@
 -- Receiving a frame changes nothing of a router's state but its exactly-once requests and the choices of addresses that
 -- aren't settled.
-use Rattle.std.proofs.Common.{◌≡◌, ℕ, zero, suc, Bool, true, false, List, [], ◌∷◌, Option, Some, None, refl, ap, subst, sym, ◌∙◌}
+use Rattle.std.proofs.Common.{◌≡◌, ℕ, zero, suc, List, [], ◌∷◌, Option, Some, None, refl, ap, subst, sym, ◌∙◌}
 use Rattle.std.specs.Prelude.{option_and_then, slice_get, slice_set}
 use Rattle.aarp.specs.Choosing.{Choice, heard as hears_choice, settled}
 use Rattle.aarp.proofs.Settled.{address_stays}

@@ -1,6 +1,6 @@
 -- The outputs of a router for a frame that it receives, and its state after it. (Inside AppleTalk, the chapters on DDP,
 -- AEP, NBP, ZIP, ATP and AARP)
-use Rattle.std.specs.Prelude.{◌≡◌, ℕ, Bool, ◌&&◌, ◌||◌, ◌==◌, cond, List, [], ◌++◌, Option, Some, None, option_to_list, if◌then◌else◌}
+use Rattle.std.specs.Prelude.{◌≡◌, Bool, ◌||◌, cond, List, [], ◌++◌, Option, Some, None, option_to_list, if◌then◌else◌}
 use Rattle.atp.specs.Answers.{bytes_of_all}
 use Rattle.atp.specs.declared.request.Request.{Request}
 use Rattle.ddp.specs.Datagram.{Datagram}

@@ -1,5 +1,5 @@
 -- The lookups and forward requests that a router makes for NBP requests. (Inside AppleTalk, the chapter on NBP)
-use Rattle.std.specs.Prelude.{ℕ, ◌%◌, cond, List, [], ◌∷◌, map, Option, Some, None, position}
+use Rattle.std.specs.Prelude.{ℕ, cond, List, [], ◌∷◌, map, Option, Some, None, position}
 use Rattle.std.specs.List.{flat_map}
 use Rattle.aarp.specs.Choosing.{Choice}
 use Rattle.at_base.specs.Multicast.{group_of}

@@ -1,6 +1,6 @@
 //! The lookups and forward requests that a router makes for NBP requests that end at it.
 
-ghost use Rattle.std.specs.Prelude.{◌≡◌, ◌<◌, ◌≤◌, ◌+◌, [], ◌++◌, ℕ, length, position};
+ghost use Rattle.std.specs.Prelude.{◌≡◌, ◌<◌, ◌≤◌, ◌+◌, [], ◌++◌, length, position};
 ghost use Rattle.std.specs.Prelude.{IfOk, IfSome, IsOk, IsOkUnless, OnOk, false};
 ghost use Rattle.std.specs.List.{flat_map, All};
 ghost use Rattle.at_base.specs.Range.{is_between};
@@ -8,7 +8,7 @@ ghost use Rattle.at_base.specs.Text.{IsName, is_name};
 ghost use Rattle.nbp.specs.Expansion.{IsAskIn};
 ghost use Rattle.station.specs.Made.{AreMade, IsWayIn};
 ghost use Rattle.router.specs.Requests as spec;
-ghost use Rattle.router.specs.Requests.{asked, looked_by, looked_on, looked_up, made_of, names_in};
+ghost use Rattle.router.specs.Requests.{asked, looked_by, looked_on, made_of, names_in};
 ghost use Rattle.router.specs.Requests.{requests_made};
 
 use crate::request::Request;

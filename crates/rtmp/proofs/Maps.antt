@@ -180,7 +180,8 @@ none_at row d low (r ∷ rows) each h other =
           rw apart (ap (λ (l : List Row). r ∷ l) (none_at row d r.range.end rows e.1 q.1 (λ less. other (omega (arith, less)))))
       | false ↦ λ t other.
           let le = ltb-false _ _ t in
-          rw (other (omega arith)) (ap (λ (l : List Row). r ∷ l) (sym (none_above row r.range.end rows (omega (arith, le, ends.1)) e.1 q.1)))
+          rw (other (omega arith))
+          (ap (λ (l : List Row). r ∷ l) (sym (none_above row r.range.end rows (omega (arith, le, ends.1)) e.1 q.1)))
     ]) refl other
 
 -- ---- the rows that start below a network
@@ -192,7 +193,8 @@ rows_rise low [] each h = refl
 rows_rise low (r ∷ rows) each h =
     let q = and_parts (nat_lt low r.range.start) (are_above r.range.end rows) h in
     let e = and_parts (is_row r) (list_all is_row rows) each in
-    let rest = rise_lower (λ (r : Row). r.range.start) r.range.start r.range.end rows (row_ends r e.0).1 (rows_rise r.range.end rows e.1 q.1) in
+    let rest =
+    rise_lower (λ (r : Row). r.range.start) r.range.start r.range.end rows (row_ends r e.0).1 (rows_rise r.range.end rows e.1 q.1) in
     rw (q.0, rest) refl
 
 -- rows above a network don't include a range that starts at or below it

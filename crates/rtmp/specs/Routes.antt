@@ -1,6 +1,7 @@
 -- Routing tables: finite maps from ranges to rows, and the effects of messages and of aging on them.
 -- (Inside AppleTalk, the chapter on RTMP)
-use Rattle.std.specs.Prelude.{◌≡◌, ℕ, ◌+◌, ◌++◌, ◌≤◌, Bool, true, false, not, ◌&&◌, ◌||◌, ◌==◌, IsTrue, List, [], ◌∷◌, length, map, filter, fold, find}
+use Rattle.std.specs.Prelude.{◌≡◌, ℕ, ◌+◌, ◌++◌, ◌≤◌, Bool, true, false, not, ◌&&◌, ◌||◌, ◌==◌, IsTrue, List, [], ◌∷◌}
+use Rattle.std.specs.Prelude.{length, map, filter, fold, find}
 use Rattle.std.specs.Prelude.{Option, Some, None, nat_le, nat_lt, if◌then◌else◌}
 use Rattle.std.specs.List.{list_all, list_any}
 use Rattle.at_base.specs.declared.address.Addr.{Addr}

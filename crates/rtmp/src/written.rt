@@ -1,6 +1,6 @@
 //! Tuples as they are written in a packet of routing data.
 
-ghost use Rattle.std.specs.Prelude.{◌≡◌, ◌≤◌, true, IfOk, IfSome, OnOk, nat_le};
+ghost use Rattle.std.specs.Prelude.{◌≡◌, true, IfOk, IfSome, OnOk, nat_le};
 ghost use Rattle.at_base.specs.Grammar.{number, one};
 ghost use Rattle.at_base.specs.Packets.{packets};
 ghost use Rattle.at_base.specs.Range.{is_range};

@@ -1,12 +1,13 @@
 //! Cables, and frames on them.
 
+ghost use Rattle.cable_model.specs.Rooms.{AreRooms};
 ghost use Rattle.std.specs.Prelude.{IfOk};
 ghost use Rattle.station.specs.Lawful.{IsNext};
 
 use crate::entries::{kind, kind_word, put_entries};
 use crate::seats::{EIGHT, THREE, TWINS};
 use at_base::{Addr, Bytes, Error, Hw};
-use cable_model::{Cables, Found, Resolve};
+use cable_model::{Cables, Found, Resolve, Rooms};
 use case_words::{Answer, Stop, Words, put_line, yes_or_no};
 use station::Next;
 use std::alloc::Global;
@@ -84,14 +85,26 @@ pub(crate) fn next(words: &mut Words<'_>) -> Result<Next, Stop>
     }
 }
 
+/// The room that calls need: more of it after the word `held`.
+pub(crate) fn rooms(words: &mut Words<'_>) -> Rooms
+    ensures { AreRooms result }
+{
+    if words.passes("held") {
+        Rooms::HELD
+    } else {
+        Rooms::KNOWN
+    }
+}
+
 /// Cables with the seats that a word names, for at most `limit` entries.
 pub(crate) fn begun(alloc: Global, mut words: Words<'_>) -> Result<Cables, Stop> {
     let seats = words.word();
     let limit = words.named("limit")?;
+    let rooms = rooms(&mut words);
     Ok(match seats {
-        "eight" => Cables::new(alloc, &EIGHT, limit)?,
-        "twins" => Cables::new(alloc, &TWINS, limit)?,
-        "three" => Cables::new(alloc, &THREE, limit)?,
+        "eight" => Cables::new(alloc, &EIGHT, limit, rooms)?,
+        "twins" => Cables::new(alloc, &TWINS, limit, rooms)?,
+        "three" => Cables::new(alloc, &THREE, limit, rooms)?,
         _ => return Err(Stop::Unclear),
     })
 }
@@ -130,6 +143,19 @@ fn put_heard(cables: &Cables, mut words: Words<'_>, text: &mut String) -> Answer
             let (port, link, kind) = (heard.port, heard.link, kind_word(heard.kind));
             write!(text, "port {port} {link:?} {kind} ")?;
             put_line(text, heard.bytes)?;
+        }
+        None => writeln!(text, "nothing")?,
+    }
+    Ok(())
+}
+
+/// Appends the cable, the kind and the bytes of a frame that is pending.
+fn put_frame(cables: &Cables, stamp: u32, text: &mut String) -> Answer {
+    match cables.frame(stamp) {
+        Some(frame) => {
+            let (cable, kind) = (frame.cable, kind_word(frame.kind));
+            write!(text, "cable {cable} {kind} ")?;
+            put_line(text, frame.bytes)?;
         }
         None => writeln!(text, "nothing")?,
     }
@@ -177,6 +203,7 @@ pub(crate) fn act(
         "first" => put_first(cables, text)?,
         "pending" => put_pending(cables, words, text)?,
         "heard" => put_heard(cables, words, text)?,
+        "frame" => put_frame(cables, words.number()?, text)?,
         "waiting" => put_waiting(cables, text)?,
         "bytes" => put_line(text, cables.bytes(words.number()?))?,
         "entries" => put_entries(text, cables.transcript())?,

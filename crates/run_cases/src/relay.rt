@@ -1,7 +1,7 @@
 //! A station with two ports that does the same with each datagram that it receives.
 
-ghost use Rattle.std.specs.Prelude.{◌≡◌, ◌∷◌, [], IfOk, IsOkUnless, length, ◌≤◌};
-ghost use Rattle.station.specs.Lawful.{AreLawful, IsGood, IsNext, IsWhole, PutsOut};
+ghost use Rattle.std.specs.Prelude.{◌≡◌, IfOk, IsOkUnless};
+ghost use Rattle.station.specs.Lawful.{AreLawful, IsWhole};
 
 use crate::taking::{TARGET, TARGET_HW};
 use aarp::{Function, Packet};
@@ -9,7 +9,7 @@ use at_base::{Addr, Bytes, Error, Hw};
 use cable_model::DropCause;
 use ddp::View;
 use station::frames::{read_datagram, wire};
-use station::{Heard, Next, Output, Outputs, Station, slices_have_bytes};
+use station::{Heard, Kind, Next, Output, Outputs, Station, slices_have_bytes};
 use std::alloc::Global;
 
 /// The action of a relay for each datagram.
@@ -131,14 +131,18 @@ impl Station for Relay {
     }
 
     fn receive(&mut self, heard: &Heard<'_>, outputs: &mut Outputs) -> Result<(), Error> {
-        match read_datagram(heard.bytes) {
-            Some(view) => {
-                let made = self.made(&view)?;
-                outputs.room(made.len())?;
-                outputs.append(made);
-                Ok(())
-            }
-            None => Ok(()),
+        match heard.kind {
+            Kind::Ddp => match read_datagram(heard.bytes) {
+                Some(view) => {
+                    let made = self.made(&view)?;
+                    outputs.room(made.len())?;
+                    outputs.append(made);
+                    Ok(())
+                }
+                None => Ok(()),
+            },
+            // An AARP frame has no datagram.
+            Kind::Aarp => Ok(()),
         }
     }
 

@@ -1,14 +1,15 @@
 //! Frames that are taken by a station with two ports that does the same with each datagram.
 
+ghost use Rattle.cable_model.specs.Rooms.{AreRooms};
 ghost use Rattle.std.specs.Prelude.{◌≡◌, IfOk};
 ghost use Rattle.cable_model.specs.Outcomes.{AreSeatsOf};
 
-use crate::cables::{Known, put_first, put_waiting, resolver};
+use crate::cables::{Known, put_first, put_waiting, resolver, rooms};
 use crate::entries::put_entries;
 use crate::relay::{Act, Relay};
 use crate::seats::{EIGHT, THREE};
 use at_base::{Addr, Bytes, Error, Hw};
-use cable_model::{Cables, Kind};
+use cable_model::{Cables, Kind, Rooms};
 use case_words::{Answer, Stop, Words};
 use std::alloc::Global;
 
@@ -35,10 +36,11 @@ fn act(words: &mut Words<'_>) -> Result<Act, Stop> {
 }
 
 /// Cables with the eight seats, for at most `limit` entries.
-fn seated(alloc: Global, limit: u32) -> Result<Cables, Error>
+fn seated(alloc: Global, limit: u32, rooms: Rooms) -> Result<Cables, Error>
+    requires { AreRooms rooms }
     ensures { IfOk result (λ cables. AreSeatsOf cables.seats 0 2) }
 {
-    let cables = Cables::new(alloc, &EIGHT, limit)?;
+    let cables = Cables::new(alloc, &EIGHT, limit, rooms)?;
     Ok(cables)
 }
 
@@ -50,10 +52,11 @@ fn put(cables: &mut Cables, cable: u8, station: u16, to: Hw, bytes: Bytes) -> Re
 }
 
 /// Cables on which station 2 put a frame for station 0.
-fn pending(alloc: Global, limit: u32, bytes: Bytes) -> Result<Cables, Error>
+fn pending(alloc: Global, limit: u32, rooms: Rooms, bytes: Bytes) -> Result<Cables, Error>
+    requires { AreRooms rooms }
     ensures { IfOk result (λ cables. AreSeatsOf cables.seats 0 2) }
 {
-    let mut cables = seated(alloc, limit)?;
+    let mut cables = seated(alloc, limit, rooms)?;
     put(&mut cables, 0, 2, ROUTER_HW, bytes)?;
     Ok(cables)
 }
@@ -89,11 +92,12 @@ fn put_all(cables: &Cables, text: &mut String) -> Answer {
 /// take the same frame again, and a frame that doesn't exist.
 pub(crate) fn answer(alloc: Global, mut words: Words<'_>, text: &mut String) -> Answer {
     let limit = words.named("limit")?;
+    let rooms = rooms(&mut words);
     let act = act(&mut words)?;
     words.expect("knows")?;
     let known = resolver(&mut words)?;
     let bytes = Bytes::from_vec(words.bytes(alloc)?);
-    let mut cables = pending(alloc, limit, bytes)?;
+    let mut cables = pending(alloc, limit, rooms, bytes)?;
     let mut relay = Relay { alloc, act };
     take(&mut cables, 0, &mut relay, &known, text)?;
     take(&mut cables, 0, &mut relay, &known, text)?;
@@ -105,7 +109,7 @@ pub(crate) fn answer(alloc: Global, mut words: Words<'_>, text: &mut String) -> 
 fn three_seated(alloc: Global, limit: u32) -> Result<Cables, Error>
     ensures { IfOk result (λ cables. AreSeatsOf cables.seats 0 2) }
 {
-    let cables = Cables::new(alloc, &THREE, limit)?;
+    let cables = Cables::new(alloc, &THREE, limit, Rooms::KNOWN)?;
     Ok(cables)
 }
 
@@ -139,7 +143,7 @@ fn two_pending(alloc: Global, limit: u32, bytes: &[u8]) -> Result<Cables, Error>
 {
     let first = Bytes::copy(alloc, bytes)?;
     let second = Bytes::copy(alloc, bytes)?;
-    let mut cables = pending(alloc, limit, first)?;
+    let mut cables = pending(alloc, limit, Rooms::KNOWN, first)?;
     put(&mut cables, 1, 1, Hw::ALL, second)?;
     Ok(cables)
 }

@@ -1,5 +1,6 @@
 -- The steps that were read from the lines of a script, one more line at a time.
-use Rattle.std.proofs.Common.{◌≡◌, ℕ, ◌+◌, Bool, true, false, not, ◌&&◌, ltb, List, [], ◌∷◌, ◌++◌, length, map, min, All, Option, Some, None, refl, ap, ◌∙◌, append_assoc, append-nil, arith}
+use Rattle.std.proofs.Common.{◌≡◌, ℕ, ◌+◌, Bool, true, false, not, ◌&&◌, ltb, List, [], ◌∷◌, ◌++◌, length, map, min}
+use Rattle.std.proofs.Common.{All, Option, Some, None, refl, ap, ◌∙◌, append_assoc, append-nil, arith}
 use Rattle.std.specs.Prelude.{is_none, filter, position}
 use Rattle.std.specs.List.{position_or_len}
 use Rattle.std.proofs.lemmas.Bool.{lt-ltb}
@@ -33,7 +34,8 @@ abbrev pub faulty : {L S : Type 0} → (L → Bool) → (L → Option S) → L �
 faulty skips says line = not (skips line) && is_none (says line)
 
 -- The lines before those that are left have these steps, and `number` counts those lines.
-pub record SoFar {L S : Type 0} (skips : L → Bool) (says : L → Option S) (all : List L) (steps : List S) (number : ℕ) (left : List L) : Type 0 where
+pub record SoFar {L S : Type 0} (skips : L → Bool) (says : L → Option S) (all : List L) (steps : List S) (number : ℕ)
+    (left : List L) : Type 0 where
   pub done : List L
   pub whole : all ≡ done ++ left
   pub said : map says (filter (tells skips) done) ≡ map (λ s. Some s) steps
@@ -58,7 +60,8 @@ module _ {L S : Type 0} (skips : L → Bool) (says : L → Option S) (all : List
       ∙ map-append says (filter (tells skips) done) (filter (tells skips) (line ∷ []))
 
   -- A line that is skipped.
-  pub passed : (steps : List S) (number : ℕ) (line : L) (more : List L) → SoFar skips says all steps number (line ∷ more) → skips line ≡ true
+  pub passed : (steps : List S) (number : ℕ) (line : L) (more : List L)
+      → SoFar skips says all steps number (line ∷ more) → skips line ≡ true
       → SoFar skips says all steps (min (number + 1) 4294967295) more
   passed steps number line more s skip =
       record {
@@ -93,5 +96,6 @@ module _ {L S : Type 0} (skips : L → Bool) (says : L → Option S) (all : List
       )
 
   -- No line is left.
-  pub ended : (steps : List S) (number : ℕ) → SoFar skips says all steps number [] → map says (filter (tells skips) all) ≡ map (λ s. Some s) steps
+  pub ended : (steps : List S) (number : ℕ) → SoFar skips says all steps number [] → map says (filter (tells skips) all)
+      ≡ map (λ s. Some s) steps
   ended steps number s = let e : all ≡ s.done = s.whole ∙ append-nil s.done in rw e s.said

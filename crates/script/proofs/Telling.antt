@@ -1,5 +1,6 @@
 -- If each line that isn't skipped has a valid step, no line is bad.
-use Rattle.std.proofs.Common.{◌≡◌, ℕ, ◌<◌, zero, suc, Bool, true, false, not, List, [], ◌∷◌, Option, Some, None, filter, get_or, length, map, refl, ap, sym, ◌∙◌, arith}
+use Rattle.std.proofs.Common.{◌≡◌, ℕ, ◌<◌, zero, suc, Bool, true, false, not, List, [], ◌∷◌, Option, Some, None, filter}
+use Rattle.std.proofs.Common.{get_or, length, map, refl, arith}
 use Rattle.script.specs.Lines.{is_skipped, step}
 use Rattle.script.specs.Scripts.{is_bad}
 use Rattle.script.specs.declared.step.Step.{Step}

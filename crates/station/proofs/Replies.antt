@@ -1,5 +1,6 @@
 -- The replies that a station makes, one after another.
-use Rattle.std.proofs.Common.{◌≡◌, ℕ, ◌≤◌, ◌-◌, List, [], ◌∷◌, ◌++◌, Option, Some, None, ap, arith, drop, is_some, length, map, refl, slice_index_or, sym, take, true, ◌∙◌}
+use Rattle.std.proofs.Common.{◌≡◌, ℕ, ◌≤◌, ◌-◌, List, [], ◌∷◌, ◌++◌, Option, Some, None, ap, arith, drop, is_some}
+use Rattle.std.proofs.Common.{length, map, refl, slice_index_or, sym, take, true, ◌∙◌}
 use Rattle.std.proofs.lemmas.List.{take_rest}
 use Rattle.station.specs.Ways.{replying}
 use Rattle.station.specs.declared.way.Way.{Way}

@@ -2,11 +2,16 @@
 use Rattle.std.specs.Prelude.{ℕ, List, [], ◌∷◌, Option, Some, None, option_map}
 use Rattle.aarp.specs.Choosing.{Choice, answer}
 use Rattle.aarp.specs.Packets.{packet, written}
+use Rattle.aarp.specs.declared.packet.Function.{Function}
+use Rattle.aarp.specs.declared.packet.Function.TheVariants.{Request, Response, Probe}
 use Rattle.aarp.specs.declared.packet.Packet.{Packet}
 use Rattle.at_base.specs.Packets.{packets}
 use Rattle.at_base.specs.Reading.{read}
 use Rattle.at_base.specs.Spelling.{bytes_of}
+use Rattle.station.specs.Hearing.{Hearing}
 use Rattle.station.specs.Values.{value_of}
+use Rattle.station.specs.declared.heard.Kind.{Kind}
+use Rattle.station.specs.declared.heard.Kind.TheVariants.{Ddp, Aarp}
 use Rattle.station.specs.declared.output.Output.{Output}
 use Rattle.station.specs.declared.output.Output.TheVariants.{Wire}
 
@@ -23,3 +28,19 @@ wired p (Some sent) = Wire p sent.target_hw (bytes_of packet (written sent)) ∷
 abbrev pub answer_by : Packet → Option Choice → Option Packet
 answer_by sent None = None
 answer_by sent (Some c) = answer c sent
+
+-- the packet, if its function is that of a response
+abbrev pub if_response : Packet → Function → Option Packet
+if_response p Request = None
+if_response p Response = Some p
+if_response p Probe = None
+
+-- the packet in an AARP frame, if it is a response
+abbrev pub response_of : Kind → Option Packet → Option Packet
+response_of Ddp p = None
+response_of Aarp None = None
+response_of Aarp (Some p) = if_response p p.function
+
+-- the AARP response in a frame, if there is one
+abbrev pub response_in : Hearing → Option Packet
+response_in h = response_of h.kind (packet_at h.bytes)

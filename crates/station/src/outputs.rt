@@ -1,7 +1,7 @@
 //! The outputs of a station, in order.
 
 ghost use Rattle.std.specs.Prelude.{◌≡◌, ◌<◌, ◌≤◌, ◌+◌, ◌-◌, [], ◌∷◌, ◌++◌, ◌==◌, length};
-ghost use Rattle.std.specs.Prelude.{IfNone, IfOk, IfSome, IsOk, IsOkUnless, OnErr, OnOk, slice_get};
+ghost use Rattle.std.specs.Prelude.{IfNone, IfOk, IfSome, IsOk, IsOkUnless, OnOk, slice_get};
 ghost use Rattle.std.specs.Option.{option_copied};
 ghost use Rattle.std.specs.VecDeque.{deque_capacity, deque_len};
 

@@ -1,6 +1,6 @@
 //! The trait of stations.
 
-ghost use Rattle.std.specs.Prelude.{◌≡◌, ◌<◌, OnErr, OnOk, IsOkUnless};
+ghost use Rattle.std.specs.Prelude.{◌≡◌, ◌<◌, IsSome, OnErr, OnOk, IsOkUnless};
 ghost use Rattle.station.specs.Lawful.{PutsOut};
 
 use crate::heard::Heard;
@@ -11,6 +11,7 @@ use at_base::Error;
 pub trait Station: Drop {
     ghost use Rattle.std.specs.Prelude.{List, ℕ};
     ghost use Rattle.station.specs.Hearing.{Hearing, hearing};
+    ghost use Rattle.station.specs.Resolution.{response_in};
     ghost use Rattle.station.specs.declared.output.Output.{Output as OutputValue};
 
     // The number of the station's ports.
@@ -27,12 +28,14 @@ pub trait Station: Drop {
         ensures { result ≡ ports_of self.now };
 
     /// Receives a frame on one of its ports, and adds the outputs that follow. A frame that it
-    /// can't read is ignored, and so is one for which its own tables have no room. Error: `Memory`;
-    /// neither the station nor the outputs change then.
+    /// can't read is ignored, and so is one for which its own tables have no room. No outputs
+    /// follow an AARP response. Error: `Memory`; neither the station nor the outputs change then.
     fn receive(&mut self, heard: &Heard<'_>, outputs: &mut Outputs) -> Result<(), Error>
         requires port { heard.now.port < ports_of self.old }
         ensures ok { OnOk result (PutsOut (ports_of self.old) outputs.old.items outputs.new.items
             (λ added. hears self.old (hearing heard.now) added self.new)) }
+        ensures quiet { IsSome (response_in (hearing heard.now))
+            → outputs.new.items ≡ outputs.old.items }
         ensures ports_stay { ports_of self.new ≡ ports_of self.old }
         ensures refused { IsOkUnless result Error.Memory }
         ensures station_stays { OnErr result (self.new ≡ self.old) }

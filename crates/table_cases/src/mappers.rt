@@ -55,7 +55,20 @@ fn put_asks(text: &mut String, asks: &Asks) -> Result<(), AllocError> {
         return writeln!(text, "none");
     }
     put_addresses(text, "ask", &asks.ask)?;
-    put_addresses(text, "give up", &asks.given_up)
+    put_addresses(text, "give up", &asks.given_up)?;
+    put_stamps(text, asks.shed.as_slice())
+}
+
+/// Appends the stamps of the datagrams that are gone, if there are any.
+fn put_stamps(text: &mut String, stamps: &[u32]) -> Result<(), AllocError> {
+    if stamps.is_empty() {
+        return Ok(());
+    }
+    write!(text, "shed")?;
+    for stamp in stamps {
+        write!(text, " {stamp}")?;
+    }
+    writeln!(text)
 }
 
 fn learn(mapper: &mut Mapper, mut words: Words<'_>) -> Answer {
@@ -76,11 +89,25 @@ fn learn_each(mapper: &mut Mapper, mut words: Words<'_>) -> Answer {
     Ok(())
 }
 
-/// The datagram that the next command holds.
-fn held(alloc: Global, mut words: Words<'_>) -> Result<Held, Stop> {
+/// Learns a mapping, and then another one ahead, if its address isn't known, as
+/// `10.2 020000000007 after 10.1 020000000006`.
+fn meet(mapper: &mut Mapper, mut words: Words<'_>) -> Answer {
+    let addr = words.addr()?;
+    let hw = words.hw()?;
+    words.expect("after")?;
+    mapper.learn(words.addr()?, words.hw()?)?;
+    if mapper.look(addr).is_none() {
+        mapper.meet(addr, hw)?;
+    }
+    Ok(())
+}
+
+/// The datagram that the next command holds, with its stamp, if it has one.
+fn held(alloc: Global, stamp: Option<u32>, mut words: Words<'_>) -> Result<Held, Stop> {
     Ok(Held {
         next: words.addr()?,
         asked: 0,
+        stamp,
         bytes: Bytes::from_vec(words.bytes(alloc)?),
     })
 }
@@ -105,7 +132,16 @@ impl Mapping {
             "learn" => learn(&mut self.mapper, words)?,
             "learn-each" => learn_each(&mut self.mapper, words)?,
             "look" => put_mapping(text, self.mapper.look(words.addr()?))?,
-            "hold" => put_out(text, &self.mapper.hold(held(self.alloc, words)?))?,
+            "meet" => meet(&mut self.mapper, words)?,
+            "forget" => self.mapper.forget(words.addr()?),
+            "hold" => put_out(text, &self.mapper.hold(held(self.alloc, None, words)?))?,
+            "hold-as" => {
+                let stamp = words.number()?;
+                put_out(
+                    text,
+                    &self.mapper.hold(held(self.alloc, Some(stamp), words)?),
+                )?
+            }
             "holds" => put_holds(text, &self.mapper, words.addr()?)?,
             "release" => put_out(text, &self.mapper.release(words.addr()?))?,
             "tick" => put_asks(text, &self.mapper.tick())?,

@@ -1,6 +1,6 @@
 //! The requests that a responder received, and the answers that it keeps.
 
-ghost use Rattle.std.specs.Prelude.{◌<◌, length};
+ghost use Rattle.std.specs.Prelude.{◌<◌};
 
 use crate::asks::{parts, peer, put_packets};
 use at_base::{Bytes, Error};

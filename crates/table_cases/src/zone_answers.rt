@@ -1,6 +1,6 @@
 //! A router's replies about zones.
 
-ghost use Rattle.std.specs.Prelude.{◌<◌, length};
+ghost use Rattle.std.specs.Prelude.{◌<◌};
 
 use crate::spelling::put_groups;
 use crate::zone_words::{names, ranges};

@@ -1,6 +1,5 @@
 //! Cables of an internet.
 
-ghost use Rattle.std.specs.Prelude.{◌≡◌};
 ghost use Rattle.table_image.specs.Spelling.{cable_spelling};
 
 use crate::checking::{CheckItem, Misfit};

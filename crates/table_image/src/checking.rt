@@ -1,6 +1,6 @@
 //! Checks of parts, with the same result as reading the parts if they were written in order.
 
-ghost use Rattle.std.specs.Prelude.{◌≡◌, ◌+◌, ◌*◌, ◌^◌, ◌<◌, ◌≤◌, ℕ, Bool, length, IsTrue};
+ghost use Rattle.std.specs.Prelude.{◌+◌, ◌*◌, ◌^◌, ◌<◌, ◌≤◌, ℕ, Bool, length, IsTrue};
 ghost use Rattle.std.specs.Prelude.{MatchResult};
 ghost use Rattle.std.specs.List.{list_all};
 ghost use Rattle.table_image.specs.Spelling.{counted};

@@ -8,7 +8,6 @@ ghost use Rattle.std.specs.Result.{OkIff};
 ghost use Rattle.table_image.specs.Short.{is_short};
 ghost use Rattle.at_base.specs.Spelling.{bytes_of, IsValue, Spells};
 ghost use Rattle.at_base.specs.Reading as spec;
-ghost use Rattle.at_base.specs.Reading.{Gives};
 ghost use Rattle.table_image.specs.Internet.{Internet, internet};
 ghost use Rattle.table_image.specs.Bounds.{IsBounded};
 ghost use Rattle.table_image.specs.Flaws.{flaws, GivesOrStops, GoesPast};

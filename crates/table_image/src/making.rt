@@ -1,11 +1,11 @@
 //! Checks of the parts of which an image is made.
 
-ghost use Rattle.std.specs.Prelude.{◌≡◌, ◌+◌, ◌^◌, ◌<◌, ◌≤◌, ◌&&◌, IsTrue, IfErr, length};
+ghost use Rattle.std.specs.Prelude.{◌≡◌, ◌^◌, ◌<◌, ◌&&◌, IsTrue, IfErr};
 ghost use Rattle.std.specs.List.{list_all};
 ghost use Rattle.table_image.specs.Internet.{internet};
 ghost use Rattle.table_image.specs.Short.{short_cable, short_list, short_router, short_node};
 ghost use Rattle.table_image.specs.Short.{is_short};
-ghost use Rattle.table_image.specs.Spelling.{cable_spelling, counted, image_spelling};
+ghost use Rattle.table_image.specs.Spelling.{image_spelling};
 ghost use Rattle.table_image.specs.Checking.{Checks};
 
 use crate::cable::Cable;

@@ -5,7 +5,7 @@ ghost use Rattle.at_base.specs.Spelling.{bytes_of, IsValue};
 ghost use Rattle.at_base.specs.Reading.{Gives, read};
 ghost use Rattle.table_image.specs.Checking.{Checks};
 ghost use Rattle.at_base.specs.Text as text_spec;
-ghost use Rattle.table_image.specs.Flaws.{flaws, GoesPast};
+ghost use Rattle.table_image.specs.Flaws.{flaws};
 ghost use Rattle.table_image.specs.Spelling.{node_spelling, name_spelling, own_router_spelling};
 ghost use Rattle.table_image.specs.Spelling.{text_spelling};
 ghost use Rattle.table_image.specs.Sizes as spec;

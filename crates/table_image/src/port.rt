@@ -1,6 +1,6 @@
 //! Ports of routers.
 
-ghost use Rattle.std.specs.Prelude.{◌≡◌, ◌+◌};
+ghost use Rattle.std.specs.Prelude.{◌+◌};
 ghost use Rattle.table_image.specs.Spelling.{port_spelling};
 
 use crate::checking::{CheckItem, Misfit};

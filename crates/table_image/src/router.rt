@@ -1,6 +1,5 @@
 //! Routers of an internet.
 
-ghost use Rattle.std.specs.Prelude.{◌≡◌, length};
 ghost use Rattle.table_image.specs.Spelling.{router_spelling};
 
 use crate::checking::{CheckItem, Misfit, check_counted};

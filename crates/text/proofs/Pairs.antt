@@ -6,7 +6,8 @@ use Rattle.text.specs.Words.{given}
 abbrev pub after : List ℕ → Option (List ℕ) → Option (List ℕ)
 after bytes rest = given rest (λ more. Some (bytes ++ more))
 
-pub after_one_more : (bytes : List ℕ) (byte : ℕ) (rest : Option (List ℕ)) → after bytes (given rest (λ more. Some (byte ∷ more))) ≡ after (bytes ++ byte ∷ []) rest
+pub after_one_more : (bytes : List ℕ) (byte : ℕ) (rest : Option (List ℕ)) → after bytes (given rest (λ more. Some (byte ∷ more)))
+    ≡ after (bytes ++ byte ∷ []) rest
 after_one_more bytes byte None = refl
 after_one_more bytes byte (Some more) = rw append_assoc refl
 

@@ -1,6 +1,6 @@
 //! A buffered writer of text that counts the writes that failed.
 
-ghost use Rattle.std.specs.Prelude.{◌≡◌, ◌≢◌, ◌<◌, length, [], ◌∷◌, ◌++◌, ◌⊎◌, OnOk, OnErr, IfErr, IsOkUnless};
+ghost use Rattle.std.specs.Prelude.{◌≡◌, ◌≢◌, ◌<◌, length, [], ◌∷◌, ◌++◌, OnOk, OnErr, IsOkUnless};
 ghost use Rattle.std.specs.Io.KnownBytes.{Appends};
 ghost use Rattle.text.specs.Going.{Goes};
 

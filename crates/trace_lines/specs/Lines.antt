@@ -1,8 +1,7 @@
 -- The printed lines of a transcript's entries.
-use Rattle.std.specs.Prelude.{◌≡◌, ℕ, ◌+◌, ◌/◌, ◌%◌, true, List, [], ◌∷◌, ◌++◌, Option, Some, None, codes, slice_get, slice_index}
+use Rattle.std.specs.Prelude.{◌≡◌, ℕ, ◌+◌, List, [], ◌∷◌, ◌++◌, Option, Some, None, codes, slice_get, slice_index}
 use Rattle.std.specs.Prelude.{if◌then◌else◌}
-use Rattle.std.specs.Fmt.{decimal, digit_glyph}
-use Rattle.std.specs.List.{flat_map}
+use Rattle.std.specs.Fmt.{decimal}
 use Rattle.at_base.specs.Texts.{address_text}
 use Rattle.at_base.specs.declared.address.Addr.{Addr}
 use Rattle.at_base.specs.declared.address.Hw.{Hw}

@@ -16,7 +16,8 @@ use Rattle.planned_stations.specs.Beginning.{AreBegun, AreNodesBegun, router_beg
 use Rattle.world.specs.Received.{AreReceived, got}
 use Rattle.world.specs.Worlds.{IsReceived}
 
-nodes_empty : (cables : List Cable) (ns : List PlannedNode) (ls : List LivingNode) → AreNodesBegun cables ns ls → (k : ℕ) (ds : List Received)
+nodes_empty : (cables : List Cable) (ns : List PlannedNode) (ls : List LivingNode) → AreNodesBegun cables ns ls
+    → (k : ℕ) (ds : List Received)
     → slice_get (map got (map Node ls)) k ≡ Some ds → ds ≡ []
 nodes_empty cables [] [] h k ds at = cc
 nodes_empty cables [] (l ∷ ls) h k ds at = elim h [ ]

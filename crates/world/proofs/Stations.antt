@@ -1,6 +1,6 @@
 -- Stations, one of which changes, and the frames that are pending for them.
 use Rattle.std.proofs.Common.{◌≡◌, ◌⊎◌, ◌↔◌, inl, inr, ℕ, zero, suc, ◌<◌, Bool, true, false, ◌==◌, not, List, [], ◌∷◌, ◌++◌}
-use Rattle.std.proofs.Common.{◌+◌, ◌≤◌, cond, Option, None, Some, map, length, slice_get, slice_set, Contains, IfErr, Result, Ok, Err}
+use Rattle.std.proofs.Common.{◌+◌, ◌≤◌, cond, Some, map, length, slice_get, slice_set, Contains, IfErr, Result, Ok, Err}
 use Rattle.std.proofs.Common.{refl, sym, ap, ◌∙◌, subst, arith, eq-eqb, filter, OnErr, OnOk}
 use Rattle.std.specs.List.{list_any, AllByRecursion as Each}
 use Rattle.std.proofs.lemmas.Bool.{and_from}

@@ -37,7 +37,7 @@ module _ (ms : List (Member Living LivingNode)) (k stamp : ℕ) (old new : Wires
     m = before;
     after = after;
     there = at;
-    hears = x;
+    does = x;
     set = refl;
   })
 

@@ -1,9 +1,7 @@
 -- The stations of a world after a tick that was refused: what was done before the refused step stays done.
-use Rattle.std.specs.Prelude.{◌≡◌, ◌⊎◌, ℕ, ◌<◌, List, Bool, Some, length, slice_get, slice_set}
-use Rattle.cable_model.specs.Outcomes.{IsLeast}
-use Rattle.cable_model.specs.Pending.{pending}
+use Rattle.std.specs.Prelude.{◌≡◌, ◌⊎◌, ℕ, ◌<◌, List, Bool, length}
 use Rattle.internet_file.specs.Files.{Planned}
-use Rattle.live_cables.specs.Living.{IsTakenBy, Wires, happened}
+use Rattle.live_cables.specs.Living.{IsTakenBy, Wires}
 use Rattle.live_cables.specs.Steps.{loses_by}
 use Rattle.live_node.specs.Living.{LiveHears as NodeHears, LivingNode}
 use Rattle.live_node.specs.Ticking.{LiveTicks as NodeTicks}
@@ -17,7 +15,7 @@ use Rattle.world.specs.Doing.{settled_own}
 use Rattle.world.specs.Going.{Goes}
 use Rattle.world.specs.Losing.{loses_at}
 use Rattle.world.specs.Passing.{AreAged, HasTicked, HavePassed}
-use Rattle.world.specs.Taking.{AreTaken}
+use Rattle.world.specs.Taking.{AreTaken, IsOfFirst, IsOne}
 use Rattle.world.specs.Ticking.{Begins}
 use Rattle.world.specs.Worlds.{Worldly}
 
@@ -60,26 +58,17 @@ pub record ArePassing (stations now : List (Member Living LivingNode)) (old new 
   pub before : List (Member Living LivingNode)
   pub mid : Wires
   pub passes : HavePassed number seat stations before old mid
-  pub m : Member Living LivingNode
-  pub after : Member Living LivingNode
-  pub there : slice_get before number ≡ Some m
-  pub stops : StopsPassing number seat m after mid new
-  pub set : now ≡ slice_set before number after
+  pub stops : IsOne number before now (λ m after. StopsPassing number seat m after mid new)
 
 -- The station heard the frame with this stamp.
-pub record IsHearer (stamp station : ℕ) (stations now : List (Member Living LivingNode)) (old new : Wires) : Type 0 where
-  pub m : Member Living LivingNode
-  pub after : Member Living LivingNode
-  pub there : slice_get stations station ≡ Some m
-  pub hears : IsTakenBy old new stamp station (λ heard added. EitherHears RouterHears NodeHears m heard added after)
-  pub set : now ≡ slice_set stations station after
+abbrev pub IsHearer : ℕ → ℕ → List (Member Living LivingNode) → List (Member Living LivingNode) → Wires → Wires → Type 0
+IsHearer stamp station stations now old new =
+    IsOne station stations now
+    (λ m after. IsTakenBy old new stamp station (λ heard added. EitherHears RouterHears NodeHears m heard added after))
 
 -- The lowest station for which the frame with the lowest pending stamp was pending heard it.
-pub record IsHearing (stations now : List (Member Living LivingNode)) (old new : Wires) : Type 0 where
-  pub stamp : ℕ
-  pub station : ℕ
-  pub least : IsLeast (pending old.cabling.seats (happened old)) stamp station
-  pub by : IsHearer stamp station stations now old new
+abbrev pub IsHearing : List (Member Living LivingNode) → List (Member Living LivingNode) → Wires → Wires → Type 0
+IsHearing stations now old new = IsOfFirst old (λ stamp station. IsHearer stamp station stations now old new)
 
 -- Nothing more happened, or the station that was to take the next frame heard it.
 abbrev pub MayHear : List (Member Living LivingNode) → List (Member Living LivingNode) → Wires → Wires → Type 0
@@ -120,14 +109,14 @@ abbrev pub StopsIn : Planned → ℕ → List (Member Living LivingNode) → Lis
 StopsIn plan tick stations now old new refused refused_now schedule left =
     StopsBefore stations now old new ⊎ StopsTaking plan tick stations now old new refused refused_now schedule left
 
--- A tick of the world was stopped in one of its phases, with the losses that the plan has for it; or before the first of
--- them, and neither a station
--- nor the cables changed.
+-- A tick of the world was stopped in one of its phases, with the losses that the plan has for it.
 pub record IsStopped (old new : Worldly) : Type 0 where
   pub losing : List Bool
   pub loses : (cable : ℕ) → loses_by losing cable ≡ loses_at old.plan new.now cable
   pub stops : StopsIn old.plan new.now old.stations new.stations (record old.wires { losing = losing }) new.wires
       old.refused new.refused old.schedule new.schedule
 
+-- A tick of the world was stopped before the first of its phases, and neither a station nor the cables changed; or in one
+-- of them.
 abbrev pub MayStop : Worldly → Worldly → Type 0
 MayStop old new = ((new.stations ≡ old.stations) × (new.wires ≡ old.wires)) ⊎ IsStopped old new

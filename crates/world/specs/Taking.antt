@@ -9,20 +9,31 @@ use Rattle.live_node.specs.Living.{LivingNode, LiveHears as NodeHears}
 use Rattle.live_router.specs.Living.{Living, LiveHears as RouterHears}
 use Rattle.planned_stations.specs.Planning.{ports_of}
 
--- A station took the frame with this stamp, heard it, and sent its outputs.
-pub record IsTaker (stamp station : ℕ) (stations now : List (Member Living LivingNode)) (old new : Wires) : Type 0 where
+-- The station with this number became what `Does` says of it, and the others stayed.
+pub record IsOne (station : ℕ) (stations now : List (Member Living LivingNode))
+    (Does : Member Living LivingNode → Member Living LivingNode → Type 0) : Type 0 where
   pub m : Member Living LivingNode
   pub after : Member Living LivingNode
   pub there : slice_get stations station ≡ Some m
-  pub takes : TakesIn stamp station (ports_of m) (λ heard added. EitherHears RouterHears NodeHears m heard added after) old new
+  pub does : Does m after
   pub set : now ≡ slice_set stations station after
 
--- The frame with the lowest pending stamp was taken by the lowest station for which it was pending.
-pub record IsTaken (stations now : List (Member Living LivingNode)) (old new : Wires) : Type 0 where
+-- A station took the frame with this stamp, heard it, and sent its outputs.
+abbrev pub IsTaker : ℕ → ℕ → List (Member Living LivingNode) → List (Member Living LivingNode) → Wires → Wires → Type 0
+IsTaker stamp station stations now old new =
+    IsOne station stations now
+    (λ m after. TakesIn stamp station (ports_of m) (λ heard added. EitherHears RouterHears NodeHears m heard added after) old new)
+
+-- `Does` holds of the lowest pending stamp and of the lowest station for which its frame is pending.
+pub record IsOfFirst (wires : Wires) (Does : ℕ → ℕ → Type 0) : Type 0 where
   pub stamp : ℕ
   pub station : ℕ
-  pub least : IsLeast (pending old.cabling.seats (happened old)) stamp station
-  pub by : IsTaker stamp station stations now old new
+  pub least : IsLeast (pending wires.cabling.seats (happened wires)) stamp station
+  pub by : Does stamp station
+
+-- The frame with the lowest pending stamp was taken by the lowest station for which it was pending.
+abbrev pub IsTaken : List (Member Living LivingNode) → List (Member Living LivingNode) → Wires → Wires → Type 0
+IsTaken stations now old new = IsOfFirst old (λ stamp station. IsTaker stamp station stations now old new)
 
 -- n frames were taken, one after the other.
 abbrev pub AreTaken : ℕ → List (Member Living LivingNode) → List (Member Living LivingNode) → Wires → Wires → Type 0

@@ -34,4 +34,5 @@ pub record Plays (plan : Planned) (tick : ℕ) (stations now : List (Member Livi
 pub record IsTick (old new : Worldly) : Type 0 where
   pub losing : List Bool
   pub loses : (cable : ℕ) → loses_by losing cable ≡ loses_at old.plan new.now cable
-  pub plays : Plays old.plan new.now old.stations new.stations (record old.wires { losing = losing }) new.wires old.refused new.refused old.schedule new.schedule
+  pub plays : Plays old.plan new.now old.stations new.stations (record old.wires { losing = losing }) new.wires
+      old.refused new.refused old.schedule new.schedule

@@ -2,6 +2,7 @@
 use Rattle.std.specs.Prelude.{◌≡◌, ◌⊎◌, ℕ, ◌+◌, ◌≤◌, IsTrue, List, [], ◌++◌, Option, None, Some, Contains, length, map, slice_get}
 use Rattle.std.specs.List.{All}
 use Rattle.at_base.specs.declared.error.Error.{Error}
+use Rattle.cable_model.specs.Rooms.{held_rooms}
 use Rattle.cable_model.specs.Outcomes.{AreSeatsOf}
 use Rattle.cable_model.specs.Pending.{pending}
 use Rattle.cable_model.specs.Transcript.{Entry, Frame, Put, Took, count}
@@ -39,6 +40,7 @@ wires_begun plan = record {
   cabling = record {
     seats = plan_seats plan;
     limit = 4000000;
+    rooms = held_rooms;
     lines = [];
     kept = [];
     waiting = [];

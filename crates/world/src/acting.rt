@@ -102,7 +102,7 @@ fn act_one<T: RouteTable>(
     ensures keeps { KeepsFirst refused.old.items refused.new.items }
     ensures goes { Goes wires.old wires.new }
     ensures done { OnOk result (GoesOn 0 wires.old wires.new) }
-    ensures full { (result ≡ Err Error.Full) → HasNoRoom 3 wires.new.cabling }
+    ensures full { (result ≡ Err Error.Full) → HasNoRoom 5 wires.new.cabling }
     ensures refused { IfErr result (λ e. (e ≡ Error.Full) ⊎ (e ≡ Error.Memory)) }
 {
     let Some(action) = plan.actions().get(index as usize) else {
@@ -154,7 +154,7 @@ pub fn act_all<T: RouteTable>(
     ensures keeps { KeepsFirst refused.old.items refused.new.items }
     ensures goes { Goes wires.old wires.new }
     ensures done { OnOk result (GoesOn 0 wires.old wires.new) }
-    ensures full { (result ≡ Err Error.Full) → HasNoRoom 3 wires.new.cabling }
+    ensures full { (result ≡ Err Error.Full) → HasNoRoom 5 wires.new.cabling }
     ensures refused { IfErr result (λ e. (e ≡ Error.Full) ⊎ (e ≡ Error.Memory)) }
 {
     match next_due(schedule, plan.actions(), now) {

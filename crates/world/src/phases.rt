@@ -43,7 +43,7 @@ fn before_takings<T: RouteTable>(
         schedule.old.items schedule.new.items) }
     ensures stopped { OnErr result
         (StopsBefore stations.old.items stations.new.items wires.old wires.new) }
-    ensures full { (result ≡ Err Error.Full) → HasNoRoom 3 wires.new.cabling }
+    ensures full { (result ≡ Err Error.Full) → HasNoRoom 5 wires.new.cabling }
     ensures refused { IfErr result (λ e. (e ≡ Error.Full) ⊎ (e ≡ Error.Memory)) }
 {
     match tick_all(*refused.allocator(), stations, wires) {
@@ -77,7 +77,7 @@ pub fn run_phases<T: RouteTable>(
         schedule.old.items schedule.new.items) }
     ensures received { AreReceived (happened wires.old) (map got stations.old.items)
         → AreReceived (happened wires.new) (map got stations.new.items) }
-    ensures full { (result ≡ Err Error.Full) → HasNoRoom 771 wires.new.cabling }
+    ensures full { (result ≡ Err Error.Full) → HasNoRoom 1285 wires.new.cabling }
     ensures refused { IfErr result (λ e. (e ≡ Error.Full) ⊎ (e ≡ Error.Memory)) }
 {
     match before_takings(plan, stations, wires, refused, schedule, now) {

@@ -86,7 +86,7 @@ fn age_mappings<T: RouteTable>(
     ensures stopped { OnErr result (station.new ≡ station.old) }
     ensures goes { Goes wires.old wires.new }
     ensures done { OnOk result (GoesOn 0 wires.old wires.new) }
-    ensures full { (result ≡ Err Error.Full) → HasNoRoom 3 wires.new.cabling }
+    ensures full { (result ≡ Err Error.Full) → HasNoRoom 5 wires.new.cabling }
     ensures refused { IfErr result (λ e. (e ≡ Error.Full) ⊎ (e ≡ Error.Memory)) }
 {
     match wires.pass(seat) {
@@ -114,7 +114,7 @@ fn age_all_mappings<T: RouteTable>(
         (StopsAt seat ports station.old station.new wires.old wires.new) }
     ensures goes { Goes wires.old wires.new }
     ensures done { OnOk result (GoesOn 0 wires.old wires.new) }
-    ensures full { (result ≡ Err Error.Full) → HasNoRoom 3 wires.new.cabling }
+    ensures full { (result ≡ Err Error.Full) → HasNoRoom 5 wires.new.cabling }
     ensures refused { IfErr result (λ e. (e ≡ Error.Full) ⊎ (e ≡ Error.Memory)) }
 {
     for port in 0..ports {
@@ -142,7 +142,7 @@ fn tick<T: RouteTable>(
     ensures stopped { OnErr result (MayTick seat station.old station.new wires.old wires.new) }
     ensures goes { Goes wires.old wires.new }
     ensures done { OnOk result (GoesOn 0 wires.old wires.new) }
-    ensures full { (result ≡ Err Error.Full) → HasNoRoom 3 wires.new.cabling }
+    ensures full { (result ≡ Err Error.Full) → HasNoRoom 5 wires.new.cabling }
     ensures refused { IfErr result (λ e. (e ≡ Error.Full) ⊎ (e ≡ Error.Memory)) }
 {
     let mut outputs = match Outputs::new(alloc) {
@@ -175,7 +175,7 @@ fn tick_station<T: RouteTable>(
         (StopsPassing number seat station.old station.new wires.old wires.new) }
     ensures goes { Goes wires.old wires.new }
     ensures done { OnOk result (GoesOn 0 wires.old wires.new) }
-    ensures full { (result ≡ Err Error.Full) → HasNoRoom 3 wires.new.cabling }
+    ensures full { (result ≡ Err Error.Full) → HasNoRoom 5 wires.new.cabling }
     ensures refused { IfErr result (λ e. (e ≡ Error.Full) ⊎ (e ≡ Error.Memory)) }
 {
     match tick(alloc, station, wires, number, seat) {
@@ -213,7 +213,7 @@ pub fn tick_all<T: RouteTable>(
         (ArePassing stations.old.items stations.new.items wires.old wires.new) }
     ensures goes { Goes wires.old wires.new }
     ensures done { OnOk result (GoesOn 0 wires.old wires.new) }
-    ensures full { (result ≡ Err Error.Full) → HasNoRoom 3 wires.new.cabling }
+    ensures full { (result ≡ Err Error.Full) → HasNoRoom 5 wires.new.cabling }
     ensures refused { IfErr result (λ e. (e ≡ Error.Full) ⊎ (e ≡ Error.Memory)) }
 {
     let mut seat = 0;

@@ -42,7 +42,7 @@ fn take<T: RouteTable>(
         → AreReceived (happened wires.new) (map got stations.new.items) }
     ensures not_pending { (result ≡ Err Error.NotPending) ↔ (list_any (is_named stamp station)
         (spec.pending wires.old.cabling.seats (happened wires.old)) ≡ false) }
-    ensures full { (result ≡ Err Error.Full) → HasNoRoom 771 wires.new.cabling }
+    ensures full { (result ≡ Err Error.Full) → HasNoRoom 1285 wires.new.cabling }
     ensures refused { IfErr result (λ e. (e ≡ Error.NotPending) ⊎ (e ≡ Error.Full)
         ⊎ (e ≡ Error.Memory)) }
 {
@@ -70,7 +70,7 @@ fn take_first<T: RouteTable>(
         → spec.pending wires.new.cabling.seats (happened wires.new) ≡ []) }
     ensures received { AreReceived (happened wires.old) (map got stations.old.items)
         → AreReceived (happened wires.new) (map got stations.new.items) }
-    ensures full { (result ≡ Err Error.Full) → HasNoRoom 771 wires.new.cabling }
+    ensures full { (result ≡ Err Error.Full) → HasNoRoom 1285 wires.new.cabling }
     ensures refused { IfErr result (λ e. (e ≡ Error.Full) ⊎ (e ≡ Error.Memory)) }
 {
     match wires.first() {
@@ -98,7 +98,7 @@ pub fn take_all<T: RouteTable>(
         wires.old wires.new) }
     ensures received { AreReceived (happened wires.old) (map got stations.old.items)
         → AreReceived (happened wires.new) (map got stations.new.items) }
-    ensures full { (result ≡ Err Error.Full) → HasNoRoom 771 wires.new.cabling }
+    ensures full { (result ≡ Err Error.Full) → HasNoRoom 1285 wires.new.cabling }
     ensures refused { IfErr result (λ e. (e ≡ Error.Full) ⊎ (e ≡ Error.Memory)) }
 {
     for _step in 0..most {

@@ -35,7 +35,7 @@ impl<T: RouteTable> World<T> {
         ensures plays { OnOk result (IsTick self.old self.new) }
         ensures steps_stay { OnErr result (MayStop self.old self.new) }
         ensures keeps { KeepsFirst self.old.refused self.new.refused }
-        ensures full { (result ≡ Err Error.Full) → HasNoRoom 771 self.new.wires.cabling }
+        ensures full { (result ≡ Err Error.Full) → HasNoRoom 1285 self.new.wires.cabling }
         ensures refused { IfErr result (λ e. (e ≡ Error.Full) ⊎ (e ≡ Error.Memory)) }
     {
         let losing = match losing_at(self.alloc, &self.plan, self.passed) {
@@ -70,7 +70,7 @@ impl<T: RouteTable> World<T> {
         ensures steps_stay { OnErr result (MayStop self.old self.new) }
         ensures keeps { KeepsFirst self.old.refused self.new.refused }
         ensures full { (result ≡ Err Error.Full)
-            → (self.old.plan.ticks ≤ self.old.now) ⊎ HasNoRoom 771 self.new.wires.cabling }
+            → (self.old.plan.ticks ≤ self.old.now) ⊎ HasNoRoom 1285 self.new.wires.cabling }
         ensures refused { IfErr result (λ e. (e ≡ Error.Full) ⊎ (e ≡ Error.Memory)) }
     {
         if self.passed >= self.plan.ticks() {
@@ -109,7 +109,7 @@ impl<T: RouteTable> World<T> {
         ensures keeps { KeepsFirst self.old.refused self.new.refused }
         // A tick within the plan is full only if the transcript has no room.
         ensures full { self.old.stopped ≡ None → (result ≡ Err Error.Full)
-            → (self.old.plan.ticks ≤ self.old.now) ⊎ HasNoRoom 771 self.new.wires.cabling }
+            → (self.old.plan.ticks ≤ self.old.now) ⊎ HasNoRoom 1285 self.new.wires.cabling }
         ensures refused { IfErr result (λ e.
             (self.old.stopped ≡ Some e) ⊎ (e ≡ Error.Full) ⊎ (e ≡ Error.Memory)) }
     {

@@ -12,7 +12,8 @@ use Rattle.zip_zones.proofs.Names.{distinct_fold, not_more}
 use Rattle.zip_zones.proofs.Tables.{known_of_parts}
 
 -- the end of the list at the last index
-end_at : (low : ℕ) (table : List Known) (n : ℕ) (k : Known) → length table ≡ suc n → slice_get table n ≡ Some k → k.range.end ≡ end_of low table
+end_at : (low : ℕ) (table : List Known) (n : ℕ) (k : Known) → length table ≡ suc n → slice_get table n ≡ Some k
+    → k.range.end ≡ end_of low table
 end_at low [] n k e g = cc
 end_at low (x ∷ []) zero k e g = cc
 end_at low (x ∷ []) (suc n) k e g = absurd (omega (arith, e))

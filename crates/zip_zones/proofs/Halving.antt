@@ -1,10 +1,10 @@
 -- Binary search in a zone table, and that a range with a list overlaps no other.
-use Rattle.std.proofs.Common.{◌≡◌, ℕ, zero, suc, ◌<◌, ◌≤◌, true, false, not, cond, ◌&&◌, ◌||◌, ◌==◌, List, [], ◌∷◌, length, get_or}
+use Rattle.std.proofs.Common.{◌≡◌, ℕ, ◌<◌, ◌≤◌, true, false, not, cond, ◌&&◌, ◌||◌, ◌==◌, List, [], ◌∷◌}
 use Rattle.std.proofs.Common.{refl, arith, nat_lt, nat_le}
 use Rattle.std.specs.Prelude.{Some}
 use Rattle.std.specs.List.{list_all}
 use Rattle.std.proofs.Math.Bool.{and-false}
-use Rattle.std.proofs.lemmas.Bool.{and_parts, eqb-true, ltb-true, lt-leb, lt-ltb}
+use Rattle.std.proofs.lemmas.Bool.{and_parts, eqb-true, ltb-true, lt-leb}
 use Rattle.at_base.specs.Range.{Span, overlaps, same_range}
 use Rattle.at_base.proofs.Halving.{rise, rise_lower}
 use Rattle.zip_zones.specs.Zones.{Known, are_above, is_known, known_for, overlaps_another}

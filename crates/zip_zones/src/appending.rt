@@ -1,9 +1,9 @@
 //! Adding lists after all others.
 
-ghost use Rattle.std.specs.Prelude.{◌≡◌, ◌⊎◌, ◌↔◌, ◌++◌, ◌∷◌, [], false, length, true};
+ghost use Rattle.std.specs.Prelude.{◌≡◌, ◌⊎◌, ◌↔◌, ◌++◌, ◌∷◌, [], false, true};
 ghost use Rattle.std.specs.Prelude.{IfErr, IsOkUnless, OnErr, OnOk};
 ghost use Rattle.zip_zones.specs.Zones as spec;
-ghost use Rattle.zip_zones.specs.Zones.{IsZoneMap, end_of, list_of_least};
+ghost use Rattle.zip_zones.specs.Zones.{end_of, list_of_least};
 
 use crate::known::KnownZones;
 use crate::table::{MAX_LISTS, MAX_ZONES, ZoneTable, recall_valid};

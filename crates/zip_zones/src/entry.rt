@@ -1,12 +1,12 @@
 //! Entries of replies: a network and a zone name.
 
-ghost use Rattle.std.specs.Prelude.{◌≡◌, ◌∷◌, [], length, IfNone, IfOk, IfSome, OnOk};
+ghost use Rattle.std.specs.Prelude.{◌≡◌};
 ghost use Rattle.at_base.specs.Grammar.{number, two};
 ghost use Rattle.at_base.specs.Packets.{packets, text};
 ghost use Rattle.at_base.specs.Reading as reading_spec;
-ghost use Rattle.at_base.specs.Reading.{Gives, field_at, many_at};
+ghost use Rattle.at_base.specs.Reading.{Gives, field_at};
 ghost use Rattle.zip_zones.specs.Packets as spec;
-ghost use Rattle.zip_zones.specs.Packets.{IsEntries, entries_in, next_net, wrong_name, wrong_net};
+ghost use Rattle.zip_zones.specs.Packets.{next_net, wrong_name, wrong_net};
 
 use at_base::packet::{text_at, u16_at};
 use at_base::{Error, Field, Name, is_zone_name};

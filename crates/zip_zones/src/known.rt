@@ -1,6 +1,6 @@
 //! The zone list of one range.
 
-ghost use Rattle.std.specs.Prelude.{IfOk, IsOkUnless, OnErr, OnOk, [], length, true, ◌<◌, ◌≡◌, ◌≤◌};
+ghost use Rattle.std.specs.Prelude.{IfOk, IsOkUnless, OnErr, OnOk, [], length, ◌<◌, ◌≡◌, ◌≤◌};
 ghost use Rattle.zip_zones.specs.Zones as spec;
 ghost use Rattle.zip_zones.specs.Zones.{each_once, list_of_least, set_list, with_name, with_zone};
 ghost use Rattle.std.specs.Arc.{arc_value};

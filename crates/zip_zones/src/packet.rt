@@ -1,6 +1,6 @@
 //! A reader of ZIP packets that borrows its input.
 
-ghost use Rattle.std.specs.Prelude.{◌≡◌, ◌/◌, ◌==◌, [], length};
+ghost use Rattle.std.specs.Prelude.{◌≡◌, ◌/◌, ◌==◌, []};
 ghost use Rattle.at_base.specs.Grammar.{number, one};
 ghost use Rattle.at_base.specs.Packets.{packets, text, any};
 ghost use Rattle.at_base.specs.Reading as reading_spec;

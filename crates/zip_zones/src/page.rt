@@ -1,6 +1,6 @@
 //! Pages of a zone list.
 
-ghost use Rattle.std.specs.Prelude.{◌≡◌, ◌≤◌, ◌+◌, ◌++◌, drop, length, IfOk, IsOkUnless, OnOk};
+ghost use Rattle.std.specs.Prelude.{◌≡◌, ◌≤◌, ◌+◌, ◌++◌, length, IfOk, IsOkUnless, OnOk};
 ghost use Rattle.zip_zones.specs.Answers.{page_user};
 ghost use Rattle.zip_zones.specs.Pages.{fitting, from_index, name_bytes, names_bytes, page};
 

@@ -3,10 +3,9 @@
 ghost use Rattle.std.specs.Prelude.{◌≡◌, ◌⊎◌, ◌↔◌, ◌<◌, ◌≤◌, [], false, fold, length, option_map};
 ghost use Rattle.std.specs.Prelude.{slice_get, true, vec_capacity, vec_len, None, Some};
 ghost use Rattle.std.specs.Prelude.{IfErr, IfNone, IfOk, IfSome, IsOk, IsOkUnless, OnErr, OnOk};
-ghost use Rattle.std.specs.Option.{option_copied};
 ghost use Rattle.zip_zones.specs.Zones.{IsZoneMap, all_zones, complete_at, heard, is_full_for};
 ghost use Rattle.zip_zones.specs.Zones.{lists_at, names_at, overlaps_another, ranges_of, set_list};
-ghost use Rattle.zip_zones.specs.Zones.{are_above, known_for, known_of, with_known, with_name};
+ghost use Rattle.zip_zones.specs.Zones.{known_for, with_known, with_name};
 ghost use Rattle.zip_zones.specs.Zones as spec;
 ghost use Rattle.zip_zones.specs.Zones.{with_zone, without};
 ghost use Rattle.zip_zones.specs.Places.{IsAt};

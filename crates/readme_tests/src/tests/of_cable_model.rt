@@ -1,7 +1,7 @@
 //! The example of the README of `cable_model`, and its law.
 
 use at_base::{Bytes, Error, Hw};
-use cable_model::{Cables, Kind};
+use cable_model::{Cables, Kind, Rooms};
 use std::alloc::Global;
 use std::test::*;
 
@@ -32,7 +32,7 @@ const SEATS: [cable_model::Seat; 2] = [
 
 /// The number of stations for which the node's frame to all is still pending.
 fn left(alloc: Global) -> Result<usize, Error> {
-    let mut cables = Cables::new(alloc, &SEATS, 2)?;
+    let mut cables = Cables::new(alloc, &SEATS, 2, Rooms::KNOWN)?;
     let bytes = Bytes::copy(alloc, b"ping")?;
     put_and_lose(&mut cables, 2, Hw::ALL, bytes)
 }

@@ -2,7 +2,7 @@
 
 use super::three_cables::IMAGE;
 use at_base::{Bytes, Error, Hw};
-use cable_model::{Cables, Entry};
+use cable_model::{Cables, Entry, Rooms};
 use std::alloc::{AllocError, Global};
 use std::test::*;
 use table_image::Image;
@@ -37,7 +37,7 @@ const SEAT: cable_model::Seat = cable_model::Seat {
 /// The lines of a frame from the node to itself, which is lost.
 fn lines_of_a_loss(alloc: Global) -> Result<Vec<u8>, Error> {
     let image = table_image::read(alloc, IMAGE.as_slice())?;
-    let mut cables = Cables::new(alloc, &[SEAT], 2)?;
+    let mut cables = Cables::new(alloc, &[SEAT], 2, Rooms::KNOWN)?;
     let bytes = Bytes::copy(alloc, &[0x0A, 0xF0])?;
     cables.put(0, 2, SEAT.hw, cable_model::Kind::Aarp, bytes)?;
     cables.lose(0)?;

@@ -28,6 +28,8 @@ loop-step-preserved c =
             given_up = rw (w.asks-is, w.wait_on.ensures.given_up, was.given_up) (sym n.given_up);
             ask_few = rw w.asks-is (omega (arith, w.wait_on.ensures.ask_few, was.ask_few));
             given_up_few = rw w.asks-is (omega (arith, w.wait_on.ensures.given_up_few, was.given_up_few));
+            shed = rw (w.asks-is, w.wait_on.ensures.shed, was.shed) (sym n.shed);
+            shed_few = rw w.asks-is (omega (arith, w.wait_on.ensures.shed_few, was.shed_few));
           }
       | in_default w ↦ absurd (has_next c.args.queue.now.items c.loop-step._step lt (rw was.items at (sym c.pop_front.ensures.value
           ∙ w.in_default.is)))

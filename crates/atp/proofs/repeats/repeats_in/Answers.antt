@@ -1,4 +1,4 @@
-use Rattle.std.proofs.Common.{List, arith, eqb-true, length, ap, sym, ◌≡◌, ◌∙◌, [], ◌++◌}
+use Rattle.std.proofs.Common.{List, arith, eqb-true, length, ap, sym, ◌∙◌, ◌++◌}
 use Rattle.atp.specs.Repeating.{repeats_from}
 use Rattle.atp.specs.declared.repeats.Repeat.{Repeat}
 use Rattle.atp.proofs.Renewals.{few_repeats, none_repeats, none_short, whole}

@@ -12,4 +12,5 @@ returns-clause-some c =
 pub returns-clause-none : goal.returns-clause-none
 returns-clause-none c =
     let i = c.loop-key.invariant in
-    none_due (is_due_by c.args.when) c.args.first c.args.table.now.slots c.loop-key.key c.loop-key.best (omega (arith, i.within, c.loop-key-test.false)) i.none
+    none_due (is_due_by c.args.when) c.args.first c.args.table.now.slots c.loop-key.key c.loop-key.best
+    (omega (arith, i.within, c.loop-key-test.false)) i.none

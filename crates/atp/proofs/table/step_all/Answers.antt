@@ -10,7 +10,8 @@ use Rattle.atp.proofs.table.step_all.Goals as goal
 
 pub returns-clause-known : goal.returns-clause-known
 returns-clause-known c =
-    all_known (stepped c.args.step) (stepped_id c.args.step) c.args.table.now.slots c.loop-key.table.slots c.requires.apart c.loop-key.invariant.table.apart
+    all_known (stepped c.args.step) (stepped_id c.args.step)
+    c.args.table.now.slots c.loop-key.table.slots c.requires.apart c.loop-key.invariant.table.apart
     (λ k. elim (cases_lt k c.loop-key.key) [
       | inl lt ↦ c.loop-key.invariant.before k lt
       | inr le ↦

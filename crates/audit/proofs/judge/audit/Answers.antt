@@ -34,7 +34,12 @@ returns-in-Some-bad_next c =
     let below_3 = and_next i 2 (and_next i 1 (none_yet i) c.in_default.ensures) c.in_default-bad_station.ensures in
     let below_5 = and_next i 4 (and_next i 3 below_3 c.in_default-bad_row.ensures) c.in_default-bad_row-2.ensures in
     let below_6 = and_next i 5 below_5 c.in_default-bad_row-3.ensures in
-    record { judged = first_fault i _ 6 _ c.broken_at-in-Some-bad_next.ensures below_6 c.in-Some-bad_next.ensures; walks = tt; zones = tt; nodes = tt }
+    record {
+      judged = first_fault i _ 6 _ c.broken_at-in-Some-bad_next.ensures below_6 c.in-Some-bad_next.ensures;
+      walks = tt;
+      zones = tt;
+      nodes = tt;
+    }
 
 pub returns-in-Some-steps : goal.returns-in-Some-steps
 returns-in-Some-steps c =
@@ -42,7 +47,12 @@ returns-in-Some-steps c =
     let below_3 = and_next i 2 (and_next i 1 (none_yet i) c.in_default.ensures) c.in_default-bad_station.ensures in
     let below_5 = and_next i 4 (and_next i 3 below_3 c.in_default-bad_row.ensures) c.in_default-bad_row-2.ensures in
     let below_7 = and_next i 6 (and_next i 5 below_5 c.in_default-bad_row-3.ensures) c.in_default-bad_next.ensures in
-    record { judged = first_fault i _ 7 _ c.broken_at-in-Some-steps.ensures below_7 c.in-Some-steps.ensures; walks = tt; zones = tt; nodes = tt }
+    record {
+      judged = first_fault i _ 7 _ c.broken_at-in-Some-steps.ensures below_7 c.in-Some-steps.ensures;
+      walks = tt;
+      zones = tt;
+      nodes = tt;
+    }
 
 pub returns-in-Some-bad_zone_list : goal.returns-in-Some-bad_zone_list
 returns-in-Some-bad_zone_list c =

@@ -10,7 +10,8 @@ returns-clause-grows c = λ seats book.
 pub returns-clause-book : goal.returns-clause-book
 returns-clause-book c = λ seats book.
     book_same seats _ _ [] book
-    (extends seats _ _ [] (c.args.bytes ∷ []) [] book (sym (append-nil _)) c.push_reserved.ensures.items (sym (append-nil _)) tt tt) refl refl
+    (extends seats _ _ [] (c.args.bytes ∷ []) [] book (sym (append-nil _)) c.push_reserved.ensures.items (sym (append-nil _)) tt tt)
+    refl refl
 
 pub returns-clause-bytes : goal.returns-clause-bytes
 returns-clause-bytes c =

@@ -32,7 +32,8 @@ loop-output-preserved g c =
       book = c.add.ensures.book;
       room =
           room_left c.loop-output.log c.add.new.log (lines_for o) 1 1 n (all_lines rest) (length rest) (length rest) (length rest * n)
-          (room_for c.loop-output.log _ _ _ _ (lines_for o + all_lines rest) (1 + length rest) (1 + length rest) (n + length rest * n) i.room
+          (room_for c.loop-output.log _ _ _ _ (lines_for o + all_lines rest) (1 + length rest) (1 + length rest)
+          (n + length rest * n) i.room
           (omega (arith, lines)) (omega (arith, long)) (omega (arith, long)) (omega (arith, pairs))) c.add.ensures.uses;
       so_far =
           next_so_far places c.args.seats.now c.args.station c.args.log.now c.loop-output.log c.add.new.log c.args.outputs.now.items

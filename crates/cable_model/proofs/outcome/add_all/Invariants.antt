@@ -13,9 +13,11 @@ invariant-loop-output g l = record {
   so_far : SoFar (record { finds = g.R.Resolve.finds l.resolver; lists = g.R.Resolve.lists l.resolver }) l.seats l.station l.fn.log l.log
       l.fn.outputs.items l.outputs.items;
   stored : l.log.kept.items
-      ++ all_stored (record { finds = g.R.Resolve.finds l.resolver; lists = g.R.Resolve.lists l.resolver }) l.seats l.station l.outputs.items
+      ++ all_stored (record { finds = g.R.Resolve.finds l.resolver; lists = g.R.Resolve.lists l.resolver })
+      l.seats l.station l.outputs.items
       ≡ l.fn.log.kept.items
-      ++ all_stored (record { finds = g.R.Resolve.finds l.resolver; lists = g.R.Resolve.lists l.resolver }) l.seats l.station l.fn.outputs.items;
+      ++ all_stored (record { finds = g.R.Resolve.finds l.resolver; lists = g.R.Resolve.lists l.resolver })
+      l.seats l.station l.fn.outputs.items;
   few : vec_len l.log.lines + all_lines l.outputs.items ≤ vec_len l.fn.log.lines + all_lines l.fn.outputs.items;
   named : vec_len l.log.kept + vec_len l.fn.log.lines + all_spare l.outputs.items
       ≤ vec_len l.fn.log.kept + vec_len l.log.lines + all_spare l.fn.outputs.items;

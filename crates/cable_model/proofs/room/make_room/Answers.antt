@@ -25,7 +25,7 @@ returns-in_err-reserve-4-clause-kept c = λ seats k.
       lines = c.reserve.ensures.items;
       kept = c.reserve-2.ensures.items;
       waiting = c.reserve-3.ensures.items;
-      due = c.reserve-4.ensures.items;
+      due = c.reserve-4.ensures.dues;
       puts = refl;
     }) k
 
@@ -36,6 +36,6 @@ returns-clause-kept c = λ seats k.
       lines = c.reserve.ensures.items;
       kept = c.reserve-2.ensures.items;
       waiting = c.reserve-3.ensures.items;
-      due = c.reserve-4.ensures.items;
+      due = c.reserve-4.ensures.dues;
       puts = refl;
     }) k

@@ -87,7 +87,8 @@ returns-clause-audit g c = λ name file named operand.
 
 pub returns-in_err-matches-clause-trace_err : goal.returns-in_err-matches-clause-trace_err
 returns-in_err-matches-clause-trace_err g c = λ name image script named first second.
-    let memory = c.in_err-matches.ensures.passes (ap₂ takes c.in_ok-atalk_command.ensures named ∙ trace_taken name image script first second) in
+    let memory =
+    c.in_err-matches.ensures.passes (ap₂ takes c.in_ok-atalk_command.ensures named ∙ trace_taken name image script first second) in
     search rules
 
 pub returns-clause-trace : goal.returns-clause-trace
@@ -111,7 +112,8 @@ returns-clause-play g c = λ name file named operand.
 
 pub returns-in_err-matches-clause-play_to_err : goal.returns-in_err-matches-clause-play_to_err
 returns-in_err-matches-clause-play_to_err g c = λ name file out named first second.
-    let memory = c.in_err-matches.ensures.passes (ap₂ takes c.in_ok-atalk_command.ensures named ∙ play_to_taken name file out first second) in
+    let memory =
+    c.in_err-matches.ensures.passes (ap₂ takes c.in_ok-atalk_command.ensures named ∙ play_to_taken name file out first second) in
     search rules
 
 pub returns-clause-play_to : goal.returns-clause-play_to

@@ -1,6 +1,7 @@
 use Rattle.legal_runs.proofs.laws.words_exclude.Goals as goal
 use Rattle.legal_runs.proofs.Refused.{not_asked_alone, not_dropped_too, not_elsewhere, not_from_all, not_gone, not_many_hops, not_nowhere}
-use Rattle.legal_runs.proofs.Refused.{not_out_of_hops, not_passed_back, not_put_from_afar, not_reached_alone, not_reached_elsewhere, not_reached_from_afar}
+use Rattle.legal_runs.proofs.Refused.{not_out_of_hops, not_passed_back, not_put_from_afar, not_reached_alone}
+use Rattle.legal_runs.proofs.Refused.{not_reached_elsewhere, not_reached_from_afar}
 use Rattle.legal_runs.proofs.Refused.{not_dropped_on_its_way, not_dropped_twice, not_reached_unlisted, not_same_hops, not_taken_from_afar}
 use Rattle.legal_runs.proofs.Refused.{not_taken_twice}
 

@@ -14,7 +14,8 @@ returns-clause-few g c =
     let same = ap (λ (l : List Choice). length l) c.ports_now.ensures.value in
     tick_few ports c.ports_now-after.result.now (g.T.RouteTable.rows c.routes_now-routes.result.now) c.ports_after.new.made.items
     c.send.new.made.items (omega (arith, same, c.ports_now.ensures.few)) is
-    ((c.in_ok-ports.ensures {u = tt}).put ∙ ap (λ (l : List Output). l ++ probes 0 ports) c.new-made.ensures.items) (c.in_ok-send.ensures {u = tt}).few
+    ((c.in_ok-ports.ensures {u = tt}).put ∙ ap (λ (l : List Output). l ++ probes 0 ports) c.new-made.ensures.items)
+    (c.in_ok-send.ensures {u = tt}).few
 
 pub returns-clause-good : goal.returns-clause-good
 returns-clause-good g c =

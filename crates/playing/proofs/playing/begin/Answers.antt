@@ -1,4 +1,4 @@
-use Rattle.std.proofs.Common.{◌≡◌, ℕ, List, [], None, Result, Ok, Err, IfOk, subst, sym}
+use Rattle.std.proofs.Common.{◌≡◌, [], None, Result, Ok, Err, IfOk, subst, sym}
 use Rattle.at_base.specs.declared.error.Error.{Error}
 use Rattle.internet_file.specs.Files.{Planned}
 use Rattle.live_cables.specs.Living.{happened}

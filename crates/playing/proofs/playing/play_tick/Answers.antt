@@ -15,7 +15,8 @@ passed (Err e) old new plan now ticks does = tt
 -- A world still satisfies `Lives` after a tick that finished.
 pub returns-clause-lived : goal.returns-clause-lived
 returns-clause-lived c =
-    passed c.tick-ticked.result c.args.world.now c.tick-ticked.new.self c.tick-ticked.ensures.plan c.tick-ticked.ensures.now c.tick-ticked.ensures.ticks_on
+    passed c.tick-ticked.result c.args.world.now c.tick-ticked.new.self c.tick-ticked.ensures.plan c.tick-ticked.ensures.now
+    c.tick-ticked.ensures.ticks_on
     c.tick-ticked.ensures.plays
 
 pub returns-clause-full : goal.returns-clause-full
@@ -23,7 +24,7 @@ returns-clause-full c =
     λ is lives early. by lives early (c.tick-ticked.ensures.full c.requires.unstopped is)
   where
     by : Lives c.args.world.now → c.args.world.now.now < c.args.world.now.plan.ticks
-        → (c.args.world.now.plan.ticks ≤ c.args.world.now.now) ⊎ HasNoRoom 771 c.tick-ticked.new.self.wires.cabling
+        → (c.args.world.now.plan.ticks ≤ c.args.world.now.now) ⊎ HasNoRoom 1285 c.tick-ticked.new.self.wires.cabling
         → Fills c.args.world.now.plan
     by lives early (inl over) = absurd (omega (arith, early, over))
     by lives early (inr none) = record {

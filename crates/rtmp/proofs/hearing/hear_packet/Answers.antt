@@ -1,4 +1,4 @@
-use Rattle.std.proofs.Common.{◌≡◌, ◌∷◌, ◌∙◌, ap, subst}
+use Rattle.std.proofs.Common.{◌≡◌, ◌∙◌, ap, subst}
 use Rattle.rtmp.specs.Data.{tuples_of}
 use Rattle.rtmp.specs.Routes.{heard_packet, heard_within}
 use Rattle.rtmp.proofs.Parts.{InPart, next_part}
@@ -16,8 +16,10 @@ loop-tuple-preserved g c =
     let took = c.in-Some.ensures.steps.0 in
     let heard = (c.in_ok-hear_tuple.ensures {u = tt}).ok in
     let by_router : rows c.hear_tuple.new.table ≡ heard_within t.range t.distance router port (rows c.loop-tuple.table) =
-    subst (λ s. rows c.hear_tuple.new.table ≡ heard_within t.range t.distance s port (rows c.loop-tuple.table)) c.router-source.ensures heard in
-    let whole = subst (λ l. heard_packet source port l (rows c.loop-tuple.table) ≡ heard_packet router port tuples (rows c.args.table.now)) took c.loop-tuple.invariant.0 in
+    subst (λ s. rows c.hear_tuple.new.table ≡ heard_within t.range t.distance s port (rows c.loop-tuple.table))
+    c.router-source.ensures heard in
+    let whole = subst (λ l. heard_packet source port l (rows c.loop-tuple.table)
+    ≡ heard_packet router port tuples (rows c.args.table.now)) took c.loop-tuple.invariant.0 in
     let part = subst (λ l. InPart router port tuples l (rows c.args.table.now) (rows c.loop-tuple.table)) took c.loop-tuple.invariant.1 in (
       ap (heard_packet source port rest) heard ∙ whole,
       next_part router port tuples t rest (rows c.args.table.now) (rows c.loop-tuple.table) (rows c.hear_tuple.new.table) part by_router,

@@ -9,4 +9,5 @@ abbrev pub invariant-loop-tuple : goal.invariant-loop-tuple
 invariant-loop-tuple g l =
     (heard_packet l.source l.port l.tuple-iterator (g.T.RouteTable.rows l.table)
     ≡ heard_packet l.packet.router l.port (tuples_of l.packet.written) (g.T.RouteTable.rows l.initial.table))
-    × InPart l.packet.router l.port (tuples_of l.packet.written) l.tuple-iterator (g.T.RouteTable.rows l.initial.table) (g.T.RouteTable.rows l.table)
+    × InPart l.packet.router l.port (tuples_of l.packet.written) l.tuple-iterator (g.T.RouteTable.rows l.initial.table)
+    (g.T.RouteTable.rows l.table)

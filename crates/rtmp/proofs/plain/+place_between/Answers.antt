@@ -12,7 +12,8 @@ place_between-requires t c =
     c.start.ensures.value in
     let rising = rows_rise 0 c.args.rows.now c.requires.map.each c.requires.map.apart in
     let over : middle < before c.args.start c.args.rows.now = before_over (λ (r : Row). r.range.start) c.args.start 0 c.args.rows.now
-    middle c.index-rows-middle.result rising (omega (arith, c.if-low-high.false, c.requires.inside)) (omega (arith, start, c.if-start.true)) in
+    middle c.index-rows-middle.result rising (omega (arith, c.if-low-high.false, c.requires.inside))
+    (omega (arith, start, c.if-start.true)) in
     (omega (arith, c.if-low-high.false, c.decreases), (c.requires.map, (omega (arith, over), (c.requires.to, c.requires.inside))))
 
 pub place_between-requires-else-start : goal.place_between-requires-else-start

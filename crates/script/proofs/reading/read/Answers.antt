@@ -15,7 +15,8 @@ returns-in_default-2-clause-refused c =
     let text = c.args.text.now in
     let line = c.cut.result.0.now in
     let before = c.loop-rest in
-    let so_far = subst (Read text before.steps.items before.number) (ap (parts_left 10) c.in-Some.is ∙ c.cut.ensures.parts) before.invariant in
+    let so_far =
+    subst (Read text before.steps.items before.number) (ap (parts_left 10) c.in-Some.is ∙ c.cut.ensures.parts) before.invariant in
     let tell : is_skipped line ≡ false = cc (c.is_skipped.ensures, c.if-not-is_skipped.true) in
     let none : step line ≡ None = sym c.in_ok-step.ensures.read ∙ c.in_default-2.is in
     let bad = stopped is_skipped step (lines text) before.steps.items before.number line (parts_left 10 c.cut.result.1) so_far tell none in
@@ -27,7 +28,8 @@ loop-rest-preserved-in_ok-push c =
     let line = c.cut.result.0.now in
     let more = parts_left 10 c.cut.result.1 in
     let before = c.loop-rest in
-    let so_far = subst (Read text before.steps.items before.number) (ap (parts_left 10) c.in-Some.is ∙ c.cut.ensures.parts) before.invariant in
+    let so_far =
+    subst (Read text before.steps.items before.number) (ap (parts_left 10) c.in-Some.is ∙ c.cut.ensures.parts) before.invariant in
     let tell : is_skipped line ≡ false = cc (c.is_skipped.ensures, c.if-not-is_skipped.true) in
     let some : step line ≡ Some c.in-Some-2.step = sym c.in_ok-step.ensures.read ∙ c.in-Some-2.is in
     let next = told is_skipped step (lines text) before.steps.items before.number line more c.in-Some-2.step so_far tell some in
@@ -40,7 +42,8 @@ loop-rest-preserved c =
     let line = c.cut.result.0.now in
     let more = parts_left 10 c.cut.result.1 in
     let before = c.loop-rest in
-    let so_far = subst (Read text before.steps.items before.number) (ap (parts_left 10) c.in-Some.is ∙ c.cut.ensures.parts) before.invariant in
+    let so_far =
+    subst (Read text before.steps.items before.number) (ap (parts_left 10) c.in-Some.is ∙ c.cut.ensures.parts) before.invariant in
     let skip : is_skipped line ≡ true = cc (c.is_skipped.ensures, c.if-not-is_skipped.false) in
     let next = passed is_skipped step (lines text) before.steps.items before.number line more so_far skip in
     subst (λ n. Read text before.steps.items n more) (sym c.saturating_add-number.ensures) next

@@ -1,4 +1,4 @@
-use Rattle.std.proofs.Common.{◌≡◌, ℕ, ◌+◌, ◌-◌, List, length, take, sym, subst}
+use Rattle.std.proofs.Common.{◌≡◌, ℕ, ◌+◌, ◌-◌, length, take, sym, subst}
 use Rattle.at_base.specs.Reading.{read, list_at}
 use Rattle.table_image.specs.Flaws.{flaws}
 use Rattle.table_image.specs.Spelling.{zone_list_spelling}

@@ -8,7 +8,8 @@ use Rattle.text.proofs.digits.+put_decimal.Goals as goal
 pub returns : goal.returns
 returns t c =
     on_ok_weaker c.put_digit-2.result
-    (decimal_more c.args.number c.args.text.now.items c.put_decimal.new.text.items c.put_digit-2.new.text.items (omega arith) (omega arith) c.in_ok-put_decimal.ensures)
+    (decimal_more c.args.number c.args.text.now.items c.put_decimal.new.text.items c.put_digit-2.new.text.items
+    (omega arith) (omega arith) c.in_ok-put_decimal.ensures)
     c.put_digit-2.ensures
 
 pub returns-then-number-lt100 : goal.returns-then-number-lt100

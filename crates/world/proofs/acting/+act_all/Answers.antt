@@ -21,11 +21,30 @@ returns-in-None-clause-done g t c = goes_none _
 pub returns-in-Ok-clause-are_done : goal.returns-in-Ok-clause-are_done
 returns-in-Ok-clause-are_done g t c =
     on_ok_weaker c.act_all.result
-    (λ d. (suc d.0, (c.next_due.new.schedule.items, c.in-Some.index, (c.act_one.new.wires, c.act_one.new.refused.items), c.in-Some.ensures.last, subst (λ l. tick_of l c.in-Some.index ≡ Some c.args.now) c.actions.ensures.value c.in-Some.ensures.due, c.in-Ok.ensures.is_done, d.1)))
+    (λ d. (
+      suc d.0,
+      (
+        c.next_due.new.schedule.items,
+        c.in-Some.index,
+        (c.act_one.new.wires, c.act_one.new.refused.items),
+        c.in-Some.ensures.last,
+        subst (λ l. tick_of l c.in-Some.index ≡ Some c.args.now) c.actions.ensures.value c.in-Some.ensures.due,
+        c.in-Ok.ensures.is_done,
+        d.1,
+      ),
+    ))
     c.act_all.ensures.are_done
 
 pub returns-in-None-clause-are_done : goal.returns-in-None-clause-are_done
-returns-in-None-clause-are_done g t c = (0, (c.in-None.ensures.none, refl, subst (λ l. IsOver l c.args.now c.args.schedule.now.items) c.actions.ensures.value c.in-None.ensures.over))
+returns-in-None-clause-are_done g t c = (
+  0,
+  (
+    c.in-None.ensures.none,
+    refl,
+    subst
+        (λ l. IsOver l c.args.now c.args.schedule.now.items) c.actions.ensures.value c.in-None.ensures.over,
+  ),
+)
 
 pub returns-in-Ok-clause-keeps : goal.returns-in-Ok-clause-keeps
 returns-in-Ok-clause-keeps g t c =

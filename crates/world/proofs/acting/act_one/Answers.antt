@@ -27,18 +27,21 @@ pub returns-in-Err-clause-is_done : goal.returns-in-Err-clause-is_done
 returns-in-Err-clause-is_done g c =
     on_ok_weaker c.note.result
     (λ did. done_for c.args.plan.now c.args.stations.now c.args.index c.station_of-station.result c.in-Some.action.now
-    c.in-Some-get.member.now _ _ (ap (λ l. slice_get l c.args.index) (sym c.actions.ensures.value) ∙ slice_get_read c.actions.result.now _ c.args.index _ refl
+    c.in-Some-get.member.now _ _
+    (ap (λ l. slice_get l c.args.index) (sym c.actions.ensures.value) ∙ slice_get_read c.actions.result.now _ c.args.index _ refl
     (ltb-true _ _ (sym c.in-Some.ensures.lookup.0)) c.in-Some.ensures.lookup.1)
     c.station_of-station.ensures (slice_get_read c.args.stations.now _ c.station_of-station.result _ refl
     (ltb-true _ _ (sym c.in-Some-get.ensures.lookup.0)) c.in-Some-get.ensures.lookup.1) did)
-    (done_noted c.note.result c.in-Some-get.member.now c.station_of-station.result c.args.index c.in-Some.action.now.action c.in-Err.error _ _
+    (done_noted c.note.result c.in-Some-get.member.now c.station_of-station.result c.args.index
+    c.in-Some.action.now.action c.in-Err.error _ _
     c.in-Err.ensures.refused c.note.ensures.memory (refl {a = c.args.wires.now}) c.note.ensures.noted)
 
 pub returns-clause-is_done : goal.returns-clause-is_done
 returns-clause-is_done g c =
     on_ok_weaker c.give.result
     (λ given. done_for c.args.plan.now c.args.stations.now c.args.index c.station_of-station.result c.in-Some.action.now
-    c.in-Some-get.member.now _ _ (ap (λ l. slice_get l c.args.index) (sym c.actions.ensures.value) ∙ slice_get_read c.actions.result.now _ c.args.index _ refl
+    c.in-Some-get.member.now _ _
+    (ap (λ l. slice_get l c.args.index) (sym c.actions.ensures.value) ∙ slice_get_read c.actions.result.now _ c.args.index _ refl
     (ltb-true _ _ (sym c.in-Some.ensures.lookup.0)) c.in-Some.ensures.lookup.1)
     c.station_of-station.ensures (slice_get_read c.args.stations.now _ c.station_of-station.result _ refl
     (ltb-true _ _ (sym c.in-Some-get.ensures.lookup.0)) c.in-Some-get.ensures.lookup.1)

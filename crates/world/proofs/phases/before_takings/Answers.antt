@@ -19,5 +19,6 @@ returns-clause-begins g c =
       wires = c.tick_all.new.wires;
       passes = c.in-Ok.ensures.passed.1;
       actions = d.0;
-      does = subst (λ l. AreDone c.args.plan.now l c.args.now d.0 c.args.schedule.now.items c.act_all.new.schedule.items (c.tick_all.new.wires, c.args.refused.now.items) (c.act_all.new.wires, c.act_all.new.refused.items)) c.as_slice.ensures.value d.1;
+      does = subst (λ l. AreDone c.args.plan.now l c.args.now d.0 c.args.schedule.now.items c.act_all.new.schedule.items
+          (c.tick_all.new.wires, c.args.refused.now.items) (c.act_all.new.wires, c.act_all.new.refused.items)) c.as_slice.ensures.value d.1;
     }) c.act_all.ensures.are_done

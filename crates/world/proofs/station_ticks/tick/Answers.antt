@@ -11,7 +11,8 @@ returns-clause-goes g c = goes_settled _ c.settle.new.wires _ c.settle.ensures.o
 
 pub returns-clause-done : goal.returns-clause-done
 returns-clause-done g c =
-    on_ok_weaker c.give.result (λ d. goes_on_settled _ c.settle.new.wires _ c.settle.ensures.others 0 (goes_plays_on 0 _ _ d)) c.give.ensures.done
+    on_ok_weaker c.give.result
+    (λ d. goes_on_settled _ c.settle.new.wires _ c.settle.ensures.others 0 (goes_plays_on 0 _ _ d)) c.give.ensures.done
 
 pub returns-clause-stopped : goal.returns-clause-stopped
 returns-clause-stopped g c =

@@ -49,12 +49,24 @@ loop-index-preserved g c =
     let few = c.loop-index.invariant.4 in
     let more = c.ports_at-seat.ensures.few in
     let next : suc k ≡ k + 1 = omega arith in
-    let after = c.ports_at-seat.ensures.value c.tick_station.new.station (subst (λ l. slice_get l k ≡ Some c.tick_station.new.station) (sym c.deref.ensures.value) (get_set ms k old c.tick_station.new.station at)) in (
+    let after = c.ports_at-seat.ensures.value c.tick_station.new.station (subst (λ l. slice_get l k ≡ Some c.tick_station.new.station)
+    (sym c.deref.ensures.value) (get_set ms k old c.tick_station.new.station at)) in (
       ports_set ms k old c.tick_station.new.station at c.tick_station.ensures.ports ∙ c.loop-index.invariant.0,
       got_stays ms k old c.tick_station.new.station at c.tick_station.ensures.got ∙ c.loop-index.invariant.1,
       length_set ms k c.tick_station.new.station ∙ same,
       goes_on_then 0 _ _ _ c.loop-index.invariant.3 0 0 (omega arith) c.in-Ok.ensures.done,
       omega (arith, few, more),
-      subst (λ n. HavePassed n (c.loop-index.seat + c.ports_at-seat.result) c.args.stations.now.items (slice_set ms k c.tick_station.new.station) c.args.wires.now c.tick_station.new.wires) next
-          (c.loop-index.seat, ms, c.loop-index.wires, c.loop-index.invariant.5, old, c.tick_station.new.station, at, c.in-Ok.ensures.passed, refl, ap (λ n. c.loop-index.seat + n) after),
+      subst (λ n. HavePassed n (c.loop-index.seat + c.ports_at-seat.result) c.args.stations.now.items
+          (slice_set ms k c.tick_station.new.station) c.args.wires.now c.tick_station.new.wires) next (
+            c.loop-index.seat,
+            ms,
+            c.loop-index.wires,
+            c.loop-index.invariant.5,
+            old,
+            c.tick_station.new.station,
+            at,
+            c.in-Ok.ensures.passed,
+            refl,
+            ap (λ n. c.loop-index.seat + n) after,
+          ),
     )

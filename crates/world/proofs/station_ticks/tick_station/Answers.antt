@@ -8,4 +8,5 @@ returns-clause-goes g c = goes_then 0 _ _ _ c.in-Ok.ensures.done c.age_all_mappi
 
 pub returns-clause-done : goal.returns-clause-done
 returns-clause-done g c =
-    on_ok_weaker c.age_all_mappings.result (λ d. goes_on_then 0 _ _ _ c.in-Ok.ensures.done 0 0 (omega arith) d) c.age_all_mappings.ensures.done
+    on_ok_weaker c.age_all_mappings.result (λ d. goes_on_then 0 _ _ _ c.in-Ok.ensures.done 0 0 (omega arith) d)
+    c.age_all_mappings.ensures.done

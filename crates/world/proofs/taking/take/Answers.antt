@@ -44,7 +44,7 @@ returns-clause-taken g c =
       m = taker;
       after = c.take.new.taker;
       there = slice_get_read ms (length ms) c.args.station taker refl c.requires.there c.index_mut-taker.ensures.value;
-      takes = t;
+      does = t;
       set = refl;
     }) c.take.ensures.taken
 

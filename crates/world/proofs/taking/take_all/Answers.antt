@@ -33,7 +33,8 @@ returns-in-Ok-false-clause-taken g c =
     let stay = c.in-Ok-false.ensures.stay c.in-Ok-false.field-0-test in (
       c.loop-step._step,
       subst (λ w. AreTaken c.loop-step._step c.args.stations.now.items c.take_first.new.stations.items c.args.wires.now w) (sym stay.1)
-          (subst (λ l. AreTaken c.loop-step._step c.args.stations.now.items l c.args.wires.now c.loop-step.wires) (sym stay.0) c.loop-step.invariant.3),
+          (subst (λ l. AreTaken c.loop-step._step c.args.stations.now.items l c.args.wires.now c.loop-step.wires)
+          (sym stay.0) c.loop-step.invariant.3),
     )
 
 pub returns-clause-taken : goal.returns-clause-taken

@@ -12,7 +12,8 @@ place_between-requires t c =
     c.start.ensures.value ∙ (ap (λ s. s.start) c.range.ensures ∙ ap (λ k. k.range.start) c.index-lists-middle.is) in
     let rising = lists_rise 0 c.args.lists.now c.requires.map.each c.requires.map.apart in
     let over : middle < before c.args.start c.args.lists.now = before_over (λ (k : Known). k.range.start) c.args.start 0 c.args.lists.now
-    middle c.index-lists-middle.result rising (omega (arith, c.if-low-high.false, c.requires.inside)) (omega (arith, start, c.if-start.true)) in
+    middle c.index-lists-middle.result rising (omega (arith, c.if-low-high.false, c.requires.inside))
+    (omega (arith, start, c.if-start.true)) in
     (omega (arith, c.if-low-high.false, c.decreases), (c.requires.map, (omega (arith, over), (c.requires.to, c.requires.inside))))
 
 pub place_between-requires-else-start : goal.place_between-requires-else-start

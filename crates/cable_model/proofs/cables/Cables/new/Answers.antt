@@ -3,4 +3,5 @@ use Rattle.cable_model.specs.Books.{HasOneSeat}
 use Rattle.cable_model.proofs.cables.Cables.new.Goals as goal
 
 pub invariant_of-result : goal.invariant_of-result
-invariant_of-result c = c.empty.ensures.kept _ _ (subst HasOneSeat (sym c.in_ok-seats.ensures.ok) c.requires)
+invariant_of-result c =
+    (c.empty.ensures.kept _ _ (subst HasOneSeat (sym c.in_ok-seats.ensures.ok) c.requires.one_seat), c.requires.rooms)

@@ -8,7 +8,8 @@ pub returns-in-Some : goal.returns-in-Some
 returns-in-Some c =
     let ss = c.args.self.now in
     let at : Some c.in-Some.index ≡ position (λ s. s.cable == c.args.cable && s.station == c.args.station) ss = search rules in
-    c.get.ensures ∙ (ap (option_and_then (slice_get ss)) at ∙ sym (find_there (λ s. s.cable == c.args.cable && s.station == c.args.station) ss))
+    c.get.ensures
+    ∙ (ap (option_and_then (slice_get ss)) at ∙ sym (find_there (λ s. s.cable == c.args.cable && s.station == c.args.station) ss))
 
 pub returns-in-None : goal.returns-in-None
 returns-in-None c =

@@ -18,7 +18,8 @@ use Rattle.frozen.proofs.frozen.Frozen.ask.Goals as goal
 pub carry_out-requires-clause-fair : goal.carry_out-requires-clause-fair
 carry_out-requires-clause-fair g c =
     subst (λ (r : Running). IsFair r.internet c.in-Ok.order) c.self.view_is
-    (ask_fair c.self.inside.places c.self.invariant.0.passes c.args.node c.args.via c.in-Ok.order (sym c.ask_order.ensures.value ∙ c.in-Ok.is))
+    (ask_fair c.self.inside.places c.self.invariant.0.passes c.args.node c.args.via c.in-Ok.order
+    (sym c.ask_order.ensures.value ∙ c.in-Ok.is))
 
 pub returns-clause-sent : goal.returns-clause-sent
 returns-clause-sent g c =
@@ -30,7 +31,8 @@ returns-clause-sent g c =
     ∙ ap (λ (i : Internet). ask_data i c.args.node c.args.id c.args.name.now) c.image.ensures
     ∙ ap (λ (r : Running). ask_data r.internet c.args.node c.args.id c.args.name.now) c.self.view_is) in
     on_ok_weaker c.carry_out.result
-    (λ by. subst (λ o. Sends c.args.self.now o (ask_data c.args.self.now.internet c.args.node c.args.id c.args.name.now) c.carry_out.new.self)
+    (λ by. subst
+    (λ o. Sends c.args.self.now o (ask_data c.args.self.now.internet c.args.node c.args.id c.args.name.now) c.carry_out.new.self)
     (sym order) (subst (λ d. SentBy c.args.self.now c.in-Ok.order d c.carry_out.new.self) payload by)) c.carry_out.ensures.sent
 
 pub returns-clause-refused : goal.returns-clause-refused

@@ -1,5 +1,6 @@
 use Rattle.std.proofs.Common.{◌≡◌, true, ap, sym, subst, ◌∙◌, refl, IsTrue}
 use Rattle.std.proofs.lemmas.Result.{on_ok_weaker}
+use Rattle.cable_model.specs.Rooms.{known_rooms}
 use Rattle.cable_model.specs.Logs.{Adds, Cabling}
 use Rattle.cable_model.specs.Outcomes.{has_cable, is_seated, sent_entries}
 use Rattle.ddp.specs.Datagram.{datagram_of}
@@ -13,7 +14,7 @@ use Rattle.frozen.specs.Events.{SentBy}
 use Rattle.frozen.specs.Orders.{IsFair, bytes_for}
 use Rattle.frozen.specs.Promises.{HaveOnlyAsked}
 use Rattle.frozen.specs.Runs.{IsFrozen, Running}
-use Rattle.image_stations.specs.Holders.{places_of}
+use Rattle.legal_runs.specs.Legs.{places_of}
 use Rattle.legal_stations.proofs.Making.{IsSent}
 use Rattle.legal_runs.proofs.Frames.{whole}
 use Rattle.legal_runs.specs.Requests.{request}
@@ -48,7 +49,7 @@ invariant_of-self g c =
     (Adds c.self.inside.cables c.send.new.cables
     (sent_entries (places_of i) c.self.inside.cables o.cable o.station o.next c.in-Ok.bytes))
     (c.send.new.cables ≡ c.self.inside.cables)
-    (IsFrozen new × (c.self.inside.limit ≡ c.send.new.cables.limit))
+    (IsFrozen new × (c.self.inside.limit ≡ c.send.new.cables.limit) × (c.send.new.cables.rooms ≡ known_rooms))
     c.send.ensures.ok c.send.ensures.kept
     (λ adds. (
       sent_keeps old new o payload c.self.invariant.0 fair sent (record {
@@ -58,11 +59,13 @@ invariant_of-self g c =
             (sent_entries (places_of i) c.self.inside.cables o.cable o.station o.next b)) c.in-Ok.ensures.written.1 adds;
       }),
       c.self.invariant.1 ∙ sym adds.limit,
+      adds.rooms ∙ c.self.invariant.2,
     ))
     (λ same. (
       subst IsFrozen (ap (λ k. record { internet = i; stations = c.self.inside.stations.items; cabling = k }) (sym same))
           c.self.invariant.0,
       c.self.invariant.1 ∙ ap (λ (k : Cabling). k.limit) (sym same),
+      ap (λ (k : Cabling). k.rooms) same ∙ c.self.invariant.2,
     ))
 
 pub returns-in-Ok-clause-sent : goal.returns-in-Ok-clause-sent

@@ -46,7 +46,8 @@ returns-in-Ok-clause-looked_up g c = λ up only.
     let asks : is_routers_request (body (bytes_for o x.payload)) ≡ false =
     (subst (OnlyAsks c.args.self.now.internet) x.is only) o order in
     looks_up c.carry_out.new.self c.carry_out.ensures.frozen
-    (c.carry_out.ensures.asks up.0 (subst (λ (b : List ℕ). is_routers_request (body (bytes_for o b)) ≡ false) (sym c.as_slice.ensures) asks))
+    (c.carry_out.ensures.asks up.0
+    (subst (λ (b : List ℕ). is_routers_request (body (bytes_for o b)) ≡ false) (sym c.as_slice.ensures) asks))
 
 pub returns-in-Err-clause-conserved : goal.returns-in-Err-clause-conserved
 returns-in-Err-clause-conserved g c = each_once c.args.self.now (subst IsFrozen c.self.view_is c.self.invariant.0)

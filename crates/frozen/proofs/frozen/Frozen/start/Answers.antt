@@ -7,8 +7,8 @@ use Rattle.frozen.proofs.Keeps.{begun, begun_asks}
 use Rattle.frozen.proofs.Promised.{all_carried, each_once, has_hops, looks_up}
 use Rattle.frozen.proofs.frozen.Frozen.start.Goals as goal
 
-pub new-requires : goal.new-requires
-new-requires g c =
+pub new-requires-clause-one_seat : goal.new-requires-clause-one_seat
+new-requires-clause-one_seat g c =
     λ cable station. subst (λ l. count (λ (s : Seat). s.cable == cable && s.station == station) l ≤ 1)
     (sym (c.as_slice.ensures.value ∙ c.in_ok-seats.ensures.ok)) (one_seat c.args.image c.in-Yes.ensures.judged.0 cable station)
 
@@ -18,6 +18,7 @@ invariant_of-result g c = (
       c.in_ok-places.ensures.ok c.in_ok-cables.ensures.ok (c.as_slice.ensures.value ∙ c.in_ok-seats.ensures.ok)
       c.in-Yes.ensures.judged.0 c.cables-cables.ensures.bounded c.in_ok-stations.ensures.ok,
   sym (ap (λ (k : Cabling). k.limit) c.in_ok-cables.ensures.ok),
+  ap (λ (k : Cabling). k.rooms) c.in_ok-cables.ensures.ok,
 )
 
 pub returns-clause-conserved : goal.returns-clause-conserved

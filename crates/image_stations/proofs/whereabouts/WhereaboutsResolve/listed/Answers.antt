@@ -8,5 +8,6 @@ use Rattle.image_stations.proofs.whereabouts.WhereaboutsResolve.listed.Goals as 
 pub returns : goal.returns
 returns c =
     c.is_some.ensures
-    ∙ ap is_some (c.home_of.ensures ∙ (ap (position (λ k. is_between k.start k.end c.args.net)) (c.cables.ensures.value ∙ ap (λ (i : Internet). i.cables) c.image.ensures)
+    ∙ ap is_some (c.home_of.ensures ∙ (ap (position (λ k. is_between k.start k.end c.args.net))
+    (c.cables.ensures.value ∙ ap (λ (i : Internet). i.cables) c.image.ensures)
     ∙ index_position (λ k. is_between k.start k.end c.args.net) c.args.self.now.cables))

@@ -90,7 +90,9 @@ returns-clause-taken g c =
       maps_are = c.deref_mut.ensures.value;
       lines_are = c.transcript-from.ensures.value;
       losing_are = c.deref-2.ensures.value;
-    }) c.args.stamp c.args.station _ _ c.take.new.cables c.answer_of-answer.result (c.follow-followed.new.cables, c.follow-followed.new.mappers)
-    c.deref.result.now c.deref.ensures.value c.in-Ok.ensures.taken c.answer_of-answer.ensures c.in-Ok-followed.ensures.followed c.lose_from.ensures.loses
+    }) c.args.stamp c.args.station _ _ c.take.new.cables c.answer_of-answer.result
+    (c.follow-followed.new.cables, c.follow-followed.new.mappers)
+    c.deref.result.now c.deref.ensures.value c.in-Ok.ensures.taken c.answer_of-answer.ensures c.in-Ok-followed.ensures.followed
+    c.lose_from.ensures.loses
     (whole c.follow-followed.new.mappers _ c.self.inside.mappers.len (sym (c.follow-followed.ensures.mappers ∙ c.deref_mut.ensures.len)))
     (record { own = refl; ranges = refl; losing = refl })))

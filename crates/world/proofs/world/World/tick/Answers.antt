@@ -9,7 +9,7 @@ use Rattle.world.proofs.world.World.tick.Goals as goal
 pub returns-in-Err-clause-full : goal.returns-in-Err-clause-full
 returns-in-Err-clause-full g c =
     λ stopped is.
-    subst (λ (w : Worldly). (c.args.self.now.plan.ticks ≤ c.args.self.now.now) ⊎ HasNoRoom 771 w.wires.cabling) (sym c.self-2.view_is)
+    subst (λ (w : Worldly). (c.args.self.now.plan.ticks ≤ c.args.self.now.now) ⊎ HasNoRoom 1285 w.wires.cabling) (sym c.self-2.view_is)
     (c.in-Err.ensures.full is)
 
 -- The error is recorded, and the stations stay as the failed tick left them.
