@@ -10,7 +10,6 @@ from made_plays import Plan
 from made_scripts import Crowded, Script, Spoiled, Staffed, filling
 from made_worlds import crowd, timed
 from programs import ran
-from transcripts import kind_of_difference
 
 SECONDS = 20
 SHOWN = 50  # bytes before and after the first one that differs
@@ -164,11 +163,7 @@ class Worlds(Runs):
         judged = answer([*self.words.judge.split(), "world", *files], seconds)
         with open(files[0], "rb") as file:
             ours = answer(self.words.worlds.split(), seconds, stdin=file)
-        told = difference(ours, judged)
-        if told is None or ours[::2] != judged[::2]:
-            return told, judged, "played" if judged[0] == 0 else ending(judged)
-        kind = kind_of_difference(ours[1], judged[1])
-        return None if kind == "moved" and self.words.moved else f"{told} ({kind})", judged, kind
+        return difference(ours, judged), judged, "played" if judged[0] == 0 else ending(judged)
 
     def kind_of(self, line):
         """The first word, and which packet or how."""

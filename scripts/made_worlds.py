@@ -88,8 +88,8 @@ def asking(chance):
     to = chance.choice([world.address(nodes[1]), world.address(nodes[2]), f"{10 * len(world.cables)}.77", "10.77", "10.2"])
     cable = chance.choice([1, len(world.cables)])
     world.lose(cable, world.near(at, -1, 0, 0, 1, 5), at + chance.choice([7, 8, 9, 9, 10, 11, 12]))
-    for _ in range(chance.choice([1, 2, 15, 16, 17, 18])):
-        world.send(at + chance.choice([0, 0, 0, 1]), nodes[0], to, b"\1" + chance.randbytes(2))
+    for _ in range(chance.choice([1, 2, 15, 16, 17, 18, 20, 33])):
+        world.send(at + chance.choice([0, 0, 0, 1]), nodes[0], chance.choice([to, to, to, "10.78"]), b"\1" + chance.randbytes(2))
     for _ in range(chance.randint(0, 4)):
         world.send(at + chance.randint(5, 22), nodes[0], chance.choice([to, to, "10.78"]), b"\1" + chance.randbytes(2))
     world.until(at + 30)

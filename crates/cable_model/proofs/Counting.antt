@@ -1,8 +1,8 @@
 -- Counts over lists.
 use Rattle.std.proofs.Common.{◌≡◌, ℕ, zero, suc, ◌+◌, ◌≤◌, Bool, true, false, cond, ◌||◌, ◌&&◌, not, List, [], ◌∷◌, ◌++◌, Some, refl}
-use Rattle.std.proofs.Common.{Contains, ap, arith, filter, map, slice_get, subst, sym, ◌∙◌}
+use Rattle.std.proofs.Common.{Contains, ap, arith, filter, inl, inr, map, slice_get, subst, sym, ◌∙◌}
 use Rattle.std.specs.List.{list_any, AllByRecursion as Each}
-use Rattle.std.proofs.lemmas.Bool.{false_from_ne_true}
+use Rattle.std.proofs.lemmas.Bool.{false_from_ne_true, or_cases, or_parts}
 use Rattle.std.proofs.lemmas.Option.{slice_get-get_or}
 use Rattle.cable_model.specs.Transcript.{one, count}
 
@@ -195,3 +195,21 @@ pub map_at : {X Y : Type 0} (f : X → Y) (xs : List X) (k : ℕ) (x : X) → At
 map_at f [] k x e = cc
 map_at f (y ∷ xs) zero x e = let s : y ≡ x = cc in ap (λ z. Some (f z)) s
 map_at f (y ∷ xs) (suc k) x e = map_at f xs k x e
+
+-- if no element passes the test, none is counted
+pub count_any_none : {X : Type 0} (t : X → Bool) (xs : List X) → list_any t xs ≡ false → count t xs ≡ 0
+count_any_none t [] h = refl
+count_any_none t (x ∷ xs) h =
+    let p = or_parts (t x) (list_any t xs) h in
+    let e = ap one p.0 in
+    let f = count_any_none t xs p.1 in
+    omega (arith, e, f)
+
+-- if an element passes the test, it is counted
+pub count_any : {X : Type 0} (t : X → Bool) (xs : List X) → list_any t xs ≡ true → 1 ≤ count t xs
+count_any t [] h = cc
+count_any t (x ∷ xs) h =
+    elim (or_cases (t x) (list_any t xs) h) as (λ _. 1 ≤ count t (x ∷ xs)) [
+      | inl this ↦ let e = ap one this in omega (arith, e)
+      | inr later ↦ let f = count_any t xs later in omega (arith, f)
+    ]

@@ -1,72 +1,64 @@
--- The log after a frame was taken or lost.
-use Rattle.std.proofs.Common.{◌≡◌, ◌≤◌, Bool, true, false, not, cond, List, [], ◌∷◌, ◌++◌, length, refl, sym, ap}
-use Rattle.std.proofs.Common.{◌∙◌, subst, arith, map, filter, append-nil}
-use Rattle.std.specs.List.{AllByRecursion as Each}
-use Rattle.cable_model.proofs.Books.{book_after, due_more, extends, pairs_same, pending_step}
-use Rattle.cable_model.proofs.Order.{in_order-filter}
-use Rattle.cable_model.specs.Books.{EndsBelow, IsBook, IsDue, Names, pair_at, said}
-use Rattle.cable_model.specs.Logs.{entry_at}
-use Rattle.cable_model.specs.Order.{in_order}
-use Rattle.cable_model.specs.Pending.{ends, pairs_of, pending}
-use Rattle.cable_model.specs.Transcript.{AreNumbered, Entry, is_put, one}
-use Rattle.cable_model.specs.Waits.{pair_key}
+-- The log after a frame was taken or lost, or a held datagram given up.
+use Rattle.std.proofs.Common.{◌≡◌, ℕ, ◌<◌, true, false, not, ◌==◌, List, [], ◌∷◌, ◌++◌, filter, refl, sym, ap, ◌∙◌, arith, eqb-true, subst}
+use Rattle.std.specs.List.{list_any}
+use Rattle.cable_model.proofs.Books.{book_after, held_stamp_is, holding_kept, holding_left, pending_left}
+use Rattle.cable_model.proofs.Finds.{at_named, stamp_named}
+use Rattle.cable_model.specs.Books.{IsBook, IsHeldAt, hold_at, said}
+use Rattle.cable_model.specs.Holdings.{releases}
+use Rattle.cable_model.specs.Transcript.{Entry, Took, Lost, has_put}
+use Rattle.cable_model.specs.Waits.{is_at}
 use Rattle.cable_model.specs.declared.due.Due.{Due}
-use Rattle.cable_model.specs.declared.entry.Entry.{Entry as Line}
+use Rattle.cable_model.specs.declared.entry.Entry.TheVariants as line
 use Rattle.cable_model.specs.declared.log.Log.{Log}
 use Rattle.cable_model.specs.declared.seat.Seat.{Seat}
 
-each_filter : {X : Type 0} (P : X → Type 0) (t : X → Bool) (xs : List X) → Each P xs → Each P (filter t xs)
-each_filter P t [] h = tt
-each_filter P t (x ∷ xs) h = one_more P x (t x) (filter t xs) h.0 (each_filter P t xs h.1)
+pub swapped : (m n : ℕ) → (m == n) ≡ (n == m)
+swapped m n = grind arith
+
+-- a holding is ended by the loss of its stamp
+pub released_is : (t : List Entry) (stamp : ℕ) (d : Due) → IsHeldAt t d → (stamp == d.stamp) ≡ releases (hold_at t d).stamp (Lost stamp)
+released_is t stamp d h = swapped stamp d.stamp ∙ ap (λ n. n == stamp) (sym (held_stamp_is t d h))
+
+-- a station took a frame that had been put
+pub book_took : (seats : List Seat) (old new : Log) (stamp station : ℕ) → IsBook seats old
+    → new.lines.items ≡ old.lines.items ++ line.Took stamp station ∷ [] → new.kept ≡ old.kept → new.waiting ≡ old.waiting
+    → new.next_stamp ≡ old.next_stamp → new.due.dues ≡ filter (λ d. not (is_at stamp station d)) old.due.dues
+    → new.holdings ≡ old.holdings → stamp < old.next_stamp → list_any (has_put stamp) (said old) ≡ true → IsBook seats new
+book_took seats old new stamp station book lines kept waiting next due held earlier put =
+    let e = Took stamp station in
+    book_after seats old new (line.Took stamp station) book lines kept waiting tt next
+    (record {
+      fresh = λ s h. absurd_of h;
+      below = subst (λ n. stamp < n) (sym next) earlier;
+      put_first = λ s h. subst (λ n. list_any (has_put n) (said old) ≡ true) (sym (eqb-true s stamp h)) put;
+      numbered = λ p q n. tt;
+    })
+    (pending_left seats (said old) e (is_at stamp station) old.due.dues new.due.dues (record { each = book.due; all = book.pending })
+    (at_named seats old book stamp station) due refl)
+    (holding_kept (said old) e old.holdings.dues new.holdings.dues (record { each = book.held; all = book.holdings }) (λ s. refl)
+    (ap (λ w. w.dues) held) refl)
   where
-    one_more : {X : Type 0} (P : X → Type 0) (x : X) (b : Bool) (l : List X) → P x → Each P l → Each P (cond b (x ∷ l) l)
-    one_more P x true l h g = (h, g)
-    one_more P x false l h g = g
+    absurd_of : {A : Type 0} → false ≡ true → A
+    absurd_of e = cc
 
-module _ (seats : List Seat) (t : List Entry) (test : Due → Bool) (e : Entry)
-    (agree : (d : Due) → IsDue seats t d → test d ≡ ends (pair_at seats t d) e) where
-  left : (ds : List Due) → Each (IsDue seats t) ds
-      → map (pair_at seats t) (filter (λ d. not (test d)) ds) ≡ filter (λ q. not (ends q e)) (map (pair_at seats t) ds)
-  left [] h = refl
-  left (d ∷ ds) h =
-      by (test d) (left ds h.1)
-      ∙ ap (λ b. cond (not b) (pair_at seats t d ∷ filter (λ q. not (ends q e)) (map (pair_at seats t) ds))
-      (filter (λ q. not (ends q e)) (map (pair_at seats t) ds))) (agree d h.0)
-    where
-      by : (b : Bool)
-          → map (pair_at seats t) (filter (λ d. not (test d)) ds) ≡ filter (λ q. not (ends q e)) (map (pair_at seats t) ds)
-          → map (pair_at seats t) (cond (not b) (d ∷ filter (λ d. not (test d)) ds) (filter (λ d. not (test d)) ds))
-          ≡ cond (not b) (pair_at seats t d ∷ filter (λ q. not (ends q e)) (map (pair_at seats t) ds))
-          (filter (λ q. not (ends q e)) (map (pair_at seats t) ds))
-      by true h = h
-      by false h = ap (λ l. pair_at seats t d ∷ l) h
-
--- an entry that ends pairs and puts no frame keeps the invariant
-pub book_ended : (seats : List Seat) (old new : Log) (l : Line) (test : Due → Bool) → IsBook seats old
-    → new.lines.items ≡ old.lines.items ++ l ∷ [] → new.kept ≡ old.kept → new.waiting ≡ old.waiting → new.puts ≡ old.puts
-    → new.due.dues ≡ filter (λ d. not (test d)) old.due.dues → Names (length new.kept.items) l
-    → pairs_of seats (entry_at new.kept.items l) ≡ [] → is_put (entry_at new.kept.items l) ≡ false
-    → AreNumbered old.puts (entry_at new.kept.items l ∷ []) → EndsBelow new.puts (entry_at new.kept.items l)
-    → ((d : Due) → IsDue seats (said old) d → test d ≡ ends (pair_at seats (said old) d) (entry_at new.kept.items l)) → IsBook seats new
-book_ended seats old new l test book lines kept waiting puts due names none quiet numbered below agree =
-    let k : new.kept.items ≡ old.kept.items = ap (λ k. k.items) kept in
-    let x = extends seats old new (l ∷ []) [] [] book lines (k ∙ sym (append-nil _)) (ap (λ w. w.items) waiting ∙ sym (append-nil _))
-    (names, tt) tt in
-    let e = entry_at new.kept.items l in
-    let es = e ∷ [] in
-    let few : Each (IsDue seats (said old)) new.due.dues =
-    subst (λ ds. Each (IsDue seats (said old)) ds) (sym due)
-    (each_filter (IsDue seats (said old)) (λ d. not (test d)) old.due.dues book.due) in
-    let gone =
-    pending_step seats (said old) e old.puts book.below
-    (subst (λ l. Each (λ q. (old.puts ≤ q.frame.stamp) × (ends q e ≡ false)) l) (sym none) tt) in
-    let plain = ap one quiet in
-    book_after seats old new es [] book x (omega (arith, puts, plain)) numbered (below, tt)
-    (due_more seats (said old) es new.due.dues few)
-    (pairs_same seats (said old) es new.due.dues few
-    ∙ (ap (map (pair_at seats (said old))) due
-    ∙ (left seats (said old) test e agree old.due.dues book.due
-    ∙ (ap (filter (λ q. not (ends q e))) book.pending
-    ∙ (in_order-filter pair_key (λ q. not (ends q e)) (pending seats (said old))
-    ∙ ap (in_order pair_key)
-    (sym (gone ∙ (ap (λ l. filter (λ q. not (ends q e)) (pending seats (said old)) ++ l) none ∙ append-nil _))))))))
+-- a frame was lost, or a held datagram given up
+pub book_lost : (seats : List Seat) (old new : Log) (stamp : ℕ) → IsBook seats old
+    → new.lines.items ≡ old.lines.items ++ line.Lost stamp ∷ [] → new.kept ≡ old.kept → new.waiting ≡ old.waiting
+    → new.next_stamp ≡ old.next_stamp → new.due.dues ≡ filter (λ d. not (stamp == d.stamp)) old.due.dues
+    → new.holdings.dues ≡ filter (λ d. not (stamp == d.stamp)) old.holdings.dues → stamp < old.next_stamp → IsBook seats new
+book_lost seats old new stamp book lines kept waiting next due held earlier =
+    let e = Lost stamp in
+    book_after seats old new (line.Lost stamp) book lines kept waiting tt next
+    (record {
+      fresh = λ s h. absurd_of h;
+      below = subst (λ n. stamp < n) (sym next) earlier;
+      put_first = λ s h. absurd_of h;
+      numbered = λ p q n. tt;
+    })
+    (pending_left seats (said old) e (λ d. stamp == d.stamp) old.due.dues new.due.dues (record { each = book.due; all = book.pending })
+    (stamp_named seats old book stamp) due refl)
+    (holding_left (said old) e (λ d. stamp == d.stamp) old.holdings.dues new.holdings.dues
+    (record { each = book.held; all = book.holdings }) (released_is (said old) stamp) held refl)
+  where
+    absurd_of : {A : Type 0} → false ≡ true → A
+    absurd_of e = cc

@@ -1,6 +1,6 @@
 -- Finding pairs by stamp and station.
-use Rattle.std.proofs.Common.{◌≡◌, ℕ, zero, suc, ◌+◌, ◌<◌, Bool, true, false, ◌||◌, ◌&&◌, ◌==◌, List, [], ◌∷◌, Option, Some, None, refl}
-use Rattle.std.proofs.Common.{sym, ap, ◌∙◌, subst, arith, map, Contains, find, eqb-true, if◌then◌else◌, IfSome, OnSome, slice_get}
+use Rattle.std.proofs.Common.{◌≡◌, ℕ, zero, suc, Bool, true, false, ◌||◌, ◌&&◌, ◌==◌, List, [], ◌∷◌, Option, Some, None, refl}
+use Rattle.std.proofs.Common.{sym, ap, ◌∙◌, subst, map, Contains, find, eq-eqb, eqb-true, if◌then◌else◌, IfSome, OnSome, slice_get}
 use Rattle.std.specs.List.{list_any, AllByRecursion as Each}
 use Rattle.std.specs.Prelude.{is_some}
 use Rattle.std.proofs.lemmas.Bool.{and_parts}
@@ -11,7 +11,7 @@ use Rattle.cable_model.proofs.Order.{Has, any_in_order, in_order_has}
 use Rattle.cable_model.specs.Books.{IsBook, IsDue, frame_of, pair_at, said}
 use Rattle.cable_model.specs.Outcomes.{has_cable, has_stamp, is_named, is_seated}
 use Rattle.cable_model.specs.Pending.{Pair, pending}
-use Rattle.cable_model.specs.Transcript.{AreNumbered, Entry, Frame, Sent, Put, Took, Reached, Dropped, Lost, is_put, one, stamps}
+use Rattle.cable_model.specs.Transcript.{Entry, Frame, Put, has_put}
 use Rattle.cable_model.specs.Waits.{due_key, is_at, pair_key}
 use Rattle.cable_model.specs.declared.due.Due.{Due}
 use Rattle.cable_model.specs.declared.log.Log.{Log}
@@ -20,14 +20,14 @@ use Rattle.cable_model.specs.declared.seat.Seat.{Seat}
 -- ---- lists
 
 -- a test of mapped elements
-any_map : {X Y : Type 0} (P : X → Type 0) (f : X → Y) (t : X → Bool) (u : Y → Bool) (xs : List X) → ((x : X) → P x → t x ≡ u (f x))
+pub any_map : {X Y : Type 0} (P : X → Type 0) (f : X → Y) (t : X → Bool) (u : Y → Bool) (xs : List X) → ((x : X) → P x → t x ≡ u (f x))
     → Each P xs → list_any t xs ≡ list_any u (map f xs)
 any_map P f t u [] same h = refl
 any_map P f t u (x ∷ xs) same h =
     ap (λ b. b || list_any t xs) (same x h.0) ∙ ap (λ b. u (f x) || b) (any_map P f t u xs same h.1)
 
 -- an element that is found is in the list, and passes
-find_at : {X : Type 0} (t : X → Bool) (xs : List X) (x : X) → find t xs ≡ Some x → (k : ℕ) × At xs k x × (t x ≡ true)
+pub find_at : {X : Type 0} (t : X → Bool) (xs : List X) (x : X) → find t xs ≡ Some x → (k : ℕ) × At xs k x × (t x ≡ true)
 find_at t [] x e = cc
 find_at t (y ∷ xs) x e = by (find_at t xs x) (t y) refl e
   where
@@ -61,28 +61,21 @@ contains_at xs k x e = (k, slice_get_within xs k x e, get_or_from_slice_get xs k
 
 -- ---- stamps of pairs
 
--- a frame of a numbered transcript has a stamp below the next one
-numbered_at : (n k : ℕ) (t : List Entry) (f : Frame) → AreNumbered n t → At t k (Put f) → f.stamp < n + stamps t
-numbered_at n k [] f h e = cc
-numbered_at n zero (Put g ∷ t) f h e =
-    let s : g ≡ f = put_is g f e in
-    let stamp = ap (λ (f : Frame). f.stamp) s in
-    omega (arith, h.0, stamp)
+-- a frame that an entry puts was put
+put_at : (k : ℕ) (t : List Entry) (f : Frame) → At t k (Put f) → list_any (has_put f.stamp) t ≡ true
+put_at k [] f e = cc
+put_at zero (x ∷ t) f e =
+    let s : x ≡ Put f = cc in
+    ap (λ y. has_put f.stamp y || list_any (has_put f.stamp) t) s ∙ ap (λ b. b || list_any (has_put f.stamp) t) (eq-eqb f.stamp f.stamp refl)
+put_at (suc k) (x ∷ t) f e = ap (λ b. has_put f.stamp x || b) (put_at k t f e) ∙ or_true (has_put f.stamp x)
   where
-    put_is : (g f : Frame) → Some (Put g) ≡ Some (Put f) → g ≡ f
-    put_is g f e = cc
-numbered_at n zero (Sent s b ∷ t) f h e = cc
-numbered_at n zero (Took s b ∷ t) f h e = cc
-numbered_at n zero (Reached c s w b ∷ t) f h e = cc
-numbered_at n zero (Dropped r c b ∷ t) f h e = cc
-numbered_at n zero (Lost p ∷ t) f h e = cc
-numbered_at n (suc k) (x ∷ t) f h e = let r = numbered_at (one (is_put x) + n) k t f h.1 e in omega (arith, r)
+    or_true : (b : Bool) → (b || true) ≡ true
+    or_true true = refl
+    or_true false = refl
 
 module _ (seats : List Seat) (log : Log) (book : IsBook seats log) where
-  below : (d : Due) → IsDue seats (said log) d → d.stamp < log.puts
-  below d h =
-      let less = numbered_at 0 d.put (said log) h.frame book.numbered h.put in
-      omega (arith, less, h.stamp, book.puts)
+  put_before : (d : Due) → IsDue seats (said log) d → list_any (has_put d.stamp) (said log) ≡ true
+  put_before d h = subst (λ n. list_any (has_put n) (said log) ≡ true) h.stamp (put_at d.put (said log) h.frame h.put)
 
   -- a stored pair that passes a test of stored pairs, as a test of the pending ones
   agrees : (t : Due → Bool) (u : Pair → Bool) → ((d : Due) → IsDue seats (said log) d → t d ≡ u (pair_at seats (said log) d))
@@ -102,24 +95,22 @@ module _ (seats : List Seat) (log : Log) (book : IsBook seats log) where
     pub value : is_some r ≡ list_any u (pending seats (said log))
     pub due : IfSome r (λ d. IsDue seats (said log) d)
     pub pending : IfSome r (λ d. Contains (pending seats (said log)) (pair_at seats (said log) d))
-    pub earlier : OnSome r (stamp < log.puts)
+    pub put : OnSome r (list_any (has_put stamp) (said log) ≡ true)
 
   module _ (stamp : ℕ) (t : Due → Bool) (u : Pair → Bool)
       (same : (d : Due) → IsDue seats (said log) d → t d ≡ u (pair_at seats (said log) d))
       (of_stamp : (d : Due) → t d ≡ true → stamp ≡ d.stamp) where
     pub is_found : (r : Option Due) → r ≡ find t log.due.dues → IsFound stamp t u r
     is_found None e =
-        record { value = ap is_some e ∙ (any_find t log.due.dues ∙ agrees t u same); due = tt; pending = tt; earlier = tt }
+        record { value = ap is_some e ∙ (any_find t log.due.dues ∙ agrees t u same); due = tt; pending = tt; put = tt }
     is_found (Some d) e =
         let a = find_at t log.due.dues d (sym e) in
         let is = each_at (IsDue seats (said log)) log.due.dues a.0 d a.1 book.due in
-        let less = below d is in
-        let at = of_stamp d a.2 in
         record {
           value = ap is_some e ∙ (any_find t log.due.dues ∙ agrees t u same);
           due = is;
           pending = stored_at d (a.0, a.1);
-          earlier = omega (arith, less, at);
+          put = subst (λ n. list_any (has_put n) (said log) ≡ true) (sym (of_stamp d a.2)) (put_before d is);
         }
 
   -- the tests by stamp and station, and by stamp alone

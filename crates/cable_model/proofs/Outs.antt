@@ -1,99 +1,410 @@
--- The entries of outputs, one output after another.
-use Rattle.std.proofs.Common.{◌≡◌, ℕ, ◌+◌, ◌*◌, ◌≤◌, suc, List, [], ◌∷◌, ◌++◌, refl, arith, sym, ap, ◌∙◌, subst, append-nil, append_assoc}
-use Rattle.std.proofs.Math.Nat.{add-mul}
-use Rattle.cable_model.proofs.Counting.{count-append}
-use Rattle.cable_model.proofs.Steps.{grows_then, same_grows}
-use Rattle.cable_model.specs.Books.{Grows, HasRoom, IsBook, Uses, said}
-use Rattle.cable_model.specs.Outcomes.{Held, Places, all_entries, all_held, entries_of, held_of}
-use Rattle.cable_model.specs.Transcript.{Entry, is_put, stamps}
+-- The outputs of a station as they go out, one after another.
+use Rattle.std.proofs.Common.{◌≡◌, ℕ, ◌+◌, ◌*◌, ◌≤◌, ◌⊎◌, ◌++◌, Bool, true, false, not, cond, ◌||◌, List, [], ◌∷◌, length, map, filter}
+use Rattle.std.proofs.Common.{inl, inr, refl, sym, ap, ◌∙◌, subst, arith, append-nil, append_assoc, length-append, vec_len}
+use Rattle.std.proofs.lemmas.List.{length-map}
+use Rattle.std.specs.List.{AllByRecursion as Each}
+use Rattle.at_base.specs.Address.{same_address}
+use Rattle.at_base.specs.declared.address.Addr.{Addr}
+use Rattle.cable_model.proofs.Counting.{any-append}
+use Rattle.cable_model.proofs.Order.{length_all_placed}
+use Rattle.cable_model.proofs.Pairs.{pairs-append}
+use Rattle.cable_model.proofs.RoomLeft.{product, room_for}
+use Rattle.cable_model.proofs.Steps.{same_tells, tells_then, told}
+use Rattle.cable_model.specs.Books.{Grows, HasHeldRoom, HasRoom, IsBook, Settles, Tells, Uses, held, pair_at, said}
+use Rattle.cable_model.specs.Logs.{entry_at}
+use Rattle.cable_model.specs.Outcomes.{Places, Sender, cable_of, entries_of, held_at, held_by, held_next, held_of, leg, sender_by}
+use Rattle.cable_model.specs.Outcomes.{stored_of, to_other, to_target}
+use Rattle.cable_model.specs.Outgoing.{GoOut, GoesOut, IsAnswering, IsHeldBy, is_later}
+use Rattle.cable_model.specs.Pending.{Pair, ends, pairs, pending, was_ended}
+use Rattle.cable_model.specs.Transcript.{Entry, Sent, Put, Took, Reached, Dropped, Lost, Hold, next_stamp}
+use Rattle.cable_model.specs.Waits.{pair_key}
+use Rattle.cable_model.specs.Ways.{all_lines, lines_for}
 use Rattle.cable_model.specs.declared.log.Log.{Log}
+use Rattle.cable_model.specs.declared.resolve.Found.{Found}
+use Rattle.cable_model.specs.declared.resolve.Found.TheVariants.{At, Nobody, Later}
+use Rattle.cable_model.specs.declared.resolve.HeldBy.{HeldBy}
 use Rattle.cable_model.specs.declared.seat.Seat.{Seat}
+use Rattle.cable_model.specs.declared.waiting.Waiting.{Waiting}
+use Rattle.ddp.specs.Bodies.{target}
+use Rattle.station.specs.declared.output.Next.{Next}
+use Rattle.station.specs.declared.output.Next.TheVariants as next
 use Rattle.station.specs.declared.output.Output.{Output}
+use Rattle.station.specs.declared.output.Output.TheVariants as output
 
--- ---- stamps and entries
+-- ---- entries that leave the pending pairs as they are
 
-pub puts_grow : (seats : List Seat) (a b : Log) (es : List Entry) (hs : List Held) → IsBook seats a → IsBook seats b → Grows a b es hs
-    → b.puts ≡ a.puts + stamps es
-puts_grow seats a b es hs x y g =
-    let total : b.puts ≡ stamps (said a ++ es) = y.puts ∙ ap stamps g.said in
-    let sum = count-append is_put (said a) es in
-    omega (arith, total, sum, x.puts)
+-- the entry is that of a datagram that a station sends or that reaches its cable
+abbrev IsCalm : Entry → Type 0
+IsCalm (Sent s b) = Unit {0}
+IsCalm (Reached c s how b) = Unit {0}
+IsCalm _ = ⊥
 
--- ---- room
+calm_pairs : (seats : List Seat) (es : List Entry) → Each IsCalm es → pairs seats es ≡ []
+calm_pairs seats [] h = refl
+calm_pairs seats (Sent s b ∷ es) h = calm_pairs seats es h.1
+calm_pairs seats (Reached c s how b ∷ es) h = calm_pairs seats es h.1
+calm_pairs seats (Put f ∷ es) h = absurd h.0
+calm_pairs seats (Took p s ∷ es) h = absurd h.0
+calm_pairs seats (Dropped r c b ∷ es) h = absurd h.0
+calm_pairs seats (Lost p ∷ es) h = absurd h.0
+calm_pairs seats (Hold w ∷ es) h = absurd h.0
 
-pub room_for : (log : Log) (l k w d l' k' w' d' : ℕ) → HasRoom log l k w d → l' ≤ l → k' ≤ k → w' ≤ w → d' ≤ d → HasRoom log l' k' w' d'
-room_for log l k w d l' k' w' d' r a b e f = record {
-  lines = omega (arith, r.lines);
-  kept = omega (arith, r.kept);
-  waiting = omega (arith, r.waiting);
-  due = omega (arith, r.due);
-  line_numbers = omega (arith, r.line_numbers);
-  byte_numbers = omega (arith, r.byte_numbers);
-  stamps = omega (arith, r.stamps);
-}
+calm_ends : (p : Pair) (es : List Entry) → Each IsCalm es → was_ended es p ≡ false
+calm_ends p [] h = refl
+calm_ends p (Sent s b ∷ es) h = calm_ends p es h.1
+calm_ends p (Reached c s how b ∷ es) h = calm_ends p es h.1
+calm_ends p (Put f ∷ es) h = absurd h.0
+calm_ends p (Took q s ∷ es) h = absurd h.0
+calm_ends p (Dropped r c b ∷ es) h = absurd h.0
+calm_ends p (Lost q ∷ es) h = absurd h.0
+calm_ends p (Hold w ∷ es) h = absurd h.0
 
-pub room_left : (log new : Log) (l k w d l' k' w' d' : ℕ) → HasRoom log (l + l') (k + k') (w + w') (d + d') → Uses log new l k w d
-    → HasRoom new l' k' w' d'
-room_left log new l k w d l' k' w' d' r u = record {
-  lines = omega (arith, r.lines, u.lines, u.lines_room);
-  kept = omega (arith, r.kept, u.kept, u.kept_room);
-  waiting = omega (arith, r.waiting, u.waiting, u.waiting_room);
-  due = omega (arith, r.due, u.due, u.due_room);
-  line_numbers = omega (arith, r.line_numbers, u.lines);
-  byte_numbers = omega (arith, r.byte_numbers, u.kept);
-  stamps = omega (arith, r.stamps, u.puts);
-}
+filter_same : {X : Type 0} (t u : X → Bool) (xs : List X) → ((x : X) → t x ≡ u x) → filter t xs ≡ filter u xs
+filter_same t u [] h = refl
+filter_same t u (x ∷ xs) h =
+    ap (λ b. cond b (x ∷ filter t xs) (filter t xs)) (h x) ∙ ap (λ l. cond (u x) (x ∷ l) l) (filter_same t u xs h)
 
-pub product : (n s : ℕ) → suc n * s ≡ s + n * s
-product n s =
-    let next : suc n ≡ 1 + n = omega arith in
-    let once : 1 * s ≡ s = omega arith in
-    ap (λ k. k * s) next ∙ (add-mul 1 n s ∙ ap (λ k. k + n * s) once)
+pending_calm : (seats : List Seat) (t es : List Entry) → Each IsCalm es → pending seats (t ++ es) ≡ pending seats t
+pending_calm seats t es h =
+    ap (filter (λ p. not (was_ended (t ++ es) p)))
+    (pairs-append seats t es ∙ (ap (λ l. pairs seats t ++ l) (calm_pairs seats es h) ∙ append-nil (pairs seats t)))
+    ∙ filter_same (λ p. not (was_ended (t ++ es) p)) (λ p. not (was_ended t p)) (pairs seats t)
+    (λ p. ap not (any-append (ends p) t es ∙ (ap (λ b. was_ended t p || b) (calm_ends p es h) ∙ or_none (was_ended t p))))
+  where
+    or_none : (b : Bool) → (b || false) ≡ b
+    or_none true = refl
+    or_none false = refl
+
+due_count : (seats : List Seat) (log : Log) → IsBook seats log → length log.due.dues ≡ length (pending seats (said log))
+due_count seats log book =
+    sym (length-map log.due.dues (pair_at seats (said log)))
+    ∙ (ap length book.pending
+    ∙ (length_all_placed pair_key [] (pending seats (said log)) ∙ zero_more (length (pending seats (said log)))))
+  where
+    zero_more : (n : ℕ) → 0 + n ≡ n
+    zero_more n = omega arith
+
+line_count : (log : Log) → vec_len log.lines ≡ length (said log)
+line_count log = log.lines.ok.0 ∙ sym (length-map log.lines.items (entry_at log.kept.items))
+
+-- ---- the datagrams of an output that are to be held
+
+-- where every lookup is answered there is none
+pub held_none : (places : Places) (seats : List Seat) (station : ℕ) (o : Output) → IsAnswering places
+    → held_of places seats station o ≡ []
+held_none places seats station o known = this o
+  where
+    found : (f : Found) (cable : ℕ) (a : Addr) (bytes : List ℕ) → is_later f ≡ false → held_by f cable a bytes ≡ []
+    found (At hw) cable a bytes e = refl
+    found Nobody cable a bytes e = refl
+    found Later cable a bytes e = cc
+
+    next_one : (cable : ℕ) (to : Next) (bytes : List ℕ) → held_next places cable to bytes ≡ []
+    next_one cable (next.Station a) bytes = found (places.finds cable a) cable a bytes (known cable a)
+    next_one cable next.All bytes = refl
+    next_one cable (next.Group g) bytes = refl
+
+    this : (o : Output) → held_of places seats station o ≡ []
+    this (output.Made port to bytes) = next_one (cable_of seats station port) to bytes
+    this (output.Passed port to bytes) = next_one (cable_of seats station port) to bytes
+    this (output.Kept port bytes) = refl
+    this (output.Dropped cause bytes) = refl
+    this (output.Wire port to bytes) = refl
+
+leg_light : (places : Places) (s : Sender) (to : Next) (bytes : List ℕ)
+    → (held_next places s.cable to bytes ≡ []) ⊎ (Each IsCalm (leg places s to bytes) × (length (leg places s to bytes) ≤ 1))
+leg_light places s (next.Station a) bytes = by (same_address (target bytes) a) (places.finds s.cable a)
+  where
+    by : (b : Bool) (f : Found)
+        → (held_by f s.cable a bytes ≡ [])
+        ⊎ (Each IsCalm (cond b (to_target s bytes f) (to_other s bytes f))
+        × (length (cond b (to_target s bytes f) (to_other s bytes f)) ≤ 1))
+    by b (At hw) = inl refl
+    by b Nobody = inl refl
+    by true Later = inr ((tt, tt), omega arith)
+    by false Later = inr (tt, omega arith)
+leg_light places s next.All bytes = inl refl
+leg_light places s (next.Group g) bytes = inl refl
+
+-- where there is one the output puts no frame, and has fewer entries
+held_light : (places : Places) (seats : List Seat) (station stamp : ℕ) (o : Output)
+    → (held_of places seats station o ≡ [])
+    ⊎ (Each IsCalm (entries_of places seats station stamp o) × (length (entries_of places seats station stamp o) + 1 ≤ lines_for o))
+held_light places seats station stamp (output.Made port to bytes) =
+    elim (leg_light places (sender_by seats station stamp port) to bytes)
+    as (λ _. (held_of places seats station (output.Made port to bytes) ≡ [])
+    ⊎ (Each IsCalm (entries_of places seats station stamp (output.Made port to bytes))
+    × (length (entries_of places seats station stamp (output.Made port to bytes)) + 1 ≤ 3))) [
+      | inl none ↦ inl none
+      | inr h ↦ inr ((tt, h.0), omega (arith, h.1))
+    ]
+held_light places seats station stamp (output.Passed port to bytes) =
+    elim (leg_light places (sender_by seats station stamp port) to bytes)
+    as (λ _. (held_of places seats station (output.Passed port to bytes) ≡ [])
+    ⊎ (Each IsCalm (entries_of places seats station stamp (output.Passed port to bytes))
+    × (length (entries_of places seats station stamp (output.Passed port to bytes)) + 1 ≤ 2))) [
+      | inl none ↦ inl none
+      | inr h ↦ inr (h.0, omega (arith, h.1))
+    ]
+held_light places seats station stamp (output.Kept port bytes) = inl refl
+held_light places seats station stamp (output.Dropped cause bytes) = inl refl
+held_light places seats station stamp (output.Wire port to bytes) = inl refl
+
+-- ---- an output whose entries were added
+
+-- the room where all datagrams of the outputs may be held is that of the outputs, and more
+pub held_room : (log : Log) (os : List Output) (n : ℕ) → HasHeldRoom log os n
+    → HasRoom log (all_lines os) (length os) (length os) (length os * n)
+held_room log os n h =
+    room_for log (all_lines os + 2 * length os) (2 * length os) (length os) (length os * n) (all_lines os) (length os) (length os)
+    (length os * n) h.room (omega arith) (omega arith) (omega arith) (omega arith)
+
+-- the output put no frame, and has fewer entries than there was room for
+record IsLight (a b : Log) (o : Output) : Type 0 where
+  pub lines : vec_len b.lines + 1 ≤ vec_len a.lines + lines_for o
+  pub due : length b.due.dues ≡ length a.due.dues
+
+module _ (places : Places) (seats : List Seat) (station : ℕ) (a b : Log) (o : Output) (old : IsBook seats a) (new : IsBook seats b)
+    (idle : a.waiting.items ≡ []) (grown : Grows a b (entries_of places seats station a.next_stamp o) (held_of places seats station o))
+    (used : Uses a b (lines_for o) 1 1 (length seats)) where
+  -- what waits is what the output has to be held
+  pub held_now : held b ≡ held_of places seats station o
+  held_now = grown.held ∙ ap (λ hs. hs ++ held_of places seats station o) (ap (map (held_at a.kept.items)) idle)
+
+  none_waits : held_of places seats station o ≡ [] → b.waiting.items ≡ []
+  none_waits none = by b.waiting.items (held_now ∙ none)
+    where
+      by : (ws : List Waiting) → map (held_at b.kept.items) ws ≡ [] → ws ≡ []
+      by [] e = refl
+      by (w ∷ ws) e = cc
+
+  -- where every lookup is answered nothing waits
+  pub none_where_known : IsAnswering places → b.waiting.items ≡ []
+  none_where_known known = none_waits (held_none places seats station o known)
+
+  pub one_waits : vec_len b.waiting ≤ 1
+  one_waits = let none = ap length idle in omega (arith, used.waiting, none, a.waiting.ok.0)
+
+  light : (b.waiting.items ≡ []) ⊎ IsLight a b o
+  light =
+      elim (held_light places seats station a.next_stamp o) as (λ _. (b.waiting.items ≡ []) ⊎ IsLight a b o) [
+        | inl none ↦ inl (none_waits none)
+        | inr h ↦
+            let es = entries_of places seats station a.next_stamp o in
+            let long : vec_len b.lines ≡ vec_len a.lines + length es =
+            line_count b ∙ (ap length grown.said ∙ (length-append (said a) es ∙ ap (λ n. n + length es) (sym (line_count a)))) in
+            inr
+            (record {
+              lines = omega (arith, long, h.1);
+              due =
+                  due_count seats b new
+                  ∙ (ap (λ t. length (pending seats t)) grown.said
+                  ∙ (ap length (pending_calm seats (said a) es h.0) ∙ sym (due_count seats a old)));
+            })
+      ]
+
+  -- there is room for what is held after the output
+  pub room_to_settle : (rest : List Output) → IsAnswering places ⊎ HasHeldRoom a (o ∷ rest) (length seats)
+      → (b.waiting.items ≡ []) ⊎ (HasRoom b 3 1 0 (length seats) × (length b.holdings.dues + 1 ≤ b.holdings.room))
+  room_to_settle rest (inl known) = inl (none_where_known known)
+  room_to_settle rest (inr h) =
+      elim light
+      as (λ _. (b.waiting.items ≡ []) ⊎ (HasRoom b 3 1 0 (length seats) × (length b.holdings.dues + 1 ≤ b.holdings.room))) [
+        | inl none ↦ inl none
+        | inr l ↦
+            let pairs = product (length rest) (length seats) in
+            inr (
+              record {
+                lines = omega (arith, h.room.lines, l.lines, used.lines_room);
+                kept = omega (arith, h.room.kept, used.kept, used.kept_room);
+                waiting = omega (arith, h.room.waiting, used.waiting, used.waiting_room);
+                due = omega (arith, h.room.due, l.due, used.due_room, pairs);
+                line_numbers = omega (arith, h.room.line_numbers, l.lines);
+                byte_numbers = omega (arith, h.room.byte_numbers, used.kept);
+                stamps = omega (arith, h.room.stamps, l.lines, used.steady);
+              },
+              omega (arith, h.holdings, used.holdings, used.holdings_room),
+            )
+      ]
+
+  module _ (c : Log) (settled : Settles b c (length seats)) (quiet : c.waiting.items ≡ []) (rest : List Output) where
+    -- where nothing waited there is the room that was left
+    pub room_same : b.waiting.items ≡ []
+        → HasRoom a (all_lines (o ∷ rest)) (length (o ∷ rest)) (length (o ∷ rest)) (length (o ∷ rest) * length seats)
+        → HasRoom c (all_lines rest) (length rest) (length rest) (length rest * length seats)
+    room_same none r =
+        let same = settled.none none in
+        let n = length seats in
+        let pairs = product (length rest) n in
+        let lines = ap (λ v. vec_len v) same.lines in
+        let kept = ap (λ k. length k.items) same.kept in
+        let due = ap (λ d. length d.dues) same.due in
+        let waits = ap length quiet in
+        record {
+          lines = omega (arith, r.lines, used.lines, used.lines_room, lines, settled.lines_room);
+          kept = omega (arith, r.kept, used.kept, used.kept_room, kept, settled.kept_room);
+          waiting = omega (arith, r.waiting, waits, c.waiting.ok.0, used.waiting_room, settled.waiting_room);
+          due = omega (arith, r.due, used.due, used.due_room, pairs, due, settled.due_room);
+          line_numbers = omega (arith, r.line_numbers, used.lines, lines);
+          byte_numbers = omega (arith, r.byte_numbers, used.kept, kept);
+          stamps = omega (arith, r.stamps, used.next_stamp, same.next_stamp);
+        }
+
+    -- there is still the room where all datagrams of the other outputs may be held
+    pub more_left : HasHeldRoom a (o ∷ rest) (length seats) → HasHeldRoom c rest (length seats)
+    more_left h =
+        let n = length seats in
+        let pairs = product (length rest) n in
+        let waits = ap length quiet in
+        elim light as (λ _. HasHeldRoom c rest n) [
+          | inl none ↦
+              let same = settled.none none in
+              let lines = ap (λ v. vec_len v) same.lines in
+              let kept = ap (λ k. length k.items) same.kept in
+              let due = ap (λ d. length d.dues) same.due in
+              let holdings = ap (λ d. length d.dues) same.holdings in
+              record {
+                room =
+                    record {
+                      lines = omega (arith, h.room.lines, used.lines, used.lines_room, lines, settled.lines_room);
+                      kept = omega (arith, h.room.kept, used.kept, used.kept_room, kept, settled.kept_room);
+                      waiting = omega (arith, h.room.waiting, waits, c.waiting.ok.0, used.waiting_room, settled.waiting_room);
+                      due = omega (arith, h.room.due, used.due, used.due_room, pairs, due, settled.due_room);
+                      line_numbers = omega (arith, h.room.line_numbers, used.lines, lines);
+                      byte_numbers = omega (arith, h.room.byte_numbers, used.kept, kept);
+                      stamps = omega (arith, h.room.stamps, used.next_stamp, same.next_stamp);
+                    };
+                holdings = omega (arith, h.holdings, used.holdings, used.holdings_room, holdings, settled.holdings_room);
+              }
+          | inr l ↦
+              record {
+                room =
+                    record {
+                      lines = omega (arith, h.room.lines, l.lines, used.lines_room, settled.lines, settled.lines_room);
+                      kept = omega (arith, h.room.kept, used.kept, used.kept_room, settled.kept, settled.kept_room);
+                      waiting = omega (arith, h.room.waiting, waits, c.waiting.ok.0, used.waiting_room, settled.waiting_room);
+                      due = omega (arith, h.room.due, l.due, used.due_room, pairs, settled.due, settled.due_room);
+                      line_numbers = omega (arith, h.room.line_numbers, l.lines, settled.lines);
+                      byte_numbers = omega (arith, h.room.byte_numbers, used.kept, settled.kept);
+                      stamps = omega (arith, h.room.stamps, l.lines, used.steady, settled.lines, settled.steady);
+                    };
+                holdings = omega (arith, h.holdings, used.holdings, used.holdings_room, settled.holdings, settled.holdings_room);
+              }
+        ]
+
+    -- both rooms, where the lookups are answered as before if nothing waited
+    pub rooms_left : (known : Type 0) → (IsAnswering places → known)
+        → HasRoom a (all_lines (o ∷ rest)) (length (o ∷ rest)) (length (o ∷ rest)) (length (o ∷ rest) * length seats)
+        → IsAnswering places ⊎ HasHeldRoom a (o ∷ rest) (length seats)
+        → HasRoom c (all_lines rest) (length rest) (length rest) (length rest * length seats) × (known ⊎ HasHeldRoom c rest (length seats))
+    rooms_left known still r (inl answers) = (room_same (none_where_known answers) r, inl (still answers))
+    rooms_left known still r (inr h) = let left = more_left h in (held_room c rest (length seats) left, inr left)
+
+    -- at most two further entries were added after those of the output
+    pub few_left : vec_len c.lines ≤ vec_len a.lines + lines_for o + 2
+    few_left =
+        elim light as (λ _. vec_len c.lines ≤ vec_len a.lines + lines_for o + 2) [
+          | inl none ↦ let lines = ap (λ v. vec_len v) (settled.none none).lines in omega (arith, used.lines, lines)
+          | inr l ↦ omega (arith, l.lines, settled.lines)
+        ]
 
 -- ---- the outputs so far
 
--- The entries added so far and those of the outputs that are left are all entries.
-pub record SoFar (places : Places) (seats : List Seat) (station : ℕ) (start log : Log) (all os : List Output) : Type 0 where
-  pub es : List Entry
-  pub hs : List Held
-  pub grows : Grows start log es hs
-  pub entries : es ++ all_entries places seats station log.puts os ≡ all_entries places seats station start.puts all
-  pub waits : hs ++ all_held places seats station os ≡ all_held places seats station all
+module _ {X : Type 0} (view : X → Places) (Holds : X → ℕ → Addr → ℕ → HeldBy → X → Type 0) (seats : List Seat) (station : ℕ) where
+  -- The entries added so far and their bytes, and those of the outputs that are left, are those of all outputs.
+  pub record SoFar (start log : Log) (all os : List Output) (first x : X) : Type 0 where
+    pub es : List Entry
+    pub ks : List (List ℕ)
+    pub tells : Tells start log es
+    pub stored : log.kept.items ≡ start.kept.items ++ ks
+    pub onward : (es' : List Entry) (ks' : List (List ℕ)) (y : X)
+        → GoOut view Holds seats station (said log) os x es' ks' y
+        → GoOut view Holds seats station (said start) all first (es ++ es') (ks ++ ks') y
 
-module _ (places : Places) (seats : List Seat) (station : ℕ) where
-  pub first_so_far : (log : Log) (all : List Output) → SoFar places seats station log log all all
-  first_so_far log all = record {
+  pub first_so_far : (log : Log) (all : List Output) (x : X) → SoFar log log all all x x
+  first_so_far log all x = record {
     es = [];
-    hs = [];
-    grows = same_grows log log (record { lines = refl; kept = refl; waiting = refl; due = refl; puts = refl });
-    entries = refl;
-    waits = refl;
+    ks = [];
+    tells = same_tells log log refl refl;
+    stored = sym (append-nil log.kept.items);
+    onward = λ es' ks' y g. g;
   }
 
-  pub next_so_far : (start log new : Log) (all os rest : List Output) (o : Output) → os ≡ o ∷ rest
-      → SoFar places seats station start log all os → IsBook seats log → IsBook seats new
-      → Grows log new (entries_of places seats station log.puts o) (held_of places seats station o)
-      → SoFar places seats station start new all rest
-  next_so_far start log new all os rest o split x old book g =
-      let e = entries_of places seats station log.puts o in
-      let h = held_of places seats station o in
-      let puts = puts_grow seats log new e h old book g in
+  pub next_so_far : (start a b c : Log) (all os rest : List Output) (o : Output) (first x z : X) → os ≡ o ∷ rest
+      → SoFar start a all os first x → IsBook seats a → a.waiting.items ≡ []
+      → Grows a b (entries_of (view x) seats station a.next_stamp o) (held_of (view x) seats station o)
+      → b.kept.items ≡ a.kept.items ++ stored_of (view x) seats station o
+      → (es : List Entry) × (ks : List (List ℕ)) × Tells b c es × (c.kept.items ≡ b.kept.items ++ ks)
+      × IsHeldBy Holds station (said b) (held b) x es ks z
+      → SoFar start c all rest first z
+  next_so_far start a b c all os rest o first x z split i book idle grown stored (more, asks, tells, kept, by) =
+      let e0 = entries_of (view x) seats station (next_stamp (said a)) o in
+      let k0 = stored_of (view x) seats station o in
+      let hs = held_of (view x) seats station o in
+      let g : Grows a b e0 hs = subst (λ n. Grows a b (entries_of (view x) seats station n o) hs) book.next grown in
+      let waits : held b ≡ hs = g.held ∙ ap (λ l. l ++ hs) (ap (map (held_at a.kept.items)) idle) in
+      let step : GoesOut view Holds seats station (said a) o x (e0 ++ more) (k0 ++ asks) z = record {
+        more = more;
+        asks = asks;
+        entries = refl;
+        bytes = refl;
+        held =
+            subst (λ t. IsHeldBy Holds station t hs x more asks z) g.said
+            (subst (λ l. IsHeldBy Holds station (said b) l x more asks z) waits by);
+      } in
+      let both : Tells a c (e0 ++ more) = tells_then a b c e0 more (told a b e0 hs g) tells in
       record {
-        es = x.es ++ e;
-        hs = x.hs ++ h;
-        grows = grows_then start log new x.es e x.hs h x.grows g;
-        entries =
-            append_assoc x.es e (all_entries places seats station new.puts rest)
-            ∙ (ap (λ n. x.es ++ (e ++ all_entries places seats station n rest)) puts
-            ∙ (ap (λ l. x.es ++ all_entries places seats station log.puts l) (sym split) ∙ x.entries));
-        waits =
-            append_assoc x.hs h (all_held places seats station rest)
-            ∙ (ap (λ l. x.hs ++ all_held places seats station l) (sym split) ∙ x.waits);
+        es = i.es ++ (e0 ++ more);
+        ks = i.ks ++ (k0 ++ asks);
+        tells = tells_then start a c i.es (e0 ++ more) i.tells both;
+        stored =
+            kept
+            ∙ (ap (λ l. l ++ asks) stored
+            ∙ (append_assoc a.kept.items k0 asks
+            ∙ (ap (λ l. l ++ (k0 ++ asks)) i.stored ∙ append_assoc start.kept.items i.ks (k0 ++ asks))));
+        onward = λ es' ks' y h.
+            let here : GoOut view Holds seats station (said a) (o ∷ rest) x ((e0 ++ more) ++ es') ((k0 ++ asks) ++ ks') y = (
+              e0 ++ more,
+              es',
+              k0 ++ asks,
+              ks',
+              z,
+              step,
+              subst (λ t. GoOut view Holds seats station t rest z es' ks' y) both.said h,
+              refl,
+              refl,
+            ) in
+            subst (λ l. GoOut view Holds seats station (said start) all first l ((i.ks ++ (k0 ++ asks)) ++ ks') y)
+            (sym (append_assoc i.es (e0 ++ more) es'))
+            (subst (λ l. GoOut view Holds seats station (said start) all first (i.es ++ ((e0 ++ more) ++ es')) l y)
+            (sym (append_assoc i.ks (k0 ++ asks) ks'))
+            (i.onward ((e0 ++ more) ++ es') ((k0 ++ asks) ++ ks') y
+            (subst (λ l. GoOut view Holds seats station (said a) l x ((e0 ++ more) ++ es') ((k0 ++ asks) ++ ks') y) (sym split) here)));
       }
 
-  pub last_so_far : (start log : Log) (all os : List Output) → os ≡ [] → SoFar places seats station start log all os
-      → Grows start log (all_entries places seats station start.puts all) (all_held places seats station all)
-  last_so_far start log all os none x =
-      let e = sym (append-nil x.es) ∙ (ap (λ l. x.es ++ all_entries places seats station log.puts l) (sym none) ∙ x.entries) in
-      let h = sym (append-nil x.hs) ∙ (ap (λ l. x.hs ++ all_held places seats station l) (sym none) ∙ x.waits) in
-      subst (λ es. Grows start log es (all_held places seats station all)) e (subst (λ hs. Grows start log x.es hs) h x.grows)
+  pub last_so_far : (start log : Log) (all os : List Output) (first x : X) → os ≡ [] → SoFar start log all os first x
+      → (es : List Entry) × (ks : List (List ℕ)) × Tells start log es × (log.kept.items ≡ start.kept.items ++ ks)
+      × GoOut view Holds seats station (said start) all first es ks x
+  last_so_far start log all os first x none i = (
+    i.es,
+    i.ks,
+    i.tells,
+    i.stored,
+    subst (λ l. GoOut view Holds seats station (said start) all first l i.ks x) (append-nil i.es)
+        (subst (λ l. GoOut view Holds seats station (said start) all first (i.es ++ []) l x) (append-nil i.ks)
+        (i.onward [] [] x
+        (subst (λ l. GoOut view Holds seats station (said log) l x [] [] x) (sym none) (refl, refl, refl)))),
+  )
+
+  -- where every lookup is answered the resolver stays the same
+  pub resolver_same : (a b c : Log) (o : Output) (x z : X) → a.waiting.items ≡ []
+      → Grows a b (entries_of (view x) seats station a.next_stamp o) (held_of (view x) seats station o)
+      → (es : List Entry) × (ks : List (List ℕ)) × Tells b c es × (c.kept.items ≡ b.kept.items ++ ks)
+      × IsHeldBy Holds station (said b) (held b) x es ks z
+      → IsAnswering (view x) → z ≡ x
+  resolver_same a b c o x z idle grown (more, asks, tells, kept, by) known =
+      let hs = held_of (view x) seats station o in
+      let none : held b ≡ [] =
+      grown.held ∙ (ap (λ l. l ++ hs) (ap (map (held_at a.kept.items)) idle) ∙ held_none (view x) seats station o known) in
+      let same : (more ≡ []) × (asks ≡ []) × (z ≡ x) = subst (λ l. IsHeldBy Holds station (said b) l x more asks z) none by in
+      same.2

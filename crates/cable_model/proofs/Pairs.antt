@@ -6,8 +6,8 @@ use Rattle.std.proofs.lemmas.Bool.{and_parts, and_left, cases_Bool}
 use Rattle.cable_model.specs.declared.seat.Seat.{Seat}
 pub use Rattle.cable_model.specs.Books.{EndsBelow}
 use Rattle.cable_model.specs.Pending.{Pair, ends, is_for, is_heard, pairs, pairs_of, pending, was_ended}
-use Rattle.cable_model.specs.Transcript.{Entry, Frame, Sent, Put, Took, Reached, Dropped, Lost, AreNumbered, HasStamp, count, is_put}
-use Rattle.cable_model.specs.Transcript.{one, stamps}
+use Rattle.cable_model.specs.Transcript.{Entry, Frame, Sent, Put, Took, Reached, Dropped, Lost, Hold, AreNumbered, ArePutOnce, HasStamp}
+use Rattle.cable_model.specs.Transcript.{count, has_put, is_put, one, stamps}
 use Rattle.cable_model.proofs.Counting.{At, any-append, count-append, count-filter, count-map, count_agree, count_le, count_none}
 use Rattle.cable_model.proofs.Counting.{count_without, each-append, each_all, each_map, each_more, filter_at}
 
@@ -32,6 +32,7 @@ none_below n (Took p s) h = absurd h
 none_below n (Reached c s w b) h = tt
 none_below n (Dropped r c b) h = tt
 none_below n (Lost p) h = absurd h
+none_below n (Hold d) h = tt
 
 pub below_more : (n m : ℕ) → n ≤ m → (e : Entry) → EndsBelow n e → EndsBelow m e
 below_more n m le (Put f) h = tt
@@ -40,6 +41,7 @@ below_more n m le (Took p s) h = omega arith
 below_more n m le (Reached c s w b) h = tt
 below_more n m le (Dropped r c b) h = tt
 below_more n m le (Lost p) h = omega arith
+below_more n m le (Hold d) h = tt
 
 ends_none : (p : Pair) (e : Entry) → EndsNone e → ends p e ≡ false
 ends_none p (Put f) h = refl
@@ -48,6 +50,7 @@ ends_none p (Took q s) h = absurd h
 ends_none p (Reached c s w b) h = refl
 ends_none p (Dropped r c b) h = refl
 ends_none p (Lost q) h = absurd h
+ends_none p (Hold d) h = refl
 
 none_ended : (es : List Entry) (p : Pair) → Each EndsNone es → was_ended es p ≡ false
 none_ended [] p h = refl
@@ -64,6 +67,7 @@ not_ended_yet n (e ∷ es) p h le = ap (λ b. b || was_ended es p) (this_one e h
     this_one (Reached c s w b) h = refl
     this_one (Dropped r c b) h = refl
     this_one (Lost q) h = ne_eqb _ _ (λ e. absurd (omega (arith, e, h, le)))
+    this_one (Hold d) h = refl
 
 module _ (seats : List Seat) where
   pub pairs-append : (es fs : List Entry) → pairs seats (es ++ fs) ≡ pairs seats es ++ pairs seats fs
@@ -86,6 +90,7 @@ module _ (seats : List Seat) where
       here (Reached c s w b) g = tt
       here (Dropped r c b) g = tt
       here (Lost q) g = tt
+      here (Hold d) g = absurd g
 
   pub stamps_below : (k : ℕ) (es : List Entry) → AreNumbered k es → Each (λ p. p.frame.stamp < k + stamps es) (pairs seats es)
   stamps_below k [] h = tt
@@ -102,6 +107,7 @@ module _ (seats : List Seat) where
       here (Reached c s w b) g = tt
       here (Dropped r c b) g = tt
       here (Lost q) g = tt
+      here (Hold d) g = absurd g
 
   -- the pair has this stamp and this station
   abbrev names : ℕ → ℕ → Pair → Bool
@@ -123,40 +129,43 @@ module _ (seats : List Seat) where
         ap (λ b. b && s.station == station) b.0 ∙ eq-eqb _ _ (sym (eqb-true _ _ c.1))) in
         omega (arith, inside, few, le)
 
-    -- at most one pair has a given stamp and station
-    unique : (stamp station k : ℕ) (es : List Entry) → AreNumbered k es → count (names stamp station) (pairs seats es) ≤ 1
-    unique stamp station k [] h = omega arith
-    unique stamp station k (e ∷ es) h =
-        here e (count-append (names stamp station) (pairs_of seats e) (pairs seats es))
-        (unique stamp station (one (is_put e) + k) es h.1) h.0
-        (stamps_from (one (is_put e) + k) es h.1)
+    -- there are no more pairs with a stamp and a station than frames with that stamp
+    few_named : (stamp station : ℕ) (es : List Entry) → count (names stamp station) (pairs seats es) ≤ count (has_put stamp) es
+    few_named stamp station [] = omega arith
+    few_named stamp station (e ∷ es) =
+        here e (count-append (names stamp station) (pairs_of seats e) (pairs seats es)) (few_named stamp station es)
       where
         here : (e : Entry)
             → count (names stamp station) (pairs_of seats e ++ pairs seats es)
             ≡ count (names stamp station) (pairs_of seats e) + count (names stamp station) (pairs seats es)
-            → count (names stamp station) (pairs seats es) ≤ 1 → HasStamp k e → Each (λ p. one (is_put e) + k ≤ p.frame.stamp)
-            (pairs seats es)
-            → count (names stamp station) (pairs_of seats e ++ pairs seats es) ≤ 1
-        here (Sent s b) sum rest g later = rest
-        here (Took q s) sum rest g later = rest
-        here (Reached c s w b) sum rest g later = rest
-        here (Dropped r c b) sum rest g later = rest
-        here (Lost q) sum rest g later = rest
-        here (Put f) sum rest g later =
+            → count (names stamp station) (pairs seats es) ≤ count (has_put stamp) es
+            → count (names stamp station) (pairs_of seats e ++ pairs seats es) ≤ one (has_put stamp e) + count (has_put stamp) es
+        here (Sent s b) sum rest = omega (arith, rest)
+        here (Took q s) sum rest = omega (arith, rest)
+        here (Reached c s w b) sum rest = omega (arith, rest)
+        here (Dropped r c b) sum rest = omega (arith, rest)
+        here (Lost q) sum rest = omega (arith, rest)
+        here (Hold d) sum rest = omega (arith, rest)
+        here (Put f) sum rest =
             let mapped = count-map (names stamp station) (λ s. record { frame = f; seat = s }) (filter (is_heard f) seats) in
-            elim (cases_Bool (stamp == f.stamp)) as (λ _. count (names stamp station) (pairs_of seats (Put f) ++ pairs seats es) ≤ 1) [
+            elim (cases_Bool (stamp == f.stamp)) as (λ _. count (names stamp station) (pairs_of seats (Put f) ++ pairs seats es)
+            ≤ one (stamp == f.stamp) + count (has_put stamp) es) [
               | inl same ↦
-                  let s : stamp ≡ f.stamp = eqb-true _ _ same in
-                  let none = count_none (names stamp station) (pairs seats es)
-                  (each_more (λ p. 1 + k ≤ p.frame.stamp) (λ p. names stamp station p ≡ false) (pairs seats es)
-                  (λ p le. and_left (stamp == p.frame.stamp) _ (ne_eqb _ _ (λ e. absurd (omega (arith, e, s, le, g))))) later) in
+                  let s = ap one same in
                   let few = one_pair stamp station f in
-                  omega (arith, sum, mapped, none, few)
+                  omega (arith, sum, mapped, s, few, rest)
               | inr other ↦
                   let none = count_none (λ s. names stamp station (record { frame = f; seat = s })) (filter (is_heard f) seats)
                   (each_all _ _ (λ s. and_left (stamp == f.stamp) _ other)) in
                   omega (arith, sum, mapped, none, rest)
             ]
+
+    -- at most one pair has a given stamp and station
+    unique : (stamp station : ℕ) (es : List Entry) → ArePutOnce es → count (names stamp station) (pairs seats es) ≤ 1
+    unique stamp station es once =
+        let few = few_named stamp station es in
+        let le = once stamp in
+        omega (arith, few, le)
 
     -- the count of pending pairs that pass, over all pairs
     pub pending_is : (f : Pair → Bool) (t : List Entry)
@@ -187,9 +196,9 @@ module _ (seats : List Seat) where
         or_none false = refl
 
     -- an entry Took of a pending pair ends it, and no other pair
-    pub pending_less : (f : Pair → Bool) (t : List Entry) (p : Pair) (k : ℕ) → AreNumbered 0 t → At (pending seats t) k p
+    pub pending_less : (f : Pair → Bool) (t : List Entry) (p : Pair) (k : ℕ) → ArePutOnce t → At (pending seats t) k p
         → count f (pending seats (t ++ Took p.frame.stamp p.seat.station ∷ [])) + one (f p) ≡ count f (pending seats t)
-    pending_less f t p k new at =
+    pending_less f t p k once at =
         let took = Took p.frame.stamp p.seat.station in
         let test = λ (l : List Entry) (q : Pair). not (was_ended l q) && f q in
         let w = filter_at (λ q. not (was_ended t q)) (pairs seats t) k p at in
@@ -203,7 +212,7 @@ module _ (seats : List Seat) where
         let mine : names p.frame.stamp p.seat.station p ≡ true =
         ap (λ b. b && p.seat.station == p.seat.station) (eq-eqb p.frame.stamp _ refl) ∙ eq-eqb p.seat.station _ refl in
         let gone = count_without (names p.frame.stamp p.seat.station) (test t) (pairs seats t) w.0 p
-        (unique p.frame.stamp p.seat.station 0 t new) w.1 mine in
+        (unique p.frame.stamp p.seat.station t once) w.1 mine in
         let value = ap one (ap (λ b. b && f p) w.2) in
         let moved = whole ∙ (ap (count (test (t ++ took ∷ []))) split ∙ same) in
         omega (arith, moved, gone, value, front)

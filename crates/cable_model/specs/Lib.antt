@@ -1,7 +1,10 @@
 pub mod Books
+pub mod Holdings
+pub mod Kept
 pub mod Logs
 pub mod Order
 pub mod Outcomes
+pub mod Outgoing
 pub mod Pending
 pub mod Places
 pub mod Rooms

@@ -5,18 +5,17 @@ use Rattle.cable_model.specs.declared.entry.Entry.{Entry as Line}
 use Rattle.cable_model.specs.declared.entry.Entry.TheVariants as line
 use Rattle.cable_model.specs.declared.room.Rooms.{Rooms}
 use Rattle.cable_model.specs.declared.seat.Seat.{Seat}
-use Rattle.cable_model.specs.declared.waiting.Waiting.{Waiting}
-use Rattle.cable_model.specs.Transcript.{Entry, Sent, Put, Took, Reached, Dropped, Lost}
+use Rattle.cable_model.specs.Transcript.{Entry, Sent, Put, Took, Reached, Dropped, Lost, Hold}
 
 -- The state of cables: the seats on them, the greatest number of entries, the room that calls need, the entries, the
--- bytes that these name, and the datagrams of the last take or send that wait for a hardware address.
+-- bytes that these name, and the number of further entries for which room was made.
 pub record Cabling : Type 0 where
   pub seats : List Seat
   pub limit : ℕ
   pub rooms : Rooms
   pub lines : List Line
   pub kept : List (List ℕ)
-  pub waiting : List Waiting
+  pub spare : ℕ
 
 -- the bytes with a number, or none for a number that no entry has
 abbrev pub bytes_at : List (List ℕ) → ℕ → List ℕ
@@ -35,6 +34,8 @@ entry_at kept (line.Took stamp station) = Took stamp station
 entry_at kept (line.Reached cable station how n) = Reached cable station how (body (bytes_at kept n))
 entry_at kept (line.Dropped router cause n) = Dropped router cause (body (bytes_at kept n))
 entry_at kept (line.Lost stamp) = Lost stamp
+entry_at kept (line.Hold stamp cable station next n) =
+    Hold (record { stamp = stamp; cable = cable; station = station; next = next; bytes = bytes_at kept n })
 
 -- the transcript of cables
 abbrev pub transcript : Cabling → List Entry

@@ -1,5 +1,5 @@
 -- The entries of a station's outputs on the cables.
-use Rattle.std.specs.Prelude.{◌≡◌, ◌⊎◌, ℕ, ◌+◌, ◌<◌, ◌≤◌, Bool, true, false, ◌&&◌, ◌==◌, cond, List, [], ◌∷◌, ◌++◌, find, map, slice_index}
+use Rattle.std.specs.Prelude.{◌≡◌, ◌⊎◌, ℕ, ◌+◌, ◌<◌, ◌≤◌, Bool, true, false, ◌&&◌, ◌==◌, cond, List, [], ◌∷◌, ◌++◌, find, slice_index}
 use Rattle.std.specs.Prelude.{Option, Some, None, Contains, if◌then◌else◌, not}
 use Rattle.std.specs.List.{list_any}
 use Rattle.at_base.specs.Address.{same_address}
@@ -9,7 +9,6 @@ use Rattle.at_base.specs.Multicast.{all_hw, group_hw, is_all, is_group}
 use Rattle.at_base.specs.declared.address.Hw.{Hw}
 use Rattle.ddp.specs.Bodies.{body, target}
 use Rattle.station.specs.Hearing.{Hearing}
-use Rattle.station.specs.Lawful.{AreLawful}
 use Rattle.station.specs.declared.heard.Kind.{Kind}
 use Rattle.station.specs.declared.heard.Kind.TheVariants.{Ddp, Aarp}
 use Rattle.station.specs.declared.heard.Link.{Link}
@@ -23,9 +22,9 @@ use Rattle.cable_model.specs.declared.resolve.Found.{Found}
 use Rattle.cable_model.specs.declared.resolve.Found.TheVariants.{At, Nobody, Later}
 use Rattle.cable_model.specs.declared.seat.Seat.{Seat}
 use Rattle.cable_model.specs.declared.waiting.Waiting.{Waiting}
-use Rattle.cable_model.specs.Logs.{Adds, Cabling, bytes_at, transcript}
-use Rattle.cable_model.specs.Pending.{Pair, listens, pending}
-use Rattle.cable_model.specs.Transcript.{Entry, Sent, Put, Took, Reached, Dropped, stamps}
+use Rattle.cable_model.specs.Logs.{Cabling, bytes_at, transcript}
+use Rattle.cable_model.specs.Pending.{Pair, listens}
+use Rattle.cable_model.specs.Transcript.{Entry, Sent, Put, Reached, Dropped, next_stamp, stamps}
 
 -- The results of lookups: that of an address on a cable, and whether a network belongs to a cable.
 pub record Places : Type 0 where
@@ -95,40 +94,36 @@ all_entries places seats station stamp (o ∷ os) =
     entries_of places seats station stamp o
     ++ all_entries places seats station (stamp + stamps (entries_of places seats station stamp o)) os
 
--- A datagram that waits for the hardware address of its next station: its port, the station's address, and its bytes.
+-- A datagram that is to be held, since the hardware address of its next station isn't known: its cable, the station's
+-- address, and its bytes.
 pub record Held : Type 0 where
-  pub port : ℕ
+  pub cable : ℕ
   pub next : Addr
   pub bytes : List ℕ
 
--- the datagram that waits, if the lookup of its next address isn't answered yet
+-- the datagram that is to be held, if the lookup of its next address isn't answered yet
 abbrev pub held_by : Found → ℕ → Addr → List ℕ → List Held
-held_by Later port a bytes = record { port = port; next = a; bytes = bytes } ∷ []
-held_by (At hw) port a bytes = []
-held_by Nobody port a bytes = []
+held_by Later cable a bytes = record { cable = cable; next = a; bytes = bytes } ∷ []
+held_by (At hw) cable a bytes = []
+held_by Nobody cable a bytes = []
 
--- the datagram that waits, if it is for a station whose hardware address isn't known yet
-abbrev pub held_next : Places → ℕ → ℕ → Next → List ℕ → List Held
-held_next places cable port (next.Station a) bytes = held_by (places.finds cable a) port a bytes
-held_next places cable port next.All bytes = []
-held_next places cable port (next.Group g) bytes = []
+-- the datagram that is to be held, if it is for a station whose hardware address isn't known yet
+abbrev pub held_next : Places → ℕ → Next → List ℕ → List Held
+held_next places cable (next.Station a) bytes = held_by (places.finds cable a) cable a bytes
+held_next places cable next.All bytes = []
+held_next places cable (next.Group g) bytes = []
 
--- the datagrams of an output that wait
+-- the datagrams of an output that are to be held
 abbrev pub held_of : Places → List Seat → ℕ → Output → List Held
-held_of places seats station (output.Made port to bytes) = held_next places (cable_of seats station port) port to bytes
-held_of places seats station (output.Passed port to bytes) = held_next places (cable_of seats station port) port to bytes
+held_of places seats station (output.Made port to bytes) = held_next places (cable_of seats station port) to bytes
+held_of places seats station (output.Passed port to bytes) = held_next places (cable_of seats station port) to bytes
 held_of places seats station (output.Kept port bytes) = []
 held_of places seats station (output.Dropped cause bytes) = []
 held_of places seats station (output.Wire port to bytes) = []
 
--- the datagrams of outputs that wait, in order
-abbrev pub all_held : Places → List Seat → ℕ → List Output → List Held
-all_held places seats station [] = []
-all_held places seats station (o ∷ os) = held_of places seats station o ++ all_held places seats station os
-
--- the datagram that waits, with its stored bytes
+-- the datagram that is to be held, with its stored bytes
 abbrev pub held_at : List (List ℕ) → Waiting → Held
-held_at kept w = record { port = w.port; next = w.next; bytes = bytes_at kept w.bytes }
+held_at kept w = record { cable = w.cable; next = w.next; bytes = bytes_at kept w.bytes }
 
 -- nobody has the address
 abbrev pub is_nobody : Found → Bool
@@ -175,22 +170,6 @@ pub record AreSeatsOf (seats : List Seat) (station ports : ℕ) : Type 0 where
   pub inside : (s : Seat) → Contains seats s → s.station ≡ station → s.port < ports
   pub seated : (port : ℕ) → port < ports → (s : Seat) × Contains seats s × (s.station ≡ station) × (s.port ≡ port)
 
--- A station with this many ports took a frame that was pending for it and sent `added`. The bytes of the new entries are
--- those of `added`. Datagrams to a station whose hardware address isn't known yet are in `waiting`.
-pub record IsTaken (places : Places) (ports : ℕ) (old new : Cabling) (stamp station : ℕ)
-    (Hears : Hearing → List Output → Type 0) : Type 0 where
-  pub pair : Pair
-  pub was_pending : Contains (pending old.seats (transcript old)) pair
-  pub of_stamp : pair.frame.stamp ≡ stamp
-  pub of_station : pair.seat.station ≡ station
-  pub added : List Output
-  pub heard : Hears (heard_by pair) added
-  pub lawful : AreLawful ports added
-  pub entries :
-      Adds old new (Took stamp station ∷ all_entries places old.seats station (stamps (transcript old)) added)
-  pub stored : new.kept ≡ old.kept ++ all_stored places old.seats station added
-  pub waits : map (held_at new.kept) new.waiting ≡ all_held places old.seats station added
-
 -- The frame with this stamp is pending for the station, which receives it as h.
 pub record IsHeard (pairs : List Pair) (stamp station : ℕ) (h : Hearing) : Type 0 where
   pub pair : Pair
@@ -199,19 +178,11 @@ pub record IsHeard (pairs : List Pair) (stamp station : ℕ) (h : Hearing) : Typ
   pub of_station : pair.seat.station ≡ station
   pub heard : h ≡ heard_by pair
 
--- The port of a station on a cable, or 0 if the station has no seat there.
-abbrev pub port_on : List Seat → ℕ → ℕ → ℕ
-port_on seats cable station = of_seat (find (λ s. s.cable == cable && s.station == station) seats)
-  where
-    of_seat : Option Seat → ℕ
-    of_seat None = 0
-    of_seat (Some s) = s.port
-
 -- the entries of a datagram that a station sends on a cable
 abbrev pub sent_entries : Places → Cabling → ℕ → ℕ → Next → List ℕ → List Entry
 sent_entries places c cable station to bytes =
     Sent station (body bytes)
-    ∷ leg places (record { stamp = stamps (transcript c); cable = cable; station = station }) to bytes
+    ∷ leg places (record { stamp = next_stamp (transcript c); cable = cable; station = station }) to bytes
 
 -- the station has a seat on the cable
 abbrev pub is_seated : List Seat → ℕ → ℕ → Bool

@@ -31,12 +31,12 @@ way_entries s bytes (way.All listed) =
     cond listed (Reached s.cable s.station how.All (body bytes) ∷ framed s all_hw Ddp bytes ∷ []) (framed s all_hw Ddp bytes ∷ [])
 way_entries s bytes (way.Group g) = framed s (group_hw g) Ddp bytes ∷ []
 
--- the datagram waits, if it is for a station whose hardware address isn't known yet
+-- the datagram that is to be held, if it is for a station whose hardware address isn't known yet
 abbrev pub way_held : ℕ → List ℕ → Route → List Held
-way_held port bytes (way.Target a found) = held_by found port a bytes
-way_held port bytes (way.Other a found) = held_by found port a bytes
-way_held port bytes (way.All listed) = []
-way_held port bytes (way.Group g) = []
+way_held cable bytes (way.Target a found) = held_by found cable a bytes
+way_held cable bytes (way.Other a found) = held_by found cable a bytes
+way_held cable bytes (way.All listed) = []
+way_held cable bytes (way.Group g) = []
 
 -- the station and cable of an outlet, with the stamp of the next frame
 abbrev pub sender_at : Outlet → ℕ → Sender

@@ -1,31 +1,32 @@
 //! Cables, their frames and their transcript.
 
 ghost use Rattle.std.specs.Prelude.{◌≡◌, ◌⊎◌, ◌↔◌, ◌<◌, ◌≤◌, ◌+◌, [], ◌∷◌, ◌++◌};
-ghost use Rattle.std.specs.Prelude.{true, false, length, map};
-ghost use Rattle.std.specs.Prelude.{IfErr, IfNone, IfOk, IfSome, IsOkUnless, OnErr, OnOk};
-ghost use Rattle.std.specs.List.{list_any};
+ghost use Rattle.std.specs.Prelude.{true, false, length, Contains};
+ghost use Rattle.std.specs.Prelude.{IfErr, IfNone, IfOk, IfSome, IsOkUnless, IsTrue, OnErr, OnOk};
+ghost use Rattle.std.specs.List.{list_all, list_any};
 ghost use Rattle.at_base.specs.declared.error.What.TheVariants.{Cable, Station};
 ghost use Rattle.cable_model.specs.Books.{HasOneSeat};
+ghost use Rattle.cable_model.specs.Holdings.{is_open, released_frame, still_held};
 ghost use Rattle.cable_model.specs.Logs as logs_spec;
 ghost use Rattle.cable_model.specs.Logs.{Adds, bytes_at};
-ghost use Rattle.cable_model.specs.Outcomes.{AreSeatsOf, IsFrame, IsHeard, IsLeast, IsTaken, Places, framed, has_cable, has_stamp};
-ghost use Rattle.cable_model.specs.Outcomes.{held_at, held_next, is_named, is_seated, port_on};
-ghost use Rattle.cable_model.specs.Outcomes.{sent_entries};
+ghost use Rattle.cable_model.specs.Outcomes.{AreSeatsOf, IsFrame, IsHeard, IsLeast, Places, framed, has_cable, has_stamp};
+ghost use Rattle.cable_model.specs.Outcomes.{is_named, is_seated};
+ghost use Rattle.cable_model.specs.Outgoing.{IsAnswering, IsSent, IsTaken};
 ghost use Rattle.cable_model.specs.Pending as pending_spec;
-ghost use Rattle.cable_model.specs.Rooms.{AreRooms, held_rooms};
-ghost use Rattle.cable_model.specs.Transcript.{AreNumbered, Lost, stamps};
+ghost use Rattle.cable_model.specs.Rooms.{AreRooms, held_rooms, known_rooms};
+ghost use Rattle.cable_model.specs.Transcript.{AreNumbered, ArePutOnce, Holding, Lost, Put, is_plain, next_stamp};
 ghost use Rattle.station.specs.Hearing.{hearing};
 ghost use Rattle.station.specs.Lawful.{IsNext};
 
 use crate::entry::Entry;
 use crate::log::{self, Log};
+use crate::outlet::Outlet;
 use crate::resolve::Resolve;
-use crate::room::{Room, Rooms, make_room};
+use crate::room::{Room, Rooms, make_room, make_spare};
 use crate::seat::Seat;
 use crate::seats::Seats;
 use crate::taking::PendingFrame;
-use crate::waiting::Waiting;
-use crate::{earliest, ending, outcome, putting, seating, taking};
+use crate::{earliest, ending, holding, outcome, putting, seating, taking};
 use at_base::{Bytes, Error, Hw};
 use station::{Heard, Kind, Next, Outputs, Station as Taker};
 use std::alloc::Global;
@@ -55,13 +56,15 @@ pub struct Cables {
     limit: u32,
     rooms: Rooms,
     log: Log,
+    // The further entries for which there is room, each with a frame.
+    spare: usize,
     // The outputs of the station that takes a frame. The queue is empty between takes, and keeps
     // the room that was made for the first take.
     outputs: Outputs,
 }
 
 impl Model for Cables {
-    ghost use Rattle.cable_model.specs.Books.{IsKept};
+    ghost use Rattle.cable_model.specs.Books.{IsKept, IsSpare};
     ghost use Rattle.cable_model.specs.Logs.{Cabling};
     ghost use Rattle.cable_model.specs.Rooms.{AreRooms};
 
@@ -73,10 +76,12 @@ impl Model for Cables {
       rooms = c.rooms;
       lines = c.log.lines.items;
       kept = c.log.kept.items;
-      waiting = c.log.waiting.items;
+      spare = c.spare;
     } };
 
-    ghost invariant = { λ c. IsKept c.seats c.limit c.log × AreRooms c.rooms };
+    ghost invariant = { λ c. IsKept c.seats c.limit c.log
+        × AreRooms c.rooms
+        × IsSpare c.seats c.limit c.log c.spare };
 }
 
 impl Cables {
@@ -92,7 +97,7 @@ impl Cables {
           rooms = rooms;
           lines = [];
           kept = [];
-          waiting = [];
+          spare = 0;
         }) }
         ensures refused { IsOkUnless result Error.Memory }
     {
@@ -102,6 +107,7 @@ impl Cables {
             limit,
             rooms,
             log: log::empty(alloc),
+            spare: 0,
             outputs: Outputs::new(alloc)?,
         })
     }
@@ -109,7 +115,9 @@ impl Cables {
     /// The transcript: the entries, in order. Allocates nothing.
     pub fn transcript(&self) -> &[Entry]
         ensures value { result.now ≡ self.now.lines }
-        ensures numbered { AreNumbered 0 (logs_spec.transcript self.now) }
+        ensures once { ArePutOnce (logs_spec.transcript self.now) }
+        ensures numbered { IsTrue (list_all is_plain (logs_spec.transcript self.now))
+            → AreNumbered 0 (logs_spec.transcript self.now) }
         ensures one_seat { HasOneSeat self.now.seats }
     {
         self.log.lines.as_slice()
@@ -120,7 +128,7 @@ impl Cables {
     pub fn bytes(&self, number: u32) -> &[u8]
         ensures { result.now ≡ bytes_at self.now.kept number }
     {
-        taking::bytes_of(&self.log.kept, number)
+        self.log.kept.get(number)
     }
 
     /// Whether the frame with this stamp is pending for the station. Allocates nothing.
@@ -175,15 +183,15 @@ impl Cables {
         self.log.due.len()
     }
 
-    /// The datagrams of the last `take` or `send` that wait for a hardware address. Allocates
-    /// nothing.
-    pub fn waiting(&self) -> &[Waiting]
-        ensures { result.now ≡ self.now.waiting }
+    /// Whether a datagram is held with this stamp. Allocates nothing.
+    pub fn is_held(&self, stamp: u32) -> bool
+        ensures { result ≡ is_open (logs_spec.transcript self.now) stamp }
     {
-        self.log.waiting.as_slice()
+        holding::is_held(&self.log, stamp)
     }
 
-    /// Puts a frame of a station on a cable, and returns its stamp. Stamps count frames from 0.
+    /// Puts a frame of a station on a cable, and returns its stamp. Stamps count frames
+    /// and held datagrams from 0.
     ///
     /// Errors, in this order: `NoSuch(Cable)` where the cable has no seat; `NoSuch(Station)` where
     /// this station has no seat on it; `TooLong` above 599 bytes; `Full` where the transcript is at
@@ -196,11 +204,11 @@ impl Cables {
         kind: Kind,
         bytes: Bytes,
     ) -> Result<u32, Error>
-        ensures ok { IfOk result (λ stamp. (stamp ≡ stamps (logs_spec.transcript self.old))
+        ensures ok { IfOk result (λ stamp. (stamp ≡ next_stamp (logs_spec.transcript self.old))
             × Adds self.old self.new
             (framed (record { stamp = stamp; cable = cable; station = station }) to kind bytes ∷ [])) }
         ensures stored { OnOk result (self.new.kept ≡ self.old.kept ++ bytes ∷ []) }
-        ensures waiting { self.new.waiting ≡ self.old.waiting }
+        ensures spent { OnOk result (self.new.spare ≡ 0) }
         ensures no_cable { (result ≡ Err (Error.NoSuch Cable))
             ↔ (has_cable self.old.seats cable ≡ false) }
         ensures no_station { (result ≡ Err (Error.NoSuch Station))
@@ -226,15 +234,17 @@ impl Cables {
             Ok(()) => {}
             Err(stop) => return Err(stop),
         }
-        let stamp = self.log.puts;
+        self.spare = 0;
+        let stamp = self.log.next_stamp;
         let number = log::keep(&mut self.log, bytes);
         putting::put(&mut self.log, &self.seats, cable, station, to, kind, number);
         Ok(stamp)
     }
 
-    /// Sends a datagram of a station on a cable. The datagram waits if the hardware address of its
-    /// next station isn't known yet. The caller ensures that a group is below 253, and is
-    /// responsible for the bytes being a datagram.
+    /// Sends a datagram of a station on a cable. The datagram is held if the hardware address of its
+    /// next station isn't known yet. The caller ensures that a group is below 253, that the resolver
+    /// answers every lookup where the rooms are `Rooms::KNOWN`, and is responsible for the bytes
+    /// being a datagram.
     ///
     /// Errors, in this order: `NoSuch(Cable)`, `NoSuch(Station)`, `TooLong` above 599 bytes, `Full`
     /// where fewer entries are left than a send needs, `Memory`. A refusal changes nothing.
@@ -244,15 +254,14 @@ impl Cables {
         cable: u8,
         next: Next,
         bytes: Bytes,
-        resolver: &R,
+        resolver: &mut R,
     ) -> Result<(), Error>
-        requires { IsNext next }
-        ensures ok { let places : Places = record { finds = R.finds resolver.now; lists = R.lists resolver.now } in
-            OnOk result (Adds self.old self.new (sent_entries places self.old cable station next bytes)) }
-        ensures stored { OnOk result (self.new.kept ≡ self.old.kept ++ bytes ∷ []) }
-        ensures waits { let places : Places = record { finds = R.finds resolver.now; lists = R.lists resolver.now } in
-            OnOk result (map (held_at self.new.kept) self.new.waiting
-            ≡ held_next places cable (port_on self.old.seats cable station) next bytes) }
+        requires next { IsNext next }
+        requires known { let places : Places = record { finds = R.finds resolver.old; lists = R.lists resolver.old } in
+            self.old.rooms ≡ known_rooms → IsAnswering places }
+        ensures ok { OnOk result (IsSent (λ r. record { finds = R.finds r; lists = R.lists r }) R.holds
+            self.old self.new cable station next bytes resolver.old resolver.new) }
+        ensures spent { OnOk result (self.new.spare ≡ 0) }
         ensures no_cable { (result ≡ Err (Error.NoSuch Cable))
             ↔ (has_cable self.old.seats cable ≡ false) }
         ensures no_station { (result ≡ Err (Error.NoSuch Station))
@@ -268,6 +277,7 @@ impl Cables {
         ensures refused { IfErr result (λ e. (e ≡ Error.NoSuch Cable) ⊎ (e ≡ Error.NoSuch Station)
             ⊎ (e ≡ Error.TooLong) ⊎ (e ≡ Error.Full) ⊎ (e ≡ Error.Memory)) }
         ensures kept { OnErr result (self.new ≡ self.old) }
+        ensures resolver_stays { OnErr result (resolver.new ≡ resolver.old) }
     {
         match seating::check(&self.seats, cable, station) {
             Ok(()) => {}
@@ -280,29 +290,35 @@ impl Cables {
             Ok(()) => {}
             Err(stop) => return Err(stop),
         }
-        log::forget_waiting(&mut self.log);
-        let exit = seating::exit_on(&self.seats, cable, station);
+        self.spare = 0;
+        let exit = Outlet { cable, station };
         outcome::sent(&mut self.log, &self.seats, resolver, exit, next, bytes);
+        holding::settle(&mut self.log, &self.seats, resolver, station);
         Ok(())
     }
 
     /// Lets a station take a frame that is pending for it, and puts the station's outputs on its
-    /// cables. The caller ensures that the station's ports are those of its seats.
+    /// cables; those whose next station's hardware address isn't known are held. After a take
+    /// without outputs there is room for 257 further entries. The caller ensures that the station's
+    /// ports are those of its seats, and that the resolver answers every lookup where the rooms are
+    /// `Rooms::KNOWN`.
     ///
     /// Errors, in this order: `NotPending`; `Full` where fewer entries are left than a take
     /// needs; `Memory`.
-    /// A refusal changes neither the cables nor the station, and the frame is still pending.
+    /// A refusal changes neither the cables nor the station nor the resolver, and the frame is
+    /// still pending.
     pub fn take<S: Taker, R: Resolve>(
         &mut self,
         stamp: u32,
         station: u16,
         taker: &mut S,
-        resolver: &R,
+        resolver: &mut R,
     ) -> Result<(), Error>
-        requires { AreSeatsOf self.old.seats station (S.ports_of taker.old) }
-        ensures ok { let places : Places = record { finds = R.finds resolver.now; lists = R.lists resolver.now } in
-            OnOk result (IsTaken places (S.ports_of taker.old) self.old self.new stamp station
-            (λ h added. S.hears taker.old h added taker.new)) }
+        requires seats { AreSeatsOf self.old.seats station (S.ports_of taker.old) }
+        requires known { let places : Places = record { finds = R.finds resolver.old; lists = R.lists resolver.old } in
+            self.old.rooms ≡ known_rooms → IsAnswering places }
+        ensures ok { OnOk result (IsTaken (λ r. record { finds = R.finds r; lists = R.lists r }) R.holds (S.ports_of taker.old)
+            self.old self.new stamp station (λ h added. S.hears taker.old h added taker.new) resolver.old resolver.new) }
         ensures ports_stay { S.ports_of taker.new ≡ S.ports_of taker.old }
         ensures not_pending { (result ≡ Err Error.NotPending)
             ↔ (list_any (is_named stamp station) (pending_spec.pending self.old.seats (logs_spec.transcript self.old)) ≡ false) }
@@ -315,6 +331,7 @@ impl Cables {
             ⊎ (e ≡ Error.Memory)) }
         ensures kept { OnErr result (self.new ≡ self.old) }
         ensures taker_stays { OnErr result (taker.new ≡ taker.old) }
+        ensures resolver_stays { OnErr result (resolver.new ≡ resolver.old) }
     {
         let Some(due) = ending::find_pair(&self.log, stamp, station) else {
             return Err(Error::NotPending);
@@ -332,7 +349,11 @@ impl Cables {
             Ok(()) => {}
             Err(stop) => return Err(stop),
         }
-        log::forget_waiting(&mut self.log);
+        self.spare = if self.outputs.is_empty() {
+            self.rooms.take.pairs
+        } else {
+            0
+        };
         ending::took(&mut self.log, stamp, station);
         outcome::add_all(
             &mut self.log,
@@ -344,13 +365,76 @@ impl Cables {
         Ok(())
     }
 
+    /// Makes room for further entries, for as many calls of `put_held` and `shed` together.
+    ///
+    /// Errors, in this order: `Full` where fewer entries are left; `Memory`. A refusal changes
+    /// nothing.
+    pub fn room(&mut self, more: u32) -> Result<(), Error>
+        ensures ok { OnOk result (self.new ≡ record self.old { spare = more }) }
+        ensures full { (result ≡ Err Error.Full) ↔ (self.old.limit < length self.old.lines + more) }
+        ensures refused { IfErr result (λ e. (e ≡ Error.Full) ⊎ (e ≡ Error.Memory)) }
+        ensures kept { OnErr result (self.new ≡ self.old) }
+    {
+        match make_spare(&mut self.log, self.limit, more, self.seats.len()) {
+            Ok(()) => {}
+            Err(stop) => return Err(stop),
+        }
+        self.spare = more as usize;
+        Ok(())
+    }
+
+    /// Puts the frame of the held datagram with this stamp on its cable, to this hardware address.
+    /// The caller ensures that there is room for an entry. Allocates nothing.
+    ///
+    /// Error: `NotPending` where no datagram is held with the stamp; nothing changes then.
+    pub fn put_held(&mut self, stamp: u32, to: Hw) -> Result<(), Error>
+        requires { 1 ≤ self.old.spare }
+        ensures ok { OnOk result ((h : Holding) × Contains (still_held (logs_spec.transcript self.old)) h × (h.stamp ≡ stamp)
+            × Adds self.old self.new (Put (released_frame h to) ∷ [])) }
+        ensures stored { OnOk result (self.new.kept ≡ self.old.kept) }
+        ensures spare { OnOk result (self.new.spare + 1 ≡ self.old.spare) }
+        ensures not_pending { (result ≡ Err Error.NotPending)
+            ↔ (is_open (logs_spec.transcript self.old) stamp ≡ false) }
+        ensures refused { IsOkUnless result Error.NotPending }
+        ensures kept { OnErr result (self.new ≡ self.old) }
+    {
+        let Some(held) = holding::held_line(&self.log, stamp) else {
+            return Err(Error::NotPending);
+        };
+        self.spare -= 1;
+        putting::put_held(&mut self.log, &self.seats, held, to);
+        Ok(())
+    }
+
+    /// Gives up the held datagram with this stamp. The caller ensures that there is room for an
+    /// entry. Allocates nothing.
+    ///
+    /// Error: `NotPending` where no datagram is held with the stamp; nothing changes then.
+    pub fn shed(&mut self, stamp: u32) -> Result<(), Error>
+        requires { 1 ≤ self.old.spare }
+        ensures ok { OnOk result (Adds self.old self.new (Lost stamp ∷ [])) }
+        ensures stored { OnOk result (self.new.kept ≡ self.old.kept) }
+        ensures spare { OnOk result (self.new.spare + 1 ≡ self.old.spare) }
+        ensures not_pending { (result ≡ Err Error.NotPending)
+            ↔ (is_open (logs_spec.transcript self.old) stamp ≡ false) }
+        ensures refused { IsOkUnless result Error.NotPending }
+        ensures kept { OnErr result (self.new ≡ self.old) }
+    {
+        if !holding::is_held(&self.log, stamp) {
+            return Err(Error::NotPending);
+        }
+        self.spare -= 1;
+        ending::lost(&mut self.log, stamp);
+        Ok(())
+    }
+
     /// Loses a frame for all stations that haven't taken it.
     ///
     /// Errors, in this order: `NotPending` where the frame is pending for no station; `Full`;
     /// `Memory`. A refusal changes nothing.
     pub fn lose(&mut self, stamp: u32) -> Result<(), Error>
         ensures ok { OnOk result (Adds self.old self.new (Lost stamp ∷ [])) }
-        ensures waiting { self.new.waiting ≡ self.old.waiting }
+        ensures spent { OnOk result (self.new.spare ≡ 0) }
         ensures not_pending { (result ≡ Err Error.NotPending)
             ↔ (list_any (has_stamp stamp) (pending_spec.pending self.old.seats (logs_spec.transcript self.old)) ≡ false) }
         ensures full { (result ≡ Err Error.Full)
@@ -367,6 +451,7 @@ impl Cables {
             Ok(()) => {}
             Err(stop) => return Err(stop),
         }
+        self.spare = 0;
         ending::lost(&mut self.log, stamp);
         Ok(())
     }

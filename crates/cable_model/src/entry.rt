@@ -1,6 +1,6 @@
 //! Entries of a transcript. They name bytes by number.
 
-use at_base::Hw;
+use at_base::{Addr, Hw};
 use station::{DropCause, Kind};
 
 /// How a datagram reached the cable of its target.
@@ -27,7 +27,7 @@ pub enum Entry {
         station: u16,
         bytes: u32,
     },
-    /// A frame was put on a cable. Stamps count frames from 0.
+    /// A frame was put on a cable. Stamps count frames and held datagrams from 0.
     Put {
         stamp: u32,
         cable: u8,
@@ -54,8 +54,17 @@ pub enum Entry {
         cause: DropCause,
         bytes: u32,
     },
-    /// A frame was lost for all stations that hadn't taken it.
+    /// A frame was lost for all stations that hadn't taken it, or a held datagram was given up.
     Lost {
         stamp: u32,
+    },
+    /// A station holds a datagram until the hardware address of its next station is known. The
+    /// datagram's frame will have this stamp.
+    Hold {
+        stamp: u32,
+        cable: u8,
+        station: u16,
+        next: Addr,
+        bytes: u32,
     },
 }

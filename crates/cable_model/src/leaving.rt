@@ -13,7 +13,7 @@ ghost use Rattle.cable_model.specs.declared.route.Route.TheVariants.{All};
 ghost use Rattle.ddp.specs.Bodies.{body};
 
 use crate::entry::{Entry, How};
-use crate::log::{Log, hold, note};
+use crate::log::{self, Log, note};
 use crate::outlet::Outlet;
 use crate::putting::put;
 use crate::resolve::Found;
@@ -32,7 +32,7 @@ fn reached(log: &mut Log, exit: Outlet, how: How, bytes: u32)
     ensures book { (seats : List SeatValue) → IsBook seats log.old → IsBook seats log.new }
     ensures kept { log.new.kept ≡ log.old.kept }
     ensures waiting { log.new.waiting ≡ log.old.waiting }
-    ensures puts { log.new.puts ≡ log.old.puts }
+    ensures next_stamp { log.new.next_stamp ≡ log.old.next_stamp }
     ensures uses { Uses log.old log.new 1 0 0 0 }
 {
     note(
@@ -52,8 +52,8 @@ fn to_target(log: &mut Log, seats: &Seats, exit: Outlet, addr: Addr, found: Foun
     requires book { IsBook seats.now log.old }
     requires names { bytes < length log.old.kept.items }
     ensures grows { Grows log.old log.new
-        (spec.to_target (sender_at exit log.old.puts) (bytes_at log.old.kept.items bytes) found)
-        (held_by found exit.port addr (bytes_at log.old.kept.items bytes)) }
+        (spec.to_target (sender_at exit log.old.next_stamp) (bytes_at log.old.kept.items bytes) found)
+        (held_by found exit.cable addr (bytes_at log.old.kept.items bytes)) }
     ensures book { IsBook seats.now log.new }
     ensures kept { log.new.kept ≡ log.old.kept }
     ensures uses { Uses log.old log.new 2 0 1 (length seats.now) }
@@ -77,8 +77,8 @@ fn to_other(log: &mut Log, seats: &Seats, exit: Outlet, addr: Addr, found: Found
     requires book { IsBook seats.now log.old }
     requires names { bytes < length log.old.kept.items }
     ensures grows { Grows log.old log.new
-        (spec.to_other (sender_at exit log.old.puts) (bytes_at log.old.kept.items bytes) found)
-        (held_by found exit.port addr (bytes_at log.old.kept.items bytes)) }
+        (spec.to_other (sender_at exit log.old.next_stamp) (bytes_at log.old.kept.items bytes) found)
+        (held_by found exit.cable addr (bytes_at log.old.kept.items bytes)) }
     ensures book { IsBook seats.now log.new }
     ensures kept { log.new.kept ≡ log.old.kept }
     ensures uses { Uses log.old log.new 1 0 1 (length seats.now) }
@@ -95,17 +95,17 @@ fn wait(log: &mut Log, exit: Outlet, next: Addr, bytes: u32)
     requires room { HasRoom log.old 0 0 1 0 }
     requires names { bytes < length log.old.kept.items }
     ensures grows { Grows log.old log.new []
-        (held_by Later exit.port next (bytes_at log.old.kept.items bytes)) }
+        (held_by Later exit.cable next (bytes_at log.old.kept.items bytes)) }
     ensures book { (seats : List SeatValue) → IsBook seats log.old → IsBook seats log.new }
     ensures kept { log.new.kept ≡ log.old.kept }
     ensures uses { Uses log.old log.new 0 0 1 0 }
 {
     let waiting = Waiting {
-        port: exit.port,
+        cable: exit.cable,
         next,
         bytes,
     };
-    hold(log, waiting);
+    log::wait(log, waiting);
 }
 
 /// Sends a datagram to all stations of the cable.
@@ -114,7 +114,7 @@ fn to_all(log: &mut Log, seats: &Seats, exit: Outlet, listed: bool, bytes: u32)
     requires book { IsBook seats.now log.old }
     requires names { bytes < length log.old.kept.items }
     ensures grows { Grows log.old log.new
-        (way_entries (sender_at exit log.old.puts) (bytes_at log.old.kept.items bytes) (All listed)) [] }
+        (way_entries (sender_at exit log.old.next_stamp) (bytes_at log.old.kept.items bytes) (All listed)) [] }
     ensures book { IsBook seats.now log.new }
     ensures kept { log.new.kept ≡ log.old.kept }
     ensures uses { Uses log.old log.new 2 0 0 (length seats.now) }
@@ -149,8 +149,8 @@ pub fn leave(log: &mut Log, seats: &Seats, exit: Outlet, way: Route, bytes: u32)
     requires book { IsBook seats.now log.old }
     requires names { bytes < length log.old.kept.items }
     ensures grows { Grows log.old log.new
-        (way_entries (sender_at exit log.old.puts) (bytes_at log.old.kept.items bytes) way)
-        (way_held exit.port (bytes_at log.old.kept.items bytes) way) }
+        (way_entries (sender_at exit log.old.next_stamp) (bytes_at log.old.kept.items bytes) way)
+        (way_held exit.cable (bytes_at log.old.kept.items bytes) way) }
     ensures book { IsBook seats.now log.new }
     ensures kept { log.new.kept ≡ log.old.kept }
     ensures uses { Uses log.old log.new 2 0 1 (length seats.now) }

@@ -1,10 +1,11 @@
 //! The entries of a station's outputs.
 
-ghost use Rattle.std.specs.Prelude.{◌≡◌, ◌≤◌, ◌+◌, ◌*◌, [], ◌∷◌, ◌++◌, List, cond, length, vec_len};
-ghost use Rattle.cable_model.specs.Books.{Grows, HasRoom, IsBook, Uses};
-ghost use Rattle.cable_model.specs.Outcomes.{Places, all_entries, all_held, entries_of, framed};
-ghost use Rattle.cable_model.specs.Outcomes.{all_stored, goes_nowhere, held_next, held_of, leg, stored_of};
-ghost use Rattle.cable_model.specs.Transcript.{Dropped, Reached, Sent};
+ghost use Rattle.std.specs.Prelude.{◌≡◌, ◌⊎◌, ◌≤◌, ◌+◌, ◌*◌, ℕ, [], ◌∷◌, ◌++◌, List, cond, length, vec_len};
+ghost use Rattle.cable_model.specs.Books.{Grows, HasHeldRoom, HasRoom, IsBook, Tells, Uses, said};
+ghost use Rattle.cable_model.specs.Outcomes.{Places, entries_of, framed};
+ghost use Rattle.cable_model.specs.Outcomes.{goes_nowhere, held_next, held_of, leg, stored_of};
+ghost use Rattle.cable_model.specs.Outgoing.{GoOut, IsAnswering};
+ghost use Rattle.cable_model.specs.Transcript.{Dropped, Entry as EntryValue, Reached, Sent};
 ghost use Rattle.cable_model.specs.Ways.{all_lines, all_spare, is_nowhere_way, lines_for, sender_at, spare_for};
 ghost use Rattle.cable_model.specs.declared.entry.How.TheVariants.{Own};
 ghost use Rattle.cable_model.specs.declared.seat.Seat.{Seat as SeatValue};
@@ -12,6 +13,7 @@ ghost use Rattle.ddp.specs.Bodies.{body};
 ghost use Rattle.station.specs.declared.heard.Kind.TheVariants.{Aarp};
 
 use crate::entry::{Entry, How};
+use crate::holding::settle;
 use crate::leaving::leave;
 use crate::log::{Log, keep, note};
 use crate::outlet::Outlet;
@@ -36,13 +38,13 @@ pub fn sent<R: Resolve>(
     requires book { IsBook seats.now log.old }
     ensures grows { let places : Places = record { finds = R.finds resolver.now; lists = R.lists resolver.now } in
         Grows log.old log.new
-        (Sent exit.station (body bytes) ∷ leg places (sender_at exit log.old.puts) next bytes)
-        (held_next places exit.cable exit.port next bytes) }
+        (Sent exit.station (body bytes) ∷ leg places (sender_at exit log.old.next_stamp) next bytes)
+        (held_next places exit.cable next bytes) }
     ensures stored { log.new.kept.items ≡ log.old.kept.items ++ bytes ∷ [] }
     ensures book { IsBook seats.now log.new }
     ensures uses { Uses log.old log.new 3 1 1 (length seats.now) }
-    ensures named { vec_len log.new.kept + vec_len log.old.lines
-        ≤ vec_len log.old.kept + vec_len log.new.lines }
+    ensures named { length log.new.kept.items + vec_len log.old.lines
+        ≤ length log.old.kept.items + vec_len log.new.lines }
 {
     let way = way_of(resolver, exit.cable, next, bytes.as_slice());
     let number = keep(log, bytes);
@@ -69,15 +71,15 @@ fn passed<R: Resolve>(
     requires room { HasRoom log.old 2 1 1 (length seats.now) }
     requires book { IsBook seats.now log.old }
     ensures grows { let places : Places = record { finds = R.finds resolver.now; lists = R.lists resolver.now } in
-        Grows log.old log.new (leg places (sender_at exit log.old.puts) next bytes)
-        (held_next places exit.cable exit.port next bytes) }
+        Grows log.old log.new (leg places (sender_at exit log.old.next_stamp) next bytes)
+        (held_next places exit.cable next bytes) }
     ensures stored { let places : Places = record { finds = R.finds resolver.now; lists = R.lists resolver.now } in
         log.new.kept.items ≡ log.old.kept.items
         ++ cond (goes_nowhere places exit.cable next bytes) [] (bytes ∷ []) }
     ensures book { IsBook seats.now log.new }
     ensures uses { Uses log.old log.new 2 1 1 (length seats.now) }
-    ensures named { vec_len log.new.kept + vec_len log.old.lines
-        ≤ vec_len log.old.kept + vec_len log.new.lines + 1 }
+    ensures named { length log.new.kept.items + vec_len log.old.lines
+        ≤ length log.old.kept.items + vec_len log.new.lines + 1 }
 {
     let way = way_of(resolver, exit.cable, next, bytes.as_slice());
     if is_nowhere(way) {
@@ -108,8 +110,8 @@ fn own(log: &mut Log, exit: Outlet, bytes: Bytes)
     ensures stored { log.new.kept.items ≡ log.old.kept.items ++ bytes ∷ [] }
     ensures book { (seats : List SeatValue) → IsBook seats log.old → IsBook seats log.new }
     ensures uses { Uses log.old log.new 2 1 0 0 }
-    ensures named { vec_len log.new.kept + vec_len log.old.lines
-        ≤ vec_len log.old.kept + vec_len log.new.lines + 1 }
+    ensures named { length log.new.kept.items + vec_len log.old.lines
+        ≤ length log.old.kept.items + vec_len log.new.lines + 1 }
 {
     let number = keep(log, bytes);
     note(
@@ -131,8 +133,8 @@ fn dropped(log: &mut Log, router: u16, cause: DropCause, bytes: Bytes)
     ensures stored { log.new.kept.items ≡ log.old.kept.items ++ bytes ∷ [] }
     ensures book { (seats : List SeatValue) → IsBook seats log.old → IsBook seats log.new }
     ensures uses { Uses log.old log.new 2 1 0 0 }
-    ensures named { vec_len log.new.kept + vec_len log.old.lines
-        ≤ vec_len log.old.kept + vec_len log.new.lines + 1 }
+    ensures named { length log.new.kept.items + vec_len log.old.lines
+        ≤ length log.old.kept.items + vec_len log.new.lines + 1 }
 {
     let number = keep(log, bytes);
     note(
@@ -150,12 +152,12 @@ fn wire(log: &mut Log, seats: &Seats, exit: Outlet, to: Hw, bytes: Bytes)
     requires room { HasRoom log.old 3 1 0 (length seats.now) }
     requires book { IsBook seats.now log.old }
     ensures grows { Grows log.old log.new
-        (framed (sender_at exit log.old.puts) to Aarp bytes ∷ []) [] }
+        (framed (sender_at exit log.old.next_stamp) to Aarp bytes ∷ []) [] }
     ensures stored { log.new.kept.items ≡ log.old.kept.items ++ bytes ∷ [] }
     ensures book { IsBook seats.now log.new }
     ensures uses { Uses log.old log.new 3 1 0 (length seats.now) }
-    ensures named { vec_len log.new.kept + vec_len log.old.lines
-        ≤ vec_len log.old.kept + vec_len log.new.lines }
+    ensures named { length log.new.kept.items + vec_len log.old.lines
+        ≤ length log.old.kept.items + vec_len log.new.lines }
 {
     let number = keep(log, bytes);
     put(log, seats, exit.cable, exit.station, to, Kind::Aarp, number);
@@ -166,14 +168,14 @@ fn add<R: Resolve>(log: &mut Log, seats: &Seats, resolver: &R, station: u16, out
     requires room { HasRoom log.old (lines_for output) 1 1 (length seats.now) }
     requires book { IsBook seats.now log.old }
     ensures grows { let places : Places = record { finds = R.finds resolver.now; lists = R.lists resolver.now } in
-        Grows log.old log.new (entries_of places seats.now station log.old.puts output)
+        Grows log.old log.new (entries_of places seats.now station log.old.next_stamp output)
         (held_of places seats.now station output) }
     ensures stored { let places : Places = record { finds = R.finds resolver.now; lists = R.lists resolver.now } in
         log.new.kept.items ≡ log.old.kept.items ++ stored_of places seats.now station output }
     ensures book { IsBook seats.now log.new }
     ensures uses { Uses log.old log.new (lines_for output) 1 1 (length seats.now) }
-    ensures named { vec_len log.new.kept + vec_len log.old.lines
-        ≤ vec_len log.old.kept + vec_len log.new.lines + spare_for output }
+    ensures named { length log.new.kept.items + vec_len log.old.lines
+        ≤ length log.old.kept.items + vec_len log.new.lines + spare_for output }
 {
     match output {
         Output::Made { port, next, bytes } => {
@@ -204,31 +206,38 @@ fn add<R: Resolve>(log: &mut Log, seats: &Seats, resolver: &R, station: u16, out
     }
 }
 
-/// Adds the entries of outputs, one after another, and empties the queue.
+/// Adds the entries of outputs, one after another, and empties the queue. A datagram that can't go
+/// out yet is held.
 pub fn add_all<R: Resolve>(
     log: &mut Log,
     seats: &Seats,
-    resolver: &R,
+    resolver: &mut R,
     station: u16,
     outputs: &mut Outputs,
 )
     requires room { HasRoom log.old (all_lines outputs.old.items) (length outputs.old.items)
         (length outputs.old.items) (length outputs.old.items * length seats.now) }
+    requires more { let places : Places = record { finds = R.finds resolver.old; lists = R.lists resolver.old } in
+        IsAnswering places ⊎ HasHeldRoom log.old outputs.old.items (length seats.now) }
     requires book { IsBook seats.now log.old }
-    ensures grows { let places : Places = record { finds = R.finds resolver.now; lists = R.lists resolver.now } in
-        Grows log.old log.new
-        (all_entries places seats.now station log.old.puts outputs.old.items)
-        (all_held places seats.now station outputs.old.items) }
-    ensures stored { let places : Places = record { finds = R.finds resolver.now; lists = R.lists resolver.now } in
-        log.new.kept.items
-        ≡ log.old.kept.items ++ all_stored places seats.now station outputs.old.items }
+    requires idle { log.old.waiting.items ≡ [] }
+    ensures out { (es : List EntryValue) × (ks : List (List ℕ)) × Tells log.old log.new es
+        × (log.new.kept.items ≡ log.old.kept.items ++ ks)
+        × GoOut (λ r. record { finds = R.finds r; lists = R.lists r }) R.holds seats.now station (said log.old)
+        outputs.old.items resolver.old es ks resolver.new }
     ensures book { IsBook seats.now log.new }
-    ensures few { vec_len log.new.lines ≤ vec_len log.old.lines + all_lines outputs.old.items }
-    ensures named { vec_len log.new.kept + vec_len log.old.lines
-        ≤ vec_len log.old.kept + vec_len log.new.lines + all_spare outputs.old.items }
+    ensures few { vec_len log.new.lines ≤ vec_len log.old.lines + all_lines outputs.old.items + 2 * length outputs.old.items }
+    ensures few_known { let places : Places = record { finds = R.finds resolver.old; lists = R.lists resolver.old } in
+        IsAnswering places → vec_len log.new.lines ≤ vec_len log.old.lines + all_lines outputs.old.items }
+    ensures named { length log.new.kept.items + vec_len log.old.lines
+        ≤ length log.old.kept.items + vec_len log.new.lines + all_spare outputs.old.items }
+    ensures steady { log.new.next_stamp + vec_len log.old.lines ≤ log.old.next_stamp + vec_len log.new.lines }
+    ensures idle { log.new.waiting.items ≡ [] }
     ensures none { outputs.new.items ≡ [] }
+    ensures unchanged { outputs.old.items ≡ [] → log.new ≡ log.old }
 {
     while let Some(output) = outputs.pop() {
         add(log, seats, resolver, station, output);
+        settle(log, seats, resolver, station);
     }
 }

@@ -1,9 +1,12 @@
 //! Putting frames on a cable.
 
-ghost use Rattle.std.specs.Prelude.{◌≡◌, ◌<◌, ◌≤◌, ◌+◌, ◌&&◌, ◌==◌, [], ◌∷◌, length, slice_get};
-ghost use Rattle.std.specs.Prelude.{vec_len};
+ghost use Rattle.std.specs.Prelude.{◌≡◌, ◌<◌, ◌≤◌, ◌+◌, ◌&&◌, ◌==◌, [], ◌∷◌, ◌++◌, length, slice_get, filter, not, true};
+ghost use Rattle.std.specs.Prelude.{vec_len, vec_capacity};
 ghost use Rattle.cable_model.specs.Order.{all_placed};
-ghost use Rattle.cable_model.specs.Books.{Grows, HasRoom, IsBook, Uses, dues};
+ghost use Rattle.cable_model.specs.Books.{Grows, HasRoom, IsBook, Uses, dues, said};
+ghost use Rattle.cable_model.specs.Holdings.{is_open};
+ghost use Rattle.cable_model.specs.declared.entry.Entry.TheVariants as line;
+ghost use Rattle.station.specs.declared.heard.Kind.TheVariants.{Ddp};
 ghost use Rattle.cable_model.specs.Logs.{bytes_at};
 ghost use Rattle.cable_model.specs.Outcomes.{framed, is_for_as, link_of};
 ghost use Rattle.cable_model.specs.Places.{due_at, dues_at};
@@ -19,22 +22,34 @@ use crate::seats::{Seats, seat_at};
 use at_base::Hw;
 use station::{Kind, Link};
 
-/// Puts a frame on a cable, for all stations that receive it there.
-pub fn put(log: &mut Log, seats: &Seats, cable: u8, sender: u16, to: Hw, kind: Kind, bytes: u32)
+/// Adds the entry of a frame, with the pairs of the frame and all seats that receive it. A datagram
+/// that was held with the frame's stamp is held no longer.
+fn add_frame(
+    log: &mut Log,
+    seats: &Seats,
+    stamp: u32,
+    cable: u8,
+    sender: u16,
+    to: Hw,
+    kind: Kind,
+    bytes: u32,
+)
     requires room { HasRoom log.old 1 0 0 (length seats.now) }
-    requires book { IsBook seats.now log.old }
-    requires names { bytes < length log.old.kept.items }
-    ensures grows { Grows log.old log.new
-        (framed (record { stamp = log.old.puts; cable = cable; station = sender }) to kind
-        (bytes_at log.old.kept.items bytes) ∷ []) [] }
-    ensures book { IsBook seats.now log.new }
+    ensures lines { log.new.lines.items
+        ≡ log.old.lines.items ++ line.Put stamp cable sender to kind bytes ∷ [] }
+    ensures due { log.new.due.dues ≡ all_placed due_key log.old.due.dues
+        (dues (λ s. s.cable == cable && is_for_as (link_of to) to sender s) stamp
+        (length log.old.lines.items) 0 seats.now) }
+    ensures holdings { log.new.holdings
+        ≡ record log.old.holdings { dues = filter (λ d. not (stamp == d.stamp)) log.old.holdings.dues } }
     ensures kept { log.new.kept ≡ log.old.kept }
     ensures waiting { log.new.waiting ≡ log.old.waiting }
-    ensures puts { log.new.puts ≡ log.old.puts + 1 }
+    ensures next_stamp { log.new.next_stamp ≡ log.old.next_stamp }
     ensures one { vec_len log.new.lines ≡ vec_len log.old.lines + 1 }
-    ensures uses { Uses log.old log.new 1 0 0 (length seats.now) }
+    ensures lines_room { vec_capacity log.new.lines ≡ vec_capacity log.old.lines }
+    ensures few { length log.new.due.dues ≤ length log.old.due.dues + length seats.now }
+    ensures due_room { log.old.due.room ≤ log.new.due.room }
 {
-    let stamp = log.puts;
     let put = log.lines.len() as u32;
     log.lines.push_reserved(Entry::Put {
         stamp,
@@ -44,8 +59,71 @@ pub fn put(log: &mut Log, seats: &Seats, cable: u8, sender: u16, to: Hw, kind: K
         kind,
         bytes,
     });
-    log.puts += 1;
+    log.holdings.remove_frame(stamp);
     add_dues(&mut log.due, seats, cable, sender, &to, stamp, put);
+}
+
+/// Puts a frame on a cable, for all stations that receive it there.
+pub fn put(log: &mut Log, seats: &Seats, cable: u8, sender: u16, to: Hw, kind: Kind, bytes: u32)
+    requires room { HasRoom log.old 1 0 0 (length seats.now) }
+    requires book { IsBook seats.now log.old }
+    requires names { bytes < length log.old.kept.items }
+    ensures grows { Grows log.old log.new
+        (framed (record { stamp = log.old.next_stamp; cable = cable; station = sender }) to kind
+        (bytes_at log.old.kept.items bytes) ∷ []) [] }
+    ensures book { IsBook seats.now log.new }
+    ensures kept { log.new.kept ≡ log.old.kept }
+    ensures waiting { log.new.waiting ≡ log.old.waiting }
+    ensures next_stamp { log.new.next_stamp ≡ log.old.next_stamp + 1 }
+    ensures one { vec_len log.new.lines ≡ vec_len log.old.lines + 1 }
+    ensures uses { Uses log.old log.new 1 0 0 (length seats.now) }
+{
+    let stamp = log.next_stamp;
+    add_frame(log, seats, stamp, cable, sender, to, kind, bytes);
+    log.next_stamp += 1;
+}
+
+/// A datagram that is held, as it is stored.
+#[derive(Clone, Copy, Debug)]
+pub struct HeldLine {
+    /// The stamp of its frame.
+    pub stamp: u32,
+    /// The cable.
+    pub cable: u8,
+    /// The station that holds it.
+    pub station: u16,
+    /// The number of its bytes.
+    pub bytes: u32,
+}
+
+/// Puts the frame of a held datagram on its cable.
+pub fn put_held(log: &mut Log, seats: &Seats, held: HeldLine, to: Hw)
+    requires room { HasRoom log.old 1 0 0 (length seats.now) }
+    requires book { IsBook seats.now log.old }
+    requires names { held.bytes < length log.old.kept.items }
+    requires held { is_open (said log.old) held.stamp ≡ true }
+    ensures grows { Grows log.old log.new
+        (framed (record { stamp = held.stamp; cable = held.cable; station = held.station }) to Ddp
+        (bytes_at log.old.kept.items held.bytes) ∷ []) [] }
+    ensures book { IsBook seats.now log.new }
+    ensures kept { log.new.kept ≡ log.old.kept }
+    ensures waiting { log.new.waiting ≡ log.old.waiting }
+    ensures next_stamp { log.new.next_stamp ≡ log.old.next_stamp }
+    ensures one { vec_len log.new.lines ≡ vec_len log.old.lines + 1 }
+    ensures lines_room { vec_capacity log.new.lines ≡ vec_capacity log.old.lines }
+    ensures few { length log.new.due.dues ≤ length log.old.due.dues + length seats.now }
+    ensures due_room { log.old.due.room ≤ log.new.due.room }
+{
+    add_frame(
+        log,
+        seats,
+        held.stamp,
+        held.cable,
+        held.station,
+        to,
+        Kind::Ddp,
+        held.bytes,
+    );
 }
 
 /// Adds the pair of a frame and the seat with an index, if the frame is for the seat's station.

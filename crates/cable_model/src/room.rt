@@ -1,6 +1,6 @@
 //! The room that calls need, and its allocation before anything changes.
 
-ghost use Rattle.std.specs.Prelude.{◌≡◌, ◌≤◌, ◌<◌, ◌+◌, ◌*◌, ◌^◌, ◌↔◌, ◌⊎◌, List, length, vec_len, IfErr, OnOk};
+ghost use Rattle.std.specs.Prelude.{◌≡◌, ◌≤◌, ◌<◌, ◌+◌, ◌*◌, ◌^◌, ◌↔◌, ◌⊎◌, List, length, vec_capacity, vec_len, IfErr, OnOk};
 ghost use Rattle.cable_model.specs.declared.seat.Seat.{Seat as SeatValue};
 ghost use Rattle.cable_model.specs.Books.{HasRoom, IsKept, IsSame};
 
@@ -79,6 +79,8 @@ pub fn make_room(log: &mut Log, limit: u32, room: Room, seats: usize) -> Result<
     requires few { room.lines ≤ 1285 }
     ensures room { OnOk result
         (HasRoom log.new room.lines room.bytes room.bytes (room.pairs * seats)) }
+    ensures holdings { OnOk result
+        (length log.new.holdings.dues + room.pairs ≤ log.new.holdings.room) }
     ensures full { (result ≡ Err Error.Full) ↔ (limit < length log.old.lines.items + room.lines) }
     ensures refused { IfErr result (λ e. (e ≡ Error.Full) ⊎ (e ≡ Error.Memory)) }
     ensures within { OnOk result (vec_len log.new.lines + room.lines ≤ limit) }
@@ -93,6 +95,32 @@ pub fn make_room(log: &mut Log, limit: u32, room: Room, seats: usize) -> Result<
     log.kept.reserve(room.bytes)?;
     log.waiting.reserve(room.bytes)?;
     log.due.reserve(pairs_of(room.pairs, seats))?;
+    log.holdings.reserve(room.pairs)?;
+    Ok(())
+}
+
+/// Makes room for further entries, each of which may put a frame on cables with so many seats. The
+/// contents of the log don't change. Errors: `Full` where the entries would exceed the limit;
+/// `Memory`.
+pub fn make_spare(log: &mut Log, limit: u32, more: u32, seats: usize) -> Result<(), Error>
+    requires kept { (seats : List SeatValue) × IsKept seats limit log.old }
+    ensures shelf { length log.new.kept.items ≤ log.new.kept.room }
+    ensures lines { OnOk result (vec_len log.new.lines + more ≤ vec_capacity log.new.lines) }
+    ensures due { OnOk result (length log.new.due.dues + more * seats ≤ log.new.due.room) }
+    ensures within { OnOk result (vec_len log.new.lines + more ≤ limit) }
+    ensures full { (result ≡ Err Error.Full) ↔ (limit < length log.old.lines.items + more) }
+    ensures refused { IfErr result (λ e. (e ≡ Error.Full) ⊎ (e ≡ Error.Memory)) }
+    ensures same { IsSame log.old log.new }
+    ensures kept { (seats : List SeatValue) → IsKept seats limit log.old
+        → IsKept seats limit log.new }
+{
+    // The number of bytes tells the prover that there is room for them.
+    let _kept = log.kept.len();
+    if (limit as usize) < log.lines.len() + more as usize {
+        return Err(Error::Full);
+    }
+    log.lines.reserve(more as usize)?;
+    log.due.reserve(pairs_of(more as usize, seats))?;
     Ok(())
 }
 

@@ -43,34 +43,12 @@ fn cable_of(seats: &Seats, station: u16, port: u8) -> u8
     }
 }
 
-/// A station's port, and the port's cable.
+/// A station, and the cable of one of its ports.
 pub fn exit_by(seats: &Seats, station: u16, port: u8) -> Outlet
-    ensures { result ≡ record { cable = spec.cable_of seats.now station port; station = station; port = port } }
+    ensures { result ≡ record { cable = spec.cable_of seats.now station port; station = station } }
 {
     Outlet {
         cable: cable_of(seats, station, port),
         station,
-        port,
-    }
-}
-
-/// The port of a station on a cable, or 0 if the station has no seat there.
-fn port_on(seats: &Seats, cable: u8, station: u16) -> u8
-    ensures { result ≡ spec.port_on seats.now cable station }
-{
-    match seats.seat_on(cable, station) {
-        None => 0,
-        Some(seat) => seat.port,
-    }
-}
-
-/// A station on a cable, and its port there.
-pub fn exit_on(seats: &Seats, cable: u8, station: u16) -> Outlet
-    ensures { result ≡ record { cable = cable; station = station; port = spec.port_on seats.now cable station } }
-{
-    Outlet {
-        cable,
-        station,
-        port: port_on(seats, cable, station),
     }
 }

@@ -3,7 +3,6 @@
 ghost use Rattle.std.specs.Prelude.{◌≡◌, ◌<◌, slice_get};
 ghost use Rattle.cable_model.specs.Books as spec;
 ghost use Rattle.cable_model.specs.Books.{pair_at, said, seat_at};
-ghost use Rattle.cable_model.specs.Logs.{bytes_at};
 ghost use Rattle.cable_model.specs.Outcomes.{heard_by};
 ghost use Rattle.station.specs.Hearing.{hearing};
 
@@ -12,7 +11,6 @@ use crate::entry::Entry;
 use crate::hearing::link_of;
 use crate::log::Log;
 use crate::seat::Seat;
-use at_base::Bytes;
 use station::{Heard, Kind, Link};
 
 /// The port of the seat with an index, or 0 past the end.
@@ -22,16 +20,6 @@ fn port_at(seats: &[Seat], index: usize) -> u8
     match seats.get(index) {
         None => 0,
         Some(seat) => seat.port,
-    }
-}
-
-/// The bytes with a number, or no bytes for a number that isn't in use.
-pub fn bytes_of(kept: &[Bytes], number: u32) -> &[u8]
-    ensures { result.now ≡ bytes_at kept.now number }
-{
-    match kept.get(number as usize) {
-        None => &[],
-        Some(bytes) => bytes.as_slice(),
     }
 }
 
@@ -52,7 +40,7 @@ pub fn heard_of<'a>(log: &'a Log, seats: &[Seat], due: Due) -> Heard<'a>
             port,
             link: link_of(to),
             kind: *kind,
-            bytes: bytes_of(&log.kept, *bytes),
+            bytes: log.kept.get(*bytes),
         },
         _ => Heard {
             port,
@@ -91,7 +79,7 @@ pub fn frame_of(log: &Log, due: Due) -> PendingFrame<'_>
         ) => PendingFrame {
             cable: *cable,
             kind: *kind,
-            bytes: bytes_of(&log.kept, *bytes),
+            bytes: log.kept.get(*bytes),
         },
         _ => PendingFrame {
             cable: 0,

@@ -2,13 +2,14 @@
 
 use at_base::Addr;
 
-/// A datagram of a station that waits until the hardware address of its next station is known.
-#[derive(Clone, Copy, Debug, PartialEq, Eq)]
+/// A datagram of the sending station that is to be held, since the hardware address of its next
+/// station isn't known.
+#[derive(Clone, Copy, Debug)]
 pub struct Waiting {
-    /// The port on which the datagram is to leave.
-    pub port: u8,
-    /// The station that it goes to next, on that port's cable.
+    /// The cable on which the datagram is to leave.
+    pub cable: u8,
+    /// The station that it goes to next, on that cable.
     pub next: Addr,
-    /// The number by which `Cables::bytes` returns the datagram.
+    /// The number of its bytes.
     pub bytes: u32,
 }

@@ -1,6 +1,6 @@
 //! The lines of a world's entries, with numbers for stations.
 
-use at_base::Hw;
+use at_base::{Addr, Hw};
 use cable_model::{DropCause, Entry, How};
 use rtmp::RouteTable;
 use std::alloc::AllocError;
@@ -86,10 +86,37 @@ fn put_took(text: &mut Vec<u8>, stamp: u32, station: u16) -> Result<(), AllocErr
     text.extend_from_slice(b"\n")
 }
 
-/// Appends the line of a frame that was lost.
+/// Appends the line of a frame that was lost, or of a held datagram that was given up.
 fn put_lost(text: &mut Vec<u8>, stamp: u32) -> Result<(), AllocError> {
     text.extend_from_slice(b"lost ")?;
     put_decimal(text, stamp)?;
+    text.extend_from_slice(b"\n")
+}
+
+/// Appends an address, as `NET.NODE`.
+fn put_address(text: &mut Vec<u8>, addr: Addr) -> Result<(), AllocError> {
+    put_decimal(text, u32::from(addr.net))?;
+    text.extend_from_slice(b".")?;
+    put_decimal(text, u32::from(addr.node))
+}
+
+/// Appends the line of a datagram that is held.
+fn put_hold(
+    text: &mut Vec<u8>,
+    stamp: u32,
+    cable: u8,
+    station: u16,
+    next: Addr,
+    bytes: &[u8],
+) -> Result<(), AllocError> {
+    text.extend_from_slice(b"hold ")?;
+    put_decimal(text, stamp)?;
+    put_number(text, b" cable ", u16::from(cable))?;
+    put_number(text, b" ", station)?;
+    text.extend_from_slice(b" to ")?;
+    put_address(text, next)?;
+    text.extend_from_slice(b" ")?;
+    put_hex(text, bytes)?;
     text.extend_from_slice(b"\n")
 }
 
@@ -134,5 +161,12 @@ pub fn put_entry<T: RouteTable>(
             put_body(text, world.bytes(bytes))
         }
         Entry::Lost { stamp } => put_lost(text, stamp),
+        Entry::Hold {
+            stamp,
+            cable,
+            station,
+            next,
+            bytes,
+        } => put_hold(text, stamp, cable, station, next, world.bytes(bytes)),
     }
 }

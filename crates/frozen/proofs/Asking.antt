@@ -9,7 +9,7 @@ use Rattle.cable_model.proofs.Counting.{count-append}
 use Rattle.cable_model.specs.Logs.{transcript}
 use Rattle.cable_model.specs.Outcomes.{Places, Sender, leg as leg_on, sent_entries, to_other, to_target}
 use Rattle.cable_model.specs.Pending.{Pair}
-use Rattle.cable_model.specs.Transcript.{Entry, Sent, Took, count, stamps}
+use Rattle.cable_model.specs.Transcript.{Entry, Sent, Took, count, next_stamp, stamps}
 use Rattle.cable_model.specs.declared.resolve.Found.{Found}
 use Rattle.cable_model.specs.declared.resolve.Found.TheVariants.{At, Nobody, Later}
 use Rattle.ddp.specs.Bodies.{body, hops, target}
@@ -157,7 +157,7 @@ sent_asks old new o payload by only asks =
     let t = transcript old.cabling in
     let bytes = bytes_for o payload in
     let entries = sent_entries (places_of i) old.cabling o.cable o.station o.next bytes in
-    let on = sent_leg i (places_of i) (record { stamp = stamps t; cable = o.cable; station = o.station }) o.next bytes in
+    let on = sent_leg i (places_of i) (record { stamp = next_stamp t; cable = o.cable; station = o.station }) o.next bytes in
     let first : is_unasked i (Sent o.station (body bytes)) ≡ false = and_right (not (is_router i o.station)) _ asks in
     let one = ap (λ b. count (λ (x : Bool). x) (b ∷ [])) first in
     let parts = count-append (is_unasked i) t entries in

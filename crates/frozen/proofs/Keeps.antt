@@ -8,8 +8,9 @@ use Rattle.cable_model.specs.Logs.{Cabling, transcript}
 use Rattle.cable_model.specs.Outcomes.{all_entries, heard_by, leg as leg_on}
 use Rattle.cable_model.specs.Rooms.{known_rooms}
 use Rattle.cable_model.specs.Pending.{Pair, pending}
-use Rattle.cable_model.specs.Transcript.{Entry, Sent, Took, stamps}
+use Rattle.cable_model.specs.Transcript.{Entry, Sent, Took, next_stamp, stamps}
 use Rattle.cable_model.specs.declared.seat.Seat.{Seat}
+use Rattle.cable_model.proofs.Stamps.{numbered_stamp}
 use Rattle.ddp.specs.Bodies.{body}
 use Rattle.end_node.specs.Answers.{Hears as NodeHears}
 use Rattle.end_node.specs.Holding.{NodeHolding}
@@ -27,6 +28,7 @@ use Rattle.legal_stations.proofs.Making.{IsSent}
 use Rattle.legal_stations.proofs.NodeTakes.{node_takes}
 use Rattle.legal_stations.proofs.RouterTakes.{router_takes}
 use Rattle.legal_runs.proofs.Frames.{whole}
+use Rattle.legal_runs.proofs.Runs.{legal_numbered}
 use Rattle.legal_runs.specs.Answers.{IsMade, IsOwn}
 use Rattle.legal_runs.specs.Legal.{Begins, Block, Goes, IsLegal}
 use Rattle.legal_runs.specs.Legs.{Leg, places_of}
@@ -89,7 +91,7 @@ frozen_of r i e ok bounded holders seats legal = record {
 
 -- A run with an empty transcript.
 pub begun : (i j : Internet) (stations : List (Member Holding NodeHolding)) (k : Cabling) (seats : List Seat) (limit : ℕ) → j ≡ i
-    → k ≡ record { seats = seats; limit = limit; rooms = known_rooms; lines = []; kept = []; waiting = [] } → seats
+    → k ≡ record { seats = seats; limit = limit; rooms = known_rooms; lines = []; kept = []; spare = 0 } → seats
     ≡ cable_seats i → Passes i
     → IsBounded i → HoldStations i stations → IsFrozen (record { internet = j; stations = stations; cabling = k })
 begun i j stations k seats limit same is on ok bounded holders =
@@ -98,10 +100,15 @@ begun i j stations k seats limit same is on ok bounded holders =
 
 -- In a run with an empty transcript, no node has asked.
 pub begun_asks : (j : Internet) (stations : List (Member Holding NodeHolding)) (k : Cabling) (seats : List Seat) (limit : ℕ)
-    → k ≡ record { seats = seats; limit = limit; rooms = known_rooms; lines = []; kept = []; waiting = [] }
+    → k ≡ record { seats = seats; limit = limit; rooms = known_rooms; lines = []; kept = []; spare = 0 }
     → HaveOnlyAsked (record { internet = j; stations = stations; cabling = k })
 begun_asks j stations k seats limit is =
     subst (λ c. HaveOnlyAsked (record { internet = j; stations = stations; cabling = c })) (sym is) refl
+
+-- The next stamp of a run is the number of its frames.
+next_of : (r : Running) → IsFrozen r → next_stamp (transcript r.cabling) ≡ stamps (transcript r.cabling)
+next_of r frozen =
+    numbered_stamp (transcript r.cabling) (legal_numbered r.internet (transcript r.cabling) frozen.passes frozen.legal)
 
 -- The block of a take in a run, and the contents of the station afterwards.
 pub record TookSo (old new : Running) (stamp s : ℕ) : Type 0 where
@@ -125,7 +132,9 @@ took_so old new stamp s frozen taken =
     let others : List Entry = all_entries (places_of i) old.cabling.seats s (stamps t) x.added in
     record {
       block = Took stamp s ∷ others;
-      added = x.entries.added;
+      added =
+          x.entries.added
+          ∙ ap (λ n. t ++ Took stamp s ∷ all_entries (places_of i) old.cabling.seats s n x.added) (next_of old frozen);
       lawful =
           subst (λ n. Block i t (Took n s ∷ all_entries (places_of i) old.cabling.seats s (stamps t) x.added)) x.of_stamp
           (subst (λ n. Block i t (Took p.frame.stamp n ∷ all_entries (places_of i) old.cabling.seats n (stamps t) x.added)) x.of_station
@@ -167,8 +176,10 @@ sent_keeps old new o payload frozen fair sent by =
       ];
     } in
     let is : body bytes ≡ bytes = (whole bytes sent.is_body).same in
+    let with_stamp = subst (λ n. Block i t (Sent o.station bytes ∷ leg_on (places_of i)
+    (record { stamp = n; cable = o.cable; station = o.station }) o.next bytes)) (sym (next_of old frozen)) (sendings i t l made own) in
     let block = subst (λ b. Block i t (Sent o.station b ∷ leg_on (places_of i)
-    (record { stamp = stamps t; cable = o.cable; station = o.station }) o.next bytes)) (sym is) (sendings i t l made own) in
+    (record { stamp = next_stamp t; cable = o.cable; station = o.station }) o.next bytes)) (sym is) with_stamp in
     frozen_of new i by.internet frozen.passes frozen.bounded (subst (HoldStations i) (sym by.stations) frozen.holders)
     (by.entries.seats ∙ frozen.seats)
     (subst (IsLegal i) (sym by.entries.added) (Goes t _ frozen.legal block))

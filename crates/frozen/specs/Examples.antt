@@ -27,7 +27,7 @@ run_of lines = record {
     rooms = known_rooms;
     lines = lines;
     kept = plain 0 50 9 ∷ [];
-    waiting = [];
+    spare = 0;
   };
 }
 

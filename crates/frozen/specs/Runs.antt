@@ -5,7 +5,8 @@ use Rattle.at_base.specs.declared.error.Error.{Error}
 use Rattle.at_base.specs.declared.error.Error.TheVariants.{Full, NotPending}
 use Rattle.audit.specs.Rules.{Passes}
 use Rattle.cable_model.specs.Logs.{Cabling, transcript}
-use Rattle.cable_model.specs.Outcomes.{IsTaken, Places, is_named}
+use Rattle.cable_model.specs.Outcomes.{Places, is_named}
+use Rattle.cable_model.specs.Outgoing.{IsTakenAtOnce}
 use Rattle.cable_model.specs.Pending.{pending}
 use Rattle.end_node.specs.Answers.{Hears as NodeHears}
 use Rattle.end_node.specs.Holding.{NodeHolding}
@@ -49,7 +50,7 @@ pub record TakenFrom (places : Places) (stations : List (Member Holding NodeHold
   pub after : Member Holding NodeHolding
   pub changed : others ≡ slice_set stations s after
   pub taken :
-      IsTaken places (ports_of member) old new stamp s (λ h added. EitherHears RouterHears NodeHears member h added after)
+      IsTakenAtOnce places (ports_of member) old new stamp s (λ h added. EitherHears RouterHears NodeHears member h added after)
 
 -- In a run, station s took a pending frame, and the internet stayed the same.
 pub record TakenBy (old : Running) (stamp s : ℕ) (new : Running) : Type 0 where

@@ -89,7 +89,7 @@ impl<T: RouteTable> Frozen<T> {
           rooms = known_rooms;
           lines = [];
           kept = [];
-          waiting = [];
+          spare = 0;
         })) }
         // Its stations have received nothing yet.
         ensures fresh { IfOk result (λ run. AreFresh run.stations) }

@@ -47,7 +47,8 @@ pub fn send(
     ensures refused { IfErr result (λ e. (e ≡ Error.Full) ⊎ (e ≡ Error.Memory)) }
     ensures kept { OnErr result (cables.new ≡ cables.old) }
 {
-    cables.send(order.station, order.cable, order.next, bytes, places)
+    let mut resolver = places;
+    cables.send(order.station, order.cable, order.next, bytes, &mut resolver)
 }
 
 /// A station takes a frame.
@@ -79,5 +80,6 @@ pub fn take<T: RouteTable>(
     ensures stations_stay { OnErr result (stations.new.items ≡ stations.old.items) }
 {
     let taker = &mut stations[station as usize];
-    cables.take(stamp, station, taker, places)
+    let mut resolver = places;
+    cables.take(stamp, station, taker, &mut resolver)
 }

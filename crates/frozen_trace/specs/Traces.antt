@@ -80,7 +80,7 @@ pub record IsTrace (i : Internet) (steps : List Step) (text : List ℕ) : Type 0
     rooms = known_rooms;
     lines = [];
     kept = [];
-    waiting = [];
+    spare = 0;
   }
   pub fresh : AreFresh begun.stations
   pub begun_frozen : IsFrozen begun

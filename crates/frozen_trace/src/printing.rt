@@ -31,7 +31,8 @@ fn bytes_of<'a, T: RouteTable>(run: &'a Frozen<T>, entry: &Entry) -> &'a [u8]
         Entry::Sent { bytes, .. }
         | Entry::Put { bytes, .. }
         | Entry::Reached { bytes, .. }
-        | Entry::Dropped { bytes, .. } => run.bytes(*bytes),
+        | Entry::Dropped { bytes, .. }
+        | Entry::Hold { bytes, .. } => run.bytes(*bytes),
         Entry::Took { .. } | Entry::Lost { .. } => &[],
     }
 }

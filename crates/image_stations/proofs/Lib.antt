@@ -8,3 +8,4 @@ pub mod ZoneRanges
 pub mod NodeNames
 pub mod Pushed
 pub mod Housed
+pub mod Answering

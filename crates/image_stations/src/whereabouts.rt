@@ -12,7 +12,7 @@ ghost use Rattle.legal_runs.specs.Legs.{found_at};
 
 use crate::homes::Homes;
 use at_base::{Addr, Error, Hw};
-use cable_model::{Found, Resolve};
+use cable_model::{Found, HeldBy, Resolve};
 use std::alloc::Global;
 use std::marker::Model;
 use table_image::{Cable, Image, Node, Port, Router};
@@ -191,12 +191,15 @@ impl Whereabouts {
     }
 }
 
-impl Resolve for Whereabouts {
+impl Resolve for &Whereabouts {
+    ghost use Rattle.std.specs.Prelude.{◌≡◌, None};
     ghost use Rattle.legal_runs.specs.Legs.{places_of};
 
-    ghost finds = { λ w. (places_of w).finds };
+    ghost finds = { λ w. (places_of w.now).finds };
 
-    ghost lists = { λ w. (places_of w).lists };
+    ghost lists = { λ w. (places_of w.now).lists };
+
+    ghost holds = { λ w _ _ _ held after. (held ≡ record { shed = None; ask = None }) × (after ≡ w) };
 
     fn find(&self, cable: u8, addr: Addr) -> Found {
         self.find_on(cable, addr)
@@ -204,5 +207,13 @@ impl Resolve for Whereabouts {
 
     fn listed(&self, net: u16) -> bool {
         home_of(self.image().cables(), net).is_some()
+    }
+
+    // Every lookup is answered, so that no datagram is held.
+    fn hold(&mut self, _cable: u8, _next: Addr, _stamp: u32) -> HeldBy {
+        HeldBy {
+            shed: None,
+            ask: None,
+        }
     }
 }

@@ -9,7 +9,7 @@ use Rattle.audit.specs.Routing.{hand}
 use Rattle.audit.specs.Rules.{Passes}
 use Rattle.cable_model.specs.declared.seat.Seat.{Seat}
 use Rattle.cable_model.specs.Pending.{Pair, pairs, pairs_of, pending, was_ended}
-use Rattle.cable_model.specs.Transcript.{Entry, Sent, Put, Took, Reached, Dropped, Lost, AreNumbered, is_put, one, stamps}
+use Rattle.cable_model.specs.Transcript.{Entry, Sent, Put, Took, Reached, Dropped, Lost, Hold, AreNumbered, is_put, one, stamps}
 use Rattle.cable_model.proofs.Counting.{At, contained_at, count-append, each-append, each_all, each_at, each_map, each_more, filter_at}
 use Rattle.cable_model.proofs.Pairs.{numbered-append, pairs-append}
 use Rattle.legal_runs.specs.Answers.{IsMade}
@@ -58,6 +58,7 @@ kept (Put f ∷ es) w k chain e = kept es (after (Put f) w) k chain (at_front w.
 kept (Reached c s how b ∷ es) w k chain e = kept es w k chain e
 kept (Dropped r cause b ∷ es) w k chain e = kept es w k chain e
 kept (Lost p ∷ es) w k chain e = kept es w k chain e
+kept (Hold held ∷ es) w k chain e = kept es w k chain e
 
 -- Each frame has one chain.
 frames_counted : (es : List Entry) (w : Chains) → length (after_all es w).frames ≡ length w.frames + stamps es
@@ -71,6 +72,7 @@ frames_counted (Put f ∷ es) w =
 frames_counted (Reached c s how b ∷ es) w = let h = frames_counted es w in omega (arith, h)
 frames_counted (Dropped r cause b ∷ es) w = let h = frames_counted es w in omega (arith, h)
 frames_counted (Lost p ∷ es) w = let h = frames_counted es w in omega (arith, h)
+frames_counted (Hold held ∷ es) w = let h = frames_counted es w in omega (arith, h)
 
 module _ (i : Internet) where
   -- The chain of a copy leads to the station that takes it.
@@ -99,6 +101,7 @@ module _ (i : Internet) where
     of_carried frames (Sent s b ∷ es) h = absurd h.0
     of_carried frames (Took p s ∷ es) h = absurd h.0
     of_carried frames (Lost p ∷ es) h = absurd h.0
+    of_carried frames (Hold held ∷ es) h = absurd h.0
 
     -- The frames among the entries have this chain.
     of_frames : (frames : List (List ℕ)) (es : List Entry) → Each OfNow es → AreNumbered (length frames) es
@@ -109,6 +112,7 @@ module _ (i : Internet) where
     of_frames frames (Sent s b ∷ es) h n = absurd h.0
     of_frames frames (Took p s ∷ es) h n = absurd h.0
     of_frames frames (Lost p ∷ es) h n = absurd h.0
+    of_frames frames (Hold held ∷ es) h n = absurd h.0
     of_frames frames (Put f ∷ es) h n =
         let w : Chains = record { now = now; frames = frames ++ now ∷ [] } in
         let long = length-append frames (now ∷ []) in

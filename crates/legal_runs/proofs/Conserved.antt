@@ -11,7 +11,7 @@ use Rattle.audit.specs.Routing.{home}
 use Rattle.audit.specs.Rules.{Passes}
 use Rattle.station.specs.declared.output.DropCause.TheVariants.{NoRoute, HopLimit}
 use Rattle.cable_model.specs.Pending.{pairs, pending, was_ended}
-use Rattle.cable_model.specs.Transcript.{Entry, Sent, Put, Took, Reached, Dropped, Lost}
+use Rattle.cable_model.specs.Transcript.{Entry, Sent, Put, Took, Reached, Dropped, Lost, Hold}
 use Rattle.cable_model.proofs.Counting.{contained_at, count_agree, count_none, each_at, each_more, filter_at}
 use Rattle.legal_runs.specs.Counts.{HasHopsLeft, IsConserved, is_dropped, is_hop_limit, is_reached, under_way}
 use Rattle.legal_runs.specs.Legal.{IsLegal}
@@ -51,6 +51,7 @@ module _ (i : Internet) where
   ended_at_home b c h (Put f) r = refl
   ended_at_home b c h (Took p s) r = refl
   ended_at_home b c h (Lost p) r = refl
+  ended_at_home b c h (Hold held) r = refl
   ended_at_home b c h (Reached d s how body) r = by (same_bytes b body) refl
     where
       by : (v : Bool) → same_bytes b body ≡ v → v ≡ (d == c && v)
@@ -68,6 +69,7 @@ module _ (i : Internet) where
   ended_nowhere b h (Put f) r = refl
   ended_nowhere b h (Took p s) r = refl
   ended_nowhere b h (Lost p) r = refl
+  ended_nowhere b h (Hold held) r = refl
   ended_nowhere b h (Reached d s how body) r = other_body b body (λ e. some_none d (sym r ∙ (sym e ∙ h)))
   ended_nowhere b h (Dropped s cause body) r = refl
 
@@ -77,6 +79,7 @@ module _ (i : Internet) where
   not_reached b o d h apart (Put f) r = refl
   not_reached b o d h apart (Took p s) r = refl
   not_reached b o d h apart (Lost p) r = refl
+  not_reached b o d h apart (Hold held) r = refl
   not_reached b o d h apart (Reached c s how body) r = reached_is b o c d body h apart r
   not_reached b o d h apart (Dropped s cause body) r = refl
 
@@ -85,6 +88,7 @@ module _ (i : Internet) where
   not_dropped b c h (Put f) r = refl
   not_dropped b c h (Took p s) r = refl
   not_dropped b c h (Lost p) r = refl
+  not_dropped b c h (Hold held) r = refl
   not_dropped b c h (Reached d s how body) r = refl
   not_dropped b c h (Dropped s NoRoute body) r = other_body b body (λ e. some_none c (sym h ∙ (e ∙ r)))
   not_dropped b c h (Dropped s HopLimit body) r = absurd r
@@ -94,6 +98,7 @@ module _ (i : Internet) where
   no_limit (Put f) r = refl
   no_limit (Took p s) r = refl
   no_limit (Lost p) r = refl
+  no_limit (Hold held) r = refl
   no_limit (Reached c s how body) r = refl
   no_limit (Dropped s NoRoute body) r = refl
   no_limit (Dropped s HopLimit body) r = absurd r

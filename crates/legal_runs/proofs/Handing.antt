@@ -13,7 +13,7 @@ use Rattle.cable_model.specs.Outcomes.{Places, Sender, leg as leg_on, to_other, 
 use Rattle.cable_model.specs.declared.resolve.Found.{Found}
 use Rattle.cable_model.specs.declared.resolve.Found.TheVariants.{At, Nobody, Later}
 use Rattle.cable_model.specs.Pending.{Pair, pairs, pending, was_ended}
-use Rattle.cable_model.specs.Transcript.{Entry, Sent, Put, Took, Reached, Dropped, Lost, stamps}
+use Rattle.cable_model.specs.Transcript.{Entry, Sent, Put, Took, Reached, Dropped, Lost, Hold, stamps}
 use Rattle.cable_model.proofs.Counting.{contained_at, each_at, filter_at}
 use Rattle.legal_runs.specs.Carriage.{AreByHand, cable_of_hand}
 use Rattle.legal_runs.specs.Legal.{Block, IsLegal, Sends, Takes, Begins, Goes, said}
@@ -38,6 +38,7 @@ carried_after (Sent station body ∷ es) on = carried_after es false
 carried_after (Reached cable station how body ∷ es) on = carried_after es on
 carried_after (Dropped router cause body ∷ es) on = carried_after es on
 carried_after (Lost stamp ∷ es) on = carried_after es on
+carried_after (Hold held ∷ es) on = carried_after es on
 
 module _ (i : Internet) where
   by_hand_more : (es fs : List Entry) (on : Bool) → AreByHand i on es → AreByHand i (carried_after es on) fs → AreByHand i on (es ++ fs)
@@ -48,6 +49,7 @@ module _ (i : Internet) where
   by_hand_more (Reached cable station how body ∷ es) fs on h g = by_hand_more es fs on h g
   by_hand_more (Dropped router cause body ∷ es) fs on h g = by_hand_more es fs on h g
   by_hand_more (Lost stamp ∷ es) fs on h g = by_hand_more es fs on h g
+  by_hand_more (Hold held ∷ es) fs on h g = by_hand_more es fs on h g
 
   -- What stations make is put anew.
   anew : (es : List Entry) → Each IsNoTook es → AreByHand i false es
@@ -58,6 +60,7 @@ module _ (i : Internet) where
   anew (Reached cable station how body ∷ es) h = anew es h.1
   anew (Dropped router cause body ∷ es) h = anew es h.1
   anew (Lost stamp ∷ es) h = anew es h.1
+  anew (Hold held ∷ es) h = anew es h.1
 
   said_anew : (on : Bool) (stamp : ℕ) (ls : List Leg) → AreByHand i on (said i stamp ls)
   said_anew on stamp [] = tt

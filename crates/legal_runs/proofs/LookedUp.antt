@@ -11,6 +11,7 @@ use Rattle.cable_model.specs.Pending.{Pair, pairs, pending, was_ended}
 use Rattle.cable_model.specs.Transcript.{Entry, Sent, Took, AreNumbered, count, is_put, one, stamps}
 use Rattle.cable_model.proofs.Counting.{At, contained_at, count-append, count_at, each-append, each_at, each_more, filter_at}
 use Rattle.cable_model.proofs.Pairs.{EndsBelow, EndsNone, below_more, pairs-append, pending_is, pending_less, pending_more, stamps_below}
+use Rattle.cable_model.proofs.Stamps.{numbered_once}
 use Rattle.legal_runs.specs.Answers.{Answers, IsMade, IsOwn, ends_at}
 use Rattle.legal_runs.specs.Legal.{Block, IsLegal, Sends, Takes, Begins, Goes, handled, said}
 use Rattle.legal_runs.specs.Legs.{Leg, fate, leg}
@@ -92,7 +93,7 @@ module _ (i : Internet) (ok : Passes i) where
       let took = Took p.frame.stamp p.seat.station in
       let a = took_split f (t ++ took ∷ []) in
       let b = took_split f t in
-      let c = pending_less (cable_seats i) (one_seat i ok) f t p k new at in
+      let c = pending_less (cable_seats i) (one_seat i ok) f t p k (numbered_once 0 t new) at in
       let d = ap (count f) (pairs-append (cable_seats i) t (took ∷ []) ∙ append-nil (pairs (cable_seats i) t)) in
       omega (arith, a, b, c, d)
 
@@ -192,7 +193,7 @@ module _ (i : Internet) (ok : Passes i) where
             let b1 = more_took before es old keeps_all.ends_none new (ends_so i k) in
             let b2 = less_took (ends_so i k) t p n r.numbered at in
             let d1 = more_pending before es old keeps_all.ends_none new (waits i k) in
-            let d2 = pending_less (cable_seats i) (one_seat i ok) (waits i k) t p n r.numbered at in
+            let d2 = pending_less (cable_seats i) (one_seat i ok) (waits i k) t p n (numbered_once 0 t r.numbered) at in
             let d3 = count_pairs i (waits i k) fs gs in
             let d4 = fate_waits i ok (stamps t) p framed good fine k in
             let d5 = tl.1.no_wait in
@@ -210,7 +211,7 @@ module _ (i : Internet) (ok : Passes i) where
             let b2 = less_took (ends_so i k) t p n r.numbered at in
             let b3 = share_more (is_among c (listing i (zone_of k))) (ends_so i k p) (taken i k t) (taken i k (before ++ es)) (b1 ∙ b2) in
             let d1 = more_pending before es old keeps_all.ends_none new (forwarded i k c) in
-            let d2 = pending_less (cable_seats i) (one_seat i ok) (forwarded i k c) t p n r.numbered at in
+            let d2 = pending_less (cable_seats i) (one_seat i ok) (forwarded i k c) t p n (numbered_once 0 t r.numbered) at in
             let d3 = count_pairs i (forwarded i k c) fs gs in
             let d4 = fate_forwards i ok (stamps t) p framed good fine k c in
             let v = tl.2 in

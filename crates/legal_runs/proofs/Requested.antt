@@ -19,7 +19,7 @@ use Rattle.cable_model.specs.declared.seat.Seat.{Seat}
 use Rattle.cable_model.specs.Outcomes.{to_other, to_target}
 use Rattle.cable_model.specs.Pending.{Pair, is_heard, pairs, pairs_of}
 use Rattle.at_base.specs.Multicast.{is_all, is_group}
-use Rattle.cable_model.specs.Transcript.{Entry, Frame, Sent, Put, Took, Reached, Dropped, Lost, count, one}
+use Rattle.cable_model.specs.Transcript.{Entry, Frame, Sent, Put, Took, Reached, Dropped, Lost, Hold, count, one}
 use Rattle.cable_model.proofs.Counting.{At, count_none, each-append, each_all, each_map, each_more}
 use Rattle.legal_runs.specs.Answers.{keeps_by}
 use Rattle.legal_runs.specs.Legs.{Leg, fate_by, final, found_at, is_unicast, leg, leg_bytes, passed, sender}
@@ -63,6 +63,7 @@ module _ (i : Internet) where
   placed (Reached c s w b ∷ t) = placed t
   placed (Dropped r c b ∷ t) = placed t
   placed (Lost q ∷ t) = placed t
+  placed (Hold held ∷ t) = placed t
 
   -- ---- Entries of one datagram
 
@@ -79,6 +80,7 @@ module _ (i : Internet) where
     of_bodies (Sent s b ∷ es) h = absurd h.0
     of_bodies (Took p s ∷ es) h = absurd h.0
     of_bodies (Lost p ∷ es) h = absurd h.0
+    of_bodies (Hold held ∷ es) h = absurd h.0
 
     -- The pairs hold datagrams.
     pub of_kinds : (es : List Entry) → Each (IsOf i A d hop) es → Each (λ p. p.frame.kind ≡ Ddp) (pairs (cable_seats i) es)
@@ -91,6 +93,7 @@ module _ (i : Internet) where
     of_kinds (Sent s b ∷ es) h = absurd h.0
     of_kinds (Took p s ∷ es) h = absurd h.0
     of_kinds (Lost p ∷ es) h = absurd h.0
+    of_kinds (Hold held ∷ es) h = absurd h.0
 
     -- The pairs have hop count `hop`.
     pub of_hops : (es : List Entry) → Each (IsOf i A d hop) es → Each (λ p. hops p.frame.bytes ≡ hop) (pairs (cable_seats i) es)
@@ -104,6 +107,7 @@ module _ (i : Internet) where
     of_hops (Sent s b ∷ es) h = absurd h.0
     of_hops (Took p s ∷ es) h = absurd h.0
     of_hops (Lost p ∷ es) h = absurd h.0
+    of_hops (Hold held ∷ es) h = absurd h.0
 
     -- A test that no frame of the datagram passes counts 0.
     pub of_none : (f : Pair → Bool) (es : List Entry) → Each (IsOf i A d hop) es → ((p : Pair) → body p.frame.bytes ≡ d → f p ≡ false)
@@ -120,6 +124,7 @@ module _ (i : Internet) where
     of_unasked k (Sent s b ∷ es) h = absurd h.0
     of_unasked k (Took p s ∷ es) h = absurd h.0
     of_unasked k (Lost p ∷ es) h = absurd h.0
+    of_unasked k (Hold held ∷ es) h = absurd h.0
 
     -- A datagram that is no lookup makes no lookup.
     pub of_no_lookup : (k : List ℕ) (c : ℕ) (es : List Entry) → is_lookup (request d) ≡ false → Each (IsOf i A d hop) es → count
@@ -137,6 +142,7 @@ module _ (i : Internet) where
     of_no_lookup k c (Sent s b ∷ es) e h = absurd h.0
     of_no_lookup k c (Took p s ∷ es) e h = absurd h.0
     of_no_lookup k c (Lost p ∷ es) e h = absurd h.0
+    of_no_lookup k c (Hold held ∷ es) e h = absurd h.0
 
   -- ---- One frame to a router
 

@@ -12,6 +12,7 @@ use Rattle.cable_model.specs.Transcript.{Entry, Took, AreNumbered, count, is_put
 use Rattle.cable_model.proofs.Counting.{At, contained_at, count-append, each-append, each_at, each_more, filter_at}
 use Rattle.cable_model.proofs.Pairs.{EndsBelow, EndsNone, below_more, none_below, numbered-append, pairs-append, pending_less, pending_more}
 use Rattle.cable_model.proofs.Pairs.{stamps_below}
+use Rattle.cable_model.proofs.Stamps.{numbered_once}
 use Rattle.legal_runs.specs.Answers.{IsMade}
 use Rattle.legal_runs.specs.Counts.{carries, is_sent, sent, under_way}
 use Rattle.legal_runs.specs.Legal.{Block, IsLegal, Sends, Takes, Begins, Goes, handled, said}
@@ -201,7 +202,8 @@ module _ (i : Internet) (ok : Passes i) where
       let fine = each_at (HopsFine i) (pairs (cable_seats i) t) w.0 p w.1 r.hops_left in
       let stamp = each_at (λ q. q.frame.stamp < 0 + stamps t) (pairs (cable_seats i) t) w.0 p w.1
       (stamps_below (cable_seats i) 0 t r.numbered) in
-      let less = λ (b : List ℕ). pending_less (cable_seats i) (one_seat i ok) (carries i b) t p k r.numbered at in
+      let once = numbered_once 0 t r.numbered in
+      let less = λ (b : List ℕ). pending_less (cable_seats i) (one_seat i ok) (carries i b) t p k once at in
       let few : stamps (t ++ took ∷ []) ≡ stamps t = let h = count-append is_put t (took ∷ []) in omega (arith, h) in
       let new = handled_keeps (stamps (t ++ took ∷ [])) p ls framed fine made in
       let all : Run ((t ++ took ∷ []) ++ handled i (stamps (t ++ took ∷ [])) p ls) =
@@ -233,3 +235,7 @@ module _ (i : Internet) (ok : Passes i) where
   pub run_is : (t : List Entry) → IsLegal i t → Run t
   run_is t Begins = none_yet
   run_is t (Goes front block legal b) = event front block b (run_is front legal)
+
+-- The frames of a legal transcript are numbered, and it holds no datagram.
+pub legal_numbered : (i : Internet) (t : List Entry) → Passes i → IsLegal i t → AreNumbered 0 t
+legal_numbered i t ok legal = (run_is i ok t legal).numbered

@@ -16,7 +16,7 @@ use Rattle.cable_model.specs.declared.resolve.Found.{Found}
 use Rattle.cable_model.specs.declared.resolve.Found.TheVariants as found
 use Rattle.cable_model.specs.declared.seat.Seat.{Seat}
 use Rattle.cable_model.specs.Pending.{Pair, is_for, is_heard, pairs, pairs_of, pending, was_ended}
-use Rattle.cable_model.specs.Transcript.{Entry, Frame, Sent, Put, Took, Reached, Dropped, Lost, AreNumbered, stamps}
+use Rattle.cable_model.specs.Transcript.{Entry, Frame, Sent, Put, Took, Reached, Dropped, Lost, Hold, AreNumbered, stamps}
 use Rattle.cable_model.proofs.Counting.{At, contained_at, each-append, each_at, each_map, filter_at}
 use Rattle.legal_runs.specs.Carriage.{AreTakenThere, IsOnSome}
 use Rattle.legal_runs.specs.Legal.{Block, IsLegal, Sends, Takes, Begins, Goes, said}
@@ -42,6 +42,7 @@ cables_after (Sent station body ∷ es) w = cables_after es w
 cables_after (Reached cable station how body ∷ es) w = cables_after es w
 cables_after (Dropped router cause body ∷ es) w = cables_after es w
 cables_after (Lost stamp ∷ es) w = cables_after es w
+cables_after (Hold held ∷ es) w = cables_after es w
 
 module _ (i : Internet) where
   there_more : (es fs : List Entry) (w : List ℕ) → AreTakenThere i w es → AreTakenThere i (cables_after es w) fs
@@ -53,6 +54,7 @@ module _ (i : Internet) where
   there_more (Reached cable station how body ∷ es) fs w h g = there_more es fs w h g
   there_more (Dropped router cause body ∷ es) fs w h g = there_more es fs w h g
   there_more (Lost stamp ∷ es) fs w h g = there_more es fs w h g
+  there_more (Hold held ∷ es) fs w h g = there_more es fs w h g
 
   quiet_there : (es : List Entry) (w : List ℕ) → Each IsNoTook es → AreTakenThere i w es
   quiet_there [] w h = tt
@@ -62,6 +64,7 @@ module _ (i : Internet) where
   quiet_there (Reached cable station how body ∷ es) w h = quiet_there es w h.1
   quiet_there (Dropped router cause body ∷ es) w h = quiet_there es w h.1
   quiet_there (Lost stamp ∷ es) w h = quiet_there es w h.1
+  quiet_there (Hold held ∷ es) w h = quiet_there es w h.1
 
   either : (b : Bool) (es fs : List Entry) → Each IsNoTook es → Each IsNoTook fs → Each IsNoTook (cond b es fs)
   either true es fs h g = h
@@ -112,6 +115,7 @@ module _ (i : Internet) where
   kept (Reached cable station how body ∷ es) w k c e = kept es w k c e
   kept (Dropped router cause body ∷ es) w k c e = kept es w k c e
   kept (Lost stamp ∷ es) w k c e = kept es w k c e
+  kept (Hold held ∷ es) w k c e = kept es w k c e
 
   -- The pair's frame has its cable by its stamp, and the pair's station is on it.
   abbrev IsSeen : List ℕ → Pair → Type 0
@@ -159,6 +163,7 @@ module _ (i : Internet) where
   seen (Reached cable station how body ∷ es) w n = seen es w (subst (λ k. AreNumbered k es) (omega arith) n.1)
   seen (Dropped router cause body ∷ es) w n = seen es w (subst (λ k. AreNumbered k es) (omega arith) n.1)
   seen (Lost stamp ∷ es) w n = seen es w (subst (λ k. AreNumbered k es) (omega arith) n.1)
+  seen (Hold held ∷ es) w n = absurd n.0
 
   -- ---- Transcripts
 

@@ -4,7 +4,7 @@ use Rattle.ddp.specs.Bodies.{hops, target}
 use Rattle.table_image.specs.Internet.{Internet}
 use Rattle.audit.specs.Routing.{Hand, Here, On, Nowhere, hand}
 use Rattle.audit.specs.Walks.{IsWalk}
-use Rattle.cable_model.specs.Transcript.{Entry, Frame, Sent, Put, Took, Reached, Dropped, Lost}
+use Rattle.cable_model.specs.Transcript.{Entry, Frame, Sent, Put, Took, Reached, Dropped, Lost, Hold}
 use Rattle.legal_runs.specs.Stations.{is_on}
 
 -- The routers that carried the datagram that is being handled, and those that carried each frame, by its stamp.
@@ -26,6 +26,7 @@ after (Put frame) w = record { now = w.now; frames = w.frames ++ w.now ∷ [] }
 after (Reached cable station how body) w = w
 after (Dropped router cause body) w = w
 after (Lost stamp) w = w
+after (Hold held) w = w
 
 -- The chains before the first entry.
 abbrev pub none_yet : Chains
@@ -45,6 +46,7 @@ IsCarried i w (Sent station body) = Unit {0}
 IsCarried i w (Took stamp station) = Unit {0}
 IsCarried i w (Dropped router cause body) = Unit {0}
 IsCarried i w (Lost stamp) = Unit {0}
+IsCarried i w (Hold held) = Unit {0}
 
 -- Carriage: `IsCarried` holds of each entry of the transcript, with the chains after the entries before it.
 abbrev pub AreCarried : Internet → Chains → List Entry → Type 0
@@ -66,6 +68,7 @@ AreTakenThere i cables (Sent station body ∷ es) = AreTakenThere i cables es
 AreTakenThere i cables (Reached cable station how body ∷ es) = AreTakenThere i cables es
 AreTakenThere i cables (Dropped router cause body ∷ es) = AreTakenThere i cables es
 AreTakenThere i cables (Lost stamp ∷ es) = AreTakenThere i cables es
+AreTakenThere i cables (Hold held ∷ es) = AreTakenThere i cables es
 
 -- The cable onto which a router hands a datagram, if it has a route.
 abbrev pub cable_of_hand : Hand → Option ℕ
@@ -89,3 +92,4 @@ AreByHand i carried (Sent station body ∷ es) = AreByHand i false es
 AreByHand i carried (Reached cable station how body ∷ es) = AreByHand i carried es
 AreByHand i carried (Dropped router cause body ∷ es) = AreByHand i carried es
 AreByHand i carried (Lost stamp ∷ es) = AreByHand i carried es
+AreByHand i carried (Hold held ∷ es) = AreByHand i carried es

@@ -13,7 +13,7 @@ use Rattle.audit.proofs.WalkLists.{at_append, at_map}
 use Rattle.cable_model.specs.Outcomes.{framed, leg as leg_on, to_other, to_target}
 use Rattle.cable_model.specs.Pending.{Pair, is_heard, pairs, pairs_of, pending, was_ended}
 use Rattle.at_base.specs.Multicast.{all_hw, group_hw, is_all}
-use Rattle.cable_model.specs.Transcript.{Entry, Dropped, Frame, Lost, Put, Reached, Sent, Took, stamps}
+use Rattle.cable_model.specs.Transcript.{Entry, Dropped, Frame, Hold, Lost, Put, Reached, Sent, Took, stamps}
 use Rattle.cable_model.specs.declared.entry.How.TheVariants as how
 use Rattle.cable_model.specs.declared.seat.Seat.{Seat}
 use Rattle.cable_model.proofs.Counting.{At, contained_at, each-append, each_at, filter_at}
@@ -63,6 +63,7 @@ pair_from seats (Took t s ∷ es) k p e = let h = pair_from seats es k p e in ((
 pair_from seats (Reached c s w b ∷ es) k p e = let h = pair_from seats es k p e in ((suc h.0.0, h.0.1), h.1)
 pair_from seats (Dropped r c b ∷ es) k p e = let h = pair_from seats es k p e in ((suc h.0.0, h.0.1), h.1)
 pair_from seats (Lost t ∷ es) k p e = let h = pair_from seats es k p e in ((suc h.0.0, h.0.1), h.1)
+pair_from seats (Hold d ∷ es) k p e = let h = pair_from seats es k p e in ((suc h.0.0, h.0.1), h.1)
 
 -- ---- Frames of legs
 

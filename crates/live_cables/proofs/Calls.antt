@@ -8,21 +8,20 @@ use Rattle.std.specs.List.{All, list_all, list_any, AllByRecursion as Each}
 use Rattle.std.proofs.lemmas.Bool.{and_parts}
 use Rattle.std.proofs.lemmas.List.{length-map}
 use Rattle.std.proofs.lemmas.List.Elements.{All-tail}
-use Rattle.std.proofs.lemmas.List.Folds.{list_all-append}
 use Rattle.cable_model.specs.Logs.{Cabling, entry_at, transcript}
 use Rattle.cable_model.specs.Outcomes.{is_named}
 use Rattle.cable_model.specs.Pending.{Pair, pending}
-use Rattle.cable_model.specs.Transcript.{AreNumbered, Entry, Sent, Put, Took, Reached, Dropped, Lost, count}
+use Rattle.cable_model.specs.Transcript.{ArePutOnce, Entry, Sent, Put, Took, Reached, Dropped, Lost, Hold, count}
+use Rattle.cable_model.specs.Holdings.{is_open}
 use Rattle.cable_model.specs.declared.entry.Entry.{Entry as Line}
 use Rattle.cable_model.specs.declared.seat.Seat.{Seat}
 use Rattle.cable_model.proofs.Counting.{contained_at, count-append}
-use Rattle.live_cables.proofs.Pending.{both, has_any}
-use Rattle.live_cables.proofs.Played.{due_append, losses-append, nothing_played, played_then}
-use Rattle.live_cables.proofs.Quiet.{are_quiet, quiet-append}
+use Rattle.live_cables.proofs.Pending.{both, has_any, or_first, or_second}
+use Rattle.live_cables.proofs.Played.{allowed_append, due_append, losses-append, nothing_played, played_then}
 use Rattle.live_cables.specs.Living.{IsTakenBy, Plays, PlaysOn, Stays, Wires, happened, loses}
-use Rattle.live_cables.specs.Playing.{AreDue, IsDueThen, IsPlayed, is_in, is_took, losses, may_be}
+use Rattle.live_cables.specs.Playing.{AreDue, IsDueThen, IsPlayed, are_allowed, is_in, is_took, losses, may_be}
 use Rattle.live_cables.proofs.Losses.{all_losses}
-use Rattle.live_cables.specs.Steps.{IsSendable, Loses, Puts, Takes, are_gone, is_loss, losses_since}
+use Rattle.live_cables.specs.Steps.{IsSendable, Loses, Puts, Takes, are_calm, are_gone, is_loss, losses_since}
 use Rattle.station.specs.Hearing.{Hearing}
 use Rattle.station.specs.Lawful.{IsGood}
 use Rattle.station.specs.declared.output.Output.{Output}
@@ -31,26 +30,32 @@ use Rattle.station.specs.declared.output.Output.TheVariants as output
 -- ---- Entries that end no pair, followed by losses
 
 module _ (seats : List Seat) (losing : ℕ → Bool) where
-  quiet_due : (t es : List Entry) → are_quiet es ≡ true → AreDue seats t es
-  quiet_due t [] h = tt
-  quiet_due t (Sent s x ∷ es) h = (tt, quiet_due (t ++ Sent s x ∷ []) es h)
-  quiet_due t (Put f ∷ es) h = (tt, quiet_due (t ++ Put f ∷ []) es h)
-  quiet_due t (Reached c s w x ∷ es) h = (tt, quiet_due (t ++ Reached c s w x ∷ []) es h)
-  quiet_due t (Dropped r c x ∷ es) h = (tt, quiet_due (t ++ Dropped r c x ∷ []) es h)
-  quiet_due t (Took p s ∷ es) h = cc
-  quiet_due t (Lost p ∷ es) h = cc
+  calm_due : (t es : List Entry) → are_calm t es ≡ true → AreDue seats t es
+  calm_due t [] h = tt
+  calm_due t (Sent s x ∷ es) h = (tt, calm_due (t ++ Sent s x ∷ []) es h)
+  calm_due t (Put f ∷ es) h = (tt, calm_due (t ++ Put f ∷ []) es h)
+  calm_due t (Reached c s w x ∷ es) h = (tt, calm_due (t ++ Reached c s w x ∷ []) es h)
+  calm_due t (Dropped r c x ∷ es) h = (tt, calm_due (t ++ Dropped r c x ∷ []) es h)
+  calm_due t (Hold d ∷ es) h = (tt, calm_due (t ++ Hold d ∷ []) es h)
+  calm_due t (Lost p ∷ es) h =
+      (tt, calm_due (t ++ Lost p ∷ []) es (and_parts (is_open t p) (are_calm (t ++ Lost p ∷ []) es) h).1)
+  calm_due t (Took p s ∷ es) h = cc
 
-  quiet_may : (lost : List ℕ) (es : List Entry) → are_quiet es ≡ true → IsTrue (list_all (may_be lost) es)
-  quiet_may lost [] h = refl
-  quiet_may lost (Sent s x ∷ es) h = quiet_may lost es h
-  quiet_may lost (Put f ∷ es) h = quiet_may lost es h
-  quiet_may lost (Reached c s w x ∷ es) h = quiet_may lost es h
-  quiet_may lost (Dropped r c x ∷ es) h = quiet_may lost es h
-  quiet_may lost (Took p s ∷ es) h = cc
-  quiet_may lost (Lost p ∷ es) h = cc
+  calm_may : (lost : List ℕ) (t es : List Entry) → are_calm t es ≡ true → are_allowed lost t es ≡ true
+  calm_may lost t [] h = refl
+  calm_may lost t (Sent s x ∷ es) h = calm_may lost (t ++ Sent s x ∷ []) es h
+  calm_may lost t (Put f ∷ es) h = calm_may lost (t ++ Put f ∷ []) es h
+  calm_may lost t (Reached c s w x ∷ es) h = calm_may lost (t ++ Reached c s w x ∷ []) es h
+  calm_may lost t (Dropped r c x ∷ es) h = calm_may lost (t ++ Dropped r c x ∷ []) es h
+  calm_may lost t (Hold d ∷ es) h = calm_may lost (t ++ Hold d ∷ []) es h
+  calm_may lost t (Lost p ∷ es) h =
+      let parts = and_parts (is_open t p) (are_calm (t ++ Lost p ∷ []) es) h in
+      both (may_be lost t (Lost p)) (are_allowed lost (t ++ Lost p ∷ []) es) (or_second (is_in lost p) (is_open t p) parts.0)
+      (calm_may lost (t ++ Lost p ∷ []) es parts.1)
+  calm_may lost t (Took p s ∷ es) h = cc
 
-  quiet_played : (t es : List Entry) → are_quiet es ≡ true → IsPlayed seats losing t es
-  quiet_played t es h = record { due = quiet_due t es h; each = quiet_may (losses losing es) es h }
+  calm_played : (t es : List Entry) → are_calm t es ≡ true → IsPlayed seats losing t es
+  calm_played t es h = record { due = calm_due t es h; each = calm_may (losses losing es) t es h }
 
   lost_due : (t : List Entry) (ss : List ℕ) (es : List Entry) → IsTrue (list_all (is_loss ss) es) → AreDue seats t es
   lost_due t ss [] h = tt
@@ -60,17 +65,20 @@ module _ (seats : List Seat) (losing : ℕ → Bool) where
   lost_due t ss (Reached c s w x ∷ es) h = cc
   lost_due t ss (Dropped r c x ∷ es) h = cc
   lost_due t ss (Took p s ∷ es) h = cc
+  lost_due t ss (Hold d ∷ es) h = cc
 
-  lost_may : (ss : List ℕ) (es : List Entry) → IsTrue (list_all (is_loss ss) es) → IsTrue (list_all (may_be ss) es)
-  lost_may ss [] h = refl
-  lost_may ss (Lost p ∷ es) h =
-      let parts = and_parts (is_in ss p) (list_all (is_loss ss) es) h in both (is_in ss p) (list_all (may_be ss) es) parts.0
-      (lost_may ss es parts.1)
-  lost_may ss (Sent s x ∷ es) h = cc
-  lost_may ss (Put f ∷ es) h = cc
-  lost_may ss (Reached c s w x ∷ es) h = cc
-  lost_may ss (Dropped r c x ∷ es) h = cc
-  lost_may ss (Took p s ∷ es) h = cc
+  lost_may : (ss : List ℕ) (t es : List Entry) → IsTrue (list_all (is_loss ss) es) → IsTrue (are_allowed ss t es)
+  lost_may ss t [] h = refl
+  lost_may ss t (Lost p ∷ es) h =
+      let parts = and_parts (is_in ss p) (list_all (is_loss ss) es) h in
+      both (may_be ss t (Lost p)) (are_allowed ss (t ++ Lost p ∷ []) es) (or_first (is_in ss p) (is_open t p) parts.0)
+      (lost_may ss (t ++ Lost p ∷ []) es parts.1)
+  lost_may ss t (Sent s x ∷ es) h = cc
+  lost_may ss t (Put f ∷ es) h = cc
+  lost_may ss t (Reached c s w x ∷ es) h = cc
+  lost_may ss t (Dropped r c x ∷ es) h = cc
+  lost_may ss t (Took p s ∷ es) h = cc
+  lost_may ss t (Hold d ∷ es) h = cc
 
   lost_puts : (ss : List ℕ) (es : List Entry) → IsTrue (list_all (is_loss ss) es) → losses losing es ≡ []
   lost_puts ss [] h = refl
@@ -80,33 +88,52 @@ module _ (seats : List Seat) (losing : ℕ → Bool) where
   lost_puts ss (Reached c s w x ∷ es) h = cc
   lost_puts ss (Dropped r c x ∷ es) h = cc
   lost_puts ss (Took p s ∷ es) h = cc
+  lost_puts ss (Hold d ∷ es) h = cc
+
+  -- Entries that put no frame on a cable that loses frames change nothing in what is lost.
+  more_losses : (a b : List Entry) → losses losing b ≡ [] → losses losing (a ++ b) ≡ losses losing a
+  more_losses a b none =
+      losses-append losing a b ∙ (ap (λ l. losses losing a ++ l) none ∙ append-nil (losses losing a))
 
   -- The losses of a call put no frames on cables.
   same_losses : (a ls : List Entry) → IsTrue (list_all (is_loss (losses losing a)) ls) → losses losing (a ++ ls) ≡ losses losing a
-  same_losses a ls h =
-      losses-append losing a ls
-      ∙ (ap (λ l. losses losing a ++ l) (lost_puts (losses losing a) ls h) ∙ append-nil (losses losing a))
+  same_losses a ls h = more_losses a ls (lost_puts (losses losing a) ls h)
+
+  -- Allowed entries, followed by others that are allowed and put no frame on a cable that loses frames.
+  further_played : (t a b : List Entry) → IsPlayed seats losing t a → losses losing b ≡ [] → AreDue seats (t ++ a) b
+      → are_allowed (losses losing a) (t ++ a) b ≡ true → IsPlayed seats losing t (a ++ b)
+  further_played t a b x none due each = record {
+    due = due_append seats t a b x.due due;
+    each =
+        subst (λ ss. IsTrue (are_allowed ss t (a ++ b))) (sym (more_losses a b none)) (allowed_append (losses losing a) t a b x.each each);
+  }
 
   ended_played : (t a ls : List Entry) → IsPlayed seats losing t a → IsTrue (list_all (is_loss (losses losing a)) ls)
       → IsPlayed seats losing t (a ++ ls)
-  ended_played t a ls x h = record {
-    due = due_append seats t a ls x.due (lost_due (t ++ a) (losses losing a) ls h);
-    each =
-        subst (λ ss. IsTrue (list_all (may_be ss) (a ++ ls))) (sym (same_losses a ls h))
-        (list_all-append (may_be (losses losing a)) a ls ∙ both _ _ x.each (lost_may (losses losing a) ls h));
-  }
+  ended_played t a ls x h =
+      further_played t a ls x (lost_puts (losses losing a) ls h) (lost_due (t ++ a) (losses losing a) ls h)
+      (lost_may (losses losing a) (t ++ a) ls h)
+
+  -- Allowed entries, followed by others that end no pair and put no frame on a cable that loses frames.
+  pub calm_after : (t a b : List Entry) → IsPlayed seats losing t a → losses losing b ≡ [] → are_calm (t ++ a) b ≡ true
+      → IsPlayed seats losing t (a ++ b)
+  calm_after t a b x none calm =
+      further_played t a b x none (calm_due (t ++ a) b calm) (calm_may (losses losing a) (t ++ a) b calm)
 
 and_none : (n : ℕ) → n ≡ 0 → 0 + n ≡ 0
 and_none n e = omega (arith, e)
 
-quiet_takes : (es : List Entry) → are_quiet es ≡ true → count is_took es ≡ 0
-quiet_takes [] h = refl
-quiet_takes (Sent s x ∷ es) h = and_none (count is_took es) (quiet_takes es h)
-quiet_takes (Put f ∷ es) h = and_none (count is_took es) (quiet_takes es h)
-quiet_takes (Reached c s w x ∷ es) h = and_none (count is_took es) (quiet_takes es h)
-quiet_takes (Dropped r c x ∷ es) h = and_none (count is_took es) (quiet_takes es h)
-quiet_takes (Took p s ∷ es) h = cc
-quiet_takes (Lost p ∷ es) h = cc
+pub calm_takes : (t es : List Entry) → are_calm t es ≡ true → count is_took es ≡ 0
+calm_takes t [] h = refl
+calm_takes t (Sent s x ∷ es) h = and_none (count is_took es) (calm_takes (t ++ Sent s x ∷ []) es h)
+calm_takes t (Put f ∷ es) h = and_none (count is_took es) (calm_takes (t ++ Put f ∷ []) es h)
+calm_takes t (Reached c s w x ∷ es) h = and_none (count is_took es) (calm_takes (t ++ Reached c s w x ∷ []) es h)
+calm_takes t (Dropped r c x ∷ es) h = and_none (count is_took es) (calm_takes (t ++ Dropped r c x ∷ []) es h)
+calm_takes t (Hold d ∷ es) h = and_none (count is_took es) (calm_takes (t ++ Hold d ∷ []) es h)
+calm_takes t (Lost p ∷ es) h =
+    and_none (count is_took es)
+    (calm_takes (t ++ Lost p ∷ []) es (and_parts (is_open t p) (are_calm (t ++ Lost p ∷ []) es) h).1)
+calm_takes t (Took p s ∷ es) h = cc
 
 lost_takes : (ss : List ℕ) (es : List Entry) → IsTrue (list_all (is_loss ss) es) → count is_took es ≡ 0
 lost_takes ss [] h = refl
@@ -116,6 +143,7 @@ lost_takes ss (Put f ∷ es) h = cc
 lost_takes ss (Reached c s w x ∷ es) h = cc
 lost_takes ss (Dropped r c x ∷ es) h = cc
 lost_takes ss (Took p s ∷ es) h = cc
+lost_takes ss (Hold d ∷ es) h = cc
 
 -- ---- A call before its losses
 
@@ -132,20 +160,20 @@ pub midst_put : (losing : ℕ → Bool) (old mid : Cabling) → Puts old mid →
 midst_put losing old mid x = record {
   added = x.added;
   grown = x.grown;
-  played = quiet_played old.seats losing (transcript old) x.added x.quiet;
-  takes = quiet_takes x.added x.quiet;
+  played = calm_played old.seats losing (transcript old) x.added x.calm;
+  takes = calm_takes (transcript old) x.added x.calm;
   seats = x.seats;
   limit = x.limit;
 }
 
 -- A frame was taken, and further entries end no pair.
 took_played : (seats : List Seat) (losing : ℕ → Bool) (t es : List Entry) (stamp station : ℕ)
-    → AreNumbered 0 (t ++ Took stamp station ∷ es) → IsDueThen seats t (Took stamp station) → are_quiet es ≡ true
-    → IsPlayed seats losing t (Took stamp station ∷ es)
-took_played seats losing t es stamp station numbered due quiet =
+    → ArePutOnce (t ++ Took stamp station ∷ es) → IsDueThen seats t (Took stamp station)
+    → are_calm (t ++ Took stamp station ∷ []) es ≡ true → IsPlayed seats losing t (Took stamp station ∷ es)
+took_played seats losing t es stamp station once due calm =
     played_then seats losing t (Took stamp station ∷ []) es
-    (subst (AreNumbered 0) (sym (append_assoc t (Took stamp station ∷ []) es)) numbered) (record { due = (due, tt); each = refl })
-    (nothing_here (pending seats (t ++ Took stamp station ∷ []))) (quiet_played seats losing (t ++ Took stamp station ∷ []) es quiet)
+    (subst ArePutOnce (sym (append_assoc t (Took stamp station ∷ []) es)) once) (record { due = (due, tt); each = refl })
+    (nothing_here (pending seats (t ++ Took stamp station ∷ []))) (calm_played seats losing (t ++ Took stamp station ∷ []) es calm)
   where
     nothing_here : (ps : List Pair) → not (list_any (λ (p : Pair). is_in [] p.frame.stamp) ps) ≡ true
     nothing_here [] = refl
@@ -158,23 +186,19 @@ named_is c stamp station Hears mid x =
     has_any (is_named stamp station) (pending c.seats (transcript c)) x.pair at
     (both _ _ (eq-eqb stamp x.pair.frame.stamp (sym x.of_stamp)) (eq-eqb station x.pair.seat.station (sym x.of_station)))
 
-pub midst_taken : (losing : ℕ → Bool) (old first mid : Cabling) (stamp station : ℕ) (Hears : Hearing → List Output → Type 0)
-    → AreNumbered 0 (transcript mid) → Takes old first stamp station Hears → Puts first mid → Midst losing 1 old mid
-midst_taken losing old first mid stamp station Hears numbered x y =
-    let es = x.rest ++ y.added in
-    let grown : transcript mid ≡ transcript old ++ Took stamp station ∷ es =
-    y.grown ∙ (ap (λ l. l ++ y.added) x.grown ∙ append_assoc (transcript old) (Took stamp station ∷ x.rest) y.added) in
-    let quiet = quiet-append x.rest y.added x.quiet y.quiet in
-    let none = quiet_takes es quiet in
+pub midst_taken : (losing : ℕ → Bool) (old mid : Cabling) (stamp station : ℕ) (Hears : Hearing → List Output → Type 0)
+    → ArePutOnce (transcript mid) → Takes old mid stamp station Hears → Midst losing 1 old mid
+midst_taken losing old mid stamp station Hears once x =
+    let none = calm_takes (transcript old ++ Took stamp station ∷ []) x.rest x.calm in
     record {
-      added = Took stamp station ∷ es;
-      grown = grown;
+      added = Took stamp station ∷ x.rest;
+      grown = x.grown;
       played =
-          took_played old.seats losing (transcript old) es stamp station (subst (AreNumbered 0) grown numbered)
-          (named_is old stamp station Hears first x) quiet;
+          took_played old.seats losing (transcript old) x.rest stamp station (subst ArePutOnce x.grown once)
+          (named_is old stamp station Hears mid x) x.calm;
       takes = omega (arith, none);
-      seats = y.seats ∙ x.seats;
-      limit = y.limit ∙ x.limit;
+      seats = x.seats;
+      limit = x.limit;
     }
 
 -- ---- The whole call
@@ -262,9 +286,9 @@ plays_kept old new stays e = record {
 }
 
 -- A frame was taken in the call.
-pub taken_by : (old new : Wires) (first mid : Cabling) (ss : List ℕ) (stamp station : ℕ) (Hears : Hearing → List Output → Type 0)
-    → Takes old.cabling first stamp station Hears → Puts first mid → Loses ss mid new.cabling → IsTakenBy old new stamp station Hears
-taken_by old new first mid ss stamp station Hears x y z = record {
+pub taken_by : (old new : Wires) (mid : Cabling) (ss : List ℕ) (stamp station : ℕ) (Hears : Hearing → List Output → Type 0)
+    → Takes old.cabling mid stamp station Hears → Loses ss mid new.cabling → IsTakenBy old new stamp station Hears
+taken_by old new mid ss stamp station Hears x y = record {
   heard = record {
     pair = x.pair;
     was_pending = x.was_pending;
@@ -273,12 +297,8 @@ taken_by old new first mid ss stamp station Hears x y z = record {
     put_out = x.put_out;
     hears = x.hears;
   };
-  rest = (x.rest ++ y.added) ++ z.added;
-  first =
-      z.grown
-      ∙ ap (λ l. l ++ z.added)
-      (y.grown ∙ (ap (λ l. l ++ y.added) x.grown ∙ append_assoc (happened old) (Took stamp station ∷ x.rest) y.added))
-      ∙ append_assoc (happened old) (Took stamp station ∷ (x.rest ++ y.added)) z.added;
+  rest = x.rest ++ y.added;
+  first = y.grown ∙ (ap (λ l. l ++ y.added) x.grown ∙ append_assoc (happened old) (Took stamp station ∷ x.rest) y.added);
 }
 
 -- ---- Outputs

@@ -10,7 +10,7 @@ use Rattle.std.proofs.lemmas.List.{drop-map}
 use Rattle.cable_model.specs.Logs.{Adds, Cabling, entry_at, transcript}
 use Rattle.cable_model.specs.Outcomes.{has_stamp}
 use Rattle.cable_model.specs.Pending.{Pair, pairs, pending}
-use Rattle.cable_model.specs.Transcript.{Entry, Sent, Put, Took, Reached, Dropped, Lost}
+use Rattle.cable_model.specs.Transcript.{Entry, Sent, Put, Took, Reached, Dropped, Lost, Hold}
 use Rattle.cable_model.specs.declared.entry.Entry.{Entry as Line}
 use Rattle.cable_model.specs.declared.entry.Entry.TheVariants as line
 use Rattle.cable_model.specs.declared.seat.Seat.{Seat}
@@ -44,6 +44,7 @@ loss_of xs ys f (Put g ∷ es) h = cc
 loss_of xs ys f (Took p s ∷ es) h = cc
 loss_of xs ys f (Reached c s w x ∷ es) h = cc
 loss_of xs ys f (Dropped r c x ∷ es) h = cc
+loss_of xs ys f (Hold d ∷ es) h = cc
 
 in_rest : (s : ℕ) (ss : List ℕ) (n : ℕ) → is_in ss n ≡ true → is_in (s ∷ ss) n ≡ true
 in_rest s ss n h = by (s == n) h
@@ -110,6 +111,7 @@ pairs_none seats ss (Put g ∷ es) h = cc
 pairs_none seats ss (Took p s ∷ es) h = cc
 pairs_none seats ss (Reached c s w x ∷ es) h = cc
 pairs_none seats ss (Dropped r c x ∷ es) h = cc
+pairs_none seats ss (Hold d ∷ es) h = cc
 
 has_none : {X : Type 0} (xs : List X) (x : X) → xs ≡ [] → Has xs x → ⊥
 has_none [] x e h = let g = h.1 in cc
@@ -203,6 +205,7 @@ losses_of_lines losing kept (line.Took p s ∷ ls) = losses_of_lines losing kept
 losses_of_lines losing kept (line.Reached c s w n ∷ ls) = losses_of_lines losing kept ls
 losses_of_lines losing kept (line.Dropped r c n ∷ ls) = losses_of_lines losing kept ls
 losses_of_lines losing kept (line.Lost p ∷ ls) = losses_of_lines losing kept ls
+losses_of_lines losing kept (line.Hold stamp cable station next n ∷ ls) = losses_of_lines losing kept ls
 losses_of_lines losing kept (line.Put stamp cable sender to kind n ∷ ls) =
     ap (λ l. cond (losing cable) (stamp ∷ l) l) (losses_of_lines losing kept ls)
 
@@ -221,6 +224,7 @@ nothing_lost losing (Took p s ∷ es) h = nothing_lost losing es h
 nothing_lost losing (Reached c s w x ∷ es) h = nothing_lost losing es h
 nothing_lost losing (Dropped r c x ∷ es) h = nothing_lost losing es h
 nothing_lost losing (Lost p ∷ es) h = nothing_lost losing es h
+nothing_lost losing (Hold d ∷ es) h = nothing_lost losing es h
 nothing_lost losing (Put f ∷ es) h =
     let rest = losses (λ k. unwrap_or (slice_get losing k) false) es in
     ap (λ b. cond b (f.stamp ∷ rest) rest) (none_loses losing f.cable h) ∙ nothing_lost losing es h

@@ -1,14 +1,15 @@
 -- Pending pairs after further entries.
-use Rattle.std.proofs.Common.{◌≡◌, ◌⊎◌, inl, inr, ℕ, zero, suc, ◌+◌, ◌<◌, ◌≤◌, Bool, true, false, not, ◌||◌, ◌==◌, cond}
+use Rattle.std.proofs.Common.{◌≡◌, ◌⊎◌, inl, inr, ℕ, zero, suc, Bool, true, false, not, ◌||◌, ◌==◌, cond}
 use Rattle.std.proofs.Common.{List, [], ◌∷◌, ◌++◌}
-use Rattle.std.proofs.Common.{ap, arith, eq-eqb, filter, refl, subst, sym, true≢false, ◌&&◌, ◌∙◌}
+use Rattle.std.proofs.Common.{ap, eq-eqb, filter, refl, subst, sym, true≢false, ◌&&◌, ◌∙◌}
 use Rattle.std.specs.List.{list_any}
 use Rattle.std.proofs.lemmas.Bool.{not-true}
 use Rattle.cable_model.specs.declared.seat.Seat.{Seat}
-use Rattle.cable_model.specs.Pending.{Pair, ends, pairs, pending, was_ended}
-use Rattle.cable_model.specs.Transcript.{AreNumbered, Entry, Lost, is_put, one, stamps}
-use Rattle.cable_model.proofs.Counting.{At, any-append, each_at, filter_at}
-use Rattle.cable_model.proofs.Pairs.{pairs-append, stamps_below, stamps_from}
+use Rattle.cable_model.specs.Pending.{Pair, ends, pairs, pairs_of, pending, was_ended}
+use Rattle.cable_model.specs.Transcript.{ArePutOnce, Entry, Sent, Put, Took, Reached, Dropped, Lost, Hold, has_put}
+use Rattle.cable_model.proofs.Counting.{At, any-append, each_all, each_at, each_map, filter_at}
+use Rattle.cable_model.proofs.Pairs.{pairs-append}
+use Rattle.cable_model.proofs.Stamps.{once_apart}
 
 -- ---- Tests and elements
 
@@ -77,30 +78,49 @@ has_kept t xs x h e = at xs h.0 h.1
         by true g = (suc g.0, g.1)
         by false g = g
 
--- ---- Numbers
-
-pub numbered_front : (k : ℕ) (es fs : List Entry) → AreNumbered k (es ++ fs) → AreNumbered k es
-numbered_front k [] fs h = tt
-numbered_front k (e ∷ es) fs h = (h.0, numbered_front (one (is_put e) + k) es fs h.1)
-
-pub numbered_back : (k : ℕ) (es fs : List Entry) → AreNumbered k (es ++ fs) → AreNumbered (k + stamps es) fs
-numbered_back k [] fs h = subst (λ n. AreNumbered n fs) (omega arith) h
-numbered_back k (e ∷ es) fs h =
-    subst (λ n. AreNumbered n fs) (omega arith) (numbered_back (one (is_put e) + k) es fs h.1)
-
 -- ---- Pending pairs
+
+pub or_first : (a b : Bool) → a ≡ true → (a || b) ≡ true
+or_first true b e = refl
+or_first false b e = cc
+
+pub or_second : (a b : Bool) → b ≡ true → (a || b) ≡ true
+or_second true b e = refl
+or_second false b e = e
 
 either_false : (a b : Bool) → (a || b) ≡ false → (a ≡ false) × (b ≡ false)
 either_false true b e = cc
 either_false false b e = (refl, e)
 
 module _ (seats : List Seat) where
-  -- A pending pair has the stamp of a frame that was put.
-  pub pending_below : (t : List Entry) (p : Pair) → AreNumbered 0 t → Has (pending seats t) p → p.frame.stamp < stamps t
-  pending_below t p n h =
+  -- The frame of a pair was put.
+  pub put_of_pair : (es : List Entry) (p : Pair) → Has (pairs seats es) p → list_any (has_put p.frame.stamp) es ≡ true
+  put_of_pair [] p h = let g = h.1 in cc
+  put_of_pair (e ∷ es) p h = on (has_one_of (pairs_of seats e) (pairs seats es) p h) (put_of_pair es p)
+    where
+      here : (e : Entry) → Has (pairs_of seats e) p → has_put p.frame.stamp e ≡ true
+      here (Put f) g =
+          each_at (λ (p : Pair). has_put p.frame.stamp (Put f) ≡ true) (pairs_of seats (Put f)) g.0 p g.1
+          (each_map (λ (p : Pair). has_put p.frame.stamp (Put f) ≡ true) (λ s. record { frame = f; seat = s }) _
+          (each_all _ _ (λ s. eq-eqb f.stamp f.stamp refl)))
+      here (Sent s x) g = let a = g.1 in cc
+      here (Took q s) g = let a = g.1 in cc
+      here (Reached c s w x) g = let a = g.1 in cc
+      here (Dropped r c x) g = let a = g.1 in cc
+      here (Lost q) g = let a = g.1 in cc
+      here (Hold d) g = let a = g.1 in cc
+
+      on : Has (pairs_of seats e) p ⊎ Has (pairs seats es) p
+          → (Has (pairs seats es) p → list_any (has_put p.frame.stamp) es ≡ true)
+          → (has_put p.frame.stamp e || list_any (has_put p.frame.stamp) es) ≡ true
+      on (inl g) rest = or_first (has_put p.frame.stamp e) (list_any (has_put p.frame.stamp) es) (here e g)
+      on (inr g) rest = or_second (has_put p.frame.stamp e) (list_any (has_put p.frame.stamp) es) (rest g)
+
+  -- The frame of a pending pair was put.
+  pub put_of_pending : (t : List Entry) (p : Pair) → Has (pending seats t) p → list_any (has_put p.frame.stamp) t ≡ true
+  put_of_pending t p h =
       let w = filter_at (λ p. not (was_ended t p)) (pairs seats t) h.0 p h.1 in
-      let s = each_at (λ (p : Pair). p.frame.stamp < 0 + stamps t) (pairs seats t) w.0 p w.1 (stamps_below seats 0 t n) in
-      omega (arith, s)
+      put_of_pair t p (w.0, w.1)
 
   -- A pair that is pending later and wasn't put since was pending before.
   pub pending_since : (t b : List Entry) (p : Pair) → (Has (pairs seats b) p → ⊥) → Has (pending seats (t ++ b)) p → Has (pending seats t) p
@@ -114,14 +134,10 @@ module _ (seats : List Seat) where
       on (inr g) e = absurd (new g)
 
   -- A pending pair whose frame was put before was pending before.
-  pub pending_before : (t b : List Entry) (p : Pair) → AreNumbered 0 (t ++ b) → p.frame.stamp < stamps t
+  pub pending_before : (t b : List Entry) (p : Pair) → ArePutOnce (t ++ b) → list_any (has_put p.frame.stamp) t ≡ true
       → Has (pending seats (t ++ b)) p → Has (pending seats t) p
-  pending_before t b p n less h =
-      pending_since t b p
-      (λ g.
-      let s = each_at (λ (p : Pair). 0 + stamps t ≤ p.frame.stamp) (pairs seats b) g.0 p g.1
-      (stamps_from seats (0 + stamps t) b (numbered_back 0 t b n)) in
-      absurd (omega (arith, s, less))) h
+  pending_before t b p once there h =
+      pending_since t b p (λ g. true≢false (sym (put_of_pair b p g) ∙ once_apart p.frame.stamp t b once there)) h
 
   -- A frame that is lost isn't pending for any station, whatever follows.
   pub lost_ends : (t b : List Entry) (stamp : ℕ) (p : Pair) → p.frame.stamp ≡ stamp

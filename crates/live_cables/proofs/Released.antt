@@ -1,21 +1,24 @@
 -- The datagrams for an address, as they are released one by one.
-use Rattle.std.proofs.Common.{◌≡◌, ℕ, suc, ◌+◌, ◌<◌, ◌≤◌, Bool, true, false, List, [], ◌∷◌, length, filter, Option}
-use Rattle.std.proofs.Common.{Some, None, Result, Ok, Err, ◌⊎◌, inl, inr, get_or, refl, sym, ap, ◌∙◌, arith}
-use Rattle.std.specs.Prelude.{OnOk, cond, nat_lt, not, option_and_then, slice_get, slice_set}
+use Rattle.std.proofs.Common.{◌≡◌, ℕ, zero, suc, ◌+◌, ◌<◌, ◌≤◌, Bool, true, false, ◌&&◌, List, [], ◌∷◌, length, filter, Option}
+use Rattle.std.proofs.Common.{Some, None, Result, Ok, Err, ◌⊎◌, inl, inr, get_or, refl, sym, ap, ◌∙◌, append-nil, arith, subst}
+use Rattle.std.specs.Prelude.{◌↔◌, Contains, IsOkUnless, OnErr, OnOk, cond, nat_lt, not, option_and_then, slice_get}
 use Rattle.std.specs.List.{position, position_or_len, remove}
 use Rattle.std.specs.Option.{option_map_or}
 use Rattle.std.proofs.lemmas.Bool.{ltb-true, ltb-false}
 use Rattle.std.proofs.lemmas.Option.{slice_get_cases}
-use Rattle.aarp.specs.Mapping.{Mappings, is_for, learnt, released, without_oldest}
+use Rattle.aarp.specs.Mapping.{is_for, released, without_oldest}
 use Rattle.aarp.specs.declared.held.Held.{Held}
 use Rattle.at_base.specs.declared.address.Addr.{Addr}
 use Rattle.at_base.specs.declared.address.Hw.{Hw}
 use Rattle.at_base.specs.declared.error.Error.{Error}
-use Rattle.cable_model.specs.Logs.{Cabling}
-use Rattle.cable_model.specs.declared.seat.Seat.{Seat}
-use Rattle.live_cables.specs.Putting.{ArePut, IsLearntBy, IsPut}
-use Rattle.live_cables.specs.declared.answer.Answer.{Answer}
-use Rattle.station.specs.declared.heard.Kind.TheVariants.{Ddp}
+use Rattle.at_base.specs.declared.error.Error.TheVariants.{NotPending}
+use Rattle.cable_model.specs.Holdings.{is_open, released_frame, still_held}
+use Rattle.cable_model.specs.Logs.{Adds, Cabling, transcript}
+use Rattle.cable_model.specs.Outgoing.{let_go, losses}
+use Rattle.cable_model.specs.Transcript.{Entry, Holding, Lost, Put}
+use Rattle.live_cables.specs.Holding.{AreShed, IsReleased}
+use Rattle.live_cables.specs.Steps.{Puts}
+use Rattle.live_cables.proofs.Calm.{puts_of, puts_same}
 
 -- No element passes.
 none_pass : {X : Type 0} (p : X → Bool) (xs : List X) → length xs ≤ position_or_len p xs → filter p xs ≡ []
@@ -111,31 +114,81 @@ others_left a xs h e = found_at (is_for a) xs
     → filter (λ h. not (is_for a h)) (option_map_or (remove xs) o xs) ≡ filter (λ h. not (is_for a h)) xs)
     (λ n u. absurd cc) (λ x t n. others_stay (is_for a) xs h n) e
 
--- ---- Putting the released datagrams
+pub fewer_left : (a : Addr) (xs : List Held) (h : Held) → released a xs ≡ Some h
+    → length (without_oldest a xs) < length xs
+fewer_left a xs h e = found_at (is_for a) xs
+    (λ o. option_and_then (slice_get xs) o ≡ Some h → length (option_map_or (remove xs) o xs) < length xs)
+    (λ n u. absurd cc) (λ x t n. removed_fewer xs (position_or_len (is_for a) xs) h n) e
+  where
+    removed_fewer : {X : Type 0} (xs : List X) (i : ℕ) (x : X) → slice_get xs i ≡ Some x → length (remove xs i) < length xs
+    removed_fewer [] i x e = absurd cc
+    removed_fewer (y ∷ ys) zero x e = omega arith
+    removed_fewer (y ∷ ys) (suc i) x e = let less = removed_fewer ys i x e in omega (arith, less)
 
-pub put_first : (s : Seat) (to : Hw) (h : Held) (more all : List Held) (a b c : Cabling) (r : Result (Unit {0}) Error)
-    → all ≡ h ∷ more → IsPut s to Ddp h.bytes a b → OnOk r (ArePut s to more b c) → OnOk r (ArePut s to all a c)
-put_first s to h more all a b c (Ok u) e first rest = rw e (b, first, rest)
-put_first s to h more all a b c (Err x) e first rest = rest
+-- ---- Putting and giving up the released datagrams
 
-pub left_then : (n : Mappings) (more all : List Held) (known before : List (Addr × Hw)) (r : Result (Unit {0}) Error)
-    → more ≡ all → known ≡ before → OnOk r (n ≡ record { known = known; held = more }) → OnOk r (n ≡ record { known = before; held = all })
-left_then n more all known before (Ok u) e k is = rw (← e) (rw (← k) is)
-left_then n more all known before (Err x) e k is = is
+pub adds_none : (c : Cabling) → Adds c c []
+adds_none c = record {
+  seats = refl;
+  limit = refl;
+  rooms = refl;
+  added = sym (append-nil (transcript c));
+  further = ([], sym (append-nil c.lines));
+  kept = ([], sym (append-nil c.kept));
+}
 
--- ---- Learning a mapping
+pub adds_same : (a b : Cabling) → b ≡ a → Adds a b []
+adds_same a b e = subst (λ c. Adds a c []) (sym e) (adds_none a)
 
-pub learnt_by : (seats : List Seat) (o : Option ℕ) (i : ℕ) (s : Seat) (m m1 m2 : Mappings) (answer : Answer) (a b : Cabling)
-    (maps : List Mappings) (r : Result (Unit {0}) Error) → o ≡ Some i → slice_get seats i ≡ Some s → slice_get maps i ≡ Some m
-    → m1 ≡ record { known = learnt answer.source answer.source_hw m.known; held = m.held }
-    → OnOk r (ArePut s answer.source_hw (filter (is_for answer.source) m1.held) a b)
-    → OnOk r (m2 ≡ record { known = m1.known; held = filter (λ h. not (is_for answer.source h)) m1.held })
-    → OnOk r (IsLearntBy seats o answer (a, maps) (b, slice_set maps i m2))
-learnt_by seats o i s m m1 m2 answer a b maps (Err x) index seat there known put left = put
-learnt_by seats o i s m m1 m2 answer a b maps (Ok u) index seat there known put left =
-    let held = ap (λ n. n.held) known in
-    let same : m2 ≡ record {
-      known = learnt answer.source answer.source_hw m.known;
-      held = filter (λ h. not (is_for answer.source h)) m.held;
-    } = left ∙ ap (λ n. record { known = n.known; held = filter (λ h. not (is_for answer.source h)) n.held }) known in
-    rw index (rw seat (rw there (rw (← held) put, ap (slice_set maps i) same)))
+-- A datagram with a stamp was put, or none was held with it.
+pub put_by : (hw : Hw) (stamp : ℕ) (a b : Cabling) (r : Result (Unit {0}) Error)
+    → OnOk r ((h : Holding) × Contains (still_held (transcript a)) h × (h.stamp ≡ stamp) × Adds a b (Put (released_frame h hw) ∷ []))
+    → (r ≡ Err NotPending ↔ (is_open (transcript a) stamp ≡ false)) → IsOkUnless r NotPending → OnErr r (b ≡ a)
+    → IsReleased hw (Some stamp) a b
+put_by hw stamp a b (Ok u) ok iff refused kept = inl ok
+put_by hw stamp a b (Err e) ok iff refused kept = inr (iff.0 (ap Err refused), adds_same a b kept)
+
+pub spare_by : (a b : Cabling) (r : Result (Unit {0}) Error) → OnOk r (b.spare + 1 ≡ a.spare) → OnErr r (b ≡ a) → a.spare ≤ b.spare + 1
+spare_by a b (Ok u) ok kept = omega (arith, ok)
+spare_by a b (Err e) ok kept = let same = ap (λ (c : Cabling). c.spare) kept in omega (arith, same)
+
+-- A datagram with a stamp was given up, or none was held with it.
+pub shed_by : (stamp : ℕ) (a b : Cabling) (r : Result (Unit {0}) Error) → OnOk r (Adds a b (Lost stamp ∷ []))
+    → (r ≡ Err NotPending ↔ (is_open (transcript a) stamp ≡ false)) → IsOkUnless r NotPending → OnErr r (b ≡ a)
+    → Adds a b (let_go (transcript a) (Some stamp))
+shed_by stamp a b (Ok u) ok iff refused kept =
+    (elim (is_open (transcript a) stamp) as (λ o. is_open (transcript a) stamp ≡ o → Adds a b (losses (cond o (Some stamp) None))) [
+      | true ↦ λ e. ok
+      | false ↦ λ e. absurd (let no = iff.1 e in cc)
+    ]) refl
+shed_by stamp a b (Err x) ok iff refused kept =
+    let shut = iff.0 (ap Err refused) in rw shut (adds_same a b kept)
+
+-- Room that is made beforehand makes no difference.
+adds_from : (a b : Cabling) (n : ℕ) (es : List Entry) → Adds (record a { spare = n }) b es → Adds a b es
+adds_from a b n es x =
+    record { seats = x.seats; limit = x.limit; rooms = x.rooms; added = x.added; further = x.further; kept = x.kept }
+
+pub shed_from : (stamps : List ℕ) (a mid b : Cabling) (n : ℕ) → mid ≡ record a { spare = n } → AreShed stamps mid b
+    → AreShed stamps a b
+shed_from [] a mid b n e x = adds_from a b n [] (subst (λ c. Adds c b []) e x)
+shed_from (s ∷ ss) a mid b n e (next, x, y) =
+    (next, adds_from a next n _ (subst (λ c. Adds c next (let_go (transcript c) (Some s))) e x), y)
+
+-- ---- Their entries end no pair
+
+pub put_calm : (hw : Hw) (stamp : ℕ) (a b : Cabling) (r : Result (Unit {0}) Error)
+    → OnOk r ((h : Holding) × Contains (still_held (transcript a)) h × (h.stamp ≡ stamp) × Adds a b (Put (released_frame h hw) ∷ []))
+    → OnErr r (b ≡ a) → Puts a b
+put_calm hw stamp a b (Ok u) (h, there, of_stamp, adds) kept = puts_of a b (Put (released_frame h hw) ∷ []) adds refl
+put_calm hw stamp a b (Err e) ok kept = puts_same a b kept
+
+pub shed_calm : (stamp : ℕ) (a b : Cabling) (r : Result (Unit {0}) Error) → OnOk r (Adds a b (Lost stamp ∷ []))
+    → (r ≡ Err NotPending ↔ (is_open (transcript a) stamp ≡ false)) → OnErr r (b ≡ a) → Puts a b
+shed_calm stamp a b (Ok u) ok iff kept =
+    puts_of a b (Lost stamp ∷ []) ok (ap (λ o. o && true) (not_shut (is_open (transcript a) stamp) (λ e. absurd (let no = iff.1 e in cc))))
+  where
+    not_shut : (o : Bool) → (o ≡ false → o ≡ true) → o ≡ true
+    not_shut true h = refl
+    not_shut false h = h refl
+shed_calm stamp a b (Err x) ok iff kept = puts_same a b kept

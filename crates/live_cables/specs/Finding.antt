@@ -11,6 +11,7 @@ use Rattle.at_base.specs.Address.{same_address}
 use Rattle.at_base.specs.Range.{Span, is_between}
 use Rattle.at_base.specs.declared.address.Addr.{Addr}
 use Rattle.at_base.specs.declared.address.Hw.{Hw}
+use Rattle.cable_model.specs.Outcomes.{Places}
 use Rattle.cable_model.specs.declared.resolve.Found.{Found}
 use Rattle.cable_model.specs.declared.resolve.Found.TheVariants.{At, Later}
 use Rattle.cable_model.specs.declared.seat.Seat.{Seat}
@@ -19,6 +20,15 @@ use Rattle.station.specs.Hearing.{Hearing}
 use Rattle.station.specs.Resolution.{packet_at}
 use Rattle.station.specs.declared.heard.Kind.{Kind}
 use Rattle.station.specs.declared.heard.Kind.TheVariants.{Ddp, Aarp}
+
+-- What one station knows of the others, with what all of them know: the station; the seats; for each seat its settled
+-- address, if it has one, and its mappings; and the ranges of the cables.
+pub record Knowing : Type 0 where
+  pub station : ℕ
+  pub seats : List Seat
+  pub own : List (Option Addr)
+  pub maps : List Mappings
+  pub ranges : List Span
 
 -- The index of a station's seat on a cable.
 abbrev pub seat_on : List Seat → ℕ → ℕ → Option ℕ
@@ -102,3 +112,10 @@ is_first_for maps k a = of (slice_get maps k)
     of : Option Mappings → Bool
     of None = false
     of (Some m) = not (list_any (is_for a) m.held)
+
+-- A station's knowledge of others, by its seats' mappings, and which networks have a range.
+abbrev pub places_of : Knowing → Places
+places_of k = record {
+  finds = λ cable a. found_at k.seats k.own k.maps (seat_on k.seats cable k.station) a;
+  lists = λ net. is_listed k.ranges net;
+}

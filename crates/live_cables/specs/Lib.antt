@@ -3,3 +3,5 @@ pub mod Living
 pub mod Finding
 pub mod Steps
 pub mod Putting
+pub mod Holding
+pub mod Taking

@@ -1,18 +1,19 @@
 -- The contents of live cables.
 use Rattle.std.specs.Prelude.{Bool, Contains, IsTrue, List, Option, false, length, slice_get, ℕ, ◌++◌, ◌∷◌, ◌≡◌}
 use Rattle.std.specs.Option.{unwrap_or}
-use Rattle.aarp.specs.Mapping.{Mappings, to_ask}
+use Rattle.aarp.specs.Mapping.{Mappings, shed, to_ask}
 use Rattle.at_base.specs.Range.{Span}
 use Rattle.at_base.specs.declared.address.Addr.{Addr}
 use Rattle.cable_model.specs.Logs.{Cabling, transcript}
-use Rattle.cable_model.specs.Outcomes.{IsTaken, heard_by}
+use Rattle.cable_model.specs.Outcomes.{heard_by}
 use Rattle.cable_model.specs.Pending.{Pair, pending}
 use Rattle.cable_model.specs.Transcript.{Entry, Took, count}
-use Rattle.live_cables.specs.Finding.{held_at as held_in}
+use Rattle.live_cables.specs.Finding.{Knowing, held_at as held_in}
+use Rattle.live_cables.specs.Holding.{AreShed, with_tick}
 use Rattle.live_cables.specs.Playing.{IsPlayed, are_lost, is_took}
-use Rattle.live_cables.specs.Putting.{AreAsked, AreGiven, IsAnswer, IsFollowed, places_of, with_tick}
+use Rattle.live_cables.specs.Putting.{AreAsked, AreGiven}
 use Rattle.live_cables.specs.Steps.{Loses, losses_since}
-use Rattle.live_cables.specs.declared.answer.Answer.{Answer}
+use Rattle.live_cables.specs.Taking.{IsTakenIn}
 use Rattle.station.specs.Hearing.{Hearing}
 use Rattle.station.specs.declared.output.Output.{Output}
 
@@ -73,32 +74,36 @@ pub record IsTakenBy (old new : Wires) (stamp station : ℕ) (Hears : Hearing �
   pub rest : List Entry
   pub first : happened new ≡ happened old ++ Took stamp station ∷ rest
 
+-- What a station knows.
+abbrev pub knowing : Wires → ℕ → Knowing
+knowing w station =
+    record { station = station; seats = w.cabling.seats; own = w.own; maps = w.maps; ranges = w.ranges }
+
 -- A station's outputs were sent, and then only losses were added, of frames that this call put on cables that lose
 -- frames.
 abbrev pub GivesOut : ℕ → List Output → Wires → Wires → Type 0
 GivesOut station outputs old new =
-    (mid : Cabling × List Mappings)
-    × AreGiven old.cabling.seats old.own old.ranges station outputs (old.cabling, old.maps) mid
-    × Loses (losses_since old.losing (length old.cabling.lines) mid.0) mid.0 new.cabling × (new.maps ≡ mid.1)
+    (mid : Cabling × Knowing)
+    × AreGiven station outputs (old.cabling, knowing old station) mid
+    × Loses (losses_since old.losing (length old.cabling.lines) mid.0) mid.0 new.cabling × (new.maps ≡ mid.1.maps)
     × Stays old new
 
--- A station took a frame, resolving addresses by its own mappings, and its outputs were sent; then the waiting
--- datagrams were held, and the mapping of an AARP response was learnt; then only losses were added, of frames that this
--- call put on cables that lose frames.
+-- A station took a frame, resolving addresses by its own mappings, and its outputs were sent, or held; then the mapping of
+-- an AARP response was learnt, and the datagrams that were held for it were put; then only losses were added, of frames
+-- that this call put on cables that lose frames.
 abbrev pub TakesIn : ℕ → ℕ → ℕ → (Hearing → List Output → Type 0) → Wires → Wires → Type 0
 TakesIn stamp station ports Hears old new =
-    (taken : Cabling)
-    × IsTaken (places_of old.cabling.seats old.own old.maps old.ranges station) ports old.cabling taken stamp station Hears
-    × (answer : Option Answer) × IsAnswer old.cabling stamp station answer
-    × (mid : Cabling × List Mappings) × IsFollowed old.cabling.seats old.own station answer (taken, old.maps) mid
-    × Loses (losses_since old.losing (length old.cabling.lines) mid.0) mid.0 new.cabling × (new.maps ≡ mid.1)
+    (mid : Cabling × Knowing)
+    × IsTakenIn stamp station ports Hears (old.cabling, knowing old station) mid
+    × Loses (losses_since old.losing (length old.cabling.lines) mid.0) mid.0 new.cabling × (new.maps ≡ mid.1.maps)
     × Stays old new
 
--- The mappings of a seat advanced by a tick, and AARP requests were sent again; then only losses were added, of frames
--- that this call put on cables that lose frames.
+-- The mappings of a seat advanced by a tick, and AARP requests were sent again; then losses were added, of frames that this
+-- call put on cables that lose frames; and then the datagrams that the tick gives up were lost.
 abbrev pub PassesFor : ℕ → Wires → Wires → Type 0
 PassesFor seat old new =
     (asked : Cabling)
     × AreAsked (slice_get old.cabling.seats seat) (slice_get old.own seat) (to_ask (held_in old.maps seat)) old.cabling asked
-    × Loses (losses_since old.losing (length old.cabling.lines) asked) asked new.cabling × (new.maps ≡ with_tick old.maps seat)
+    × (lost : Cabling) × Loses (losses_since old.losing (length old.cabling.lines) asked) asked lost
+    × AreShed (shed (held_in old.maps seat)) lost new.cabling × (new.maps ≡ with_tick old.maps seat)
     × Stays old new

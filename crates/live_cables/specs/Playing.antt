@@ -1,7 +1,8 @@
 -- The entries that are allowed on cables where frames are lost.
-use Rattle.std.specs.Prelude.{ℕ, Bool, true, false, not, ◌==◌, cond, IsTrue, List, [], ◌∷◌, ◌++◌}
-use Rattle.std.specs.List.{list_all, list_any}
+use Rattle.std.specs.Prelude.{ℕ, Bool, true, false, not, ◌==◌, ◌&&◌, ◌||◌, cond, IsTrue, List, [], ◌∷◌, ◌++◌}
+use Rattle.std.specs.List.{list_any}
 use Rattle.cable_model.specs.declared.seat.Seat.{Seat}
+use Rattle.cable_model.specs.Holdings.{is_open}
 use Rattle.cable_model.specs.Outcomes.{is_named}
 use Rattle.cable_model.specs.Pending.{pending}
 use Rattle.cable_model.specs.Transcript.{Entry, Put, Took, Lost}
@@ -26,17 +27,22 @@ losses losing (e ∷ es) = losses losing es
 abbrev pub is_in : List ℕ → ℕ → Bool
 is_in stamps stamp = list_any (λ s. s == stamp) stamps
 
--- The entry takes none of these frames, and loses no other frame.
-abbrev pub may_be : List ℕ → Entry → Bool
-may_be lost (Took stamp station) = not (is_in lost stamp)
-may_be lost (Lost stamp) = is_in lost stamp
-may_be lost _ = true
+-- The entry takes none of these frames, and loses one of them at most, or a datagram that is held.
+abbrev pub may_be : List ℕ → List Entry → Entry → Bool
+may_be lost before (Took stamp station) = not (is_in lost stamp)
+may_be lost before (Lost stamp) = is_in lost stamp || is_open before stamp
+may_be lost before _ = true
+
+-- Each of these entries may be added after those before it.
+abbrev pub are_allowed : List ℕ → List Entry → List Entry → Bool
+are_allowed lost before [] = true
+are_allowed lost before (e ∷ es) = may_be lost before e && are_allowed lost (before ++ e ∷ []) es
 
 -- Entries may be added while these cables lose frames: each frame that was taken was pending for its station and wasn't
--- put on such a cable, and only frames that were put on such a cable were lost.
+-- put on such a cable; only frames that were put on such a cable were lost, and datagrams that were held.
 pub record IsPlayed (seats : List Seat) (losing : ℕ → Bool) (before added : List Entry) : Type 0 where
   pub due : AreDue seats before added
-  pub each : IsTrue (list_all (may_be (losses losing added)) added)
+  pub each : IsTrue (are_allowed (losses losing added) before added)
 
 -- No frame that was put on a cable that loses frames is pending for any station.
 abbrev pub are_lost : List Seat → (ℕ → Bool) → List Entry → List Entry → Bool

@@ -1,8 +1,9 @@
 -- The steps of one call on live cables.
-use Rattle.std.specs.Prelude.{◌≡◌, ◌⊎◌, ◌<◌, ◌+◌, ℕ, Bool, true, false, not, cond, drop, length, slice_get, Contains}
+use Rattle.std.specs.Prelude.{◌≡◌, ◌⊎◌, ◌<◌, ◌+◌, ℕ, Bool, true, false, not, ◌&&◌, cond, drop, length, slice_get, Contains}
 use Rattle.std.specs.Prelude.{IsTrue, List, [], ◌∷◌, ◌++◌}
-use Rattle.std.specs.List.{list_all, list_any}
+use Rattle.std.specs.List.{list_any}
 use Rattle.std.specs.Option.{unwrap_or}
+use Rattle.cable_model.specs.Holdings.{is_open}
 use Rattle.cable_model.specs.Logs.{Cabling, transcript}
 use Rattle.cable_model.specs.Outcomes.{heard_by}
 use Rattle.cable_model.specs.Pending.{Pair, pending}
@@ -19,17 +20,22 @@ use Rattle.station.specs.declared.output.Output.TheVariants.{Made}
 abbrev pub HasNoRoom : ℕ → Cabling → Type 0
 HasNoRoom more c = c.limit < length c.lines + more
 
--- The entry ends no pair.
-abbrev pub is_quiet : Entry → Bool
-is_quiet (Took stamp station) = false
-is_quiet (Lost stamp) = false
-is_quiet _ = true
+-- The entry ends no pair: it takes no frame, and loses at most a datagram that is held.
+abbrev pub is_calm : List Entry → Entry → Bool
+is_calm before (Took stamp station) = false
+is_calm before (Lost stamp) = is_open before stamp
+is_calm before _ = true
+
+-- The entries end no pairs.
+abbrev pub are_calm : List Entry → List Entry → Bool
+are_calm before [] = true
+are_calm before (e ∷ es) = is_calm before e && are_calm (before ++ e ∷ []) es
 
 -- Entries were added that end no pair; the seats and the limit stay the same.
 pub record Puts (old new : Cabling) : Type 0 where
   pub added : List Entry
   pub grown : transcript new ≡ transcript old ++ added
-  pub quiet : IsTrue (list_all is_quiet added)
+  pub calm : IsTrue (are_calm (transcript old) added)
   pub seats : new.seats ≡ old.seats
   pub limit : new.limit ≡ old.limit
 
@@ -87,6 +93,6 @@ pub record Takes (old new : Cabling) (stamp station : ℕ) (Hears : Hearing → 
   pub hears : Hears (heard_by pair) put_out
   pub rest : List Entry
   pub grown : transcript new ≡ transcript old ++ Took stamp station ∷ rest
-  pub quiet : IsTrue (list_all is_quiet rest)
+  pub calm : IsTrue (are_calm (transcript old ++ Took stamp station ∷ []) rest)
   pub seats : new.seats ≡ old.seats
   pub limit : new.limit ≡ old.limit

@@ -7,10 +7,9 @@ mod holding;
 mod laws;
 mod live;
 mod losing;
+mod neighbours;
 mod passing;
-mod ports;
 mod putting;
-mod resolver;
 mod taking;
 
 pub use laws::{losses_then, nothing_plays, plays_then};

@@ -11,7 +11,7 @@ ghost use Rattle.cable_model.specs.Logs.{bytes_at};
 ghost use Rattle.cable_model.specs.Outcomes.{AreSeatsOf, IsLeast, is_named};
 ghost use Rattle.cable_model.specs.Pending as pending_spec;
 ghost use Rattle.cable_model.specs.Rooms.{held_rooms};
-ghost use Rattle.cable_model.specs.Transcript.{AreNumbered};
+ghost use Rattle.cable_model.specs.Transcript.{ArePutOnce};
 ghost use Rattle.live_cables.specs.Finding.{held_at};
 ghost use Rattle.live_cables.specs.Living.{GivesOut, IsTakenBy, PassesFor, Plays, PlaysOn};
 ghost use Rattle.live_cables.specs.Living.{TakesIn, happened};
@@ -19,14 +19,14 @@ ghost use Rattle.live_cables.specs.Steps.{HasNoRoom};
 ghost use Rattle.station.specs.Lawful.{AreLawful};
 
 use crate::giving::give_all;
+use crate::holding::shed_all;
 use crate::losing::lose_from;
-use crate::passing::{ask_all, tick};
-use crate::ports::Ports;
-use crate::resolver::Resolver;
-use crate::taking::{answer_of, follow, take};
-use aarp::{Addresses, Mapper};
+use crate::neighbours::Neighbours;
+use crate::passing::ask_all;
+use crate::taking::take;
+use aarp::Addresses;
 use at_base::{Addr, Error, Range};
-use cable_model::{Cables, Entry, Rooms, Seat, Seats};
+use cable_model::{Cables, Entry, Rooms, Seat};
 use station::{Outputs, Station as Taker};
 use std::alloc::Global;
 use std::marker::Model;
@@ -35,9 +35,7 @@ use std::marker::Model;
 #[derive(Drop)]
 pub struct LiveCables {
     cables: Cables,
-    ports: Ports,
-    // The mappings of each seat, in the order of the seats.
-    mappers: Vec<Mapper>,
+    near: Neighbours,
     // Whether each cable loses the frames that are put on it in this tick.
     losing: Vec<bool>,
     alloc: Global,
@@ -45,57 +43,32 @@ pub struct LiveCables {
 
 impl Model for LiveCables {
     ghost use Rattle.std.specs.Prelude.{◌≡◌, length};
+    ghost use Rattle.cable_model.specs.Rooms.{held_rooms};
+    ghost use Rattle.live_cables.specs.Holding.{AreFew};
     ghost use Rattle.live_cables.specs.Living.{Wires};
 
     ghost Value = { Wires };
 
     ghost view = { λ c. record {
       cabling = c.cables;
-      own = c.ports.own.items;
-      maps = c.mappers.items;
-      ranges = c.ports.ranges.items;
+      own = c.near.own;
+      maps = c.near.maps;
+      ranges = c.near.ranges;
       losing = c.losing.items;
     } };
 
-    ghost invariant = { λ c. (c.ports.seats ≡ c.cables.seats)
-        × (length c.ports.own.items ≡ length c.cables.seats)
-        × (length c.mappers.items ≡ length c.cables.seats) };
+    ghost invariant = { λ c. (c.near.seats ≡ c.cables.seats)
+        × (length c.near.own ≡ length c.cables.seats)
+        × (length c.near.maps ≡ length c.cables.seats)
+        × (c.cables.rooms ≡ held_rooms)
+        × AreFew c.near.maps };
 }
 
-/// A fact for the prover: frames are numbered from 0. Does nothing.
-fn recall_numbered(cables: &Cables)
-    ensures { AreNumbered 0 (logs_spec.transcript cables.now) }
+/// A fact for the prover: no two frames have the same stamp. Does nothing.
+fn recall_once(cables: &Cables)
+    ensures { ArePutOnce (logs_spec.transcript cables.now) }
 {
     let _len = cables.transcript().len();
-}
-
-/// Adds empty mappings for each of these seats. Error: `Memory`.
-fn add_mappers(alloc: Global, mappers: &mut Vec<Mapper>, seats: &[Seat]) -> Result<(), Error>
-    ensures ok { OnOk result (mappers.new.items
-        ≡ mappers.old.items ++ map (λ s. record { known = []; held = [] }) seats.now) }
-    ensures refused { IsOkUnless result Error.Memory }
-{
-    match seats {
-        [] => Ok(()),
-        [_, rest @ ..] => {
-            mappers.push(Mapper::new(alloc)?)?;
-            add_mappers(alloc, mappers, rest)
-        }
-    }
-}
-
-/// Adds an unsettled address for each of these seats. Error: `Memory`.
-fn add_unsettled(own: &mut Vec<Option<Addr>>, seats: &[Seat]) -> Result<(), Error>
-    ensures ok { OnOk result (own.new.items ≡ own.old.items ++ map (λ s. None) seats.now) }
-    ensures refused { IsOkUnless result Error.Memory }
-{
-    match seats {
-        [] => Ok(()),
-        [_, rest @ ..] => {
-            own.push(None)?;
-            add_unsettled(own, rest)
-        }
-    }
 }
 
 impl LiveCables {
@@ -116,7 +89,7 @@ impl LiveCables {
             rooms = held_rooms;
             lines = [];
             kept = [];
-            waiting = [];
+            spare = 0;
           };
           own = map (λ s. None) seats.now;
           maps = map (λ s. record { known = []; held = [] }) seats.now;
@@ -126,18 +99,9 @@ impl LiveCables {
         ensures refused { IsOkUnless result Error.Memory }
     {
         let cables = Cables::new(alloc, seats, limit, Rooms::HELD)?;
-        let mut own = Vec::new(alloc);
-        add_unsettled(&mut own, seats)?;
-        let mut mappers = Vec::new(alloc);
-        add_mappers(alloc, &mut mappers, seats)?;
         Ok(LiveCables {
             cables,
-            ports: Ports {
-                seats: Seats::of(alloc, seats)?,
-                own,
-                ranges: Vec::from_slice(alloc, ranges)?,
-            },
-            mappers,
+            near: Neighbours::new(alloc, seats, ranges)?,
             losing: Vec::new(alloc),
             alloc,
         })
@@ -146,7 +110,7 @@ impl LiveCables {
     /// The transcript, in order. Allocates nothing.
     pub fn transcript(&self) -> &[Entry]
         ensures value { result.now ≡ self.now.cabling.lines }
-        ensures numbered { AreNumbered 0 (happened self.now) }
+        ensures once { ArePutOnce (happened self.now) }
         ensures one_seat { HasOneSeat self.now.cabling.seats }
     {
         self.cables.transcript()
@@ -188,9 +152,7 @@ impl LiveCables {
     pub fn set_own(&mut self, seat: usize, own: Option<Addr>)
         ensures { self.new ≡ record self.old { own = slice_set self.old.own seat own } }
     {
-        if seat < self.ports.own.len() {
-            self.ports.own[seat] = own;
-        }
+        self.near.set_own(seat, own);
     }
 
     /// Sends what a station made in a tick or at its user's request. A datagram to a station whose
@@ -209,14 +171,8 @@ impl LiveCables {
         ensures refused { IfErr result (λ e. (e ≡ Error.Full) ⊎ (e ≡ Error.Memory)) }
     {
         let from = self.cables.transcript().len();
-        match give_all(
-            self.alloc,
-            &mut self.cables,
-            &self.ports,
-            &mut self.mappers,
-            station,
-            outputs,
-        ) {
+        self.near.face(station);
+        match give_all(&mut self.cables, &mut self.near, station, outputs) {
             Ok(()) => {}
             Err(error) => return Err(error),
         }
@@ -228,8 +184,8 @@ impl LiveCables {
     /// sent for the address; an AARP response releases the datagrams that are held for its sender.
     /// The caller must ensure that the station's ports are those of its seats.
     ///
-    /// Errors: `NotPending`, which changes nothing; `Full`, `Memory`. After `Full` or `Memory`,
-    /// what was done so far stays done.
+    /// Errors: `NotPending`, which changes nothing; `Full`, `Memory`. After `Full` or `Memory`
+    /// nothing has changed, or the take is done and not all frames that were to be lost are.
     pub fn take<S: Taker>(&mut self, stamp: u32, station: u16, taker: &mut S) -> Result<(), Error>
         requires { AreSeatsOf self.old.cabling.seats station (S.ports_of taker.old) }
         ensures plays { Plays self.old self.new }
@@ -249,35 +205,18 @@ impl LiveCables {
             ⊎ (e ≡ Error.Memory)) }
     {
         let from = self.cables.transcript().len();
-        let answer = answer_of(&self.cables, stamp, station);
-        let resolver = Resolver {
-            station,
-            ports: &self.ports,
-            mappers: &self.mappers,
-        };
-        match take(&mut self.cables, &resolver, stamp, station, taker) {
+        self.near.face(station);
+        match take(&mut self.cables, &mut self.near, stamp, station, taker) {
             Ok(()) => {}
             Err(error) => return Err(error),
         }
-        let followed = follow(
-            self.alloc,
-            &mut self.cables,
-            &self.ports,
-            &mut self.mappers,
-            station,
-            answer,
-        );
-        recall_numbered(&self.cables);
-        match followed {
-            Ok(()) => {}
-            Err(error) => return Err(error),
-        }
+        recall_once(&self.cables);
         lose_from(self.alloc, &mut self.cables, &self.losing, from)
     }
 
     /// Advances the mappings of a seat by a tick: AARP requests without a response are sent again.
     /// Returns the addresses for which ten requests had no response; the datagrams that were held
-    /// for them are dropped.
+    /// for them are given up.
     ///
     /// Errors: `Full`, `Memory`. After an error, what was done so far stays done.
     pub fn pass(&mut self, seat: usize) -> Result<Addresses, Error>
@@ -289,11 +228,11 @@ impl LiveCables {
         ensures refused { IfErr result (λ e. (e ≡ Error.Full) ⊎ (e ≡ Error.Memory)) }
     {
         let from = self.cables.transcript().len();
-        let asks = tick(&mut self.mappers, seat);
+        let asks = self.near.tick(seat);
         match ask_all(
             self.alloc,
             &mut self.cables,
-            &self.ports,
+            &self.near,
             seat,
             asks.ask.as_slice(),
         ) {
@@ -304,6 +243,9 @@ impl LiveCables {
             Ok(()) => {}
             Err(error) => return Err(error),
         }
-        Ok(asks.given_up)
+        match shed_all(&mut self.cables, asks.shed.as_slice()) {
+            Ok(()) => Ok(asks.given_up),
+            Err(error) => Err(error),
+        }
     }
 }

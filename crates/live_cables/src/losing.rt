@@ -52,6 +52,7 @@ fn add_stamps(stamps: &mut Vec<u32>, entries: &[Entry], losing: &[bool]) -> Resu
 /// Loses a frame, unless it is pending for no station. Errors: `Full`, `Memory`.
 fn lose(cables: &mut Cables, stamp: u32) -> Result<(), Error>
     ensures loses { Loses (stamp ∷ []) cables.old cables.new }
+    ensures rooms { cables.new.rooms ≡ cables.old.rooms }
     ensures gone { OnOk result (IsTrue (are_gone (stamp ∷ []) cables.new)) }
     ensures full { (result ≡ Err Error.Full)
         ↔ ((list_any (has_stamp stamp) (pending_spec.pending cables.old.seats (logs_spec.transcript cables.old)) ≡ true)
@@ -69,6 +70,7 @@ fn lose(cables: &mut Cables, stamp: u32) -> Result<(), Error>
 /// Loses those of these frames that are pending. Errors: `Full`, `Memory`.
 fn lose_all(cables: &mut Cables, stamps: &[u32]) -> Result<(), Error>
     ensures loses { Loses stamps.now cables.old cables.new }
+    ensures rooms { cables.new.rooms ≡ cables.old.rooms }
     ensures gone { OnOk result (IsTrue (are_gone stamps.now cables.new)) }
     ensures full { (result ≡ Err Error.Full) → HasNoRoom 1 cables.new }
     ensures refused { IfErr result (λ e. (e ≡ Error.Full) ⊎ (e ≡ Error.Memory)) }
@@ -94,6 +96,7 @@ pub fn lose_from(
     from: usize,
 ) -> Result<(), Error>
     ensures loses { Loses (losses_since losing.now from cables.old) cables.old cables.new }
+    ensures rooms { cables.new.rooms ≡ cables.old.rooms }
     ensures gone { OnOk result
         (IsTrue (are_gone (losses_since losing.now from cables.old) cables.new)) }
     ensures full { (result ≡ Err Error.Full) → HasNoRoom 1 cables.new }

@@ -133,6 +133,19 @@ fn put_entry(text: &mut String, world: &Live, entry: &Entry) -> Result<(), Alloc
             put_bytes(text, world, bytes)
         }
         Entry::Lost { stamp } => writeln!(text, "lost {stamp}"),
+        Entry::Hold {
+            stamp,
+            cable,
+            station,
+            next,
+            bytes,
+        } => {
+            write!(
+                text,
+                "hold {stamp} cable {cable} station {station} next {next}"
+            )?;
+            put_bytes(text, world, bytes)
+        }
     }
 }
 

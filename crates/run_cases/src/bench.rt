@@ -98,6 +98,7 @@ impl Bench for Runs {
             ),
             "decimal" => entries::decimal(self.alloc, rest, text),
             "seats" => seats::answer(self.alloc, rest, text),
+            "sends" => cables::answer(self.alloc, rest, text),
             "takes" => taking::answer(self.alloc, rest, text),
             "takes-both" => taking::answer_both(self.alloc, rest, text),
             "takes-lost" => taking::answer_lost(self.alloc, rest, text),

@@ -1,18 +1,20 @@
 //! Cables, and frames on them.
 
-ghost use Rattle.cable_model.specs.Rooms.{AreRooms};
-ghost use Rattle.std.specs.Prelude.{IfOk};
+ghost use Rattle.cable_model.specs.Outgoing.{is_later};
+ghost use Rattle.cable_model.specs.Rooms.{AreRooms, known_rooms};
+ghost use Rattle.std.specs.Prelude.{◌≡◌, ⊤, false, IfOk};
 ghost use Rattle.station.specs.Lawful.{IsNext};
 
 use crate::entries::{kind, kind_word, put_entries};
 use crate::seats::{EIGHT, THREE, TWINS};
 use at_base::{Addr, Bytes, Error, Hw};
-use cable_model::{Cables, Found, Resolve, Rooms};
+use cable_model::{Cables, Found, HeldBy, PACKET_LEN, Resolve, Rooms};
 use case_words::{Answer, Stop, Words, put_line, yes_or_no};
 use station::Next;
 use std::alloc::Global;
 
-/// A resolver that knows one address on one cable, and one network that a cable has.
+/// A resolver that knows one address on one cable, and one network that a cable has. For each
+/// datagram that is held it asks with a packet of zeros.
 #[derive(Clone, Copy)]
 pub(crate) struct Known {
     cable: u8,
@@ -31,6 +33,8 @@ impl Resolve for Known {
 
     ghost lists = { λ known net. net == known.listed };
 
+    ghost holds = { λ _ _ _ _ _ _. ⊤ };
+
     fn find(&self, cable: u8, addr: Addr) -> Found {
         if cable == self.cable && addr == self.addr {
             self.found
@@ -42,22 +46,35 @@ impl Resolve for Known {
     fn listed(&self, net: u16) -> bool {
         net == self.listed
     }
+
+    fn hold(&mut self, _cable: u8, _next: Addr, _stamp: u32) -> HeldBy {
+        HeldBy {
+            shed: None,
+            ask: Some([0; PACKET_LEN]),
+        }
+    }
 }
 
-fn found(words: &mut Words<'_>) -> Result<Found, Stop> {
+/// The result of a lookup: `later` only where datagrams may be held.
+fn found(words: &mut Words<'_>, may_hold: bool) -> Result<Found, Stop>
+    ensures { IfOk result (λ found. may_hold ≡ false → is_later found ≡ false) }
+{
     match words.word() {
         "at" => Ok(Found::At(words.hw()?)),
         "nobody" => Ok(Found::Nobody),
-        "later" => Ok(Found::Later),
+        "later" if may_hold => Ok(Found::Later),
         _ => Err(Stop::Unclear),
     }
 }
 
-/// A resolver, as `cable 2 30.5 at 020000000006 listed 30`.
-pub(crate) fn resolver(words: &mut Words<'_>) -> Result<Known, Stop> {
+/// A resolver, as `cable 2 30.5 at 020000000006 listed 30`. It answers every lookup unless datagrams
+/// may be held.
+pub(crate) fn resolver(words: &mut Words<'_>, may_hold: bool) -> Result<Known, Stop>
+    ensures { IfOk result (λ known. may_hold ≡ false → is_later known.found ≡ false) }
+{
     let cable = words.named("cable")?;
     let addr = words.addr()?;
-    let found = found(words)?;
+    let found = found(words, may_hold)?;
     Ok(Known {
         cable,
         addr,
@@ -85,22 +102,19 @@ pub(crate) fn next(words: &mut Words<'_>) -> Result<Next, Stop>
     }
 }
 
-/// The room that calls need: more of it after the word `held`.
-pub(crate) fn rooms(words: &mut Words<'_>) -> Rooms
-    ensures { AreRooms result }
+/// The room that calls need: more of it where datagrams may be held.
+pub(crate) fn rooms(may_hold: bool) -> Rooms
+    ensures rooms { AreRooms result }
+    ensures known { result ≡ known_rooms → may_hold ≡ false }
 {
-    if words.passes("held") {
-        Rooms::HELD
-    } else {
-        Rooms::KNOWN
-    }
+    if may_hold { Rooms::HELD } else { Rooms::KNOWN }
 }
 
 /// Cables with the seats that a word names, for at most `limit` entries.
 pub(crate) fn begun(alloc: Global, mut words: Words<'_>) -> Result<Cables, Stop> {
     let seats = words.word();
     let limit = words.named("limit")?;
-    let rooms = rooms(&mut words);
+    let rooms = rooms(words.passes("held"));
     Ok(match seats {
         "eight" => Cables::new(alloc, &EIGHT, limit, rooms)?,
         "twins" => Cables::new(alloc, &TWINS, limit, rooms)?,
@@ -122,17 +136,35 @@ fn put(alloc: Global, cables: &mut Cables, mut words: Words<'_>, text: &mut Stri
     Ok(())
 }
 
-/// A station sends a datagram on a cable.
+/// A station sends a datagram on a cable. The resolver answers every lookup.
 fn send(alloc: Global, cables: &mut Cables, mut words: Words<'_>) -> Answer {
     let cable = words.named("cable")?;
     let station = words.named("station")?;
     words.expect("next")?;
     let next = next(&mut words)?;
     words.expect("knows")?;
-    let known = resolver(&mut words)?;
+    let mut known = resolver(&mut words, false)?;
     let bytes = Bytes::from_vec(words.bytes(alloc)?);
-    cables.send(station, cable, next, bytes, &known)?;
+    cables.send(station, cable, next, bytes, &mut known)?;
     Ok(())
+}
+
+/// Lets a station of the eight seats send a datagram, and appends the outcome: `sends limit 5 held
+/// cable 2 station 1 next station 30.5 knows cable 2 30.5 later listed 30 BYTES`.
+pub(crate) fn answer(alloc: Global, mut words: Words<'_>, text: &mut String) -> Answer {
+    let limit = words.named("limit")?;
+    let may_hold = words.passes("held");
+    let cable = words.named("cable")?;
+    let station = words.named("station")?;
+    words.expect("next")?;
+    let next = next(&mut words)?;
+    words.expect("knows")?;
+    let mut known = resolver(&mut words, may_hold)?;
+    let bytes = Bytes::from_vec(words.bytes(alloc)?);
+    let mut cables = Cables::new(alloc, &EIGHT, limit, rooms(may_hold))?;
+    cables.send(station, cable, next, bytes, &mut known)?;
+    put_entries(text, cables.transcript())?;
+    put_first(&cables, text)
 }
 
 /// Appends a frame as a station that is to take it receives it.
@@ -158,16 +190,6 @@ fn put_frame(cables: &Cables, stamp: u32, text: &mut String) -> Answer {
             put_line(text, frame.bytes)?;
         }
         None => writeln!(text, "nothing")?,
-    }
-    Ok(())
-}
-
-/// Appends the datagrams that wait for a hardware address.
-pub(crate) fn put_waiting(cables: &Cables, text: &mut String) -> Answer {
-    for held in cables.waiting() {
-        let (port, next, bytes) = (held.port, held.next, held.bytes);
-        write!(text, "waits on port {port} for {next}: ")?;
-        put_line(text, cables.bytes(bytes))?;
     }
     Ok(())
 }
@@ -204,7 +226,6 @@ pub(crate) fn act(
         "pending" => put_pending(cables, words, text)?,
         "heard" => put_heard(cables, words, text)?,
         "frame" => put_frame(cables, words.number()?, text)?,
-        "waiting" => put_waiting(cables, text)?,
         "bytes" => put_line(text, cables.bytes(words.number()?))?,
         "entries" => put_entries(text, cables.transcript())?,
         _ => return Err(Stop::Unclear),

@@ -1,6 +1,6 @@
 //! Entries of transcripts, as text and as the lines of a trace.
 
-use at_base::Addr;
+use at_base::{Addr, Hw};
 use cable_model::{DropCause, Entry, How, Kind};
 use case_words::{Answer, Stop, Words, put_hw};
 use std::alloc::{AllocError, Global};
@@ -62,6 +62,20 @@ fn reached(words: &mut Words<'_>) -> Result<Entry, Stop> {
     })
 }
 
+fn hold(words: &mut Words<'_>) -> Result<Entry, Stop> {
+    let stamp = words.number()?;
+    let cable = words.named("cable")?;
+    let station = words.named("station")?;
+    words.expect("next")?;
+    Ok(Entry::Hold {
+        stamp,
+        cable,
+        station,
+        next: words.addr()?,
+        bytes: 0,
+    })
+}
+
 /// An entry, as `reached cable 0 station 2 all`. Cables and stations count from 0.
 fn entry(words: &mut Words<'_>) -> Result<Entry, Stop> {
     Ok(match words.word() {
@@ -83,6 +97,7 @@ fn entry(words: &mut Words<'_>) -> Result<Entry, Stop> {
         "lost" => Entry::Lost {
             stamp: words.number()?,
         },
+        "hold" => hold(words)?,
         _ => return Err(Stop::Unclear),
     })
 }
@@ -145,42 +160,70 @@ pub(crate) fn kind_word(kind: Kind) -> &'static str {
     }
 }
 
-/// Appends an entry as text, with the number of its bytes.
-fn put_entry(text: &mut String, entry: &Entry) -> Result<(), AllocError> {
+/// Appends a frame, up to its receiver.
+fn put_frame(
+    text: &mut String,
+    stamp: u32,
+    cable: u8,
+    sender: u16,
+    to: Hw,
+) -> Result<(), AllocError> {
+    write!(text, "put {stamp} cable {cable} station {sender} to ")?;
+    put_hw(text, to)
+}
+
+/// Appends a datagram that reached a cable.
+fn put_reached(text: &mut String, cable: u8, station: u16, how: How) -> Result<(), AllocError> {
+    let how = how_word(how);
+    write!(text, "reached cable {cable} station {station} {how}")
+}
+
+/// Appends an entry as text, without the number of its bytes.
+fn put_start(text: &mut String, entry: &Entry) -> Result<(), AllocError> {
     match *entry {
-        Entry::Sent { station, bytes } => writeln!(text, "sent station {station} bytes {bytes}"),
+        Entry::Sent { station, .. } => write!(text, "sent station {station}"),
         Entry::Put {
             stamp,
             cable,
             sender,
             to,
             kind,
-            bytes,
+            ..
         } => {
-            write!(text, "put {stamp} cable {cable} station {sender} to ")?;
-            put_hw(text, to)?;
+            put_frame(text, stamp, cable, sender, to)?;
             let kind = kind_word(kind);
-            writeln!(text, " {kind} bytes {bytes}")
+            write!(text, " {kind}")
         }
-        Entry::Took { stamp, station } => writeln!(text, "took {stamp} station {station}"),
+        Entry::Took { stamp, station } => write!(text, "took {stamp} station {station}"),
         Entry::Reached {
             cable,
             station,
             how,
-            bytes,
-        } => {
-            let how = how_word(how);
-            writeln!(
-                text,
-                "reached cable {cable} station {station} {how} bytes {bytes}"
-            )
+            ..
+        } => put_reached(text, cable, station, how),
+        Entry::Dropped { router, cause, .. } => {
+            write!(text, "dropped station {router} {cause:?}")
         }
-        Entry::Dropped {
-            router,
-            cause,
-            bytes,
-        } => writeln!(text, "dropped station {router} {cause:?} bytes {bytes}"),
-        Entry::Lost { stamp } => writeln!(text, "lost {stamp}"),
+        Entry::Lost { stamp } => write!(text, "lost {stamp}"),
+        Entry::Hold {
+            stamp,
+            cable,
+            station,
+            next,
+            ..
+        } => write!(
+            text,
+            "hold {stamp} cable {cable} station {station} next {next}"
+        ),
+    }
+}
+
+/// Appends an entry as text, with the number of its bytes.
+fn put_entry(text: &mut String, entry: &Entry) -> Result<(), AllocError> {
+    put_start(text, entry)?;
+    match number_of(entry) {
+        Some(bytes) => writeln!(text, " bytes {bytes}"),
+        None => writeln!(text),
     }
 }
 
@@ -198,7 +241,8 @@ pub(crate) fn number_of(entry: &Entry) -> Option<u32> {
         Entry::Sent { bytes, .. }
         | Entry::Put { bytes, .. }
         | Entry::Reached { bytes, .. }
-        | Entry::Dropped { bytes, .. } => Some(bytes),
+        | Entry::Dropped { bytes, .. }
+        | Entry::Hold { bytes, .. } => Some(bytes),
         Entry::Took { .. } | Entry::Lost { .. } => None,
     }
 }

@@ -1,10 +1,11 @@
 //! Frames that are taken by a station with two ports that does the same with each datagram.
 
-ghost use Rattle.cable_model.specs.Rooms.{AreRooms};
-ghost use Rattle.std.specs.Prelude.{◌≡◌, IfOk};
 ghost use Rattle.cable_model.specs.Outcomes.{AreSeatsOf};
+ghost use Rattle.cable_model.specs.Outgoing.{is_later};
+ghost use Rattle.cable_model.specs.Rooms.{AreRooms, known_rooms};
+ghost use Rattle.std.specs.Prelude.{◌≡◌, false, IfOk};
 
-use crate::cables::{Known, put_first, put_waiting, resolver, rooms};
+use crate::cables::{Known, put_first, resolver, rooms};
 use crate::entries::put_entries;
 use crate::relay::{Act, Relay};
 use crate::seats::{EIGHT, THREE};
@@ -38,7 +39,8 @@ fn act(words: &mut Words<'_>) -> Result<Act, Stop> {
 /// Cables with the eight seats, for at most `limit` entries.
 fn seated(alloc: Global, limit: u32, rooms: Rooms) -> Result<Cables, Error>
     requires { AreRooms rooms }
-    ensures { IfOk result (λ cables. AreSeatsOf cables.seats 0 2) }
+    ensures seats { IfOk result (λ cables. AreSeatsOf cables.seats 0 2) }
+    ensures rooms { IfOk result (λ cables. cables.rooms ≡ rooms) }
 {
     let cables = Cables::new(alloc, &EIGHT, limit, rooms)?;
     Ok(cables)
@@ -46,7 +48,8 @@ fn seated(alloc: Global, limit: u32, rooms: Rooms) -> Result<Cables, Error>
 
 /// A station puts a frame on a cable.
 fn put(cables: &mut Cables, cable: u8, station: u16, to: Hw, bytes: Bytes) -> Result<u32, Error>
-    ensures { cables.new.seats ≡ cables.old.seats }
+    ensures seats { cables.new.seats ≡ cables.old.seats }
+    ensures rooms { cables.new.rooms ≡ cables.old.rooms }
 {
     cables.put(cable, station, to, Kind::Ddp, bytes)
 }
@@ -54,7 +57,8 @@ fn put(cables: &mut Cables, cable: u8, station: u16, to: Hw, bytes: Bytes) -> Re
 /// Cables on which station 2 put a frame for station 0.
 fn pending(alloc: Global, limit: u32, rooms: Rooms, bytes: Bytes) -> Result<Cables, Error>
     requires { AreRooms rooms }
-    ensures { IfOk result (λ cables. AreSeatsOf cables.seats 0 2) }
+    ensures seats { IfOk result (λ cables. AreSeatsOf cables.seats 0 2) }
+    ensures rooms { IfOk result (λ cables. cables.rooms ≡ rooms) }
 {
     let mut cables = seated(alloc, limit, rooms)?;
     put(&mut cables, 0, 2, ROUTER_HW, bytes)?;
@@ -69,10 +73,13 @@ fn take(
     known: &Known,
     text: &mut String,
 ) -> Answer
-    requires { AreSeatsOf cables.old.seats 0 2 }
-    ensures { cables.new.seats ≡ cables.old.seats }
+    requires seats { AreSeatsOf cables.old.seats 0 2 }
+    requires known { cables.old.rooms ≡ known_rooms → is_later known.now.found ≡ false }
+    ensures seats { cables.new.seats ≡ cables.old.seats }
+    ensures rooms { cables.new.rooms ≡ cables.old.rooms }
 {
-    match cables.take(stamp, 0, relay, known) {
+    let mut resolver = *known;
+    match cables.take(stamp, 0, relay, &mut resolver) {
         Err(Error::Memory) => return Err(Stop::Refused(Error::Memory)),
         Err(error) => writeln!(text, "{error}")?,
         Ok(()) => writeln!(text, "taken")?,
@@ -80,22 +87,22 @@ fn take(
     Ok(())
 }
 
-/// Appends the entries, the waiting datagrams, and the pending pairs.
+/// Appends the entries and the pending pairs.
 fn put_all(cables: &Cables, text: &mut String) -> Answer {
     put_entries(text, cables.transcript())?;
-    put_waiting(cables, text)?;
     put_first(cables, text)
 }
 
 /// Lets station 0 take the frame that station 2 put, with the action passes, keeps, drops, makes or
-/// answers: `takes limit 772 passes knows cable 1 4638.5 later listed 4638 BYTES`. Then lets it
+/// answers: `takes limit 1286 held passes knows cable 1 4638.5 later listed 4638 BYTES`. Then lets it
 /// take the same frame again, and a frame that doesn't exist.
 pub(crate) fn answer(alloc: Global, mut words: Words<'_>, text: &mut String) -> Answer {
     let limit = words.named("limit")?;
-    let rooms = rooms(&mut words);
+    let may_hold = words.passes("held");
+    let rooms = rooms(may_hold);
     let act = act(&mut words)?;
     words.expect("knows")?;
-    let known = resolver(&mut words)?;
+    let known = resolver(&mut words, may_hold)?;
     let bytes = Bytes::from_vec(words.bytes(alloc)?);
     let mut cables = pending(alloc, limit, rooms, bytes)?;
     let mut relay = Relay { alloc, act };
@@ -126,7 +133,7 @@ pub(crate) fn answer_lost(alloc: Global, mut words: Words<'_>, text: &mut String
     let limit = words.named("limit")?;
     let act = act(&mut words)?;
     words.expect("knows")?;
-    let known = resolver(&mut words)?;
+    let known = resolver(&mut words, false)?;
     let bytes = Bytes::from_vec(words.bytes(alloc)?);
     let mut cables = three_seated(alloc, limit)?;
     put(&mut cables, 0, 2, ROUTER_HW, bytes)?;
@@ -138,30 +145,32 @@ pub(crate) fn answer_lost(alloc: Global, mut words: Words<'_>, text: &mut String
 
 /// Cables on which station 2 put the bytes for station 0, and station 1 put the same bytes for all
 /// stations of the second cable.
-fn two_pending(alloc: Global, limit: u32, bytes: &[u8]) -> Result<Cables, Error>
-    ensures { IfOk result (λ cables. AreSeatsOf cables.seats 0 2) }
+fn two_pending(alloc: Global, limit: u32, rooms: Rooms, bytes: &[u8]) -> Result<Cables, Error>
+    requires { AreRooms rooms }
+    ensures seats { IfOk result (λ cables. AreSeatsOf cables.seats 0 2) }
+    ensures rooms { IfOk result (λ cables. cables.rooms ≡ rooms) }
 {
     let first = Bytes::copy(alloc, bytes)?;
     let second = Bytes::copy(alloc, bytes)?;
-    let mut cables = pending(alloc, limit, Rooms::KNOWN, first)?;
+    let mut cables = pending(alloc, limit, rooms, first)?;
     put(&mut cables, 1, 1, Hw::ALL, second)?;
     Ok(cables)
 }
 
-/// Lets station 0 take both of these frames, each with its own resolver: `takes-both limit 780
+/// Lets station 0 take both of these frames, each with its own resolver: `takes-both limit 1291 held
 /// passes knows cable 1 4638.5 later listed 4638 then cable 1 4638.5 nobody listed 4638 BYTES`.
 pub(crate) fn answer_both(alloc: Global, mut words: Words<'_>, text: &mut String) -> Answer {
     let limit = words.named("limit")?;
+    let may_hold = words.passes("held");
     let act = act(&mut words)?;
     words.expect("knows")?;
-    let first = resolver(&mut words)?;
+    let first = resolver(&mut words, may_hold)?;
     words.expect("then")?;
-    let second = resolver(&mut words)?;
+    let second = resolver(&mut words, may_hold)?;
     let bytes = words.bytes(alloc)?;
-    let mut cables = two_pending(alloc, limit, bytes.as_slice())?;
+    let mut cables = two_pending(alloc, limit, rooms(may_hold), bytes.as_slice())?;
     let mut relay = Relay { alloc, act };
     take(&mut cables, 0, &mut relay, &first, text)?;
-    put_waiting(&cables, text)?;
     take(&mut cables, 1, &mut relay, &second, text)?;
     put_all(&cables, text)
 }

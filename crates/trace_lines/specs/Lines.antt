@@ -6,7 +6,7 @@ use Rattle.at_base.specs.Texts.{address_text}
 use Rattle.at_base.specs.declared.address.Addr.{Addr}
 use Rattle.at_base.specs.declared.address.Hw.{Hw}
 use Rattle.at_base.specs.Multicast.{is_all, is_group}
-use Rattle.cable_model.specs.Transcript.{Entry, Sent, Put, Took, Reached, Dropped, Lost}
+use Rattle.cable_model.specs.Transcript.{Entry, Sent, Put, Took, Reached, Dropped, Lost, Hold}
 use Rattle.cable_model.specs.Logs.{bytes_at}
 use Rattle.cable_model.specs.declared.entry.Entry.{Entry as Line}
 use Rattle.cable_model.specs.declared.entry.Entry.TheVariants as named
@@ -65,6 +65,9 @@ line d cables (Reached cable station how body) =
 line d cables (Dropped router cause body) =
     codes "dropped " ++ address_text (address_of d router) ++ codes " " ++ cause_text cause ++ codes " " ++ hex_text body
 line d cables (Lost stamp) = codes "lost " ++ decimal stamp
+line d cables (Hold h) =
+    codes "hold " ++ decimal h.stamp ++ codes " cable " ++ decimal (h.cable + 1) ++ codes " "
+    ++ address_text (address_on d h.station h.cable) ++ codes " to " ++ address_text h.next ++ codes " " ++ hex_text h.bytes
 
 -- The lines of entries, each with a line feed at its end, if the frames before them were put on these cables.
 abbrev pub lines : Directory → List ℕ → List Entry → List ℕ
@@ -84,3 +87,4 @@ IsNamed kept (named.Took stamp station) bytes = Unit {0}
 IsNamed kept (named.Reached cable station how n) bytes = bytes ≡ bytes_at kept n
 IsNamed kept (named.Dropped router cause n) bytes = bytes ≡ bytes_at kept n
 IsNamed kept (named.Lost stamp) bytes = Unit {0}
+IsNamed kept (named.Hold stamp cable station next n) bytes = bytes ≡ bytes_at kept n

@@ -1,6 +1,6 @@
 -- Entries as they are printed.
 use Rattle.std.specs.Prelude.{ℕ, List}
-use Rattle.cable_model.specs.Transcript.{Entry, Sent, Put, Took, Reached, Dropped, Lost}
+use Rattle.cable_model.specs.Transcript.{Entry, Sent, Put, Took, Reached, Dropped, Lost, Hold}
 use Rattle.cable_model.specs.declared.entry.Entry.{Entry as Line}
 use Rattle.cable_model.specs.declared.entry.Entry.TheVariants as named
 use Rattle.ddp.specs.Bodies.{body}
@@ -14,3 +14,5 @@ entry_with bytes (named.Took stamp station) = Took stamp station
 entry_with bytes (named.Reached cable station how n) = Reached cable station how (body bytes)
 entry_with bytes (named.Dropped router cause n) = Dropped router cause (body bytes)
 entry_with bytes (named.Lost stamp) = Lost stamp
+entry_with bytes (named.Hold stamp cable station next n) =
+    Hold (record { stamp = stamp; cable = cable; station = station; next = next; bytes = bytes })

@@ -1,7 +1,7 @@
 //! The line of an entry, without its line feed.
 
 ghost use Rattle.std.specs.Prelude.{◌≡◌, ◌+◌, ◌++◌, [], OnOk, codes};
-ghost use Rattle.cable_model.specs.Transcript.{Sent, Put, Took, Reached, Dropped};
+ghost use Rattle.cable_model.specs.Transcript.{Sent, Put, Took, Reached, Dropped, Hold};
 ghost use Rattle.std.specs.Fmt.{decimal};
 ghost use Rattle.ddp.specs.Bodies.{body};
 ghost use Rattle.at_base.specs.Texts.{address_text};
@@ -172,12 +172,55 @@ fn put_dropped(
     put_body(text, bytes)
 }
 
-/// Appends the line of a frame that was lost.
+/// Appends the line of a frame that was lost, or of a held datagram that was given up.
 fn put_lost(text: &mut Vec<u8>, stamp: u32) -> Result<(), AllocError>
     ensures { OnOk result (text.new.items ≡ text.old.items ++ (codes "lost " ++ decimal stamp)) }
 {
     text.extend_from_slice(b"lost ")?;
     put_decimal(text, stamp)
+}
+
+/// Appends the stamp of a held datagram, its cable and the address of its station there.
+fn put_holder(
+    text: &mut Vec<u8>,
+    stations: &Stations,
+    stamp: u32,
+    cable: u8,
+    station: u16,
+) -> Result<(), AllocError>
+    ensures { OnOk result (text.new.items ≡ text.old.items
+        ++ (codes "hold " ++ decimal stamp ++ codes " cable " ++ decimal (cable + 1) ++ codes " "
+        ++ address_text (address_on stations.now station cable))) }
+{
+    text.extend_from_slice(b"hold ")?;
+    put_decimal(text, stamp)?;
+    text.extend_from_slice(b" ")?;
+    put_place(text, stations, cable, station)
+}
+
+/// Appends the line of a datagram that a station holds.
+fn put_hold(
+    text: &mut Vec<u8>,
+    stations: &Stations,
+    stamp: u32,
+    cable: u8,
+    station: u16,
+    next: Addr,
+    bytes: &[u8],
+) -> Result<(), AllocError>
+    ensures { OnOk result (text.new.items ≡ text.old.items ++ line stations.now [] (Hold (record {
+      stamp = stamp;
+      cable = cable;
+      station = station;
+      next = next;
+      bytes = bytes.now;
+    }))) }
+{
+    put_holder(text, stations, stamp, cable, station)?;
+    text.extend_from_slice(b" to ")?;
+    put_address(text, next)?;
+    text.extend_from_slice(b" ")?;
+    put_hex(text, bytes)
 }
 
 /// Appends the line of an entry. `cables` has the cable of each frame so far, by its stamp.
@@ -219,5 +262,12 @@ pub(crate) fn put_entry(
         } => put_reached(text, stations, cable, station, how, bytes),
         Entry::Dropped { router, cause, .. } => put_dropped(text, stations, router, cause, bytes),
         Entry::Lost { stamp } => put_lost(text, stamp),
+        Entry::Hold {
+            stamp,
+            cable,
+            station,
+            next,
+            ..
+        } => put_hold(text, stations, stamp, cable, station, next, bytes),
     }
 }

@@ -80,10 +80,12 @@ impl Lines {
     /// - `reached cable K ADDR HOW HEX`, where HOW is `station`, `all`, `own`, `absent` or `held`
     /// - `dropped ADDR CAUSE HEX`, where CAUSE is `NoRoute` or `HopLimit`
     /// - `lost STAMP`
+    /// - `hold STAMP cable K ADDR to ADDR HEX`, where the second ADDR is the next station's
     ///
     /// A station's ADDR is its address on the cable of the frame, or on the cable that the line
     /// names. A line without a cable has the address of the router's first port, or of the node.
-    /// Cables are counted from 1. HEX is in upper case. The hop count in HEX is 0 except in `put`.
+    /// Cables are counted from 1. HEX is in upper case. The hop count in HEX is 0 except in `put` and
+    /// `hold`.
     ///
     /// Error: out of memory; then the text may end with a part of the line.
     pub fn append(

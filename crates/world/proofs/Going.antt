@@ -1,15 +1,15 @@
 -- Steps of a tick, one after the other.
 use Rattle.std.proofs.Common.{◌≡◌, ℕ, ◌+◌, Bool, not, cond, IsTrue, List, [], ◌∷◌, ◌++◌, refl, sym, ap, ◌∙◌, subst, arith}
 use Rattle.std.proofs.Common.{append-nil, append_assoc}
-use Rattle.std.specs.List.{list_all, list_any}
+use Rattle.std.specs.List.{list_any}
 use Rattle.cable_model.proofs.Counting.{count-append}
+use Rattle.cable_model.proofs.Stamps.{once_front}
 use Rattle.cable_model.specs.Pending.{Pair, pending}
-use Rattle.cable_model.specs.Transcript.{AreNumbered, Entry, Sent, Put, Took, Reached, Dropped, Lost}
+use Rattle.cable_model.specs.Transcript.{ArePutOnce, Entry, Sent, Put, Took, Reached, Dropped, Lost, Hold}
 use Rattle.cable_model.specs.declared.seat.Seat.{Seat}
-use Rattle.live_cables.proofs.Pending.{numbered_front}
 use Rattle.live_cables.proofs.Played.{lost_then, nothing_lost, nothing_played, played_then}
 use Rattle.live_cables.specs.Living.{Plays, PlaysOn, Wires, happened, loses}
-use Rattle.live_cables.specs.Playing.{IsPlayed, are_lost, is_in, is_took, losses, may_be}
+use Rattle.live_cables.specs.Playing.{IsPlayed, are_allowed, are_lost, is_in, is_took, losses}
 use Rattle.live_cables.specs.Steps.{loses_by}
 use Rattle.world.specs.Going.{Ends, Goes, GoesOn}
 
@@ -55,10 +55,10 @@ module _ (taken : ℕ) (a b c : Wires) (x : GoesOn taken a b) where
     joined : happened c ≡ (happened a ++ x.goes.added) ++ y.added
     joined = y.grown ∙ ap (λ l. l ++ y.added) x.goes.grown
 
-    first : AreNumbered 0 (happened c) → AreNumbered 0 (happened b)
-    first n = numbered_front 0 (happened b) y.added (subst (AreNumbered 0) y.grown n)
+    first : ArePutOnce (happened c) → ArePutOnce (happened b)
+    first n = once_front (happened b) y.added (subst ArePutOnce y.grown n)
 
-    later : AreNumbered 0 (happened c) → IsPlayed a.cabling.seats (loses a) (happened a ++ x.goes.added) y.added
+    later : ArePutOnce (happened c) → IsPlayed a.cabling.seats (loses a) (happened a ++ x.goes.added) y.added
     later n =
         subst (λ s. IsPlayed s (loses a) (happened a ++ x.goes.added) y.added) x.goes.seats
         (subst (λ l. IsPlayed b.cabling.seats (loses_by l) (happened a ++ x.goes.added) y.added) x.goes.losing
@@ -72,7 +72,7 @@ module _ (taken : ℕ) (a b c : Wires) (x : GoesOn taken a b) where
       limit = y.limit ∙ x.goes.limit;
       losing = y.losing ∙ x.goes.losing;
       played =
-          λ n. played_then a.cabling.seats (loses a) (happened a) x.goes.added y.added (subst (AreNumbered 0) joined n)
+          λ n. played_then a.cabling.seats (loses a) (happened a) x.goes.added y.added (subst ArePutOnce joined n)
           (x.goes.played (first n)) (x.lost (first n)) (later n);
     }
 
@@ -86,7 +86,7 @@ module _ (taken : ℕ) (a b c : Wires) (x : GoesOn taken a b) where
         goes = goes_then y.goes;
         takes = omega (arith, counts, before, after, is);
         lost =
-            λ n. lost_then a.cabling.seats (loses a) (happened a) x.goes.added y.goes.added (subst (AreNumbered 0) (joined y.goes) n)
+            λ n. lost_then a.cabling.seats (loses a) (happened a) x.goes.added y.goes.added (subst ArePutOnce (joined y.goes) n)
             (x.lost (first y.goes n))
             (subst (λ s. IsTrue (are_lost s (loses a) (happened a ++ x.goes.added) y.goes.added)) x.goes.seats
             (subst (λ l. IsTrue (are_lost b.cabling.seats (loses_by l) (happened a ++ x.goes.added) y.goes.added)) x.goes.losing
@@ -138,6 +138,7 @@ module _ (f g : ℕ → Bool) (same : (cable : ℕ) → f cable ≡ g cable) whe
   losses_same (Reached c s w x ∷ es) = losses_same es
   losses_same (Dropped r c x ∷ es) = losses_same es
   losses_same (Lost p ∷ es) = losses_same es
+  losses_same (Hold h ∷ es) = losses_same es
   losses_same (Put frame ∷ es) =
       ap (λ b. cond b (frame.stamp ∷ losses f es) (losses f es)) (same frame.cable)
       ∙ ap (λ l. cond (g frame.cable) (frame.stamp ∷ l) l) (losses_same es)
@@ -145,7 +146,7 @@ module _ (f g : ℕ → Bool) (same : (cable : ℕ) → f cable ≡ g cable) whe
   pub played_same : (seats : List Seat) (t es : List Entry) → IsPlayed seats f t es → IsPlayed seats g t es
   played_same seats t es x = record {
     due = x.due;
-    each = subst (λ l. IsTrue (list_all (may_be l) es)) (losses_same es) x.each;
+    each = subst (λ l. IsTrue (are_allowed l t es)) (losses_same es) x.each;
   }
 
   pub lost_same : (seats : List Seat) (t es : List Entry) → IsTrue (are_lost seats f t es) → IsTrue (are_lost seats g t es)

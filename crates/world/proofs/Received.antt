@@ -12,7 +12,7 @@ use Rattle.cable_model.proofs.Counting.{At, contained_at, each_at, each-append, 
 use Rattle.cable_model.proofs.Finds.{contains_at}
 use Rattle.cable_model.specs.Outcomes.{heard_by}
 use Rattle.cable_model.specs.Pending.{Pair, is_heard, pairs, pairs_of, pending, was_ended}
-use Rattle.cable_model.specs.Transcript.{Entry, Sent, Put, Took, Reached, Dropped, Lost}
+use Rattle.cable_model.specs.Transcript.{Entry, Sent, Put, Took, Reached, Dropped, Lost, Hold}
 use Rattle.cable_model.specs.declared.seat.Seat.{Seat}
 use Rattle.ddp.specs.Datagram.{Datagram}
 use Rattle.end_node.specs.Answers.{heard, heard_datagram, heard_kind, heard_own, heard_packet, is_served, keeping, keeping_any, kept, takes}
@@ -58,6 +58,7 @@ module _ (seats : List Seat) (t : List Entry) where
   of_put (Reached c s w x) h = tt
   of_put (Dropped r c x) h = tt
   of_put (Lost p) h = tt
+  of_put (Hold g) h = tt
 
   all_put : (es : List Entry) → ((k : ℕ) (e : Entry) → At es k e → Contains t e)
       → Each (λ (p : Pair). Contains t (Put p.frame)) (pairs seats es)

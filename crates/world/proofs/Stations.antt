@@ -10,7 +10,7 @@ use Rattle.cable_model.proofs.Counting.{At, contained_at, each_at, each-append, 
 use Rattle.cable_model.proofs.Finds.{contains_at}
 use Rattle.cable_model.specs.Outcomes.{AreSeatsOf, IsLeast, is_named}
 use Rattle.cable_model.specs.Pending.{Pair, is_heard, pairs, pairs_of, pending, was_ended}
-use Rattle.cable_model.specs.Transcript.{Entry, Sent, Put, Took, Reached, Dropped, Lost}
+use Rattle.cable_model.specs.Transcript.{Entry, Sent, Put, Took, Reached, Dropped, Lost, Hold}
 use Rattle.cable_model.specs.declared.seat.Seat.{Seat}
 use Rattle.station.specs.declared.member.Member.{Member}
 use Rattle.live_cables.proofs.Pending.{has_any}
@@ -75,6 +75,7 @@ module _ (seats : List Seat) where
       by (Reached c s w x) = tt
       by (Dropped r c x) = tt
       by (Lost p) = tt
+      by (Hold h) = tt
 
   -- The seat of a pending pair is one of the seats.
   pub pending_seat : (t : List Entry) (p : Pair) → Contains (pending seats t) p → Contains seats p.seat

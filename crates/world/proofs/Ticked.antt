@@ -2,7 +2,7 @@
 use Rattle.std.proofs.Common.{◌≡◌, ◌⊎◌, ◌≤◌, inl, inr, ℕ, Bool, List, [], sym, ◌∙◌, subst, append-nil}
 use Rattle.std.specs.Prelude.{IsTrue}
 use Rattle.cable_model.specs.Pending.{pending}
-use Rattle.cable_model.specs.Transcript.{AreNumbered, count}
+use Rattle.cable_model.specs.Transcript.{ArePutOnce, count}
 use Rattle.internet_file.specs.Files.{Planned}
 use Rattle.live_cables.proofs.Played.{due_append, nothing_played}
 use Rattle.live_cables.specs.Living.{Wires, happened}
@@ -24,14 +24,14 @@ ticks_none plan tick w = record {
 
 module _ (plan : Planned) (tick : ℕ) (old new : Wires) (losing : List Bool)
     (same : (cable : ℕ) → loses_by losing cable ≡ loses_at plan tick cable) (seats : old.cabling.seats ≡ plan_seats plan)
-    (numbered : AreNumbered 0 (happened new)) where
+    (once : ArePutOnce (happened new)) where
   by_goes : Goes (record old { losing = losing }) new → Ticks plan tick old new
   by_goes x = record {
     added = x.added;
     grown = x.grown;
     played =
         played_same (loses_by losing) (loses_at plan tick) same (plan_seats plan) (happened old) x.added
-        (subst (λ s. IsPlayed s (loses_by losing) (happened old) x.added) seats (x.played numbered));
+        (subst (λ s. IsPlayed s (loses_by losing) (happened old) x.added) seats (x.played once));
   }
 
   by_ends : Ends 10000 (record old { losing = losing }) new → TicksOn plan tick old new
@@ -40,7 +40,7 @@ module _ (plan : Planned) (tick : ℕ) (old new : Wires) (losing : List Bool)
     ticks = by_goes x.goes_on.goes;
     lost =
         lost_same (loses_by losing) (loses_at plan tick) same (plan_seats plan) (happened old) x.goes_on.goes.added
-        (subst (λ s. IsTrue (are_lost s (loses_by losing) (happened old) x.goes_on.goes.added)) seats (x.goes_on.lost numbered));
+        (subst (λ s. IsTrue (are_lost s (loses_by losing) (happened old) x.goes_on.goes.added)) seats (x.goes_on.lost once));
     few = subst (λ n. n ≤ 10000) (sym x.goes_on.takes) x.few;
     ended = by x.ended;
   }

@@ -1,27 +1,27 @@
 -- The effects of a tick's steps on the cables.
 use Rattle.std.specs.Prelude.{◌≡◌, ◌⊎◌, ℕ, ◌≤◌, IsTrue, List, [], ◌++◌}
 use Rattle.cable_model.specs.Pending.{pending}
-use Rattle.cable_model.specs.Transcript.{AreNumbered, Entry, count}
+use Rattle.cable_model.specs.Transcript.{ArePutOnce, Entry, count}
 use Rattle.live_cables.specs.Living.{Wires, happened, loses}
 use Rattle.live_cables.specs.Playing.{IsPlayed, are_lost, is_took}
 
 -- Entries that `IsPlayed` allows were added, while the seats, the limit, and which cables lose frames stayed the same;
--- addresses may have settled. That frames are numbered from 0 is a premise, so that steps can be combined before it is
--- known.
+-- addresses may have settled. That no two frames have the same stamp is a premise, so that steps can be combined before
+-- it is known.
 pub record Goes (old new : Wires) : Type 0 where
   pub added : List Entry
   pub grown : happened new ≡ happened old ++ added
   pub seats : new.cabling.seats ≡ old.cabling.seats
   pub limit : new.cabling.limit ≡ old.cabling.limit
   pub losing : new.losing ≡ old.losing
-  pub played : AreNumbered 0 (happened new) → IsPlayed old.cabling.seats (loses old) (happened old) added
+  pub played : ArePutOnce (happened new) → IsPlayed old.cabling.seats (loses old) (happened old) added
 
 -- A step finished and added entries that `IsPlayed` allows: `taken` frames were taken, and all frames that were put on
 -- cables that lose frames are lost.
 pub record GoesOn (taken : ℕ) (old new : Wires) : Type 0 where
   pub goes : Goes old new
   pub takes : count is_took goes.added ≡ taken
-  pub lost : AreNumbered 0 (happened new) → IsTrue (are_lost old.cabling.seats (loses old) (happened old) goes.added)
+  pub lost : ArePutOnce (happened new) → IsTrue (are_lost old.cabling.seats (loses old) (happened old) goes.added)
 
 -- Frames were taken, by steps that finished, until none was pending or `most` were taken.
 pub record Ends (most : ℕ) (old new : Wires) : Type 0 where

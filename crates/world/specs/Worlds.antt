@@ -43,7 +43,7 @@ wires_begun plan = record {
     rooms = held_rooms;
     lines = [];
     kept = [];
-    waiting = [];
+    spare = 0;
   };
   own = map (λ s. None) (plan_seats plan);
   maps = map (λ s. record { known = []; held = [] }) (plan_seats plan);

@@ -1,7 +1,7 @@
 //! A tick of a world.
 
 ghost use Rattle.std.specs.Prelude.{◌≡◌, ◌<◌, ◌≤◌, ◌+◌, ◌⊎◌, IfErr, IfSome, None, OnErr, OnOk, Some};
-ghost use Rattle.cable_model.specs.Transcript.{AreNumbered};
+ghost use Rattle.cable_model.specs.Transcript.{ArePutOnce};
 ghost use Rattle.live_cables.specs.Living.{happened};
 ghost use Rattle.live_cables.specs.Steps.{HasNoRoom};
 ghost use Rattle.world.specs.Acting.{KeepsFirst};
@@ -16,9 +16,9 @@ use at_base::Error;
 use live_cables::LiveCables;
 use rtmp::RouteTable;
 
-/// A fact for the prover: frames are numbered from 0. Does nothing.
-fn recall_numbered(wires: &LiveCables)
-    ensures { AreNumbered 0 (happened wires.now) }
+/// A fact for the prover: no two frames have the same stamp. Does nothing.
+fn recall_once(wires: &LiveCables)
+    ensures { ArePutOnce (happened wires.now) }
 {
     let _lines = wires.transcript();
 }
@@ -51,7 +51,7 @@ impl<T: RouteTable> World<T> {
             &mut self.schedule,
             self.passed,
         );
-        recall_numbered(&self.wires);
+        recall_once(&self.wires);
         played
     }
 

@@ -17,7 +17,8 @@ fn trace(alloc: Global, image: &Image, cables: &Cables) -> Result<Vec<u8>, Alloc
             Entry::Sent { bytes, .. }
             | Entry::Put { bytes, .. }
             | Entry::Reached { bytes, .. }
-            | Entry::Dropped { bytes, .. } => cables.bytes(bytes),
+            | Entry::Dropped { bytes, .. }
+            | Entry::Hold { bytes, .. } => cables.bytes(bytes),
             Entry::Took { .. } | Entry::Lost { .. } => &[],
         };
         lines.append(&mut text, entry, bytes)?;

@@ -18,5 +18,5 @@ returns c =
       pending = λ seats book. (f seats book).pending;
       of_it = found_is stamp c.of_frame.result
           (found_passes (λ d. stamp == d.stamp) c.args.log.now.due.dues c.of_frame.result c.of_frame.ensures);
-      earlier = λ seats book. (f seats book).earlier;
+      put = λ seats book. (f seats book).put;
     }

@@ -18,5 +18,5 @@ returns c =
       due = λ seats book. (f seats book).due;
       pending = λ seats book. (f seats book).pending;
       of_it = found_passes t c.args.log.now.due.dues c.find.result c.find.ensures;
-      earlier = λ seats book. (f seats book).earlier;
+      put = λ seats book. (f seats book).put;
     }

@@ -4,6 +4,6 @@ use Rattle.cable_model.specs.Pending.{pending}
 use Rattle.cable_model.proofs.laws.taking_ends_one_pair.Goals as goal
 
 pub returns : goal.returns
-returns c = λ seats test t p one_seat numbered there.
+returns c = λ seats test t p one_seat once there.
     let at = contained_at (pending seats t) p there in
-    pending_less seats one_seat test t p at.0 numbered at.1
+    pending_less seats one_seat test t p at.0 once at.1

@@ -5,16 +5,16 @@ use Rattle.cable_model.proofs.log.keep.Goals as goal
 
 pub returns-clause-grows : goal.returns-clause-grows
 returns-clause-grows c = λ seats book.
-    (extends seats _ _ [] (c.args.bytes ∷ []) [] book (sym (append-nil _)) c.push_reserved.ensures.items (sym (append-nil _)) tt tt).grows
+    (extends seats _ _ [] (c.args.bytes ∷ []) [] book (sym (append-nil _)) c.push.ensures.items (sym (append-nil _)) tt tt).grows
 
 pub returns-clause-book : goal.returns-clause-book
 returns-clause-book c = λ seats book.
     book_same seats _ _ [] book
-    (extends seats _ _ [] (c.args.bytes ∷ []) [] book (sym (append-nil _)) c.push_reserved.ensures.items (sym (append-nil _)) tt tt)
-    refl refl
+    (extends seats _ _ [] (c.args.bytes ∷ []) [] book (sym (append-nil _)) c.push.ensures.items (sym (append-nil _)) tt tt)
+    refl refl refl
 
 pub returns-clause-bytes : goal.returns-clause-bytes
 returns-clause-bytes c =
     let here : c.len-number.result ≡ length c.args.log.now.kept.items = search rules in
-    ap (λ k. bytes_at k c.len-number.result) c.push_reserved.ensures.items
+    ap (λ k. bytes_at k c.len-number.result) c.push.ensures.items
     ∙ (ap (bytes_at (c.args.log.now.kept.items ++ c.args.bytes ∷ [])) here ∙ bytes_last c.args.log.now.kept.items c.args.bytes)

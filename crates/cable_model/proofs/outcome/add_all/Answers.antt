@@ -1,48 +1,93 @@
-use Rattle.std.proofs.Common.{◌+◌, ◌*◌, ◌++◌, ◌∙◌, ap, append_assoc, arith, length, refl, sym}
-use Rattle.cable_model.proofs.Outs.{first_so_far, next_so_far, product, room_for, room_left}
-use Rattle.cable_model.specs.Outcomes.{Places, all_stored, stored_of}
+use Rattle.std.proofs.Common.{◌≡◌, ◌≤◌, ◌+◌, ◌*◌, ◌⊎◌, ◌∙◌, List, [], ◌∷◌, ap, arith, length, refl, subst, sym, vec_len}
+use Rattle.cable_model.proofs.Outs.{few_left, first_so_far, last_so_far, next_so_far, none_where_known, resolver_same, room_to_settle}
+use Rattle.cable_model.proofs.Outs.{rooms_left}
+use Rattle.cable_model.specs.Books.{HasHeldRoom, HasRoom}
+use Rattle.cable_model.specs.Outcomes.{Places}
+use Rattle.cable_model.specs.Outgoing.{IsAnswering}
 use Rattle.cable_model.specs.Ways.{all_lines, all_spare, lines_for}
 use Rattle.cable_model.proofs.outcome.add_all.Goals as goal
 
 pub loop-output-init : goal.loop-output-init
-loop-output-init g c =
-    let places : Places = record { finds = g.R.Resolve.finds c.args.resolver.now; lists = g.R.Resolve.lists c.args.resolver.now } in
-    record {
-      book = c.requires.book;
-      room = c.requires.room;
-      so_far = first_so_far places c.args.seats.now c.args.station c.args.log.now c.args.outputs.now.items;
-      stored = refl;
-      few = omega arith;
-      named = omega arith;
-    }
+loop-output-init g c = record {
+  book = c.requires.book;
+  idle = c.requires.idle;
+  room = c.requires.room;
+  more = c.requires.more;
+  so_far =
+      first_so_far (λ r. record { finds = g.R.Resolve.finds r; lists = g.R.Resolve.lists r }) g.R.Resolve.holds c.args.seats.now
+      c.args.station c.args.log.now c.args.outputs.now.items c.args.resolver.now;
+  few = omega arith;
+  known = λ known. (refl, omega arith);
+  named = omega arith;
+  steady = omega arith;
+  unchanged = λ none. (refl, none);
+}
+
+pub settle-requires-clause-room : goal.settle-requires-clause-room
+settle-requires-clause-room g c =
+    let places : Places = record { finds = g.R.Resolve.finds c.loop-output.resolver; lists = g.R.Resolve.lists c.loop-output.resolver } in
+    let i = c.loop-output.invariant in
+    let n = length c.args.seats.now in
+    room_to_settle places c.args.seats.now c.args.station c.loop-output.log c.add.new.log c.in-Some.output i.book c.add.ensures.book i.idle
+    c.add.ensures.grows c.add.ensures.uses c.pop.new.self.items
+    (subst (λ os. IsAnswering places ⊎ HasHeldRoom c.loop-output.log os n) c.in-Some.ensures.some i.more)
 
 pub loop-output-preserved : goal.loop-output-preserved
 loop-output-preserved g c =
-    let places : Places = record { finds = g.R.Resolve.finds c.args.resolver.now; lists = g.R.Resolve.lists c.args.resolver.now } in
+    let view : g.row.R.Denot → Places = λ r. record { finds = g.R.Resolve.finds r; lists = g.R.Resolve.lists r } in
     let i = c.loop-output.invariant in
-    let split = c.in-Some.ensures.some in
+    let seats = c.args.seats.now in
+    let station = c.args.station in
+    let a = c.loop-output.log in
+    let b = c.add.new.log in
+    let d = c.settle.new.log in
+    let x = c.loop-output.resolver in
+    let z = c.settle.new.resolver in
     let o = c.in-Some.output in
+    let os = c.loop-output.outputs.items in
     let rest = c.pop.new.self.items in
-    let n = length c.args.seats.now in
-    let lines = ap all_lines split in
-    let spare = ap all_spare split in
-    let long = ap length split in
-    let pairs = ap (λ l. length l * n) split ∙ product (length rest) n in
+    let n = length seats in
+    let split : os ≡ o ∷ rest = c.in-Some.ensures.some in
+    let lines : all_lines os ≡ all_lines (o ∷ rest) = ap all_lines split in
+    let spare : all_spare os ≡ all_spare (o ∷ rest) = ap all_spare split in
+    let long : length os ≡ length (o ∷ rest) = ap length split in
+    let grown = c.add.ensures.grows in
+    let used = c.add.ensures.uses in
+    let settled = c.settle.ensures.used in
+    let room : HasRoom a (all_lines (o ∷ rest)) (length (o ∷ rest)) (length (o ∷ rest)) (length (o ∷ rest) * n) =
+    subst (λ l. HasRoom a (all_lines l) (length l) (length l) (length l * n)) split i.room in
+    let more : IsAnswering (view x) ⊎ HasHeldRoom a (o ∷ rest) n = subst (λ l. IsAnswering (view x) ⊎ HasHeldRoom a l n) split i.more in
+    let same : IsAnswering (view x) → z ≡ x =
+    resolver_same view g.R.Resolve.holds seats station a b d o x z i.idle grown c.settle.ensures.settled in
+    let rooms = rooms_left (view x) seats station a b o i.book c.add.ensures.book i.idle grown used d settled c.settle.ensures.idle rest
+    (IsAnswering (view z)) (λ known. subst (λ r. IsAnswering (view r)) (sym (same known)) known) room more in
+    let few : vec_len d.lines ≤ vec_len a.lines + lines_for o + 2 =
+    few_left (view x) seats station a b o i.book c.add.ensures.book i.idle grown used d settled c.settle.ensures.idle rest in
     record {
-      book = c.add.ensures.book;
-      room =
-          room_left c.loop-output.log c.add.new.log (lines_for o) 1 1 n (all_lines rest) (length rest) (length rest) (length rest * n)
-          (room_for c.loop-output.log _ _ _ _ (lines_for o + all_lines rest) (1 + length rest) (1 + length rest)
-          (n + length rest * n) i.room
-          (omega (arith, lines)) (omega (arith, long)) (omega (arith, long)) (omega (arith, pairs))) c.add.ensures.uses;
+      book = c.settle.ensures.book;
+      idle = c.settle.ensures.idle;
+      room = rooms.0;
+      more = rooms.1;
       so_far =
-          next_so_far places c.args.seats.now c.args.station c.args.log.now c.loop-output.log c.add.new.log c.args.outputs.now.items
-          c.loop-output.outputs.items rest o split i.so_far i.book c.add.ensures.book c.add.ensures.grows;
-      stored =
-          ap (λ k. k ++ all_stored places c.args.seats.now c.args.station rest) c.add.ensures.stored
-          ∙ (append_assoc c.loop-output.log.kept.items (stored_of places c.args.seats.now c.args.station o)
-          (all_stored places c.args.seats.now c.args.station rest)
-          ∙ (ap (λ os. c.loop-output.log.kept.items ++ all_stored places c.args.seats.now c.args.station os) (sym split) ∙ i.stored));
-      few = omega (arith, i.few, lines, c.add.ensures.uses.lines);
-      named = omega (arith, i.named, spare, c.add.ensures.named);
+          next_so_far view g.R.Resolve.holds seats station c.args.log.now a b d c.args.outputs.now.items os rest o c.args.resolver.now x z
+          split i.so_far i.book i.idle grown c.add.ensures.stored c.settle.ensures.settled;
+      few = omega (arith, i.few, lines, long, few);
+      known = λ first.
+          let before = i.known first in
+          let now : IsAnswering (view x) = subst (λ r. IsAnswering (view r)) (sym before.0) first in
+          let none = none_where_known (view x) seats station a b o i.book c.add.ensures.book i.idle grown used now in
+          let still = ap (λ v. vec_len v) (settled.none none).lines in
+          (same now ∙ before.0, omega (arith, before.1, lines, used.lines, still));
+      named = omega (arith, i.named, spare, c.add.ensures.named, settled.named);
+      steady = omega (arith, i.steady, used.steady, settled.steady);
+      unchanged = λ none. absurd (not_both os (i.unchanged none).1 split);
     }
+  where
+    not_both : {X : Type 0} {x : X} {xs : List X} (l : List X) → l ≡ [] → l ≡ x ∷ xs → ⊥
+    not_both l e f = cc
+
+pub returns-clause-out : goal.returns-clause-out
+returns-clause-out g c =
+    last_so_far (λ r. record { finds = g.R.Resolve.finds r; lists = g.R.Resolve.lists r }) g.R.Resolve.holds c.args.seats.now
+    c.args.station c.args.log.now c.loop-output.log c.args.outputs.now.items c.loop-output.outputs.items c.args.resolver.now
+    c.loop-output.resolver c.in_default.ensures.none c.loop-output.invariant.so_far

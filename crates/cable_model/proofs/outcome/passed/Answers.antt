@@ -11,7 +11,7 @@ returns-then-is_nowhere-clause-grows g c =
     let places : Places = record { finds = g.R.Resolve.finds c.args.resolver.now; lists = g.R.Resolve.lists c.args.resolver.now } in
     let w : c.way_of-way.result ≡ way_of places c.args.exit.cable c.args.next c.args.bytes = search rules in
     let none : is_nowhere_way c.way_of-way.result ≡ true = search rules in
-    nowhere_grows places c.args.exit c.args.next c.args.bytes c.way_of-way.result c.args.log.now c.args.log.now.puts w none
+    nowhere_grows places c.args.exit c.args.next c.args.bytes c.way_of-way.result c.args.log.now c.args.log.now.next_stamp w none
 
 pub leave-requires-clause-book : goal.leave-requires-clause-book
 leave-requires-clause-book g c = c.keep-number.ensures.book c.args.seats.now c.requires.book
@@ -23,8 +23,8 @@ returns-clause-grows g c =
     grows_then c.args.log.now c.keep-number.new.log c.leave.new.log [] _ [] _
     (c.keep-number.ensures.grows c.args.seats.now c.requires.book)
     (left_grows places c.args.exit c.args.next c.args.bytes (bytes_at c.keep-number.new.log.kept.items c.keep-number.result)
-    c.way_of-way.result c.keep-number.new.log c.leave.new.log c.keep-number.new.log.puts c.args.log.now.puts w
-    c.keep-number.ensures.puts c.keep-number.ensures.bytes c.leave.ensures.grows)
+    c.way_of-way.result c.keep-number.new.log c.leave.new.log c.keep-number.new.log.next_stamp c.args.log.now.next_stamp w
+    c.keep-number.ensures.next_stamp c.keep-number.ensures.bytes c.leave.ensures.grows)
 
 pub returns-then-is_nowhere-clause-stored : goal.returns-then-is_nowhere-clause-stored
 returns-then-is_nowhere-clause-stored g c =

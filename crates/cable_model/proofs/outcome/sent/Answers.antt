@@ -23,6 +23,6 @@ returns-clause-grows g c =
     (c.keep-number.ensures.grows c.args.seats.now c.requires.book)
     (grows_then c.keep-number.new.log c.note.new.log c.leave.new.log (Sent c.args.exit.station (body c.args.bytes) ∷ []) _ [] _ noted
     (left_grows places c.args.exit c.args.next c.args.bytes (bytes_at c.note.new.log.kept.items c.keep-number.result)
-    c.way_of-way.result c.note.new.log c.leave.new.log c.note.new.log.puts c.args.log.now.puts w
-    (c.note.ensures.puts ∙ c.keep-number.ensures.puts)
+    c.way_of-way.result c.note.new.log c.leave.new.log c.note.new.log.next_stamp c.args.log.now.next_stamp w
+    (c.note.ensures.next_stamp ∙ c.keep-number.ensures.next_stamp)
     (ap (λ k. bytes_at k.items c.keep-number.result) c.note.ensures.kept ∙ c.keep-number.ensures.bytes) c.leave.ensures.grows))

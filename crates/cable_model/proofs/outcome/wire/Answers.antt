@@ -12,7 +12,7 @@ put-requires-clause-book c = c.keep-number.ensures.book c.args.seats.now c.requi
 pub returns-clause-grows : goal.returns-clause-grows
 returns-clause-grows c =
     let put : Grows c.keep-number.new.log c.put.new.log
-    (framed (sender_at c.args.exit c.args.log.now.puts) c.args.to Aarp c.args.bytes ∷ []) [] =
-    rw (← c.keep-number.ensures.bytes, ← c.keep-number.ensures.puts) c.put.ensures.grows in
+    (framed (sender_at c.args.exit c.args.log.now.next_stamp) c.args.to Aarp c.args.bytes ∷ []) [] =
+    rw (← c.keep-number.ensures.bytes, ← c.keep-number.ensures.next_stamp) c.put.ensures.grows in
     grows_then c.args.log.now c.keep-number.new.log c.put.new.log [] _ [] _
     (c.keep-number.ensures.grows c.args.seats.now c.requires.book) put

@@ -1,15 +1,34 @@
-use Rattle.std.proofs.Common.{rules, ◌≡◌, ◌==◌, ◌&&◌, length, refl, ap, ◌∙◌}
+use Rattle.std.proofs.Common.{refl, ap, arith, length, not, ◌==◌, ◌+◌}
 use Rattle.cable_model.proofs.PutOn.{book_put}
-use Rattle.cable_model.specs.Books.{dues}
-use Rattle.cable_model.specs.Order.{all_placed}
-use Rattle.cable_model.specs.Outcomes.{is_for_as, link_of}
-use Rattle.cable_model.specs.Waits.{due_key}
+use Rattle.cable_model.proofs.Stored.{filter_few}
 use Rattle.cable_model.proofs.putting.put.Goals as goal
 
 pub returns-clause-book : goal.returns-clause-book
 returns-clause-book c =
-    let here : c.len-put.result ≡ length c.args.log.now.lines.items = search rules in
-    book_put c.args.seats.now c.args.log.now _ c.args.cable c.args.sender c.args.to c.args.kind c.args.bytes c.requires.book
-    c.push_reserved.ensures.items refl refl refl c.requires.names
-    (c.add_dues.ensures.added ∙ ap (λ n. all_placed due_key c.args.log.now.due.dues (dues (λ s. s.cable == c.args.cable && is_for_as
-    (link_of c.args.to) c.args.to c.args.sender s) c.args.log.now.puts n 0 c.args.seats.now)) here)
+    book_put c.args.seats.now c.args.log.now _ c.args.log.now.next_stamp c.args.cable c.args.sender c.args.to c.args.kind c.args.bytes
+    c.requires.book c.add_frame.ensures.lines c.add_frame.ensures.kept c.add_frame.ensures.waiting c.requires.names
+    c.add_frame.ensures.due (ap (λ w. w.dues) c.add_frame.ensures.holdings) refl (ap (λ n. n + 1) c.add_frame.ensures.next_stamp)
+
+pub returns-clause-uses : goal.returns-clause-uses
+returns-clause-uses c =
+    let a = c.add_frame.ensures in
+    let left = ap (λ w. length w.dues) a.holdings in
+    let few = filter_few (λ d. not (c.args.log.now.next_stamp == d.stamp)) c.args.log.now.holdings.dues in
+    let same = ap (λ w. w.room) a.holdings in
+    let kept = ap (λ k. length k.items) a.kept in
+    let waiting = ap (λ w. w.len) a.waiting in
+    record {
+      lines = omega (arith, a.one);
+      kept = omega (arith, kept);
+      waiting = omega (arith, waiting);
+      due = omega (arith, a.few);
+      next_stamp = omega (arith, a.next_stamp);
+      lines_room = a.lines_room;
+      kept_room = ap (λ k. k.room) a.kept;
+      waiting_room = ap (λ w. w.cap) a.waiting;
+      due_room = a.due_room;
+      grown = omega (arith, a.one);
+      steady = omega (arith, a.one, a.next_stamp);
+      holdings = omega (arith, left, few);
+      holdings_room = omega (arith, same);
+    }

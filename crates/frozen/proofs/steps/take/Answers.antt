@@ -2,10 +2,15 @@ use Rattle.std.proofs.Common.{refl}
 use Rattle.std.proofs.lemmas.Option.{slice_get_read}
 use Rattle.std.proofs.lemmas.Result.{on_ok_weaker}
 use Rattle.std.specs.Prelude.{length}
+use Rattle.cable_model.proofs.AtOnce.{taken_at_once}
+use Rattle.image_stations.proofs.Answering.{always_answered}
 use Rattle.frozen.proofs.steps.take.Goals as goal
 
-pub take-requires : goal.take-requires
-take-requires g c =
+pub take-requires-clause-known : goal.take-requires-clause-known
+take-requires-clause-known g c = λ known. always_answered c.args.places.now
+
+pub take-requires-clause-seats : goal.take-requires-clause-seats
+take-requires-clause-seats g c =
     c.requires.seated c.index_mut-taker.result.now
     (slice_get_read c.args.stations.now.items (length c.args.stations.now.items) c.args.station c.index_mut-taker.result.now refl
     c.requires.there c.index_mut-taker.ensures.value)
@@ -19,6 +24,6 @@ returns-clause-ok g c =
           c.requires.there c.index_mut-taker.ensures.value;
       after = c.take.new.taker;
       changed = refl;
-      taken = taken;
+      taken = (taken_at_once _ _ _ _ _ _ _ _ _ _ (always_answered c.args.places.now) taken).0;
     })
     c.take.ensures.ok

@@ -1,4 +1,4 @@
-use Rattle.live_cables.proofs.Quiet.{puts_then}
+use Rattle.live_cables.proofs.Calm.{puts_then}
 use Rattle.live_cables.proofs.giving.+give_all.Goals as goal
 
 pub returns-clause-puts : goal.returns-clause-puts

@@ -1,4 +1,4 @@
-use Rattle.live_cables.proofs.Quiet.{puts_then}
+use Rattle.live_cables.proofs.Calm.{puts_then}
 use Rattle.live_cables.proofs.passing.+ask_all.Goals as goal
 
 pub returns-in-Ok-clause-puts : goal.returns-in-Ok-clause-puts

@@ -1,4 +1,4 @@
-use Rattle.std.proofs.Common.{arith, subst}
+use Rattle.std.proofs.Common.{◌≡◌, arith, inr, subst, Result, Ok, Err, OnErr}
 use Rattle.std.proofs.lemmas.Result.{on_ok_weaker}
 use Rattle.world.proofs.Going.{goes_on_then, goes_then}
 use Rattle.world.specs.Acting.{AreDone}
@@ -22,3 +22,16 @@ returns-clause-begins g c =
       does = subst (λ l. AreDone c.args.plan.now l c.args.now d.0 c.args.schedule.now.items c.act_all.new.schedule.items
           (c.tick_all.new.wires, c.args.refused.now.items) (c.act_all.new.wires, c.act_all.new.refused.items)) c.as_slice.ensures.value d.1;
     }) c.act_all.ensures.are_done
+
+pub returns-clause-stopped : goal.returns-clause-stopped
+returns-clause-stopped g c =
+    always c.act_all.result (inr (record {
+      seats = c.in-Ok.ensures.passed.0;
+      wires = c.tick_all.new.wires;
+      passes = c.in-Ok.ensures.passed.1;
+      goes = c.act_all.ensures.goes;
+    }))
+  where
+    always : {T E P : Type 0} (r : Result T E) → P → OnErr r P
+    always (Ok x) p = tt
+    always (Err e) p = p

@@ -1,6 +1,9 @@
-use Rattle.std.proofs.Common.{rules, ◌≡◌, true, false, arith, sym, ap, ◌∙◌}
+use Rattle.std.proofs.Common.{rules, ◌≡◌, ◌≤◌, true, false, arith, length, sym, ap, vec_len, ◌∙◌}
 use Rattle.std.specs.List.{list_any}
+use Rattle.cable_model.proofs.Stamps.{put_below}
 use Rattle.cable_model.proofs.Stored.{when_some}
+use Rattle.cable_model.proofs.Takes.{no_spare, same_spare}
+use Rattle.cable_model.specs.Books.{said as said_in}
 use Rattle.std.specs.Prelude.{is_some}
 use Rattle.cable_model.specs.Logs.{transcript as said}
 use Rattle.cable_model.specs.Outcomes.{has_stamp}
@@ -20,8 +23,12 @@ returns-then-is_none-clause-full c =
     search rules
 
 pub invariant_of-self : goal.invariant_of-self
-invariant_of-self c =
-    (c.make_room.ensures.kept c.self.inside.seats c.self.invariant.0, c.self.invariant.1)
+invariant_of-self c = (
+  c.make_room.ensures.kept c.self.inside.seats c.self.invariant.0,
+  c.self.invariant.1,
+  same_spare c.self.inside.seats c.self.inside.limit c.self.inside.log c.make_room.new.log c.self.inside.spare
+      c.make_room.ensures.same c.self.invariant.2,
+)
 
 pub returns-in-Err-clause-not_pending : goal.returns-in-Err-clause-not_pending
 returns-in-Err-clause-not_pending c =
@@ -38,22 +45,29 @@ returns-in-Err-clause-full c =
 pub lost-requires-clause-earlier : goal.lost-requires-clause-earlier
 lost-requires-clause-earlier c =
     let some : is_some c.find_frame.result ≡ true = search rules in
-    let e = when_some c.find_frame.result some
-    (c.find_frame.ensures.earlier c.self.inside.seats c.self.invariant.0.book) in
-    omega (arith, e, c.make_room.ensures.same.puts)
+    let book = c.self.invariant.0.book in
+    let put = when_some c.find_frame.result some (c.find_frame.ensures.put c.self.inside.seats book) in
+    let e = put_below (said_in c.self.inside.log) c.args.stamp put in
+    omega (arith, e, book.next, c.make_room.ensures.same.next_stamp)
 
 pub invariant_of-self-2 : goal.invariant_of-self-2
 invariant_of-self-2 c =
-    let k = c.make_room.ensures.kept c.self.inside.seats c.self.invariant.0 in
-    let kept = ap (λ v. v.len) c.lost.ensures.kept in (
+    let s = c.self.inside.seats in
+    let limit = c.self.inside.limit in
+    let k = c.make_room.ensures.kept s c.self.invariant.0 in
+    let kept = ap (λ k. length k.items) c.lost.ensures.kept in
+    let used = c.lost.ensures.uses in
+    let few : vec_len c.lost.new.log.lines ≤ limit = omega (arith, c.lost.ensures.one, c.in-Ok.ensures.within) in (
       record {
-        book = c.lost.ensures.book c.self.inside.seats k.book;
-        few = omega (arith, c.lost.ensures.one, c.in-Ok.ensures.within);
+        book = c.lost.ensures.book s k.book;
+        few = few;
         named = omega (arith, k.named, kept, c.lost.ensures.one);
-        frames = omega (arith, k.frames, c.lost.ensures.puts, c.lost.ensures.one);
+        frames = omega (arith, k.frames, c.lost.ensures.next_stamp, c.lost.ensures.one);
+        idle = ap (λ v. v.items) c.lost.ensures.waiting ∙ k.idle;
         one_seat = k.one_seat;
       },
       c.self.invariant.1,
+      no_spare s limit c.lost.new.log,
     )
 
 pub returns-clause-not_pending : goal.returns-clause-not_pending

@@ -1,12 +1,17 @@
-use Rattle.std.proofs.Common.{[], ◌∷◌, arith, ap, ◌∙◌}
-use Rattle.cable_model.proofs.Steps.{adds_of, grows_then, same_grows}
+use Rattle.std.proofs.Common.{[], ◌∷◌, ◌≡◌, ◌≤◌, ◌*◌, arith, ap, length, vec_len, ◌∙◌}
+use Rattle.cable_model.proofs.Steps.{adds_of, grows_then, same_grows, told}
+use Rattle.cable_model.proofs.Takes.{no_spare, same_spare}
 use Rattle.cable_model.specs.Books.{Grows}
 use Rattle.cable_model.specs.Outcomes.{framed}
 use Rattle.cable_model.proofs.cables.Cables.put.Goals as goal
 
 pub invariant_of-self : goal.invariant_of-self
-invariant_of-self c =
-    (c.make_room.ensures.kept c.self.inside.seats c.self.invariant.0, c.self.invariant.1)
+invariant_of-self c = (
+  c.make_room.ensures.kept c.self.inside.seats c.self.invariant.0,
+  c.self.invariant.1,
+  same_spare c.self.inside.seats c.self.inside.limit c.self.inside.log c.make_room.new.log c.self.inside.spare
+      c.make_room.ensures.same c.self.invariant.2,
+)
 
 pub put-requires-clause-book : goal.put-requires-clause-book
 put-requires-clause-book c =
@@ -15,17 +20,26 @@ put-requires-clause-book c =
 
 pub invariant_of-self-2 : goal.invariant_of-self-2
 invariant_of-self-2 c =
-    let k = c.make_room.ensures.kept c.self.inside.seats c.self.invariant.0 in
-    let kept = ap (λ v. v.len) c.put.ensures.kept in
-    let lines = ap (λ v. v.len) c.keep-number.ensures.lines in (
+    let s = c.self.inside.seats in
+    let limit = c.self.inside.limit in
+    let k = c.make_room.ensures.kept s c.self.invariant.0 in
+    let kept = ap (λ k. length k.items) c.put.ensures.kept in
+    let lines = ap (λ v. v.len) c.keep-number.ensures.lines in
+    let number = c.keep-number.ensures.uses in
+    let used = c.put.ensures.uses in
+    let room = c.in-Ok-make_room.ensures.room in
+    let frames : 1 * c.len-2.result ≡ 1 * length s = ap (λ n. 1 * n) c.len-2.ensures.value in
+    let few : vec_len c.put.new.log.lines ≤ limit = omega (arith, c.put.ensures.one, lines, c.in-Ok-make_room.ensures.within) in (
       record {
         book = c.put.ensures.book;
-        few = omega (arith, c.put.ensures.one, lines, c.in-Ok-make_room.ensures.within);
+        few = few;
         named = omega (arith, k.named, kept, c.put.ensures.one, lines, c.keep-number.ensures.one);
-        frames = omega (arith, k.frames, c.put.ensures.puts, c.keep-number.ensures.puts, c.put.ensures.one, lines);
+        frames = omega (arith, k.frames, c.put.ensures.next_stamp, c.keep-number.ensures.next_stamp, c.put.ensures.one, lines);
+        idle = ap (λ v. v.items) c.put.ensures.waiting ∙ (ap (λ v. v.items) c.keep-number.ensures.waiting ∙ k.idle);
         one_seat = k.one_seat;
       },
       c.self.invariant.1,
+      no_spare s limit c.put.new.log,
     )
 
 pub returns-clause-ok : goal.returns-clause-ok
@@ -34,12 +48,13 @@ returns-clause-ok c =
     let same = same_grows c.self.inside.log c.make_room.new.log c.make_room.ensures.same in
     let kept = c.keep-number.ensures.grows s (c.make_room.ensures.kept s c.self.invariant.0).book in
     let put : Grows c.keep-number.new.log c.put.new.log
-    (framed (record { stamp = c.make_room.new.log.puts; cable = c.args.cable; station = c.args.station }) c.args.to c.args.kind
+    (framed (record { stamp = c.make_room.new.log.next_stamp; cable = c.args.cable; station = c.args.station }) c.args.to c.args.kind
     c.args.bytes ∷ []) [] =
-    rw (← c.keep-number.ensures.puts, ← c.keep-number.ensures.bytes) c.put.ensures.grows in
+    rw (← c.keep-number.ensures.next_stamp, ← c.keep-number.ensures.bytes) c.put.ensures.grows in
+    let all = grows_then c.self.inside.log c.make_room.new.log c.put.new.log [] _ [] _ same
+    (grows_then c.make_room.new.log c.keep-number.new.log c.put.new.log [] _ [] _ kept put) in
     rw (← c.self.view_is) (
-      c.make_room.ensures.same.puts ∙ c.self.invariant.0.book.puts,
-      adds_of s c.self.inside.limit c.self.inside.rooms c.self.inside.log c.put.new.log _ _
-          (grows_then c.self.inside.log c.make_room.new.log c.put.new.log [] _ [] _ same
-          (grows_then c.make_room.new.log c.keep-number.new.log c.put.new.log [] _ [] _ kept put)),
+      c.make_room.ensures.same.next_stamp ∙ c.self.invariant.0.book.next,
+      adds_of s c.self.inside.limit c.self.inside.rooms c.self.inside.log c.put.new.log _ _ _
+          (told c.self.inside.log c.put.new.log _ [] all),
     )

@@ -1,19 +1,25 @@
-use Rattle.std.proofs.Common.{rules, ◌≡◌, ◌<◌, ◌+◌, ◌++◌, ◌==◌, ◌*◌, true, false, [], ◌∷◌, arith, sym, subst, ap, ap₂, ◌∙◌, eqb-true}
-use Rattle.std.proofs.Common.{Contains, length, map}
+use Rattle.std.proofs.Common.{rules, ◌≡◌, ◌⊎◌, ◌<◌, ◌≤◌, ◌+◌, ◌++◌, ◌==◌, ◌*◌, true, false, List, [], ◌∷◌, arith, sym, subst, ap, ◌∙◌}
+use Rattle.std.proofs.Common.{eqb-true}
+use Rattle.std.proofs.Common.{Contains, length, vec_len}
 use Rattle.std.specs.List.{list_any}
+use Rattle.std.specs.Prelude.{IsSome}
 use Rattle.std.proofs.lemmas.Bool.{and_parts}
 use Rattle.cable_model.proofs.Books.{stamp_is}
 use Rattle.cable_model.proofs.Legs.{needs}
-use Rattle.cable_model.proofs.Outs.{room_for, room_left}
-use Rattle.cable_model.proofs.Steps.{grows_then}
-use Rattle.cable_model.proofs.Takes.{adds_from, enough, few_times, held_from, kept_after, room_forgotten, seat_there}
-use Rattle.cable_model.specs.Books.{Grows, pair_at, said as said_in, seat_at}
-use Rattle.cable_model.specs.Logs.{Cabling, entry_at, transcript as said}
-use Rattle.cable_model.specs.Outcomes.{Places, all_entries, all_held, all_stored, heard_by, is_named}
+use Rattle.cable_model.proofs.Steps.{adds_of, grows_then, same_grows, tells_then, told}
+use Rattle.cable_model.proofs.Takes.{enough, known_room, no_spare, none_long, same_said, same_spare, seat_there, take_few, take_more}
+use Rattle.cable_model.proofs.Takes.{take_spare}
+use Rattle.cable_model.specs.Books.{HasHeldRoom, HasRoom, IsSpare, pair_at, said as said_in, seat_at}
+use Rattle.cable_model.specs.Logs.{Cabling, transcript as said}
+use Rattle.cable_model.specs.Outcomes.{Places, heard_by, is_named}
+use Rattle.cable_model.specs.Outgoing.{GoOut, IsAnswering}
 use Rattle.cable_model.specs.Pending.{pending as pending_on}
-use Rattle.cable_model.specs.Transcript.{Took, stamps}
+use Rattle.cable_model.specs.Rooms.{known_rooms}
+use Rattle.cable_model.specs.Transcript.{Entry, Took, has_put}
 use Rattle.cable_model.specs.Ways.{all_lines, all_spare}
 use Rattle.station.specs.Hearing.{hearing}
+use Rattle.station.specs.Resolution.{response_in}
+use Rattle.cable_model.proofs.cables.Cables.take.Goals.{then-is_empty, else-is_empty}
 use Rattle.cable_model.proofs.cables.Cables.take.Goals as goal
 
 pub returns-in_default-clause-full : goal.returns-in_default-clause-full
@@ -24,8 +30,12 @@ returns-in_default-clause-full g c =
     search rules
 
 pub invariant_of-self : goal.invariant_of-self
-invariant_of-self g c =
-    (c.make_room.ensures.kept c.self.inside.seats c.self.invariant.0, c.self.invariant.1)
+invariant_of-self g c = (
+  c.make_room.ensures.kept c.self.inside.seats c.self.invariant.0,
+  c.self.invariant.1,
+  same_spare c.self.inside.seats c.self.inside.limit c.self.inside.log c.make_room.new.log c.self.inside.spare
+      c.make_room.ensures.same c.self.invariant.2,
+)
 
 pub returns-in-Err-clause-not_pending : goal.returns-in-Err-clause-not_pending
 returns-in-Err-clause-not_pending g c =
@@ -35,8 +45,12 @@ returns-in-Err-clause-not_pending g c =
     search rules
 
 pub invariant_of-self-in-Err-make_ready : goal.invariant_of-self-in-Err-make_ready
-invariant_of-self-in-Err-make_ready g c =
-    (c.make_room.ensures.kept c.self.inside.seats c.self.invariant.0, c.self.invariant.1)
+invariant_of-self-in-Err-make_ready g c = (
+  c.make_room.ensures.kept c.self.inside.seats c.self.invariant.0,
+  c.self.invariant.1,
+  same_spare c.self.inside.seats c.self.inside.limit c.self.inside.log c.make_room.new.log c.self.inside.spare
+      c.make_room.ensures.same c.self.invariant.2,
+)
 
 pub returns-in-Err-make_ready-clause-not_pending : goal.returns-in-Err-make_ready-clause-not_pending
 returns-in-Err-make_ready-clause-not_pending g c =
@@ -53,15 +67,19 @@ receive-requires g c =
     let there = seat_there ss (said_in c.self.inside.log) due is_due in
     let named = and_parts (c.args.stamp == due.stamp) (c.args.station == due.station) c.in-Some.ensures.of_it in
     let station = eqb-true c.args.station due.station named.1 ∙ sym is_due.station in
-    let less = c.requires.inside (seat_at ss due.seat)
+    let less = c.requires.seats.inside (seat_at ss due.seat)
     (subst (λ (v : Cabling). Contains v.seats (seat_at ss due.seat)) c.self.view_is there) (sym station) in
     let port : c.heard_of-heard.result.port ≡ (seat_at ss due.seat).port =
     ap (λ h. h.port) c.heard_of-heard.ensures ∙ ap (λ ss. (seat_at ss due.seat).port) c.as_slice.ensures in
     record { port = subst (λ n. n < g.S.Station.ports_of c.args.taker.now) (sym port) less }
 
 pub invariant_of-self-in-Err-receive : goal.invariant_of-self-in-Err-receive
-invariant_of-self-in-Err-receive g c =
-    (c.make_room.ensures.kept c.self.inside.seats c.self.invariant.0, c.self.invariant.1)
+invariant_of-self-in-Err-receive g c = (
+  c.make_room.ensures.kept c.self.inside.seats c.self.invariant.0,
+  c.self.invariant.1,
+  same_spare c.self.inside.seats c.self.inside.limit c.self.inside.log c.make_room.new.log c.self.inside.spare
+      c.make_room.ensures.same c.self.invariant.2,
+)
 
 pub returns-in-Err-receive-clause-not_pending : goal.returns-in-Err-receive-clause-not_pending
 returns-in-Err-receive-clause-not_pending g c =
@@ -70,127 +88,155 @@ returns-in-Err-receive-clause-not_pending g c =
     (sym (c.in-Some.ensures.value c.self.inside.seats c.self.invariant.0.book)) in
     search rules
 
+pub took-requires-clause-put : goal.took-requires-clause-put
+took-requires-clause-put g c =
+    let put = c.in-Some.ensures.put c.self.inside.seats c.self.invariant.0.book in
+    subst (λ t. list_any (has_put c.args.stamp) t ≡ true)
+    (sym (same_said c.self.inside.log c.make_room.new.log c.make_room.ensures.same)) put
+
 pub add_all-requires-clause-room : goal.add_all-requires-clause-room
 add_all-requires-clause-room g c =
     let put = c.in-Ok-receive.ensures.ok in
     let os = c.receive.new.outputs.items in
     let same : os ≡ put.added = put.grown ∙ ap (λ l. l ++ put.added) c.in-Ok-make_ready.ensures.ok in
-    let need = needs put.added in
-    let lines = ap all_lines same in
-    let long = ap length same in
-    let n = length c.self.inside.seats in
+    let s = c.self.inside.seats in
+    let mid = c.make_room.new.log in
+    let new = c.took.new.log in
     let rooms = c.self.inside.rooms in
-    let room = c.in-Ok.ensures.room in
-    let is = enough rooms c.self.invariant.1 in
-    let few = few_times (length os) n (omega (arith, long, need.all, put.lawful.made, put.lawful.others)) in
-    let frames : rooms.take.pairs * c.len.result ≡ 257 * n = ap₂ (λ p k. p * k) is.pairs c.len.ensures.value in
-    let after =
-    room_forgotten c.make_room.new.log c.forget_waiting.new.log rooms.take.lines rooms.take.bytes rooms.take.bytes
-    (rooms.take.pairs * c.len.result) room c.forget_waiting.ensures.lines
-    c.forget_waiting.ensures.kept c.forget_waiting.ensures.due c.forget_waiting.ensures.puts c.forget_waiting.ensures.empty
-    c.forget_waiting.ensures.room in
-    let left = room_left c.forget_waiting.new.log c.took.new.log 1 0 0 0 770 257 257 (257 * n)
-    (room_for c.forget_waiting.new.log rooms.take.lines rooms.take.bytes rooms.take.bytes (rooms.take.pairs * c.len.result) 771 257 257
-    (0 + 257 * n) after (omega (arith, is.lines)) (omega (arith, is.bytes)) (omega (arith, is.bytes)) (omega (arith, frames)))
-    c.took.ensures.uses in
-    room_for c.took.new.log 770 257 257 (257 * n) (all_lines os) (length os) (length os) (length os * n) left
-    (omega (arith, lines, need.lines, put.lawful.made, put.lawful.others))
-    (omega (arith, long, need.all, put.lawful.made, put.lawful.others))
-    (omega (arith, long, need.all, put.lawful.made, put.lawful.others))
-    (omega (arith, few))
+    let room =
+    subst (λ n. HasRoom mid rooms.take.lines rooms.take.bytes rooms.take.bytes (rooms.take.pairs * n)) c.len.ensures.value
+    c.in-Ok.ensures.room in
+    subst (λ l. HasRoom new (all_lines l) (length l) (length l) (length l * length s)) (sym same)
+    (known_room rooms c.self.invariant.1 (length s) mid new put.added room c.took.ensures.uses put.lawful.made put.lawful.others)
+
+pub add_all-requires-clause-more : goal.add_all-requires-clause-more
+add_all-requires-clause-more g c =
+    let put = c.in-Ok-receive.ensures.ok in
+    let os = c.receive.new.outputs.items in
+    let same : os ≡ put.added = put.grown ∙ ap (λ l. l ++ put.added) c.in-Ok-make_ready.ensures.ok in
+    let s = c.self.inside.seats in
+    let mid = c.make_room.new.log in
+    let new = c.took.new.log in
+    let rooms = c.self.inside.rooms in
+    let room =
+    subst (λ n. HasRoom mid rooms.take.lines rooms.take.bytes rooms.take.bytes (rooms.take.pairs * n)) c.len.ensures.value
+    c.in-Ok.ensures.room in
+    let places : Places = record { finds = g.R.Resolve.finds c.args.resolver.now; lists = g.R.Resolve.lists c.args.resolver.now } in
+    let known : rooms ≡ known_rooms → IsAnswering places =
+    λ e. c.requires.known (subst (λ (v : Cabling). v.rooms ≡ known_rooms) c.self.view_is e) in
+    subst (λ l. IsAnswering places ⊎ HasHeldRoom new l (length s)) (sym same)
+    (take_more rooms places c.self.invariant.1 known (length s) mid new put.added room c.in-Ok.ensures.holdings c.took.ensures.uses
+    put.lawful.made put.lawful.others)
+
+pub add_all-requires-clause-idle : goal.add_all-requires-clause-idle
+add_all-requires-clause-idle g c =
+    ap (λ v. v.items) c.took.ensures.waiting ∙ (c.make_room.ensures.kept c.self.inside.seats c.self.invariant.0).idle
 
 pub add_all-requires-clause-book : goal.add_all-requires-clause-book
 add_all-requires-clause-book g c =
-    c.took.ensures.book c.self.inside.seats
-    (c.forget_waiting.ensures.book c.self.inside.seats
-    (c.make_room.ensures.kept c.self.inside.seats c.self.invariant.0).book)
+    c.took.ensures.book c.self.inside.seats (c.make_room.ensures.kept c.self.inside.seats c.self.invariant.0).book
 
 pub invariant_of-self-2 : goal.invariant_of-self-2
 invariant_of-self-2 g c =
-    let s = c.self.inside.seats in
-    let k = c.make_room.ensures.kept s c.self.invariant.0 in
     let put = c.in-Ok-receive.ensures.ok in
-    let same = put.grown ∙ ap (λ l. l ++ put.added) c.in-Ok-make_ready.ensures.ok in
-    let need = needs put.added in
-    let all = ap all_lines same in
+    let os = c.receive.new.outputs.items in
+    let same : os ≡ put.added = put.grown ∙ ap (λ l. l ++ put.added) c.in-Ok-make_ready.ensures.ok in
+    let s = c.self.inside.seats in
+    let mid = c.make_room.new.log in
+    let new = c.took.new.log in
+    let rooms = c.self.inside.rooms in
+    let room =
+    subst (λ n. HasRoom mid rooms.take.lines rooms.take.bytes rooms.take.bytes (rooms.take.pairs * n)) c.len.ensures.value
+    c.in-Ok.ensures.room in
+    let places : Places = record { finds = g.R.Resolve.finds c.args.resolver.now; lists = g.R.Resolve.lists c.args.resolver.now } in
+    let known : rooms ≡ known_rooms → IsAnswering places =
+    λ e. c.requires.known (subst (λ (v : Cabling). v.rooms ≡ known_rooms) c.self.view_is e) in
+    let limit = c.self.inside.limit in
+    let last = c.add_all.new.log in
+    let k = c.make_room.ensures.kept s c.self.invariant.0 in
+    let all = c.add_all.ensures in
+    let kept = ap (λ k. length k.items) c.took.ensures.kept in
     let spare = ap all_spare same in
-    let lines = ap (λ v. v.len) c.forget_waiting.ensures.lines in
-    let kept = ap (λ v. v.len) c.forget_waiting.ensures.kept in
-    let took = ap (λ v. v.len) c.took.ensures.kept in
-    let is = enough c.self.inside.rooms c.self.invariant.1 in (
-      kept_after s c.self.inside.limit c.make_room.new.log c.add_all.new.log k
-          c.add_all.ensures.book
-          (omega (
-            arith,
-            c.add_all.ensures.few,
-            c.took.ensures.one,
-            lines,
-            c.in-Ok.ensures.within,
-            is.lines,
-            all,
-            need.lines,
-            put.lawful.made,
-            put.lawful.others,
-          ))
-          (omega (arith, c.add_all.ensures.named, c.took.ensures.one, lines, kept, took, k.named, spare, need.spare, put.lawful.others)),
+    let others = needs put.added in
+    let lines =
+    take_few rooms places c.self.invariant.1 known mid new last put.added c.took.ensures.one
+    (subst (λ l. vec_len last.lines ≤ vec_len new.lines + all_lines l + 2 * length l) same all.few)
+    (subst (λ l. IsAnswering places → vec_len last.lines ≤ vec_len new.lines + all_lines l) same all.few_known)
+    put.lawful.made put.lawful.others in
+    let few : vec_len last.lines ≤ limit = omega (arith, lines, c.in-Ok.ensures.within) in (
+      record {
+        book = all.book;
+        few = few;
+        named = omega (arith, all.named, c.took.ensures.one, kept, k.named, spare, others.spare, put.lawful.others);
+        frames = omega (arith, all.steady, c.took.ensures.one, c.took.ensures.next_stamp, k.frames);
+        idle = all.idle;
+        one_seat = k.one_seat;
+      },
       c.self.invariant.1,
+      elim c.if-is_empty.branch [
+        | then-is_empty w ↦
+            let none : os ≡ [] = none_long os (eqb-true (length os) 0 (sym w.if-is_empty.ensures)) in
+            subst (IsSpare s limit last) (sym w.self-is)
+            (subst (λ l. IsSpare s limit l rooms.take.pairs) (sym (all.unchanged none))
+            (take_spare rooms c.self.invariant.1 s limit mid new room c.in-Ok.ensures.within c.took.ensures.one c.took.ensures.uses))
+        | else-is_empty w ↦ subst (IsSpare s limit last) (sym w.self-is) (no_spare s limit last)
+      ],
     )
 
 pub returns-clause-ok : goal.returns-clause-ok
 returns-clause-ok g c =
-    let places : Places = record { finds = g.R.Resolve.finds c.args.resolver.now; lists = g.R.Resolve.lists c.args.resolver.now } in
     let ss = c.self.inside.seats in
     let old = c.self.inside.log in
-    let mid = c.forget_waiting.new.log in
+    let mid = c.make_room.new.log in
+    let took = c.took.new.log in
     let new = c.add_all.new.log in
     let due = c.in-Some.due in
     let put = c.in-Ok-receive.ensures.ok in
-    let same = put.grown ∙ ap (λ l. l ++ put.added) c.in-Ok-make_ready.ensures.ok in
+    let os = c.receive.new.outputs.items in
+    let same : os ≡ put.added = put.grown ∙ ap (λ l. l ++ put.added) c.in-Ok-make_ready.ensures.ok in
     let is_due = c.in-Some.ensures.due ss c.self.invariant.0.book in
     let named = and_parts (c.args.stamp == due.stamp) (c.args.station == due.station) c.in-Some.ensures.of_it in
     let station = eqb-true c.args.station due.station named.1 ∙ sym is_due.station in
     let room = c.make_room.ensures.same in
-    let text : said_in c.make_room.new.log ≡ said_in old =
-    ap (map (entry_at c.make_room.new.log.kept.items)) room.lines ∙ ap (λ k. map (entry_at k) old.lines.items) room.kept in
+    let text = same_said old mid room in
     let heard : hearing c.heard_of-heard.result ≡ heard_by (pair_at ss (said_in old) due) =
     c.heard_of-heard.ensures
-    ∙ (ap (λ ss. heard_by (pair_at ss (said_in c.make_room.new.log) due)) c.as_slice.ensures
-    ∙ ap (λ t. heard_by (pair_at ss t due)) text) in
-    let puts : c.took.new.log.puts ≡ stamps (said_in old) =
-    c.took.ensures.puts ∙ (c.forget_waiting.ensures.puts ∙ (room.puts ∙ c.self.invariant.0.book.puts)) in
-    let entries =
-    (ap (λ n. all_entries places ss c.args.station n c.receive.new.outputs.items) puts
-    ∙ ap (all_entries places ss c.args.station (stamps (said_in old))) same) in
-    let waits =
-    ap (all_held places ss c.args.station) same in
-    let rest =
-    subst (λ es. Grows c.took.new.log new es (all_held places ss c.args.station put.added)) entries
-    (subst (λ hs. Grows c.took.new.log new
-    (all_entries places ss c.args.station c.took.new.log.puts c.receive.new.outputs.items) hs) waits
-    c.add_all.ensures.grows) in
-    let base : c.took.new.log.kept.items ≡ old.kept.items =
-    ap (λ v. v.items) c.took.ensures.kept ∙ (ap (λ v. v.items) c.forget_waiting.ensures.kept ∙ room.kept) in
-    let whole = grows_then mid c.took.new.log new (Took c.args.stamp c.args.station ∷ []) _ [] _ c.took.ensures.grows rest in
+    ∙ (ap (λ ss. heard_by (pair_at ss (said_in mid) due)) c.as_slice.ensures ∙ ap (λ t. heard_by (pair_at ss t due)) text) in
+    let entry : List Entry = Took c.args.stamp c.args.station ∷ [] in
+    let first = told old took _ _ (grows_then old mid took [] entry [] [] (same_grows old mid room) c.took.ensures.grows) in
+    let done = c.add_all.ensures.out in
+    let places : g.row.R.Denot → Places = λ r. record { finds = g.R.Resolve.finds r; lists = g.R.Resolve.lists r } in
+    let x = c.args.resolver.now in
+    let y = c.add_all.new.resolver in
+    let out =
+    subst (λ t. GoOut places g.R.Resolve.holds ss c.args.station t put.added x done.0 done.1 y) first.said
+    (subst (λ l. GoOut places g.R.Resolve.holds ss c.args.station (said_in took) l x done.0 done.1 y) same done.4) in
     rw (← c.self.view_is)
     (record {
       pair = pair_at ss (said_in old) due;
-      was_pending =
-          c.in-Some.ensures.pending ss c.self.invariant.0.book;
+      was_pending = c.in-Some.ensures.pending ss c.self.invariant.0.book;
       of_stamp = stamp_is ss (said_in old) due is_due ∙ sym (eqb-true _ _ named.0);
       of_station = sym station;
       added = put.added;
-      heard =
-          subst (λ h. g.S.Station.hears c.args.taker.now h put.added c.receive.new.self) heard put.holds;
+      heard = subst (λ h. g.S.Station.hears c.args.taker.now h put.added c.receive.new.self) heard put.holds;
       lawful = put.lawful;
+      quiet = λ some.
+          sym same
+          ∙ (c.in-Ok-receive.ensures.quiet (subst (λ h. IsSome (response_in h)) (sym heard) some)
+          ∙ c.in-Ok-make_ready.ensures.ok);
+      told = done.0;
+      bytes = done.1;
+      out = out;
       entries =
-          adds_from ss c.self.inside.limit c.self.inside.rooms old mid new _ _
-          (ap (λ v. v.items) c.forget_waiting.ensures.lines ∙ room.lines)
-          (ap (λ v. v.items) c.forget_waiting.ensures.kept ∙ room.kept) whole;
-      stored =
-          c.add_all.ensures.stored
-          ∙ (ap (λ k. k ++ all_stored places ss c.args.station c.receive.new.outputs.items) base
-          ∙ ap (λ os. old.kept.items ++ all_stored places ss c.args.station os) same);
-      waits = held_from mid new _ _ c.forget_waiting.ensures.none whole;
+          adds_of ss c.self.inside.limit c.self.inside.rooms old new _ _ _ (tells_then old took new entry done.0 first done.2);
+      stored = done.3 ∙ ap (λ k. k ++ done.1) (ap (λ k. k.items) c.took.ensures.kept ∙ room.kept);
+      room = λ none. elim c.if-is_empty.branch [
+        | then-is_empty w ↦ w.self-is
+        | else-is_empty w ↦
+            let long : length os ≡ 0 = ap length (same ∙ none) in
+            let apart : false ≡ true = w.if-is_empty.ensures ∙ ap (λ n. n == 0) long in
+            cc
+      ];
     })
 
 pub returns-clause-not_pending : goal.returns-clause-not_pending
@@ -216,8 +262,3 @@ returns-in-Err-clause-full g c =
     let v : list_any (is_named c.args.stamp c.args.station) (pending_on c.args.self.now.seats (said c.args.self.now)) ≡ true =
     rw (← c.self.view_is) (sym (c.in-Some.ensures.value c.self.inside.seats c.self.invariant.0.book)) in
     search rules
-
-pub took-requires-clause-earlier : goal.took-requires-clause-earlier
-took-requires-clause-earlier g c =
-    let e = c.in-Some.ensures.earlier c.self.inside.seats c.self.invariant.0.book in
-    omega (arith, e, c.forget_waiting.ensures.puts, c.make_room.ensures.same.puts)

@@ -1,20 +1,37 @@
-use Rattle.std.proofs.Common.{refl}
+use Rattle.std.proofs.Common.{refl, ◌∙◌}
 use Rattle.std.proofs.lemmas.Result.{on_ok_weaker}
 use Rattle.live_cables.proofs.Calls.{midst_put, on_ok, plays_midst, plays_to, plays_done}
-use Rattle.live_cables.proofs.Exact.{gives_out, whole}
+use Rattle.live_cables.proofs.Exact.{gives_out}
+use Rattle.live_cables.proofs.Whole.{faced, is_knowing, stays_known, whole_known, wires}
 use Rattle.live_cables.proofs.live.LiveCables.give.Goals as goal
+
+pub invariant_of-self : goal.invariant_of-self
+invariant_of-self c =
+    whole_known c.self.inside.cables c.give_all.new.cables c.face.new.self c.give_all.new.near
+    (faced c.self.inside.cables c.self.inside.near c.face.new.self c.args.station c.face.ensures c.self.invariant)
+    c.give_all.ensures.near c.give_all.ensures.puts.seats c.give_all.ensures.rooms
 
 pub returns-in-Err-clause-plays : goal.returns-in-Err-clause-plays
 returns-in-Err-clause-plays c =
     rw (← c.self.view_is)
-    (plays_midst 0 _ _ (record { own = refl; ranges = refl; losing = refl })
+    (plays_midst 0 _ _
+    (stays_known c.self.inside.cables c.give_all.new.cables c.self.inside.near c.face.new.self c.give_all.new.near
+    c.self.inside.losing.items c.args.station c.face.ensures c.give_all.ensures.near)
     (midst_put _ c.self.inside.cables c.give_all.new.cables c.give_all.ensures.puts))
+
+pub invariant_of-self-2 : goal.invariant_of-self-2
+invariant_of-self-2 c =
+    whole_known c.self.inside.cables c.lose_from.new.cables c.face.new.self c.give_all.new.near
+    (faced c.self.inside.cables c.self.inside.near c.face.new.self c.args.station c.face.ensures c.self.invariant)
+    c.give_all.ensures.near (c.lose_from.ensures.loses.seats ∙ c.give_all.ensures.puts.seats)
+    (c.lose_from.ensures.rooms ∙ c.give_all.ensures.rooms)
 
 pub returns-clause-plays : goal.returns-clause-plays
 returns-clause-plays c =
     rw (← c.self.view_is)
     (plays_to 0 _ _ c.give_all.new.cables c.transcript-from.result.now c.deref.result.now
-    (record { own = refl; ranges = refl; losing = refl })
+    (stays_known c.self.inside.cables c.lose_from.new.cables c.self.inside.near c.face.new.self c.give_all.new.near
+    c.self.inside.losing.items c.args.station c.face.ensures c.give_all.ensures.near)
     (midst_put _ c.self.inside.cables c.give_all.new.cables c.give_all.ensures.puts) c.transcript-from.ensures.value c.deref.ensures.value
     c.lose_from.ensures.loses)
 
@@ -23,7 +40,8 @@ returns-clause-done c =
     rw (← c.self.view_is)
     (on_ok_weaker c.lose_from.result
     (plays_done 0 _ _ c.give_all.new.cables c.transcript-from.result.now c.deref.result.now
-    (record { own = refl; ranges = refl; losing = refl })
+    (stays_known c.self.inside.cables c.lose_from.new.cables c.self.inside.near c.face.new.self c.give_all.new.near
+    c.self.inside.losing.items c.args.station c.face.ensures c.give_all.ensures.near)
     (midst_put _ c.self.inside.cables c.give_all.new.cables c.give_all.ensures.puts) c.transcript-from.ensures.value c.deref.ensures.value
     c.lose_from.ensures.loses) c.lose_from.ensures.gone)
 
@@ -31,27 +49,11 @@ pub returns-clause-given : goal.returns-clause-given
 returns-clause-given c =
     rw (← c.self.view_is)
     (on_ok c.lose_from.result _
-    (gives_out
-    (record {
-      cabling = c.self.inside.cables;
-      own = c.self.inside.ports.own.items;
-      maps = c.self.inside.mappers.items;
-      ranges = c.self.inside.ports.ranges.items;
-      losing = c.self.inside.losing.items;
-    })
-    (record {
-      cabling = c.lose_from.new.cables;
-      own = c.self.inside.ports.own.items;
-      maps = _;
-      ranges = c.self.inside.ports.ranges.items;
-      losing = c.self.inside.losing.items;
-    })
-    c.self.inside.ports.seats c.deref_mut.result.now c.transcript-from.result.now c.deref.result.now
-    (record {
-      seats_are = c.self.invariant.0;
-      maps_are = c.deref_mut.ensures.value;
-      lines_are = c.transcript-from.ensures.value;
-      losing_are = c.deref.ensures.value;
-    }) c.args.station _ (c.give_all.new.cables, c.give_all.new.mappers) c.in-Ok.ensures.given c.lose_from.ensures.loses
-    (whole c.give_all.new.mappers _ c.self.inside.mappers.len search)
-    (record { own = refl; ranges = refl; losing = refl })))
+    (gives_out (wires c.self.inside.cables c.self.inside.near c.self.inside.losing.items)
+    (wires c.lose_from.new.cables c.give_all.new.near c.self.inside.losing.items) c.transcript-from.result.now c.deref.result.now
+    (record { lines_are = c.transcript-from.ensures.value; losing_are = c.deref.ensures.value }) c.args.station _ c.face.new.self
+    (c.give_all.new.cables, c.give_all.new.near)
+    (is_knowing c.self.inside.cables c.self.inside.near c.face.new.self c.self.inside.losing.items c.args.station c.face.ensures
+    c.self.invariant.0) c.in-Ok.ensures.given c.lose_from.ensures.loses refl
+    (stays_known c.self.inside.cables c.lose_from.new.cables c.self.inside.near c.face.new.self c.give_all.new.near
+    c.self.inside.losing.items c.args.station c.face.ensures c.give_all.ensures.near)))

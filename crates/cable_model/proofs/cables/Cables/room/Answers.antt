@@ -1,0 +1,27 @@
+use Rattle.std.proofs.Common.{arith, ap, length, ◌≡◌, ◌*◌}
+use Rattle.cable_model.proofs.Takes.{same_spare}
+use Rattle.cable_model.proofs.cables.Cables.room.Goals as goal
+
+pub invariant_of-self : goal.invariant_of-self
+invariant_of-self c = (
+  c.make_spare.ensures.kept c.self.inside.seats c.self.invariant.0,
+  c.self.invariant.1,
+  same_spare c.self.inside.seats c.self.inside.limit c.self.inside.log c.make_spare.new.log c.self.inside.spare
+      c.make_spare.ensures.same c.self.invariant.2,
+)
+
+pub invariant_of-self-2 : goal.invariant_of-self-2
+invariant_of-self-2 c =
+    let s = c.self.inside.seats in
+    let k = c.make_spare.ensures.kept s c.self.invariant.0 in
+    let room = c.in-Ok.ensures in
+    let frames : c.args.more * c.len.result ≡ c.args.more * length s = ap (λ n. c.args.more * n) c.len.ensures.value in (
+      k,
+      c.self.invariant.1,
+      λ some. record {
+        lines = room.lines;
+        kept = c.make_spare.ensures.shelf;
+        due = omega (arith, room.due, frames);
+        within = room.within;
+      },
+    )
