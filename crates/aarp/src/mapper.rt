@@ -1,7 +1,7 @@
 //! The address mappings that a port knows, and the datagrams that it holds.
 
 ghost use Rattle.std.specs.Prelude.{◌≡◌, ◌≤◌, [], IfOk, OnOk, OnErr, IsOk, IsSome, IsOkUnless, None};
-ghost use Rattle.std.specs.Prelude.{length, take};
+ghost use Rattle.std.specs.Prelude.{◌==◌, length, take};
 ghost use Rattle.std.specs.List.{list_any};
 ghost use Rattle.lru.specs.LruCache.{lru_cache};
 ghost use Rattle.aarp.specs.Mapping as spec;
@@ -123,6 +123,13 @@ impl Mapper {
     {
         let _len = self.known.len();
         let _forgotten = self.known.pop(&addr);
+    }
+
+    /// Whether no datagram is held. Allocates nothing.
+    pub fn is_idle(&self) -> bool
+        ensures { result ≡ (length self.now.held == 0) }
+    {
+        self.held.is_empty()
     }
 
     /// Whether a datagram is held for the address. Allocates nothing.

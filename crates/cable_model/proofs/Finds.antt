@@ -66,7 +66,8 @@ put_at : (k : ℕ) (t : List Entry) (f : Frame) → At t k (Put f) → list_any 
 put_at k [] f e = cc
 put_at zero (x ∷ t) f e =
     let s : x ≡ Put f = cc in
-    ap (λ y. has_put f.stamp y || list_any (has_put f.stamp) t) s ∙ ap (λ b. b || list_any (has_put f.stamp) t) (eq-eqb f.stamp f.stamp refl)
+    ap (λ y. has_put f.stamp y || list_any (has_put f.stamp) t) s
+    ∙ ap (λ b. b || list_any (has_put f.stamp) t) (eq-eqb f.stamp f.stamp refl)
 put_at (suc k) (x ∷ t) f e = ap (λ b. has_put f.stamp x || b) (put_at k t f e) ∙ or_true (has_put f.stamp x)
   where
     or_true : (b : Bool) → (b || true) ≡ true

@@ -93,7 +93,8 @@ module _ {P : Type 0} (ends : P → Entry → Bool) (key : P → ℕ × ℕ) (at
   same_map (d ∷ ds) h = let a = at_same d h.0 in let b = same_map ds h.1 in cc
 
   -- an entry that begins nothing and ends what passes the test
-  pub stored_left : (test : Due → Bool) (ds es : List Due) → IsStoredAll key (at t) (IsAt t) ds (filter (λ q. not (list_any (ends q) t)) all)
+  pub stored_left : (test : Due → Bool) (ds es : List Due)
+      → IsStoredAll key (at t) (IsAt t) ds (filter (λ q. not (list_any (ends q) t)) all)
       → ((d : Due) → IsAt t d → test d ≡ ends (at t d) e) → es ≡ filter (λ d. not (test d)) ds → new ≡ []
       → IsStoredAll key (at (t ++ e ∷ [])) (IsAt (t ++ e ∷ [])) es (filter (λ q. not (list_any (ends q) (t ++ e ∷ []))) (all ++ new))
   stored_left test ds es old agree is none =

@@ -10,6 +10,7 @@ pub mod Left
 pub mod Legs
 pub mod Outs
 pub mod Pairs
+pub mod Packing
 pub mod PutOn
 pub mod Looking
 pub mod RoomLeft
@@ -19,3 +20,6 @@ pub mod Steps
 pub mod Takes
 pub mod Order
 pub mod Stored
+pub mod Quiet
+pub mod Deferred
+pub mod Light

@@ -1,154 +1,23 @@
 -- The outputs of a station as they go out, one after another.
-use Rattle.std.proofs.Common.{◌≡◌, ℕ, ◌+◌, ◌*◌, ◌≤◌, ◌⊎◌, ◌++◌, Bool, true, false, not, cond, ◌||◌, List, [], ◌∷◌, length, map, filter}
+use Rattle.std.proofs.Common.{◌≡◌, ℕ, ◌+◌, ◌*◌, ◌≤◌, ◌⊎◌, ◌++◌, List, [], ◌∷◌, length, map}
 use Rattle.std.proofs.Common.{inl, inr, refl, sym, ap, ◌∙◌, subst, arith, append-nil, append_assoc, length-append, vec_len}
-use Rattle.std.proofs.lemmas.List.{length-map}
-use Rattle.std.specs.List.{AllByRecursion as Each}
-use Rattle.at_base.specs.Address.{same_address}
 use Rattle.at_base.specs.declared.address.Addr.{Addr}
-use Rattle.cable_model.proofs.Counting.{any-append}
-use Rattle.cable_model.proofs.Order.{length_all_placed}
-use Rattle.cable_model.proofs.Pairs.{pairs-append}
 use Rattle.cable_model.proofs.RoomLeft.{product, room_for}
 use Rattle.cable_model.proofs.Steps.{same_tells, tells_then, told}
-use Rattle.cable_model.specs.Books.{Grows, HasHeldRoom, HasRoom, IsBook, Settles, Tells, Uses, held, pair_at, said}
-use Rattle.cable_model.specs.Logs.{entry_at}
-use Rattle.cable_model.specs.Outcomes.{Places, Sender, cable_of, entries_of, held_at, held_by, held_next, held_of, leg, sender_by}
-use Rattle.cable_model.specs.Outcomes.{stored_of, to_other, to_target}
-use Rattle.cable_model.specs.Outgoing.{GoOut, GoesOut, IsAnswering, IsHeldBy, is_later}
-use Rattle.cable_model.specs.Pending.{Pair, ends, pairs, pending, was_ended}
-use Rattle.cable_model.specs.Transcript.{Entry, Sent, Put, Took, Reached, Dropped, Lost, Hold, next_stamp}
-use Rattle.cable_model.specs.Waits.{pair_key}
+use Rattle.cable_model.specs.Books.{Grows, HasHeldRoom, HasRoom, IsBook, Settles, Tells, Uses, held, said}
+use Rattle.cable_model.specs.Outcomes.{Places, entries_of, held_at, held_of}
+use Rattle.cable_model.specs.Outcomes.{stored_of}
+use Rattle.cable_model.specs.Outgoing.{GoOut, GoesOut, IsAnswering, IsHeldBy}
+use Rattle.cable_model.specs.Pending.{pending}
+use Rattle.cable_model.specs.Transcript.{Entry, next_stamp}
 use Rattle.cable_model.specs.Ways.{all_lines, lines_for}
 use Rattle.cable_model.specs.declared.log.Log.{Log}
-use Rattle.cable_model.specs.declared.resolve.Found.{Found}
-use Rattle.cable_model.specs.declared.resolve.Found.TheVariants.{At, Nobody, Later}
 use Rattle.cable_model.specs.declared.resolve.HeldBy.{HeldBy}
 use Rattle.cable_model.specs.declared.seat.Seat.{Seat}
 use Rattle.cable_model.specs.declared.waiting.Waiting.{Waiting}
-use Rattle.ddp.specs.Bodies.{target}
-use Rattle.station.specs.declared.output.Next.{Next}
-use Rattle.station.specs.declared.output.Next.TheVariants as next
 use Rattle.station.specs.declared.output.Output.{Output}
-use Rattle.station.specs.declared.output.Output.TheVariants as output
-
--- ---- entries that leave the pending pairs as they are
-
--- the entry is that of a datagram that a station sends or that reaches its cable
-abbrev IsCalm : Entry → Type 0
-IsCalm (Sent s b) = Unit {0}
-IsCalm (Reached c s how b) = Unit {0}
-IsCalm _ = ⊥
-
-calm_pairs : (seats : List Seat) (es : List Entry) → Each IsCalm es → pairs seats es ≡ []
-calm_pairs seats [] h = refl
-calm_pairs seats (Sent s b ∷ es) h = calm_pairs seats es h.1
-calm_pairs seats (Reached c s how b ∷ es) h = calm_pairs seats es h.1
-calm_pairs seats (Put f ∷ es) h = absurd h.0
-calm_pairs seats (Took p s ∷ es) h = absurd h.0
-calm_pairs seats (Dropped r c b ∷ es) h = absurd h.0
-calm_pairs seats (Lost p ∷ es) h = absurd h.0
-calm_pairs seats (Hold w ∷ es) h = absurd h.0
-
-calm_ends : (p : Pair) (es : List Entry) → Each IsCalm es → was_ended es p ≡ false
-calm_ends p [] h = refl
-calm_ends p (Sent s b ∷ es) h = calm_ends p es h.1
-calm_ends p (Reached c s how b ∷ es) h = calm_ends p es h.1
-calm_ends p (Put f ∷ es) h = absurd h.0
-calm_ends p (Took q s ∷ es) h = absurd h.0
-calm_ends p (Dropped r c b ∷ es) h = absurd h.0
-calm_ends p (Lost q ∷ es) h = absurd h.0
-calm_ends p (Hold w ∷ es) h = absurd h.0
-
-filter_same : {X : Type 0} (t u : X → Bool) (xs : List X) → ((x : X) → t x ≡ u x) → filter t xs ≡ filter u xs
-filter_same t u [] h = refl
-filter_same t u (x ∷ xs) h =
-    ap (λ b. cond b (x ∷ filter t xs) (filter t xs)) (h x) ∙ ap (λ l. cond (u x) (x ∷ l) l) (filter_same t u xs h)
-
-pending_calm : (seats : List Seat) (t es : List Entry) → Each IsCalm es → pending seats (t ++ es) ≡ pending seats t
-pending_calm seats t es h =
-    ap (filter (λ p. not (was_ended (t ++ es) p)))
-    (pairs-append seats t es ∙ (ap (λ l. pairs seats t ++ l) (calm_pairs seats es h) ∙ append-nil (pairs seats t)))
-    ∙ filter_same (λ p. not (was_ended (t ++ es) p)) (λ p. not (was_ended t p)) (pairs seats t)
-    (λ p. ap not (any-append (ends p) t es ∙ (ap (λ b. was_ended t p || b) (calm_ends p es h) ∙ or_none (was_ended t p))))
-  where
-    or_none : (b : Bool) → (b || false) ≡ b
-    or_none true = refl
-    or_none false = refl
-
-due_count : (seats : List Seat) (log : Log) → IsBook seats log → length log.due.dues ≡ length (pending seats (said log))
-due_count seats log book =
-    sym (length-map log.due.dues (pair_at seats (said log)))
-    ∙ (ap length book.pending
-    ∙ (length_all_placed pair_key [] (pending seats (said log)) ∙ zero_more (length (pending seats (said log)))))
-  where
-    zero_more : (n : ℕ) → 0 + n ≡ n
-    zero_more n = omega arith
-
-line_count : (log : Log) → vec_len log.lines ≡ length (said log)
-line_count log = log.lines.ok.0 ∙ sym (length-map log.lines.items (entry_at log.kept.items))
-
--- ---- the datagrams of an output that are to be held
-
--- where every lookup is answered there is none
-pub held_none : (places : Places) (seats : List Seat) (station : ℕ) (o : Output) → IsAnswering places
-    → held_of places seats station o ≡ []
-held_none places seats station o known = this o
-  where
-    found : (f : Found) (cable : ℕ) (a : Addr) (bytes : List ℕ) → is_later f ≡ false → held_by f cable a bytes ≡ []
-    found (At hw) cable a bytes e = refl
-    found Nobody cable a bytes e = refl
-    found Later cable a bytes e = cc
-
-    next_one : (cable : ℕ) (to : Next) (bytes : List ℕ) → held_next places cable to bytes ≡ []
-    next_one cable (next.Station a) bytes = found (places.finds cable a) cable a bytes (known cable a)
-    next_one cable next.All bytes = refl
-    next_one cable (next.Group g) bytes = refl
-
-    this : (o : Output) → held_of places seats station o ≡ []
-    this (output.Made port to bytes) = next_one (cable_of seats station port) to bytes
-    this (output.Passed port to bytes) = next_one (cable_of seats station port) to bytes
-    this (output.Kept port bytes) = refl
-    this (output.Dropped cause bytes) = refl
-    this (output.Wire port to bytes) = refl
-
-leg_light : (places : Places) (s : Sender) (to : Next) (bytes : List ℕ)
-    → (held_next places s.cable to bytes ≡ []) ⊎ (Each IsCalm (leg places s to bytes) × (length (leg places s to bytes) ≤ 1))
-leg_light places s (next.Station a) bytes = by (same_address (target bytes) a) (places.finds s.cable a)
-  where
-    by : (b : Bool) (f : Found)
-        → (held_by f s.cable a bytes ≡ [])
-        ⊎ (Each IsCalm (cond b (to_target s bytes f) (to_other s bytes f))
-        × (length (cond b (to_target s bytes f) (to_other s bytes f)) ≤ 1))
-    by b (At hw) = inl refl
-    by b Nobody = inl refl
-    by true Later = inr ((tt, tt), omega arith)
-    by false Later = inr (tt, omega arith)
-leg_light places s next.All bytes = inl refl
-leg_light places s (next.Group g) bytes = inl refl
-
--- where there is one the output puts no frame, and has fewer entries
-held_light : (places : Places) (seats : List Seat) (station stamp : ℕ) (o : Output)
-    → (held_of places seats station o ≡ [])
-    ⊎ (Each IsCalm (entries_of places seats station stamp o) × (length (entries_of places seats station stamp o) + 1 ≤ lines_for o))
-held_light places seats station stamp (output.Made port to bytes) =
-    elim (leg_light places (sender_by seats station stamp port) to bytes)
-    as (λ _. (held_of places seats station (output.Made port to bytes) ≡ [])
-    ⊎ (Each IsCalm (entries_of places seats station stamp (output.Made port to bytes))
-    × (length (entries_of places seats station stamp (output.Made port to bytes)) + 1 ≤ 3))) [
-      | inl none ↦ inl none
-      | inr h ↦ inr ((tt, h.0), omega (arith, h.1))
-    ]
-held_light places seats station stamp (output.Passed port to bytes) =
-    elim (leg_light places (sender_by seats station stamp port) to bytes)
-    as (λ _. (held_of places seats station (output.Passed port to bytes) ≡ [])
-    ⊎ (Each IsCalm (entries_of places seats station stamp (output.Passed port to bytes))
-    × (length (entries_of places seats station stamp (output.Passed port to bytes)) + 1 ≤ 2))) [
-      | inl none ↦ inl none
-      | inr h ↦ inr (h.0, omega (arith, h.1))
-    ]
-held_light places seats station stamp (output.Kept port bytes) = inl refl
-held_light places seats station stamp (output.Dropped cause bytes) = inl refl
-held_light places seats station stamp (output.Wire port to bytes) = inl refl
+use Rattle.cable_model.proofs.Light.{due_count, held_light, held_none, line_count, pending_calm}
+use Rattle.cable_model.specs.Places.{widest}
 
 -- ---- an output whose entries were added
 
@@ -166,7 +35,7 @@ record IsLight (a b : Log) (o : Output) : Type 0 where
 
 module _ (places : Places) (seats : List Seat) (station : ℕ) (a b : Log) (o : Output) (old : IsBook seats a) (new : IsBook seats b)
     (idle : a.waiting.items ≡ []) (grown : Grows a b (entries_of places seats station a.next_stamp o) (held_of places seats station o))
-    (used : Uses a b (lines_for o) 1 1 (length seats)) where
+    (used : Uses a b (lines_for o) 1 1 (widest seats)) where
   -- what waits is what the output has to be held
   pub held_now : held b ≡ held_of places seats station o
   held_now = grown.held ∙ ap (λ hs. hs ++ held_of places seats station o) (ap (map (held_at a.kept.items)) idle)
@@ -204,15 +73,15 @@ module _ (places : Places) (seats : List Seat) (station : ℕ) (a b : Log) (o : 
       ]
 
   -- there is room for what is held after the output
-  pub room_to_settle : (rest : List Output) → IsAnswering places ⊎ HasHeldRoom a (o ∷ rest) (length seats)
-      → (b.waiting.items ≡ []) ⊎ (HasRoom b 3 1 0 (length seats) × (length b.holdings.dues + 1 ≤ b.holdings.room))
+  pub room_to_settle : (rest : List Output) → IsAnswering places ⊎ HasHeldRoom a (o ∷ rest) (widest seats)
+      → (b.waiting.items ≡ []) ⊎ (HasRoom b 3 1 0 (widest seats) × (length b.holdings.dues + 1 ≤ b.holdings.room))
   room_to_settle rest (inl known) = inl (none_where_known known)
   room_to_settle rest (inr h) =
       elim light
-      as (λ _. (b.waiting.items ≡ []) ⊎ (HasRoom b 3 1 0 (length seats) × (length b.holdings.dues + 1 ≤ b.holdings.room))) [
+      as (λ _. (b.waiting.items ≡ []) ⊎ (HasRoom b 3 1 0 (widest seats) × (length b.holdings.dues + 1 ≤ b.holdings.room))) [
         | inl none ↦ inl none
         | inr l ↦
-            let pairs = product (length rest) (length seats) in
+            let pairs = product (length rest) (widest seats) in
             inr (
               record {
                 lines = omega (arith, h.room.lines, l.lines, used.lines_room);
@@ -227,14 +96,14 @@ module _ (places : Places) (seats : List Seat) (station : ℕ) (a b : Log) (o : 
             )
       ]
 
-  module _ (c : Log) (settled : Settles b c (length seats)) (quiet : c.waiting.items ≡ []) (rest : List Output) where
+  module _ (c : Log) (settled : Settles b c (widest seats)) (quiet : c.waiting.items ≡ []) (rest : List Output) where
     -- where nothing waited there is the room that was left
     pub room_same : b.waiting.items ≡ []
-        → HasRoom a (all_lines (o ∷ rest)) (length (o ∷ rest)) (length (o ∷ rest)) (length (o ∷ rest) * length seats)
-        → HasRoom c (all_lines rest) (length rest) (length rest) (length rest * length seats)
+        → HasRoom a (all_lines (o ∷ rest)) (length (o ∷ rest)) (length (o ∷ rest)) (length (o ∷ rest) * widest seats)
+        → HasRoom c (all_lines rest) (length rest) (length rest) (length rest * widest seats)
     room_same none r =
         let same = settled.none none in
-        let n = length seats in
+        let n = widest seats in
         let pairs = product (length rest) n in
         let lines = ap (λ v. vec_len v) same.lines in
         let kept = ap (λ k. length k.items) same.kept in
@@ -251,9 +120,9 @@ module _ (places : Places) (seats : List Seat) (station : ℕ) (a b : Log) (o : 
         }
 
     -- there is still the room where all datagrams of the other outputs may be held
-    pub more_left : HasHeldRoom a (o ∷ rest) (length seats) → HasHeldRoom c rest (length seats)
+    pub more_left : HasHeldRoom a (o ∷ rest) (widest seats) → HasHeldRoom c rest (widest seats)
     more_left h =
-        let n = length seats in
+        let n = widest seats in
         let pairs = product (length rest) n in
         let waits = ap length quiet in
         elim light as (λ _. HasHeldRoom c rest n) [
@@ -294,11 +163,11 @@ module _ (places : Places) (seats : List Seat) (station : ℕ) (a b : Log) (o : 
 
     -- both rooms, where the lookups are answered as before if nothing waited
     pub rooms_left : (known : Type 0) → (IsAnswering places → known)
-        → HasRoom a (all_lines (o ∷ rest)) (length (o ∷ rest)) (length (o ∷ rest)) (length (o ∷ rest) * length seats)
-        → IsAnswering places ⊎ HasHeldRoom a (o ∷ rest) (length seats)
-        → HasRoom c (all_lines rest) (length rest) (length rest) (length rest * length seats) × (known ⊎ HasHeldRoom c rest (length seats))
+        → HasRoom a (all_lines (o ∷ rest)) (length (o ∷ rest)) (length (o ∷ rest)) (length (o ∷ rest) * widest seats)
+        → IsAnswering places ⊎ HasHeldRoom a (o ∷ rest) (widest seats)
+        → HasRoom c (all_lines rest) (length rest) (length rest) (length rest * widest seats) × (known ⊎ HasHeldRoom c rest (widest seats))
     rooms_left known still r (inl answers) = (room_same (none_where_known answers) r, inl (still answers))
-    rooms_left known still r (inr h) = let left = more_left h in (held_room c rest (length seats) left, inr left)
+    rooms_left known still r (inr h) = let left = more_left h in (held_room c rest (widest seats) left, inr left)
 
     -- at most two further entries were added after those of the output
     pub few_left : vec_len c.lines ≤ vec_len a.lines + lines_for o + 2

@@ -1,38 +1,32 @@
 -- The log after a frame was taken or a datagram sent.
 use Rattle.std.proofs.Common.{◌≡◌, ◌⊎◌, inl, inr, ℕ, zero, suc, ◌+◌, ◌-◌, ◌*◌, ◌^◌, ◌≤◌, ◌<◌, Bool, true, false, not, ◌||◌, ◌==◌}
-use Rattle.std.proofs.Common.{List, [], ◌∷◌, ◌++◌, length, map, filter, slice_get, get_or, Contains, Some, vec_len, vec_capacity}
-use Rattle.std.proofs.Common.{if◌then◌else◌, refl, arith, sym, ap, ◌∙◌, subst, length-append}
-use Rattle.std.specs.List.{list_any, AllByRecursion as Each}
+use Rattle.std.proofs.Common.{List, [], ◌∷◌, ◌++◌, length, map, slice_get, get_or, Contains, Some, vec_len, vec_capacity}
+use Rattle.std.proofs.Common.{refl, arith, sym, ap, ◌∙◌, subst}
+use Rattle.std.specs.List.{list_any}
 use Rattle.std.proofs.lemmas.List.{length-map}
 use Rattle.std.proofs.lemmas.Option.{slice_get-get_or}
 use Rattle.std.proofs.Math.Nat.{add-mul}
-use Rattle.at_base.specs.Address.{same_address}
-use Rattle.cable_model.proofs.Order.{length_all_placed}
 use Rattle.cable_model.proofs.Finds.{contains_at}
 use Rattle.cable_model.proofs.Legs.{needs}
 use Rattle.cable_model.specs.Books.{Grows, HasHeldRoom, HasRoom, IsBook, IsDue, IsHeldLine, IsKept, IsSame, IsSpare, Settles, Uses, held}
-use Rattle.cable_model.specs.Books.{pair_at, said, seat_at}
+use Rattle.cable_model.specs.Books.{said, seat_at}
 use Rattle.cable_model.specs.Holdings.{has_number, is_open, still_held}
 use Rattle.cable_model.specs.Logs.{entry_at}
-use Rattle.cable_model.specs.Outcomes.{Held, Places, Sender, held_at, held_by, held_next, leg}
-use Rattle.cable_model.specs.Outgoing.{IsAnswering, is_later}
-use Rattle.cable_model.specs.Pending.{Pair, ends, pairs, pairs_of, pending, was_ended}
+use Rattle.cable_model.specs.Outcomes.{Held, Places, Sender, held_at, held_next, leg}
+use Rattle.cable_model.specs.Outgoing.{IsAnswering}
 use Rattle.cable_model.specs.Rooms.{AreRooms, held_rooms, known_rooms}
-use Rattle.cable_model.specs.Transcript.{Entry, Sent, Put, Took, Reached, Dropped, Lost, Hold}
-use Rattle.cable_model.specs.Waits.{pair_key}
+use Rattle.cable_model.specs.Transcript.{Entry, Sent}
 use Rattle.cable_model.specs.Ways.{all_lines}
 use Rattle.cable_model.specs.declared.due.Due.{Due}
 use Rattle.cable_model.specs.declared.log.Log.{Log}
 use Rattle.cable_model.specs.declared.putting.HeldLine.{HeldLine}
-use Rattle.cable_model.specs.declared.resolve.Found.{Found}
-use Rattle.cable_model.specs.declared.resolve.Found.TheVariants.{At, Nobody, Later}
 use Rattle.cable_model.specs.declared.room.Rooms.{Rooms}
 use Rattle.cable_model.specs.declared.seat.Seat.{Seat}
-use Rattle.ddp.specs.Bodies.{target}
 use Rattle.station.specs.Lawful.{count, is_made}
 use Rattle.station.specs.declared.output.Next.{Next}
-use Rattle.station.specs.declared.output.Next.TheVariants as next
 use Rattle.station.specs.declared.output.Output.{Output}
+use Rattle.cable_model.proofs.Deferred.{Waits, dues_still, lines_long, may_wait}
+use Rattle.cable_model.specs.Places.{widest}
 
 -- the seat of a pair is one of the seats
 pub seat_there : (seats : List Seat) (t : List Entry) (d : Due) → IsDue seats t d → Contains seats (seat_at seats d.seat)
@@ -63,12 +57,6 @@ same_spare seats limit old new spare same s = λ some.
       within = omega (arith, h.within, lines, old.lines.ok.0, new.lines.ok.0);
     }
 
--- the stored pairs are as many as the pending ones
-pub dues_long : (seats : List Seat) (log : Log) → IsBook seats log → length log.due.dues ≡ length (pending seats (said log))
-dues_long seats log book =
-    sym (length-map log.due.dues (pair_at seats (said log)))
-    ∙ (ap length book.pending ∙ length_all_placed pair_key [] (pending seats (said log)) ∙ (omega arith))
-
 -- an element that passes is in the list
 any_there : {X : Type 0} (t : X → Bool) (xs : List X) (k : ℕ) (x : X) → slice_get xs k ≡ Some x → t x ≡ true → list_any t xs ≡ true
 any_there t [] k x e h = cc
@@ -97,10 +85,10 @@ few_times m n le =
 
 -- the room for one entry, which may put a frame, of the room to spare
 pub spare_room : (seats : List Seat) (limit : ℕ) (log : Log) (spare : ℕ) → IsKept seats limit log → IsSpare seats limit log spare
-    → 1 ≤ spare → limit < 2 ^ 32 → HasRoom log 1 0 0 (length seats)
+    → 1 ≤ spare → limit < 2 ^ 32 → HasRoom log 1 0 0 (widest seats)
 spare_room seats limit log spare k some one low =
     let s = some one in
-    let n = length seats in
+    let n = widest seats in
     let e : 1 + (spare - 1) ≡ spare = omega (arith, one) in
     let whole = ap (λ k. k * n) e in
     let parts = add-mul 1 (spare - 1) n in
@@ -153,107 +141,6 @@ enough rooms (inr e) = rw e (record {
   sent_fewer = omega arith;
 })
 
--- ---- a datagram that waits adds no frame
-
--- the entry neither puts a frame nor ends a pair, and holds nothing
-abbrev pub IsStill : Entry → Type 0
-IsStill (Sent station body) = Unit {0}
-IsStill (Reached cable station how body) = Unit {0}
-IsStill e = ⊥
-
-still_pairs : (seats : List Seat) (e : Entry) → IsStill e → pairs_of seats e ≡ []
-still_pairs seats (Sent s b) h = refl
-still_pairs seats (Reached c s how b) h = refl
-still_pairs seats (Put f) h = absurd h
-still_pairs seats (Took p s) h = absurd h
-still_pairs seats (Dropped r cause b) h = absurd h
-still_pairs seats (Lost p) h = absurd h
-still_pairs seats (Hold g) h = absurd h
-
-still_ends : (p : Pair) (e : Entry) → IsStill e → ends p e ≡ false
-still_ends p (Sent s b) h = refl
-still_ends p (Reached c s how b) h = refl
-still_ends p (Put f) h = refl
-still_ends p (Took q s) h = absurd h
-still_ends p (Dropped r cause b) h = refl
-still_ends p (Lost q) h = absurd h
-still_ends p (Hold g) h = refl
-
-pairs_still : (seats : List Seat) (t es : List Entry) → Each IsStill es → pairs seats (t ++ es) ≡ pairs seats t
-pairs_still seats [] [] h = refl
-pairs_still seats [] (e ∷ es) h = ap (λ l. l ++ pairs seats es) (still_pairs seats e h.0) ∙ pairs_still seats [] es h.1
-pairs_still seats (e ∷ t) es h = ap (λ l. pairs_of seats e ++ l) (pairs_still seats t es h)
-
-ended_still : (p : Pair) (t es : List Entry) → Each IsStill es → was_ended (t ++ es) p ≡ was_ended t p
-ended_still p [] [] h = refl
-ended_still p [] (e ∷ es) h = ap (λ b. b || was_ended es p) (still_ends p e h.0) ∙ ended_still p [] es h.1
-ended_still p (e ∷ t) es h = ap (λ b. ends p e || b) (ended_still p t es h)
-
-filter_same : {X : Type 0} (f g : X → Bool) (xs : List X) → ((x : X) → f x ≡ g x) → filter f xs ≡ filter g xs
-filter_same f g [] h = refl
-filter_same f g (x ∷ xs) h =
-    let rest = filter_same f g xs h in
-    ap (λ b. if b then x ∷ filter f xs else filter f xs) (h x) ∙ ap (λ l. if g x then x ∷ l else l) rest
-
-pending_still : (seats : List Seat) (t es : List Entry) → Each IsStill es → pending seats (t ++ es) ≡ pending seats t
-pending_still seats t es h =
-    ap (filter (λ p. not (was_ended (t ++ es) p))) (pairs_still seats t es h)
-    ∙ filter_same (λ p. not (was_ended (t ++ es) p)) (λ p. not (was_ended t p)) (pairs seats t) (λ p. ap not (ended_still p t es h))
-
--- the stored pairs are the same in number after entries that neither put a frame nor end a pair
-dues_still : (seats : List Seat) (old new : Log) (es : List Entry) → IsBook seats old → IsBook seats new → said new ≡ said old ++ es
-    → Each IsStill es → length new.due.dues ≡ length old.due.dues
-dues_still seats old new es a b e h =
-    dues_long seats new b
-    ∙ (ap (λ t. length (pending seats t)) e ∙ (ap length (pending_still seats (said old) es h) ∙ sym (dues_long seats old a)))
-
--- as many lines as entries
-lines_long : (old new : Log) (es : List Entry) → said new ≡ said old ++ es → vec_len new.lines ≡ vec_len old.lines + length es
-lines_long old new es e =
-    let a = length-map old.lines.items (entry_at old.kept.items) in
-    let b = length-map new.lines.items (entry_at new.kept.items) in
-    let long = ap length e in
-    let parts = length-append (said old) es in
-    omega (arith, a, b, long, parts, old.lines.ok.0, new.lines.ok.0)
-
--- A datagram waits, on cables with room for what is held.
-pub record Waits (rooms : Rooms) (places : Places) (s : Sender) (to : Next) (bytes : List ℕ) : Type 0 where
-  pub one : length (held_next places s.cable to bytes) ≡ 1
-  pub still : Each IsStill (leg places s to bytes)
-  pub few : length (leg places s to bytes) ≤ 1
-  pub with_room : rooms ≡ held_rooms
-
--- a datagram waits only on cables with room for what is held
-pub may_wait : (rooms : Rooms) (places : Places) → AreRooms rooms → (rooms ≡ known_rooms → IsAnswering places) → (s : Sender) (to : Next)
-    (bytes : List ℕ) → (held_next places s.cable to bytes ≡ []) ⊎ Waits rooms places s to bytes
-may_wait rooms places are known s (next.Station a) bytes = by (places.finds s.cable a) refl
-  where
-    held : AreRooms rooms → is_later (places.finds s.cable a) ≡ true → rooms ≡ held_rooms
-    held (inl e) l = let n = known e s.cable a in cc
-    held (inr e) l = e
-
-    waits : places.finds s.cable a ≡ Later → (b : Bool) → same_address (target bytes) a ≡ b → Waits rooms places s (next.Station a) bytes
-    waits e true p = record {
-      one = rw e refl;
-      still = rw (e, p) (tt, tt);
-      few = rw (e, p) (omega arith);
-      with_room = held are (ap is_later e);
-    }
-    waits e false p = record {
-      one = rw e refl;
-      still = rw (e, p) tt;
-      few = rw (e, p) (omega arith);
-      with_room = held are (ap is_later e);
-    }
-
-    by : (f : Found) → places.finds s.cable a ≡ f
-        → (held_next places s.cable (next.Station a) bytes ≡ []) ⊎ Waits rooms places s (next.Station a) bytes
-    by (At hw) e = inl (ap (λ f. held_by f s.cable a bytes) e)
-    by Nobody e = inl (ap (λ f. held_by f s.cable a bytes) e)
-    by Later e = inr (waits e (same_address (target bytes) a) refl)
-may_wait rooms places are known s next.All bytes = inl refl
-may_wait rooms places are known s (next.Group g) bytes = inl refl
-
 -- ---- the log after a datagram was sent
 
 -- as many datagrams wait as are to be held, where none waited before
@@ -277,7 +164,7 @@ pub record IsSentRoom (rooms : Rooms) (waits : List Held) (old new : Log) (n : �
 pub sent_room : (seats : List Seat) (rooms : Rooms) (places : Places) → AreRooms rooms → (rooms ≡ known_rooms → IsAnswering places)
     → (s : Sender) (to : Next) (bytes body : List ℕ) (old new : Log) → IsBook seats old → IsBook seats new
     → Grows old new (Sent s.station body ∷ leg places s to bytes) (held_next places s.cable to bytes)
-    → Uses old new 3 1 1 (length seats) → IsSentRoom rooms (held_next places s.cable to bytes) old new (length seats)
+    → Uses old new 3 1 1 (widest seats) → IsSentRoom rooms (held_next places s.cable to bytes) old new (widest seats)
 sent_room seats rooms places are known s to bytes body old new a b x u =
     record { uses = u; none = by (may_wait rooms places are known s to bytes) }
   where
@@ -295,22 +182,22 @@ sent_room seats rooms places are known s to bytes body old new a b x u =
 
 -- the room to hold a datagram that waits
 pub settle_room : (rooms : Rooms) (waits : List Held) (old new : Log) (seats : List Seat)
-    → HasRoom old rooms.send.lines rooms.send.bytes rooms.send.bytes (rooms.send.pairs * length seats)
+    → HasRoom old rooms.send.lines rooms.send.bytes rooms.send.bytes (rooms.send.pairs * widest seats)
     → length old.holdings.dues + rooms.send.pairs ≤ old.holdings.room
-    → length new.waiting.items ≡ length waits → IsSentRoom rooms waits old new (length seats)
-    → (new.waiting.items ≡ []) ⊎ (HasRoom new 3 1 0 (length seats) × (length new.holdings.dues + 1 ≤ new.holdings.room))
+    → length new.waiting.items ≡ length waits → IsSentRoom rooms waits old new (widest seats)
+    → (new.waiting.items ≡ []) ⊎ (HasRoom new 3 1 0 (widest seats) × (length new.holdings.dues + 1 ≤ new.holdings.room))
 settle_room rooms waits old new seats room held long r = by r.none
   where
     by : (waits ≡ []) ⊎ ((rooms ≡ held_rooms) × (vec_len new.lines ≤ vec_len old.lines + 2)
         × (length new.due.dues ≡ length old.due.dues) × (length waits ≡ 1))
-        → (new.waiting.items ≡ []) ⊎ (HasRoom new 3 1 0 (length seats) × (length new.holdings.dues + 1 ≤ new.holdings.room))
+        → (new.waiting.items ≡ []) ⊎ (HasRoom new 3 1 0 (widest seats) × (length new.holdings.dues + 1 ≤ new.holdings.room))
     by (inl e) = inl (none_long new.waiting.items (long ∙ ap length e))
     by (inr w) =
         let u = r.uses in
         let five : rooms.send.lines ≡ 5 = ap (λ r. r.send.lines) w.0 in
         let two : rooms.send.bytes ≡ 2 = ap (λ r. r.send.bytes) w.0 in
         let one : rooms.send.pairs ≡ 1 = ap (λ r. r.send.pairs) w.0 in
-        let pairs : rooms.send.pairs * length seats ≡ 1 * length seats = ap (λ n. n * length seats) one in
+        let pairs : rooms.send.pairs * widest seats ≡ 1 * widest seats = ap (λ n. n * widest seats) one in
         inr (
           record {
             lines = omega (arith, room.lines, five, w.1, u.lines_room);
@@ -332,8 +219,8 @@ pub record IsSettled (rooms : Rooms) (old new : Log) : Type 0 where
 
 -- the log after a send, once what waits is held
 pub settled_room : (rooms : Rooms) (waits : List Held) (old mid new : Log) (seats : List Seat) → AreRooms rooms
-    → HasRoom old rooms.send.lines rooms.send.bytes rooms.send.bytes (rooms.send.pairs * length seats)
-    → length mid.waiting.items ≡ length waits → IsSentRoom rooms waits old mid (length seats) → Settles mid new (length seats)
+    → HasRoom old rooms.send.lines rooms.send.bytes rooms.send.bytes (rooms.send.pairs * widest seats)
+    → length mid.waiting.items ≡ length waits → IsSentRoom rooms waits old mid (widest seats) → Settles mid new (widest seats)
     → IsSettled rooms old new
 settled_room rooms waits old mid new seats are room long r t = by r.none
   where
@@ -348,7 +235,7 @@ settled_room rooms waits old mid new seats are room long r t = by r.none
         let due_room = ap (λ d. d.room) same.due in
         let kept = ap (λ k. length k.items) same.kept in
         let kept_room = ap (λ k. k.room) same.kept in
-        let pairs : rooms.send.pairs * length seats ≡ 1 * length seats = ap (λ n. n * length seats) is.sent_pairs in
+        let pairs : rooms.send.pairs * widest seats ≡ 1 * widest seats = ap (λ n. n * widest seats) is.sent_pairs in
         record {
           lines = omega (arith, lines, u.lines, is.sent_lines);
           due = omega (arith, room.due, pairs, u.due, u.due_room, dues, due_room);
@@ -359,7 +246,7 @@ settled_room rooms waits old mid new seats are room long r t = by r.none
         let five : rooms.send.lines ≡ 5 = ap (λ r. r.send.lines) w.0 in
         let two : rooms.send.bytes ≡ 2 = ap (λ r. r.send.bytes) w.0 in
         let one : rooms.send.pairs ≡ 1 = ap (λ r. r.send.pairs) w.0 in
-        let pairs : rooms.send.pairs * length seats ≡ 1 * length seats = ap (λ n. n * length seats) one in
+        let pairs : rooms.send.pairs * widest seats ≡ 1 * widest seats = ap (λ n. n * widest seats) one in
         record {
           lines = omega (arith, five, w.1, t.lines);
           due = omega (arith, room.due, pairs, w.2, u.due_room, t.due, t.due_room);
@@ -444,7 +331,7 @@ take_few rooms places (inr e) known mid new last os one few few_known made other
 
 -- after a take without outputs there is room for further entries
 pub take_spare : (rooms : Rooms) → AreRooms rooms → (seats : List Seat) (limit : ℕ) (mid new : Log)
-    → HasRoom mid rooms.take.lines rooms.take.bytes rooms.take.bytes (rooms.take.pairs * length seats)
+    → HasRoom mid rooms.take.lines rooms.take.bytes rooms.take.bytes (rooms.take.pairs * widest seats)
     → vec_len mid.lines + rooms.take.lines ≤ limit → vec_len new.lines ≡ vec_len mid.lines + 1 → Uses mid new 1 0 0 0
     → IsSpare seats limit new rooms.take.pairs
 take_spare rooms are seats limit mid new room within one u =
@@ -458,10 +345,10 @@ take_spare rooms are seats limit mid new room within one u =
 -- the room that is left after one of the further entries
 pub spare_left : (seats : List Seat) (limit : ℕ) (old new : Log) (spare left : ℕ) → IsSpare seats limit old spare → left + 1 ≡ spare
     → vec_len new.lines ≡ vec_len old.lines + 1 → vec_capacity new.lines ≡ vec_capacity old.lines → new.kept ≡ old.kept
-    → length new.due.dues ≤ length old.due.dues + length seats → old.due.room ≤ new.due.room → IsSpare seats limit new left
+    → length new.due.dues ≤ length old.due.dues + widest seats → old.due.room ≤ new.due.room → IsSpare seats limit new left
 spare_left seats limit old new spare left s e one room kept few due = λ some.
     let h = s (omega (arith, e)) in
-    let n = length seats in
+    let n = widest seats in
     let whole = ap (λ k. k * n) e in
     let parts = add-mul left 1 n in
     let items = ap (λ k. length k.items) kept in

@@ -19,6 +19,7 @@ use Rattle.cable_model.specs.Transcript.{next_stamp}
 use Rattle.cable_model.specs.Ways.{all_lines}
 use Rattle.station.specs.declared.heard.Kind.TheVariants.{Ddp}
 use Rattle.station.specs.declared.output.Output.{Output}
+use Rattle.cable_model.specs.Places.{widest}
 
 -- the transcript of a log
 abbrev pub said : Log → List Entry
@@ -109,8 +110,8 @@ has_took stamp (Took took station) = stamp == took
 has_took stamp _ = false
 
 -- The invariant of a log: entries name stored bytes, the next stamp is known, no two frames have the same stamp, frames are
--- numbered where nothing was held, and what was taken had been put; the stored pairs are the pending ones, by stamp and then by station, and the stored holdings
--- are those that no entry ended, by stamp.
+-- numbered where nothing was held, and what was taken had been put; the stored pairs are the pending ones, by stamp and then
+-- by station, and the stored holdings are those that no entry ended, by stamp.
 pub record IsBook (seats : List Seat) (log : Log) : Type 0 where
   pub named : Each (Names (length log.kept.items)) log.lines.items
   pub waits : Each (λ w. w.bytes < length log.kept.items) log.waiting.items
@@ -181,7 +182,7 @@ pub record IsKept (seats : List Seat) (limit : ℕ) (log : Log) : Type 0 where
 pub record HasSpare (seats : List Seat) (limit : ℕ) (log : Log) (spare : ℕ) : Type 0 where
   pub lines : vec_len log.lines + spare ≤ vec_capacity log.lines
   pub kept : length log.kept.items ≤ log.kept.room
-  pub due : length log.due.dues + spare * length seats ≤ log.due.room
+  pub due : length log.due.dues + spare * widest seats ≤ log.due.room
   pub within : vec_len log.lines + spare ≤ limit
 
 -- The log has room for the further entries, if any.

@@ -1,5 +1,6 @@
 -- The indices of the seats on each cable and of each station.
-use Rattle.std.specs.Prelude.{◌≡◌, ℕ, ◌+◌, ◌≤◌, ◌==◌, ◌++◌, cond, Bool, true, false, List, [], ◌∷◌, length, slice_get, Option, Some, None}
+use Rattle.std.specs.Prelude.{◌≡◌, ℕ, zero, suc, max, ◌+◌, ◌≤◌, ◌==◌, ◌++◌, cond, Bool, true, false, List, [], ◌∷◌, length, slice_get}
+use Rattle.std.specs.Prelude.{Option, Some, None}
 use Rattle.cable_model.specs.declared.due.Due.{Due}
 use Rattle.cable_model.specs.declared.seat.Seat.{Seat}
 use Rattle.cable_model.specs.declared.seats.Key.{Key}
@@ -20,11 +21,22 @@ indices test k (s ∷ ss) = cond (test s) (k ∷ indices test (k + 1) ss) (indic
 abbrev pub AreLists : (ℕ → Key) → List Seat → List (List ℕ) → Type 0
 AreLists key_of seats lists = (n : ℕ) (list : List ℕ) → slice_get lists n ≡ Some list → list ≡ indices (has_key (key_of n)) 0 seats
 
--- The index of seats is right: it has a list for each cable, and for some of the first stations.
-pub record AreIndexed (seats : List Seat) (on of : List (List ℕ)) : Type 0 where
+-- the most seats that one of the first n cables has
+abbrev pub most_on : ℕ → List Seat → ℕ
+most_on zero seats = 0
+most_on (suc n) seats = max (length (indices (has_key (key.Cable n)) 0 seats)) (most_on n seats)
+
+-- The most seats that a cable has: a frame is pending for at most as many stations.
+unfoldable pub widest : List Seat → ℕ
+widest seats = most_on 256 seats
+
+-- The index of seats is right: it has a list for each cable, and for some of the first stations; and n is the most seats
+-- that a cable has.
+pub record AreIndexed (seats : List Seat) (on of : List (List ℕ)) (n : ℕ) : Type 0 where
   pub cables : AreLists key.Cable seats on
   pub all : 256 ≤ length on
   pub stations : AreLists key.Station seats of
+  pub most : n ≡ widest seats
 
 -- the stored pair of a frame and a seat, if the seat exists and passes the test
 abbrev pub due_at : (Seat → Bool) → Option Seat → ℕ → ℕ → ℕ → List Due

@@ -1,12 +1,11 @@
 //! Cables, their frames and their transcript.
 
 ghost use Rattle.std.specs.Prelude.{◌≡◌, ◌⊎◌, ◌↔◌, ◌<◌, ◌≤◌, ◌+◌, [], ◌∷◌, ◌++◌};
-ghost use Rattle.std.specs.Prelude.{true, false, length, Contains};
+ghost use Rattle.std.specs.Prelude.{true, false, length};
 ghost use Rattle.std.specs.Prelude.{IfErr, IfNone, IfOk, IfSome, IsOkUnless, IsTrue, OnErr, OnOk};
 ghost use Rattle.std.specs.List.{list_all, list_any};
 ghost use Rattle.at_base.specs.declared.error.What.TheVariants.{Cable, Station};
 ghost use Rattle.cable_model.specs.Books.{HasOneSeat};
-ghost use Rattle.cable_model.specs.Holdings.{is_open, released_frame, still_held};
 ghost use Rattle.cable_model.specs.Logs as logs_spec;
 ghost use Rattle.cable_model.specs.Logs.{Adds, bytes_at};
 ghost use Rattle.cable_model.specs.Outcomes.{AreSeatsOf, IsFrame, IsHeard, IsLeast, Places, framed, has_cable, has_stamp};
@@ -14,7 +13,7 @@ ghost use Rattle.cable_model.specs.Outcomes.{is_named, is_seated};
 ghost use Rattle.cable_model.specs.Outgoing.{IsAnswering, IsSent, IsTaken};
 ghost use Rattle.cable_model.specs.Pending as pending_spec;
 ghost use Rattle.cable_model.specs.Rooms.{AreRooms, held_rooms, known_rooms};
-ghost use Rattle.cable_model.specs.Transcript.{AreNumbered, ArePutOnce, Holding, Lost, Put, is_plain, next_stamp};
+ghost use Rattle.cable_model.specs.Transcript.{AreNumbered, ArePutOnce, Lost, is_plain, next_stamp};
 ghost use Rattle.station.specs.Hearing.{hearing};
 ghost use Rattle.station.specs.Lawful.{IsNext};
 
@@ -22,7 +21,7 @@ use crate::entry::Entry;
 use crate::log::{self, Log};
 use crate::outlet::Outlet;
 use crate::resolve::Resolve;
-use crate::room::{Room, Rooms, make_room, make_spare};
+use crate::room::{Room, Rooms, make_ready, make_room};
 use crate::seat::Seat;
 use crate::seats::Seats;
 use crate::taking::PendingFrame;
@@ -35,29 +34,15 @@ use std::marker::Model;
 /// The greatest length of a frame, in bytes. Inside AppleTalk, the chapter on DDP.
 pub const MAX_FRAME: usize = 599;
 
-/// The room of a put.
-const PUT: Room = Room {
-    lines: 1,
-    bytes: 1,
-    pairs: 1,
-};
-
-/// The room of a loss.
-const LOSS: Room = Room {
-    lines: 1,
-    bytes: 0,
-    pairs: 0,
-};
-
 /// Cables, the seats on them, and the transcript of what happened there.
 #[derive(Drop)]
 pub struct Cables {
-    seats: Seats,
-    limit: u32,
+    pub(crate) seats: Seats,
+    pub(crate) limit: u32,
     rooms: Rooms,
-    log: Log,
+    pub(crate) log: Log,
     // The further entries for which there is room, each with a frame.
-    spare: usize,
+    pub(crate) spare: usize,
     // The outputs of the station that takes a frame. The queue is empty between takes, and keeps
     // the room that was made for the first take.
     outputs: Outputs,
@@ -183,13 +168,6 @@ impl Cables {
         self.log.due.len()
     }
 
-    /// Whether a datagram is held with this stamp. Allocates nothing.
-    pub fn is_held(&self, stamp: u32) -> bool
-        ensures { result ≡ is_open (logs_spec.transcript self.now) stamp }
-    {
-        holding::is_held(&self.log, stamp)
-    }
-
     /// Puts a frame of a station on a cable, and returns its stamp. Stamps count frames
     /// and held datagrams from 0.
     ///
@@ -230,7 +208,7 @@ impl Cables {
         if bytes.len() > MAX_FRAME {
             return Err(Error::TooLong);
         }
-        match make_room(&mut self.log, self.limit, PUT, self.seats.len()) {
+        match make_room(&mut self.log, self.limit, Room::PUT, self.seats.widest()) {
             Ok(()) => {}
             Err(stop) => return Err(stop),
         }
@@ -286,7 +264,12 @@ impl Cables {
         if bytes.len() > MAX_FRAME {
             return Err(Error::TooLong);
         }
-        match make_room(&mut self.log, self.limit, self.rooms.send, self.seats.len()) {
+        match make_room(
+            &mut self.log,
+            self.limit,
+            self.rooms.send,
+            self.seats.widest(),
+        ) {
             Ok(()) => {}
             Err(stop) => return Err(stop),
         }
@@ -336,7 +319,12 @@ impl Cables {
         let Some(due) = ending::find_pair(&self.log, stamp, station) else {
             return Err(Error::NotPending);
         };
-        match make_room(&mut self.log, self.limit, self.rooms.take, self.seats.len()) {
+        match make_room(
+            &mut self.log,
+            self.limit,
+            self.rooms.take,
+            self.seats.widest(),
+        ) {
             Ok(()) => {}
             Err(stop) => return Err(stop),
         }
@@ -365,69 +353,6 @@ impl Cables {
         Ok(())
     }
 
-    /// Makes room for further entries, for as many calls of `put_held` and `shed` together.
-    ///
-    /// Errors, in this order: `Full` where fewer entries are left; `Memory`. A refusal changes
-    /// nothing.
-    pub fn room(&mut self, more: u32) -> Result<(), Error>
-        ensures ok { OnOk result (self.new ≡ record self.old { spare = more }) }
-        ensures full { (result ≡ Err Error.Full) ↔ (self.old.limit < length self.old.lines + more) }
-        ensures refused { IfErr result (λ e. (e ≡ Error.Full) ⊎ (e ≡ Error.Memory)) }
-        ensures kept { OnErr result (self.new ≡ self.old) }
-    {
-        match make_spare(&mut self.log, self.limit, more, self.seats.len()) {
-            Ok(()) => {}
-            Err(stop) => return Err(stop),
-        }
-        self.spare = more as usize;
-        Ok(())
-    }
-
-    /// Puts the frame of the held datagram with this stamp on its cable, to this hardware address.
-    /// The caller ensures that there is room for an entry. Allocates nothing.
-    ///
-    /// Error: `NotPending` where no datagram is held with the stamp; nothing changes then.
-    pub fn put_held(&mut self, stamp: u32, to: Hw) -> Result<(), Error>
-        requires { 1 ≤ self.old.spare }
-        ensures ok { OnOk result ((h : Holding) × Contains (still_held (logs_spec.transcript self.old)) h × (h.stamp ≡ stamp)
-            × Adds self.old self.new (Put (released_frame h to) ∷ [])) }
-        ensures stored { OnOk result (self.new.kept ≡ self.old.kept) }
-        ensures spare { OnOk result (self.new.spare + 1 ≡ self.old.spare) }
-        ensures not_pending { (result ≡ Err Error.NotPending)
-            ↔ (is_open (logs_spec.transcript self.old) stamp ≡ false) }
-        ensures refused { IsOkUnless result Error.NotPending }
-        ensures kept { OnErr result (self.new ≡ self.old) }
-    {
-        let Some(held) = holding::held_line(&self.log, stamp) else {
-            return Err(Error::NotPending);
-        };
-        self.spare -= 1;
-        putting::put_held(&mut self.log, &self.seats, held, to);
-        Ok(())
-    }
-
-    /// Gives up the held datagram with this stamp. The caller ensures that there is room for an
-    /// entry. Allocates nothing.
-    ///
-    /// Error: `NotPending` where no datagram is held with the stamp; nothing changes then.
-    pub fn shed(&mut self, stamp: u32) -> Result<(), Error>
-        requires { 1 ≤ self.old.spare }
-        ensures ok { OnOk result (Adds self.old self.new (Lost stamp ∷ [])) }
-        ensures stored { OnOk result (self.new.kept ≡ self.old.kept) }
-        ensures spare { OnOk result (self.new.spare + 1 ≡ self.old.spare) }
-        ensures not_pending { (result ≡ Err Error.NotPending)
-            ↔ (is_open (logs_spec.transcript self.old) stamp ≡ false) }
-        ensures refused { IsOkUnless result Error.NotPending }
-        ensures kept { OnErr result (self.new ≡ self.old) }
-    {
-        if !holding::is_held(&self.log, stamp) {
-            return Err(Error::NotPending);
-        }
-        self.spare -= 1;
-        ending::lost(&mut self.log, stamp);
-        Ok(())
-    }
-
     /// Loses a frame for all stations that haven't taken it.
     ///
     /// Errors, in this order: `NotPending` where the frame is pending for no station; `Full`;
@@ -447,7 +372,7 @@ impl Cables {
         if ending::find_frame(&self.log, stamp).is_none() {
             return Err(Error::NotPending);
         }
-        match make_room(&mut self.log, self.limit, LOSS, self.seats.len()) {
+        match make_room(&mut self.log, self.limit, Room::LOSS, self.seats.widest()) {
             Ok(()) => {}
             Err(stop) => return Err(stop),
         }
@@ -455,23 +380,4 @@ impl Cables {
         ending::lost(&mut self.log, stamp);
         Ok(())
     }
-}
-
-/// Removes all outputs.
-fn empty(outputs: &mut Outputs)
-    ensures { outputs.new.items ≡ [] }
-{
-    if let Some(_output) = outputs.pop() {
-        empty(outputs);
-    }
-}
-
-/// Empties the queue, and makes room for all outputs of one call of a station. Error: `Memory`.
-fn make_ready(outputs: &mut Outputs) -> Result<(), Error>
-    ensures ok { OnOk result (outputs.new.items ≡ []) }
-    ensures refused { IsOkUnless result Error.Memory }
-{
-    empty(outputs);
-    outputs.room(257)?;
-    Ok(())
 }

@@ -1,14 +1,15 @@
 //! Datagrams that are held until a hardware address is known.
 
-ghost use Rattle.std.specs.Prelude.{◌≡◌, ◌<◌, ◌≤◌, ◌+◌, ◌⊎◌, [], ◌∷◌, ◌++◌, List, ℕ, Option, Contains, length};
+ghost use Rattle.std.specs.Prelude.{◌≡◌, ◌<◌, ◌≤◌, ◌+◌, ◌⊎◌, [], ◌∷◌, ◌++◌, List, ℕ, Option, length};
 ghost use Rattle.std.specs.Prelude.{IfSome, IfNone, false, is_some, slice_get, true, vec_len};
+ghost use Rattle.cable_model.specs.Places.{widest};
 ghost use Rattle.cable_model.specs.Books.{Grows, HasRoom, HoldsMore, IsBook, IsHeldLine, IsSameButWaiting, IsStored, Settles};
 ghost use Rattle.cable_model.specs.Books.{Tells, Uses, held as held_in, line_of, said};
-ghost use Rattle.cable_model.specs.Holdings.{is_open, still_held};
+ghost use Rattle.cable_model.specs.Holdings.{is_open};
 ghost use Rattle.cable_model.specs.Logs.{bytes_at};
 ghost use Rattle.cable_model.specs.Outgoing.{IsHeldBy, asked, asked_bytes, held_entry, if_open, losses};
 ghost use Rattle.cable_model.specs.Outcomes.{held_at};
-ghost use Rattle.cable_model.specs.Transcript.{Entry as EntryValue, Holding};
+ghost use Rattle.cable_model.specs.Transcript.{Entry as EntryValue};
 ghost use Rattle.cable_model.specs.declared.seat.Seat.{Seat as SeatValue};
 
 use crate::due::Due;
@@ -158,14 +159,14 @@ fn give_up(log: &mut Log, stamp: Option<u32>)
 
 /// Puts a request for an address on a cable, if there is one.
 fn ask(log: &mut Log, seats: &Seats, cable: u8, station: u16, packet: Option<[u8; PACKET_LEN]>)
-    requires room { HasRoom log.old 1 1 0 (length seats.now) }
+    requires room { HasRoom log.old 1 1 0 (widest seats.now) }
     requires book { IsBook seats.now log.old }
     ensures tells { Tells log.old log.new
         (asked (record { stamp = log.old.next_stamp; cable = cable; station = station }) packet) }
     ensures book { IsBook seats.now log.new }
     ensures stored { log.new.kept.items ≡ log.old.kept.items ++ asked_bytes packet }
     ensures waiting { log.new.waiting ≡ log.old.waiting }
-    ensures uses { Uses log.old log.new 1 1 0 (length seats.now) }
+    ensures uses { Uses log.old log.new 1 1 0 (widest seats.now) }
     ensures named { length log.new.kept.items + vec_len log.old.lines
         ≤ length log.old.kept.items + vec_len log.new.lines }
 {
@@ -211,7 +212,7 @@ fn take_waiting(log: &mut Log) -> Option<Waiting>
 /// address.
 pub fn settle<R: Resolve>(log: &mut Log, seats: &Seats, resolver: &mut R, station: u16)
     requires room { (log.old.waiting.items ≡ [])
-        ⊎ (HasRoom log.old 3 1 0 (length seats.now) × (length log.old.holdings.dues + 1 ≤ log.old.holdings.room)) }
+        ⊎ (HasRoom log.old 3 1 0 (widest seats.now) × (length log.old.holdings.dues + 1 ≤ log.old.holdings.room)) }
     requires book { IsBook seats.now log.old }
     requires few { vec_len log.old.waiting ≤ 1 }
     ensures settled { (es : List EntryValue) × (ks : List (List ℕ)) × Tells log.old log.new es
@@ -219,7 +220,7 @@ pub fn settle<R: Resolve>(log: &mut Log, seats: &Seats, resolver: &mut R, statio
         × IsHeldBy R.holds station (said log.old) (held_in log.old) resolver.old es ks resolver.new }
     ensures idle { log.new.waiting.items ≡ [] }
     ensures book { IsBook seats.now log.new }
-    ensures used { Settles log.old log.new (length seats.now) }
+    ensures used { Settles log.old log.new (widest seats.now) }
 {
     let Some(waiting) = take_waiting(log) else {
         return;

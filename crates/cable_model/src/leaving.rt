@@ -1,6 +1,7 @@
 //! Putting datagrams on a cable.
 
 ghost use Rattle.std.specs.Prelude.{◌≡◌, ◌<◌, [], ◌∷◌, List, length};
+ghost use Rattle.cable_model.specs.Places.{widest};
 ghost use Rattle.cable_model.specs.Books.{Grows, HasRoom, IsBook, Uses};
 ghost use Rattle.cable_model.specs.Logs.{bytes_at};
 ghost use Rattle.cable_model.specs.Outcomes.{held_by};
@@ -48,7 +49,7 @@ fn reached(log: &mut Log, exit: Outlet, how: How, bytes: u32)
 
 /// Sends a datagram to the station that it is addressed to.
 fn to_target(log: &mut Log, seats: &Seats, exit: Outlet, addr: Addr, found: Found, bytes: u32)
-    requires room { HasRoom log.old 2 0 1 (length seats.now) }
+    requires room { HasRoom log.old 2 0 1 (widest seats.now) }
     requires book { IsBook seats.now log.old }
     requires names { bytes < length log.old.kept.items }
     ensures grows { Grows log.old log.new
@@ -56,7 +57,7 @@ fn to_target(log: &mut Log, seats: &Seats, exit: Outlet, addr: Addr, found: Foun
         (held_by found exit.cable addr (bytes_at log.old.kept.items bytes)) }
     ensures book { IsBook seats.now log.new }
     ensures kept { log.new.kept ≡ log.old.kept }
-    ensures uses { Uses log.old log.new 2 0 1 (length seats.now) }
+    ensures uses { Uses log.old log.new 2 0 1 (widest seats.now) }
 {
     match found {
         Found::At(hw) => {
@@ -73,7 +74,7 @@ fn to_target(log: &mut Log, seats: &Seats, exit: Outlet, addr: Addr, found: Foun
 
 /// Sends a datagram to another station than the one that it is addressed to.
 fn to_other(log: &mut Log, seats: &Seats, exit: Outlet, addr: Addr, found: Found, bytes: u32)
-    requires room { HasRoom log.old 1 0 1 (length seats.now) }
+    requires room { HasRoom log.old 1 0 1 (widest seats.now) }
     requires book { IsBook seats.now log.old }
     requires names { bytes < length log.old.kept.items }
     ensures grows { Grows log.old log.new
@@ -81,7 +82,7 @@ fn to_other(log: &mut Log, seats: &Seats, exit: Outlet, addr: Addr, found: Found
         (held_by found exit.cable addr (bytes_at log.old.kept.items bytes)) }
     ensures book { IsBook seats.now log.new }
     ensures kept { log.new.kept ≡ log.old.kept }
-    ensures uses { Uses log.old log.new 1 0 1 (length seats.now) }
+    ensures uses { Uses log.old log.new 1 0 1 (widest seats.now) }
 {
     match found {
         Found::At(hw) => put(log, seats, exit.cable, exit.station, hw, Kind::Ddp, bytes),
@@ -110,14 +111,14 @@ fn wait(log: &mut Log, exit: Outlet, next: Addr, bytes: u32)
 
 /// Sends a datagram to all stations of the cable.
 fn to_all(log: &mut Log, seats: &Seats, exit: Outlet, listed: bool, bytes: u32)
-    requires room { HasRoom log.old 2 0 0 (length seats.now) }
+    requires room { HasRoom log.old 2 0 0 (widest seats.now) }
     requires book { IsBook seats.now log.old }
     requires names { bytes < length log.old.kept.items }
     ensures grows { Grows log.old log.new
         (way_entries (sender_at exit log.old.next_stamp) (bytes_at log.old.kept.items bytes) (All listed)) [] }
     ensures book { IsBook seats.now log.new }
     ensures kept { log.new.kept ≡ log.old.kept }
-    ensures uses { Uses log.old log.new 2 0 0 (length seats.now) }
+    ensures uses { Uses log.old log.new 2 0 0 (widest seats.now) }
 {
     if listed {
         reached(log, exit, How::All, bytes);
@@ -145,7 +146,7 @@ fn to_all(log: &mut Log, seats: &Seats, exit: Outlet, listed: bool, bytes: u32)
 
 /// Sends a datagram on a route of the cable.
 pub fn leave(log: &mut Log, seats: &Seats, exit: Outlet, way: Route, bytes: u32)
-    requires room { HasRoom log.old 2 0 1 (length seats.now) }
+    requires room { HasRoom log.old 2 0 1 (widest seats.now) }
     requires book { IsBook seats.now log.old }
     requires names { bytes < length log.old.kept.items }
     ensures grows { Grows log.old log.new
@@ -153,7 +154,7 @@ pub fn leave(log: &mut Log, seats: &Seats, exit: Outlet, way: Route, bytes: u32)
         (way_held exit.cable (bytes_at log.old.kept.items bytes) way) }
     ensures book { IsBook seats.now log.new }
     ensures kept { log.new.kept ≡ log.old.kept }
-    ensures uses { Uses log.old log.new 2 0 1 (length seats.now) }
+    ensures uses { Uses log.old log.new 2 0 1 (widest seats.now) }
 {
     match way {
         Route::Target(addr, found) => to_target(log, seats, exit, addr, found, bytes),

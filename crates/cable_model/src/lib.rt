@@ -7,6 +7,7 @@ mod earliest;
 mod ending;
 mod entry;
 mod hearing;
+mod held;
 mod holding;
 mod kept;
 mod laws;

@@ -1,6 +1,7 @@
 //! The entries of a station's outputs.
 
 ghost use Rattle.std.specs.Prelude.{◌≡◌, ◌⊎◌, ◌≤◌, ◌+◌, ◌*◌, ℕ, [], ◌∷◌, ◌++◌, List, cond, length, vec_len};
+ghost use Rattle.cable_model.specs.Places.{widest};
 ghost use Rattle.cable_model.specs.Books.{Grows, HasHeldRoom, HasRoom, IsBook, Tells, Uses, said};
 ghost use Rattle.cable_model.specs.Outcomes.{Places, entries_of, framed};
 ghost use Rattle.cable_model.specs.Outcomes.{goes_nowhere, held_next, held_of, leg, stored_of};
@@ -34,7 +35,7 @@ pub fn sent<R: Resolve>(
     next: Next,
     bytes: Bytes,
 )
-    requires room { HasRoom log.old 3 1 1 (length seats.now) }
+    requires room { HasRoom log.old 3 1 1 (widest seats.now) }
     requires book { IsBook seats.now log.old }
     ensures grows { let places : Places = record { finds = R.finds resolver.now; lists = R.lists resolver.now } in
         Grows log.old log.new
@@ -42,7 +43,7 @@ pub fn sent<R: Resolve>(
         (held_next places exit.cable next bytes) }
     ensures stored { log.new.kept.items ≡ log.old.kept.items ++ bytes ∷ [] }
     ensures book { IsBook seats.now log.new }
-    ensures uses { Uses log.old log.new 3 1 1 (length seats.now) }
+    ensures uses { Uses log.old log.new 3 1 1 (widest seats.now) }
     ensures named { length log.new.kept.items + vec_len log.old.lines
         ≤ length log.old.kept.items + vec_len log.new.lines }
 {
@@ -68,7 +69,7 @@ fn passed<R: Resolve>(
     next: Next,
     bytes: Bytes,
 )
-    requires room { HasRoom log.old 2 1 1 (length seats.now) }
+    requires room { HasRoom log.old 2 1 1 (widest seats.now) }
     requires book { IsBook seats.now log.old }
     ensures grows { let places : Places = record { finds = R.finds resolver.now; lists = R.lists resolver.now } in
         Grows log.old log.new (leg places (sender_at exit log.old.next_stamp) next bytes)
@@ -77,7 +78,7 @@ fn passed<R: Resolve>(
         log.new.kept.items ≡ log.old.kept.items
         ++ cond (goes_nowhere places exit.cable next bytes) [] (bytes ∷ []) }
     ensures book { IsBook seats.now log.new }
-    ensures uses { Uses log.old log.new 2 1 1 (length seats.now) }
+    ensures uses { Uses log.old log.new 2 1 1 (widest seats.now) }
     ensures named { length log.new.kept.items + vec_len log.old.lines
         ≤ length log.old.kept.items + vec_len log.new.lines + 1 }
 {
@@ -149,13 +150,13 @@ fn dropped(log: &mut Log, router: u16, cause: DropCause, bytes: Bytes)
 
 /// Puts an AARP packet of a station on a cable.
 fn wire(log: &mut Log, seats: &Seats, exit: Outlet, to: Hw, bytes: Bytes)
-    requires room { HasRoom log.old 3 1 0 (length seats.now) }
+    requires room { HasRoom log.old 3 1 0 (widest seats.now) }
     requires book { IsBook seats.now log.old }
     ensures grows { Grows log.old log.new
         (framed (sender_at exit log.old.next_stamp) to Aarp bytes ∷ []) [] }
     ensures stored { log.new.kept.items ≡ log.old.kept.items ++ bytes ∷ [] }
     ensures book { IsBook seats.now log.new }
-    ensures uses { Uses log.old log.new 3 1 0 (length seats.now) }
+    ensures uses { Uses log.old log.new 3 1 0 (widest seats.now) }
     ensures named { length log.new.kept.items + vec_len log.old.lines
         ≤ length log.old.kept.items + vec_len log.new.lines }
 {
@@ -165,7 +166,7 @@ fn wire(log: &mut Log, seats: &Seats, exit: Outlet, to: Hw, bytes: Bytes)
 
 /// Adds the entries of an output.
 fn add<R: Resolve>(log: &mut Log, seats: &Seats, resolver: &R, station: u16, output: Output)
-    requires room { HasRoom log.old (lines_for output) 1 1 (length seats.now) }
+    requires room { HasRoom log.old (lines_for output) 1 1 (widest seats.now) }
     requires book { IsBook seats.now log.old }
     ensures grows { let places : Places = record { finds = R.finds resolver.now; lists = R.lists resolver.now } in
         Grows log.old log.new (entries_of places seats.now station log.old.next_stamp output)
@@ -173,7 +174,7 @@ fn add<R: Resolve>(log: &mut Log, seats: &Seats, resolver: &R, station: u16, out
     ensures stored { let places : Places = record { finds = R.finds resolver.now; lists = R.lists resolver.now } in
         log.new.kept.items ≡ log.old.kept.items ++ stored_of places seats.now station output }
     ensures book { IsBook seats.now log.new }
-    ensures uses { Uses log.old log.new (lines_for output) 1 1 (length seats.now) }
+    ensures uses { Uses log.old log.new (lines_for output) 1 1 (widest seats.now) }
     ensures named { length log.new.kept.items + vec_len log.old.lines
         ≤ length log.old.kept.items + vec_len log.new.lines + spare_for output }
 {
@@ -216,9 +217,9 @@ pub fn add_all<R: Resolve>(
     outputs: &mut Outputs,
 )
     requires room { HasRoom log.old (all_lines outputs.old.items) (length outputs.old.items)
-        (length outputs.old.items) (length outputs.old.items * length seats.now) }
+        (length outputs.old.items) (length outputs.old.items * widest seats.now) }
     requires more { let places : Places = record { finds = R.finds resolver.old; lists = R.lists resolver.old } in
-        IsAnswering places ⊎ HasHeldRoom log.old outputs.old.items (length seats.now) }
+        IsAnswering places ⊎ HasHeldRoom log.old outputs.old.items (widest seats.now) }
     requires book { IsBook seats.now log.old }
     requires idle { log.old.waiting.items ≡ [] }
     ensures out { (es : List EntryValue) × (ks : List (List ℕ)) × Tells log.old log.new es

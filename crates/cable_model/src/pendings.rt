@@ -31,6 +31,9 @@ impl Model for Pendings {
     ghost invariant = { λ p. Rises due_key p.items.items };
 }
 
+/// The least number of pairs that room is made for beyond what is needed.
+const LEAST_GROWTH: usize = 256;
+
 /// Whether the pair comes before the stamp and the station.
 fn comes_before(due: &Due, stamp: u32, station: u32) -> bool
     ensures { result ≡ is_before (due_key due.now) (stamp, station) }
@@ -58,13 +61,40 @@ fn place_between(items: &VecDeque<Due>, stamp: u32, station: u32, low: usize, hi
     }
 }
 
-/// The number of pairs that come before the stamp and the station, by halving.
+/// The number of pairs that come before the stamp and the station. Most searches are for the first
+/// pair, or for the place after the last: these two are looked at first, and then it is found by
+/// halving.
 fn place_of(items: &VecDeque<Due>, stamp: u32, station: u32) -> usize
     requires { Rises due_key items.now.items }
     ensures place { result ≡ ahead due_key (stamp, station) items.now.items }
     ensures inside { result ≤ length items.now.items }
 {
-    place_between(items, stamp, station, 0, items.len())
+    let len = items.len();
+    if len == 0 {
+        return 0;
+    }
+    if !comes_before(&items[0], stamp, station) {
+        return 0;
+    }
+    if comes_before(&items[len - 1], stamp, station) {
+        return len;
+    }
+    place_between(items, stamp, station, 1, len - 1)
+}
+
+/// Makes room for further pairs. Where there is too little, room is made for as many again as there
+/// are: else each call that finds one pair more than the last would move all of them.
+fn make_room(items: &mut VecDeque<Due>, more: usize) -> Result<(), AllocError>
+    ensures items { items.new.items ≡ items.old.items }
+    ensures ok { OnOk result (length items.new.items + more ≤ deque_capacity items.new) }
+    ensures bound { OnOk result (more < 2 ^ 63) }
+    ensures grown { deque_capacity items.old ≤ deque_capacity items.new }
+{
+    let len = items.len();
+    if more <= items.capacity() - len {
+        return items.reserve(more);
+    }
+    items.reserve(more.saturating_add(len).saturating_add(LEAST_GROWTH))
 }
 
 /// The pair with an index.
@@ -147,7 +177,7 @@ impl Pendings {
         ensures bound { OnOk result (more < 2 ^ 63) }
         ensures grown { self.old.room ≤ self.new.room }
     {
-        self.items.reserve(more)
+        make_room(&mut self.items, more)
     }
 
     /// The first pair.

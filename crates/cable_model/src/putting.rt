@@ -2,6 +2,7 @@
 
 ghost use Rattle.std.specs.Prelude.{◌≡◌, ◌<◌, ◌≤◌, ◌+◌, ◌&&◌, ◌==◌, [], ◌∷◌, ◌++◌, length, slice_get, filter, not, true};
 ghost use Rattle.std.specs.Prelude.{vec_len, vec_capacity};
+ghost use Rattle.cable_model.specs.Places.{widest};
 ghost use Rattle.cable_model.specs.Order.{all_placed};
 ghost use Rattle.cable_model.specs.Books.{Grows, HasRoom, IsBook, Uses, dues, said};
 ghost use Rattle.cable_model.specs.Holdings.{is_open};
@@ -34,7 +35,7 @@ fn add_frame(
     kind: Kind,
     bytes: u32,
 )
-    requires room { HasRoom log.old 1 0 0 (length seats.now) }
+    requires room { HasRoom log.old 1 0 0 (widest seats.now) }
     ensures lines { log.new.lines.items
         ≡ log.old.lines.items ++ line.Put stamp cable sender to kind bytes ∷ [] }
     ensures due { log.new.due.dues ≡ all_placed due_key log.old.due.dues
@@ -47,7 +48,7 @@ fn add_frame(
     ensures next_stamp { log.new.next_stamp ≡ log.old.next_stamp }
     ensures one { vec_len log.new.lines ≡ vec_len log.old.lines + 1 }
     ensures lines_room { vec_capacity log.new.lines ≡ vec_capacity log.old.lines }
-    ensures few { length log.new.due.dues ≤ length log.old.due.dues + length seats.now }
+    ensures few { length log.new.due.dues ≤ length log.old.due.dues + widest seats.now }
     ensures due_room { log.old.due.room ≤ log.new.due.room }
 {
     let put = log.lines.len() as u32;
@@ -65,7 +66,7 @@ fn add_frame(
 
 /// Puts a frame on a cable, for all stations that receive it there.
 pub fn put(log: &mut Log, seats: &Seats, cable: u8, sender: u16, to: Hw, kind: Kind, bytes: u32)
-    requires room { HasRoom log.old 1 0 0 (length seats.now) }
+    requires room { HasRoom log.old 1 0 0 (widest seats.now) }
     requires book { IsBook seats.now log.old }
     requires names { bytes < length log.old.kept.items }
     ensures grows { Grows log.old log.new
@@ -76,7 +77,7 @@ pub fn put(log: &mut Log, seats: &Seats, cable: u8, sender: u16, to: Hw, kind: K
     ensures waiting { log.new.waiting ≡ log.old.waiting }
     ensures next_stamp { log.new.next_stamp ≡ log.old.next_stamp + 1 }
     ensures one { vec_len log.new.lines ≡ vec_len log.old.lines + 1 }
-    ensures uses { Uses log.old log.new 1 0 0 (length seats.now) }
+    ensures uses { Uses log.old log.new 1 0 0 (widest seats.now) }
 {
     let stamp = log.next_stamp;
     add_frame(log, seats, stamp, cable, sender, to, kind, bytes);
@@ -98,7 +99,7 @@ pub struct HeldLine {
 
 /// Puts the frame of a held datagram on its cable.
 pub fn put_held(log: &mut Log, seats: &Seats, held: HeldLine, to: Hw)
-    requires room { HasRoom log.old 1 0 0 (length seats.now) }
+    requires room { HasRoom log.old 1 0 0 (widest seats.now) }
     requires book { IsBook seats.now log.old }
     requires names { held.bytes < length log.old.kept.items }
     requires held { is_open (said log.old) held.stamp ≡ true }
@@ -111,7 +112,7 @@ pub fn put_held(log: &mut Log, seats: &Seats, held: HeldLine, to: Hw)
     ensures next_stamp { log.new.next_stamp ≡ log.old.next_stamp }
     ensures one { vec_len log.new.lines ≡ vec_len log.old.lines + 1 }
     ensures lines_room { vec_capacity log.new.lines ≡ vec_capacity log.old.lines }
-    ensures few { length log.new.due.dues ≤ length log.old.due.dues + length seats.now }
+    ensures few { length log.new.due.dues ≤ length log.old.due.dues + widest seats.now }
     ensures due_room { log.old.due.room ≤ log.new.due.room }
 {
     add_frame(
@@ -193,11 +194,11 @@ fn add_dues(
     stamp: u32,
     put: u32,
 )
-    requires room { length due.old.dues + length seats.now ≤ due.old.room }
+    requires room { length due.old.dues + widest seats.now ≤ due.old.room }
     ensures added { due.new.dues ≡ all_placed due_key due.old.dues
         (dues (λ s. s.cable == cable && is_for_as (link_of to.now) to.now sender s) stamp put 0
         seats.now) }
-    ensures few { length due.new.dues ≤ length due.old.dues + length seats.now }
+    ensures few { length due.new.dues ≤ length due.old.dues + widest seats.now }
     ensures capacity { due.old.room ≤ due.new.room }
 {
     let link = hearing::link_of(to);

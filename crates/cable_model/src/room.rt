@@ -1,11 +1,12 @@
 //! The room that calls need, and its allocation before anything changes.
 
-ghost use Rattle.std.specs.Prelude.{◌≡◌, ◌≤◌, ◌<◌, ◌+◌, ◌*◌, ◌^◌, ◌↔◌, ◌⊎◌, List, length, vec_capacity, vec_len, IfErr, OnOk};
+ghost use Rattle.std.specs.Prelude.{◌≡◌, ◌≤◌, ◌<◌, ◌+◌, ◌*◌, ◌^◌, ◌↔◌, ◌⊎◌, List, length, vec_capacity, vec_len, [], IfErr, IsOkUnless, OnOk};
 ghost use Rattle.cable_model.specs.declared.seat.Seat.{Seat as SeatValue};
 ghost use Rattle.cable_model.specs.Books.{HasRoom, IsKept, IsSame};
 
 use crate::log::Log;
 use at_base::Error;
+use station::Outputs;
 
 /// The most outputs that a station makes itself in one call.
 const MADE: usize = 256;
@@ -28,6 +29,22 @@ pub struct Room {
     pub bytes: usize,
     /// Pending pairs of a frame and a station, for each seat.
     pub pairs: usize,
+}
+
+impl Room {
+    /// The room of a put.
+    pub const PUT: Room = Room {
+        lines: 1,
+        bytes: 1,
+        pairs: 1,
+    };
+
+    /// The room of a loss.
+    pub const LOSS: Room = Room {
+        lines: 1,
+        bytes: 0,
+        pairs: 0,
+    };
 }
 
 /// The room of a take and of a send.
@@ -133,4 +150,23 @@ fn pairs_of(frames: usize, seats: usize) -> usize
         None => usize::MAX,
         Some(pairs) => pairs,
     }
+}
+
+/// Removes all outputs.
+fn empty(outputs: &mut Outputs)
+    ensures { outputs.new.items ≡ [] }
+{
+    if let Some(_output) = outputs.pop() {
+        empty(outputs);
+    }
+}
+
+/// Empties the queue, and makes room for all outputs of one call of a station. Error: `Memory`.
+pub fn make_ready(outputs: &mut Outputs) -> Result<(), Error>
+    ensures ok { OnOk result (outputs.new.items ≡ []) }
+    ensures refused { IsOkUnless result Error.Memory }
+{
+    empty(outputs);
+    outputs.room(257)?;
+    Ok(())
 }

@@ -1,7 +1,7 @@
 //! The seats on cables, with an index by cable and by station.
 
-ghost use Rattle.std.specs.Prelude.{◌≡◌, ◌<◌, ◌≤◌, ◌+◌, ◌^◌, ◌++◌, ◌&&◌, ◌==◌, ℕ, length, slice_get};
-ghost use Rattle.std.specs.Prelude.{find, position, IfOk, IsOkUnless, OnOk};
+ghost use Rattle.std.specs.Prelude.{◌≡◌, ◌<◌, ◌≤◌, ◌+◌, ◌^◌, ◌&&◌, ◌==◌, ℕ, length, slice_get};
+ghost use Rattle.std.specs.Prelude.{find, position, IfOk, IsOkUnless};
 ghost use Rattle.std.specs.List.{list_any};
 ghost use Rattle.cable_model.specs.Places as spec;
 ghost use Rattle.cable_model.specs.Places.{AreLists, has_key, has_some, indices, passes};
@@ -56,6 +56,8 @@ pub struct Seats {
     on: Vec<Indices>,
     // The indices of each station's seats, for stations from 0 up to that of the last seat.
     of: Vec<Indices>,
+    // The most seats that a cable has.
+    widest: usize,
 }
 
 impl Model for Seats {
@@ -67,7 +69,7 @@ impl Model for Seats {
 
     ghost view = { λ s. s.items.items };
 
-    ghost invariant = { λ s. AreIndexed s.items.items s.on.items s.of.items };
+    ghost invariant = { λ s. AreIndexed s.items.items s.on.items s.of.items s.widest };
 }
 
 /// Whether the seat has the key.
@@ -81,24 +83,6 @@ fn has(seat: &Seat, key: Key) -> bool
     }
 }
 
-/// Appends the indices of the seats that have the key, counted from `from`. Error: `Memory`.
-fn add_indices(list: &mut Vec<usize>, seats: &[Seat], key: Key, from: usize) -> Result<(), Error>
-    requires { from + length seats.now < 2 ^ 63 }
-    ensures ok { OnOk result
-        (list.new.items ≡ list.old.items ++ indices (has_key key) from seats.now) }
-    ensures refused { IsOkUnless result Error.Memory }
-{
-    match seats {
-        [] => Ok(()),
-        [seat, rest @ ..] => {
-            if has(seat, key) {
-                list.push(from)?;
-            }
-            add_indices(list, rest, key, from + 1)
-        }
-    }
-}
-
 /// The indices of the seats that have the key. Error: `Memory`.
 fn indices_by(alloc: Global, seats: &[Seat], key: Key) -> Result<Indices, Error>
     requires { length seats.now < 2 ^ 63 }
@@ -106,9 +90,16 @@ fn indices_by(alloc: Global, seats: &[Seat], key: Key) -> Result<Indices, Error>
     ensures refused { IsOkUnless result Error.Memory }
 {
     let mut items = Vec::new(alloc);
-    add_indices(&mut items, seats, key, 0)?;
+    for index in 0..seats.len() {
+        if has(&seats[index], key) {
+            items.push(index)?;
+        }
+    }
     Ok(Indices { items })
 }
+
+/// The number of cables that a byte can name.
+const CABLES: usize = 256;
 
 /// The indices of the seats on each cable, by the cable's number. Error: `Memory`.
 fn indices_by_cable(alloc: Global, seats: &[Seat]) -> Result<Vec<Indices>, Error>
@@ -117,10 +108,33 @@ fn indices_by_cable(alloc: Global, seats: &[Seat]) -> Result<Vec<Indices>, Error
     ensures refused { IsOkUnless result Error.Memory }
 {
     let mut on = Vec::new(alloc);
-    for cable in 0..256usize {
+    for cable in 0..CABLES {
         on.push(indices_by(alloc, seats, Key::Cable(cable as u8))?)?;
     }
     Ok(on)
+}
+
+/// The most seats that one of the first `cables` cables has, by the lists of their indices.
+fn most_on(seats: &[Seat], on: &[Indices], cables: usize) -> usize
+    requires lists { AreLists Cable seats.now on.now }
+    requires inside { cables ≤ length on.now }
+    ensures { result ≡ spec.most_on cables seats.now }
+{
+    if cables == 0 {
+        return 0;
+    }
+    let here = on[cables - 1].as_slice().len();
+    here.max(most_on(seats, on, cables - 1))
+}
+
+/// The most seats that a cable has, by the lists of their indices.
+#[tactic(auto, unfolding(crate::specs::Places::widest))]
+fn widest_of(seats: &[Seat], on: &[Indices]) -> usize
+    requires lists { AreLists Cable seats.now on.now }
+    requires all { 256 ≤ length on.now }
+    ensures { result ≡ spec.widest seats.now }
+{
+    most_on(seats, on, CABLES)
 }
 
 /// The number of the last seat's station plus 1, or 0 without seats.
@@ -198,7 +212,13 @@ impl Seats {
         let items = Vec::from_slice(alloc, seats)?;
         let on = indices_by_cable(alloc, items.as_slice())?;
         let of = indices_by_station(alloc, items.as_slice())?;
-        Ok(Seats { items, on, of })
+        let widest = widest_of(items.as_slice(), on.as_slice());
+        Ok(Seats {
+            items,
+            on,
+            of,
+            widest,
+        })
     }
 
     /// The number of seats.
@@ -207,6 +227,13 @@ impl Seats {
         ensures bound { length self.now < 2 ^ 63 }
     {
         self.items.len()
+    }
+
+    /// The most seats that a cable has.
+    pub fn widest(&self) -> usize
+        ensures value { result ≡ spec.widest self.now }
+    {
+        self.widest
     }
 
     /// The seats, in order.
@@ -226,7 +253,7 @@ impl Seats {
     /// The indices of the seats on the cable, in rising order.
     pub fn on(&self, cable: u8) -> &[usize]
         ensures value { result.now ≡ indices (has_key (Cable cable)) 0 self.now }
-        ensures few { length result.now ≤ length self.now }
+        ensures few { length result.now ≤ spec.widest self.now }
     {
         self.on[cable as usize].as_slice()
     }

@@ -120,6 +120,32 @@ fn put_hold(
     text.extend_from_slice(b"\n")
 }
 
+/// Appends the line of a datagram that reached the cable of its target.
+fn put_reached(
+    text: &mut Vec<u8>,
+    cable: u8,
+    station: u16,
+    reached: How,
+    bytes: &[u8],
+) -> Result<(), AllocError> {
+    put_number(text, b"reached cable ", u16::from(cable))?;
+    put_number(text, b" ", station)?;
+    text.extend_from_slice(how(reached))?;
+    put_body(text, bytes)
+}
+
+/// Appends the line of a datagram that a router dropped.
+fn put_dropped(
+    text: &mut Vec<u8>,
+    router: u16,
+    why: DropCause,
+    bytes: &[u8],
+) -> Result<(), AllocError> {
+    put_number(text, b"dropped ", router)?;
+    text.extend_from_slice(cause(why))?;
+    put_body(text, bytes)
+}
+
 /// Appends the line of an entry of a world.
 pub fn put_entry<T: RouteTable>(
     text: &mut Vec<u8>,
@@ -145,21 +171,12 @@ pub fn put_entry<T: RouteTable>(
             station,
             how: reached,
             bytes,
-        } => {
-            put_number(text, b"reached cable ", u16::from(cable))?;
-            put_number(text, b" ", station)?;
-            text.extend_from_slice(how(reached))?;
-            put_body(text, world.bytes(bytes))
-        }
+        } => put_reached(text, cable, station, reached, world.bytes(bytes)),
         Entry::Dropped {
             router,
             cause: why,
             bytes,
-        } => {
-            put_number(text, b"dropped ", router)?;
-            text.extend_from_slice(cause(why))?;
-            put_body(text, world.bytes(bytes))
-        }
+        } => put_dropped(text, router, why, world.bytes(bytes)),
         Entry::Lost { stamp } => put_lost(text, stamp),
         Entry::Hold {
             stamp,

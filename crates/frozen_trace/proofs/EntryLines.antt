@@ -9,10 +9,10 @@ use Rattle.cable_model.specs.declared.entry.Entry.{Entry as Line}
 use Rattle.frozen.proofs.Refused.{take_one}
 use Rattle.frozen_trace.specs.Traces.{cables_of}
 use Rattle.trace_lines.specs.Lines.{Printed, cable_of, line, lines}
-use Rattle.trace_lines.specs.Stations.{Directory}
+use Rattle.trace_lines.specs.Stations.{Addresses}
 
 -- The lines of entries, followed by those of more entries.
-pub lines_append : (i : Directory) (c : List ℕ) (xs ys : List Entry)
+pub lines_append : (i : Addresses) (c : List ℕ) (xs ys : List Entry)
     → lines i c (xs ++ ys) ≡ lines i c xs ++ lines i (c ++ cables_of xs) ys
 lines_append i c [] ys = ap (λ (d : List ℕ). lines i d ys) (sym (append-nil c))
 lines_append i c (e ∷ xs) ys =
@@ -22,7 +22,7 @@ lines_append i c (e ∷ xs) ys =
     ∙ sym (append_assoc (line i c e) (10 ∷ lines i d xs) (lines i (c ++ cables_of (e ∷ xs)) ys))
 
 -- The lines of entries, followed by that of one more entry.
-pub lines_one : (i : Directory) (c : List ℕ) (xs : List Entry) (e : Entry)
+pub lines_one : (i : Addresses) (c : List ℕ) (xs : List Entry) (e : Entry)
     → lines i c (xs ++ e ∷ []) ≡ lines i c xs ++ (line i (c ++ cables_of xs) e ++ 10 ∷ [])
 lines_one i c xs e = lines_append i c xs (e ∷ [])
 
@@ -47,5 +47,5 @@ from_on f xs n inside =
     ∙ sym (drop-map f n xs)
 
 -- The state of a printer of entries.
-abbrev pub printed : Directory → List ℕ → Printed
-printed i cables = record { directory = i; cables = cables }
+abbrev pub printed : Addresses → List ℕ → Printed
+printed i cables = record { addresses = i; cables = cables }

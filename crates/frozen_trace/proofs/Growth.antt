@@ -23,7 +23,7 @@ use Rattle.frozen_trace.specs.Traces.{Plays, Played, PlaysAll, Refusing, added, 
 use Rattle.script.specs.declared.step.Step.{Step}
 use Rattle.script.specs.declared.step.Step.TheVariants as step
 use Rattle.trace_lines.specs.Lines.{Printed, cable_of, lines}
-use Rattle.trace_lines.specs.Stations.{directory_of}
+use Rattle.trace_lines.specs.Stations.{addresses_of}
 
 -- The internet stays the same, and these entries come after the earlier ones.
 pub record Grows (a b : Running) (more : List Entry) : Type 0 where
@@ -119,21 +119,21 @@ told_then a b c m n x y =
     let cb : List ℕ = cables_of (transcript b.cabling) in
     let known : cb ≡ ca ++ cables_of m =
     ap cables_of x.said ∙ flat_map-append cable_of (transcript a.cabling) m in
-    ap (lines (directory_of a.internet) ca) (added_are a c (m ++ n) (grows_then a b c m n x y))
-    ∙ lines_append (directory_of a.internet) ca m n
-    ∙ ap (λ (k : List ℕ). lines (directory_of a.internet) ca m ++ lines (directory_of a.internet) k n) (sym known)
-    ∙ ap (λ i. lines (directory_of a.internet) ca m ++ lines (directory_of i) cb n) (sym x.internet)
-    ∙ ap (λ (l : List Entry). lines (directory_of a.internet) ca l ++ lines (directory_of b.internet) cb n) (sym (added_are a b m x))
-    ∙ ap (λ (l : List Entry). told a b ++ lines (directory_of b.internet) cb l) (sym (added_are b c n y))
+    ap (lines (addresses_of a.internet) ca) (added_are a c (m ++ n) (grows_then a b c m n x y))
+    ∙ lines_append (addresses_of a.internet) ca m n
+    ∙ ap (λ (k : List ℕ). lines (addresses_of a.internet) ca m ++ lines (addresses_of a.internet) k n) (sym known)
+    ∙ ap (λ i. lines (addresses_of a.internet) ca m ++ lines (addresses_of i) cb n) (sym x.internet)
+    ∙ ap (λ (l : List Entry). lines (addresses_of a.internet) ca l ++ lines (addresses_of b.internet) cb n) (sym (added_are a b m x))
+    ∙ ap (λ (l : List Entry). told a b ++ lines (addresses_of b.internet) cb l) (sym (added_are b c n y))
 
 pub told_none : (a : Running) → told a a ≡ []
-told_none a = ap (lines (directory_of a.internet) (cables_of (transcript a.cabling))) (added_are a a [] (grows_none a))
+told_none a = ap (lines (addresses_of a.internet) (cables_of (transcript a.cabling))) (added_are a a [] (grows_none a))
 
 -- The lines of a growth, printed after all earlier entries.
 pub record Prints (a b : Running) (known : Printed) (before : List Line) : Type 0 where
   pub inside : length before ≤ length b.cabling.lines
-  pub frames : known ≡ printed (directory_of b.internet) (cables_of (take (length before) (transcript b.cabling)))
-  pub told_is : lines known.directory known.cables (drop (length before) (transcript b.cabling)) ≡ told a b
+  pub frames : known ≡ printed (addresses_of b.internet) (cables_of (take (length before) (transcript b.cabling)))
+  pub told_is : lines known.addresses known.cables (drop (length before) (transcript b.cabling)) ≡ told a b
 
 pub prints : (a b : Running) (m : List Entry) (known : Printed) (before : List Line) → Grows a b m
     → known ≡ all_printed a → before ≡ a.cabling.lines → Prints a b known before
@@ -141,11 +141,11 @@ prints a b m known before x k l = record {
   inside = subst (λ (t : List Line). length t ≤ length b.cabling.lines) (sym l) (no_fewer a b m x);
   frames =
       k
-      ∙ ap₂ printed (ap directory_of (sym x.internet)) (ap cables_of (sym (first_are a b m x))
+      ∙ ap₂ printed (ap addresses_of (sym x.internet)) (ap cables_of (sym (first_are a b m x))
       ∙ ap (λ (t : List Line). cables_of (take (length t) (transcript b.cabling))) (sym l));
   told_is =
-      ap (λ (p : Printed). lines p.directory p.cables (drop (length before) (transcript b.cabling))) k
-      ∙ ap (λ (t : List Line). lines (directory_of a.internet) (cables_of (transcript a.cabling))
+      ap (λ (p : Printed). lines p.addresses p.cables (drop (length before) (transcript b.cabling))) k
+      ∙ ap (λ (t : List Line). lines (addresses_of a.internet) (cables_of (transcript a.cabling))
       (drop (length t) (transcript b.cabling))) l;
 }
 

@@ -22,7 +22,7 @@ use Rattle.script.specs.declared.step.Step.{Step}
 use Rattle.script.specs.declared.step.Step.TheVariants as step
 use Rattle.table_image.specs.Internet.{Internet}
 use Rattle.trace_lines.specs.Lines.{Printed, cable_of, lines}
-use Rattle.trace_lines.specs.Stations.{directory_of}
+use Rattle.trace_lines.specs.Stations.{addresses_of}
 
 -- The cables of the frames that were put, one for each frame.
 abbrev pub cables_of : List Entry → List ℕ
@@ -30,7 +30,7 @@ cables_of entries = flat_map cable_of entries
 
 -- The state of a printer that has printed all entries of a run.
 abbrev pub all_printed : Running → Printed
-all_printed r = record { directory = directory_of r.internet; cables = cables_of (transcript r.cabling) }
+all_printed r = record { addresses = addresses_of r.internet; cables = cables_of (transcript r.cabling) }
 
 -- The entries of a run that an earlier state of it didn't have.
 abbrev pub added : Running → Running → List Entry
@@ -38,7 +38,7 @@ added old new = drop (length old.cabling.lines) (transcript new.cabling)
 
 -- The lines of the entries that were added.
 abbrev pub told : Running → Running → List ℕ
-told old new = lines (directory_of old.internet) (cables_of (transcript old.cabling)) (added old new)
+told old new = lines (addresses_of old.internet) (cables_of (transcript old.cabling)) (added old new)
 
 -- The line of a step that has an error.
 abbrev pub refused_line : Error → List ℕ

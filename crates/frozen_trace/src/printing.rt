@@ -8,7 +8,7 @@ ghost use Rattle.text.specs.Going.{Goes};
 ghost use Rattle.frozen_trace.specs.Traces.{all_printed, cables_of, pending_line, refused_line};
 ghost use Rattle.trace_lines.specs.Lines as lines_spec;
 ghost use Rattle.trace_lines.specs.Lines.{IsNamed, cable_of};
-ghost use Rattle.trace_lines.specs.Stations.{directory_of};
+ghost use Rattle.trace_lines.specs.Stations.{addresses_of};
 
 use at_base::Error;
 use cable_model::Entry;
@@ -45,10 +45,10 @@ fn print_entry<T: RouteTable, W: Write>(
     output: &mut Output<W>,
 ) -> Result<(), Error>
     ensures gone { OnOk result (Goes (W.contents output.old.writer) output.old.text.items
-        (lines_spec.line lines.old.directory lines.old.cables (entry_at run.now.cabling.kept entry.now) ++ 10 ∷ [])
+        (lines_spec.line lines.old.addresses lines.old.cables (entry_at run.now.cabling.kept entry.now) ++ 10 ∷ [])
         (W.contents output.new.writer) output.new.text.items) }
     ensures further { OnOk result (lines.new ≡ record {
-      directory = lines.old.directory;
+      addresses = lines.old.addresses;
       cables = lines.old.cables ++ cable_of (entry_at run.now.cabling.kept entry.now);
     }) }
     ensures refused { IfErr result (λ e.
@@ -68,11 +68,11 @@ fn print_entries<T: RouteTable, W: Write>(
     output: &mut Output<W>,
 ) -> Result<(), Error>
     ensures gone { OnOk result (Goes (W.contents output.old.writer) output.old.text.items
-        (lines_spec.lines lines.old.directory lines.old.cables
+        (lines_spec.lines lines.old.addresses lines.old.cables
         (map (entry_at run.now.cabling.kept) entries.now))
         (W.contents output.new.writer) output.new.text.items) }
     ensures further { OnOk result (lines.new ≡ record {
-      directory = lines.old.directory;
+      addresses = lines.old.addresses;
       cables = lines.old.cables
           ++ cables_of (map (entry_at run.now.cabling.kept) entries.now);
     }) }
@@ -95,11 +95,11 @@ pub fn print_from<T: RouteTable, W: Write>(
 ) -> Result<(), Error>
     requires inside { from ≤ length run.now.cabling.lines }
     requires known { lines.old ≡ record {
-      directory = directory_of run.now.internet;
+      addresses = addresses_of run.now.internet;
       cables = cables_of (take from (logs_spec.transcript run.now.cabling));
     } }
     ensures gone { OnOk result (Goes (W.contents output.old.writer) output.old.text.items
-        (lines_spec.lines lines.old.directory lines.old.cables (drop from (logs_spec.transcript run.now.cabling)))
+        (lines_spec.lines lines.old.addresses lines.old.cables (drop from (logs_spec.transcript run.now.cabling)))
         (W.contents output.new.writer) output.new.text.items) }
     ensures known { OnOk result (lines.new ≡ all_printed run.now) }
     ensures refused { IfErr result (λ e.

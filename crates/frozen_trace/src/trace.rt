@@ -4,7 +4,7 @@ ghost use Rattle.std.specs.Prelude.{◌≡◌, ◌≢◌, ◌⊎◌, ◌++◌, [
 ghost use Rattle.std.specs.Io.KnownBytes.{Appends};
 ghost use Rattle.frozen_trace.specs.Traces.{IsPrinted, PlaysAll, all_printed, pending_line};
 ghost use Rattle.frozen.specs.Runs.{IsFrozen};
-ghost use Rattle.trace_lines.specs.Stations.{directory_of};
+ghost use Rattle.trace_lines.specs.Stations.{addresses_of};
 
 use crate::playing::play;
 use crate::printing::print_pending;
@@ -55,7 +55,7 @@ fn trace_image<T: RouteTable, W: Write>(
     lines: &mut Lines,
     output: &mut Output<W>,
 ) -> Result<bool, Error>
-    requires known { lines.old ≡ record { directory = directory_of image; cables = [] } }
+    requires known { lines.old ≡ record { addresses = addresses_of image; cables = [] } }
     ensures printed { IfOk result (λ yes. (text : List ℕ) × IsPrinted image steps.now yes text
         × Appends (W.contents output.old.writer) (W.contents output.new.writer)
         (output.old.text.items ++ text)) }

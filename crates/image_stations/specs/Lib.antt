@@ -1,5 +1,4 @@
 pub mod Holders
-pub mod Homes
 pub mod Building
 pub mod Plans
 pub mod Seating

@@ -3,7 +3,6 @@
 #![tactic(auto)]
 
 mod building;
-mod homes;
 mod nodes;
 mod plans;
 mod routers;

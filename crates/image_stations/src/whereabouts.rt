@@ -10,12 +10,11 @@ ghost use Rattle.image_stations.specs.Finding as spec;
 ghost use Rattle.image_stations.specs.Finding.{spot_in};
 ghost use Rattle.legal_runs.specs.Legs.{found_at};
 
-use crate::homes::Homes;
 use at_base::{Addr, Error, Hw};
 use cable_model::{Found, HeldBy, Resolve};
 use std::alloc::Global;
 use std::marker::Model;
-use table_image::{Cable, Image, Node, Port, Router};
+use table_image::{Cable, Directory, Image, Node, Port, Router};
 
 /// A station on a cable. Stations and cables are numbered from 0.
 #[derive(Clone, Copy, Debug, PartialEq, Eq)]
@@ -126,18 +125,19 @@ fn home_of(cables: &[Cable], net: u16) -> Option<usize>
 #[derive(Debug, Drop)]
 pub struct Whereabouts {
     image: Image,
-    homes: Homes,
+    directory: Directory,
 }
 
 impl Model for Whereabouts {
-    ghost use Rattle.image_stations.specs.Homes.{AreHomes};
+    ghost use Rattle.std.specs.Prelude.{◌≡◌};
+    ghost use Rattle.table_image.specs.Directory.{directory as directory_of};
     ghost use Rattle.table_image.specs.Internet.{Internet};
 
     ghost Value = { Internet };
 
     ghost view = { λ w. w.image };
 
-    ghost invariant = { λ w. AreHomes w.image w.homes };
+    ghost invariant = { λ w. w.directory ≡ directory_of w.image };
 }
 
 impl Whereabouts {
@@ -146,8 +146,8 @@ impl Whereabouts {
         ensures ok { IfOk result (λ places. places ≡ image) }
         ensures refused { IsOkUnless result Error.Memory }
     {
-        let homes = Homes::of(alloc, &image)?;
-        Ok(Whereabouts { image, homes })
+        let directory = Directory::of(alloc, &image)?;
+        Ok(Whereabouts { image, directory })
     }
 
     /// The image. Allocates nothing.
@@ -176,17 +176,13 @@ impl Whereabouts {
         spot_of(self.image(), None, addr).map(|spot| spot.station)
     }
 
-    /// Finds the station that has the address on a cable, among the stations of that cable only. If
-    /// the image doesn't have the cable, all stations are searched.
+    /// Finds the station that has the address on a cable, among the stations of that cable only.
     fn find_on(&self, cable: u8, addr: Addr) -> Found
         ensures { result ≡ found_at (seat_at self.now cable addr) }
     {
-        match self.homes.find(cable, addr) {
-            Some(found) => found,
-            None => match spot_of(&self.image, Some(cable), addr) {
-                Some(spot) => Found::At(spot.hardware),
-                None => Found::Nobody,
-            },
+        match self.directory.find(cable, addr) {
+            Some(place) => Found::At(place.hardware),
+            None => Found::Nobody,
         }
     }
 }

@@ -23,7 +23,7 @@ get_set [] i x y e = absurd cc
 get_set (z ∷ zs) zero x y e = refl
 get_set (z ∷ zs) (suc i) x y e = get_set zs i x y e
 
-set_same : {X : Type 0} (xs : List X) (i : ℕ) (x : X) → slice_get xs i ≡ Some x → slice_set xs i x ≡ xs
+pub set_same : {X : Type 0} (xs : List X) (i : ℕ) (x : X) → slice_get xs i ≡ Some x → slice_set xs i x ≡ xs
 set_same [] i x e = refl
 set_same (z ∷ zs) zero x e = let is : z ≡ x = cc in ap (λ v. v ∷ zs) (sym is)
 set_same (z ∷ zs) (suc i) x e = ap (λ l. z ∷ l) (set_same zs i x e)

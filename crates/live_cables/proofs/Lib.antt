@@ -11,3 +11,4 @@ pub mod Learning
 pub mod Taken
 pub mod Answered
 pub mod Whole
+pub mod Idle

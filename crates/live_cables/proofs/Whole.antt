@@ -1,5 +1,6 @@
 -- The invariant of live cables, after a call.
-use Rattle.std.proofs.Common.{◌≡◌, ℕ, zero, suc, Bool, Result, Ok, Err, List, [], ◌∷◌, map, length, ◌++◌, Option, Some, None, inl, inr, refl, sym, ap, ◌∙◌, slice_get, subst, arith}
+use Rattle.std.proofs.Common.{◌≡◌, ℕ, zero, suc, Bool, Result, Ok, Err, List, [], ◌∷◌, map, length}
+use Rattle.std.proofs.Common.{◌++◌, Option, Some, None, inl, inr, refl, sym, ap, ◌∙◌, slice_get, subst, arith}
 use Rattle.std.specs.Prelude.{OnErr, OnOk, slice_set}
 use Rattle.std.proofs.lemmas.List.{length-map}
 use Rattle.aarp.specs.Mapping.{Mappings, learnt, waited}
@@ -11,7 +12,8 @@ use Rattle.cable_model.specs.Rooms.{held_rooms}
 use Rattle.cable_model.specs.Transcript.{Took}
 use Rattle.cable_model.specs.declared.seat.Seat.{Seat}
 use Rattle.live_cables.specs.Finding.{Knowing, seat_by}
-use Rattle.live_cables.specs.Holding.{AreFew, AreReleased, AreShed, IsLearntBy, IsReleased, IsTold, KnowsSame, with_known, with_tick, without_held}
+use Rattle.live_cables.specs.Holding.{AreFew, AreReleased, AreShed, IsLearntBy, IsReleased, IsTold, KnowsSame, with_known, with_tick}
+use Rattle.live_cables.specs.Holding.{without_held}
 use Rattle.live_cables.specs.Living.{Plays, Stays, Wires, knowing}
 use Rattle.live_cables.specs.Taking.{IsTakenIn}
 use Rattle.live_cables.specs.declared.answer.Answer.{Answer}

@@ -1,7 +1,7 @@
 //! Live cables.
 
-ghost use Rattle.std.specs.Prelude.{◌≡◌, ◌⊎◌, ◌↔◌, ◌++◌, [], IfErr, IfOk, IfNone, IfSome};
-ghost use Rattle.std.specs.Prelude.{false, length, map, slice_set, IsOkUnless, None, OnErr};
+ghost use Rattle.std.specs.Prelude.{◌≡◌, ◌⊎◌, ◌↔◌, ◌++◌, ◌==◌, [], IfErr, IfOk, IfNone, IfSome};
+ghost use Rattle.std.specs.Prelude.{false, length, map, slice_set, IsOkUnless, IsTrue, None, OnErr};
 ghost use Rattle.std.specs.Prelude.{OnOk, ℕ};
 ghost use Rattle.std.specs.List.{list_any};
 ghost use Rattle.aarp.specs.Mapping as mapping_spec;
@@ -170,6 +170,9 @@ impl LiveCables {
         ensures full { (result ≡ Err Error.Full) → HasNoRoom 5 self.new.cabling }
         ensures refused { IfErr result (λ e. (e ≡ Error.Full) ⊎ (e ≡ Error.Memory)) }
     {
+        if outputs.is_empty() {
+            return Ok(());
+        }
         let from = self.cables.transcript().len();
         self.near.face(station);
         match give_all(&mut self.cables, &mut self.near, station, outputs) {
@@ -212,6 +215,17 @@ impl LiveCables {
         }
         recall_once(&self.cables);
         lose_from(self.alloc, &mut self.cables, &self.losing, from)
+    }
+
+    /// Whether no datagram is held at a seat, so that a tick of its mappings changes nothing.
+    /// Allocates nothing.
+    pub fn is_idle(&self, seat: usize) -> bool
+        ensures passes { IsTrue result → PassesFor seat self.now self.now }
+        ensures done { IsTrue result → PlaysOn 0 self.now self.now }
+        ensures given_up { IsTrue result → mapping_spec.given_up (held_at self.now.maps seat) ≡ [] }
+        ensures value { result ≡ (length (held_at self.now.maps seat) == 0) }
+    {
+        self.near.is_idle(seat)
     }
 
     /// Advances the mappings of a seat by a tick: AARP requests without a response are sent again.

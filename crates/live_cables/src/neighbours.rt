@@ -1,6 +1,6 @@
 //! What a station knows of the other stations on its cables.
 
-ghost use Rattle.std.specs.Prelude.{◌≡◌, ◌≤◌, ◌++◌, [], IfOk, IsOkUnless, None, OnErr, OnOk, length, map, slice_get, slice_set, true};
+ghost use Rattle.std.specs.Prelude.{◌≡◌, ◌==◌, ◌≤◌, ◌++◌, [], IfOk, IsOkUnless, None, OnErr, OnOk, length, map, slice_get, slice_set, true};
 ghost use Rattle.std.specs.List.{list_any};
 ghost use Rattle.aarp.specs.Mapping as mapping_spec;
 ghost use Rattle.aarp.specs.Mapping.{forgotten, learnt, to_ask};
@@ -239,6 +239,16 @@ impl Neighbours {
         match self.seats.get(index) {
             Some(seat) => Some(request(seat.hw, own_at(&self.own, index), addr).write()),
             None => None,
+        }
+    }
+
+    /// Whether no datagram is held at a seat. Allocates nothing.
+    pub fn is_idle(&self, seat: usize) -> bool
+        ensures { result ≡ (length (held_at self.now.maps seat) == 0) }
+    {
+        match self.mappers.get(seat) {
+            Some(mapper) => mapper.is_idle(),
+            None => true,
         }
     }
 

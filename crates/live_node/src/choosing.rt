@@ -72,6 +72,9 @@ impl LiveNode {
         ensures outputs_stay { OnErr result (outputs.new.items ≡ outputs.old.items) }
     {
         let made = self.made(sent, own)?;
+        if made.is_empty() {
+            return Ok(());
+        }
         outputs.room(made.len())?;
         outputs.append(made);
         Ok(())

@@ -10,3 +10,4 @@ pub mod Checked
 pub mod CheckedParts
 pub mod Made
 pub mod ZoneTables
+pub mod Places

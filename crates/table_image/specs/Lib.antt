@@ -13,3 +13,4 @@ pub mod Rows
 pub mod RouteRows
 pub mod ZoneMaps
 pub mod Seats
+pub mod Directory

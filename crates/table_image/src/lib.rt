@@ -3,6 +3,7 @@
 
 mod cable;
 mod checking;
+mod directory;
 mod flaw;
 mod image;
 mod input;
@@ -22,6 +23,7 @@ mod zone_maps;
 mod zones;
 
 pub use cable::Cable;
+pub use directory::{Directory, Place};
 pub use image::{Image, one_spelling, read, write};
 pub use limits::{
     MAX_CABLES, MAX_NAMES, MAX_NODES, MAX_PORTS, MAX_ROUTERS, MAX_ROWS, MAX_ZONE_LISTS, MAX_ZONES,

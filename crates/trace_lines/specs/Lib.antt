@@ -1,4 +1,3 @@
 pub mod Stations
 pub mod Lines
 pub mod Said
-pub mod Holders

@@ -15,14 +15,14 @@ use Rattle.cable_model.specs.declared.entry.How.TheVariants as how
 use Rattle.station.specs.declared.output.DropCause.{DropCause}
 use Rattle.station.specs.declared.output.DropCause.TheVariants as cause
 use Rattle.text.specs.Digits.{hex_text}
-use Rattle.trace_lines.specs.Stations.{Directory, address_of, address_on, holder}
+use Rattle.trace_lines.specs.Stations.{Addresses, address_of, address_on, holder}
 
 -- The text for the receiver of a frame on a cable.
-abbrev pub who_text : Directory → ℕ → Hw → List ℕ
-who_text d cable to =
+abbrev pub who_text : Addresses → ℕ → Hw → List ℕ
+who_text a cable to =
     if is_all to then codes "all"
     else if is_group to then codes "group " ++ decimal (slice_index to.0 5)
-    else address_text (holder d cable to)
+    else address_text (holder a cable to)
 
 -- The text for how a datagram reached a cable.
 abbrev pub how_text : How → List ℕ
@@ -44,39 +44,39 @@ cable_of _ = []
 
 -- The address of a station on the cable of the frame with this stamp, if the frames so far were put on these cables, in
 -- the order of their stamps; 0.0 if there is no such frame.
-abbrev pub at_frame : Directory → List ℕ → ℕ → ℕ → Addr
-at_frame d cables station stamp = on_its (slice_get cables stamp)
+abbrev pub at_frame : Addresses → List ℕ → ℕ → ℕ → Addr
+at_frame a cables station stamp = on_its (slice_get cables stamp)
   where
     on_its : Option ℕ → Addr
     on_its None = record { net = 0; node = 0 }
-    on_its (Some cable) = address_on d station cable
+    on_its (Some cable) = address_on a station cable
 
 -- The line of an entry, without its line feed, if the frames so far were put on these cables; the printed number of a
 -- cable is its index plus 1.
-abbrev pub line : Directory → List ℕ → Entry → List ℕ
-line d cables (Sent station body) = codes "sent " ++ address_text (address_of d station) ++ codes " " ++ hex_text body
-line d cables (Put f) =
+abbrev pub line : Addresses → List ℕ → Entry → List ℕ
+line a cables (Sent station body) = codes "sent " ++ address_text (address_of a station) ++ codes " " ++ hex_text body
+line a cables (Put f) =
     codes "put " ++ decimal f.stamp ++ codes " cable " ++ decimal (f.cable + 1) ++ codes " "
-    ++ address_text (address_on d f.sender f.cable) ++ codes " to " ++ who_text d f.cable f.to ++ codes " " ++ hex_text f.bytes
-line d cables (Took stamp station) = codes "took " ++ decimal stamp ++ codes " " ++ address_text (at_frame d cables station stamp)
-line d cables (Reached cable station how body) =
-    codes "reached cable " ++ decimal (cable + 1) ++ codes " " ++ address_text (address_on d station cable) ++ codes " "
+    ++ address_text (address_on a f.sender f.cable) ++ codes " to " ++ who_text a f.cable f.to ++ codes " " ++ hex_text f.bytes
+line a cables (Took stamp station) = codes "took " ++ decimal stamp ++ codes " " ++ address_text (at_frame a cables station stamp)
+line a cables (Reached cable station how body) =
+    codes "reached cable " ++ decimal (cable + 1) ++ codes " " ++ address_text (address_on a station cable) ++ codes " "
     ++ how_text how ++ codes " " ++ hex_text body
-line d cables (Dropped router cause body) =
-    codes "dropped " ++ address_text (address_of d router) ++ codes " " ++ cause_text cause ++ codes " " ++ hex_text body
-line d cables (Lost stamp) = codes "lost " ++ decimal stamp
-line d cables (Hold h) =
+line a cables (Dropped router cause body) =
+    codes "dropped " ++ address_text (address_of a router) ++ codes " " ++ cause_text cause ++ codes " " ++ hex_text body
+line a cables (Lost stamp) = codes "lost " ++ decimal stamp
+line a cables (Hold h) =
     codes "hold " ++ decimal h.stamp ++ codes " cable " ++ decimal (h.cable + 1) ++ codes " "
-    ++ address_text (address_on d h.station h.cable) ++ codes " to " ++ address_text h.next ++ codes " " ++ hex_text h.bytes
+    ++ address_text (address_on a h.station h.cable) ++ codes " to " ++ address_text h.next ++ codes " " ++ hex_text h.bytes
 
 -- The lines of entries, each with a line feed at its end, if the frames before them were put on these cables.
-abbrev pub lines : Directory → List ℕ → List Entry → List ℕ
-lines d cables [] = []
-lines d cables (e ∷ es) = line d cables e ++ 10 ∷ lines d (cables ++ cable_of e) es
+abbrev pub lines : Addresses → List ℕ → List Entry → List ℕ
+lines a cables [] = []
+lines a cables (e ∷ es) = line a cables e ++ 10 ∷ lines a (cables ++ cable_of e) es
 
--- The state of a printer of entries: the directory of an internet, and the cables of the frames that it printed.
+-- The state of a printer of entries: the addresses of an internet's stations, and the cables of the frames that it printed.
 pub record Printed : Type 0 where
-  pub directory : Directory
+  pub addresses : Addresses
   pub cables : List ℕ
 
 -- The bytes are those of the number that the entry names, if it names one.

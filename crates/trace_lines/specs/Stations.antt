@@ -1,33 +1,33 @@
 -- The addresses with which lines name stations. Stations are the routers, then the nodes, and have indexes from 0; so
 -- have cables.
-use Rattle.std.specs.Prelude.{ℕ, ◌-◌, ◌==◌, List, [], Option, Some, None, find, length, map, nat_lt, slice_get, slice_index_or}
+use Rattle.std.specs.Prelude.{ℕ, ◌-◌, ◌==◌, List, Option, Some, None, find, length, map, nat_lt, slice_get}
 use Rattle.std.specs.Prelude.{if◌then◌else◌}
 use Rattle.at_base.specs.declared.address.Addr.{Addr}
 use Rattle.at_base.specs.declared.address.Hw.{Hw}
+use Rattle.table_image.specs.Directory.{directory, has_hardware, on_cable as places_of_cable}
 use Rattle.table_image.specs.Internet.{Internet}
+use Rattle.table_image.specs.declared.directory.Place.{Place}
 use Rattle.table_image.specs.declared.node.Node.{Node}
 use Rattle.table_image.specs.declared.port.Port.{Port}
 use Rattle.table_image.specs.declared.router.Router.{Router}
-use Rattle.trace_lines.specs.Holders.{byte_cables, held_or, places_from}
-use Rattle.trace_lines.specs.declared.holders.Place.{Place}
 use Rattle.trace_lines.specs.declared.stations.PortAddress.{PortAddress}
 
--- The addresses for lines: those of each router's ports, those of the nodes, and the places on each cable.
-pub record Directory : Type 0 where
+-- The addresses for lines: those of each router's ports, those of the nodes, and the directory: the places on each cable.
+pub record Addresses : Type 0 where
   pub routers : List (List PortAddress)
   pub nodes : List Addr
-  pub places : List (List Place)
+  pub directory : List (List Place)
 
 -- The cable and the address of a port.
 abbrev pub port_address : Port → PortAddress
 port_address p = record { cable = p.cable; address = p.address }
 
--- The directory of an internet, with 256 cables, as many as a byte can name.
-abbrev pub directory_of : Internet → Directory
-directory_of i = record {
+-- The addresses of an internet.
+abbrev pub addresses_of : Internet → Addresses
+addresses_of i = record {
   routers = map (λ (r : Router). map port_address r.ports) i.routers;
   nodes = map (λ (n : Node). n.address) i.nodes;
-  places = places_from i 0 byte_cables;
+  directory = directory i;
 }
 
 -- The address of a port, and 0.0 if there is none.
@@ -40,6 +40,11 @@ abbrev pub of_node : Option Addr → Addr
 of_node None = record { net = 0; node = 0 }
 of_node (Some a) = a
 
+-- The address of a place, and 0.0 if there is none.
+abbrev pub of_place : Option Place → Addr
+of_place None = record { net = 0; node = 0 }
+of_place (Some p) = p.address
+
 -- The address of a router's first port on a cable, and 0.0 if there is none.
 abbrev pub on_cable : Option (List PortAddress) → ℕ → Addr
 on_cable None cable = record { net = 0; node = 0 }
@@ -51,17 +56,17 @@ at_first None = record { net = 0; node = 0 }
 at_first (Some ports) = of_port (slice_get ports 0)
 
 -- The address of a station on a cable: that of the router's port there, or of the node.
-abbrev pub address_on : Directory → ℕ → ℕ → Addr
-address_on d station cable =
-    if nat_lt station (length d.routers) then on_cable (slice_get d.routers station) cable
-    else of_node (slice_get d.nodes (station - length d.routers))
+abbrev pub address_on : Addresses → ℕ → ℕ → Addr
+address_on a station cable =
+    if nat_lt station (length a.routers) then on_cable (slice_get a.routers station) cable
+    else of_node (slice_get a.nodes (station - length a.routers))
 
 -- The address of a station if no cable is named: that of the router's first port, or of the node.
-abbrev pub address_of : Directory → ℕ → Addr
-address_of d station =
-    if nat_lt station (length d.routers) then at_first (slice_get d.routers station)
-    else of_node (slice_get d.nodes (station - length d.routers))
+abbrev pub address_of : Addresses → ℕ → Addr
+address_of a station =
+    if nat_lt station (length a.routers) then at_first (slice_get a.routers station)
+    else of_node (slice_get a.nodes (station - length a.routers))
 
 -- The address of the station that has a hardware address on a cable, and 0.0 if none has it.
-abbrev pub holder : Directory → ℕ → Hw → Addr
-holder d cable hw = held_or hw (slice_index_or d.places cable []) (record { net = 0; node = 0 })
+abbrev pub holder : Addresses → ℕ → Hw → Addr
+holder a cable hw = of_place (find (has_hardware hw) (places_of_cable a.directory cable))

@@ -2,7 +2,6 @@
 #![tactic(auto)]
 
 mod entries;
-mod holders;
 mod lines;
 mod stations;
 mod words;

@@ -4,7 +4,7 @@ ghost use Rattle.std.specs.Prelude.{◌≡◌, ◌++◌, ◌∷◌, List, ℕ, [
 ghost use Rattle.cable_model.specs.Logs.{entry_at};
 ghost use Rattle.trace_lines.specs.Lines.{cable_of, line, IsNamed};
 ghost use Rattle.trace_lines.specs.Said.{entry_with};
-ghost use Rattle.trace_lines.specs.Stations.{directory_of};
+ghost use Rattle.trace_lines.specs.Stations.{addresses_of};
 
 use crate::entries::put_entry;
 use crate::stations::Stations;
@@ -26,7 +26,7 @@ impl Model for Lines {
 
     ghost Value = { Printed };
 
-    ghost view = { λ l. record { directory = l.stations; cables = l.cables.items } };
+    ghost view = { λ l. record { addresses = l.stations; cables = l.cables.items } };
 }
 
 /// Appends the line of an entry, with a line feed at its end.
@@ -62,7 +62,7 @@ fn note_cable(cables: &mut Vec<u8>, entry: &Entry) -> Result<(), AllocError>
 impl Lines {
     /// A printer over this image that has printed nothing yet.
     pub fn new(alloc: Global, image: &Image) -> Result<Lines, AllocError>
-        ensures { IfOk result (λ l. l ≡ record { directory = directory_of image.now; cables = [] }) }
+        ensures { IfOk result (λ l. l ≡ record { addresses = addresses_of image.now; cables = [] }) }
     {
         let stations = Stations::new(alloc, image)?;
         Ok(Lines {
@@ -95,10 +95,10 @@ impl Lines {
         bytes: &[u8],
     ) -> Result<(), AllocError>
         ensures line { OnOk result ((kept : List (List ℕ)) → IsNamed kept entry.now bytes.now
-            → text.new.items ≡ text.old.items ++ line self.old.directory self.old.cables
+            → text.new.items ≡ text.old.items ++ line self.old.addresses self.old.cables
             (entry_at kept entry.now) ++ 10 ∷ []) }
         ensures further { OnOk result ((kept : List (List ℕ)) → self.new ≡ record {
-          directory = self.old.directory;
+          addresses = self.old.addresses;
           cables = self.old.cables ++ cable_of (entry_at kept entry.now);
         }) }
         ensures stays { OnErr result (self.new ≡ self.old) }

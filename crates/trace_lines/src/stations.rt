@@ -1,16 +1,14 @@
 //! The addresses of an internet's stations.
 
-ghost use Rattle.std.specs.Prelude.{◌≡◌, ◌==◌, ◌++◌, [], IfOk, OnOk, Some, find, map, slice_get};
-ghost use Rattle.std.specs.Prelude.{slice_index_or};
+ghost use Rattle.std.specs.Prelude.{◌≡◌, ◌==◌, ◌++◌, IfOk, OnOk, Some, find, map, slice_get};
 ghost use Rattle.table_image.specs.declared.node.Node.{Node as NodeValue};
 ghost use Rattle.table_image.specs.declared.router.Router.{Router as RouterValue};
 ghost use Rattle.trace_lines.specs.Stations as spec;
 
-use crate::holders::{Place, held, rows_of};
 use at_base::{Addr, Hw};
 use std::alloc::{AllocError, Global};
 use std::marker::Model;
-use table_image::{Image, Listed, Node, Port, Router};
+use table_image::{Directory, Image, Listed, Node, Port, Router};
 
 /// The address of a router's port, and its cable.
 #[derive(Clone, Copy)]
@@ -26,24 +24,20 @@ pub(crate) struct Stations {
     routers: Vec<Listed<PortAddress>>,
     /// The addresses of the nodes.
     nodes: Vec<Addr>,
-    /// The places on each cable that a byte can name, so that a hardware address is searched for on
-    /// one cable only.
-    rows: Vec<Listed<Place>>,
+    /// The places on each cable, so that a hardware address is searched for on one cable only.
+    directory: Directory,
 }
 
 impl Model for Stations {
-    ghost use Rattle.std.specs.Prelude.{◌≡◌, length};
-    ghost use Rattle.trace_lines.specs.Stations.{Directory};
+    ghost use Rattle.trace_lines.specs.Stations.{Addresses};
 
-    ghost Value = { Directory };
+    ghost Value = { Addresses };
 
     ghost view = { λ s. record {
       routers = s.routers.items;
       nodes = s.nodes.items;
-      places = s.rows.items;
+      directory = s.directory;
     } };
-
-    ghost invariant = { λ s. length s.rows.items ≡ 256 };
 }
 
 /// Appends the addresses of ports.
@@ -64,7 +58,7 @@ fn put_ports(addresses: &mut Vec<PortAddress>, ports: &[Port]) -> Result<(), All
 }
 
 /// The addresses of ports.
-fn addresses_of(alloc: Global, ports: &[Port]) -> Result<Listed<PortAddress>, AllocError>
+fn port_addresses(alloc: Global, ports: &[Port]) -> Result<Listed<PortAddress>, AllocError>
     ensures { IfOk result (λ addresses. addresses ≡ map spec.port_address ports.now) }
 {
     let mut addresses = Vec::with_capacity(alloc, ports.len())?;
@@ -84,7 +78,7 @@ fn put_routers(
     match routers {
         [] => Ok(()),
         [router, rest @ ..] => {
-            let addresses = addresses_of(alloc, router.ports.as_slice())?;
+            let addresses = port_addresses(alloc, router.ports.as_slice())?;
             if all.push(addresses).is_err() {
                 return Err(AllocError);
             }
@@ -143,17 +137,17 @@ fn first_of(ports: &[PortAddress]) -> Addr
 impl Stations {
     /// The stations of the image's internet.
     pub(crate) fn new(alloc: Global, image: &Image) -> Result<Stations, AllocError>
-        ensures { IfOk result (λ s. s ≡ spec.directory_of image.now) }
+        ensures { IfOk result (λ s. s ≡ spec.addresses_of image.now) }
     {
         let mut routers = Vec::with_capacity(alloc, image.routers().len())?;
         put_routers(alloc, &mut routers, image.routers())?;
         let mut nodes = Vec::with_capacity(alloc, image.nodes().len())?;
         put_nodes(&mut nodes, image.nodes())?;
-        let rows = rows_of(alloc, image)?;
+        let directory = Directory::of(alloc, image)?;
         Ok(Stations {
             routers,
             nodes,
-            rows,
+            directory,
         })
     }
 
@@ -179,18 +173,14 @@ impl Stations {
         }
     }
 
-    /// The places on a cable.
-    fn places_on(&self, cable: u8) -> &[Place]
-        ensures { result.now ≡ slice_index_or self.now.places cable [] }
-    {
-        self.rows[usize::from(cable)].as_slice()
-    }
-
     /// The address of the station that has a hardware address on a cable, and 0.0 if none has it.
     pub(crate) fn holder(&self, cable: u8, hw: &Hw) -> Addr
         ensures { result ≡ spec.holder self.now cable hw.now }
     {
-        held(self.places_on(cable), hw)
+        match self.directory.holder(cable, hw) {
+            Some(place) => place.address,
+            None => Addr::NONE,
+        }
     }
 
     /// The address of a station if no cable is named: that of the router's first port, or of the

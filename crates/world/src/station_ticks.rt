@@ -89,6 +89,9 @@ fn age_mappings<T: RouteTable>(
     ensures full { (result ≡ Err Error.Full) → HasNoRoom 5 wires.new.cabling }
     ensures refused { IfErr result (λ e. (e ≡ Error.Full) ⊎ (e ≡ Error.Memory)) }
 {
+    if wires.is_idle(seat) {
+        return Ok(());
+    }
     match wires.pass(seat) {
         Ok(given_up) => {
             give_up_all(station, given_up.as_slice());

@@ -1,5 +1,5 @@
 use Rattle.std.proofs.Common.{refl}
-use Rattle.cable_model.proofs.Books.{book_noted}
+use Rattle.cable_model.proofs.Quiet.{book_noted}
 use Rattle.cable_model.proofs.log.note.Goals as goal
 
 pub returns-clause-book : goal.returns-clause-book

@@ -6,6 +6,7 @@ use Rattle.cable_model.specs.Outcomes.{Places}
 use Rattle.cable_model.specs.Outgoing.{IsAnswering}
 use Rattle.cable_model.specs.Ways.{all_lines, all_spare, lines_for}
 use Rattle.cable_model.proofs.outcome.add_all.Goals as goal
+use Rattle.cable_model.specs.Places.{widest}
 
 pub loop-output-init : goal.loop-output-init
 loop-output-init g c = record {
@@ -27,7 +28,7 @@ pub settle-requires-clause-room : goal.settle-requires-clause-room
 settle-requires-clause-room g c =
     let places : Places = record { finds = g.R.Resolve.finds c.loop-output.resolver; lists = g.R.Resolve.lists c.loop-output.resolver } in
     let i = c.loop-output.invariant in
-    let n = length c.args.seats.now in
+    let n = widest c.args.seats.now in
     room_to_settle places c.args.seats.now c.args.station c.loop-output.log c.add.new.log c.in-Some.output i.book c.add.ensures.book i.idle
     c.add.ensures.grows c.add.ensures.uses c.pop.new.self.items
     (subst (λ os. IsAnswering places ⊎ HasHeldRoom c.loop-output.log os n) c.in-Some.ensures.some i.more)
@@ -46,7 +47,7 @@ loop-output-preserved g c =
     let o = c.in-Some.output in
     let os = c.loop-output.outputs.items in
     let rest = c.pop.new.self.items in
-    let n = length seats in
+    let n = widest seats in
     let split : os ≡ o ∷ rest = c.in-Some.ensures.some in
     let lines : all_lines os ≡ all_lines (o ∷ rest) = ap all_lines split in
     let spare : all_spare os ≡ all_spare (o ∷ rest) = ap all_spare split in

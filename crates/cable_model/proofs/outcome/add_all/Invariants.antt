@@ -4,15 +4,16 @@ use Rattle.cable_model.specs.Books.{HasHeldRoom, HasRoom, IsBook}
 use Rattle.cable_model.specs.Outgoing.{IsAnswering}
 use Rattle.cable_model.specs.Ways.{all_lines, all_spare}
 use Rattle.cable_model.proofs.outcome.add_all.Given as goal
+use Rattle.cable_model.specs.Places.{widest}
 
 abbrev pub invariant-loop-output : goal.invariant-loop-output
 invariant-loop-output g l = record {
   book : IsBook l.seats l.log;
   idle : l.log.waiting.items ≡ [];
   room : HasRoom l.log (all_lines l.outputs.items) (length l.outputs.items) (length l.outputs.items)
-      (length l.outputs.items * length l.seats);
+      (length l.outputs.items * widest l.seats);
   more : IsAnswering (record { finds = g.R.Resolve.finds l.resolver; lists = g.R.Resolve.lists l.resolver })
-      ⊎ HasHeldRoom l.log l.outputs.items (length l.seats);
+      ⊎ HasHeldRoom l.log l.outputs.items (widest l.seats);
   so_far : SoFar (λ r. record { finds = g.R.Resolve.finds r; lists = g.R.Resolve.lists r }) g.R.Resolve.holds l.seats l.station
       l.fn.log l.log l.fn.outputs.items l.outputs.items l.fn.resolver l.resolver;
   few : vec_len l.log.lines + (all_lines l.outputs.items + 2 * length l.outputs.items)

@@ -13,7 +13,7 @@ use Rattle.frozen_trace.proofs.printing.print_entries.Goals as goal
 pub loop-entry-init : goal.loop-entry-init
 loop-entry-init g c = (
   goes_none (g.W.Write.contents c.args.output.now.writer) c.args.output.now.text.items,
-  ap (λ (k : List ℕ). printed c.args.lines.now.directory k) (sym (append-nil c.args.lines.now.cables)),
+  ap (λ (k : List ℕ). printed c.args.lines.now.addresses k) (sym (append-nil c.args.lines.now.cables)),
   refl,
 )
 
@@ -22,7 +22,7 @@ loop-entry-preserved g c =
     let es = c.args.entries.now in
     let k = c.loop-entry.entry-index in
     let e = get_or es k (named.Sent 0 0) in
-    let i = c.args.lines.now.directory in
+    let i = c.args.lines.now.addresses in
     let known = c.args.lines.now.cables in
     let f = entry_at c.args.run.now.cabling.kept in
     let before : List Entry = map f (take k es) in
@@ -31,13 +31,13 @@ loop-entry-preserved g c =
     let one =
     goes_then _ _ _ c.args.output.now.text.items _ _ _ _ held.0
     (subst (λ (l : Printed). Goes (g.W.Write.contents c.loop-entry.output.writer) c.loop-entry.output.text.items
-    (line l.directory l.cables (f e) ++ 10 ∷ []) (g.W.Write.contents c.print_entry.new.output.writer)
+    (line l.addresses l.cables (f e) ++ 10 ∷ []) (g.W.Write.contents c.print_entry.new.output.writer)
     c.print_entry.new.output.text.items) held.1 c.in_ok-print_entry.ensures.gone) in (
       subst (λ (t : List ℕ). Goes (g.W.Write.contents c.args.output.now.writer) c.args.output.now.text.items t
           (g.W.Write.contents c.print_entry.new.output.writer) c.print_entry.new.output.text.items)
           (sym (ap (lines_of i known) more ∙ lines_one i known before (f e))) one,
       c.in_ok-print_entry.ensures.further
-          ∙ ap (λ (l : Printed). printed l.directory (l.cables ++ cable_of (f e))) held.1
+          ∙ ap (λ (l : Printed). printed l.addresses (l.cables ++ cable_of (f e))) held.1
           ∙ ap (printed i) (append_assoc known (cables_of before) (cable_of (f e))
           ∙ ap (λ (l : List ℕ). known ++ l) (sym (ap cables_of more ∙ cables_one before (f e)))),
       c.in_ok-print_entry.ensures.stays ∙ held.2,

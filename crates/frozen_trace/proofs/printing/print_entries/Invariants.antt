@@ -8,10 +8,10 @@ use Rattle.frozen_trace.proofs.printing.print_entries.Given as goal
 abbrev pub invariant-loop-entry : goal.invariant-loop-entry
 invariant-loop-entry g l =
     Goes (g.W.Write.contents l.fn.output.writer) l.fn.output.text.items
-    (lines_of l.fn.lines.directory l.fn.lines.cables (map (entry_at l.run.cabling.kept) (take l.entry-index l.entries)))
+    (lines_of l.fn.lines.addresses l.fn.lines.cables (map (entry_at l.run.cabling.kept) (take l.entry-index l.entries)))
     (g.W.Write.contents l.output.writer) l.output.text.items
     × (l.lines ≡ record {
-      directory = l.fn.lines.directory;
+      addresses = l.fn.lines.addresses;
       cables = l.fn.lines.cables ++ cables_of (map (entry_at l.run.cabling.kept) (take l.entry-index l.entries));
     })
     × (l.output.faults ≡ l.fn.output.faults)

@@ -11,9 +11,9 @@ returns-clause-gone g c =
     let known = c.args.lines.now in
     let e = entry_at c.args.run.now.cabling.kept c.args.entry.now in
     on_ok c.pass_on.result c.pass_on.ensures.gone
-    (goes_put _ _ text _ _ (line known.directory known.cables e ++ 10 ∷ [])
+    (goes_put _ _ text _ _ (line known.addresses known.cables e ++ 10 ∷ [])
     (c.in_ok-append.ensures.line c.args.run.now.cabling.kept c.bytes_of-bytes.ensures
-    ∙ append_assoc text (line known.directory known.cables e) (10 ∷ [])))
+    ∙ append_assoc text (line known.addresses known.cables e) (10 ∷ [])))
 
 pub returns-clause-further : goal.returns-clause-further
 returns-clause-further g c =

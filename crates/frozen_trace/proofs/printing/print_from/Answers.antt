@@ -9,7 +9,7 @@ use Rattle.text.proofs.Going.{on_ok}
 use Rattle.text.specs.Going.{Goes}
 use Rattle.frozen_trace.specs.Traces.{cables_of}
 use Rattle.trace_lines.specs.Lines.{Printed, cable_of, lines as lines_of}
-use Rattle.trace_lines.specs.Stations.{directory_of}
+use Rattle.trace_lines.specs.Stations.{addresses_of}
 use Rattle.frozen_trace.proofs.printing.print_from.Goals as goal
 
 pub returns-clause-gone : goal.returns-clause-gone
@@ -19,7 +19,7 @@ returns-clause-gone g c =
     let n = c.args.from in
     on_ok c.print_entries.result c.print_entries.ensures.gone
     (λ p. subst (λ (es : List Entry). Goes (g.W.Write.contents c.args.output.now.writer) c.args.output.now.text.items
-    (lines_of c.args.lines.now.directory c.args.lines.now.cables es)
+    (lines_of c.args.lines.now.addresses c.args.lines.now.cables es)
     (g.W.Write.contents c.print_entries.new.output.writer) c.print_entries.new.output.text.items)
     (ap (λ (t : List Line). map f (take (length t - n) (drop n t))) c.transcript.ensures
     ∙ from_on f r.cabling.lines n c.requires.inside) p)
@@ -31,9 +31,9 @@ returns-clause-known g c =
     let n = c.args.from in
     on_ok c.print_entries.result c.print_entries.ensures.further
     (λ p. p
-    ∙ ap (λ (es : List Entry). printed c.args.lines.now.directory (c.args.lines.now.cables ++ cables_of es))
+    ∙ ap (λ (es : List Entry). printed c.args.lines.now.addresses (c.args.lines.now.cables ++ cables_of es))
     (ap (λ (t : List Line). map f (take (length t - n) (drop n t))) c.transcript.ensures
     ∙ from_on f r.cabling.lines n c.requires.inside)
-    ∙ ap (λ (l : Printed). printed l.directory (l.cables ++ cables_of (drop n (said r.cabling)))) c.requires.known
-    ∙ ap (printed (directory_of r.internet)) (sym (flat_map-append cable_of (take n (said r.cabling)) (drop n (said r.cabling)))
+    ∙ ap (λ (l : Printed). printed l.addresses (l.cables ++ cables_of (drop n (said r.cabling)))) c.requires.known
+    ∙ ap (printed (addresses_of r.internet)) (sym (flat_map-append cable_of (take n (said r.cabling)) (drop n (said r.cabling)))
     ∙ ap cables_of (take-append-drop n (said r.cabling))))

@@ -4,6 +4,7 @@ use Rattle.cable_model.proofs.Takes.{no_spare, same_spare}
 use Rattle.cable_model.specs.Books.{Grows}
 use Rattle.cable_model.specs.Outcomes.{framed}
 use Rattle.cable_model.proofs.cables.Cables.put.Goals as goal
+use Rattle.cable_model.specs.Places.{widest}
 
 pub invariant_of-self : goal.invariant_of-self
 invariant_of-self c = (
@@ -28,7 +29,7 @@ invariant_of-self-2 c =
     let number = c.keep-number.ensures.uses in
     let used = c.put.ensures.uses in
     let room = c.in-Ok-make_room.ensures.room in
-    let frames : 1 * c.len-2.result ≡ 1 * length s = ap (λ n. 1 * n) c.len-2.ensures.value in
+    let frames : 1 * c.widest.result ≡ 1 * widest s = ap (λ n. 1 * n) c.widest.ensures.value in
     let few : vec_len c.put.new.log.lines ≤ limit = omega (arith, c.put.ensures.one, lines, c.in-Ok-make_room.ensures.within) in (
       record {
         book = c.put.ensures.book;

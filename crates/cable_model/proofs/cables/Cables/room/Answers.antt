@@ -1,6 +1,7 @@
-use Rattle.std.proofs.Common.{arith, ap, length, ◌≡◌, ◌*◌}
+use Rattle.std.proofs.Common.{arith, ap, ◌≡◌, ◌*◌}
 use Rattle.cable_model.proofs.Takes.{same_spare}
 use Rattle.cable_model.proofs.cables.Cables.room.Goals as goal
+use Rattle.cable_model.specs.Places.{widest}
 
 pub invariant_of-self : goal.invariant_of-self
 invariant_of-self c = (
@@ -15,7 +16,7 @@ invariant_of-self-2 c =
     let s = c.self.inside.seats in
     let k = c.make_spare.ensures.kept s c.self.invariant.0 in
     let room = c.in-Ok.ensures in
-    let frames : c.args.more * c.len.result ≡ c.args.more * length s = ap (λ n. c.args.more * n) c.len.ensures.value in (
+    let frames : c.args.more * c.widest.result ≡ c.args.more * widest s = ap (λ n. c.args.more * n) c.widest.ensures.value in (
       k,
       c.self.invariant.1,
       λ some. record {

@@ -10,6 +10,7 @@ use Rattle.cable_model.specs.Rooms.{known_rooms}
 use Rattle.cable_model.specs.Transcript.{Entry, Sent, next_stamp}
 use Rattle.ddp.specs.Bodies.{body}
 use Rattle.cable_model.proofs.cables.Cables.send.Goals as goal
+use Rattle.cable_model.specs.Places.{widest}
 
 pub invariant_of-self : goal.invariant_of-self
 invariant_of-self g c = (
@@ -26,9 +27,9 @@ pub sent-requires-clause-room : goal.sent-requires-clause-room
 sent-requires-clause-room g c =
     let rooms = c.self.inside.rooms in
     let is = enough rooms c.self.invariant.1 in
-    let n = length c.self.inside.seats in
-    let frames : rooms.send.pairs * c.len-2.result ≡ 1 * n = ap₂ (λ p k. p * k) is.sent_pairs c.len-2.ensures.value in
-    room_for c.make_room.new.log rooms.send.lines rooms.send.bytes rooms.send.bytes (rooms.send.pairs * c.len-2.result)
+    let n = widest c.self.inside.seats in
+    let frames : rooms.send.pairs * c.widest.result ≡ 1 * n = ap₂ (λ p k. p * k) is.sent_pairs c.widest.ensures.value in
+    room_for c.make_room.new.log rooms.send.lines rooms.send.bytes rooms.send.bytes (rooms.send.pairs * c.widest.result)
     3 1 1 n c.in-Ok-make_room.ensures.room
     (omega (arith, is.sent_lines)) (omega (arith, is.sent_bytes)) (omega (arith, is.sent_bytes)) (omega (arith, frames))
 
@@ -54,7 +55,7 @@ settle-requires-clause-room g c =
     let es = Sent c.args.station (body c.args.bytes) ∷ leg places sender c.args.next c.args.bytes in
     let long = (waiting_long mid new es waits k.idle c.sent.ensures.grows).1 in
     let room =
-    subst (λ n. HasRoom mid rooms.send.lines rooms.send.bytes rooms.send.bytes (rooms.send.pairs * n)) c.len-2.ensures.value
+    subst (λ n. HasRoom mid rooms.send.lines rooms.send.bytes rooms.send.bytes (rooms.send.pairs * n)) c.widest.ensures.value
     c.in-Ok-make_room.ensures.room in
     settle_room rooms waits mid new s room c.in-Ok-make_room.ensures.holdings long used
 
@@ -82,7 +83,7 @@ invariant_of-self-2 g c =
     let es = Sent c.args.station (body c.args.bytes) ∷ leg places sender c.args.next c.args.bytes in
     let long = (waiting_long mid new es waits k.idle c.sent.ensures.grows).1 in
     let room =
-    subst (λ n. HasRoom mid rooms.send.lines rooms.send.bytes rooms.send.bytes (rooms.send.pairs * n)) c.len-2.ensures.value
+    subst (λ n. HasRoom mid rooms.send.lines rooms.send.bytes rooms.send.bytes (rooms.send.pairs * n)) c.widest.ensures.value
     c.in-Ok-make_room.ensures.room in
     let limit = c.self.inside.limit in
     let last = c.settle.new.log in

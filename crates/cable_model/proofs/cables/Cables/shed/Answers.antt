@@ -1,9 +1,10 @@
-use Rattle.std.proofs.Common.{rules, ◌≡◌, ◌<◌, ◌≤◌, ◌^◌, true, false, arith, length, sym, subst, ◌∙◌}
+use Rattle.std.proofs.Common.{rules, ◌≡◌, ◌<◌, ◌≤◌, ◌^◌, true, false, arith, sym, subst, ◌∙◌}
 use Rattle.cable_model.proofs.RoomLeft.{room_for}
 use Rattle.cable_model.proofs.Takes.{spare_room}
 use Rattle.cable_model.specs.Holdings.{is_open}
 use Rattle.cable_model.specs.Logs.{Cabling, transcript as said}
 use Rattle.cable_model.proofs.cables.Cables.shed.Goals as goal
+use Rattle.cable_model.specs.Places.{widest}
 
 pub returns-then-not-is_held-clause-not_pending : goal.returns-then-not-is_held-clause-not_pending
 returns-then-not-is_held-clause-not_pending c =
@@ -13,7 +14,7 @@ returns-then-not-is_held-clause-not_pending c =
 
 pub lost-requires-clause-room : goal.lost-requires-clause-room
 lost-requires-clause-room c =
-    let n = length c.self.inside.seats in
+    let n = widest c.self.inside.seats in
     let one : 1 ≤ c.self.inside.spare = subst (λ (v : Cabling). 1 ≤ v.spare) (sym c.self.view_is) c.requires in
     let low : c.self.inside.limit < 2 ^ 32 = search rules in
     let all = spare_room c.self.inside.seats c.self.inside.limit c.self.inside.log c.self.inside.spare c.self.invariant.0

@@ -21,6 +21,7 @@ use Rattle.station.specs.Hearing.{hearing}
 use Rattle.station.specs.Resolution.{response_in}
 use Rattle.cable_model.proofs.cables.Cables.take.Goals.{then-is_empty, else-is_empty}
 use Rattle.cable_model.proofs.cables.Cables.take.Goals as goal
+use Rattle.cable_model.specs.Places.{widest}
 
 pub returns-in_default-clause-full : goal.returns-in_default-clause-full
 returns-in_default-clause-full g c =
@@ -104,10 +105,10 @@ add_all-requires-clause-room g c =
     let new = c.took.new.log in
     let rooms = c.self.inside.rooms in
     let room =
-    subst (λ n. HasRoom mid rooms.take.lines rooms.take.bytes rooms.take.bytes (rooms.take.pairs * n)) c.len.ensures.value
+    subst (λ n. HasRoom mid rooms.take.lines rooms.take.bytes rooms.take.bytes (rooms.take.pairs * n)) c.widest.ensures.value
     c.in-Ok.ensures.room in
-    subst (λ l. HasRoom new (all_lines l) (length l) (length l) (length l * length s)) (sym same)
-    (known_room rooms c.self.invariant.1 (length s) mid new put.added room c.took.ensures.uses put.lawful.made put.lawful.others)
+    subst (λ l. HasRoom new (all_lines l) (length l) (length l) (length l * widest s)) (sym same)
+    (known_room rooms c.self.invariant.1 (widest s) mid new put.added room c.took.ensures.uses put.lawful.made put.lawful.others)
 
 pub add_all-requires-clause-more : goal.add_all-requires-clause-more
 add_all-requires-clause-more g c =
@@ -119,13 +120,13 @@ add_all-requires-clause-more g c =
     let new = c.took.new.log in
     let rooms = c.self.inside.rooms in
     let room =
-    subst (λ n. HasRoom mid rooms.take.lines rooms.take.bytes rooms.take.bytes (rooms.take.pairs * n)) c.len.ensures.value
+    subst (λ n. HasRoom mid rooms.take.lines rooms.take.bytes rooms.take.bytes (rooms.take.pairs * n)) c.widest.ensures.value
     c.in-Ok.ensures.room in
     let places : Places = record { finds = g.R.Resolve.finds c.args.resolver.now; lists = g.R.Resolve.lists c.args.resolver.now } in
     let known : rooms ≡ known_rooms → IsAnswering places =
     λ e. c.requires.known (subst (λ (v : Cabling). v.rooms ≡ known_rooms) c.self.view_is e) in
-    subst (λ l. IsAnswering places ⊎ HasHeldRoom new l (length s)) (sym same)
-    (take_more rooms places c.self.invariant.1 known (length s) mid new put.added room c.in-Ok.ensures.holdings c.took.ensures.uses
+    subst (λ l. IsAnswering places ⊎ HasHeldRoom new l (widest s)) (sym same)
+    (take_more rooms places c.self.invariant.1 known (widest s) mid new put.added room c.in-Ok.ensures.holdings c.took.ensures.uses
     put.lawful.made put.lawful.others)
 
 pub add_all-requires-clause-idle : goal.add_all-requires-clause-idle
@@ -146,7 +147,7 @@ invariant_of-self-2 g c =
     let new = c.took.new.log in
     let rooms = c.self.inside.rooms in
     let room =
-    subst (λ n. HasRoom mid rooms.take.lines rooms.take.bytes rooms.take.bytes (rooms.take.pairs * n)) c.len.ensures.value
+    subst (λ n. HasRoom mid rooms.take.lines rooms.take.bytes rooms.take.bytes (rooms.take.pairs * n)) c.widest.ensures.value
     c.in-Ok.ensures.room in
     let places : Places = record { finds = g.R.Resolve.finds c.args.resolver.now; lists = g.R.Resolve.lists c.args.resolver.now } in
     let known : rooms ≡ known_rooms → IsAnswering places =

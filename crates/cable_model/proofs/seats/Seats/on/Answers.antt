@@ -1,7 +1,7 @@
 use Rattle.std.proofs.Common.{◌≡◌, ◌≤◌, arith, length, subst, sym, refl, ap, ◌∙◌, slice_get, Some}
 use Rattle.std.proofs.lemmas.Option.{slice_get_read}
-use Rattle.cable_model.proofs.Indexed.{indices_few}
-use Rattle.cable_model.specs.Places.{has_key, indices}
+use Rattle.cable_model.proofs.Indexed.{seats_few}
+use Rattle.cable_model.specs.Places.{has_key, indices, widest}
 use Rattle.cable_model.specs.declared.seats.Key.TheVariants.{Cable}
 use Rattle.cable_model.proofs.seats.Seats.on.Goals as goal
 
@@ -16,5 +16,5 @@ returns-clause-value c =
 
 pub returns-clause-few : goal.returns-clause-few
 returns-clause-few c =
-    subst (λ l. length l ≤ length c.args.self.now) (sym (returns-clause-value c))
-    (indices_few (has_key (Cable c.args.cable)) 0 c.args.self.now)
+    subst (λ l. length l ≤ widest c.args.self.now) (sym (returns-clause-value c))
+    (seats_few c.args.cable c.args.self.now c.ranges.cable.fits)

@@ -1,12 +1,14 @@
-use Rattle.std.proofs.Common.{◌∙◌, subst, sym}
-use Rattle.image_stations.proofs.Housed.{found_there}
-use Rattle.image_stations.specs.Homes.{AreHomes}
+use Rattle.std.proofs.Common.{◌∙◌, ap, arith, sym}
+use Rattle.image_stations.proofs.Housed.{nobody_there, station_there}
+use Rattle.table_image.specs.Directory.{directory}
 use Rattle.image_stations.proofs.whereabouts.Whereabouts.find_on.Goals as goal
 
 pub returns-in-Some : goal.returns-in-Some
 returns-in-Some c =
-    let inside = c.self.inside in
-    let a = c.args.addr in
-    let k = c.args.cable in
-    found_there k a c.args.self.now inside.homes c.in-Some.found (subst (λ i. AreHomes i inside.homes) c.self.view_is c.self.invariant)
-    (sym c.find.ensures ∙ c.in-Some.is)
+    station_there c.args.self.now c.args.cable c.args.addr c.self.inside.directory c.in-Some.place (omega arith)
+    (c.self.invariant ∙ ap directory c.self.view_is) (sym c.find.ensures ∙ c.in-Some.is)
+
+pub returns-in-None : goal.returns-in-None
+returns-in-None c =
+    nobody_there c.args.self.now c.args.cable c.args.addr c.self.inside.directory (omega arith)
+    (c.self.invariant ∙ ap directory c.self.view_is) (sym c.find.ensures ∙ c.in-None.is)

@@ -1,9 +1,22 @@
-use Rattle.std.proofs.Common.{refl, ◌∙◌}
+use Rattle.std.proofs.Common.{refl, sym, ◌∙◌, length}
+use Rattle.std.proofs.lemmas.Bool.{eqb-true}
 use Rattle.std.proofs.lemmas.Result.{on_ok_weaker}
 use Rattle.live_cables.proofs.Calls.{midst_put, on_ok, plays_midst, plays_to, plays_done}
 use Rattle.live_cables.proofs.Exact.{gives_out}
+use Rattle.live_cables.proofs.Idle.{done_none, gives_none, plays_none}
 use Rattle.live_cables.proofs.Whole.{faced, is_knowing, stays_known, whole_known, wires}
 use Rattle.live_cables.proofs.live.LiveCables.give.Goals as goal
+
+pub returns-then-is_empty-clause-given : goal.returns-then-is_empty-clause-given
+returns-then-is_empty-clause-given c =
+    gives_none c.args.station c.args.outputs.now.items c.args.self.now
+    (eqb-true (length c.args.outputs.now.items) 0 (sym c.is_empty.ensures ∙ c.if-is_empty.true))
+
+pub returns-then-is_empty-clause-done : goal.returns-then-is_empty-clause-done
+returns-then-is_empty-clause-done c = done_none c.args.self.now
+
+pub returns-then-is_empty-clause-plays : goal.returns-then-is_empty-clause-plays
+returns-then-is_empty-clause-plays c = plays_none c.args.self.now
 
 pub invariant_of-self : goal.invariant_of-self
 invariant_of-self c =

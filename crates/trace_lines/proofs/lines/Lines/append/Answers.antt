@@ -2,20 +2,20 @@ use Rattle.std.proofs.Common.{◌≡◌, ◌++◌, List, ℕ, ap, ◌∙◌}
 use Rattle.std.proofs.lemmas.Result.{on_err_weaker, on_ok_weaker}
 use Rattle.cable_model.specs.Logs.{entry_at}
 use Rattle.trace_lines.specs.Lines.{Printed, cable_of}
-use Rattle.trace_lines.specs.Stations.{Directory}
+use Rattle.trace_lines.specs.Stations.{Addresses}
 use Rattle.trace_lines.proofs.lines.Lines.append.Goals as goal
 
-abbrev printed : Directory → List ℕ → Printed
-printed i cables = record { directory = i; cables = cables }
+abbrev printed : Addresses → List ℕ → Printed
+printed i cables = record { addresses = i; cables = cables }
 
 -- The printer after cables were added.
-more : (p : Printed) (i : Directory) (old new added : List ℕ) → printed i old ≡ p → new ≡ old ++ added
-    → printed i new ≡ printed p.directory (p.cables ++ added)
+more : (p : Printed) (i : Addresses) (old new added : List ℕ) → printed i old ≡ p → new ≡ old ++ added
+    → printed i new ≡ printed p.addresses (p.cables ++ added)
 more p i old new added now grown =
-    ap (printed i) grown ∙ ap (λ (q : Printed). printed q.directory (q.cables ++ added)) now
+    ap (printed i) grown ∙ ap (λ (q : Printed). printed q.addresses (q.cables ++ added)) now
 
 -- The printer after no cable was added.
-same : (p : Printed) (i : Directory) (old new : List ℕ) → printed i old ≡ p → new ≡ old → printed i new ≡ p
+same : (p : Printed) (i : Addresses) (old new : List ℕ) → printed i old ≡ p → new ≡ old → printed i new ≡ p
 same p i old new now stayed = ap (printed i) stayed ∙ now
 
 pub returns-clause-further : goal.returns-clause-further

@@ -1,5 +1,0 @@
-use Rattle.std.proofs.Common.{length}
-use Rattle.trace_lines.proofs.holders.+put_nodes.Given as goal
-
-abbrev pub decreases-put_nodes : goal.decreases-put_nodes
-decreases-put_nodes l = length l.nodes.now

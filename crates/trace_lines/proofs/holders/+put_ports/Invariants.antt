@@ -1,5 +1,0 @@
-use Rattle.std.proofs.Common.{length}
-use Rattle.trace_lines.proofs.holders.+put_ports.Given as goal
-
-abbrev pub decreases-put_ports : goal.decreases-put_ports
-decreases-put_ports l = length l.ports.now

@@ -1,5 +1,0 @@
-use Rattle.std.proofs.Common.{length}
-use Rattle.trace_lines.proofs.holders.+put_routers.Given as goal
-
-abbrev pub decreases-put_routers : goal.decreases-put_routers
-decreases-put_routers l = length l.routers.now

@@ -1,5 +1,0 @@
-use Rattle.std.proofs.Common.{◌-◌}
-use Rattle.trace_lines.proofs.holders.+put_rows.Given as goal
-
-abbrev pub decreases-put_rows : goal.decreases-put_rows
-decreases-put_rows l = 256 - l.from
