@@ -4,6 +4,7 @@ use Rattle.std.proofs.Common.{drop, remove, find, position, Option, Some, None, 
 use Rattle.std.specs.List.{list_all}
 use Rattle.std.specs.Option.{option_map_or}
 use Rattle.std.proofs.lemmas.List.Folds.{list_all-append}
+use Rattle.at_base.proofs.Cases.{by_test}
 use Rattle.at_base.specs.declared.address.Addr.{Addr}
 use Rattle.aarp.specs.declared.held.Held.{Held}
 use Rattle.aarp.specs.Mapping.{is_counted, is_for, counted, is_asked_again, asked_once_more, waited, without_oldest}
@@ -33,10 +34,9 @@ all_found : (p : Held → Bool) (xs : List Held) (h : Held) → list_all is_coun
 all_found p [] h all e = absurd cc
 all_found p (x ∷ xs) h all e =
     let b = both (is_counted x) (list_all is_counted xs) all in
-    (elim (p x) as (λ t. p x ≡ t → is_counted h ≡ true) [
-      | true ↦ λ t. (let f = rw t at e in let same : x ≡ h = cc in rw same at b.0)
-      | false ↦ λ t. all_found p xs h b.1 (rw t at e)
-    ]) refl
+    by_test (p x)
+    (λ t. (let f = rw t at e in let same : x ≡ h = cc in rw same at b.0))
+    (λ t. all_found p xs h b.1 (rw t at e))
 
 counted_is : (h : Held) (xs : List Held) → list_all is_counted xs ≡ true → is_counted (counted h xs) ≡ true
 counted_is h xs all = by_case (find (is_for h.next) xs) refl

@@ -6,6 +6,7 @@ use Rattle.std.specs.Option.{option_map_or}
 use Rattle.std.specs.Map.{keys_of, lookup, lookup_entry, remove_entry}
 use Rattle.std.proofs.lemmas.List.{take_all}
 use Rattle.std.proofs.lemmas.Map.Keys.{IsDistinct-head, IsDistinct-tail}
+use Rattle.at_base.proofs.Cases.{by_test}
 use Rattle.lru.specs.LruCache.{LruCache, put_entries}
 use Rattle.at_base.specs.declared.address.Addr.{Addr}
 use Rattle.at_base.specs.declared.address.Hw.{Hw}
@@ -22,10 +23,9 @@ module _ {K V : Type 0} (eq : K → K → Bool) (same : (x y : K) → eq x y ≡
 
   others-absent : (k : K) (es : List (K × V)) → lookup_entry (eq k) es ≡ None → others k es ≡ es
   others-absent k [] h = refl
-  others-absent k (e ∷ es) h = (elim (eq k e.0) as (λ b. eq k e.0 ≡ b → others k (e ∷ es) ≡ e ∷ es) [
-    | true ↦ λ t. let bad = rw t at h in cc
-    | false ↦ λ t. rw t (ap (λ l. e ∷ l) (others-absent k es (rw t at h)))
-  ]) refl
+  others-absent k (e ∷ es) h = by_test (eq k e.0)
+      (λ t. let bad = rw t at h in cc)
+      (λ t. rw t (ap (λ l. e ∷ l) (others-absent k es (rw t at h))))
 
   others-apart : (k : K) (es : List (K × V)) → AllByRecursion (λ y. eq k y ≡ false) (keys_of es) → others k es ≡ es
   others-apart k [] h = refl
@@ -34,25 +34,22 @@ module _ {K V : Type 0} (eq : K → K → Bool) (same : (x y : K) → eq x y ≡
   others-present : (k : K) (f : K × V) (es : List (K × V)) → IsDistinct eq (keys_of es) → lookup_entry (eq k) es ≡ Some f → (f.0
       ≡ k) × (remove_entry (eq k) es ≡ others k es) × (suc (length (remove_entry (eq k) es)) ≡ length es)
   others-present k f [] d h = cc
-  others-present k f (e ∷ es) d h = (elim (eq k e.0) as (λ b. eq k e.0 ≡ b → (f.0 ≡ k) × (remove_entry (eq k) (e ∷ es)
-      ≡ others k (e ∷ es)) × (suc (length (remove_entry (eq k) (e ∷ es))) ≡ length (e ∷ es))) [
-        | true ↦ λ t.
-            let is : k ≡ e.0 = same k e.0 t in
-            let found : e ≡ f = let h' = rw t at h in cc in
-            let apart : AllByRecursion (λ y. eq k y ≡ false) (keys_of es) = subst (λ j. AllByRecursion (λ y. eq j y
-            ≡ false) (keys_of es)) (sym is) (IsDistinct-head eq e.0 (keys_of es) d) in
-            (sym (is ∙ ap (λ p. p.0) found), rw t (sym (others-apart k es apart)), rw t refl)
-        | false ↦ λ t.
-            let on = others-present k f es (IsDistinct-tail eq e.0 (keys_of es) d) (rw t at h) in
-            (on.0, rw t (ap (λ l. e ∷ l) on.1), rw t (ap suc on.2))
-      ]) refl
+  others-present k f (e ∷ es) d h = by_test (eq k e.0)
+      (λ t.
+      let is : k ≡ e.0 = same k e.0 t in
+      let found : e ≡ f = let h' = rw t at h in cc in
+      let apart : AllByRecursion (λ y. eq k y ≡ false) (keys_of es) = subst (λ j. AllByRecursion (λ y. eq j y
+      ≡ false) (keys_of es)) (sym is) (IsDistinct-head eq e.0 (keys_of es) d) in
+      (sym (is ∙ ap (λ p. p.0) found), rw t (sym (others-apart k es apart)), rw t refl))
+      (λ t.
+      let on = others-present k f es (IsDistinct-tail eq e.0 (keys_of es) d) (rw t at h) in
+      (on.0, rw t (ap (λ l. e ∷ l) on.1), rw t (ap suc on.2)))
 
   removed-absent : (k : K) (es : List (K × V)) → lookup_entry (eq k) es ≡ None → remove_entry (eq k) es ≡ es
   removed-absent k [] h = refl
-  removed-absent k (e ∷ es) h = (elim (eq k e.0) as (λ b. eq k e.0 ≡ b → remove_entry (eq k) (e ∷ es) ≡ e ∷ es) [
-    | true ↦ λ t. let bad = rw t at h in cc
-    | false ↦ λ t. rw t (ap (λ l. e ∷ l) (removed-absent k es (rw t at h)))
-  ]) refl
+  removed-absent k (e ∷ es) h = by_test (eq k e.0)
+      (λ t. let bad = rw t at h in cc)
+      (λ t. rw t (ap (λ l. e ∷ l) (removed-absent k es (rw t at h))))
 
   -- the entries after `pop`, as a filter
   pub removed-forgotten : (k : K) (es : List (K × V)) → IsDistinct eq (keys_of es) → remove_entry (eq k) es
@@ -102,10 +99,9 @@ forgotten_unknown a (m ∷ known) = (elim (same_address a m.0) as (λ t. same_ad
 -- nothing is left out with the mapping of an address that isn't known
 pub unknown_apart : (a : Addr) (known : List (Addr × Hw)) → mapping_of a known ≡ None → forgotten a known ≡ known
 unknown_apart a [] h = refl
-unknown_apart a (m ∷ known) h = (elim (same_address a m.0) as (λ t. same_address a m.0 ≡ t → forgotten a (m ∷ known) ≡ m ∷ known) [
-  | true ↦ λ e. let bad = rw e at h in cc
-  | false ↦ λ e. rw e (ap (λ l. m ∷ l) (unknown_apart a known (rw e at h)))
-]) refl
+unknown_apart a (m ∷ known) h = by_test (same_address a m.0)
+    (λ e. let bad = rw e at h in cc)
+    (λ e. rw e (ap (λ l. m ∷ l) (unknown_apart a known (rw e at h))))
 
 -- what was cut twice
 pub cut_again : {X : Type 0} (m n : ℕ) (xs : List X) → m ≤ n → take m (take n xs) ≡ take m xs

@@ -2,7 +2,7 @@
 use Rattle.std.proofs.Common.{◌≡◌, ℕ, suc, ◌+◌, ◌<◌, ◌≤◌, Bool, true, false, not, cond, List, [], ◌∷◌, ◌++◌, length, map, filter, take}
 use Rattle.std.proofs.Common.{drop, get_or, slice_get, Some, None, refl, ap, ◌∙◌, arith, append_assoc, append-nil, length-append}
 use Rattle.std.proofs.Common.{length-drop, length-take}
-use Rattle.std.proofs.lemmas.List.{drop_more, take_more, map-append, take_all, drop_all}
+use Rattle.std.proofs.lemmas.List.{drop_more, take_more, map-append}
 use Rattle.std.proofs.lemmas.List.Elements.{filter-append}
 use Rattle.std.proofs.lemmas.Grind.{flat_map-append}
 use Rattle.std.specs.List.{flat_map, list_any}
@@ -139,13 +139,6 @@ next old i h lt first =
     turned : (t : Bool) (xs ys : List Addr) → cond (not t) xs ys ≡ cond t ys xs
     turned true xs ys = refl
     turned false xs ys = refl
-
--- the queue after its last datagram was handled
-pub all_waited : (old : List Held) (i : ℕ) → i ≡ length old → (drop i old ++ waited (take i old) ≡ waited old) × (take i old ≡ old)
-all_waited old i h =
-    let t : take i old ≡ old = take_all i old (omega arith) in
-    let d : drop i old ≡ [] = drop_all i old (omega arith) in
-    (rw (t, d) refl, t)
 
 -- a queue of which not all datagrams were handled has a next one
 pub has_next : (old : List Held) (i : ℕ) → i < length old → slice_get (drop i old ++ waited (take i old)) 0 ≡ None → ⊥

@@ -7,6 +7,7 @@ use Rattle.std.specs.Option.{option_map_or}
 use Rattle.at_base.specs.declared.address.Addr.{Addr}
 use Rattle.at_base.specs.declared.address.Hw.{Hw}
 use Rattle.at_base.specs.Address.{same_address}
+use Rattle.at_base.specs.Limits.{max_held, max_mappings}
 use Rattle.aarp.specs.declared.held.Held.{Held}
 
 -- The mappings that a port knows, the one learnt last first: at most 256, or one more while a frame is taken that tells
@@ -25,7 +26,7 @@ pub record IsMappings (m : Mappings) : Type 0 where
   pub distinct : IsDistinct same_address (map (λ p. p.0) m.known)
   pub few : length m.known ≤ 257
   pub counted : IsTrue (list_all is_counted m.held)
-  pub waiting : length m.held ≤ 16
+  pub waiting : length m.held ≤ max_held
 
 -- the mapping of an address, if it is known
 abbrev pub mapping_of : Addr → List (Addr × Hw) → Option Hw
@@ -34,7 +35,7 @@ mapping_of a (m ∷ known) = if same_address a m.0 then Some m.1 else mapping_of
 
 -- the mappings after one was learnt: it comes first, and above 256 the oldest is discarded
 abbrev pub learnt : Addr → Hw → List (Addr × Hw) → List (Addr × Hw)
-learnt a hw known = take 256 ((a, hw) ∷ filter (λ m. not (same_address a m.0)) known)
+learnt a hw known = take max_mappings ((a, hw) ∷ filter (λ m. not (same_address a m.0)) known)
 
 -- the mappings after one was learnt ahead of its taking: it comes first, and none is discarded
 abbrev pub met : Addr → Hw → List (Addr × Hw) → List (Addr × Hw)
@@ -66,11 +67,11 @@ holding h held = kept (held ++ counted h held ∷ [])
   where
     kept : List Held → List Held
     kept [] = []
-    kept (first ∷ rest) = if nat_lt (length rest) 16 then first ∷ rest else rest
+    kept (first ∷ rest) = if nat_lt (length rest) max_held then first ∷ rest else rest
 
 -- the datagram that is dropped when one more is held, if 16 are held already
 abbrev pub pushed_out : Held → List Held → Option Held
-pushed_out h held = if nat_lt (length held) 16 then None else slice_get held 0
+pushed_out h held = if nat_lt (length held) max_held then None else slice_get held 0
 
 -- the oldest datagram held for an address, if any
 abbrev pub released : Addr → List Held → Option Held

@@ -2,9 +2,6 @@
 
 use at_base::{Addr, Bytes};
 
-/// The greatest number of datagrams that a port holds.
-pub const MAX_HELD: usize = 16;
-
 /// A datagram that waits until the hardware address of its next station is known.
 #[derive(Debug, Drop)]
 pub struct Held {

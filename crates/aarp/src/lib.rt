@@ -11,8 +11,8 @@ mod waiting;
 
 pub use addresses::Addresses;
 pub use chooser::{Chooser, are_on};
-pub use held::{Held, MAX_HELD};
+pub use held::Held;
 pub use laws::written_is_read;
-pub use mapper::{MAX_MAPPINGS, Mapper};
+pub use mapper::Mapper;
 pub use packet::{Function, PACKET_LEN, Packet};
 pub use waiting::Asks;

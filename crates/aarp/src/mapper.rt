@@ -7,18 +7,17 @@ ghost use Rattle.lru.specs.LruCache.{lru_cache};
 ghost use Rattle.aarp.specs.Mapping as spec;
 ghost use Rattle.aarp.specs.Mapping.{IsMappings, forgotten, mapping_of, met, learnt, is_for, holding};
 ghost use Rattle.aarp.specs.Mapping.{pushed_out, released, without_oldest, to_ask, given_up, waited};
+ghost use Rattle.at_base.specs.Limits.{max_held, max_mappings};
 
-use crate::held::{Held, MAX_HELD};
+use crate::held::Held;
 use crate::waiting::{self, Asks};
+use at_base::limits::{MAX_HELD, MAX_MAPPINGS};
 use at_base::{Addr, Error, Hw};
 use circular_buffer::HeapCircularBuffer;
 use lru::LruCache;
 use std::alloc::Global;
 use std::marker::Model;
 use std::num::NonZeroUsize;
-
-/// The greatest number of mappings that a port knows.
-pub const MAX_MAPPINGS: usize = 256;
 
 /// The room for mappings: one more, for a mapping that is learnt ahead.
 const ROOM: usize = MAX_MAPPINGS + 1;
@@ -37,20 +36,21 @@ impl Model for Mapper {
     ghost use Rattle.std.specs.Prelude.{◌≡◌, IsTrue};
     ghost use Rattle.std.specs.List.{list_all};
     ghost use Rattle.aarp.specs.Mapping.{Mappings, is_counted};
+    ghost use Rattle.at_base.specs.Limits.{max_held};
 
     ghost Value = { Mappings };
 
     ghost view = { λ m. record { known = m.known.entries; held = m.held.items } };
 
     ghost invariant = { λ m. (m.known.cap ≡ 257)
-        × (m.held.capacity ≡ 16)
+        × (m.held.capacity ≡ max_held)
         × IsTrue (list_all is_counted m.held.items) };
 }
 
 /// Discards the mapping learnt longest ago where 257 are known.
 fn discard(known: &mut LruCache<Addr, Hw>)
     requires { known.old.cap ≡ 257 }
-    ensures { known.new ≡ lru_cache (take 256 known.old.entries) known.old.cap }
+    ensures { known.new ≡ lru_cache (take max_mappings known.old.entries) known.old.cap }
 {
     if known.len() > MAX_MAPPINGS {
         let _discarded = known.pop_lru();
@@ -105,7 +105,7 @@ impl Mapper {
     /// Error: `Memory`; nothing changes then.
     pub fn meet(&mut self, addr: Addr, hw: Hw) -> Result<(), Error>
         requires unknown { mapping_of addr self.old.known ≡ None }
-        requires few { length self.old.known ≤ 256 }
+        requires few { length self.old.known ≤ max_mappings }
         ensures ok { OnOk result
             (self.new ≡ record self.old { known = met addr hw self.old.known }) }
         ensures refused { IsOkUnless result Error.Memory }

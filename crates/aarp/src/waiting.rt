@@ -9,11 +9,13 @@ ghost use Rattle.aarp.specs.Mapping as spec;
 ghost use Rattle.aarp.specs.Mapping.{is_for, released, without_oldest};
 ghost use Rattle.aarp.specs.Mapping.{waited, to_ask, given_up, is_asked_again, noted, stamp_of};
 ghost use Rattle.arrayvec.specs.ArrayVec.{array_vec_len};
+ghost use Rattle.at_base.specs.Limits.{max_held};
 
 use crate::addresses::Addresses;
-use crate::held::{Held, MAX_HELD};
+use crate::held::Held;
 use arrayvec::ArrayVec;
 use at_base::Addr;
+use at_base::limits::MAX_HELD;
 use circular_buffer::HeapCircularBuffer;
 
 /// The number of requests for an address before it is given up.
@@ -127,7 +129,7 @@ pub(crate) fn release(queue: &mut HeapCircularBuffer<Held>, addr: Addr) -> Optio
 
 /// Adds the address if it isn't in the list.
 fn note(addresses: &mut Addresses, addr: Addr)
-    requires { length addresses.old < 16 }
+    requires { length addresses.old < max_held }
     ensures noted { addresses.new ≡ noted addr addresses.old }
     ensures few { length addresses.new ≤ 1 + length addresses.old }
 {
@@ -138,7 +140,7 @@ fn note(addresses: &mut Addresses, addr: Addr)
 
 /// Adds the stamp, if there is one.
 fn note_stamp(stamps: &mut ArrayVec<u32, MAX_HELD>, stamp: Option<u32>)
-    requires { array_vec_len stamps.old < 16 }
+    requires { array_vec_len stamps.old < max_held }
     ensures noted { stamps.new.items ≡ stamps.old.items ++ option_to_list stamp }
     ensures few { array_vec_len stamps.new ≤ 1 + array_vec_len stamps.old }
 {
@@ -151,9 +153,9 @@ fn note_stamp(stamps: &mut ArrayVec<u32, MAX_HELD>, stamp: Option<u32>)
 /// requests it is given up instead.
 fn wait_on(queue: &mut HeapCircularBuffer<Held>, asks: &mut Asks, held: Held)
     requires room { length queue.old.items < queue.old.capacity }
-    requires ask_room { length asks.old.ask < 16 }
-    requires given_up_room { length asks.old.given_up < 16 }
-    requires shed_room { array_vec_len asks.old.shed < 16 }
+    requires ask_room { length asks.old.ask < max_held }
+    requires given_up_room { length asks.old.given_up < max_held }
+    requires shed_room { array_vec_len asks.old.shed < max_held }
     ensures items { queue.new.items ≡ queue.old.items ++ waited (held ∷ []) }
     ensures capacity { queue.new.capacity ≡ queue.old.capacity }
     ensures ask { asks.new.ask
@@ -180,7 +182,7 @@ fn wait_on(queue: &mut HeapCircularBuffer<Held>, asks: &mut Asks, held: Held)
 /// Advances by one tick: returns the addresses to request and those that are given up, and the
 /// stamps of the datagrams that are gone.
 pub(crate) fn wait(queue: &mut HeapCircularBuffer<Held>) -> Asks
-    requires { queue.old.capacity ≡ 16 }
+    requires { queue.old.capacity ≡ max_held }
     ensures ask { result.ask ≡ to_ask queue.old.items }
     ensures given_up { result.given_up ≡ given_up queue.old.items }
     ensures shed { result.shed.items ≡ spec.shed queue.old.items }

@@ -1,3 +1,4 @@
+pub mod Cases
 pub mod Ranges
 pub mod Texts
 pub mod Fields
@@ -7,4 +8,6 @@ pub mod Readers
 mod Examples
 pub mod Packets
 pub mod Loops
-pub mod Halving
+pub mod Prefixes
+pub mod Lists
+pub mod Spans

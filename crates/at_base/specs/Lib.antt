@@ -12,3 +12,6 @@ pub mod Multicast
 pub mod Texts
 pub mod Packets
 pub mod Starts
+pub mod Limits
+pub mod InPlace
+pub mod Spans

@@ -10,6 +10,7 @@ use Rattle.std.proofs.lemmas.List.{get_or-set_same, get_or-set_other, length-set
 use Rattle.std.proofs.lemmas.List.Folds.{find-append}
 use Rattle.std.specs.Int.{bit_at}
 use Rattle.std.proofs.lemmas.Nat.Bits.{bit_at-zero, bit_at_lowest, bit_at-suc}
+use Rattle.at_base.proofs.Cases.{by_test}
 use Rattle.atp.specs.declared.ask.AnswerPart.{AnswerPart}
 use Rattle.atp.specs.declared.ask.Ask.{Ask}
 use Rattle.atp.specs.declared.transaction.Transaction.{Transaction}
@@ -33,13 +34,9 @@ count_more : (asked : ℕ) (heard : List AtpPacket) (p : AtpPacket)
 count_more asked [] p = refl
 count_more asked (q ∷ heard) p =
     let rest = count_more asked heard p in
-    (elim (is_end q.control)
-    as (λ b. is_end q.control ≡ b
-    → part_count asked (q ∷ heard ++ p ∷ [])
-    ≡ cond (is_end p.control) (min (p.part + 1) (part_count asked (q ∷ heard))) (part_count asked (q ∷ heard))) [
-      | true ↦ λ t. rw (t, rest) (swap (is_end p.control) (q.part + 1) (p.part + 1) (part_count asked heard))
-      | false ↦ λ t. rw (t, rest) refl
-    ]) refl
+    by_test (is_end q.control)
+    (λ t. rw (t, rest) (swap (is_end p.control) (q.part + 1) (p.part + 1) (part_count asked heard)))
+    (λ t. rw (t, rest) refl)
   where
     swap : (b : Bool) (m n k : ℕ) → min m (cond b (min n k) k) ≡ cond b (min n (min m k)) (min m k)
     swap true m n k = omega arith
@@ -49,10 +46,9 @@ count_few : (asked : ℕ) (heard : List AtpPacket) → part_count asked heard �
 count_few asked [] = omega arith
 count_few asked (p ∷ heard) =
     let rest = count_few asked heard in
-    (elim (is_end p.control) as (λ b. is_end p.control ≡ b → part_count asked (p ∷ heard) ≤ asked) [
-      | true ↦ λ t. rw t (omega (arith, rest))
-      | false ↦ λ t. rw t rest
-    ]) refl
+    by_test (is_end p.control)
+    (λ t. rw t (omega (arith, rest)))
+    (λ t. rw t rest)
 
 copy_more : (i : ℕ) (heard : List AtpPacket) (p : AtpPacket)
     → first_copy i (heard ++ p ∷ []) ≡ option_or (first_copy i heard) (cond (eqb p.part i) (Some p) None)
@@ -88,17 +84,15 @@ cut_length none (suc n) (x ∷ xs) = ap suc (cut_length none n xs)
 
 part_missing : (p : AtpPacket) (t : Transaction) → p.part < length t.missing → (i : ℕ)
     → get_or (with_part p t).missing i false ≡ not (eqb p.part i) && get_or t.missing i false
-part_missing p t lt i = (elim (get_or t.missing p.part false)
-    as (λ b. get_or t.missing p.part false ≡ b → get_or (with_part p t).missing i false ≡ not (eqb p.part i) && get_or t.missing i false) [
-      | true ↦ λ e. rw e (elim (cases_eq i p.part) [
-        | inl same ↦ let q : eqb p.part p.part ≡ true = grind arith in rw (same, q) (get_or-set_same t.missing p.part false false lt)
-        | inr differs ↦ let q : eqb p.part i ≡ false = grind arith in rw q (get_or-set_other t.missing p.part i false false differs)
-      ])
-      | false ↦ λ e. rw e (elim (cases_eq i p.part) [
-        | inl same ↦ let q : eqb p.part p.part ≡ true = grind arith in rw (same, q) e
-        | inr differs ↦ let q : eqb p.part i ≡ false = grind arith in rw q refl
-      ])
-    ]) refl
+part_missing p t lt i = by_test (get_or t.missing p.part false)
+    (λ e. rw e (elim (cases_eq i p.part) [
+      | inl same ↦ let q : eqb p.part p.part ≡ true = grind arith in rw (same, q) (get_or-set_same t.missing p.part false false lt)
+      | inr differs ↦ let q : eqb p.part i ≡ false = grind arith in rw q (get_or-set_other t.missing p.part i false false differs)
+    ]))
+    (λ e. rw e (elim (cases_eq i p.part) [
+      | inl same ↦ let q : eqb p.part p.part ≡ true = grind arith in rw (same, q) e
+      | inr differs ↦ let q : eqb p.part i ≡ false = grind arith in rw q refl
+    ]))
 
 part_came : (p : AtpPacket) (t : Transaction) → p.part < length t.came → (i : ℕ)
     → get_or (with_part p t).came i None ≡ cond (eqb p.part i && get_or t.missing p.part false) (Some (part_of p)) (get_or t.came i None)
@@ -120,12 +114,9 @@ part_came p t lt i = (elim (get_or t.missing p.part false)
 
 part_lengths : (p : AtpPacket) (t : Transaction)
     → (length (with_part p t).missing ≡ length t.missing) × (length (with_part p t).came ≡ length t.came)
-part_lengths p t = (elim (get_or t.missing p.part false)
-    as (λ b. get_or t.missing p.part false ≡ b
-    → (length (with_part p t).missing ≡ length t.missing) × (length (with_part p t).came ≡ length t.came)) [
-      | true ↦ λ e. rw e (length-set t.missing p.part false, length-set t.came p.part (Some (part_of p)))
-      | false ↦ λ e. rw e (refl, refl)
-    ]) refl
+part_lengths p t = by_test (get_or t.missing p.part false)
+    (λ e. rw e (length-set t.missing p.part false, length-set t.came p.part (Some (part_of p))))
+    (λ e. rw e (refl, refl))
 
 end_missing : (p : AtpPacket) (t : Transaction) (i : ℕ)
     → get_or (with_end p t).missing i false
@@ -150,11 +141,9 @@ end_came p t i = (elim (is_end p.control)
 
 end_lengths : (p : AtpPacket) (t : Transaction)
     → (length (with_end p t).missing ≡ length t.missing) × (length (with_end p t).came ≡ length t.came)
-end_lengths p t = (elim (is_end p.control)
-    as (λ b. is_end p.control ≡ b → (length (with_end p t).missing ≡ length t.missing) × (length (with_end p t).came ≡ length t.came)) [
-      | true ↦ λ e. rw e (cut_length false (p.part + 1) t.missing, cut_length None (p.part + 1) t.came)
-      | false ↦ λ e. rw e (refl, refl)
-    ]) refl
+end_lengths p t = by_test (is_end p.control)
+    (λ e. rw e (cut_length false (p.part + 1) t.missing, cut_length None (p.part + 1) t.came))
+    (λ e. rw e (refl, refl))
 
 -- ---- the state of a transaction
 
@@ -336,11 +325,10 @@ all_clear (b ∷ bits) h = rw (h 0, all_clear bits (λ i. h (suc i))) refl
 -- no part of a whole response is missing
 nothing_missing : (asked : ℕ) (heard : List AtpPacket) → is_whole asked heard ≡ true → (i : ℕ) → is_missing asked heard i ≡ false
 nothing_missing asked heard w i =
-    (elim (ltb i (part_count asked heard)) as (λ b. ltb i (part_count asked heard) ≡ b → is_missing asked heard i ≡ false) [
-      | true ↦ λ e. let there = whole_at (part_count asked heard) (λ i. is_some (first_copy i heard)) w i (ltb-true _ _ e) in
-          rw (e, there) refl
-      | false ↦ λ e. rw e refl
-    ]) refl
+    by_test (ltb i (part_count asked heard))
+    (λ e. let there = whole_at (part_count asked heard) (λ i. is_some (first_copy i heard)) w i (ltb-true _ _ e) in
+    rw (e, there) refl)
+    (λ e. rw e refl)
 
 none_missing : (asked : ℕ) (heard : List AtpPacket) → ((i : ℕ) → is_missing asked heard i ≡ false) → is_whole asked heard ≡ true
 none_missing asked heard h = whole_if (part_count asked heard) (λ i. is_some (first_copy i heard))

@@ -1,8 +1,9 @@
 -- Of more consecutive IDs than there are transactions, at least one isn't open.
 use Rattle.std.proofs.Common.{◌≡◌, ℕ, zero, suc, ◌+◌, ◌-◌, ◌%◌, ◌<◌, ◌≤◌, Bool, true, false, cond, eqb, ltb, List, [], ◌∷◌, Option, Some}
-use Rattle.std.proofs.Common.{None, is_some, count_by, refl, ap, ◌∙◌, arith}
+use Rattle.std.proofs.Common.{None, is_some, count_by, ap, ◌∙◌, arith}
 use Rattle.std.proofs.lemmas.Bool.{eqb-true}
 use Rattle.std.proofs.lemmas.List.Sums.{sum_by-cons}
+use Rattle.at_base.proofs.Cases.{by_test}
 use Rattle.atp.specs.declared.transaction.Transaction.{Transaction}
 use Rattle.atp.specs.Requesting.{known}
 
@@ -59,15 +60,13 @@ one_more : (first m : ℕ) (slots : Slots) (t : Transaction) → first < 65536 �
 one_more first m [] t a b e = absurd cc
 one_more first m (None ∷ slots) t a b e = one_more first m slots t a b e
 one_more first m (Some u ∷ slots) t a b e =
-    (elim (eqb u.id ((first + m) % 65536))
-    as (λ c. eqb u.id ((first + m) % 65536) ≡ c → suc (hits first m (Some u ∷ slots)) ≤ hits first (suc m) (Some u ∷ slots)) [
-      | true ↦ λ c.
-          let same : after first u.id ≡ m = ap (after first) (eqb-true _ _ c) ∙ its_place first m a b in
-          let x = not_below (after first u.id) m same in
-          let y = just_below (after first u.id) m same in
-          omega (arith, more first m slots, x, y)
-      | false ↦ λ c. omega (arith, one_more first m slots t a b (rw c at e), wider (after first u.id) m)
-    ]) refl
+    by_test (eqb u.id ((first + m) % 65536))
+    (λ c.
+    let same : after first u.id ≡ m = ap (after first) (eqb-true _ _ c) ∙ its_place first m a b in
+    let x = not_below (after first u.id) m same in
+    let y = just_below (after first u.id) m same in
+    omega (arith, more first m slots, x, y))
+    (λ c. omega (arith, one_more first m slots t a b (rw c at e), wider (after first u.id) m))
 
 all_hit : (first m : ℕ) (slots : Slots) → first < 65536 → m ≤ 65536
     → ((k : ℕ) → k < m → (t : Transaction) × (known ((first + k) % 65536) slots ≡ Some t)) → m ≤ hits first m slots

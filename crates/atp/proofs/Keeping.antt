@@ -6,6 +6,7 @@ use Rattle.std.specs.Option.{option_map}
 use Rattle.std.proofs.lemmas.Bool.{and_parts, eqb-true}
 use Rattle.std.proofs.lemmas.Bool.Decides.{nat_tests}
 use Rattle.std.proofs.lemmas.List.Folds.{find-append}
+use Rattle.at_base.proofs.Cases.{by_test}
 use Rattle.at_base.specs.Address.{same_address}
 use Rattle.atp.specs.declared.ask.AnswerPart.{AnswerPart}
 use Rattle.atp.specs.declared.ask.Peer.{Peer}
@@ -25,59 +26,52 @@ Requests = List Request
 found_kept : (q p : Request → Bool) (rs : Requests) (x : Request) → find q rs ≡ Some x → p x ≡ true → find q (filter p rs) ≡ Some x
 found_kept q p [] x e h = absurd cc
 found_kept q p (r ∷ rs) x e h =
-    (elim (q r) as (λ b. q r ≡ b → find q (filter p (r ∷ rs)) ≡ Some x) [
-      | true ↦ λ t.
-          let f : Some r ≡ Some x = (rw t at e) in
-          let same : r ≡ x = cc in
-          let u : p r ≡ true = ap p same ∙ h in
-          rw u (rw t f)
-      | false ↦ λ t.
-          let f = (rw t at e) in
-          (elim (p r) as (λ c. p r ≡ c → find q (filter p (r ∷ rs)) ≡ Some x) [
-            | true ↦ λ u. rw u (rw t (found_kept q p rs x f h))
-            | false ↦ λ u. rw u (found_kept q p rs x f h)
-          ]) refl
-    ]) refl
+    by_test (q r)
+    (λ t.
+    let f : Some r ≡ Some x = (rw t at e) in
+    let same : r ≡ x = cc in
+    let u : p r ≡ true = ap p same ∙ h in
+    rw u (rw t f))
+    (λ t.
+    let f = (rw t at e) in
+    by_test (p r)
+    (λ u. rw u (rw t (found_kept q p rs x f h)))
+    (λ u. rw u (found_kept q p rs x f h)))
 
 find_mapped : (q : Request → Bool) (f : Request → Request) → ((r : Request) → q (f r) ≡ q r) → (rs : Requests)
     → find q (map f rs) ≡ option_map f (find q rs)
 find_mapped q f h [] = refl
 find_mapped q f h (r ∷ rs) =
-    (elim (q r) as (λ b. q r ≡ b → find q (map f (r ∷ rs)) ≡ option_map f (find q (r ∷ rs))) [
-      | true ↦ λ t. rw (h r, t) refl
-      | false ↦ λ t. rw (h r, t) (find_mapped q f h rs)
-    ]) refl
+    by_test (q r)
+    (λ t. rw (h r, t) refl)
+    (λ t. rw (h r, t) (find_mapped q f h rs))
 
 find_first : (q : Request → Bool) (f : Request → Request) → ((r : Request) → q (f r) ≡ q r) → (rs : Requests)
     → find q (with_first q f rs) ≡ option_map f (find q rs)
 find_first q f h [] = refl
 find_first q f h (r ∷ rs) =
-    (elim (q r) as (λ b. q r ≡ b → find q (with_first q f (r ∷ rs)) ≡ option_map f (find q (r ∷ rs))) [
-      | true ↦ λ t. rw t (rw (h r, t) refl)
-      | false ↦ λ t. rw t (rw t (find_first q f h rs))
-    ]) refl
+    by_test (q r)
+    (λ t. rw t (rw (h r, t) refl))
+    (λ t. rw t (rw t (find_first q f h rs)))
 
 -- another request changes
 find_other : (q p : Request → Bool) (f : Request → Request) → ((r : Request) → q (f r) ≡ q r) → ((r : Request) → q r ≡ true → p r ≡ false)
     → (rs : Requests) → find q (with_first p f rs) ≡ find q rs
 find_other q p f same other [] = refl
 find_other q p f same other (r ∷ rs) =
-    (elim (q r) as (λ b. q r ≡ b → find q (with_first p f (r ∷ rs)) ≡ find q (r ∷ rs)) [
-      | true ↦ λ t. let u = other r t in rw u (rw t refl)
-      | false ↦ λ t. (elim (p r) as (λ c. p r ≡ c → find q (with_first p f (r ∷ rs)) ≡ find q (r ∷ rs)) [
-        | true ↦ λ u. rw u (rw (same r, t) refl)
-        | false ↦ λ u. rw u (rw t (find_other q p f same other rs))
-      ]) refl
-    ]) refl
+    by_test (q r)
+    (λ t. let u = other r t in rw u (rw t refl))
+    (λ t. by_test (p r)
+    (λ u. rw u (rw (same r, t) refl))
+    (λ u. rw u (rw t (find_other q p f same other rs))))
 
 -- a request that is found passes
 is_found : (q : Request → Bool) (rs : Requests) (x : Request) → find q rs ≡ Some x → q x ≡ true
 is_found q [] x e = absurd cc
 is_found q (r ∷ rs) x e =
-    (elim (q r) as (λ b. q r ≡ b → q x ≡ true) [
-      | true ↦ λ t. let f : Some r ≡ Some x = (rw t at e) in let same : r ≡ x = cc in ap q (sym same) ∙ t
-      | false ↦ λ t. is_found q rs x (rw t at e)
-    ]) refl
+    by_test (q r)
+    (λ t. let f : Some r ≡ Some x = (rw t at e) in let same : r ≡ x = cc in ap q (sym same) ∙ t)
+    (λ t. is_found q rs x (rw t at e))
 
 -- ---- askers and IDs
 

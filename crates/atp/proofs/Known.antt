@@ -2,6 +2,7 @@
 use Rattle.std.proofs.Common.{◌≡◌, ◌≢◌, ℕ, zero, suc, true, false, eqb, List, [], ◌∷◌, Option, Some, None, get_or, refl, sym, ap, subst}
 use Rattle.std.proofs.Common.{◌∙◌, inl, inr, arith}
 use Rattle.std.proofs.lemmas.Bool.{cases_eq, eqb-true}
+use Rattle.at_base.proofs.Cases.{by_test}
 use Rattle.slab.specs.Slab.{Slab, get, Updates}
 use Rattle.atp.specs.declared.transaction.Transaction.{Transaction}
 use Rattle.atp.specs.Requesting.{known, AreApart}
@@ -11,9 +12,6 @@ Slots = List (Option Transaction)
 
 same_id : (t : Transaction) (id : ℕ) → eqb t.id id ≡ true → t.id ≡ id
 same_id t id e = eqb-true _ _ e
-
-other_id : (t : Transaction) (id : ℕ) → eqb t.id id ≡ false → t.id ≢ id
-other_id t id e h = grind arith
 
 is_same : (t : Transaction) (id : ℕ) → t.id ≡ id → eqb t.id id ≡ true
 is_same t id h = grind arith
@@ -26,15 +24,14 @@ pub known_at : (id : ℕ) (slots : Slots) (t : Transaction) → known id slots �
 known_at id [] t h = absurd cc
 known_at id (None ∷ slots) t h = let r = known_at id slots t h in (suc r.0, r.1, r.2)
 known_at id (Some u ∷ slots) t h =
-    (elim (eqb u.id id) as (λ b. eqb u.id id ≡ b → (k : ℕ) × (get_or (Some u ∷ slots) k None ≡ Some t) × (t.id ≡ id)) [
-      | true ↦ λ e.
-          let g : Some u ≡ Some t = (rw e at h) in
-          let same : u ≡ t = cc in
-          (0, g, ap (λ (x : Transaction). x.id) (sym same) ∙ same_id u id e)
-      | false ↦ λ e.
-          let r = known_at id slots t (rw e at h) in
-          (suc r.0, r.1, r.2)
-    ]) refl
+    by_test (eqb u.id id)
+    (λ e.
+    let g : Some u ≡ Some t = (rw e at h) in
+    let same : u ≡ t = cc in
+    (0, g, ap (λ (x : Transaction). x.id) (sym same) ∙ same_id u id e))
+    (λ e.
+    let r = known_at id slots t (rw e at h) in
+    (suc r.0, r.1, r.2))
 
 -- an ID that no slot has isn't known
 pub known_none : (id : ℕ) (slots : Slots) → ((k : ℕ) (t : Transaction) → get_or slots k None ≡ Some t → t.id ≢ id) → known id slots ≡ None

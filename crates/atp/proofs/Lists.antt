@@ -3,6 +3,7 @@ use Rattle.std.proofs.Common.{◌≡◌, ℕ, zero, suc, ◌+◌, ◌<◌, ◌�
 use Rattle.std.proofs.Common.{get_or, set, Some, None, cond, refl, sym, ap, subst, arith}
 use Rattle.std.proofs.lemmas.Bool.{ltb-true, ltb-false}
 use Rattle.std.specs.List.{find, position, position_or_len}
+use Rattle.at_base.proofs.Cases.{by_test}
 use Rattle.atp.specs.Places.{IsPlace}
 
 one_more : {X : Type 0} (f : X → X) (all : List X) (i : ℕ) (d : X) → i < length all
@@ -36,16 +37,15 @@ one_here p xs a here = record { within = omega arith; is = λ d. refl; found = r
 place : {X : Type 0} (p : X → Bool) (xs : List X) (i : ℕ) → i ≡ position_or_len p xs → i < length xs → (x : X) × IsPlace p i xs x
 place p [] i e lt = absurd (omega arith)
 place {X} p (a ∷ xs) i e lt =
-    (elim (p a) as (λ b. p a ≡ b → (x : X) × IsPlace p i (a ∷ xs) x) [
-      | true ↦ λ t.
-          let none : i ≡ 0 = (rw t at e) in
-          (a, subst (λ (k : ℕ). IsPlace p k (a ∷ xs) a) (sym none) (one_here p xs a t))
-      | false ↦ λ t.
-          let n : i ≡ 1 + position_or_len p xs = (rw t at e) in
-          let on = place p xs (position_or_len p xs) refl (omega arith) in
-          let m : suc (position_or_len p xs) ≡ i = omega arith in
-          (on.0, subst (λ (k : ℕ). IsPlace p k (a ∷ xs) on.0) m (one_on p (position_or_len p xs) xs a on.0 t on.1))
-    ]) refl
+    by_test (p a)
+    (λ t.
+    let none : i ≡ 0 = (rw t at e) in
+    (a, subst (λ (k : ℕ). IsPlace p k (a ∷ xs) a) (sym none) (one_here p xs a t)))
+    (λ t.
+    let n : i ≡ 1 + position_or_len p xs = (rw t at e) in
+    let on = place p xs (position_or_len p xs) refl (omega arith) in
+    let m : suc (position_or_len p xs) ≡ i = omega arith in
+    (on.0, subst (λ (k : ℕ). IsPlace p k (a ∷ xs) on.0) m (one_on p (position_or_len p xs) xs a on.0 t on.1)))
 
 pub at_place : {X : Type 0} (p : X → Bool) (xs : List X) (i : ℕ) → position p xs ≡ Some i → (x : X) × IsPlace p i xs x
 at_place {X} p xs i e = found (ltb (position_or_len p xs) (length xs)) refl e
@@ -58,10 +58,9 @@ at_place {X} p xs i e = found (ltb (position_or_len p xs) (length xs)) refl e
 none_found : {X : Type 0} (p : X → Bool) (xs : List X) → length xs ≤ position_or_len p xs → find p xs ≡ None
 none_found p [] le = refl
 none_found {X} p (a ∷ xs) le =
-    (elim (p a) as (λ b. p a ≡ b → find p (a ∷ xs) ≡ None) [
-      | true ↦ λ t. absurd (let bad = (rw t at le) in omega (arith, bad))
-      | false ↦ λ t. let less = (rw t at le) in rw t (none_found p xs (omega (arith, less)))
-    ]) refl
+    by_test (p a)
+    (λ t. absurd (let bad = (rw t at le) in omega (arith, bad)))
+    (λ t. let less = (rw t at le) in rw t (none_found p xs (omega (arith, less))))
 
 pub not_at : {X : Type 0} (p : X → Bool) (xs : List X) → position p xs ≡ None → find p xs ≡ None
 not_at {X} p xs e = missing (ltb (position_or_len p xs) (length xs)) refl e

@@ -1,11 +1,12 @@
 -- The IDs of the open transactions, one for each.
-use Rattle.std.proofs.Common.{◌≡◌, ◌≢◌, ℕ, suc, true, false, cond, eqb, List, [], ◌∷◌, Option, Some, None, is_some}
+use Rattle.std.proofs.Common.{◌≡◌, ◌≢◌, ℕ, suc, false, cond, eqb, List, [], ◌∷◌, Option, Some, None, is_some}
 use Rattle.std.proofs.Common.{get_or, length, refl}
 use Rattle.std.proofs.Common.{arith}
 use Rattle.std.specs.Prelude.{◌==◌}
 use Rattle.std.specs.List.{AllByRecursion, IsDistinct, list_any}
 use Rattle.std.proofs.lemmas.Bool.{ne_eqb}
 use Rattle.std.proofs.lemmas.List.Sums.{sum_by-cons}
+use Rattle.at_base.proofs.Cases.{by_test}
 use Rattle.atp.specs.declared.transaction.Transaction.{Transaction}
 use Rattle.atp.specs.Requesting.{AreApart, AreOpen, known, open_count}
 use Rattle.atp.proofs.Known.{apart_rest}
@@ -27,11 +28,9 @@ each_known : (id : ℕ) (slots : Slots) → list_any (λ n. n == id) (ids_of slo
 each_known id [] = refl
 each_known id (None ∷ slots) = each_known id slots
 each_known id (Some t ∷ slots) =
-    (elim (eqb t.id id) as (λ b. eqb t.id id ≡ b → list_any (λ n. n == id) (ids_of (Some t ∷ slots))
-    ≡ is_some (known id (Some t ∷ slots))) [
-      | true ↦ λ e. rw e refl
-      | false ↦ λ e. rw e (each_known id slots)
-    ]) refl
+    by_test (eqb t.id id)
+    (λ e. rw e refl)
+    (λ e. rw e (each_known id slots))
 
 unlike : (n : ℕ) (slots : Slots) → ((k : ℕ) (t : Transaction) → get_or slots k None ≡ Some t → n ≢ t.id)
     → AllByRecursion (λ m. (n == m) ≡ false) (ids_of slots)

@@ -7,6 +7,7 @@ use Rattle.std.specs.Option.{option_map}
 use Rattle.std.specs.Prelude.{option_to_list}
 use Rattle.std.proofs.lemmas.Bool.{cases_lt, eqb-true}
 use Rattle.std.proofs.lemmas.List.Sums.{sum_by-cons}
+use Rattle.at_base.proofs.Cases.{by_test}
 use Rattle.atp.specs.Repeating.{AreShort, is_due_by, repeat_in, repeat_of, repeats, repeats_from}
 use Rattle.atp.specs.Requesting.{IsLeast, known, passes}
 use Rattle.atp.specs.declared.repeats.Repeat.{Repeat}
@@ -140,27 +141,25 @@ one_more : (more first : ℕ) (t : Transaction) (slots : Slots)
     → length (repeats_from first more (Some t ∷ slots)) ≤ suc (length (repeats_from first more slots))
 one_more zero first t slots = omega arith
 one_more (suc more) first t slots =
-    (elim (eqb t.id first) as (λ b. eqb t.id first ≡ b
-    → length (repeats_from first (suc more) (Some t ∷ slots)) ≤ suc (length (repeats_from first (suc more) slots))) [
-      | true ↦ λ e.
-          let is : t.id ≡ first = eqb-true _ _ e in
-          let rest = passed_by more (suc first) t slots (omega (arith, is)) in
-          rw (e, rest)
-          (omega (
-            arith,
-            at_most_one (repeat_in (Some t)),
-            length-append (option_to_list (repeat_in (Some t))) (repeats_from (suc first) more slots),
-            length-append (option_to_list (repeat_in (known first slots))) (repeats_from (suc first) more slots),
-          ))
-      | false ↦ λ e.
-          rw e
-          (omega (
-            arith,
-            one_more more (suc first) t slots,
-            length-append (option_to_list (repeat_in (known first slots))) (repeats_from (suc first) more (Some t ∷ slots)),
-            length-append (option_to_list (repeat_in (known first slots))) (repeats_from (suc first) more slots),
-          ))
-    ]) refl
+    by_test (eqb t.id first)
+    (λ e.
+    let is : t.id ≡ first = eqb-true _ _ e in
+    let rest = passed_by more (suc first) t slots (omega (arith, is)) in
+    rw (e, rest)
+    (omega (
+      arith,
+      at_most_one (repeat_in (Some t)),
+      length-append (option_to_list (repeat_in (Some t))) (repeats_from (suc first) more slots),
+      length-append (option_to_list (repeat_in (known first slots))) (repeats_from (suc first) more slots),
+    )))
+    (λ e.
+    rw e
+    (omega (
+      arith,
+      one_more more (suc first) t slots,
+      length-append (option_to_list (repeat_in (known first slots))) (repeats_from (suc first) more (Some t ∷ slots)),
+      length-append (option_to_list (repeat_in (known first slots))) (repeats_from (suc first) more slots),
+    )))
 
 none_known : (more first : ℕ) → repeats_from first more [] ≡ []
 none_known zero first = refl

@@ -3,6 +3,7 @@ use Rattle.std.proofs.Common.{◌≡◌, ℕ, ◌++◌, ◌↔◌, Bool, true, f
 use Rattle.std.proofs.Common.{Option, Some, None, Result, Ok, Err, is_some, refl, sym, ap, ◌∙◌, arith}
 use Rattle.std.specs.List.{find}
 use Rattle.std.proofs.lemmas.List.Folds.{find-append}
+use Rattle.at_base.proofs.Cases.{by_test}
 use Rattle.at_base.specs.declared.error.Error.{Error}
 use Rattle.at_base.specs.declared.error.Error.TheVariants.{Full}
 use Rattle.atp.specs.declared.ask.AnswerPart.{AnswerPart}
@@ -62,10 +63,9 @@ now_asked from p rs held e = rw (is_held from p rs held (is_new from p rs held e
 unasked : (q : Request → Bool) (rs : Requests) (r : Request) → find q rs ≡ None → q r ≡ true → filter (λ r. not (q r)) (rs ++ r ∷ []) ≡ rs
 unasked q [] r none last = rw last refl
 unasked q (a ∷ rs) r none last =
-    (elim (q a) as (λ b. q a ≡ b → filter (λ r. not (q r)) (a ∷ rs ++ r ∷ []) ≡ a ∷ rs) [
-      | true ↦ λ t. absurd (let e = (rw t at none) in cc)
-      | false ↦ λ t. let e = (rw t at none) in rw t (ap (λ (l : Requests). a ∷ l) (unasked q rs r e last))
-    ]) refl
+    by_test (q a)
+    (λ t. absurd (let e = (rw t at none) in cc))
+    (λ t. let e = (rw t at none) in rw t (ap (λ (l : Requests). a ∷ l) (unasked q rs r e last)))
 
 pub as_before : (from : Peer) (p : AtpPacket) (rs held : Requests) → (Ask, held) ≡ heard from p rs → without from p.id held ≡ rs
 as_before from p rs held e =

@@ -7,6 +7,7 @@ use Rattle.std.specs.Result.{IfOk, OnErr}
 use Rattle.std.proofs.lemmas.Bool.{and_parts, or_parts, ltb-true}
 use Rattle.std.proofs.lemmas.Bool.Decides.{nat_tests}
 use Rattle.std.proofs.Math.Nat.{pow-le-pow_right}
+use Rattle.at_base.proofs.Cases.{by_test}
 use Rattle.at_base.specs.declared.error.Error.{Error}
 use Rattle.at_base.specs.declared.error.Error.TheVariants.{Full}
 use Rattle.atp.specs.declared.ask.Peer.{Peer}
@@ -36,26 +37,22 @@ fewer : (k p : Request → Bool) (rs : Requests) → length (filter k (filter p 
 fewer k p [] = omega arith
 fewer k p (r ∷ rs) =
     let rest = fewer k p rs in
-    (elim (p r) as (λ b. p r ≡ b → length (filter k (filter p (r ∷ rs))) ≤ length (filter k (r ∷ rs))) [
-      | true ↦ λ t. (elim (k r) as (λ c. k r ≡ c → length (filter k (filter p (r ∷ rs))) ≤ length (filter k (r ∷ rs))) [
-        | true ↦ λ u. rw (t, u) (omega (arith, rest))
-        | false ↦ λ u. rw (t, u) rest
-      ]) refl
-      | false ↦ λ t. (elim (k r) as (λ c. k r ≡ c → length (filter k (filter p (r ∷ rs))) ≤ length (filter k (r ∷ rs))) [
-        | true ↦ λ u. rw (t, u) (omega (arith, rest))
-        | false ↦ λ u. rw (t, u) rest
-      ]) refl
-    ]) refl
+    by_test (p r)
+    (λ t. by_test (k r)
+    (λ u. rw (t, u) (omega (arith, rest)))
+    (λ u. rw (t, u) rest))
+    (λ t. by_test (k r)
+    (λ u. rw (t, u) (omega (arith, rest)))
+    (λ u. rw (t, u) rest))
 
 any_fewer : (q p : Request → Bool) (rs : Requests) → list_any q rs ≡ false → list_any q (filter p rs) ≡ false
 any_fewer q p [] h = refl
 any_fewer q p (r ∷ rs) h =
     let o = or_parts (q r) (list_any q rs) h in
     let rest = any_fewer q p rs o.1 in
-    (elim (p r) as (λ b. p r ≡ b → list_any q (filter p (r ∷ rs)) ≡ false) [
-      | true ↦ λ t. rw (t, o.0, rest) refl
-      | false ↦ λ t. rw t rest
-    ]) refl
+    by_test (p r)
+    (λ t. rw (t, o.0, rest) refl)
+    (λ t. rw t rest)
 
 not_any : (b : Bool) → not b ≡ true → b ≡ false
 not_any true h = absurd cc
@@ -67,20 +64,18 @@ apart_fewer p (r ∷ rs) h =
     let a = and_parts (not (list_any (is_of r.from r.id) rs)) (are_apart rs) h in
     let rest = apart_fewer p rs a.1 in
     let none = any_fewer (is_of r.from r.id) p rs (not_any _ a.0) in
-    (elim (p r) as (λ b. p r ≡ b → are_apart (filter p (r ∷ rs)) ≡ true) [
-      | true ↦ λ t. rw (t, none, rest) refl
-      | false ↦ λ t. rw t rest
-    ]) refl
+    by_test (p r)
+    (λ t. rw (t, none, rest) refl)
+    (λ t. rw t rest)
 
 all_fewer : (q p : Request → Bool) (rs : Requests) → list_all q rs ≡ true → list_all q (filter p rs) ≡ true
 all_fewer q p [] h = refl
 all_fewer q p (r ∷ rs) h =
     let a = and_parts (q r) (list_all q rs) h in
     let rest = all_fewer q p rs a.1 in
-    (elim (p r) as (λ b. p r ≡ b → list_all q (filter p (r ∷ rs)) ≡ true) [
-      | true ↦ λ t. rw (t, a.0, rest) refl
-      | false ↦ λ t. rw t rest
-    ]) refl
+    by_test (p r)
+    (λ t. rw (t, a.0, rest) refl)
+    (λ t. rw t rest)
 
 pub filtered : (p : Request → Bool) (rs : Requests) → IsRequests rs → IsRequests (filter p rs)
 filtered p rs h =
@@ -122,10 +117,9 @@ later_kind once (r ∷ rs) [] h = absurd h
 later_kind once (r ∷ rs) (s ∷ ss) h =
     let rest = later_kind once rs ss h.1 in
     let k : kind once s ≡ kind once r = ap (λ (o : Bool). cond once o (not o)) h.0.once in
-    (elim (kind once r) as (λ c. kind once r ≡ c → of_kind once (s ∷ ss) ≡ of_kind once (r ∷ rs)) [
-      | true ↦ λ u. rw (k, u) (ap suc rest)
-      | false ↦ λ u. rw (k, u) rest
-    ]) refl
+    by_test (kind once r)
+    (λ u. rw (k, u) (ap suc rest))
+    (λ u. rw (k, u) rest)
 
 later_any : (from : Peer) (id : ℕ) (rs ss : Requests) → AllLater rs ss → list_any (is_of from id) ss ≡ list_any (is_of from id) rs
 later_any from id [] [] h = refl
@@ -163,10 +157,9 @@ first_later : (p : Request → Bool) (f : Request → Request) → ((r : Request
     → AllLater rs (with_first p f rs)
 first_later p f each [] = tt
 first_later p f each (r ∷ rs) =
-    (elim (p r) as (λ b. p r ≡ b → AllLater (r ∷ rs) (with_first p f (r ∷ rs))) [
-      | true ↦ λ t. rw t (each r, all_same rs)
-      | false ↦ λ t. rw t (same r, first_later p f each rs)
-    ]) refl
+    by_test (p r)
+    (λ t. rw t (each r, all_same rs))
+    (λ t. rw t (same r, first_later p f each rs))
 
 map_later : (f : Request → Request) → ((r : Request) → Later r (f r)) → (rs : Requests) → AllLater rs (map f rs)
 map_later f each [] = tt
@@ -207,24 +200,21 @@ tick_later r = record { from = refl; id = refl; once = refl; sound = sound }
     sound h = let a = sound_parts r h in rw (a.0, le_less r.left r.release a.1, a.2) refl
 
 older_later : (r : Request) → Later r (older r)
-older_later r = (elim (is_some r.answer) as (λ b. is_some r.answer ≡ b → Later r (older r)) [
-  | true ↦ λ t. rw t (tick_later r)
-  | false ↦ λ t. rw t (same r)
-]) refl
+older_later r = by_test (is_some r.answer)
+    (λ t. rw t (tick_later r))
+    (λ t. rw t (same r))
 
 -- ---- one more request
 
 kind_count : (k : Request → Bool) (rs : Requests) (r : Request) → length (filter k (rs ++ r ∷ [])) ≡ length (filter k rs) + cond (k r) 1 0
-kind_count k [] r = (elim (k r) as (λ b. k r ≡ b → length (filter k (r ∷ [])) ≡ 0 + cond (k r) 1 0) [
-  | true ↦ λ t. rw t refl
-  | false ↦ λ t. rw t refl
-]) refl
+kind_count k [] r = by_test (k r)
+    (λ t. rw t refl)
+    (λ t. rw t refl)
 kind_count k (a ∷ rs) r =
     let rest = kind_count k rs r in
-    (elim (k a) as (λ b. k a ≡ b → length (filter k (a ∷ rs ++ r ∷ [])) ≡ length (filter k (a ∷ rs)) + cond (k r) 1 0) [
-      | true ↦ λ t. rw t (omega (arith, rest))
-      | false ↦ λ t. rw t rest
-    ]) refl
+    by_test (k a)
+    (λ t. rw t (omega (arith, rest)))
+    (λ t. rw t rest)
 
 any_more : (q : Request → Bool) (rs : Requests) (r : Request) → list_any q rs ≡ false → q r ≡ false → list_any q (rs ++ r ∷ []) ≡ false
 any_more q [] r h last = rw last refl
@@ -247,10 +237,9 @@ of_comm a b = rw (peer_comm b.from a.from, eqb_comm b.id a.id) refl
 not_found : (q : Request → Bool) (rs : Requests) → find q rs ≡ None → (list_any q rs ≡ false)
 not_found q [] h = refl
 not_found q (a ∷ rs) h =
-    (elim (q a) as (λ b. q a ≡ b → list_any q (a ∷ rs) ≡ false) [
-      | true ↦ λ t. absurd (let e = (rw t at h) in cc)
-      | false ↦ λ t. let e = (rw t at h) in rw t (not_found q rs e)
-    ]) refl
+    by_test (q a)
+    (λ t. absurd (let e = (rw t at h) in cc))
+    (λ t. let e = (rw t at h) in rw t (not_found q rs e))
 
 apart_more : (rs : Requests) (r : Request) → are_apart rs ≡ true → list_any (is_of r.from r.id) rs ≡ false → are_apart (rs ++ r ∷ []) ≡ true
 apart_more [] r h none = refl
@@ -305,10 +294,9 @@ pub forgotten : (from : Peer) (id : ℕ) (rs : Requests) → IsRequests rs → I
 forgotten from id rs h = filtered (λ r. not (is_of from id r)) rs h
 
 pub asked_anew : (from : Peer) (id : ℕ) (rs : Requests) (r : Request) → IsRequests rs → IsRequests (asked_again from id rs r).1
-asked_anew from id rs r h = (elim (is_some r.answer) as (λ b. is_some r.answer ≡ b → IsRequests (asked_again from id rs r).1) [
-  | true ↦ λ t. rw t (later rs (with_first (is_of from id) repeated rs) (first_later (is_of from id) repeated repeat_later rs) h)
-  | false ↦ λ t. rw t h
-]) refl
+asked_anew from id rs r h = by_test (is_some r.answer)
+    (λ t. rw t (later rs (with_first (is_of from id) repeated rs) (first_later (is_of from id) repeated repeat_later rs) h))
+    (λ t. rw t h)
 
 pub answered : (from : Peer) (id : ℕ) (parts : List AnswerPart) (rs : Requests) → is_answer parts ≡ true → IsRequests rs
     → IsRequests (with_first (is_of from id) (with_answer parts) rs)

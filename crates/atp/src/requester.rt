@@ -3,7 +3,7 @@
 
 ghost use Rattle.std.specs.Prelude.{◌≡◌, ◌≢◌, ◌⊎◌, ◌↔◌, ◌<◌, ◌≤◌, ◌+◌, ◌%◌, Some, None};
 ghost use Rattle.std.specs.Prelude.{false, ℕ, length, IfOk, IfErr, IfNone, IfSome, IsOk, IsOkUnless};
-ghost use Rattle.std.specs.Prelude.{[], List, OnErr, OnOk, nat_le};
+ghost use Rattle.std.specs.Prelude.{[], IsTrue, List, OnErr, OnOk, nat_le};
 ghost use Rattle.std.specs.Option.{option_map};
 ghost use Rattle.at_base.specs.Spelling.{bytes_of};
 ghost use Rattle.at_base.specs.declared.error.What.TheVariants.{Transaction as Missing};
@@ -186,6 +186,13 @@ impl Requester {
         ensures next { self.new.next ≡ self.old.next }
     {
         step_all(&mut self.table, Step::Tick);
+    }
+
+    /// Whether no transaction is open, so that no request is ever due. Allocates nothing.
+    pub fn is_idle(&self) -> bool
+        ensures { IsTrue result → repeats self.now.slots ≡ [] }
+    {
+        self.table.is_empty()
     }
 
     /// The requests that the next tick makes due, by rising IDs of their transactions. Error:

@@ -1,5 +1,5 @@
 -- The first element of a list that passes, found by a scan.
-use Rattle.std.proofs.Common.{◌≡◌, ℕ, ◌<◌, ◌≤◌, inl, inr, Bool, false, List, Option, Some, None, length, get_or, refl, sym, ap, ◌∙◌, subst}
+use Rattle.std.proofs.Common.{◌≡◌, ℕ, ◌<◌, ◌≤◌, inl, inr, Bool, false, List, Some, length, get_or, sym, ap, ◌∙◌, subst}
 use Rattle.std.proofs.Common.{slice_get}
 use Rattle.std.proofs.lemmas.Option.{slice_get_past, slice_get-get_or}
 use Rattle.std.proofs.lemmas.Bool.{cases_lt}
@@ -14,23 +14,12 @@ on_some xs k x test b at t = ap (λ o. on o test) at ∙ t
 pub on_past : {X : Type 0} (xs : List X) (k : ℕ) (test : X → Bool) → length xs ≤ k → on (slice_get xs k) test ≡ false
 on_past xs k test past = ap (λ o. on o test) (slice_get_past xs k past)
 
--- a test that always fails fails for each element
-pub on_never : {X : Type 0} (o : Option X) (test : X → Bool) → ((x : X) → test x ≡ false) → on o test ≡ false
-on_never None test never = refl
-on_never (Some x) test never = never x
-
 -- the test of a part of a router, or of a similar element
 pub part_at : {X Y : Type 0} (xs : List X) (r : ℕ) (x : X) (parts : X → List Y) (k : ℕ) (y : Y) (test : X → Y → Bool) (b : Bool)
     → slice_get xs r ≡ Some x → slice_get (parts x) k ≡ Some y → test x y ≡ b
     → on (slice_get xs r) (λ x. on (slice_get (parts x) k) (test x)) ≡ b
 part_at xs r x parts k y test b at there t =
     on_some xs r x (λ x. on (slice_get (parts x) k) (test x)) b at (on_some (parts x) k y (test x) b there t)
-
--- past the last part, no test passes
-pub part_past : {X Y : Type 0} (xs : List X) (r : ℕ) (x : X) (parts : X → List Y) (k : ℕ) (test : X → Y → Bool) → slice_get xs r ≡ Some x
-    → length (parts x) ≤ k → on (slice_get xs r) (λ x. on (slice_get (parts x) k) (test x)) ≡ false
-part_past xs r x parts k test at past =
-    on_some xs r x (λ x. on (slice_get (parts x) k) (test x)) false at (on_past (parts x) k (test x) past)
 
 -- the element of a loop over ys, which is xs, is the one with its index
 pub item_at : {X : Type 0} (xs ys : List X) (k : ℕ) (x : X) → ys ≡ xs → k < length ys → x ≡ get_or ys k x → slice_get xs k ≡ Some x

@@ -2,15 +2,13 @@
 use Rattle.std.proofs.Common.{◌≡◌, ℕ, zero, suc, ◌<◌, ◌≤◌, inl, inr, Bool, true, false, cond, not, ◌&&◌, ◌||◌, List, [], ◌∷◌, Option}
 use Rattle.std.proofs.Common.{Some, None, length, slice_get, find, option_map, refl, sym, ap, ◌∙◌, arith}
 use Rattle.std.proofs.lemmas.Bool.{cases_lt}
-use Rattle.at_base.specs.declared.error.Place.{Place}
 use Rattle.at_base.specs.declared.error.Place.TheVariants as place
 use Rattle.table_image.specs.Internet.{Internet}
 use Rattle.table_image.specs.declared.cable.Cable.{Cable}
 use Rattle.table_image.specs.declared.zone_list.ZoneList.{ZoneList}
 use Rattle.table_image.specs.declared.router.Router.{Router}
 use Rattle.audit.specs.Places.{on, index_of}
-use Rattle.audit.specs.Verdicts.{IsBefore}
-use Rattle.audit.specs.Firsts.{FirstNumber, FirstPlace}
+use Rattle.audit.specs.Firsts.{FirstPlace}
 use Rattle.audit.specs.Rules.{c8}
 use Rattle.audit.specs.ZoneLists.{has_double, same_zones, is_list_for, bad_list, lacks_list}
 use Rattle.audit.proofs.Firsts.{on_past, part_at}
@@ -82,49 +80,6 @@ good_list i s k router l at there kept =
 -- no place of router r breaks the rule
 abbrev pub KeepsLists : Internet → ℕ → Type 0
 KeepsLists i r = (k : ℕ) → (c8 i (place.List (suc r) (suc k)) ≡ false) × (c8 i (place.Missing (suc r) (suc k)) ≡ false)
-
--- k is the first list of router r that breaks the rule, and no earlier router does
-pub first_list_place : (i : Internet) (r k : ℕ) → ((s : ℕ) → s < r → KeepsLists i s)
-    → FirstNumber (λ k. c8 i (place.List (suc r) (suc k))) (Some k)
-    → FirstPlace (c8 i) (Some (place.List (suc r) (suc k)))
-first_list_place i r k earlier here = (here.0, before)
-  where
-    before : (q : Place) → IsBefore q (place.List (suc r) (suc k)) → c8 i q ≡ false
-    before (place.List zero l) h = refl
-    before (place.List (suc s) zero) h = refl
-    before (place.List (suc s) (suc l)) (inl lt) = (earlier s (omega arith) l).0
-    before (place.List (suc s) (suc l)) (inr w) = ap (λ n. c8 i (place.List n (suc l))) w.0 ∙ here.1 l (omega (arith, w.1))
-    before (place.Missing zero l) h = refl
-    before (place.Missing (suc s) zero) h = refl
-    before (place.Missing (suc s) (suc l)) h = (earlier s (omega (arith, h)) l).1
-    before (place.Row s l) h = refl
-    before (place.Cable l) h = refl
-    before (place.Port s l) h = refl
-    before (place.Node l) h = refl
-
--- k is the first cable without a list that breaks the rule at router r; no list of r breaks it, and no earlier router
--- does
-pub first_lack_place : (i : Internet) (r k : ℕ) → ((s : ℕ) → s < r → KeepsLists i s)
-    → ((l : ℕ) → c8 i (place.List (suc r) (suc l)) ≡ false) → FirstNumber (λ k. c8 i (place.Missing (suc r) (suc k))) (Some k)
-    → FirstPlace (c8 i) (Some (place.Missing (suc r) (suc k)))
-first_lack_place i r k earlier lists here = (here.0, before)
-  where
-    before : (q : Place) → IsBefore q (place.Missing (suc r) (suc k)) → c8 i q ≡ false
-    before (place.List zero l) h = refl
-    before (place.List (suc s) zero) h = refl
-    before (place.List (suc s) (suc l)) h =
-        elim (cases_lt s r) [
-          | inl lt ↦ (earlier s lt l).0
-          | inr ge ↦ let same : s ≡ r = omega (arith, h) in ap (λ n. c8 i (place.List (suc n) (suc l))) same ∙ lists l
-        ]
-    before (place.Missing zero l) h = refl
-    before (place.Missing (suc s) zero) h = refl
-    before (place.Missing (suc s) (suc l)) (inl lt) = (earlier s (omega arith) l).1
-    before (place.Missing (suc s) (suc l)) (inr w) = ap (λ n. c8 i (place.Missing n (suc l))) w.0 ∙ here.1 l (omega (arith, w.1))
-    before (place.Row s l) h = refl
-    before (place.Cable l) h = refl
-    before (place.Port s l) h = refl
-    before (place.Node l) h = refl
 
 -- no router breaks the rule, where n is past the last one
 pub no_bad_list : (i : Internet) (n : ℕ) → length i.routers ≤ n → ((s : ℕ) → s < n → KeepsLists i s) → FirstPlace (c8 i) None

@@ -41,9 +41,6 @@ is_between_when a b n low high = grind (arith, nat_tests)
 pub for_is : (row : Row) (c : Cable) → is_for row c ≡ true → (row.start ≡ c.start) × (row.end ≡ c.end)
 for_is row c e = (grind (arith, nat_tests), grind (arith, nat_tests))
 
-pub is_for_when : (row : Row) (c : Cable) → row.start ≡ c.start → row.end ≡ c.end → is_for row c ≡ true
-is_for_when row c e f = grind (arith, nat_tests)
-
 pub same_bool : (a b : Bool) → (a ≡ true → b ≡ true) → (b ≡ true → a ≡ true) → a ≡ b
 same_bool true b f g = sym (f refl)
 same_bool false true f g = g refl

@@ -14,10 +14,6 @@ not_both a b h = grind arith
 after_both : (a b c : ℕ × ℕ) → is_before a b ≡ true → is_before c b ≡ false → is_before a c ≡ true
 after_both a b c h g = grind arith
 
--- a not after b, and b not after c
-pub not_after : (a b c : ℕ × ℕ) → is_before b a ≡ false → is_before c b ≡ false → is_before c a ≡ false
-not_after a b c h g = grind arith
-
 -- a not after b, and b before c
 pub before_more : (a b c : ℕ × ℕ) → is_before b a ≡ false → is_before b c ≡ true → is_before a c ≡ true
 before_more a b c h g = grind arith

@@ -262,13 +262,6 @@ once_front es fs once = λ stamp.
     let le = once stamp in
     omega (arith, sum, le)
 
--- where no two frames have the same stamp, none of the last entries do
-pub once_back : (es fs : List Entry) → ArePutOnce (es ++ fs) → ArePutOnce fs
-once_back es fs once = λ stamp.
-    let sum = count-append (has_put stamp) es fs in
-    let le = once stamp in
-    omega (arith, sum, le)
-
 -- where no two frames have the same stamp, one that the first entries put is not put by the last ones
 pub once_apart : (stamp : ℕ) (es fs : List Entry) → ArePutOnce (es ++ fs) → list_any (has_put stamp) es ≡ true
     → list_any (has_put stamp) fs ≡ false

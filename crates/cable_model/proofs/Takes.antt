@@ -1,6 +1,6 @@
 -- The log after a frame was taken or a datagram sent.
 use Rattle.std.proofs.Common.{◌≡◌, ◌⊎◌, inl, inr, ℕ, zero, suc, ◌+◌, ◌-◌, ◌*◌, ◌^◌, ◌≤◌, ◌<◌, Bool, true, false, not, ◌||◌, ◌==◌}
-use Rattle.std.proofs.Common.{List, [], ◌∷◌, ◌++◌, length, map, slice_get, get_or, Contains, Some, vec_len, vec_capacity}
+use Rattle.std.proofs.Common.{List, [], ◌∷◌, ◌++◌, length, map, slice_get, get_or, Contains, Some, vec_len}
 use Rattle.std.proofs.Common.{refl, arith, sym, ap, ◌∙◌, subst}
 use Rattle.std.specs.List.{list_any}
 use Rattle.std.proofs.lemmas.List.{length-map}
@@ -8,6 +8,7 @@ use Rattle.std.proofs.lemmas.Option.{slice_get-get_or}
 use Rattle.std.proofs.Math.Nat.{add-mul}
 use Rattle.cable_model.proofs.Finds.{contains_at}
 use Rattle.cable_model.proofs.Legs.{needs}
+use Rattle.cable_model.proofs.Steps.{same_kept}
 use Rattle.cable_model.specs.Books.{Grows, HasHeldRoom, HasRoom, IsBook, IsDue, IsHeldLine, IsKept, IsSame, IsSpare, Settles, Uses, held}
 use Rattle.cable_model.specs.Books.{said, seat_at}
 use Rattle.cable_model.specs.Holdings.{has_number, is_open, still_held}
@@ -56,6 +57,12 @@ same_spare seats limit old new spare same s = λ some.
       due = omega (arith, h.due, same.due_room, due);
       within = omega (arith, h.within, lines, old.lines.ok.0, new.lines.ok.0);
     }
+
+-- what making room leaves of the invariant of cables
+pub roomy : {seats : List Seat} {limit : ℕ} {rooms : Rooms} {spare : ℕ} {old new : Log} → IsSame old new
+    → IsKept seats limit old × AreRooms rooms × IsSpare seats limit old spare
+    → IsKept seats limit new × AreRooms rooms × IsSpare seats limit new spare
+roomy same (kept, rooms, spare) = (same_kept _ _ _ _ same kept, rooms, same_spare _ _ _ _ _ same spare)
 
 -- an element that passes is in the list
 any_there : {X : Type 0} (t : X → Bool) (xs : List X) (k : ℕ) (x : X) → slice_get xs k ≡ Some x → t x ≡ true → list_any t xs ≡ true
@@ -340,22 +347,4 @@ take_spare rooms are seats limit mid new room within one u =
       kept = omega (arith, room.kept, u.kept, u.kept_room);
       due = omega (arith, room.due, u.due, u.due_room);
       within = omega (arith, within, is.lines, is.pairs, one);
-    }
-
--- the room that is left after one of the further entries
-pub spare_left : (seats : List Seat) (limit : ℕ) (old new : Log) (spare left : ℕ) → IsSpare seats limit old spare → left + 1 ≡ spare
-    → vec_len new.lines ≡ vec_len old.lines + 1 → vec_capacity new.lines ≡ vec_capacity old.lines → new.kept ≡ old.kept
-    → length new.due.dues ≤ length old.due.dues + widest seats → old.due.room ≤ new.due.room → IsSpare seats limit new left
-spare_left seats limit old new spare left s e one room kept few due = λ some.
-    let h = s (omega (arith, e)) in
-    let n = widest seats in
-    let whole = ap (λ k. k * n) e in
-    let parts = add-mul left 1 n in
-    let items = ap (λ k. length k.items) kept in
-    let shelf = ap (λ k. k.room) kept in
-    record {
-      lines = omega (arith, h.lines, one, room, e);
-      kept = omega (arith, h.kept, items, shelf);
-      due = omega (arith, h.due, few, due, whole, parts);
-      within = omega (arith, h.within, one, e);
     }

@@ -5,6 +5,7 @@ use Rattle.cable_model.specs.declared.entry.Entry.{Entry as Line}
 use Rattle.cable_model.specs.declared.entry.Entry.TheVariants as line
 use Rattle.cable_model.specs.declared.room.Rooms.{Rooms}
 use Rattle.cable_model.specs.declared.seat.Seat.{Seat}
+use Rattle.cable_model.specs.Pending.{Pair, pending}
 use Rattle.cable_model.specs.Transcript.{Entry, Sent, Put, Took, Reached, Dropped, Lost, Hold}
 
 -- The state of cables: the seats on them, the greatest number of entries, the room that calls need, the entries, the
@@ -40,6 +41,10 @@ entry_at kept (line.Hold stamp cable station next n) =
 -- the transcript of cables
 abbrev pub transcript : Cabling → List Entry
 transcript c = map (entry_at c.kept) c.lines
+
+-- the pairs that are pending on cables
+abbrev pub pending_on : Cabling → List Pair
+pending_on c = pending c.seats (transcript c)
 
 -- Entries were added to the transcript, and nothing else changed: the numbers of stored bytes still name the same
 -- bytes.

@@ -3,10 +3,10 @@ use Rattle.std.specs.Prelude.{◌≡◌, ℕ, suc, Bool, true, false, cond, List
 use Rattle.at_base.specs.Multicast.{all_hw}
 use Rattle.at_base.specs.declared.address.Addr.{Addr}
 use Rattle.cable_model.specs.Holdings.{is_open}
-use Rattle.cable_model.specs.Logs.{Adds, Cabling, transcript}
+use Rattle.cable_model.specs.Logs.{Adds, Cabling, transcript, pending_on}
 use Rattle.cable_model.specs.Outcomes.{Held, Places, Sender, all_entries, all_stored, entries_of, framed, heard_by, held_next, held_of}
 use Rattle.cable_model.specs.Outcomes.{sent_entries, stored_of}
-use Rattle.cable_model.specs.Pending.{Pair, pending}
+use Rattle.cable_model.specs.Pending.{Pair}
 use Rattle.cable_model.specs.Transcript.{Entry, Hold, Lost, Took, next_stamp}
 use Rattle.cable_model.specs.declared.resolve.Found.{Found}
 use Rattle.cable_model.specs.declared.resolve.Found.TheVariants.{At, Nobody, Later}
@@ -91,7 +91,7 @@ GoOut {X} places Holds seats station t (o ∷ os) x es ks y =
 pub record IsTaken {X : Type 0} (places : X → Places) (Holds : X → ℕ → Addr → ℕ → HeldBy → X → Type 0) (ports : ℕ)
     (old new : Cabling) (stamp station : ℕ) (Hears : Hearing → List Output → Type 0) (x y : X) : Type 0 where
   pub pair : Pair
-  pub was_pending : Contains (pending old.seats (transcript old)) pair
+  pub was_pending : Contains (pending_on old) pair
   pub of_stamp : pair.frame.stamp ≡ stamp
   pub of_station : pair.seat.station ≡ station
   pub added : List Output
@@ -129,7 +129,7 @@ IsAnswering places = (cable : ℕ) (a : Addr) → is_later (places.finds cable a
 pub record IsTakenAtOnce (places : Places) (ports : ℕ) (old new : Cabling) (stamp station : ℕ)
     (Hears : Hearing → List Output → Type 0) : Type 0 where
   pub pair : Pair
-  pub was_pending : Contains (pending old.seats (transcript old)) pair
+  pub was_pending : Contains (pending_on old) pair
   pub of_stamp : pair.frame.stamp ≡ stamp
   pub of_station : pair.seat.station ≡ station
   pub added : List Output

@@ -7,11 +7,10 @@ ghost use Rattle.std.specs.List.{list_all, list_any};
 ghost use Rattle.at_base.specs.declared.error.What.TheVariants.{Cable, Station};
 ghost use Rattle.cable_model.specs.Books.{HasOneSeat};
 ghost use Rattle.cable_model.specs.Logs as logs_spec;
-ghost use Rattle.cable_model.specs.Logs.{Adds, bytes_at};
+ghost use Rattle.cable_model.specs.Logs.{Adds, bytes_at, pending_on};
 ghost use Rattle.cable_model.specs.Outcomes.{AreSeatsOf, IsFrame, IsHeard, IsLeast, Places, framed, has_cable, has_stamp};
 ghost use Rattle.cable_model.specs.Outcomes.{is_named, is_seated};
 ghost use Rattle.cable_model.specs.Outgoing.{IsAnswering, IsSent, IsTaken};
-ghost use Rattle.cable_model.specs.Pending as pending_spec;
 ghost use Rattle.cable_model.specs.Rooms.{AreRooms, held_rooms, known_rooms};
 ghost use Rattle.cable_model.specs.Transcript.{AreNumbered, ArePutOnce, Lost, is_plain, next_stamp};
 ghost use Rattle.station.specs.Hearing.{hearing};
@@ -119,7 +118,7 @@ impl Cables {
     /// Whether the frame with this stamp is pending for the station. Allocates nothing.
     pub fn pending(&self, stamp: u32, station: u16) -> bool
         ensures { result ≡ list_any (is_named stamp station)
-            (pending_spec.pending self.now.seats (logs_spec.transcript self.now)) }
+            (pending_on self.now) }
     {
         ending::find_pair(&self.log, stamp, station).is_some()
     }
@@ -127,10 +126,10 @@ impl Cables {
     /// The frame with this stamp as the station receives it, if it is pending for the station.
     /// Allocates nothing.
     pub fn heard(&self, stamp: u32, station: u16) -> Option<Heard<'_>>
-        ensures some { IfSome result (λ h. IsHeard (pending_spec.pending self.now.seats (logs_spec.transcript self.now))
+        ensures some { IfSome result (λ h. IsHeard (pending_on self.now)
             stamp station (hearing h)) }
         ensures none { IfNone result (list_any (is_named stamp station)
-            (pending_spec.pending self.now.seats (logs_spec.transcript self.now)) ≡ false) }
+            (pending_on self.now) ≡ false) }
     {
         match ending::find_pair(&self.log, stamp, station) {
             Some(due) => Some(taking::heard_of(&self.log, self.seats.as_slice(), due)),
@@ -140,10 +139,10 @@ impl Cables {
 
     /// The frame with this stamp, if it is pending for any station. Allocates nothing.
     pub fn frame(&self, stamp: u32) -> Option<PendingFrame<'_>>
-        ensures some { IfSome result (λ f. IsFrame (pending_spec.pending self.now.seats (logs_spec.transcript self.now))
+        ensures some { IfSome result (λ f. IsFrame (pending_on self.now)
             stamp f.cable f.kind f.bytes.now) }
         ensures none { IfNone result (list_any (has_stamp stamp)
-            (pending_spec.pending self.now.seats (logs_spec.transcript self.now)) ≡ false) }
+            (pending_on self.now) ≡ false) }
     {
         match ending::find_frame(&self.log, stamp) {
             Some(due) => Some(taking::frame_of(&self.log, due)),
@@ -155,15 +154,15 @@ impl Cables {
     /// Allocates nothing.
     pub fn first(&self) -> Option<(u32, u16)>
         ensures some { IfSome result (λ pair.
-            IsLeast (pending_spec.pending self.now.seats (logs_spec.transcript self.now)) pair.0 pair.1) }
-        ensures none { IfNone result (pending_spec.pending self.now.seats (logs_spec.transcript self.now) ≡ []) }
+            IsLeast (pending_on self.now) pair.0 pair.1) }
+        ensures none { IfNone result (pending_on self.now ≡ []) }
     {
         earliest::first_pair(&self.log)
     }
 
     /// The number of pending pairs of a frame and a station. Allocates nothing.
     pub fn pending_count(&self) -> usize
-        ensures { result ≡ length (pending_spec.pending self.now.seats (logs_spec.transcript self.now)) }
+        ensures { result ≡ length (pending_on self.now) }
     {
         self.log.due.len()
     }
@@ -304,9 +303,9 @@ impl Cables {
             self.old self.new stamp station (λ h added. S.hears taker.old h added taker.new) resolver.old resolver.new) }
         ensures ports_stay { S.ports_of taker.new ≡ S.ports_of taker.old }
         ensures not_pending { (result ≡ Err Error.NotPending)
-            ↔ (list_any (is_named stamp station) (pending_spec.pending self.old.seats (logs_spec.transcript self.old)) ≡ false) }
+            ↔ (list_any (is_named stamp station) (pending_on self.old) ≡ false) }
         ensures full { (result ≡ Err Error.Full)
-            ↔ ((list_any (is_named stamp station) (pending_spec.pending self.old.seats (logs_spec.transcript self.old)) ≡ true)
+            ↔ ((list_any (is_named stamp station) (pending_on self.old) ≡ true)
             × (self.old.limit < length self.old.lines + self.old.rooms.take.lines)) }
         ensures most { (result ≡ Err Error.Full)
             → self.old.limit < length self.old.lines + held_rooms.take.lines }
@@ -361,9 +360,9 @@ impl Cables {
         ensures ok { OnOk result (Adds self.old self.new (Lost stamp ∷ [])) }
         ensures spent { OnOk result (self.new.spare ≡ 0) }
         ensures not_pending { (result ≡ Err Error.NotPending)
-            ↔ (list_any (has_stamp stamp) (pending_spec.pending self.old.seats (logs_spec.transcript self.old)) ≡ false) }
+            ↔ (list_any (has_stamp stamp) (pending_on self.old) ≡ false) }
         ensures full { (result ≡ Err Error.Full)
-            ↔ ((list_any (has_stamp stamp) (pending_spec.pending self.old.seats (logs_spec.transcript self.old)) ≡ true)
+            ↔ ((list_any (has_stamp stamp) (pending_on self.old) ≡ true)
             × (self.old.limit < length self.old.lines + 1)) }
         ensures refused { IfErr result (λ e. (e ≡ Error.NotPending) ⊎ (e ≡ Error.Full)
             ⊎ (e ≡ Error.Memory)) }

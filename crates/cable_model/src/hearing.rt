@@ -1,20 +1,12 @@
 //! The stations that receive a frame.
 
 ghost use Rattle.std.specs.Prelude.{◌≡◌};
-ghost use Rattle.at_base.specs.Text.{same_bytes};
 ghost use Rattle.cable_model.specs.Outcomes as spec;
 ghost use Rattle.cable_model.specs.Outcomes.{is_for_as};
 
 use crate::seat::Seat;
 use at_base::Hw;
 use station::Link;
-
-/// Whether the hardware addresses are equal.
-pub fn same_hw(a: &Hw, b: &Hw) -> bool
-    ensures { result ≡ same_bytes a.now.0 b.now.0 }
-{
-    a == b
-}
 
 /// The kind of address that a frame is sent to, as its receivers see it.
 pub fn link_of(to: &Hw) -> Link
@@ -36,6 +28,6 @@ pub fn is_for(seat: &Seat, sender: u16, to: &Hw, link: Link) -> bool
     match link {
         Link::All => seat.station != sender,
         Link::Group(group) => seat.station != sender && seat.group == Some(group),
-        Link::Own => same_hw(&seat.hw, to),
+        Link::Own => seat.hw.same(to),
     }
 }

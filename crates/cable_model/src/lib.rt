@@ -29,7 +29,7 @@ mod waiting;
 pub use cables::{Cables, MAX_FRAME};
 pub use entry::{Entry, How};
 pub use kept::PACKET_LEN;
-pub use laws::taking_ends_one_pair;
+pub use laws::{held_rooms_are_enough, known_rooms_are_enough, taking_ends_one_pair};
 pub use resolve::{Found, HeldBy, Resolve};
 pub use room::{Room, Rooms};
 pub use seat::Seat;

@@ -102,8 +102,6 @@ pub fn make_room(log: &mut Log, limit: u32, room: Room, seats: usize) -> Result<
     ensures refused { IfErr result (λ e. (e ≡ Error.Full) ⊎ (e ≡ Error.Memory)) }
     ensures within { OnOk result (vec_len log.new.lines + room.lines ≤ limit) }
     ensures same { IsSame log.old log.new }
-    ensures kept { (seats : List SeatValue) → IsKept seats limit log.old
-        → IsKept seats limit log.new }
 {
     if (limit as usize) < log.lines.len() + room.lines {
         return Err(Error::Full);
@@ -128,8 +126,6 @@ pub fn make_spare(log: &mut Log, limit: u32, more: u32, seats: usize) -> Result<
     ensures full { (result ≡ Err Error.Full) ↔ (limit < length log.old.lines.items + more) }
     ensures refused { IfErr result (λ e. (e ≡ Error.Full) ⊎ (e ≡ Error.Memory)) }
     ensures same { IsSame log.old log.new }
-    ensures kept { (seats : List SeatValue) → IsKept seats limit log.old
-        → IsKept seats limit log.new }
 {
     // The number of bytes tells the prover that there is room for them.
     let _kept = log.kept.len();

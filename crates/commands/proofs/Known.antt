@@ -2,14 +2,9 @@
 use Rattle.std.proofs.Common.{◌≡◌, ◌⊎◌, ℕ, List, Option, Some, None, Result, Ok, Err, IfErr, IfOk, IfSome, ap, inl, inr, subst, sym, ◌∙◌}
 use Rattle.std.specs.Prelude.{IsErrAnd}
 use Rattle.at_base.specs.declared.error.Error.{Error}
-use Rattle.at_base.specs.declared.error.Error.TheVariants.{BadScript, Memory, ReadFault}
+use Rattle.at_base.specs.declared.error.Error.TheVariants.{BadScript, Memory, ReadFault, WriteFault}
 use Rattle.script.specs.Scripts.{IsBadAt, IsScript}
 use Rattle.script.specs.declared.step.Step.{Step}
-
--- A consequence of an error that exists.
-pub err_and : {A E : Type 0} {P Q : E → Type 0} (r : Result A E) → IsErrAnd r P → ((e : E) → P e → Q e) → IsErrAnd r Q
-err_and (Ok a) p f = absurd p
-err_and (Err e) p f = f e p
 
 -- A property of the bytes that were read is a property of the reader's bytes.
 pub of_read : (P : List ℕ → Type 0) (told : Option (List ℕ)) (bytes : List ℕ) → IfSome told (λ bs. bytes ≡ bs) → P bytes
@@ -52,3 +47,19 @@ map_some P Q (Some x) p f = f x p
 pub any_some : {X : Type 0} (Q : X → Type 0) (told : Option X) → ((x : X) → Q x) → IfSome told Q
 any_some Q None f = tt
 any_some Q (Some x) f = f x
+
+-- What a run that prints may be refused for.
+pub printed_only : {A : Type 0} (X : Type 0) (r : Result A Error) → IfErr r (λ e. (e ≡ Memory) ⊎ ((e ≡ WriteFault) × X))
+    → IfErr r (λ e. (e ≡ Memory) ⊎ (e ≡ ReadFault) ⊎ (e ≡ WriteFault))
+printed_only X (Ok a) h = tt
+printed_only X (Err e) (inl memory) = inl memory
+printed_only X (Err e) (inr (write, fault)) = inr (inr write)
+
+-- What reading may be refused for is among what a run may be.
+pub read_only : (e : Error) → (e ≡ Memory) ⊎ (e ≡ ReadFault) → (e ≡ Memory) ⊎ (e ≡ ReadFault) ⊎ (e ≡ WriteFault)
+read_only e (inl memory) = inl memory
+read_only e (inr read) = inr (inl read)
+
+pub unread_line : (n : ℕ) (e : Error) → (e ≡ Memory) ⊎ (e ≡ ReadFault) → (e ≡ BadScript n) ⊎ (e ≡ ReadFault) ⊎ (e ≡ Memory)
+unread_line n e (inl memory) = inr (inr memory)
+unread_line n e (inr read) = inr (inl read)

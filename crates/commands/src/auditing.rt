@@ -1,17 +1,15 @@
 //! Audits the image in an input, and writes the line of the verdict.
 
-ghost use Rattle.std.specs.Prelude.{◌≡◌, ◌≢◌, ◌⊎◌, ◌∷◌, ◌++◌};
-ghost use Rattle.std.specs.Prelude.{[], IfOk, IfErr, IfSome, IsErrAnd};
-ghost use Rattle.std.specs.Prelude.{IsSome, IsSomeAnd, OnOk};
-ghost use Rattle.std.specs.Io.KnownBytes.{Appends, IsAtEnd};
+ghost use Rattle.std.specs.Prelude.{◌≡◌, ◌≢◌, ◌∷◌, ◌++◌};
+ghost use Rattle.std.specs.Prelude.{[], IfOk, IfErr, IfSome};
+ghost use Rattle.std.specs.Prelude.{IsSomeAnd};
+ghost use Rattle.std.specs.Io.KnownBytes.{Appends};
 ghost use Rattle.at_base.specs.Spelling.{Spells};
 ghost use Rattle.table_image.specs.Internet.{Internet};
 ghost use Rattle.table_image.specs.Spelling.{image_spelling};
-ghost use Rattle.table_image.specs.Reading.{IsFirstFlaw, refusal};
-ghost use Rattle.table_image.specs.declared.flaw.Flaw.{Flaw};
 ghost use Rattle.audit.specs.Verdicts.{Judges, is_yes, verdict_line};
 ghost use Rattle.audit.specs.declared.verdict.Verdict.{Verdict};
-ghost use Rattle.commands.specs.declared.input.TheConstants.{READS};
+ghost use Rattle.commands.specs.Streams.{Judged, Uses, Wrote};
 
 use crate::input::Input;
 use at_base::Error;
@@ -35,31 +33,12 @@ pub fn audit_file<R: Read, W: Write>(
         × Spells image_spelling bytes i × Judges i v × (yes ≡ is_yes v)
         × Appends (W.contents output.old.writer) (W.contents output.new.writer)
         (verdict_line v ++ 10 ∷ []))) }
-    // Bytes that spell no image have the error of their first flaw, or `ReadFault` or `Memory`.
-    ensures flaw { IfSome (R.remaining input.old.reader) (λ bytes.
-        (f : Flaw) → IsFirstFlaw bytes f → IsErrAnd result (λ e.
-        (e ≡ refusal bytes f) ⊎ (e ≡ Error.ReadFault) ⊎ (e ≡ Error.Memory))) }
-    // Bytes that spell an image have only errors of memory, the reader or the writer.
-    ensures spelled { IfSome (R.remaining input.old.reader) (λ bytes.
-        (i : Internet) → Spells image_spelling bytes i → IfErr result (λ e.
-        (e ≡ Error.Memory) ⊎ (e ≡ Error.ReadFault) ⊎ (e ≡ Error.WriteFault))) }
-    ensures read_fault { result ≡ Err Error.ReadFault
-        → (input.new.faults ≢ input.old.faults) ⊎ (input.new.reads ≡ READS) }
-    // If no read failed, the number of reads is at its limit.
-    ensures limit { result ≡ Err Error.ReadFault → input.new.faults ≡ input.old.faults
-        → input.new.reads ≡ READS }
-    ensures write_fault { result ≡ Err Error.WriteFault → output.new.faults ≢ output.old.faults }
+    ensures judged { Judged (R.remaining input.old.reader) result }
+    ensures uses { Uses (R.remaining input.new.reader) input.old.faults input.new.faults
+        input.new.reads input.new.fault result }
+    ensures wrote { Wrote output.old.faults output.new.faults result }
     // After an error other than `WriteFault`, nothing was written.
     ensures nothing_written { IfErr result (λ e. e ≢ Error.WriteFault → output.new ≡ output.old) }
-    // After Ok, the input was read to its end, and no read or write failed.
-    ensures end { OnOk result (IsAtEnd (R.remaining input.new.reader)) }
-    ensures reads_stay { OnOk result (input.new.faults ≡ input.old.faults) }
-    ensures writes_stay { OnOk result (output.new.faults ≡ output.old.faults) }
-    // The reason of a failed read is kept.
-    ensures reason { input.new.faults ≢ input.old.faults → IsSome input.new.fault }
-    // A failed read is reported as `ReadFault`.
-    ensures told { input.new.faults ≢ input.old.faults
-        → result ≡ Err Error.ReadFault }
     // Input that was read to its end is kept, whatever the result is.
     ensures kept { result ≢ Err Error.ReadFault → result ≢ Err Error.Memory
         → IsSomeAnd input.new.kept (λ v.

@@ -1,16 +1,17 @@
 //! Plays an internet file, and writes its lines and its image.
 
 ghost use Rattle.std.specs.Prelude.{◌≡◌, ◌≢◌, ◌⊎◌, ◌++◌, ℕ, Bool, List, [], Some};
-ghost use Rattle.std.specs.Prelude.{Err, IfOk, IfErr, IfSome, IsOkUnless};
-ghost use Rattle.std.specs.Prelude.{IsSome, IsSomeAnd, OnErr, OnOk};
-ghost use Rattle.std.specs.Io.KnownBytes.{Appends, IsAtEnd};
+ghost use Rattle.std.specs.Prelude.{Err, IfOk, IfErr, IfSome};
+ghost use Rattle.std.specs.Prelude.{IsSomeAnd, OnErr, OnOk};
+ghost use Rattle.std.specs.Io.KnownBytes.{Appends};
 ghost use Rattle.at_base.specs.Spelling.{Spells};
 ghost use Rattle.internet_file.specs.Files.{IsFile, IsFileRefused, Planned};
 ghost use Rattle.playing.specs.Lives.{Fills};
 ghost use Rattle.playing.specs.Plays.{IsPlay};
 ghost use Rattle.table_image.specs.Internet.{Internet};
 ghost use Rattle.table_image.specs.Spelling.{image_spelling};
-ghost use Rattle.commands.specs.declared.input.TheConstants.{READS};
+ghost use Rattle.commands.specs.Streams.{Hands, Uses, WroteImage};
+ghost use Rattle.text.specs.Writing.{Writes};
 
 use crate::input::Input;
 use at_base::Error;
@@ -34,9 +35,7 @@ fn write_bytes<W: Write>(output: &mut Output<W>, bytes: &[u8]) -> Result<(), Err
     ensures ok { OnOk result (Appends (W.contents output.old.writer) (W.contents output.new.writer)
         (output.old.text.items ++ bytes.now)) }
     ensures empty { OnOk result (output.new.text.items ≡ []) }
-    ensures fault { OnErr result (output.new.faults ≢ output.old.faults) }
-    ensures refused { IsOkUnless result Error.WriteFault }
-    ensures stays { OnOk result (output.new.faults ≡ output.old.faults) }
+    ensures writes { Writes output.old.faults output.new.faults result }
 {
     output.flush()?;
     match put(&mut output.writer, bytes) {
@@ -75,17 +74,9 @@ fn read_and_play<R: Read, P: Progress>(
     // The error is `Full` only if one of the plan's ticks has no room.
     ensures full { result ≡ Err Error.Full → IfSome (R.remaining input.old.reader) (λ text.
         (plan : Planned) × IsFile text plan × Fills plan) }
-    ensures read_fault { result ≡ Err Error.ReadFault
-        → (input.new.faults ≢ input.old.faults) ⊎ (input.new.reads ≡ READS) }
-    ensures limit { result ≡ Err Error.ReadFault → input.new.faults ≡ input.old.faults
-        → input.new.reads ≡ READS }
+    ensures uses { Uses (R.remaining input.new.reader) input.old.faults input.new.faults
+        input.new.reads input.new.fault result }
     ensures not_written { IfErr result (λ e. e ≢ Error.WriteFault) }
-    ensures end { OnOk result (IsAtEnd (R.remaining input.new.reader)) }
-    ensures stays { OnOk result (input.new.faults ≡ input.old.faults) }
-    ensures reason { input.new.faults ≢ input.old.faults → IsSome input.new.fault }
-    // A failed read is reported as `ReadFault`.
-    ensures told { input.new.faults ≢ input.old.faults
-        → result ≡ Err Error.ReadFault }
     // A text that was read to its end is kept if its play has an error.
     ensures kept { IfErr result (λ e. e ≢ Error.ReadFault → e ≢ Error.Memory
         → IsSomeAnd input.new.kept (λ v.
@@ -111,18 +102,10 @@ fn write_played<W: Write, I: Write>(
         (W.contents output.new.writer) (output.old.text.items ++ played.now.lines.items)) }
     ensures image { OnOk result (Appends (I.contents image.old.writer)
         (I.contents image.new.writer) (image.old.text.items ++ played.now.image.items)) }
-    ensures fault { OnErr result ((output.new.faults ≢ output.old.faults) ⊎ (image.new.faults ≢ image.old.faults)) }
-    // After an error, either the image's writer is untouched, or the writer of the lines hasn't
-    // failed.
-    ensures blamed { OnErr result ((image.new ≡ image.old)
-        ⊎ (output.new.faults ≡ output.old.faults)) }
-    ensures refused { IsOkUnless result Error.WriteFault }
-    ensures stays { OnOk result (output.new.faults ≡ output.old.faults) }
-    ensures image_stays { OnOk result (image.new.faults ≡ image.old.faults) }
-    // The image isn't written before all lines are.
-    ensures order { (image.new ≡ image.old)
-        ⊎ Appends (W.contents output.old.writer) (W.contents output.new.writer)
-        (output.old.text.items ++ played.now.lines.items) }
+    ensures hands { Hands (image.new ≡ image.old)
+        (Appends (W.contents output.old.writer) (W.contents output.new.writer)
+        (output.old.text.items ++ played.now.lines.items))
+        output.old.faults output.new.faults image.old.faults image.new.faults result }
 {
     match write_bytes(output, played.lines.as_slice()) {
         Ok(()) => write_bytes(image, played.image.as_slice()),
@@ -157,21 +140,13 @@ fn hand_over<R, W: Write, I: Write>(
         (W.contents output.new.writer) (output.old.text.items ++ played.lines.items)) }
     ensures image { OnOk result (Appends (I.contents image.old.writer)
         (I.contents image.new.writer) (image.old.text.items ++ played.image.items)) }
-    ensures fault { OnErr result ((output.new.faults ≢ output.old.faults) ⊎ (image.new.faults ≢ image.old.faults)) }
-    // After an error, either the image's writer is untouched, or the writer of the lines hasn't
-    // failed.
-    ensures blamed { OnErr result ((image.new ≡ image.old)
-        ⊎ (output.new.faults ≡ output.old.faults)) }
-    ensures refused { IsOkUnless result Error.WriteFault }
+    ensures hands { Hands (image.new ≡ image.old)
+        (Appends (W.contents output.old.writer) (W.contents output.new.writer)
+        (output.old.text.items ++ played.lines.items))
+        output.old.faults output.new.faults image.old.faults image.new.faults result }
     ensures reader { input.new.reader ≡ input.old.reader }
     ensures reads_stay { input.new.faults ≡ input.old.faults }
     ensures reason_stays { input.new.fault ≡ input.old.fault }
-    ensures stays { OnOk result (output.new.faults ≡ output.old.faults) }
-    ensures image_stays { OnOk result (image.new.faults ≡ image.old.faults) }
-    // The image isn't written before all lines are.
-    ensures order { (image.new ≡ image.old)
-        ⊎ Appends (W.contents output.old.writer) (W.contents output.new.writer)
-        (output.old.text.items ++ played.lines.items) }
     ensures kept { OnOk result (input.new.kept ≡ Some played.image) }
     ensures kept_image { OnOk result (IsSomeAnd input.new.kept (λ bytes.
         Appends (I.contents image.old.writer) (I.contents image.new.writer)
@@ -214,29 +189,10 @@ pub fn play_bytes<R: Read, W: Write, I: Write, P: Progress>(
     // The error is `Full` only if one of the plan's ticks has no room.
     ensures full { result ≡ Err Error.Full → IfSome (R.remaining input.old.reader) (λ text.
         (plan : Planned) × IsFile text plan × Fills plan) }
-    ensures read_fault { result ≡ Err Error.ReadFault
-        → (input.new.faults ≢ input.old.faults) ⊎ (input.new.reads ≡ READS) }
-    // If no read failed, the number of reads is at its limit.
-    ensures limit { result ≡ Err Error.ReadFault → input.new.faults ≡ input.old.faults
-        → input.new.reads ≡ READS }
-    ensures write_fault { result ≡ Err Error.WriteFault
-        → (output.new.faults ≢ output.old.faults) ⊎ (image.new.faults ≢ image.old.faults) }
-    // If the image can't be written, the writer of the lines hasn't failed.
-    ensures blamed { OnErr result ((image.new ≡ image.old)
-        ⊎ (output.new.faults ≡ output.old.faults)) }
-    // After an error other than `WriteFault`, nothing was written.
-    ensures nothing_written { IfErr result (λ e. e ≢ Error.WriteFault
-        → (output.new ≡ output.old) × (image.new ≡ image.old)) }
-    // After Ok, the input was read to its end, and no read or write failed.
-    ensures end { OnOk result (IsAtEnd (R.remaining input.new.reader)) }
-    ensures reads_stay { OnOk result (input.new.faults ≡ input.old.faults) }
-    ensures writes_stay { OnOk result (output.new.faults ≡ output.old.faults) }
-    ensures image_stays { OnOk result (image.new.faults ≡ image.old.faults) }
-    // The reason of a failed read is kept.
-    ensures reason { input.new.faults ≢ input.old.faults → IsSome input.new.fault }
-    // A failed read is reported as `ReadFault`.
-    ensures told { input.new.faults ≢ input.old.faults
-        → result ≡ Err Error.ReadFault }
+    ensures uses { Uses (R.remaining input.new.reader) input.old.faults input.new.faults
+        input.new.reads input.new.fault result }
+    ensures wrote { WroteImage (output.new ≡ output.old) (image.new ≡ image.old) output.old.faults
+        output.new.faults image.old.faults image.new.faults result }
     // The image isn't written before all lines of the play are.
     ensures order { (image.new ≡ image.old)
         ⊎ IfSome (R.remaining input.old.reader) (λ text.

@@ -1,8 +1,7 @@
 //! The sources of a trace: an image and a script, each read to its end.
 
 ghost use Rattle.std.specs.Prelude.{◌≡◌, ◌≢◌, ◌⊎◌, ℕ, List};
-ghost use Rattle.std.specs.Prelude.{IfOk, IfErr, IfSome, IsErrAnd, IsSome, IsSomeAnd, OnOk};
-ghost use Rattle.std.specs.Io.KnownBytes.{IsAtEnd};
+ghost use Rattle.std.specs.Prelude.{IfOk, IfErr, IfSome, IsErrAnd, IsSomeAnd, OnOk};
 ghost use Rattle.at_base.specs.Spelling.{Spells};
 ghost use Rattle.script.specs.Scripts.{IsBadAt, IsScript};
 ghost use Rattle.script.specs.declared.step.Step.{Step as StepValue};
@@ -10,7 +9,7 @@ ghost use Rattle.table_image.specs.Internet.{Internet};
 ghost use Rattle.table_image.specs.Reading.{IsFirstFlaw, refusal};
 ghost use Rattle.table_image.specs.Spelling.{image_spelling};
 ghost use Rattle.table_image.specs.declared.flaw.Flaw.{Flaw};
-ghost use Rattle.commands.specs.declared.input.TheConstants.{READS};
+ghost use Rattle.commands.specs.Streams.{Uses};
 
 use crate::input::Input;
 use at_base::Error;
@@ -32,14 +31,8 @@ pub fn read_image<R: Read>(alloc: Global, input: &mut Input<R>) -> Result<Image,
         (i : Internet) → Spells image_spelling bytes i → IfErr result (λ e.
         (e ≡ Error.Memory) ⊎ (e ≡ Error.ReadFault))) }
     ensures refused { IfErr result (λ e. e ≢ Error.WriteFault) }
-    ensures read_fault { result ≡ Err Error.ReadFault
-        → (input.new.faults ≢ input.old.faults) ⊎ (input.new.reads ≡ READS) }
-    ensures end { OnOk result (IsAtEnd (R.remaining input.new.reader)) }
-    ensures stays { OnOk result (input.new.faults ≡ input.old.faults) }
-    ensures reason { input.new.faults ≢ input.old.faults → IsSome input.new.fault }
-    // A failed read is reported as `ReadFault`.
-    ensures told { input.new.faults ≢ input.old.faults
-        → result ≡ Err Error.ReadFault }
+    ensures uses { Uses (R.remaining input.new.reader) input.old.faults input.new.faults
+        input.new.reads input.new.fault result }
     ensures kept_image { OnOk result (IsSomeAnd input.new.kept (λ v.
         IfSome (R.remaining input.old.reader) (λ bytes. v.items ≡ bytes))) }
     // Input that was read to its end is kept, whatever the result is.
@@ -66,14 +59,8 @@ pub fn read_steps<R: Read>(alloc: Global, input: &mut Input<R>) -> Result<Vec<St
         (steps : List StepValue) → IsScript text steps → IfErr result (λ e.
         (e ≡ Error.Memory) ⊎ (e ≡ Error.ReadFault))) }
     ensures refused { IfErr result (λ e. e ≢ Error.WriteFault) }
-    ensures read_fault { result ≡ Err Error.ReadFault
-        → (input.new.faults ≢ input.old.faults) ⊎ (input.new.reads ≡ READS) }
-    ensures end { OnOk result (IsAtEnd (R.remaining input.new.reader)) }
-    ensures stays { OnOk result (input.new.faults ≡ input.old.faults) }
-    ensures reason { input.new.faults ≢ input.old.faults → IsSome input.new.fault }
-    // A failed read is reported as `ReadFault`.
-    ensures told { input.new.faults ≢ input.old.faults
-        → result ≡ Err Error.ReadFault }
+    ensures uses { Uses (R.remaining input.new.reader) input.old.faults input.new.faults
+        input.new.reads input.new.fault result }
 {
     // Only the prover needs this call: a script has no bad line.
     scripts_have_no_bad_line();

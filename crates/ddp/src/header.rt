@@ -5,9 +5,6 @@ use at_base::Addr;
 /// The length of a long header, in bytes.
 pub const HEADER_LEN: usize = 13;
 
-/// The greatest number of bytes of data in a datagram.
-pub const MAX_DATA: usize = 586;
-
 /// The greatest length of a datagram, in bytes, header and data.
 pub const MAX_LEN: usize = 599;
 

@@ -7,7 +7,7 @@ mod laws;
 mod view;
 mod writer;
 
-pub use header::{HEADER_LEN, Header, MAX_DATA, MAX_LEN, kind, socket};
+pub use header::{HEADER_LEN, Header, MAX_LEN, kind, socket};
 pub use hops::set_hops;
 pub use laws::{
     hops_leave_the_body, padding_leaves_the_body, set_hops_are_read, set_hops_are_spelled,

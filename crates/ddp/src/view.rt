@@ -6,6 +6,7 @@ ghost use Rattle.ddp.specs.Datagram.{datagram, length_of, checksum_of};
 ghost use Rattle.at_base.specs.Packets.{packets};
 ghost use Rattle.at_base.specs.Spelling.{Spells};
 ghost use Rattle.ddp.specs.InPlace.{extent};
+ghost use Rattle.at_base.specs.Limits.{max_data};
 
 use crate::header::{HEADER_LEN, MAX_LEN};
 use at_base::{Addr, Error, sum};
@@ -131,7 +132,7 @@ impl<'a> View<'a> {
     /// The data, in place: 0 to 586 bytes.
     pub fn payload(&self) -> &'a [u8]
         ensures value { result.now ≡ self.now.payload }
-        ensures short { length self.now.payload ≤ 586 }
+        ensures short { length self.now.payload ≤ max_data }
     {
         &self.bytes[HEADER_LEN..]
     }

@@ -6,15 +6,17 @@ ghost use Rattle.at_base.specs.Spelling.{Spells};
 ghost use Rattle.at_base.specs.Checksum.{sum_of};
 ghost use Rattle.ddp.specs.Datagram.{datagram, unsummed, datagram_of};
 ghost use Rattle.ddp.specs.InPlace.{with_sum};
+ghost use Rattle.at_base.specs.Limits.{max_data};
 
-use crate::header::{HEADER_LEN, Header, MAX_DATA};
+use crate::header::{HEADER_LEN, Header};
+use at_base::limits::MAX_DATA;
 use at_base::{Bytes, Error, sum};
 use byteorder::{BigEndian, ByteOrder};
 use std::alloc::Global;
 
 /// The bytes of the header, with hop count 0 and checksum 0.
 fn header_bytes(header: &Header, payload: &[u8]) -> [u8; HEADER_LEN]
-    requires { length payload.now ≤ 586 }
+    requires { length payload.now ≤ max_data }
     ensures { Spells datagram (result ++ payload.now) (unsummed header.now payload.now) }
 {
     let mut bytes = [0; HEADER_LEN];
@@ -31,7 +33,7 @@ fn header_bytes(header: &Header, payload: &[u8]) -> [u8; HEADER_LEN]
 
 /// The bytes of the datagram, with checksum 0. Error: `Memory`.
 fn unsummed_bytes(alloc: Global, header: &Header, payload: &[u8]) -> Result<Vec<u8>, Error>
-    requires { length payload.now ≤ 586 }
+    requires { length payload.now ≤ max_data }
     ensures written { IfOk result (λ v. Spells datagram v.items (unsummed header.now payload.now)) }
     ensures len { IfOk result (λ v. length v.items ≡ 13 + length payload.now) }
     ensures refused { IsOkUnless result Error.Memory }
@@ -66,7 +68,7 @@ pub fn write(alloc: Global, header: &Header, payload: &[u8]) -> Result<Bytes, Er
     ensures written { IfOk result
         (λ bytes. Spells datagram bytes (datagram_of header.now payload.now)) }
     ensures len { IfOk result (λ bytes. length bytes ≡ 13 + length payload.now) }
-    ensures long { (result ≡ Err Error.TooLong) ↔ (586 < length payload.now) }
+    ensures long { (result ≡ Err Error.TooLong) ↔ (max_data < length payload.now) }
     ensures refused { IfErr result (λ e. (e ≡ Error.TooLong) ⊎ (e ≡ Error.Memory)) }
 {
     if payload.len() > MAX_DATA {

@@ -3,6 +3,7 @@
 
 ghost use Rattle.std.specs.Prelude.{◌≡◌, ◌≤◌, ◌∷◌, length, None, IfOk, IfSome, IsOk, IsOkUnless};
 ghost use Rattle.echo.specs.Echo.{echo_reply};
+ghost use Rattle.at_base.specs.Limits.{max_data};
 
 use at_base::{Bytes, Error};
 use ddp::{View, kind, socket};
@@ -32,7 +33,7 @@ fn reply_data(alloc: Global, rest: &[u8]) -> Result<Bytes, Error>
 pub fn reply(alloc: Global, view: &View<'_>) -> Result<Option<Bytes>, Error>
     ensures made { IfOk result (λ answer. answer ≡ echo_reply view.now) }
     // The data fits in a datagram.
-    ensures short { IfOk result (λ answer. IfSome answer (λ bytes. length bytes ≤ 586)) }
+    ensures short { IfOk result (λ answer. IfSome answer (λ bytes. length bytes ≤ max_data)) }
     // Only a request needs memory.
     ensures silent { echo_reply view.now ≡ None → IsOk result }
     ensures refused { IsOkUnless result Error.Memory }

@@ -5,6 +5,7 @@ use Rattle.at_base.specs.declared.address.Addr.{Addr}
 use Rattle.at_base.specs.declared.error.Error.{Error}
 use Rattle.at_base.specs.declared.error.Error.TheVariants.{NoSuch, TooLong, NoRouter}
 use Rattle.at_base.specs.declared.error.What.TheVariants.{Station}
+use Rattle.at_base.specs.Limits.{max_data}
 use Rattle.ddp.specs.declared.header.Header.{Header}
 use Rattle.station.specs.Ways.{nobody}
 use Rattle.station.specs.declared.output.Next.{Next}
@@ -32,7 +33,7 @@ abbrev pub sending_from : NodeHolding → Option Addr → Header → ℕ → Res
 sending_from h None header len = Err (NoSuch Station)
 sending_from h (Some own) header len =
     cond (is_nobodys header.target) (Err (NoSuch Station))
-    (cond (nat_lt 586 len) (Err TooLong)
+    (cond (nat_lt max_data len) (Err TooLong)
     (way_or_none own header (next_of h header.target)))
 
 -- The way of a datagram with this header and len bytes of data; or why it can't be sent, in this order: the node has no

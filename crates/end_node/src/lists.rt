@@ -13,6 +13,7 @@ ghost use Rattle.end_node.specs.Asking as asking_spec;
 ghost use Rattle.end_node.specs.Asking.{ask_bytes};
 ghost use Rattle.station.specs.Lawful.{IsNext, PutsOut};
 ghost use Rattle.station.specs.Making.{made};
+ghost use Rattle.at_base.specs.Limits.{max_data};
 
 use crate::node::EndNode;
 use crate::receive::TRANSACTIONS;
@@ -61,7 +62,7 @@ fn begin(
         → known other requester.new.slots ≡ known other requester.old.slots) }
     ensures next { IfOk result (λ x. requester.new.next ≡ (x.0 + 1) % 65536) }
     ensures bytes { IfOk result (λ x. x.1 ≡ ask_bytes x.0 (asking_spec.zone_ask start router)) }
-    ensures short { IfOk result (λ x. length x.1 ≤ 586) }
+    ensures short { IfOk result (λ x. length x.1 ≤ max_data) }
     ensures full { (result ≡ Err Error.Full) ↔ (32 ≤ open_count requester.old.slots) }
     ensures refused { IfErr result (λ e. (e ≡ Error.Full) ⊎ (e ≡ Error.Memory)) }
 {

@@ -1,12 +1,12 @@
 //! A node's replies to lookups.
 
-ghost use Rattle.std.specs.Prelude.{◌≡◌, ◌≤◌, ◌+◌, [], ◌∷◌, ◌++◌, length, map, ℕ, Some};
-ghost use Rattle.std.specs.Prelude.{IfOk, IsOk, IsOkUnless, None, OnOk};
+ghost use Rattle.std.specs.Prelude.{◌≡◌, ◌≤◌, [], ◌∷◌, length, map, ℕ, Some};
+ghost use Rattle.std.specs.Prelude.{IfOk, IsOk, IsOkUnless, None};
 ghost use Rattle.at_base.specs.Text.{is_only, same_name};
 ghost use Rattle.nbp.specs.Registered.{answers};
 ghost use Rattle.end_node.specs.Lookups as spec;
 ghost use Rattle.end_node.specs.Lookups.{looked_up, names_in, replies, reply_of, told};
-ghost use Rattle.station.specs.Made.{AreMade, IsWayIn};
+ghost use Rattle.station.specs.Made.{AreMade, IsWayIn, Makes, Puts};
 ghost use Rattle.station.specs.Ways.{replying};
 
 use crate::node::EndNode;
@@ -97,13 +97,10 @@ fn put_reply(
     id: u8,
     tuple: &Tuple,
 ) -> Result<(), Error>
-    ensures put { OnOk result (made.new.items
-        ≡ made.old.items ++ replying way.now (reply_of own zone.now id tuple.now ∷ [])) }
-    ensures silent { way.now ≡ None → IsOk result }
-    ensures few { OnOk result (length made.new.items ≤ length made.old.items + 1) }
-    ensures good { OnOk result ((n : ℕ) → IsWayIn n way.now → AreMade n made.old.items
-        → AreMade n made.new.items) }
-    ensures refused { IsOkUnless result Error.Memory }
+    ensures puts { Puts 1 (replying way.now (reply_of own zone.now id tuple.now ∷ []))
+        made.old.items made.new.items result }
+    ensures good { (n : ℕ) → IsWayIn n way.now → AreMade n made.old.items
+        → AreMade n made.new.items }
 {
     if way.is_none() {
         return Ok(());
@@ -122,14 +119,11 @@ fn put_replies(
     id: u8,
     tuples: &[Tuple],
 ) -> Result<(), Error>
-    ensures put { OnOk result (made.new.items
-        ≡ made.old.items ++ replying way.now (map (reply_of own zone.now id) tuples.now)) }
-    ensures silent { replying way.now (map (reply_of own zone.now id) tuples.now) ≡ []
-        → IsOk result }
-    ensures few { OnOk result (length made.new.items ≤ length made.old.items + length tuples.now) }
-    ensures good { OnOk result ((n : ℕ) → IsWayIn n way.now → AreMade n made.old.items
-        → AreMade n made.new.items) }
-    ensures refused { IsOkUnless result Error.Memory }
+    ensures puts { Puts (length tuples.now)
+        (replying way.now (map (reply_of own zone.now id) tuples.now))
+        made.old.items made.new.items result }
+    ensures good { (n : ℕ) → IsWayIn n way.now → AreMade n made.old.items
+        → AreMade n made.new.items }
 {
     match tuples {
         [] => Ok(()),
@@ -164,12 +158,8 @@ impl EndNode {
         tuple: &Tuple,
         own: Addr,
     ) -> Result<(), Error>
-        ensures put { OnOk result (made.new.items
-            ≡ made.old.items ++ replies self.now summed id tuple.now (Some own)) }
-        ensures silent { replies self.now summed id tuple.now (Some own) ≡ [] → IsOk result }
-        ensures few { OnOk result (length made.new.items ≤ length made.old.items + 32) }
-        ensures good { OnOk result (AreMade 1 made.old.items → AreMade 1 made.new.items) }
-        ensures refused { IsOkUnless result Error.Memory }
+        ensures { Makes 1 32 (replies self.now summed id tuple.now (Some own))
+            made.old.items made.new.items result }
     {
         let way = self.reply_way(answer_header(summed, tuple));
         if way.is_none() {
@@ -188,12 +178,8 @@ impl EndNode {
         id: u8,
         tuple: &Tuple,
     ) -> Result<(), Error>
-        ensures put { OnOk result (made.new.items
-            ≡ made.old.items ++ looked_up self.now summed id tuple.now) }
-        ensures silent { looked_up self.now summed id tuple.now ≡ [] → IsOk result }
-        ensures few { OnOk result (length made.new.items ≤ length made.old.items + 32) }
-        ensures good { OnOk result (AreMade 1 made.old.items → AreMade 1 made.new.items) }
-        ensures refused { IsOkUnless result Error.Memory }
+        ensures { Makes 1 32 (looked_up self.now summed id tuple.now)
+            made.old.items made.new.items result }
     {
         if !is_in(&self.zone, tuple.zone.as_slice()) {
             return Ok(());
@@ -211,12 +197,8 @@ impl EndNode {
         view: &View<'_>,
         packet: &Packet<'_>,
     ) -> Result<(), Error>
-        ensures put { OnOk result (made.new.items
-            ≡ made.old.items ++ told self.now view.now (Some packet.now)) }
-        ensures silent { told self.now view.now (Some packet.now) ≡ [] → IsOk result }
-        ensures few { OnOk result (length made.new.items ≤ length made.old.items + 32) }
-        ensures good { OnOk result (AreMade 1 made.old.items → AreMade 1 made.new.items) }
-        ensures refused { IsOkUnless result Error.Memory }
+        ensures { Makes 1 32 (told self.now view.now (Some packet.now))
+            made.old.items made.new.items result }
     {
         let tuple = packet.first().copy();
         match packet.function() {
@@ -228,13 +210,8 @@ impl EndNode {
     /// Adds the replies to a datagram for the names socket; one without an NBP packet is ignored.
     /// Error: `Memory`.
     pub(crate) fn tell(&self, made: &mut Vec<Output>, view: &View<'_>) -> Result<(), Error>
-        ensures put { OnOk result (made.new.items
-            ≡ made.old.items ++ told self.now view.now (names_in view.now.payload)) }
-        // Without a reply, no memory is needed.
-        ensures silent { told self.now view.now (names_in view.now.payload) ≡ [] → IsOk result }
-        ensures few { OnOk result (length made.new.items ≤ length made.old.items + 32) }
-        ensures good { OnOk result (AreMade 1 made.old.items → AreMade 1 made.new.items) }
-        ensures refused { IsOkUnless result Error.Memory }
+        ensures { Makes 1 32 (told self.now view.now (names_in view.now.payload))
+            made.old.items made.new.items result }
     {
         match read_packet(view.payload()) {
             Some(packet) => self.tell_by(made, view, &packet),

@@ -1,6 +1,6 @@
 //! A node's handling of the datagrams that it receives.
 
-ghost use Rattle.std.specs.Prelude.{◌≡◌, ◌≤◌, ◌+◌, [], ◌++◌, ◌&&◌, length, option_to_list, Some};
+ghost use Rattle.std.specs.Prelude.{◌≡◌, ◌≤◌, [], ◌&&◌, length, option_to_list, Some};
 ghost use Rattle.std.specs.Prelude.{IfOk, IsOk, IsOkUnless, OnErr, OnOk};
 ghost use Rattle.echo.specs.Echo.{echo_reply};
 ghost use Rattle.end_node.specs.Answers.{AsksHearDatagram, AsksHearOwn, heard_datagram, heard_own};
@@ -9,7 +9,7 @@ ghost use Rattle.end_node.specs.Answers.{keeping_any, kept, received_of, served}
 ghost use Rattle.end_node.specs.Taking.{taken_datagram};
 ghost use Rattle.end_node.specs.Ways as ways_spec;
 ghost use Rattle.station.specs.Lawful.{AreLawful, PutsOut};
-ghost use Rattle.station.specs.Made.{AreMade};
+ghost use Rattle.station.specs.Made.{AreMade, Makes};
 ghost use Rattle.station.specs.Ports as ports_spec;
 ghost use Rattle.station.specs.Ways as ways_of;
 ghost use Rattle.station.specs.Ways.{replying};
@@ -19,7 +19,7 @@ use crate::node::{Datagram, EndNode};
 use at_base::{Addr, Bytes, Error};
 use circular_buffer::HeapCircularBuffer;
 use ddp::{View, kind, socket};
-use station::making::put_one;
+use station::making::{nothing, put_one};
 use station::ways::{EVERY_NODE, checks, is_to};
 use station::{Link, Output, Outputs};
 use std::alloc::Global;
@@ -108,13 +108,9 @@ impl EndNode {
 
     /// Adds the reply to a datagram that is an echo request. Error: `Memory`.
     fn hear_echo(&self, made: &mut Vec<Output>, view: &View<'_>) -> Result<(), Error>
-        ensures put { OnOk result (made.new.items ≡ made.old.items
-            ++ replying (ways_spec.way_back self.now view.now) (option_to_list (echo_reply view.now))) }
-        ensures silent { replying (ways_spec.way_back self.now view.now)
-            (option_to_list (echo_reply view.now)) ≡ [] → IsOk result }
-        ensures few { OnOk result (length made.new.items ≤ length made.old.items + 1) }
-        ensures good { OnOk result (AreMade 1 made.old.items → AreMade 1 made.new.items) }
-        ensures refused { IsOkUnless result Error.Memory }
+        ensures { Makes 1 1
+            (replying (ways_spec.way_back self.now view.now) (option_to_list (echo_reply view.now)))
+            made.old.items made.new.items result }
     {
         let way = self.way_back(view);
         if way.is_none() {
@@ -126,13 +122,8 @@ impl EndNode {
 
     /// Adds the replies to a datagram that the node accepted. Error: `Memory`.
     fn serve(&self, made: &mut Vec<Output>, view: &View<'_>) -> Result<(), Error>
-        ensures put { OnOk result
-            (made.new.items ≡ made.old.items ++ served self.now view.now) }
-        // Without a reply, no memory is needed.
-        ensures silent { served self.now view.now ≡ [] → IsOk result }
-        ensures few { OnOk result (length made.new.items ≤ length made.old.items + 32) }
-        ensures good { OnOk result (AreMade 1 made.old.items → AreMade 1 made.new.items) }
-        ensures refused { IsOkUnless result Error.Memory }
+        ensures { Makes 1 32 (served self.now view.now)
+            made.old.items made.new.items result }
     {
         if is_to(view, kind::AEP, socket::ECHO) {
             return self.hear_echo(made, view);
@@ -152,7 +143,7 @@ impl EndNode {
         ensures good { IfOk result (λ made. AreMade 1 made.items) }
         ensures refused { IsOkUnless result Error.Memory }
     {
-        let mut made = Vec::new(*self.received.allocator());
+        let mut made = nothing(*self.received.allocator());
         self.serve(&mut made, view)?;
         Ok(made)
     }

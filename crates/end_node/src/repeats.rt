@@ -1,6 +1,7 @@
 //! The requests for zones that a node sends again.
 
-ghost use Rattle.std.specs.Prelude.{◌≡◌, ◌≤◌, ◌+◌, ◌++◌, length, map, IsOkUnless, OnOk};
+ghost use Rattle.std.specs.Prelude.{◌≡◌, ◌≤◌, ◌+◌, ◌++◌, [], Option, length, map, IsOkUnless, IsTrue, OnOk};
+ghost use Rattle.at_base.specs.declared.address.Addr.{Addr as AddrValue};
 ghost use Rattle.atp.specs.Repeating.{AreShort};
 ghost use Rattle.end_node.specs.Repeating.{AreRenewed, repeated, repeats_by};
 ghost use Rattle.station.specs.Made.{AreMade};
@@ -49,6 +50,14 @@ impl EndNode {
             Some(own) => put_all(made, own, self.requester.repeats()?.as_slice()),
             None => Ok(()),
         }
+    }
+
+    /// Whether no request for zones is open, so that the next tick makes none due. Allocates
+    /// nothing.
+    pub fn is_idle(&self) -> bool
+        ensures { IsTrue result → (own : Option AddrValue) → repeats_by own self.now.asks.slots ≡ [] }
+    {
+        self.requester.is_idle()
     }
 
     /// Advances the transactions of a node that has this address by a tick; each request that is

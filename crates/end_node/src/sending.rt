@@ -5,10 +5,12 @@ ghost use Rattle.end_node.specs.Sending as spec;
 ghost use Rattle.end_node.specs.Sending.{header_to};
 ghost use Rattle.station.specs.Lawful.{IsNext, PutsOut};
 ghost use Rattle.station.specs.Making.{made};
+ghost use Rattle.at_base.specs.Limits.{max_data};
 
 use crate::node::EndNode;
+use at_base::limits::MAX_DATA;
 use at_base::{Addr, Error, What};
-use ddp::{Header, MAX_DATA};
+use ddp::Header;
 use station::ways::EVERY_NODE;
 use station::{Next, Outputs, Way};
 use std::alloc::Global;
@@ -49,7 +51,7 @@ pub(crate) fn put_out(
     payload: &[u8],
     outputs: &mut Outputs,
 ) -> Result<(), Error>
-    requires short { length payload.now ≤ 586 }
+    requires short { length payload.now ≤ max_data }
     requires port { way.now.port ≡ 0 }
     requires next { IsNext way.now.next }
     ensures sent { OnOk result (PutsOut 1 outputs.old.items outputs.new.items
@@ -80,7 +82,7 @@ impl EndNode {
     /// The way of a datagram with this header and `len` bytes of data, or why it can't be sent.
     fn sending(&self, header: Header, len: usize) -> Result<Way, Error>
         ensures value { result ≡ spec.sending self.now header len }
-        ensures short { IfOk result (λ _. len ≤ 586) }
+        ensures short { IfOk result (λ _. len ≤ max_data) }
         ensures inside { IfOk result (λ way. (way.port ≡ 0) × IsNext way.next) }
     {
         let Some(own) = self.own() else {

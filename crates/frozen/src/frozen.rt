@@ -6,9 +6,7 @@ ghost use Rattle.std.specs.Prelude.{IfErr, IfOk, OnErr, OnOk};
 ghost use Rattle.std.specs.List.{AllByRecursion as Each};
 ghost use Rattle.audit.specs.Rules.{Passes};
 ghost use Rattle.cable_model.specs.Rooms.{known_rooms};
-ghost use Rattle.cable_model.specs.Logs as logs_spec;
-ghost use Rattle.cable_model.specs.Logs.{bytes_at};
-ghost use Rattle.cable_model.specs.Pending as pending_spec;
+ghost use Rattle.cable_model.specs.Logs.{bytes_at, pending_on};
 ghost use Rattle.ddp.specs.Bodies.{body};
 ghost use Rattle.ddp.specs.Datagram.{datagram_of};
 ghost use Rattle.frozen.specs.Events.{DrainStops, DrainsTo, Happened, Happens, IsRefused};
@@ -22,6 +20,7 @@ ghost use Rattle.image_stations.specs.Holders.{AreFresh};
 ghost use Rattle.legal_runs.specs.Requests as requests_spec;
 ghost use Rattle.legal_runs.specs.Stations.{cable_seats};
 ghost use Rattle.station.specs.Lawful.{IsNext};
+ghost use Rattle.at_base.specs.Limits.{max_data};
 
 use crate::order::Order;
 use crate::orders::{ask_data, ask_order, send_order};
@@ -135,7 +134,7 @@ impl<T: RouteTable> Frozen<T> {
 
     /// The number of pending pairs of a frame and a station. Allocates nothing.
     pub fn pending_count(&self) -> usize
-        ensures { result ≡ length (pending_spec.pending self.now.cabling.seats (logs_spec.transcript self.now.cabling)) }
+        ensures { result ≡ length (pending_on self.now.cabling) }
     {
         self.cables.pending_count()
     }
@@ -162,7 +161,7 @@ impl<T: RouteTable> Frozen<T> {
     /// Errors: `Full`, `Memory`. After an error nothing has changed.
     fn carry_out(&mut self, order: &Order, payload: &[u8]) -> Result<(), Error>
         requires next { IsNext order.now.next }
-        requires short { length payload.now ≤ 586 }
+        requires short { length payload.now ≤ max_data }
         requires fair { IsFair self.old.internet order.now }
         ensures sent { OnOk result (SentBy self.old order.now payload.now self.new) }
         ensures request { OnOk result (requests_spec.request (body (bytes_for order.now payload.now))

@@ -7,10 +7,12 @@ ghost use Rattle.at_base.specs.Text.{is_only};
 ghost use Rattle.end_node.specs.Lookups as lookups_spec;
 ghost use Rattle.frozen.specs.Orders as spec;
 ghost use Rattle.station.specs.Lawful.{IsNext};
+ghost use Rattle.at_base.specs.Limits.{max_data};
 
 use crate::order::Order;
+use at_base::limits::MAX_DATA;
 use at_base::{Addr, Bytes, Error, Name, Text32, What};
-use ddp::{Header, MAX_DATA, kind as types, socket as sockets};
+use ddp::{Header, kind as types, socket as sockets};
 use image_stations::Whereabouts;
 use nbp::{Function, Tuple};
 use station::Next;
@@ -97,7 +99,7 @@ fn sent_at(
     requires { k < length places.now.nodes }
     ensures value { result ≡ spec.sent_at places.now k (slice_get places.now.nodes k) via header len }
     ensures next { IfOk result (λ o. IsNext o.next) }
-    ensures short { IfOk result (λ o. len ≤ 586) }
+    ensures short { IfOk result (λ o. len ≤ max_data) }
 {
     let image = places.image();
     let node = &image.nodes()[k];
@@ -126,7 +128,7 @@ pub fn send_order(
 ) -> Result<Order, Error>
     ensures value { result ≡ spec.send_order places.now node via header len }
     ensures next { IfOk result (λ o. IsNext o.next) }
-    ensures short { IfOk result (λ o. len ≤ 586) }
+    ensures short { IfOk result (λ o. len ≤ max_data) }
 {
     let Some(k) = node_at(places.image().nodes(), node) else {
         return Err(Error::NoSuch(What::Node));
@@ -209,7 +211,7 @@ fn zone_for(own: &Name, zone: &Text32) -> Text32
 /// The data of a node's request for names. Error: `Memory`.
 fn data_at(alloc: Global, node: &Node, id: u8, name: &Tuple) -> Result<Bytes, Error>
     ensures ok { IfOk result (λ bytes. bytes ≡ spec.data_at (Some node.now) id name.now) }
-    ensures short { IfOk result (λ bytes. length bytes ≤ 586) }
+    ensures short { IfOk result (λ bytes. length bytes ≤ max_data) }
     ensures refused { IsOkUnless result Error.Memory }
 {
     let tuple = Tuple {
@@ -232,7 +234,7 @@ pub fn ask_data(
     name: &Tuple,
 ) -> Result<Bytes, Error>
     ensures ok { IfOk result (λ bytes. bytes ≡ spec.ask_data image.now node id name.now) }
-    ensures short { IfOk result (λ bytes. length bytes ≤ 586) }
+    ensures short { IfOk result (λ bytes. length bytes ≤ max_data) }
     ensures refused { IsOkUnless result Error.Memory }
 {
     let nodes = image.nodes();

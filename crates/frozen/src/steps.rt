@@ -4,11 +4,9 @@ ghost use Rattle.std.specs.Prelude.{◌≡◌, ◌<◌, ◌≤◌, ◌+◌, ◌�
 ghost use Rattle.std.specs.Prelude.{IfErr, OnErr, OnOk, Some};
 ghost use Rattle.std.specs.List.{list_any};
 ghost use Rattle.cable_model.specs.Rooms.{known_rooms};
-ghost use Rattle.cable_model.specs.Logs as logs_spec;
-ghost use Rattle.cable_model.specs.Logs.{Adds};
+ghost use Rattle.cable_model.specs.Logs.{Adds, pending_on};
 ghost use Rattle.cable_model.specs.Outcomes.{AreSeatsOf, has_cable, is_named, is_seated};
 ghost use Rattle.cable_model.specs.Outcomes.{sent_entries};
-ghost use Rattle.cable_model.specs.Pending as pending_spec;
 ghost use Rattle.end_node.specs.Holding.{NodeHolding};
 ghost use Rattle.frozen.specs.Runs.{TakenFrom, ports_of};
 ghost use Rattle.legal_runs.specs.Legs.{places_of};
@@ -70,9 +68,9 @@ pub fn take<T: RouteTable>(
     ensures ok { OnOk result (TakenFrom (places_of places.now) stations.old.items cables.old
         stamp station stations.new.items cables.new) }
     ensures not_pending { (result ≡ Err Error.NotPending) ↔ (list_any (is_named stamp station)
-        (pending_spec.pending cables.old.seats (logs_spec.transcript cables.old)) ≡ false) }
+        (pending_on cables.old) ≡ false) }
     ensures full { (result ≡ Err Error.Full) ↔ ((list_any (is_named stamp station)
-        (pending_spec.pending cables.old.seats (logs_spec.transcript cables.old)) ≡ true)
+        (pending_on cables.old) ≡ true)
         × (cables.old.limit < length cables.old.lines + 771)) }
     ensures refused { IfErr result (λ e. (e ≡ Error.NotPending) ⊎ (e ≡ Error.Full)
         ⊎ (e ≡ Error.Memory)) }

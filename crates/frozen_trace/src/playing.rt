@@ -1,9 +1,10 @@
 //! Carries out the steps of a script, one at a time.
 
-ghost use Rattle.std.specs.Prelude.{◌≡◌, ◌≢◌, ◌⊎◌, List, ℕ, IfErr, OnOk};
+ghost use Rattle.std.specs.Prelude.{◌≡◌, List, ℕ, OnOk};
 ghost use Rattle.text.specs.Going.{Goes};
 ghost use Rattle.frozen_trace.specs.Traces.{Plays, PlaysAll, all_printed};
 ghost use Rattle.script.specs.declared.step.Step.TheVariants as step;
+ghost use Rattle.text.specs.Writing.{Prints};
 
 use crate::printing::{print_from, refuse};
 use at_base::Error;
@@ -30,9 +31,7 @@ fn play_event<T: RouteTable, W: Write>(
         × Goes (W.contents output.old.writer) output.old.text.items more
         (W.contents output.new.writer) output.new.text.items) }
     ensures known { OnOk result (lines.new ≡ all_printed run.new) }
-    ensures refused { IfErr result (λ e.
-        (e ≡ Error.Memory) ⊎ ((e ≡ Error.WriteFault) × (output.new.faults ≢ output.old.faults))) }
-    ensures stays { OnOk result (output.new.faults ≡ output.old.faults) }
+    ensures prints { Prints output.old.faults output.new.faults result }
 {
     let before = run.transcript().len();
     match run.event(event) {
@@ -56,9 +55,7 @@ fn play_drain<T: RouteTable, W: Write>(
         × Goes (W.contents output.old.writer) output.old.text.items more
         (W.contents output.new.writer) output.new.text.items) }
     ensures known { OnOk result (lines.new ≡ all_printed run.new) }
-    ensures refused { IfErr result (λ e.
-        (e ≡ Error.Memory) ⊎ ((e ≡ Error.WriteFault) × (output.new.faults ≢ output.old.faults))) }
-    ensures stays { OnOk result (output.new.faults ≡ output.old.faults) }
+    ensures prints { Prints output.old.faults output.new.faults result }
 {
     for _turn in 0..most {
         let before = run.transcript().len();
@@ -89,9 +86,7 @@ fn play_step<T: RouteTable, W: Write>(
         × Goes (W.contents output.old.writer) output.old.text.items more
         (W.contents output.new.writer) output.new.text.items) }
     ensures known { OnOk result (lines.new ≡ all_printed run.new) }
-    ensures refused { IfErr result (λ e.
-        (e ≡ Error.Memory) ⊎ ((e ≡ Error.WriteFault) × (output.new.faults ≢ output.old.faults))) }
-    ensures stays { OnOk result (output.new.faults ≡ output.old.faults) }
+    ensures prints { Prints output.old.faults output.new.faults result }
 {
     match step {
         Step::Event(event) => play_event(alloc, run, event, lines, output),
@@ -112,9 +107,7 @@ pub fn play<T: RouteTable, W: Write>(
         × PlaysAll run.old steps.now more run.new
         × Goes (W.contents output.old.writer) output.old.text.items more
         (W.contents output.new.writer) output.new.text.items) }
-    ensures refused { IfErr result (λ e.
-        (e ≡ Error.Memory) ⊎ ((e ≡ Error.WriteFault) × (output.new.faults ≢ output.old.faults))) }
-    ensures stays { OnOk result (output.new.faults ≡ output.old.faults) }
+    ensures prints { Prints output.old.faults output.new.faults result }
 {
     for step in steps {
         play_step(alloc, run, step, lines, output)?;

@@ -1,7 +1,7 @@
 //! Prints parts of a run.
 
-ghost use Rattle.std.specs.Prelude.{◌≡◌, ◌≢◌, ◌≤◌, ◌⊎◌, [], ◌∷◌, ◌++◌, drop, length, map, take};
-ghost use Rattle.std.specs.Prelude.{IfErr, OnOk};
+ghost use Rattle.std.specs.Prelude.{◌≡◌, ◌≢◌, ◌≤◌, [], ◌∷◌, ◌++◌, drop, length, map, take};
+ghost use Rattle.std.specs.Prelude.{OnOk};
 ghost use Rattle.cable_model.specs.Logs as logs_spec;
 ghost use Rattle.cable_model.specs.Logs.{entry_at};
 ghost use Rattle.text.specs.Going.{Goes};
@@ -9,6 +9,7 @@ ghost use Rattle.frozen_trace.specs.Traces.{all_printed, cables_of, pending_line
 ghost use Rattle.trace_lines.specs.Lines as lines_spec;
 ghost use Rattle.trace_lines.specs.Lines.{IsNamed, cable_of};
 ghost use Rattle.trace_lines.specs.Stations.{addresses_of};
+ghost use Rattle.text.specs.Writing.{Prints};
 
 use at_base::Error;
 use cable_model::Entry;
@@ -51,9 +52,7 @@ fn print_entry<T: RouteTable, W: Write>(
       addresses = lines.old.addresses;
       cables = lines.old.cables ++ cable_of (entry_at run.now.cabling.kept entry.now);
     }) }
-    ensures refused { IfErr result (λ e.
-        (e ≡ Error.Memory) ⊎ ((e ≡ Error.WriteFault) × (output.new.faults ≢ output.old.faults))) }
-    ensures stays { OnOk result (output.new.faults ≡ output.old.faults) }
+    ensures prints { Prints output.old.faults output.new.faults result }
 {
     let bytes = bytes_of(run, entry);
     lines.append(&mut output.text, entry, bytes)?;
@@ -76,9 +75,7 @@ fn print_entries<T: RouteTable, W: Write>(
       cables = lines.old.cables
           ++ cables_of (map (entry_at run.now.cabling.kept) entries.now);
     }) }
-    ensures refused { IfErr result (λ e.
-        (e ≡ Error.Memory) ⊎ ((e ≡ Error.WriteFault) × (output.new.faults ≢ output.old.faults))) }
-    ensures stays { OnOk result (output.new.faults ≡ output.old.faults) }
+    ensures prints { Prints output.old.faults output.new.faults result }
 {
     for entry in entries {
         print_entry(run, entry, lines, output)?;
@@ -102,9 +99,7 @@ pub fn print_from<T: RouteTable, W: Write>(
         (lines_spec.lines lines.old.addresses lines.old.cables (drop from (logs_spec.transcript run.now.cabling)))
         (W.contents output.new.writer) output.new.text.items) }
     ensures known { OnOk result (lines.new ≡ all_printed run.now) }
-    ensures refused { IfErr result (λ e.
-        (e ≡ Error.Memory) ⊎ ((e ≡ Error.WriteFault) × (output.new.faults ≢ output.old.faults))) }
-    ensures stays { OnOk result (output.new.faults ≡ output.old.faults) }
+    ensures prints { Prints output.old.faults output.new.faults result }
 {
     print_entries(run, &run.transcript()[from..], lines, output)
 }
@@ -113,9 +108,7 @@ pub fn print_from<T: RouteTable, W: Write>(
 fn end_line<W: Write>(output: &mut Output<W>, line: &str) -> Result<(), Error>
     ensures gone { OnOk result (Goes (W.contents output.old.writer) output.old.text.items
         (line.now ++ 10 ∷ []) (W.contents output.new.writer) output.new.text.items) }
-    ensures refused { IfErr result (λ e.
-        (e ≡ Error.Memory) ⊎ ((e ≡ Error.WriteFault) × (output.new.faults ≢ output.old.faults))) }
-    ensures stays { OnOk result (output.new.faults ≡ output.old.faults) }
+    ensures prints { Prints output.old.faults output.new.faults result }
 {
     output.text.extend_from_slice(line.as_bytes())?;
     output.text.push(b'\n')?;
@@ -130,9 +123,7 @@ fn print_refusal<W: Write>(
 ) -> Result<(), Error>
     ensures gone { OnOk result (Goes (W.contents output.old.writer) output.old.text.items
         (refused_line error.now) (W.contents output.new.writer) output.new.text.items) }
-    ensures refused { IfErr result (λ e.
-        (e ≡ Error.Memory) ⊎ ((e ≡ Error.WriteFault) × (output.new.faults ≢ output.old.faults))) }
-    ensures stays { OnOk result (output.new.faults ≡ output.old.faults) }
+    ensures prints { Prints output.old.faults output.new.faults result }
 {
     let number = error.number();
     let mut line = String::with_capacity(alloc, MAX_LINE)?;
@@ -146,9 +137,7 @@ pub fn refuse<W: Write>(alloc: Global, output: &mut Output<W>, error: &Error) ->
     ensures silent { error.now ≡ Error.Memory → output.new ≡ output.old }
     ensures gone { OnOk result (Goes (W.contents output.old.writer) output.old.text.items
         (refused_line error.now) (W.contents output.new.writer) output.new.text.items) }
-    ensures refused { IfErr result (λ e.
-        (e ≡ Error.Memory) ⊎ ((e ≡ Error.WriteFault) × (output.new.faults ≢ output.old.faults))) }
-    ensures stays { OnOk result (output.new.faults ≡ output.old.faults) }
+    ensures prints { Prints output.old.faults output.new.faults result }
 {
     match error {
         Error::Memory => Err(Error::Memory),
@@ -164,9 +153,7 @@ pub fn print_pending<T: RouteTable, W: Write>(
 ) -> Result<(), Error>
     ensures gone { OnOk result (Goes (W.contents output.old.writer) output.old.text.items
         (pending_line run.now) (W.contents output.new.writer) output.new.text.items) }
-    ensures refused { IfErr result (λ e.
-        (e ≡ Error.Memory) ⊎ ((e ≡ Error.WriteFault) × (output.new.faults ≢ output.old.faults))) }
-    ensures stays { OnOk result (output.new.faults ≡ output.old.faults) }
+    ensures prints { Prints output.old.faults output.new.faults result }
 {
     let count = run.pending_count();
     let mut line = String::with_capacity(alloc, MAX_LINE)?;

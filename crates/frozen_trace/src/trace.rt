@@ -1,10 +1,11 @@
 //! The trace of a script.
 
-ghost use Rattle.std.specs.Prelude.{◌≡◌, ◌≢◌, ◌⊎◌, ◌++◌, [], List, ℕ, IfErr, IfOk, OnOk};
+ghost use Rattle.std.specs.Prelude.{◌≡◌, ◌++◌, [], List, ℕ, IfOk, OnOk};
 ghost use Rattle.std.specs.Io.KnownBytes.{Appends};
 ghost use Rattle.frozen_trace.specs.Traces.{IsPrinted, PlaysAll, all_printed, pending_line};
 ghost use Rattle.frozen.specs.Runs.{IsFrozen};
 ghost use Rattle.trace_lines.specs.Stations.{addresses_of};
+ghost use Rattle.text.specs.Writing.{Prints};
 
 use crate::playing::play;
 use crate::printing::print_pending;
@@ -38,9 +39,7 @@ pub fn trace_script<T: RouteTable, W: Write>(
     ensures printed { IfOk result (λ yes. (text : List ℕ) × IsPrinted image steps.now yes text
         × Appends (W.contents output.old.writer) (W.contents output.new.writer)
         (output.old.text.items ++ text)) }
-    ensures refused { IfErr result (λ e.
-        (e ≡ Error.Memory) ⊎ ((e ≡ Error.WriteFault) × (output.new.faults ≢ output.old.faults))) }
-    ensures stays { OnOk result (output.new.faults ≡ output.old.faults) }
+    ensures prints { Prints output.old.faults output.new.faults result }
 {
     let mut lines = Lines::new(alloc, &image)?;
     trace_image::<T, W>(alloc, image, steps, &mut lines, output)
@@ -59,9 +58,7 @@ fn trace_image<T: RouteTable, W: Write>(
     ensures printed { IfOk result (λ yes. (text : List ℕ) × IsPrinted image steps.now yes text
         × Appends (W.contents output.old.writer) (W.contents output.new.writer)
         (output.old.text.items ++ text)) }
-    ensures refused { IfErr result (λ e.
-        (e ≡ Error.Memory) ⊎ ((e ≡ Error.WriteFault) × (output.new.faults ≢ output.old.faults))) }
-    ensures stays { OnOk result (output.new.faults ≡ output.old.faults) }
+    ensures prints { Prints output.old.faults output.new.faults result }
 {
     match Frozen::<T>::start(alloc, image, LIMIT) {
         Ok(run) => {
@@ -92,9 +89,7 @@ fn trace_run<T: RouteTable, W: Write>(
         × Appends (W.contents output.old.writer) (W.contents output.new.writer)
         (output.old.text.items ++ played ++ pending_line run.new)) }
     ensures frozen { OnOk result (IsFrozen run.old × IsFrozen run.new) }
-    ensures refused { IfErr result (λ e.
-        (e ≡ Error.Memory) ⊎ ((e ≡ Error.WriteFault) × (output.new.faults ≢ output.old.faults))) }
-    ensures stays { OnOk result (output.new.faults ≡ output.old.faults) }
+    ensures prints { Prints output.old.faults output.new.faults result }
 {
     // Only the prover needs these reads: the run is over frozen tables, before and after.
     let _begun = run.image();

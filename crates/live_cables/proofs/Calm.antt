@@ -187,12 +187,6 @@ module _ {X : Type 0} (Holds : X → ℕ → Addr → ℕ → HeldBy → X → T
 pub puts_of : (old new : Cabling) (es : List Entry) → Adds old new es → are_calm (transcript old) es ≡ true → Puts old new
 puts_of old new es x calm = record { added = es; grown = x.added; calm = calm; seats = x.seats; limit = x.limit }
 
-pub puts_adds : (old new : Cabling) (es : List Entry) → Adds old new es → are_quiet es ≡ true → Puts old new
-puts_adds old new es x quiet = puts_of old new es x (quiet_calm (transcript old) es quiet)
-
-pub puts_none : (c d : Cabling) → Adds c d [] → Puts c d
-puts_none c d x = puts_of c d [] x refl
-
 pub puts_same : (old new : Cabling) → new ≡ old → Puts old new
 puts_same old new e = subst (Puts old) (sym e)
     (record { added = []; grown = sym (append-nil (transcript old)); calm = refl; seats = refl; limit = refl })

@@ -8,7 +8,6 @@ use Rattle.std.specs.Option.{unwrap_or}
 use Rattle.std.proofs.lemmas.Bool.{and_parts, not-true}
 use Rattle.std.proofs.lemmas.List.{drop-map}
 use Rattle.cable_model.specs.Logs.{Adds, Cabling, entry_at, transcript}
-use Rattle.cable_model.specs.Outcomes.{has_stamp}
 use Rattle.cable_model.specs.Pending.{Pair, pairs, pending}
 use Rattle.cable_model.specs.Transcript.{Entry, Sent, Put, Took, Reached, Dropped, Lost, Hold}
 use Rattle.cable_model.specs.declared.entry.Entry.{Entry as Line}
@@ -142,14 +141,6 @@ gone_lost stamp old new x =
     gone_by (stamp ∷ []) new (λ p g e.
     lost_ends new.seats (transcript old) [] stamp p (sym (in_one stamp p.frame.stamp e))
     (subst (λ l. Has (pending new.seats l) p) (x.added ∙ sym (append-nil (transcript old ++ Lost stamp ∷ []))) g))
-
-pub gone_unheard : (stamp : ℕ) (c : Cabling) → list_any (has_stamp stamp) (pending c.seats (transcript c)) ≡ false
-    → IsTrue (are_gone (stamp ∷ []) c)
-gone_unheard stamp c h =
-    gone_by (stamp ∷ []) c (λ p g e.
-    true≢false
-    (sym (has_any (has_stamp stamp) (pending c.seats (transcript c)) p g (eq-eqb stamp p.frame.stamp (in_one stamp p.frame.stamp e)))
-    ∙ h))
 
 pub gone_then : (s : ℕ) (ss : List ℕ) (b c : Cabling) → IsTrue (are_gone (s ∷ []) b) → Loses ss b c → IsTrue (are_gone ss c)
     → IsTrue (are_gone (s ∷ ss) c)

@@ -1,5 +1,5 @@
 -- The datagrams for an address, as they are released one by one.
-use Rattle.std.proofs.Common.{◌≡◌, ℕ, zero, suc, ◌+◌, ◌<◌, ◌≤◌, Bool, true, false, ◌&&◌, List, [], ◌∷◌, length, filter, Option}
+use Rattle.std.proofs.Common.{◌≡◌, ℕ, zero, suc, ◌+◌, ◌<◌, ◌≤◌, Bool, true, false, List, [], ◌∷◌, length, filter, Option}
 use Rattle.std.proofs.Common.{Some, None, Result, Ok, Err, ◌⊎◌, inl, inr, get_or, refl, sym, ap, ◌∙◌, append-nil, arith, subst}
 use Rattle.std.specs.Prelude.{◌↔◌, Contains, IsOkUnless, OnErr, OnOk, cond, nat_lt, not, option_and_then, slice_get}
 use Rattle.std.specs.List.{position, position_or_len, remove}
@@ -14,9 +14,8 @@ use Rattle.at_base.specs.declared.error.Error.{Error}
 use Rattle.at_base.specs.declared.error.Error.TheVariants.{NotPending}
 use Rattle.cable_model.specs.Holdings.{is_open, released_frame, still_held}
 use Rattle.cable_model.specs.Logs.{Adds, Cabling, transcript}
-use Rattle.cable_model.specs.Outgoing.{let_go, losses}
-use Rattle.cable_model.specs.Transcript.{Entry, Holding, Lost, Put}
-use Rattle.live_cables.specs.Holding.{AreShed, IsReleased}
+use Rattle.cable_model.specs.Transcript.{Holding, Put}
+use Rattle.live_cables.specs.Holding.{IsReleased}
 use Rattle.live_cables.specs.Steps.{Puts}
 use Rattle.live_cables.proofs.Calm.{puts_of, puts_same}
 
@@ -148,33 +147,6 @@ pub put_by : (hw : Hw) (stamp : ℕ) (a b : Cabling) (r : Result (Unit {0}) Erro
 put_by hw stamp a b (Ok u) ok iff refused kept = inl ok
 put_by hw stamp a b (Err e) ok iff refused kept = inr (iff.0 (ap Err refused), adds_same a b kept)
 
-pub spare_by : (a b : Cabling) (r : Result (Unit {0}) Error) → OnOk r (b.spare + 1 ≡ a.spare) → OnErr r (b ≡ a) → a.spare ≤ b.spare + 1
-spare_by a b (Ok u) ok kept = omega (arith, ok)
-spare_by a b (Err e) ok kept = let same = ap (λ (c : Cabling). c.spare) kept in omega (arith, same)
-
--- A datagram with a stamp was given up, or none was held with it.
-pub shed_by : (stamp : ℕ) (a b : Cabling) (r : Result (Unit {0}) Error) → OnOk r (Adds a b (Lost stamp ∷ []))
-    → (r ≡ Err NotPending ↔ (is_open (transcript a) stamp ≡ false)) → IsOkUnless r NotPending → OnErr r (b ≡ a)
-    → Adds a b (let_go (transcript a) (Some stamp))
-shed_by stamp a b (Ok u) ok iff refused kept =
-    (elim (is_open (transcript a) stamp) as (λ o. is_open (transcript a) stamp ≡ o → Adds a b (losses (cond o (Some stamp) None))) [
-      | true ↦ λ e. ok
-      | false ↦ λ e. absurd (let no = iff.1 e in cc)
-    ]) refl
-shed_by stamp a b (Err x) ok iff refused kept =
-    let shut = iff.0 (ap Err refused) in rw shut (adds_same a b kept)
-
--- Room that is made beforehand makes no difference.
-adds_from : (a b : Cabling) (n : ℕ) (es : List Entry) → Adds (record a { spare = n }) b es → Adds a b es
-adds_from a b n es x =
-    record { seats = x.seats; limit = x.limit; rooms = x.rooms; added = x.added; further = x.further; kept = x.kept }
-
-pub shed_from : (stamps : List ℕ) (a mid b : Cabling) (n : ℕ) → mid ≡ record a { spare = n } → AreShed stamps mid b
-    → AreShed stamps a b
-shed_from [] a mid b n e x = adds_from a b n [] (subst (λ c. Adds c b []) e x)
-shed_from (s ∷ ss) a mid b n e (next, x, y) =
-    (next, adds_from a next n _ (subst (λ c. Adds c next (let_go (transcript c) (Some s))) e x), y)
-
 -- ---- Their entries end no pair
 
 pub put_calm : (hw : Hw) (stamp : ℕ) (a b : Cabling) (r : Result (Unit {0}) Error)
@@ -182,13 +154,3 @@ pub put_calm : (hw : Hw) (stamp : ℕ) (a b : Cabling) (r : Result (Unit {0}) Er
     → OnErr r (b ≡ a) → Puts a b
 put_calm hw stamp a b (Ok u) (h, there, of_stamp, adds) kept = puts_of a b (Put (released_frame h hw) ∷ []) adds refl
 put_calm hw stamp a b (Err e) ok kept = puts_same a b kept
-
-pub shed_calm : (stamp : ℕ) (a b : Cabling) (r : Result (Unit {0}) Error) → OnOk r (Adds a b (Lost stamp ∷ []))
-    → (r ≡ Err NotPending ↔ (is_open (transcript a) stamp ≡ false)) → OnErr r (b ≡ a) → Puts a b
-shed_calm stamp a b (Ok u) ok iff kept =
-    puts_of a b (Lost stamp ∷ []) ok (ap (λ o. o && true) (not_shut (is_open (transcript a) stamp) (λ e. absurd (let no = iff.1 e in cc))))
-  where
-    not_shut : (o : Bool) → (o ≡ false → o ≡ true) → o ≡ true
-    not_shut true h = refl
-    not_shut false h = h refl
-shed_calm stamp a b (Err x) ok iff kept = puts_same a b kept

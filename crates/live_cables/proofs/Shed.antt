@@ -14,7 +14,6 @@ use Rattle.cable_model.proofs.Counting.{count-append}
 use Rattle.live_cables.proofs.Calls.{calm_after, calm_takes}
 use Rattle.live_cables.proofs.Calm.{calm-append, let_go_calm}
 use Rattle.live_cables.proofs.Played.{lost_after}
-use Rattle.live_cables.proofs.Released.{adds_same}
 use Rattle.live_cables.specs.Holding.{AreShed}
 use Rattle.live_cables.specs.Living.{Plays, PlaysOn, Stays, Wires, happened, loses}
 use Rattle.live_cables.specs.Playing.{is_took, losses}
@@ -118,10 +117,6 @@ part_more [] n old mid new some x y = absurd (omega (arith, some))
 part_more (s ∷ ss) n old mid new some x y =
     let less : length (s ∷ ss) - 1 ≡ length ss = omega arith in
     (mid, x, subst (λ l. AreShed (take n l) mid new) (ap (λ k. take k ss) less ∙ take_all ss) y)
-
--- Nothing was given up where nothing changed.
-pub part_none : (stamps : List ℕ) (old new : Cabling) → new ≡ old → (n : ℕ) × AreShed (take n stamps) old new
-part_none stamps old new e = (0, adds_same old new e)
 
 -- ---- The whole call
 

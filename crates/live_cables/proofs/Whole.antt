@@ -1,24 +1,22 @@
 -- The invariant of live cables, after a call.
-use Rattle.std.proofs.Common.{◌≡◌, ℕ, zero, suc, Bool, Result, Ok, Err, List, [], ◌∷◌, map, length}
+use Rattle.std.proofs.Common.{◌≡◌, ℕ, zero, suc, Bool, List, [], ◌∷◌, map, length}
 use Rattle.std.proofs.Common.{◌++◌, Option, Some, None, inl, inr, refl, sym, ap, ◌∙◌, slice_get, subst, arith}
-use Rattle.std.specs.Prelude.{OnErr, OnOk, slice_set}
+use Rattle.std.specs.Prelude.{slice_set}
 use Rattle.std.proofs.lemmas.List.{length-map}
 use Rattle.aarp.specs.Mapping.{Mappings, learnt, waited}
 use Rattle.at_base.specs.declared.address.Addr.{Addr}
 use Rattle.at_base.specs.declared.address.Hw.{Hw}
-use Rattle.at_base.specs.declared.error.Error.{Error}
 use Rattle.cable_model.specs.Logs.{Cabling, transcript}
 use Rattle.cable_model.specs.Rooms.{held_rooms}
 use Rattle.cable_model.specs.Transcript.{Took}
 use Rattle.cable_model.specs.declared.seat.Seat.{Seat}
 use Rattle.live_cables.specs.Finding.{Knowing, seat_by}
-use Rattle.live_cables.specs.Holding.{AreFew, AreReleased, AreShed, IsLearntBy, IsReleased, IsTold, KnowsSame, with_known, with_tick}
+use Rattle.live_cables.specs.Holding.{AreFew, AreReleased, IsLearntBy, IsReleased, IsTold, KnowsSame, with_known, with_tick}
 use Rattle.live_cables.specs.Holding.{without_held}
-use Rattle.live_cables.specs.Living.{Plays, Stays, Wires, knowing}
+use Rattle.live_cables.specs.Living.{Stays, Wires, knowing}
 use Rattle.live_cables.specs.Taking.{IsTakenIn}
 use Rattle.live_cables.specs.declared.answer.Answer.{Answer}
 use Rattle.live_cables.proofs.Knows.{few_same, knows_out, map-set}
-use Rattle.live_cables.proofs.Shed.{plays_still, shed_plays}
 use Rattle.station.specs.Hearing.{Hearing}
 use Rattle.station.specs.declared.output.Output.{Output}
 
@@ -180,12 +178,6 @@ stays_taken stamp station ports Hears c m d k f l losing by e h = record {
   ranges = ranges_taken stamp station ports Hears (c, f) (m, l) h ∙ ap (λ n. n.ranges) e;
   losing = refl;
 }
-
--- A call that gave up datagrams at last, or could not.
-pub plays_shed : (old new : Wires) (mid : Cabling) (ss : List ℕ) (r : Result (Unit {0}) Error) → Stays old new
-    → OnOk r (AreShed ss mid new.cabling) → OnErr r (new.cabling ≡ mid) → Plays old (record old { cabling = mid }) → Plays old new
-plays_shed old new mid ss (Ok u) stays shed kept p = shed_plays old new mid stays ss shed p
-plays_shed old new mid ss (Err e) stays shed kept p = plays_still old new mid stays p kept
 
 few_at_first : (seats : List Seat) → AreFew (map (λ (s : Seat). record { known = []; held = [] }) seats)
 few_at_first [] = tt

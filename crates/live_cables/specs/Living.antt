@@ -4,9 +4,9 @@ use Rattle.std.specs.Option.{unwrap_or}
 use Rattle.aarp.specs.Mapping.{Mappings, shed, to_ask}
 use Rattle.at_base.specs.Range.{Span}
 use Rattle.at_base.specs.declared.address.Addr.{Addr}
-use Rattle.cable_model.specs.Logs.{Cabling, transcript}
+use Rattle.cable_model.specs.Logs.{Cabling, transcript, pending_on}
 use Rattle.cable_model.specs.Outcomes.{heard_by}
-use Rattle.cable_model.specs.Pending.{Pair, pending}
+use Rattle.cable_model.specs.Pending.{Pair}
 use Rattle.cable_model.specs.Transcript.{Entry, Took, count}
 use Rattle.live_cables.specs.Finding.{Knowing, held_at as held_in}
 use Rattle.live_cables.specs.Holding.{AreShed, with_tick}
@@ -62,7 +62,7 @@ pub record PlaysOn (taken : ℕ) (old new : Wires) : Type 0 where
 -- A station heard the frame with this stamp, which was pending for it.
 pub record IsHeardFrom (w : Wires) (stamp station : ℕ) (Hears : Hearing → List Output → Type 0) : Type 0 where
   pub pair : Pair
-  pub was_pending : Contains (pending w.cabling.seats (happened w)) pair
+  pub was_pending : Contains (pending_on w.cabling) pair
   pub of_stamp : pair.frame.stamp ≡ stamp
   pub of_station : pair.seat.station ≡ station
   pub put_out : List Output

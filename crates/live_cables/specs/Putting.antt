@@ -6,10 +6,9 @@ use Rattle.at_base.specs.Spelling.{Spells}
 use Rattle.at_base.specs.declared.address.Addr.{Addr}
 use Rattle.at_base.specs.declared.address.Hw.{Hw}
 use Rattle.at_base.specs.Multicast.{all_hw}
-use Rattle.cable_model.specs.Logs.{Adds, Cabling, transcript}
+use Rattle.cable_model.specs.Logs.{Adds, Cabling, transcript, pending_on}
 use Rattle.cable_model.specs.Outcomes.{IsHeard, framed, has_cable, is_named, is_seated}
 use Rattle.cable_model.specs.Outgoing.{IsSent}
-use Rattle.cable_model.specs.Pending.{pending}
 use Rattle.cable_model.specs.Transcript.{next_stamp}
 use Rattle.cable_model.specs.declared.seat.Seat.{Seat}
 use Rattle.live_cables.specs.Finding.{Knowing, answer_of, own_or_none, places_of, request_for, seat_by}
@@ -75,5 +74,5 @@ AreGiven station (o ∷ os) old new =
 -- response or isn't pending.
 abbrev pub IsAnswer : Cabling → ℕ → ℕ → Option Answer → Type 0
 IsAnswer c stamp station answer =
-    ((h : Hearing) × IsHeard (pending c.seats (transcript c)) stamp station h × (answer ≡ answer_of h))
-    ⊎ ((list_any (is_named stamp station) (pending c.seats (transcript c)) ≡ false) × (answer ≡ None))
+    ((h : Hearing) × IsHeard (pending_on c) stamp station h × (answer ≡ answer_of h))
+    ⊎ ((list_any (is_named stamp station) (pending_on c) ≡ false) × (answer ≡ None))

@@ -4,9 +4,9 @@ use Rattle.std.specs.Prelude.{IsTrue, List, [], ◌∷◌, ◌++◌}
 use Rattle.std.specs.List.{list_any}
 use Rattle.std.specs.Option.{unwrap_or}
 use Rattle.cable_model.specs.Holdings.{is_open}
-use Rattle.cable_model.specs.Logs.{Cabling, transcript}
+use Rattle.cable_model.specs.Logs.{Cabling, transcript, pending_on}
 use Rattle.cable_model.specs.Outcomes.{heard_by}
-use Rattle.cable_model.specs.Pending.{Pair, pending}
+use Rattle.cable_model.specs.Pending.{Pair}
 use Rattle.cable_model.specs.Transcript.{Entry, Took, Lost}
 use Rattle.cable_model.specs.declared.entry.Entry.{Entry as Line}
 use Rattle.cable_model.specs.declared.entry.Entry.TheVariants as line
@@ -60,7 +60,7 @@ pub record Loses (stamps : List ℕ) (old new : Cabling) : Type 0 where
 
 -- None of these frames is pending.
 abbrev pub are_gone : List ℕ → Cabling → Bool
-are_gone stamps c = not (list_any (λ p. is_in stamps p.frame.stamp) (pending c.seats (transcript c)))
+are_gone stamps c = not (list_any (λ p. is_in stamps p.frame.stamp) (pending_on c))
 
 -- The cable loses the frames that are put on it; a cable past the end of the list loses none.
 abbrev pub loses_by : List Bool → ℕ → Bool
@@ -86,7 +86,7 @@ IsSendable _ = Unit {0}
 -- and the limit stay the same.
 pub record Takes (old new : Cabling) (stamp station : ℕ) (Hears : Hearing → List Output → Type 0) : Type 0 where
   pub pair : Pair
-  pub was_pending : Contains (pending old.seats (transcript old)) pair
+  pub was_pending : Contains (pending_on old) pair
   pub of_stamp : pair.frame.stamp ≡ stamp
   pub of_station : pair.seat.station ≡ station
   pub put_out : List Output

@@ -1,15 +1,14 @@
 //! Live cables.
 
-ghost use Rattle.std.specs.Prelude.{◌≡◌, ◌⊎◌, ◌↔◌, ◌++◌, ◌==◌, [], IfErr, IfOk, IfNone, IfSome};
+ghost use Rattle.std.specs.Prelude.{◌≡◌, ◌⊎◌, ◌↔◌, ◌==◌, [], IfErr, IfOk, IfNone, IfSome};
 ghost use Rattle.std.specs.Prelude.{false, length, map, slice_set, IsOkUnless, IsTrue, None, OnErr};
 ghost use Rattle.std.specs.Prelude.{OnOk, ℕ};
 ghost use Rattle.std.specs.List.{list_any};
 ghost use Rattle.aarp.specs.Mapping as mapping_spec;
 ghost use Rattle.cable_model.specs.Books.{HasOneSeat};
 ghost use Rattle.cable_model.specs.Logs as logs_spec;
-ghost use Rattle.cable_model.specs.Logs.{bytes_at};
+ghost use Rattle.cable_model.specs.Logs.{bytes_at, pending_on};
 ghost use Rattle.cable_model.specs.Outcomes.{AreSeatsOf, IsLeast, is_named};
-ghost use Rattle.cable_model.specs.Pending as pending_spec;
 ghost use Rattle.cable_model.specs.Rooms.{held_rooms};
 ghost use Rattle.cable_model.specs.Transcript.{ArePutOnce};
 ghost use Rattle.live_cables.specs.Finding.{held_at};
@@ -126,15 +125,15 @@ impl LiveCables {
     /// The lowest pending stamp, and the lowest station for which it is pending. Allocates nothing.
     pub fn first(&self) -> Option<(u32, u16)>
         ensures some { IfSome result (λ pair.
-            IsLeast (pending_spec.pending self.now.cabling.seats (happened self.now)) pair.0 pair.1) }
-        ensures none { IfNone result (pending_spec.pending self.now.cabling.seats (happened self.now) ≡ []) }
+            IsLeast (pending_on self.now.cabling) pair.0 pair.1) }
+        ensures none { IfNone result (pending_on self.now.cabling ≡ []) }
     {
         self.cables.first()
     }
 
     /// The number of pending pairs of a frame and a station. Allocates nothing.
     pub fn pending_count(&self) -> usize
-        ensures { result ≡ length (pending_spec.pending self.now.cabling.seats (happened self.now)) }
+        ensures { result ≡ length (pending_on self.now.cabling) }
     {
         self.cables.pending_count()
     }
@@ -202,7 +201,7 @@ impl LiveCables {
             (λ h added. S.hears taker.old h added taker.new)) }
         ensures ports_stay { S.ports_of taker.new ≡ S.ports_of taker.old }
         ensures not_pending { (result ≡ Err Error.NotPending) ↔ (list_any (is_named stamp station)
-            (pending_spec.pending self.old.cabling.seats (happened self.old)) ≡ false) }
+            (pending_on self.old.cabling) ≡ false) }
         ensures full { (result ≡ Err Error.Full) → HasNoRoom 1285 self.new.cabling }
         ensures refused { IfErr result (λ e. (e ≡ Error.NotPending) ⊎ (e ≡ Error.Full)
             ⊎ (e ≡ Error.Memory)) }

@@ -3,11 +3,10 @@
 ghost use Rattle.std.specs.Prelude.{◌≡◌, ◌⊎◌, ◌↔◌, ◌++◌, ◌∷◌, []};
 ghost use Rattle.std.specs.Prelude.{IfErr, IsOkUnless, IsTrue, OnErr, OnOk, drop, true};
 ghost use Rattle.std.specs.List.{list_any};
-ghost use Rattle.cable_model.specs.Logs as logs_spec;
 ghost use Rattle.cable_model.specs.Outcomes.{has_stamp};
-ghost use Rattle.cable_model.specs.Pending as pending_spec;
 ghost use Rattle.live_cables.specs.Steps.{HasNoRoom, Loses, are_gone, line_losses, loses_by};
 ghost use Rattle.live_cables.specs.Steps.{losses_since};
+ghost use Rattle.cable_model.specs.Logs.{pending_on};
 
 use at_base::Error;
 use cable_model::{Cables, Entry};
@@ -55,7 +54,7 @@ fn lose(cables: &mut Cables, stamp: u32) -> Result<(), Error>
     ensures rooms { cables.new.rooms ≡ cables.old.rooms }
     ensures gone { OnOk result (IsTrue (are_gone (stamp ∷ []) cables.new)) }
     ensures full { (result ≡ Err Error.Full)
-        ↔ ((list_any (has_stamp stamp) (pending_spec.pending cables.old.seats (logs_spec.transcript cables.old)) ≡ true)
+        ↔ ((list_any (has_stamp stamp) (pending_on cables.old) ≡ true)
         × HasNoRoom 1 cables.old) }
     ensures kept { OnErr result (cables.new ≡ cables.old) }
     ensures refused { IfErr result (λ e. (e ≡ Error.Full) ⊎ (e ≡ Error.Memory)) }

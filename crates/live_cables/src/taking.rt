@@ -1,16 +1,15 @@
 //! A station takes a frame.
 
-ghost use Rattle.std.specs.Prelude.{◌≡◌, ◌⊎◌, ◌↔◌, false, IfErr, OnErr, OnOk, Some, length};
+ghost use Rattle.std.specs.Prelude.{◌≡◌, ◌⊎◌, ◌↔◌, false, IfErr, OnErr, OnOk, Some};
 ghost use Rattle.std.specs.List.{list_any};
-ghost use Rattle.cable_model.specs.Logs as logs_spec;
 ghost use Rattle.cable_model.specs.Outcomes.{AreSeatsOf, is_named};
-ghost use Rattle.cable_model.specs.Pending as pending_spec;
 ghost use Rattle.cable_model.specs.Rooms.{held_rooms};
 ghost use Rattle.live_cables.specs.Finding.{seat_by};
 ghost use Rattle.live_cables.specs.Holding.{AreFew};
 ghost use Rattle.live_cables.specs.Putting.{IsAnswer};
 ghost use Rattle.live_cables.specs.Steps.{HasNoRoom, Takes};
 ghost use Rattle.live_cables.specs.Taking.{IsTakenIn};
+ghost use Rattle.cable_model.specs.Logs.{pending_on};
 
 use crate::answer::{Answer, answer_in};
 use crate::neighbours::Neighbours;
@@ -51,7 +50,7 @@ fn take_answer<S: Taker>(
     ensures few { AreFew near.new.maps }
     ensures ports_stay { S.ports_of taker.new ≡ S.ports_of taker.old }
     ensures not_pending { (result ≡ Err Error.NotPending) ↔ (list_any (is_named stamp station)
-        (pending_spec.pending cables.old.seats (logs_spec.transcript cables.old)) ≡ false) }
+        (pending_on cables.old) ≡ false) }
     ensures full { (result ≡ Err Error.Full) → HasNoRoom 1285 cables.old }
     ensures refused { IfErr result (λ e. (e ≡ Error.NotPending) ⊎ (e ≡ Error.Full)
         ⊎ (e ≡ Error.Memory)) }
@@ -103,7 +102,7 @@ pub fn take<S: Taker>(
     ensures few { AreFew near.new.maps }
     ensures ports_stay { S.ports_of taker.new ≡ S.ports_of taker.old }
     ensures not_pending { (result ≡ Err Error.NotPending) ↔ (list_any (is_named stamp station)
-        (pending_spec.pending cables.old.seats (logs_spec.transcript cables.old)) ≡ false) }
+        (pending_on cables.old) ≡ false) }
     ensures full { (result ≡ Err Error.Full) → HasNoRoom 1285 cables.old }
     ensures refused { IfErr result (λ e. (e ≡ Error.NotPending) ⊎ (e ≡ Error.Full)
         ⊎ (e ≡ Error.Memory)) }

@@ -15,6 +15,7 @@ use at_base::{Addr, Bytes, Error, Hw};
 use station::{Output, Outputs};
 
 /// Adds the probe of this tick, if there is one, to all stations of the cable. Error: `Memory`.
+#[tactic(auto, unfolding(station::specs::Made::AreMade))]
 fn put_probe(made: &mut Vec<Output>, sent: &Option<Packet>) -> Result<(), Error>
     ensures put { OnOk result (made.new.items ≡ made.old.items ++ probe sent.now) }
     ensures few { OnOk result (length made.new.items ≤ length made.old.items + 1) }
@@ -71,6 +72,9 @@ impl LiveNode {
         ensures refused { IsOkUnless result Error.Memory }
         ensures outputs_stay { OnErr result (outputs.new.items ≡ outputs.old.items) }
     {
+        if sent.is_none() && !self.asks(own) && self.node.is_idle() {
+            return Ok(());
+        }
         let made = self.made(sent, own)?;
         if made.is_empty() {
             return Ok(());

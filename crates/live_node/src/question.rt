@@ -8,6 +8,7 @@ ghost use Rattle.live_node.specs.Ticking.{wait_after};
 ghost use Rattle.station.specs.Made.{AreMade};
 ghost use Rattle.zip_zones.specs.Formats as formats_spec;
 ghost use Rattle.zip_zones.specs.Written.{question};
+ghost use Rattle.at_base.specs.Limits.{max_data};
 
 use crate::live::LiveNode;
 use at_base::{Addr, Bytes, Error, Name, Text32};
@@ -57,7 +58,7 @@ fn text_of(zone: &Name) -> Text32
 /// The data of the GetNetInfo request of a node in this zone. Error: `Memory`.
 fn data_for(alloc: Global, zone: &Name) -> Result<Bytes, Error>
     ensures ok { IfOk result (λ bytes. bytes ≡ bytes_of formats_spec.packet (question zone.now)) }
-    ensures short { IfOk result (λ bytes. length bytes ≤ 586) }
+    ensures short { IfOk result (λ bytes. length bytes ≤ max_data) }
     ensures refused { IsOkUnless result Error.Memory }
 {
     write_get_net_info(alloc, &text_of(zone))
@@ -72,7 +73,7 @@ impl LiveNode {
     }
 
     /// Whether the node, with this address or none, sends a request in this tick.
-    fn asks(&self, own: Option<Addr>) -> bool
+    pub(crate) fn asks(&self, own: Option<Addr>) -> bool
         ensures { result ≡ spec.asks own self.now }
     {
         self.is_asking(own) && self.wait == 0

@@ -85,10 +85,6 @@ ports_few k (c ∷ cs) rows =
 pub ticked_len : (ports : List Choice) → length (ports_ticked ports) ≡ length ports
 ticked_len ports = length-map ports (λ c. (ticked c).0)
 
--- an empty list of outputs is made by any station
-pub none_made : (n : ℕ) (os : List Output) → os ≡ [] → AreMade n os
-none_made n os none = rw none (λ k d lt. absurd (omega arith))
-
 -- outputs that were made for the ports after a tick were made for the ports before it
 pub made_in : (ports after : List Choice) (probed sent : List Output) → after ≡ ports_ticked ports
     → (AreMade (length after) probed → AreMade (length after) sent) → AreMade (length ports) probed → AreMade (length ports) sent

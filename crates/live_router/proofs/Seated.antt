@@ -1,18 +1,20 @@
 -- The ports of rows stay below a bound when rows are heard, added or aged.
-use Rattle.std.proofs.Common.{◌≡◌, ℕ, ◌+◌, ◌≤◌, Bool, true, false, cond, not, ◌&&◌, ◌||◌, ◌==◌, List, [], ◌∷◌, length, map, filter, find}
+use Rattle.std.proofs.Common.{◌≡◌, ℕ, ◌+◌, ◌≤◌, Bool, true, false, cond, not, ◌&&◌, ◌||◌, ◌==◌, List, [], ◌∷◌, length, map, filter}
 use Rattle.std.proofs.Common.{Option, Some, None, refl, arith}
 use Rattle.std.specs.Prelude.{nat_le, nat_lt}
 use Rattle.std.specs.List.{list_all}
 use Rattle.std.proofs.lemmas.Bool.{and_parts, lt-ltb}
 use Rattle.aarp.specs.Choosing.{Choice}
 use Rattle.at_base.specs.Address.{same_address}
+use Rattle.at_base.proofs.Lists.{all_filter, found_all}
+use Rattle.at_base.proofs.Spans.{all_with}
 use Rattle.at_base.specs.Range.{Span, overlaps, same_range}
 use Rattle.at_base.specs.declared.address.Addr.{Addr}
 use Rattle.learning.specs.Heard.{is_from_neighbour, routes_after}
 use Rattle.live_router.specs.Ticking.{all_joined, joined, routes_aged, settles}
 use Rattle.rtmp.specs.Data.{RoutingData, tuples_of}
-use Rattle.rtmp.specs.Routes.{added, after_hearing, aged, aged_row, beside, direct_row, directed, heard, heard_packet, heard_row}
-use Rattle.rtmp.specs.Routes.{heard_within, is_direct, is_new, is_over, older, replaced, replaced_row, row_at}
+use Rattle.rtmp.specs.Routes.{after_hearing, aged, aged_row, beside, direct_row, directed, heard, heard_packet, heard_row}
+use Rattle.rtmp.specs.Routes.{heard_within, is_direct, is_new, is_over, older, row_at}
 use Rattle.rtmp.specs.States.{is_usable}
 use Rattle.rtmp.specs.declared.row.Row.{Row}
 use Rattle.rtmp.specs.declared.state.State.TheVariants.{Bad}
@@ -38,36 +40,6 @@ map_seated n f keeps (r ∷ rows) h =
     let p = and_parts (is_seated n r) (list_all (λ x. nat_lt x.port n) rows) h in
     rw (keeps r p.0, map_seated n f keeps rows p.1) refl
 
-filter_seated : (n : ℕ) (test : Row → Bool) (rows : List Row) → Seated n rows → Seated n (filter test rows)
-filter_seated n test [] h = refl
-filter_seated n test (r ∷ rows) h =
-    let p = and_parts (is_seated n r) (list_all (λ x. nat_lt x.port n) rows) h in
-    let rest = filter_seated n test rows p.1 in
-    (elim (test r) as (λ b. test r ≡ b → Seated n (filter test (r ∷ rows))) [
-      | true ↦ λ t. rw (t, p.0, rest) refl
-      | false ↦ λ t. rw t rest
-    ]) refl
-
-added_seated : (n : ℕ) (row : Row) (rows : List Row) → is_seated n row ≡ true → Seated n rows → Seated n (added row rows)
-added_seated n row [] new h = rw new refl
-added_seated n row (r ∷ rows) new h =
-    let p = and_parts (is_seated n r) (list_all (λ x. nat_lt x.port n) rows) h in
-    let rest = added_seated n row rows new p.1 in
-    (elim (nat_lt r.range.start row.range.start) as (λ b. nat_lt r.range.start row.range.start ≡ b → Seated n (added row (r ∷ rows))) [
-      | true ↦ λ t. rw (t, p.0, rest) refl
-      | false ↦ λ t. rw (t, new, p.0, p.1) refl
-    ]) refl
-
-found_seated : (n : ℕ) (test : Row → Bool) (rows : List Row) (row : Row) → Seated n rows → find test rows ≡ Some row
-    → is_seated n row ≡ true
-found_seated n test [] row h e = absurd cc
-found_seated n test (r ∷ rows) row h e =
-    let p = and_parts (is_seated n r) (list_all (λ x. nat_lt x.port n) rows) h in
-    (elim (test r) as (λ b. test r ≡ b → is_seated n row ≡ true) [
-      | true ↦ λ t. let is : Some r ≡ Some row = rw t at e in let same : r ≡ row = cc in rw (← same) p.0
-      | false ↦ λ t. found_seated n test rows row p.1 (rw t at e)
-    ]) refl
-
 -- ---- Routing data
 
 hearing_seated : (n : ℕ) (row : Row) (t : ℕ) (s : Addr) (port : ℕ) → is_seated n row ≡ true → nat_lt port n ≡ true
@@ -85,25 +57,18 @@ hearing_seated n row t s port old new =
     by false false true false = old
     by false false false near = old
 
-replaced_seated : (n : ℕ) (row : Row) (rows : List Row) → is_seated n row ≡ true → Seated n rows → Seated n (replaced row rows)
-replaced_seated n row rows new h = map_seated n (replaced_row row) (λ r old. by r (same_range r.range row.range) old) rows h
-  where
-    by : (r : Row) (b : Bool) → is_seated n r ≡ true → is_seated n (cond b row r) ≡ true
-    by r true old = new
-    by r false old = old
-
 heard_seated : (n : ℕ) (range : Span) (t : ℕ) (s : Addr) (port : ℕ) (rows : List Row) → nat_lt port n ≡ true → Seated n rows
     → Seated n (heard range t s port rows).0
 heard_seated n range t s port rows new h = by (row_at range rows) refl
   where
     by_new : (b : Bool) → is_new range t rows ≡ b → row_at range rows ≡ None → Seated n (heard range t s port rows).0
-    by_new true u e = rw (e, u) (added_seated n (heard_row range t s port) rows new h)
+    by_new true u e = rw (e, u) (all_with (λ r. r.range) (is_seated n) (heard_row range t s port) rows new h)
     by_new false u e = rw (e, u) h
 
     by : (o : Option Row) → row_at range rows ≡ o → Seated n (heard range t s port rows).0
     by (Some row) e =
-        let old = found_seated n (λ r. same_range r.range range) rows row h e in
-        rw e (replaced_seated n (after_hearing row t s port).0 rows (hearing_seated n row t s port old new) h)
+        let old = found_all (is_seated n) (λ r. same_range r.range range) rows row h e in
+        rw e (all_with (λ r. r.range) (is_seated n) (after_hearing row t s port).0 rows (hearing_seated n row t s port old new) h)
     by None e = by_new (is_new range t rows) refl e
 
 within_seated : (n : ℕ) (range : Span) (t : ℕ) (s : Addr) (port : ℕ) (rows : List Row) → nat_lt port n ≡ true → Seated n rows
@@ -137,7 +102,8 @@ joined_seated n range k rows new h = by (nat_lt (length (beside range rows)) 200
   where
     by : (b : Bool) → Seated n (cond b (directed range k rows) rows)
     by true =
-        added_seated n (direct_row range k) (beside range rows) new (filter_seated n (λ r. not (overlaps r.range range)) rows h)
+        all_with (λ r. r.range) (is_seated n) (direct_row range k) (beside range rows) new
+        (all_filter (is_seated n) (λ r. not (overlaps r.range range)) rows h)
     by false = h
 
 -- after some of the ports, which are numbered from k, settled, the port of each row is below n
@@ -154,7 +120,7 @@ all_joined_seated n k (c ∷ cs) rows few h =
 aged_seated : (n : ℕ) (rows : List Row) → Seated n rows → Seated n (aged rows)
 aged_seated n rows h =
     map_seated n aged_row (λ r old. by r (is_direct r) old) (filter (λ r. not (is_over r)) rows)
-    (filter_seated n (λ r. not (is_over r)) rows h)
+    (all_filter (is_seated n) (λ r. not (is_over r)) rows h)
   where
     by : (r : Row) (b : Bool) → is_seated n r ≡ true → is_seated n (cond b r (record r { state = older r.state })) ≡ true
     by r true old = old

@@ -12,7 +12,7 @@ use Rattle.rtmp.specs.Sending.{IsPacket, of_other_ports, own_tuple, packet_numbe
 use Rattle.rtmp.specs.declared.row.Row.{Row}
 use Rattle.rtmp.specs.declared.tuple.Tuple.{Tuple}
 use Rattle.zip_zones.specs.Formats.{body, packet as zip_packet}
-use Rattle.zip_zones.specs.Networks.{network}
+use Rattle.zip_zones.specs.Packets.{network}
 use Rattle.zip_zones.specs.declared.packet.Packet.TheVariants.{Query}
 
 -- ---- Routing data

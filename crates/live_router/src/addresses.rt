@@ -43,10 +43,11 @@ fn probe_frame(alloc: Global, port: u8, probe: &Packet) -> Result<Output, Error>
 }
 
 /// Adds the frame with a probe, if there is one. Error: `Memory`.
+#[tactic(auto, unfolding(station::specs::Made::AreMade))]
 fn put_probe(made: &mut Vec<Output>, port: u8, probe: &Option<Packet>) -> Result<(), Error>
     ensures put { OnOk result (made.new.items ≡ made.old.items ++ spec.probe_by port probe.now) }
-    ensures good { OnOk result ((n : ℕ) → port < n → AreMade n made.old.items
-        → AreMade n made.new.items) }
+    ensures good { (n : ℕ) → port < n → AreMade n made.old.items
+        → AreMade n made.new.items }
     ensures refused { IsOkUnless result Error.Memory }
 {
     match probe {
@@ -70,8 +71,8 @@ fn tick_port(
     ensures next { OnOk result (next.new.items ≡ next.old.items ++ (ticked chooser.now).0 ∷ []) }
     ensures put { OnOk result
         (made.new.items ≡ made.old.items ++ spec.probe_by port (ticked chooser.now).1) }
-    ensures good { OnOk result ((n : ℕ) → port < n → AreMade n made.old.items
-        → AreMade n made.new.items) }
+    ensures good { (n : ℕ) → port < n → AreMade n made.old.items
+        → AreMade n made.new.items }
     ensures refused { IsOkUnless result Error.Memory }
 {
     let mut chooser = chooser.copy()?;
@@ -90,8 +91,8 @@ fn tick_ports(
     requires { port + length ports.now ≤ 16 }
     ensures next { OnOk result (next.new.items ≡ next.old.items ++ ports_ticked ports.now) }
     ensures put { OnOk result (made.new.items ≡ made.old.items ++ probes port ports.now) }
-    ensures good { OnOk result ((n : ℕ) → port + length ports.now ≤ n → AreMade n made.old.items
-        → AreMade n made.new.items) }
+    ensures good { (n : ℕ) → port + length ports.now ≤ n → AreMade n made.old.items
+        → AreMade n made.new.items }
     ensures refused { IsOkUnless result Error.Memory }
 {
     match ports {
@@ -113,8 +114,8 @@ pub(crate) fn ports_after<T: RouteTable>(
         router.now.ports ≡ ports_ticked router.now.ports) }
     ensures put { IfOk result
         (λ next. made.new.items ≡ made.old.items ++ probes 0 router.now.ports) }
-    ensures good { IfOk result (λ next. AreMade (length router.now.ports) made.old.items
-        → AreMade (length router.now.ports) made.new.items) }
+    ensures good { AreMade (length router.now.ports) made.old.items
+        → AreMade (length router.now.ports) made.new.items }
     ensures refused { IsOkUnless result Error.Memory }
 {
     let ports = router.ports_now();

@@ -1,13 +1,14 @@
 //! The queries for zone lists that a router sends.
 
-ghost use Rattle.std.specs.Prelude.{◌≡◌, ◌<◌, ◌≤◌, ◌+◌, ◌++◌, ◌∷◌, [], ℕ, length};
-ghost use Rattle.std.specs.Prelude.{IfOk, IfSome, IsOk, IsOkUnless, None, OnOk, Some};
+ghost use Rattle.std.specs.Prelude.{◌≡◌, ◌<◌, ◌≤◌, ◌∷◌, [], ℕ, length};
+ghost use Rattle.std.specs.Prelude.{IfOk, IfSome, IsOkUnless, None, Some};
 ghost use Rattle.at_base.specs.Spelling.{bytes_of};
 ghost use Rattle.live_router.specs.Ticking.{all_queries, query_from};
 ghost use Rattle.router.specs.Holding as holding_spec;
-ghost use Rattle.station.specs.Made.{AreMade};
+ghost use Rattle.station.specs.Made.{AreMade, Puts};
 ghost use Rattle.zip_zones.specs.Formats as formats_spec;
 ghost use Rattle.zip_zones.specs.declared.packet.Packet.TheVariants.{Query as QueryPacket};
+ghost use Rattle.at_base.specs.Limits.{max_data};
 
 use crate::sent::header_of;
 use aarp::Chooser;
@@ -34,7 +35,7 @@ fn own_at(ports: &[Chooser], port: u8) -> Option<Addr>
 fn query_bytes(alloc: Global, start: u16) -> Result<Bytes, Error>
     ensures ok { IfOk result
         (λ bytes. bytes ≡ bytes_of formats_spec.packet (QueryPacket (start ∷ []))) }
-    ensures short { IfOk result (λ bytes. length bytes ≤ 586) }
+    ensures short { IfOk result (λ bytes. length bytes ≤ max_data) }
     ensures refused { IsOkUnless result Error.Memory }
 {
     match write_query(alloc, &[start]) {
@@ -45,12 +46,10 @@ fn query_bytes(alloc: Global, start: u16) -> Result<Bytes, Error>
 
 /// Adds a query with this source address, which is that of the query's port. Error: `Memory`.
 fn put_query_from(made: &mut Vec<Output>, me: Addr, query: &Query) -> Result<(), Error>
-    ensures put { OnOk result
-        (made.new.items ≡ made.old.items ++ query_from (Some me) query.now) }
-    ensures few { OnOk result (length made.new.items ≤ length made.old.items + 1) }
-    ensures good { OnOk result ((n : ℕ) → query.now.port < n → AreMade n made.old.items
-        → AreMade n made.new.items) }
-    ensures refused { IsOkUnless result Error.Memory }
+    ensures puts { Puts 1 (query_from (Some me) query.now)
+        made.old.items made.new.items result }
+    ensures good { (n : ℕ) → query.now.port < n → AreMade n made.old.items
+        → AreMade n made.new.items }
 {
     let payload = query_bytes(*made.allocator(), query.start)?;
     let way = Way {
@@ -63,14 +62,10 @@ fn put_query_from(made: &mut Vec<Output>, me: Addr, query: &Query) -> Result<(),
 
 /// Adds a query on its port, if that is settled. Error: `Memory`.
 fn put_query(made: &mut Vec<Output>, ports: &[Chooser], query: &Query) -> Result<(), Error>
-    ensures put { OnOk result (made.new.items ≡ made.old.items
-        ++ query_from (holding_spec.own_at ports.now query.now.port) query.now) }
-    // Nothing is sent then, which needs no memory.
-    ensures unsettled { holding_spec.own_at ports.now query.now.port ≡ None → IsOk result }
-    ensures few { OnOk result (length made.new.items ≤ length made.old.items + 1) }
-    ensures good { OnOk result ((n : ℕ) → length ports.now ≤ n → AreMade n made.old.items
-        → AreMade n made.new.items) }
-    ensures refused { IsOkUnless result Error.Memory }
+    ensures puts { Puts 1 (query_from (holding_spec.own_at ports.now query.now.port) query.now)
+        made.old.items made.new.items result }
+    ensures good { (n : ℕ) → length ports.now ≤ n → AreMade n made.old.items
+        → AreMade n made.new.items }
 {
     match own_at(ports, query.port) {
         Some(me) => put_query_from(made, me, query),
@@ -84,13 +79,10 @@ pub(crate) fn put_queries(
     ports: &[Chooser],
     queries: &[Query],
 ) -> Result<(), Error>
-    ensures put { OnOk result
-        (made.new.items ≡ made.old.items ++ all_queries ports.now queries.now) }
-    ensures few { OnOk result
-        (length made.new.items ≤ length made.old.items + length queries.now) }
-    ensures good { OnOk result ((n : ℕ) → length ports.now ≤ n → AreMade n made.old.items
-        → AreMade n made.new.items) }
-    ensures refused { IsOkUnless result Error.Memory }
+    ensures puts { Puts (length queries.now) (all_queries ports.now queries.now)
+        made.old.items made.new.items result }
+    ensures good { (n : ℕ) → length ports.now ≤ n → AreMade n made.old.items
+        → AreMade n made.new.items }
 {
     match queries {
         [] => Ok(()),

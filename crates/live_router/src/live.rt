@@ -7,8 +7,9 @@ ghost use Rattle.station.specs.Ports.{is_planned, planned};
 
 use crate::passing::{pass, phase_after};
 use crate::received::hear;
+use at_base::limits::MAX_PORTS;
 use at_base::{Addr, Error};
-use router::{MAX_PORTS, Router};
+use router::Router;
 use rtmp::RouteTable;
 use station::{Heard, Outputs, PortPlan, Station};
 use std::alloc::Global;

@@ -10,7 +10,7 @@ ghost use Rattle.live_router.specs.Ticking as spec;
 ghost use Rattle.live_router.specs.Ticking.{ports_ticked, probes};
 ghost use Rattle.live_router.specs.Ticking.{router_after, routes_aged, sent_by, zones_aged};
 ghost use Rattle.station.specs.Lawful.{PutsOut};
-ghost use Rattle.station.specs.Made.{AreMade};
+ghost use Rattle.station.specs.Made.{Adds, AreMade};
 
 use crate::addresses::ports_after;
 use crate::asked::put_queries;
@@ -22,6 +22,7 @@ use at_base::Error;
 use learning::queries;
 use router::Router;
 use rtmp::RouteTable;
+use station::making::nothing;
 use station::{Output, Outputs};
 use zip_zones::ZoneTable;
 
@@ -48,14 +49,10 @@ fn send_all<T: RouteTable>(
     zones: &ZoneTable,
 ) -> Result<(), Error>
     requires { length ports.now ≤ 16 }
-    ensures put { OnOk result (made.new.items ≡ made.old.items
-        ++ (data_from 0 ports.now (T.rows routes.now)
-        ++ all_queries ports.now (queries_of (T.rows routes.now) zones.now))) }
-    ensures few { OnOk result (length made.new.items ≤ length made.old.items
-        + length (data_from 0 ports.now (T.rows routes.now)) + 200) }
-    ensures good { OnOk result (AreMade (length ports.now) made.old.items
-        → AreMade (length ports.now) made.new.items) }
-    ensures refused { IsOkUnless result Error.Memory }
+    ensures { Adds (length ports.now) (length (data_from 0 ports.now (T.rows routes.now)) + 200)
+        (data_from 0 ports.now (T.rows routes.now)
+        ++ all_queries ports.now (queries_of (T.rows routes.now) zones.now))
+        made.old.items made.new.items result }
 {
     put_all_data(made, 0, ports, routes)?;
     let queries = queries(*made.allocator(), routes, zones)?;
@@ -72,14 +69,10 @@ fn send<T: RouteTable>(
     zones: &ZoneTable,
 ) -> Result<(), Error>
     requires { length ports.now ≤ 16 }
-    ensures put { OnOk result (made.new.items ≡ made.old.items ++ (if phase % 50 == 0
-        then data_from 0 ports.now (T.rows routes.now)
-        ++ all_queries ports.now (queries_of (T.rows routes.now) zones.now) else [])) }
-    ensures few { OnOk result (length made.new.items ≤ length made.old.items
-        + length (data_from 0 ports.now (T.rows routes.now)) + 200) }
-    ensures good { OnOk result (AreMade (length ports.now) made.old.items
-        → AreMade (length ports.now) made.new.items) }
-    ensures refused { IsOkUnless result Error.Memory }
+    ensures { Adds (length ports.now) (length (data_from 0 ports.now (T.rows routes.now)) + 200)
+        (if phase % 50 == 0 then data_from 0 ports.now (T.rows routes.now)
+        ++ all_queries ports.now (queries_of (T.rows routes.now) zones.now) else [])
+        made.old.items made.new.items result }
 {
     if phase % SEND_TICKS != 0 {
         return Ok(());
@@ -113,7 +106,7 @@ fn passed<T: RouteTable>(router: &Router<T>, phase: u8) -> Result<Ticked<T>, Err
         (unwrap_or (option_map T.rows x.tables.routes) router.now.routes))) }
     ensures refused { IsOkUnless result Error.Memory }
 {
-    let mut made = Vec::new(router.allocator());
+    let mut made = nothing(router.allocator());
     let ports = ports_after(router, &mut made)?;
     let after = ports_now(&ports, router.ports_now());
     let tables = tables_after(router, phase, after)?;

@@ -60,8 +60,8 @@ fn put_packet<T: RouteTable>(
     ensures put { OnOk result (made.new.items ≡ made.old.items
         ++ map (λ p. making_spec.made (spec.data_way port me) (bytes_of routing_data p))
         (option_to_list (packet_numbered port range me number (T.rows routes.now)))) }
-    ensures good { OnOk result ((n : ℕ) → port < n → AreMade n made.old.items
-        → AreMade n made.new.items) }
+    ensures good { (n : ℕ) → port < n → AreMade n made.old.items
+        → AreMade n made.new.items }
     ensures refused { IsOkUnless result Error.Memory }
 {
     let packet = write_data(*made.allocator(), routes, port, range, me, number)?;
@@ -79,8 +79,8 @@ fn put_packets<T: RouteTable>(
     ensures put { OnOk result (made.new.items ≡ made.old.items
         ++ map (λ p. making_spec.made (spec.data_way port me) (bytes_of routing_data p))
         (packets_for port range me (T.rows routes.now))) }
-    ensures good { OnOk result ((n : ℕ) → port < n → AreMade n made.old.items
-        → AreMade n made.new.items) }
+    ensures good { (n : ℕ) → port < n → AreMade n made.old.items
+        → AreMade n made.new.items }
     ensures refused { IsOkUnless result Error.Memory }
 {
     // A table of at most 200 rows gives at most three packets.
@@ -100,8 +100,8 @@ fn put_data<T: RouteTable>(
         ++ data_by port chooser.now.range (settled chooser.now) (T.rows routes.now)) }
     // Nothing is sent then, which needs no memory.
     ensures unsettled { settled chooser.now ≡ None → IsOk result }
-    ensures good { OnOk result ((n : ℕ) → port < n → AreMade n made.old.items
-        → AreMade n made.new.items) }
+    ensures good { (n : ℕ) → port < n → AreMade n made.old.items
+        → AreMade n made.new.items }
     ensures refused { IsOkUnless result Error.Memory }
 {
     match chooser.settled() {
@@ -121,8 +121,8 @@ pub(crate) fn put_all_data<T: RouteTable>(
     requires { port + length ports.now ≤ 16 }
     ensures put { OnOk result
         (made.new.items ≡ made.old.items ++ data_from port ports.now (T.rows routes.now)) }
-    ensures good { OnOk result ((n : ℕ) → port + length ports.now ≤ n → AreMade n made.old.items
-        → AreMade n made.new.items) }
+    ensures good { (n : ℕ) → port + length ports.now ≤ n → AreMade n made.old.items
+        → AreMade n made.new.items }
     ensures refused { IsOkUnless result Error.Memory }
 {
     match ports {

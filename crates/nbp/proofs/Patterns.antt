@@ -7,6 +7,7 @@ use Rattle.std.specs.Char.{to_ascii_lowercase}
 use Rattle.std.proofs.lemmas.Bool.{and_parts, ltb-true, ltb-false, leb-true, le-leb}
 use Rattle.std.proofs.Math.Seq.{take-length, take-append_seam, drop-append_seam}
 use Rattle.std.proofs.lemmas.List.{map-append, take-map, drop-map, length-map, length-drop, length-append, take-append-drop, drop-drop}
+use Rattle.at_base.proofs.Cases.{by_test}
 use Rattle.at_base.specs.Text.{is_only, same_name, SameName}
 use Rattle.at_base.proofs.Texts.{same_name_is, is_same_name}
 use Rattle.nbp.specs.Matching.{split_at_wildcard, Matches, IsLike, is_around, is_like, matches}
@@ -30,23 +31,20 @@ split_there : (bytes : List ℕ) → position_or_len is_wildcard bytes < length 
     → split_at_wildcard bytes ≡ Some (split_after (position_or_len is_wildcard bytes) bytes)
 split_there [] lt = absurd (omega arith)
 split_there (b ∷ bytes) lt =
-    (elim (is_wildcard b) as (λ t. is_wildcard b ≡ t →
-    split_at_wildcard (b ∷ bytes) ≡ Some (split_after (position_or_len is_wildcard (b ∷ bytes)) (b ∷ bytes))) [
-      | true ↦ λ t. rw t refl
-      | false ↦ λ t.
-          let less = rw t at lt in
-          rw (t, split_there bytes (omega (arith, less)), split_one_more (position_or_len is_wildcard bytes) b bytes) refl
-    ]) refl
+    by_test (is_wildcard b)
+    (λ t. rw t refl)
+    (λ t.
+    let less = rw t at lt in
+    rw (t, split_there bytes (omega (arith, less)), split_one_more (position_or_len is_wildcard bytes) b bytes) refl)
 
 not_split : (bytes : List ℕ) → length bytes ≤ position_or_len is_wildcard bytes → split_at_wildcard bytes ≡ None
 not_split [] le = refl
 not_split (b ∷ bytes) le =
-    (elim (is_wildcard b) as (λ t. is_wildcard b ≡ t → split_at_wildcard (b ∷ bytes) ≡ None) [
-      | true ↦ λ t. absurd (let bad = rw t at le in omega (arith, bad))
-      | false ↦ λ t.
-          let less = rw t at le in
-          rw (t, not_split bytes (omega (arith, less))) refl
-    ]) refl
+    by_test (is_wildcard b)
+    (λ t. absurd (let bad = rw t at le in omega (arith, bad)))
+    (λ t.
+    let less = rw t at le in
+    rw (t, not_split bytes (omega (arith, less))) refl)
 
 -- the parts of a pattern around its first wildcard
 pub split_at : (bytes : List ℕ) → split_at_wildcard bytes ≡ option_map (λ i. split_after i bytes) (position is_wildcard bytes)

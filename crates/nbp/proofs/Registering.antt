@@ -5,6 +5,7 @@ use Rattle.std.specs.List.{All}
 use Rattle.std.proofs.lemmas.Bool.{and_parts, or_parts, ltb-true, ltb-false, lt-ltb, leb-true, eqb-true, ne_eqb, eqb-false}
 use Rattle.std.proofs.lemmas.List.Elements.{All-filter}
 use Rattle.at_base.specs.Text.{IsEntity, is_entity}
+use Rattle.at_base.proofs.Lists.{few_filter}
 use Rattle.nbp.specs.declared.names.Named.{Named}
 use Rattle.nbp.specs.Registered.{IsNamed, IsNames, IsLeastFree, are_above, is_registrable, has, free_from, with_name, without, before}
 
@@ -187,14 +188,6 @@ above_filter p low (n ∷ names) h =
     (elim (p n) as (λ b. p n ≡ b → are_above low (filter p (n ∷ names)) ≡ true) [
       | true ↦ λ t. rw (t, q.0, rest) refl
       | false ↦ λ t. rw t (above_lower low n.enumerator (filter p names) (omega (arith, ltb-true _ _ q.0)) rest)
-    ]) refl
-
-few_filter : (p : Named → Bool) (names : List Named) → length (filter p names) ≤ length names
-few_filter p [] = omega arith
-few_filter p (n ∷ names) =
-    (elim (p n) as (λ b. p n ≡ b → length (filter p (n ∷ names)) ≤ length (n ∷ names)) [
-      | true ↦ λ t. rw t (omega (arith, few_filter p names))
-      | false ↦ λ t. rw t (omega (arith, few_filter p names))
     ]) refl
 
 pub names_without : (enumerator : ℕ) (names : List Named) → IsNames names → IsNames (without enumerator names)

@@ -1,6 +1,6 @@
 -- NBP packets: requests for names, lookups and replies. (Inside AppleTalk, the chapter on NBP)
-use Rattle.std.specs.Prelude.{◌≡◌, ℕ, ◌*◌, ◌+◌, ◌/◌, ◌%◌, ◌<◌, ◌≤◌, Bool, true, ◌&&◌, ◌||◌, ◌==◌, List, [], ◌∷◌, drop, length, Option, Some}
-use Rattle.std.specs.Prelude.{None, Result, Ok, Err, nat_le, if◌then◌else◌}
+use Rattle.std.specs.Prelude.{ℕ, ◌*◌, ◌+◌, ◌/◌, ◌%◌, ◌<◌, ◌≤◌, Bool, true, ◌&&◌, ◌||◌, ◌==◌, List, [], ◌∷◌, drop, length, Option, Some}
+use Rattle.std.specs.Prelude.{None, Result, nat_le, if◌then◌else◌}
 use Rattle.std.specs.Int.{byte_at}
 use Rattle.at_base.specs.declared.address.Addr.{Addr}
 use Rattle.at_base.specs.declared.error.Error.{Error}
@@ -68,28 +68,9 @@ packet =
     list (λ low. tuple) (λ t. 0) (h % 16) (λ p. p.tuples) (λ tuples.
     done (record { function = function_of (h / 16); id = id; tuples = tuples })))))
 
--- ---- packets in place
-
 -- the result of reading count tuples at the front of the bytes
-unfoldable pub tuples_read : ℕ → List ℕ → Result (List Tuple × List ℕ) Error
+abbrev pub tuples_read : ℕ → List ℕ → Result (List Tuple × List ℕ) Error
 tuples_read count bytes = list_at (λ low. read packets tuple) (λ t. 0) 0 count bytes
-
--- the count tuples at the front of the bytes
-abbrev pub tuples_in : ℕ → List ℕ → List Tuple
-tuples_in count bytes = found (tuples_read count bytes)
-  where
-    found : Result (List Tuple × List ℕ) Error → List Tuple
-    found (Ok x) = x.0
-    found (Err e) = []
-
--- the bytes begin with count tuples
-pub record BeginWith (count : ℕ) (bytes : List ℕ) : Type 0 where
-  pub rest : List ℕ
-  pub read : tuples_read count bytes ≡ Ok (tuples_in count bytes, rest)
-
--- the packet with tuples in these bytes
-abbrev pub packet_in : Function → ℕ → ℕ → List ℕ → NbpPacket
-packet_in function id count bytes = record { function = function; id = id; tuples = tuples_in count bytes }
 
 -- ---- packets with one tuple
 

@@ -1,8 +1,9 @@
 //! NBP packets: a reader that borrows its input, and a writer.
 
 ghost use Rattle.std.specs.Prelude.{◌≡◌, ◌≢◌, ◌<◌, ◌≤◌, ◌∷◌, ◌++◌, ◌*◌, ◌+◌, ◌-◌, ◌/◌, ◌%◌, List};
-ghost use Rattle.std.specs.Prelude.{[], length, IfOk, IfNone, IfSome, IsOkUnless};
+ghost use Rattle.std.specs.Prelude.{[], length, IfOk, IfNone, IsOkUnless};
 ghost use Rattle.at_base.specs.Grammar.{number, one};
+ghost use Rattle.at_base.specs.InPlace.{found};
 ghost use Rattle.at_base.specs.Packets.{packets};
 ghost use Rattle.at_base.specs.Reading as reading_spec;
 ghost use Rattle.at_base.specs.Reading.{Gives, Reads, field_at};
@@ -11,7 +12,7 @@ ghost use Rattle.nbp.specs.declared.packet.Function.TheVariants.{Reply};
 ghost use Rattle.nbp.specs.declared.tuple.Tuple.{Tuple as TupleValue};
 ghost use Rattle.nbp.specs.Packets as spec;
 ghost use Rattle.nbp.specs.Packets.{wrong_head, number_of, function_of};
-ghost use Rattle.nbp.specs.Packets.{tuples_read, tuples_in, BeginWith, packet_of, front_bytes};
+ghost use Rattle.nbp.specs.Packets.{tuples_read, packet_of, front_bytes};
 
 use crate::tuple::{Tuple, TupleView, tuple_at};
 use at_base::packet::byte_at;
@@ -66,22 +67,21 @@ fn head_at(bytes: &[u8]) -> Result<(u8, &[u8]), Error>
 }
 
 /// Checks `count` tuples, and returns the bytes after them.
-fn check_tuples(count: u8, bytes: &[u8]) -> Result<&[u8], Error>
-    ensures { Gives (λ rest. (tuples_in count bytes.now, rest.now)) result
+fn after_tuples(count: u8, bytes: &[u8]) -> Result<&[u8], Error>
+    ensures { Gives (λ rest. (found (tuples_read count bytes.now), rest.now)) result
         (tuples_read count bytes.now) }
 {
-    let mut rest = bytes;
-    for _ in 0..count {
-        match tuple_at(rest) {
-            Ok((_, after)) => rest = after,
-            Err(error) => return Err(error),
-        }
+    if count == 0 {
+        return Ok(bytes);
     }
-    Ok(rest)
+    match tuple_at(bytes) {
+        Ok((_, rest)) => after_tuples(count - 1, rest),
+        Err(error) => Err(error),
+    }
 }
 
 /// The packet, with its tuples in place, and the bytes after it.
-#[tactic(auto, unfolding(crate::specs::Packets::packet, crate::specs::Packets::tuples_read))]
+#[tactic(auto, unfolding(crate::specs::Packets::packet))]
 fn parts_of(bytes: &[u8]) -> Result<(Packet<'_>, &[u8]), Error>
     ensures { Gives (λ x. (x.0, x.1.now)) result (reading_spec.read packets spec.packet bytes.now) }
 {
@@ -91,7 +91,7 @@ fn parts_of(bytes: &[u8]) -> Result<(Packet<'_>, &[u8]), Error>
     let (head, rest) = head_at(bytes)?;
     let (id, tuples) = byte_at(rest)?;
     let count = head % 16;
-    let rest = check_tuples(count, tuples)?;
+    let rest = after_tuples(count, tuples)?;
     let packet = Packet {
         function: named(head / 16),
         id,
@@ -115,15 +115,20 @@ pub struct Packet<'a> {
 impl<'a> Model for Packet<'a> {
     ghost use Rattle.std.specs.Prelude.{◌≡◌, ◌≢◌, ◌≤◌};
     ghost use Rattle.nbp.specs.declared.packet.Function.TheVariants.{Reply};
-    ghost use Rattle.nbp.specs.Packets.{NbpPacket, BeginWith, packet_in};
+    ghost use Rattle.at_base.specs.InPlace.{found, IsFound};
+    ghost use Rattle.nbp.specs.Packets.{NbpPacket, tuples_read};
 
     ghost Value = { NbpPacket };
 
-    ghost view = { λ p. packet_in p.function p.id p.count p.tuples.now };
+    ghost view = { λ p. record {
+      function = p.function;
+      id = p.id;
+      tuples = found (tuples_read p.count p.tuples.now);
+    } };
 
     ghost invariant = { λ p. (1 ≤ p.count)
         × (p.function ≢ Reply → p.count ≡ 1)
-        × BeginWith p.count p.tuples.now };
+        × IsFound (tuples_read p.count p.tuples.now) };
 }
 
 impl<'a> Packet<'a> {
@@ -162,9 +167,9 @@ impl<'a> Packet<'a> {
         ensures first { (rest : List TupleValue) × (self.now.tuples ≡ result ∷ rest) }
         ensures alone { self.now.function ≢ Reply → self.now.tuples ≡ result ∷ [] }
     {
-        match next_in(self.count, self.tuples) {
-            Some((tuple, _)) => tuple,
-            None => unreachable!(),
+        match tuple_at(self.tuples) {
+            Ok((tuple, _)) => tuple,
+            Err(_) => unreachable!(),
         }
     }
 
@@ -179,24 +184,6 @@ impl<'a> Packet<'a> {
     }
 }
 
-/// The first of the `left` tuples at the front of the bytes, and the bytes after it.
-fn next_in(left: u8, bytes: &[u8]) -> Option<(TupleView<'_>, &[u8])>
-    requires { BeginWith left bytes.now }
-    ensures none { IfNone result (left ≡ 0) }
-    ensures end { IfNone result (tuples_in left bytes.now ≡ []) }
-    ensures some { IfSome result (λ x. (1 ≤ left) × (tuples_in left bytes.now
-        ≡ x.0 ∷ tuples_in (left - 1) x.1.now)) }
-    ensures rest { IfSome result (λ x. BeginWith (left - 1) x.1.now) }
-{
-    if left == 0 {
-        return None;
-    }
-    match tuple_at(bytes) {
-        Ok((tuple, rest)) => Some((tuple, rest)),
-        Err(_) => unreachable!(),
-    }
-}
-
 /// An iterator over the tuples that are left in a packet. Contracts see it as a list.
 #[derive(Debug, Drop)]
 pub struct Tuples<'a> {
@@ -207,13 +194,14 @@ pub struct Tuples<'a> {
 impl<'a> Model for Tuples<'a> {
     ghost use Rattle.std.specs.Prelude.{List};
     ghost use Rattle.nbp.specs.declared.tuple.Tuple.{Tuple as TupleValue};
-    ghost use Rattle.nbp.specs.Packets.{BeginWith, tuples_in};
+    ghost use Rattle.at_base.specs.InPlace.{found, IsFound};
+    ghost use Rattle.nbp.specs.Packets.{tuples_read};
 
     ghost Value = { List TupleValue };
 
-    ghost view = { λ t. tuples_in t.left t.rest.now };
+    ghost view = { λ t. found (tuples_read t.left t.rest.now) };
 
-    ghost invariant = { λ t. BeginWith t.left t.rest.now };
+    ghost invariant = { λ t. IsFound (tuples_read t.left t.rest.now) };
 }
 
 impl<'a> Iterator for Tuples<'a> {
@@ -228,13 +216,16 @@ impl<'a> Iterator for Tuples<'a> {
     ghost remaining = { λ left. at_most (length left) };
 
     fn next(&mut self) -> Option<TupleView<'a>> {
-        match next_in(self.left, self.rest) {
-            Some((tuple, rest)) => {
+        if self.left == 0 {
+            return None;
+        }
+        match tuple_at(self.rest) {
+            Ok((tuple, rest)) => {
                 self.left -= 1;
                 self.rest = rest;
                 Some(tuple)
             }
-            None => None,
+            Err(_) => unreachable!(),
         }
     }
 }

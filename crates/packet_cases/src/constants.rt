@@ -26,7 +26,7 @@ fn number_of(name: &str) -> Option<u8> {
 fn limit_of(name: &str) -> Option<usize> {
     Some(match name {
         "DDP header" => ddp::HEADER_LEN,
-        "DDP data" => ddp::MAX_DATA,
+        "DDP data" => at_base::limits::MAX_DATA,
         "DDP datagram" => ddp::MAX_LEN,
         "AARP packet" => aarp::PACKET_LEN,
         "ATP header" => atp::HEADER_LEN,

@@ -1,13 +1,13 @@
 -- A router's zone table accepts the lists of its cables.
 use Rattle.std.proofs.Common.{◌≡◌, ◌⊎◌, inl, inr, ℕ, suc, ◌+◌, ◌-◌, ◌<◌, ◌≤◌, Bool, true, false, not, ◌||◌, IsTrue, List, [], ◌∷◌, length}
-use Rattle.std.proofs.Common.{Option, Some, None, drop, take, slice_index_or, refl, sym, ap, ◌∙◌, subst, arith, nat_lt}
-use Rattle.std.proofs.Common.{nat_le, if◌then◌else◌}
+use Rattle.std.proofs.Common.{Option, Some, None, drop, take, slice_index_or, refl, sym, ap, ◌∙◌, subst, arith}
+use Rattle.std.proofs.Common.{nat_le}
 use Rattle.std.proofs.Common.{◌↔◌, ◌++◌, IfErr, IsOkUnless, OnOk, Ok, Err, Result, append_assoc, leb-true, map, slice_get, zero}
 use Rattle.std.specs.Prelude.{is_some}
 use Rattle.std.proofs.lemmas.Bool.{and_parts, and_from}
 use Rattle.std.proofs.lemmas.List.{take_all}
 use Rattle.std.specs.List.{list_all, list_any}
-use Rattle.at_base.specs.Range.{Span, is_between, is_range, overlaps, same_range}
+use Rattle.at_base.specs.Range.{Span, is_between, is_range, overlaps}
 use Rattle.at_base.specs.declared.error.Error.{Error}
 use Rattle.at_base.specs.declared.error.Error.TheVariants.{BadRange, Full, Memory}
 use Rattle.internet_file.specs.Sound.{is_cable, is_port, may_try_on}
@@ -23,7 +23,7 @@ use Rattle.live_node.specs.Living.{LivingNode}
 use Rattle.live_router.specs.Living.{Living}
 use Rattle.planned_stations.specs.Beginning.{AreBegun, AreNodesBegun, IsNodeBegun, are_free, is_free, port_begun, router_begun, with_cable}
 use Rattle.planned_stations.specs.Planning.{planned_ports, ports_of}
-use Rattle.zip_zones.proofs.Tables.{length_with}
+use Rattle.at_base.proofs.Spans.{length_with, no_other, put_cases}
 use Rattle.zip_zones.specs.Zones.{Known, is_full_for, known_for, overlaps_another, set_list, with_known}
 
 -- ---- Lists of a table
@@ -47,27 +47,8 @@ none_with f known [] e none = rw e refl
 none_with f known (k ∷ table) e none =
     let first = false_left (f k) (list_any f table) none in
     let rest = false_right (f k) (list_any f table) none in
-    elim (nat_lt k.range.start known.range.start) as (λ b.
-    list_any f (if b then k ∷ with_known known table else if same_range k.range known.range then known ∷ table else known ∷ k ∷ table)
-    ≡ false) [
-      | true ↦ rw (first, none_with f known table e rest) refl
-      | false ↦
-          elim (same_range k.range known.range) as (λ b.
-          list_any f (if b then known ∷ table else known ∷ k ∷ table) ≡ false) [
-            | true ↦ rw (e, rest) refl
-            | false ↦ rw (e, first, rest) refl
-          ]
-    ]
-
--- A range that overlaps no list of a table overlaps no other list of it.
-pub no_other : (range : Span) (table : List Known) → list_any (λ k. overlaps k.range range) table ≡ false
-    → overlaps_another range table ≡ false
-no_other range [] none = refl
-no_other range (k ∷ table) none =
-    rw (
-      false_left (overlaps k.range range) (list_any (λ k. overlaps k.range range) table) none,
-      no_other range table (false_right (overlaps k.range range) (list_any (λ k. overlaps k.range range) table) none),
-    ) refl
+    put_cases (λ k. k.range) (λ l. list_any f l ≡ false) known k table (λ t. rw (first, none_with f known table e rest) refl)
+    (λ s. rw (e, rest) refl) (λ t s. rw (e, first, rest) refl)
 
 -- ---- The ports after the first
 
@@ -103,7 +84,7 @@ Fit cables table ports =
 
 longer : (table : List Known) (c : Option Cable) → length (with_cable table c) ≤ length table + 1
 longer table None = omega arith
-longer table (Some c) = length_with (set_list c.range c.zones) table
+longer table (Some c) = length_with (λ k. k.range) (set_list c.range c.zones) table
 
 fits_after : (cables : List Cable) (table : List Known) (p : Port) (ps : List Port) → Fit cables table (p ∷ ps)
     → Fit cables (with_cable table (cable_at cables p.cable)) ps
@@ -166,7 +147,7 @@ pub set_for_memory : (r : Result (Unit {0}) Error) (c : Cable) (names : List (Li
     → names ≡ c.zones → IsTrue (is_cable c) → IsTrue (is_free table (Some c)) → length table < 200 → IsOkUnless r Memory
 set_for_memory (Ok u) c names table which range full same valid free room = tt
 set_for_memory (Err e) c names table which range full same valid free room =
-    let none = no_other c.range table (not_is (list_any (λ k. overlaps k.range c.range) table) free) in
+    let none = no_other (λ k. k.range) c.range table (not_is (list_any (λ k. overlaps k.range c.range) table) free) in
     let few = few_zones c valid in
     elim which [
       | inl b ↦ let other = range.0 (ap Err b) in absurd cc

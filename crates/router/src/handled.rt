@@ -1,7 +1,7 @@
 //! The replies and requests that a router makes for the datagrams that end at it.
 
-ghost use Rattle.std.specs.Prelude.{◌≡◌, ◌<◌, ◌≤◌, ◌+◌, ◌++◌, length};
-ghost use Rattle.std.specs.Prelude.{[], false, IfOk, IfSome, IsOk, IsOkUnless, None, OnOk, Some};
+ghost use Rattle.std.specs.Prelude.{◌≡◌, ◌<◌, ◌≤◌, length};
+ghost use Rattle.std.specs.Prelude.{[], false, IfOk, IfSome, IsOk, IsOkUnless, None, Some};
 ghost use Rattle.std.specs.Prelude.{option_map, option_to_list};
 ghost use Rattle.std.specs.Option.{unwrap_or};
 ghost use Rattle.echo.specs.Echo.{echo_reply};
@@ -10,7 +10,7 @@ ghost use Rattle.router.specs.Answers.{made_for, may_ask, requests_after, served
 ghost use Rattle.router.specs.Ending.{ended_by};
 ghost use Rattle.router.specs.Zones.{transacted, transaction_in};
 ghost use Rattle.atp.specs.Answers.{bytes_of_all};
-ghost use Rattle.station.specs.Made.{AreMade, AreShort};
+ghost use Rattle.station.specs.Made.{Adds, AreMade, AreShort, Makes};
 ghost use Rattle.router.specs.Ways as ways_spec;
 ghost use Rattle.station.specs.Ways.{replying};
 
@@ -22,7 +22,7 @@ use atp::Responder;
 use ddp::{View, kind, socket};
 use rtmp::RouteTable;
 use station::Output;
-use station::making::{put_all, put_one};
+use station::making::{nothing, put_all, put_one};
 use station::ways::{checks, is_to};
 
 /// The outputs that a router makes for a datagram, its requests after it, and where the datagram
@@ -40,14 +40,10 @@ pub(crate) struct Handled {
 impl<T: RouteTable> Router<T> {
     /// Adds the reply to a datagram that is an echo request. Error: `Memory`.
     fn hear_echo(&self, made: &mut Vec<Output>, port: u8, view: &View<'_>) -> Result<(), Error>
-        ensures put { OnOk result (made.new.items ≡ made.old.items
-            ++ replying (ways_spec.way_back self.now port view.now) (option_to_list (echo_reply view.now))) }
-        ensures silent { replying (ways_spec.way_back self.now port view.now)
-            (option_to_list (echo_reply view.now)) ≡ [] → IsOk result }
-        ensures few { OnOk result (length made.new.items ≤ length made.old.items + 1) }
-        ensures good { OnOk result (AreMade (length self.now.ports) made.old.items
-            → AreMade (length self.now.ports) made.new.items) }
-        ensures refused { IsOkUnless result Error.Memory }
+        ensures { Makes (length self.now.ports) 1
+            (replying (ways_spec.way_back self.now port view.now)
+            (option_to_list (echo_reply view.now)))
+            made.old.items made.new.items result }
     {
         let way = self.way_back(port, view);
         if way.is_none() {
@@ -67,14 +63,9 @@ impl<T: RouteTable> Router<T> {
     ) -> Result<(), Error>
         requires few { length packets.now ≤ 8 }
         requires short { AreShort packets.now }
-        ensures put { OnOk result (made.new.items ≡ made.old.items
-            ++ replying (ways_spec.way_back self.now port view.now) packets.now) }
-        ensures silent { replying (ways_spec.way_back self.now port view.now) packets.now ≡ []
-            → IsOk result }
-        ensures few { OnOk result (length made.new.items ≤ length made.old.items + 8) }
-        ensures good { OnOk result (AreMade (length self.now.ports) made.old.items
-            → AreMade (length self.now.ports) made.new.items) }
-        ensures refused { IsOkUnless result Error.Memory }
+        ensures { Makes (length self.now.ports) 8
+            (replying (ways_spec.way_back self.now port view.now) packets.now)
+            made.old.items made.new.items result }
     {
         let way = self.way_back(port, view);
         put_all(made, &way, packets)
@@ -84,15 +75,11 @@ impl<T: RouteTable> Router<T> {
     /// Error: `Memory`.
     fn serve(&self, made: &mut Vec<Output>, ending: Ending, view: &View<'_>) -> Result<(), Error>
         requires { ending.port < length self.now.ports }
-        ensures put { OnOk result
-            (made.new.items ≡ made.old.items ++ served self.now ending view.now) }
+        ensures made { Adds (length self.now.ports) 200 (served self.now ending view.now)
+            made.old.items made.new.items result }
         // Without a reply, no memory is needed, except for a request for names.
         ensures silent { may_ask view.now ≡ false → served self.now ending view.now ≡ []
             → IsOk result }
-        ensures few { OnOk result (length made.new.items ≤ length made.old.items + 200) }
-        ensures good { OnOk result (AreMade (length self.now.ports) made.old.items
-            → AreMade (length self.now.ports) made.new.items) }
-        ensures refused { IsOkUnless result Error.Memory }
     {
         if is_to(view, kind::AEP, socket::ECHO) {
             return self.hear_echo(made, ending.port, view);
@@ -122,7 +109,7 @@ impl<T: RouteTable> Router<T> {
             → IsOk result }
         ensures refused { IsOkUnless result Error.Memory }
     {
-        let mut made = Vec::new(*self.ports.allocator());
+        let mut made = nothing(*self.ports.allocator());
         self.serve(&mut made, ending, view)?;
         Ok(Handled {
             made,
@@ -145,7 +132,7 @@ impl<T: RouteTable> Router<T> {
         ensures refused { IsOkUnless result Error.Memory }
     {
         let Transacted { packets, responder } = self.transact(view)?;
-        let mut made = Vec::new(*self.ports.allocator());
+        let mut made = nothing(*self.ports.allocator());
         self.answer_list(&mut made, ending.port, view, packets.as_slice())?;
         Ok(Handled {
             made,
@@ -196,7 +183,7 @@ impl<T: RouteTable> Router<T> {
             }
         }
         Ok(Handled {
-            made: Vec::new(*self.ports.allocator()),
+            made: nothing(*self.ports.allocator()),
             responder: None,
             ended: None,
         })

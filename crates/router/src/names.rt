@@ -1,12 +1,12 @@
 //! The lookups and forward requests that a router makes for NBP requests that end at it.
 
-ghost use Rattle.std.specs.Prelude.{◌≡◌, ◌<◌, ◌≤◌, ◌+◌, [], ◌++◌, length, position};
+ghost use Rattle.std.specs.Prelude.{◌≡◌, ◌<◌, ◌+◌, [], ◌++◌, length, position};
 ghost use Rattle.std.specs.Prelude.{IfOk, IfSome, IsOk, IsOkUnless, OnOk, false};
 ghost use Rattle.std.specs.List.{flat_map, All};
 ghost use Rattle.at_base.specs.Range.{is_between};
 ghost use Rattle.at_base.specs.Text.{IsName, is_name};
 ghost use Rattle.nbp.specs.Expansion.{IsAskIn};
-ghost use Rattle.station.specs.Made.{AreMade, IsWayIn};
+ghost use Rattle.station.specs.Made.{Adds, IsWayIn, Makes};
 ghost use Rattle.router.specs.Requests as spec;
 ghost use Rattle.router.specs.Requests.{asked, looked_by, looked_on, made_of, names_in};
 ghost use Rattle.router.specs.Requests.{requests_made};
@@ -137,13 +137,8 @@ impl<T: RouteTable> Router<T> {
     fn look(&self, made: &mut Vec<Output>, request: &Request, port: u8) -> Result<(), Error>
         requires name { IsName request.now.tuple.zone }
         requires port { port < length self.now.ports }
-        ensures put { OnOk result
-            (made.new.items ≡ made.old.items ++ looked_by self.now request.now port) }
-        ensures silent { looked_by self.now request.now port ≡ [] → IsOk result }
-        ensures few { OnOk result (length made.new.items ≤ length made.old.items + 1) }
-        ensures good { OnOk result (AreMade (length self.now.ports) made.old.items
-            → AreMade (length self.now.ports) made.new.items) }
-        ensures refused { IsOkUnless result Error.Memory }
+        ensures { Makes (length self.now.ports) 1 (looked_by self.now request.now port)
+            made.old.items made.new.items result }
     {
         let way = self.lookup_way(request, port);
         if way.is_none() {
@@ -160,13 +155,8 @@ impl<T: RouteTable> Router<T> {
 
     /// Adds the forward request to a network for a request. Error: `Memory`.
     fn forward(&self, made: &mut Vec<Output>, request: &Request, net: u16) -> Result<(), Error>
-        ensures put { OnOk result
-            (made.new.items ≡ made.old.items ++ asked self.now request.now (Ask.Forward net)) }
-        ensures silent { asked self.now request.now (Ask.Forward net) ≡ [] → IsOk result }
-        ensures few { OnOk result (length made.new.items ≤ length made.old.items + 1) }
-        ensures good { OnOk result (AreMade (length self.now.ports) made.old.items
-            → AreMade (length self.now.ports) made.new.items) }
-        ensures refused { IsOkUnless result Error.Memory }
+        ensures { Makes (length self.now.ports) 1 (asked self.now request.now (Ask.Forward net))
+            made.old.items made.new.items result }
     {
         let way = self.forward_way(request, net);
         if way.is_none() {
@@ -181,13 +171,8 @@ impl<T: RouteTable> Router<T> {
     fn ask(&self, made: &mut Vec<Output>, request: &Request, ask: Ask) -> Result<(), Error>
         requires name { IsName request.now.tuple.zone }
         requires port { IsAskIn (length self.now.ports) ask }
-        ensures put { OnOk result
-            (made.new.items ≡ made.old.items ++ asked self.now request.now ask) }
-        ensures silent { asked self.now request.now ask ≡ [] → IsOk result }
-        ensures few { OnOk result (length made.new.items ≤ length made.old.items + 1) }
-        ensures good { OnOk result (AreMade (length self.now.ports) made.old.items
-            → AreMade (length self.now.ports) made.new.items) }
-        ensures refused { IsOkUnless result Error.Memory }
+        ensures { Makes (length self.now.ports) 1 (asked self.now request.now ask)
+            made.old.items made.new.items result }
     {
         match ask {
             Ask::Lookup(port) => self.look(made, request, self.number_of(port)),
@@ -199,14 +184,9 @@ impl<T: RouteTable> Router<T> {
     fn ask_all(&self, made: &mut Vec<Output>, request: &Request, asks: &[Ask]) -> Result<(), Error>
         requires name { IsName request.now.tuple.zone }
         requires ports { All (IsAskIn (length self.now.ports)) asks.now }
-        ensures put { OnOk result
-            (made.new.items ≡ made.old.items ++ flat_map (asked self.now request.now) asks.now) }
-        ensures silent { flat_map (asked self.now request.now) asks.now ≡ [] → IsOk result }
-        ensures few { OnOk result
-            (length made.new.items ≤ length made.old.items + length asks.now) }
-        ensures good { OnOk result (AreMade (length self.now.ports) made.old.items
-            → AreMade (length self.now.ports) made.new.items) }
-        ensures refused { IsOkUnless result Error.Memory }
+        ensures { Makes (length self.now.ports) (length asks.now)
+            (flat_map (asked self.now request.now) asks.now)
+            made.old.items made.new.items result }
     {
         match asks {
             [] => Ok(()),
@@ -219,13 +199,10 @@ impl<T: RouteTable> Router<T> {
 
     /// Adds the lookups and forward requests for a broadcast request. Error: `Memory`.
     fn ask_for(&self, made: &mut Vec<Output>, request: &Request) -> Result<(), Error>
-        ensures put { OnOk result (made.new.items ≡ made.old.items
-            ++ made_of self.now Function.BroadcastRequest request.now 0) }
+        ensures made { Adds (length self.now.ports) 200
+            (made_of self.now Function.BroadcastRequest request.now 0)
+            made.old.items made.new.items result }
         ensures nameless { is_name request.now.tuple.zone ≡ false → IsOk result }
-        ensures few { OnOk result (length made.new.items ≤ length made.old.items + 200) }
-        ensures good { OnOk result (AreMade (length self.now.ports) made.old.items
-            → AreMade (length self.now.ports) made.new.items) }
-        ensures refused { IsOkUnless result Error.Memory }
     {
         let zone = request.tuple.zone.as_slice();
         if !is_zone_name(zone) {
@@ -240,14 +217,9 @@ impl<T: RouteTable> Router<T> {
     /// Adds the lookup for a forward request to a network, on the port whose range holds it. Error:
     /// `Memory`.
     fn look_up(&self, made: &mut Vec<Output>, request: &Request, net: u16) -> Result<(), Error>
-        ensures put { OnOk result (made.new.items ≡ made.old.items
-            ++ made_of self.now Function.ForwardRequest request.now net) }
-        ensures silent { made_of self.now Function.ForwardRequest request.now net ≡ []
-            → IsOk result }
-        ensures few { OnOk result (length made.new.items ≤ length made.old.items + 200) }
-        ensures good { OnOk result (AreMade (length self.now.ports) made.old.items
-            → AreMade (length self.now.ports) made.new.items) }
-        ensures refused { IsOkUnless result Error.Memory }
+        ensures { Makes (length self.now.ports) 1
+            (made_of self.now Function.ForwardRequest request.now net)
+            made.old.items made.new.items result }
     {
         if !is_zone_name(request.tuple.zone.as_slice()) {
             return Ok(());
@@ -264,13 +236,8 @@ impl<T: RouteTable> Router<T> {
     ) -> Result<(), Error>
         requires name { IsName request.now.tuple.zone }
         requires port { IfSome port (λ q. q < length self.now.ports) }
-        ensures put { OnOk result
-            (made.new.items ≡ made.old.items ++ looked_on self.now request.now port) }
-        ensures silent { looked_on self.now request.now port ≡ [] → IsOk result }
-        ensures few { OnOk result (length made.new.items ≤ length made.old.items + 1) }
-        ensures good { OnOk result (AreMade (length self.now.ports) made.old.items
-            → AreMade (length self.now.ports) made.new.items) }
-        ensures refused { IsOkUnless result Error.Memory }
+        ensures { Makes (length self.now.ports) 1 (looked_on self.now request.now port)
+            made.old.items made.new.items result }
     {
         match port {
             Some(port) => self.look(made, request, self.number_of(port)),
@@ -280,12 +247,9 @@ impl<T: RouteTable> Router<T> {
 
     /// Handles the NBP packet in a datagram; a datagram without one is ignored. Error: `Memory`.
     pub(crate) fn hear_names(&self, made: &mut Vec<Output>, view: &View<'_>) -> Result<(), Error>
-        ensures put { OnOk result (made.new.items
-            ≡ made.old.items ++ requests_made self.now view.now (names_in view.now.payload)) }
-        ensures few { OnOk result (length made.new.items ≤ length made.old.items + 200) }
-        ensures good { OnOk result (AreMade (length self.now.ports) made.old.items
-            → AreMade (length self.now.ports) made.new.items) }
-        ensures refused { IsOkUnless result Error.Memory }
+        ensures { Adds (length self.now.ports) 200
+            (requests_made self.now view.now (names_in view.now.payload))
+            made.old.items made.new.items result }
     {
         match read_packet(view.payload()) {
             Some(packet) => self.hear_request(made, view, &packet),
@@ -301,12 +265,9 @@ impl<T: RouteTable> Router<T> {
         view: &View<'_>,
         packet: &Packet<'_>,
     ) -> Result<(), Error>
-        ensures put { OnOk result (made.new.items
-            ≡ made.old.items ++ requests_made self.now view.now (Some packet.now)) }
-        ensures few { OnOk result (length made.new.items ≤ length made.old.items + 200) }
-        ensures good { OnOk result (AreMade (length self.now.ports) made.old.items
-            → AreMade (length self.now.ports) made.new.items) }
-        ensures refused { IsOkUnless result Error.Memory }
+        ensures { Adds (length self.now.ports) 200
+            (requests_made self.now view.now (Some packet.now))
+            made.old.items made.new.items result }
     {
         let request = Request {
             summed: is_summed(view),

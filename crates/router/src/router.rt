@@ -9,6 +9,7 @@ ghost use Rattle.router.specs.Holding.{IsHandIn, hand_by};
 
 use crate::hand::Hand;
 use aarp::Chooser;
+use at_base::limits::MAX_PORTS;
 use at_base::{Addr, Error};
 use atp::Responder;
 use rtmp::{RouteTable, Row};
@@ -16,9 +17,6 @@ use station::PortPlan;
 use std::alloc::Global;
 use std::marker::Model;
 use zip_zones::ZoneTable;
-
-/// The greatest number of ports of a router.
-pub const MAX_PORTS: usize = 16;
 
 /// A router: its ports on cables, its routing table and its zone table. Receiving frames doesn't
 /// change the tables; only the setters do.

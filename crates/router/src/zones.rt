@@ -1,10 +1,10 @@
 //! The ZIP packets that a router answers: queries and GetNetInfo requests.
 
-ghost use Rattle.std.specs.Prelude.{[], IsOk, IsOkUnless, OnOk, Some, length, map, ◌++◌, ◌+◌, ◌<◌, ◌≡◌, ◌≤◌};
+ghost use Rattle.std.specs.Prelude.{Some, length, map, ◌<◌, ◌≡◌};
 ghost use Rattle.at_base.specs.Spelling.{bytes_of};
 ghost use Rattle.zip_zones.specs.Answers.{replies};
 ghost use Rattle.zip_zones.specs.Formats as formats_spec;
-ghost use Rattle.station.specs.Made.{AreMade, IsWayIn};
+ghost use Rattle.station.specs.Made.{IsWayIn, Makes};
 ghost use Rattle.router.specs.Ways as ways_spec;
 ghost use Rattle.station.specs.Ways.{replying};
 ghost use Rattle.router.specs.Zones as zones_spec;
@@ -65,14 +65,10 @@ impl<T: RouteTable> Router<T> {
         zone: &Text32,
     ) -> Result<(), Error>
         requires { port < length self.now.ports }
-        ensures put { OnOk result (made.new.items ≡ made.old.items
-            ++ replying (zones_spec.info_way self.now port range view.now) (info self.now range zone.now)) }
-        ensures silent { replying (zones_spec.info_way self.now port range view.now)
-            (info self.now range zone.now) ≡ [] → IsOk result }
-        ensures few { OnOk result (length made.new.items ≤ length made.old.items + 1) }
-        ensures good { OnOk result (AreMade (length self.now.ports) made.old.items
-            → AreMade (length self.now.ports) made.new.items) }
-        ensures refused { IsOkUnless result Error.Memory }
+        ensures { Makes (length self.now.ports) 1
+            (replying (zones_spec.info_way self.now port range view.now)
+            (info self.now range zone.now))
+            made.old.items made.new.items result }
     {
         let way = self.info_way(port, range, view);
         if way.is_none() {
@@ -92,13 +88,8 @@ impl<T: RouteTable> Router<T> {
         zone: &Text32,
     ) -> Result<(), Error>
         requires { port < length self.now.ports }
-        ensures put { OnOk result
-            (made.new.items ≡ made.old.items ++ zones_spec.told self.now port view.now zone.now) }
-        ensures silent { zones_spec.told self.now port view.now zone.now ≡ [] → IsOk result }
-        ensures few { OnOk result (length made.new.items ≤ length made.old.items + 1) }
-        ensures good { OnOk result (AreMade (length self.now.ports) made.old.items
-            → AreMade (length self.now.ports) made.new.items) }
-        ensures refused { IsOkUnless result Error.Memory }
+        ensures { Makes (length self.now.ports) 1 (zones_spec.told self.now port view.now zone.now)
+            made.old.items made.new.items result }
     {
         match self.ports.as_slice().get(port as usize) {
             Some(chooser) => self.tell_of(made, port, chooser.range(), view, zone),
@@ -114,16 +105,10 @@ impl<T: RouteTable> Router<T> {
         view: &View<'_>,
         networks: Networks<'_>,
     ) -> Result<(), Error>
-        ensures put { OnOk result (made.new.items ≡ made.old.items ++ replying
-            (ways_spec.way_back self.now port view.now)
-            (map (bytes_of formats_spec.packet) (replies self.now.zones networks.entry))) }
-        ensures silent { replying (ways_spec.way_back self.now port view.now)
-            (map (bytes_of formats_spec.packet) (replies self.now.zones networks.entry)) ≡ []
-            → IsOk result }
-        ensures few { OnOk result (length made.new.items ≤ length made.old.items + 64) }
-        ensures good { OnOk result (AreMade (length self.now.ports) made.old.items
-            → AreMade (length self.now.ports) made.new.items) }
-        ensures refused { IsOkUnless result Error.Memory }
+        ensures { Makes (length self.now.ports) 64
+            (replying (ways_spec.way_back self.now port view.now)
+            (map (bytes_of formats_spec.packet) (replies self.now.zones networks.entry)))
+            made.old.items made.new.items result }
     {
         let way = self.way_back(port, view);
         if way.is_none() {
@@ -142,15 +127,9 @@ impl<T: RouteTable> Router<T> {
         view: &View<'_>,
     ) -> Result<(), Error>
         requires { port < length self.now.ports }
-        ensures put { OnOk result (made.new.items
-            ≡ made.old.items ++ zones_told self.now port view.now (zones_in view.now.payload)) }
-        // Without a reply, no memory is needed.
-        ensures silent { zones_told self.now port view.now (zones_in view.now.payload) ≡ []
-            → IsOk result }
-        ensures few { OnOk result (length made.new.items ≤ length made.old.items + 64) }
-        ensures good { OnOk result (AreMade (length self.now.ports) made.old.items
-            → AreMade (length self.now.ports) made.new.items) }
-        ensures refused { IsOkUnless result Error.Memory }
+        ensures { Makes (length self.now.ports) 64
+            (zones_told self.now port view.now (zones_in view.now.payload))
+            made.old.items made.new.items result }
     {
         match read_packet(view.payload()) {
             Some(packet) => self.answer_packet(made, port, view, packet),
@@ -168,13 +147,9 @@ impl<T: RouteTable> Router<T> {
         packet: Packet<'_>,
     ) -> Result<(), Error>
         requires { port < length self.now.ports }
-        ensures put { OnOk result (made.new.items
-            ≡ made.old.items ++ zones_told self.now port view.now (Some packet.entry)) }
-        ensures silent { zones_told self.now port view.now (Some packet.entry) ≡ [] → IsOk result }
-        ensures few { OnOk result (length made.new.items ≤ length made.old.items + 64) }
-        ensures good { OnOk result (AreMade (length self.now.ports) made.old.items
-            → AreMade (length self.now.ports) made.new.items) }
-        ensures refused { IsOkUnless result Error.Memory }
+        ensures { Makes (length self.now.ports) 64
+            (zones_told self.now port view.now (Some packet.entry))
+            made.old.items made.new.items result }
     {
         if let Some(zone) = packet.asked() {
             return self.tell(made, port, view, &zone);

@@ -1,7 +1,7 @@
 pub mod Maps
 pub mod Heard
 pub mod Shape
-pub mod InPlace
+pub mod FirstTuple
 pub mod Sent
 pub mod Spelled
 mod Parts

@@ -4,6 +4,7 @@ use Rattle.std.proofs.Common.{Some, None, refl, sym, ap, ◌∙◌, arith, appen
 use Rattle.std.specs.Prelude.{nat_le, nat_lt, not, slice_get, ◌*◌, ◌||◌}
 use Rattle.std.specs.List.{list_all}
 use Rattle.std.proofs.lemmas.Bool.{and_parts, leb-true, le-leb, lt-ltb, eq-eqb, ne_eqb}
+use Rattle.at_base.proofs.Cases.{by_test}
 use Rattle.at_base.specs.declared.address.Addr.{Addr}
 use Rattle.at_base.specs.Range.{Span, is_range}
 use Rattle.rtmp.specs.declared.row.Row.{Row}
@@ -11,7 +12,7 @@ use Rattle.rtmp.specs.Bytes.{head_bytes, tuple_bytes, tuples_bytes}
 use Rattle.rtmp.specs.Routes.{IsRouteMap, is_row}
 use Rattle.rtmp.specs.Sending.{IsPacket, of_other_ports, own_tuple, packet_numbered, sent_tuple}
 use Rattle.rtmp.specs.States.{is_usable}
-use Rattle.rtmp.proofs.Maps.{all_filter}
+use Rattle.at_base.proofs.Lists.{all_filter}
 use Rattle.rtmp.proofs.Spelled.{is_tuple, data_spelled}
 
 -- ---- a row at an index
@@ -35,10 +36,9 @@ row_good (a ∷ rows) (suc i) r each h = row_good rows i r (and_parts (is_row a)
 pub sent_near : (r : Row) → is_row r ≡ true → (sent_tuple r).distance ≤ 31
 sent_near r h =
     let near : r.distance ≤ 31 = leb-true _ _ (and_parts (is_range r.range.start r.range.end) (nat_le r.distance 31) h).1 in
-    (elim (is_usable r.state) as (λ b. is_usable r.state ≡ b → (sent_tuple r).distance ≤ 31) [
-      | true ↦ λ t. rw t near
-      | false ↦ λ t. rw t (omega arith)
-    ]) refl
+    by_test (is_usable r.state)
+    (λ t. rw t near)
+    (λ t. rw t (omega arith))
 
 pub sent_at : (rows : List Row) (i : ℕ) (r : Row) → list_all is_row rows ≡ true → slice_get rows i ≡ Some r → (sent_tuple r).distance ≤ 31
 sent_at rows i r each h = sent_near r (row_good rows i r each h)
@@ -124,7 +124,7 @@ pub window_good : (port left_out : ℕ) (rows : List Row) → list_all is_row ro
 window_good port left_out rows h =
     let others = of_other_ports port rows in
     all_sent (take 96 (drop left_out others))
-    (all_take 96 (drop left_out others) (all_drop left_out others (all_filter (λ r. not (r.port == port)) rows h)))
+    (all_take 96 (drop left_out others) (all_drop left_out others (all_filter is_row (λ r. not (r.port == port)) rows h)))
 
 -- ---- the packet with a number
 

@@ -1,15 +1,14 @@
 -- Packets of routing data: the router that sends them, the range of its port's cable, and the distances of other
 -- ranges.
 -- (Inside AppleTalk, the chapter on RTMP)
-use Rattle.std.specs.Prelude.{◌≡◌, ℕ, ◌+◌, ◌%◌, Bool, true, false, not, ◌&&◌, ◌==◌, List, [], ◌∷◌, length, map, Option, Some, None, Result}
-use Rattle.std.specs.Prelude.{Ok, Err, nat_le, nat_lt, if◌then◌else◌}
+use Rattle.std.specs.Prelude.{ℕ, ◌+◌, ◌%◌, Bool, true, false, not, ◌&&◌, ◌==◌, List, [], ◌∷◌, map, Option, Some, None, nat_le, nat_lt}
+use Rattle.std.specs.Prelude.{if◌then◌else◌}
 use Rattle.at_base.specs.declared.address.Addr.{Addr}
 use Rattle.at_base.specs.declared.error.Field.TheVariants.{IdLength, Version}
 use Rattle.at_base.specs.declared.error.Error.{Error}
 use Rattle.at_base.specs.declared.error.Error.TheVariants.{Truncated, BadField, BadRange}
 use Rattle.at_base.specs.Range.{Span, is_range}
-use Rattle.at_base.specs.Packets.{packets, any, only}
-use Rattle.at_base.specs.Reading.{many_at, read}
+use Rattle.at_base.specs.Packets.{any, only}
 use Rattle.at_base.specs.Grammar.{Grammar, done, field, part, room, many, number, one, two}
 use Rattle.rtmp.specs.declared.tuple.Tuple.{Tuple}
 use Rattle.rtmp.specs.declared.written.Written.{Written}
@@ -22,7 +21,7 @@ pub record RoutingData : Type 0 where
 
 -- the fields of an extended tuple's extension, or zeros for a tuple that isn't extended
 abbrev pub extension_or : Option Extension → Extension
-extension_or None = record { end = 0; version = 0 }
+extension_or None = record { range = record { start = 0; end = 0 }; version = 0 }
 extension_or (Some e) = e
 
 -- the test of a tuple's third byte: the first tuple must be extended
@@ -39,9 +38,9 @@ wrong_extension low start third end version =
 abbrev pub extension_at : ℕ → ℕ → ℕ → Bool → Grammar Error true (Option Extension)
 extension_at low start third false = done None
 extension_at low start third true =
-    field (number two any) (λ e. (extension_or e).end) (λ end.
+    field (number two any) (λ e. (extension_or e).range.end) (λ end.
     field (number one (wrong_extension low start third end)) (λ e. (extension_or e).version) (λ version.
-    done (Some (record { end = end; version = version }))))
+    done (Some (record { range = record { start = start; end = end }; version = version }))))
 
 -- the format of a tuple: the first one of a packet if low is 0, else a later one
 unfoldable pub written_tuple : ℕ → Grammar Error true Written
@@ -73,15 +72,7 @@ tuple_of t = said t.extension
   where
     said : Option Extension → Option Tuple
     said None = None
-    said (Some e) = Some (record { range = record { start = t.start; end = e.end }; distance = t.third % 32 })
-
--- the range of the tuple is valid, if it is extended
-abbrev pub IsWritten : Written → Type 0
-IsWritten t = in_range t.extension
-  where
-    in_range : Option Extension → Type 0
-    in_range None = Unit {0}
-    in_range (Some e) = is_range t.start e.end ≡ true
+    said (Some e) = Some (record { range = e.range; distance = t.third % 32 })
 
 -- the extended tuples of a packet, in order
 abbrev pub tuples_of : List Written → List Tuple
@@ -100,25 +91,9 @@ own_range p = range_in (tuples_of p.written)
     range_in [] = record { start = 0; end = 0 }
     range_in (t ∷ ts) = t.range
 
--- the tuples in the bytes, up to their end; low is 0 if the first of them is a packet's first, else 1
-unfoldable pub written_in : ℕ → List ℕ → List Written
-written_in low bytes = found (many_at (λ n. read packets (written_tuple n)) (λ t. 1) low (length bytes) bytes)
-  where
-    found : Result (List Written) Error → List Written
-    found (Ok written) = written
-    found (Err e) = []
-
--- the bytes are tuples up to their end; low is 0 if the first of them is a packet's first, else 1
-abbrev pub IsTuples : ℕ → List ℕ → Type 0
-IsTuples low bytes = many_at (λ n. read packets (written_tuple n)) (λ t. 1) low (length bytes) bytes ≡ Ok (written_in low bytes)
-
--- the packet with this router and the tuples in these bytes
-abbrev pub data_in : Addr → List ℕ → RoutingData
-data_in router bytes = record { router = router; written = written_in 0 bytes }
-
 -- a tuple as this project writes it: extended, with version byte 82
 abbrev pub written_of : Tuple → Written
-written_of t = record { start = t.range.start; third = 128 + t.distance; extension = Some (record { end = t.range.end; version = 0x82 }) }
+written_of t = record { start = t.range.start; third = 128 + t.distance; extension = Some (record { range = t.range; version = 0x82 }) }
 
 -- the packet of a router that sends these tuples
 abbrev pub data_of : Addr → List Tuple → RoutingData

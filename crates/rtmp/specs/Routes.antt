@@ -1,12 +1,14 @@
 -- Routing tables: finite maps from ranges to rows, and the effects of messages and of aging on them.
 -- (Inside AppleTalk, the chapter on RTMP)
-use Rattle.std.specs.Prelude.{◌≡◌, ℕ, ◌+◌, ◌++◌, ◌≤◌, Bool, true, false, not, ◌&&◌, ◌||◌, ◌==◌, IsTrue, List, [], ◌∷◌}
+use Rattle.std.specs.Prelude.{◌≡◌, ℕ, ◌+◌, ◌++◌, ◌≤◌, Bool, true, false, not, ◌&&◌, ◌||◌, ◌==◌, IsTrue, List}
 use Rattle.std.specs.Prelude.{length, map, filter, fold, find}
-use Rattle.std.specs.Prelude.{Option, Some, None, nat_le, nat_lt, if◌then◌else◌}
+use Rattle.std.specs.Prelude.{Option, Some, None, nat_le, if◌then◌else◌}
 use Rattle.std.specs.List.{list_all, list_any}
 use Rattle.at_base.specs.declared.address.Addr.{Addr}
 use Rattle.at_base.specs.Address.{is_none, same_address}
-use Rattle.at_base.specs.Range.{Span, is_between, is_range, same_range, overlaps}
+use Rattle.at_base.specs.Limits.{max_rows}
+use Rattle.at_base.specs.Range.{Span, is_between, is_range, overlaps}
+use Rattle.at_base.specs.Spans as spans
 use Rattle.rtmp.specs.declared.state.State.{State}
 use Rattle.rtmp.specs.declared.state.State.TheVariants.{Good, Suspect, Bad, Last}
 use Rattle.rtmp.specs.States.{is_usable}
@@ -19,8 +21,7 @@ use Rattle.rtmp.specs.declared.tuple.Tuple.{Tuple}
 
 -- each range starts above the end of the one before it, and the first above low
 abbrev pub are_above : ℕ → List Row → Bool
-are_above low [] = true
-are_above low (r ∷ rows) = nat_lt low r.range.start && are_above r.range.end rows
+are_above low rows = spans.are_above (λ r. r.range) low rows
 
 -- the ranges rise, and no two have a network in common
 abbrev pub are_apart : List Row → Bool
@@ -34,7 +35,7 @@ is_row r = is_range r.range.start r.range.end && nat_le r.distance 31
 pub record IsRouteMap (rows : List Row) : Type 0 where
   pub apart : IsTrue (are_apart rows)
   pub each : IsTrue (list_all is_row rows)
-  pub few : length rows ≤ 200
+  pub few : length rows ≤ max_rows
 
 -- the row is direct: it has no next router
 abbrev pub is_direct : Row → Bool
@@ -42,24 +43,15 @@ is_direct row = is_none row.next
 
 -- the row of a range, if any
 abbrev pub row_at : Span → List Row → Option Row
-row_at range rows = find (λ r. same_range r.range range) rows
+row_at range rows = spans.item_of (λ r. r.range) range rows
 
 -- the usable row whose range contains the network, if any
 abbrev pub row_for : ℕ → List Row → Option Row
 row_for net rows = find (λ r. is_usable r.state && is_between r.range.start r.range.end net) rows
 
--- the new row, if it has the range of r, else r
-abbrev pub replaced_row : Row → Row → Row
-replaced_row row r = if same_range r.range row.range then row else r
-
--- the map with this row in place of the one of the same range
-abbrev pub replaced : Row → List Row → List Row
-replaced row rows = map (replaced_row row) rows
-
--- the map with one more row, whose range overlaps no range of the map
-abbrev pub added : Row → List Row → List Row
-added row [] = row ∷ []
-added row (r ∷ rows) = if nat_lt r.range.start row.range.start then r ∷ added row rows else row ∷ r ∷ rows
+-- the map with this row, instead of the one of its range if there is one, else inserted by rising range
+abbrev pub with_row : Row → List Row → List Row
+with_row row rows = spans.with_item (λ r. r.range) row rows
 
 -- ---- changes of the map
 
@@ -73,7 +65,7 @@ direct_row range port = record { range = range; distance = 0; port = port; next 
 
 -- the map after a port was added on a cable of this range
 abbrev pub directed : Span → ℕ → List Row → List Row
-directed range port rows = added (direct_row range port) (beside range rows)
+directed range port rows = with_row (direct_row range port) (beside range rows)
 
 -- the row of a range at distance t from router s, which was heard on a port
 abbrev pub heard_row : Span → ℕ → Addr → ℕ → Row
@@ -99,13 +91,13 @@ abbrev pub heard : Span → ℕ → Addr → ℕ → List Row → List Row × Ch
 heard range t s port rows = by_row (row_at range rows)
   where
     by_row : Option Row → List Row × Change
-    by_row (Some row) = (replaced (after_hearing row t s port).0 rows, (after_hearing row t s port).1)
-    by_row None = if is_new range t rows then (added (heard_row range t s port) rows, Added) else (rows, Ignored)
+    by_row (Some row) = (with_row (after_hearing row t s port).0 rows, (after_hearing row t s port).1)
+    by_row None = if is_new range t rows then (with_row (heard_row range t s port) rows, Added) else (rows, Ignored)
 
 -- the map after router s reported on a port that a range is at distance t; a new range is left out if the map is full
 abbrev pub heard_within : Span → ℕ → Addr → ℕ → List Row → List Row
 heard_within range t s port rows =
-    if is_added (heard range t s port rows).1 && nat_le 200 (length rows) then rows else (heard range t s port rows).0
+    if is_added (heard range t s port rows).1 && nat_le max_rows (length rows) then rows else (heard range t s port rows).0
   where
     is_added : Change → Bool
     is_added Added = true

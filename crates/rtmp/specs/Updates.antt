@@ -1,6 +1,4 @@
 -- Updates of the rows of a table, one by one.
-use Rattle.std.specs.Prelude.{ℕ, List}
-use Rattle.at_base.specs.Starts.{before_start}
 use Rattle.rtmp.specs.declared.row.Row.{Row}
 use Rattle.rtmp.specs.declared.update.Update.{Update}
 use Rattle.rtmp.specs.declared.update.Update.TheVariants.{Age, Poison}
@@ -10,7 +8,3 @@ use Rattle.rtmp.specs.Routes.{aged_row, poisoned_row}
 abbrev pub updated : Update → Row → Row
 updated Age r = aged_row r
 updated (Poison next) r = poisoned_row next r
-
--- the number of rows before the first one that doesn't start below a network
-abbrev pub before : ℕ → List Row → ℕ
-before start rows = before_start (λ r. r.range.start) start rows

@@ -1,57 +1,35 @@
 //! A reader of packets of routing data, in place.
 
-ghost use Rattle.std.specs.Prelude.{◌≡◌, ◌≢◌, ◌∷◌, [], length, IfOk, IfNone, IfSome};
+ghost use Rattle.std.specs.Prelude.{◌≡◌, []};
 ghost use Rattle.at_base.specs.Packets.{packets};
 ghost use Rattle.at_base.specs.Reading as spec;
-ghost use Rattle.at_base.specs.Reading.{Gives, Reads, many_at};
-ghost use Rattle.rtmp.specs.Data.{routing_data, written_tuple, written_in, IsTuples, data_in};
-ghost use Rattle.rtmp.specs.Data.{tuples_of, own_range};
+ghost use Rattle.at_base.specs.Reading.{Gives, Reads};
+ghost use Rattle.rtmp.specs.Data.{own_range, routing_data, tuples_of};
 
 use crate::tuple::Tuple;
-use crate::written::{tuple_of, written_at};
+use crate::written::{WrittenFormat, tuple_of};
+use at_base::in_place::{Items, all_items};
 use at_base::packet::{byte_at, byte_only, u16_at};
 use at_base::{Addr, Error, Field, Range};
 use std::marker::Model;
 
-/// Checks the tuples up to the end of the bytes.
-fn check_tuples(bytes: &[u8]) -> Result<(), Error>
-    ensures { Gives (λ _. written_in 0 bytes.now) result
-        (many_at (λ n. spec.read packets (written_tuple n)) (λ t. 1) 0 (length bytes.now)
-        bytes.now) }
-{
-    let mut rest = bytes;
-    let mut low = 0;
-    while rest.len() > 0 {
-        match written_at(low, rest) {
-            Ok((_, after)) => {
-                low = 1;
-                rest = after;
-            }
-            Err(error) => return Err(error),
-        }
-    }
-    Ok(())
-}
-
-/// The router that sends the packet, and the bytes of the tuples.
+/// The router that sends the packet, and the tuples.
 #[tactic(auto, unfolding(crate::specs::Data::routing_data))]
-fn parts_of(bytes: &[u8]) -> Result<(Addr, &[u8]), Error>
-    ensures value { Gives (λ x. (data_in x.0 x.1.now, [])) result
+fn parts_of(bytes: &[u8]) -> Result<(Addr, Items<'_, WrittenFormat>), Error>
+    ensures { Gives (λ x. (record { router = x.0; written = x.1 }, [])) result
         (spec.read packets routing_data bytes.now) }
-    ensures whole { IfOk result (λ x. IsTuples 0 x.1.now) }
-    ensures some { IfOk result (λ x. x.1.now ≢ []) }
 {
     if bytes.len() < 4 {
         return Err(Error::Truncated);
     }
     let (net, rest) = u16_at(bytes)?;
     let (_, rest) = byte_only(rest, 8, Field::IdLength)?;
-    let (node, tuples) = byte_at(rest)?;
-    check_tuples(tuples)?;
-    if tuples.is_empty() {
+    let (node, rest) = byte_at(rest)?;
+    let written = all_items(WrittenFormat, rest)?;
+    if written.is_empty() {
         return Err(Error::Truncated);
     }
-    Ok((Addr { net, node }, tuples))
+    Ok((Addr { net, node }, written))
 }
 
 /// A packet of routing data, in place: the router that sends it, and the distances of ranges from
@@ -61,18 +39,18 @@ fn parts_of(bytes: &[u8]) -> Result<(Addr, &[u8]), Error>
 #[derive(Debug, Drop)]
 pub struct DataPacket<'a> {
     router: Addr,
-    tuples: &'a [u8],
+    written: Items<'a, WrittenFormat>,
 }
 
 impl<'a> Model for DataPacket<'a> {
     ghost use Rattle.std.specs.Prelude.{◌≢◌, []};
-    ghost use Rattle.rtmp.specs.Data.{RoutingData, IsTuples, data_in};
+    ghost use Rattle.rtmp.specs.Data.{RoutingData, tuples_of};
 
     ghost Value = { RoutingData };
 
-    ghost view = { λ p. data_in p.router p.tuples.now };
+    ghost view = { λ p. record { router = p.router; written = p.written } };
 
-    ghost invariant = { λ p. IsTuples 0 p.tuples.now × (p.tuples.now ≢ []) };
+    ghost invariant = { λ p. tuples_of p.written ≢ [] };
 }
 
 impl<'a> DataPacket<'a> {
@@ -86,7 +64,7 @@ impl<'a> DataPacket<'a> {
         ensures { Reads packets routing_data (λ d. d) (λ p. p) bytes.now result }
     {
         match parts_of(bytes) {
-            Ok((router, tuples)) => Ok(DataPacket { router, tuples }),
+            Ok((router, written)) => Ok(DataPacket { router, written }),
             Err(error) => Err(error),
         }
     }
@@ -102,8 +80,11 @@ impl<'a> DataPacket<'a> {
     pub fn own(&self) -> Range
         ensures { result ≡ own_range self.now }
     {
-        match next_in(0, self.tuples) {
-            Some((first, _)) => first.range,
+        let mut tuples = Tuples {
+            written: self.written.again(),
+        };
+        match tuples.next() {
+            Some(first) => first.range,
             None => unreachable!(),
         }
     }
@@ -113,57 +94,26 @@ impl<'a> DataPacket<'a> {
         ensures { result ≡ tuples_of self.now.written }
     {
         Tuples {
-            low: 0,
-            rest: self.tuples,
+            written: self.written.again(),
         }
     }
-}
-
-/// The first extended tuple of the bytes, and the bytes after it.
-fn next_in(low: u32, bytes: &[u8]) -> Option<(Tuple, &[u8])>
-    requires { IsTuples low bytes.now }
-    ensures none { IfNone result (tuples_of (written_in low bytes.now) ≡ []) }
-    ensures first { IfNone result (low ≡ 0 → bytes.now ≡ []) }
-    ensures some { IfSome result (λ x. tuples_of (written_in low bytes.now)
-        ≡ x.0 ∷ tuples_of (written_in 1 x.1.now)) }
-    ensures rest { IfSome result (λ x. IsTuples 1 x.1.now) }
-{
-    let mut low = low;
-    let mut rest = bytes;
-    while rest.len() > 0 {
-        match written_at(low, rest) {
-            Ok((written, after)) => {
-                low = 1;
-                rest = after;
-                if let Some(tuple) = tuple_of(&written) {
-                    return Some((tuple, rest));
-                }
-            }
-            Err(_) => return None,
-        }
-    }
-    None
 }
 
 /// An iterator over the extended tuples that are left in a packet of routing data. Contracts see it
 /// as a list.
 #[derive(Debug, Drop)]
 pub struct Tuples<'a> {
-    // 0 before the first tuple, which has a test of its own, else 1.
-    low: u32,
-    rest: &'a [u8],
+    written: Items<'a, WrittenFormat>,
 }
 
 impl<'a> Model for Tuples<'a> {
     ghost use Rattle.std.specs.Prelude.{List};
     ghost use Rattle.rtmp.specs.declared.tuple.Tuple.{Tuple as TupleValue};
-    ghost use Rattle.rtmp.specs.Data.{written_in, tuples_of, IsTuples};
+    ghost use Rattle.rtmp.specs.Data.{tuples_of};
 
     ghost Value = { List TupleValue };
 
-    ghost view = { λ t. tuples_of (written_in t.low t.rest.now) };
-
-    ghost invariant = { λ t. IsTuples t.low t.rest.now };
+    ghost view = { λ t. tuples_of t.written };
 }
 
 impl<'a> Iterator for Tuples<'a> {
@@ -178,13 +128,11 @@ impl<'a> Iterator for Tuples<'a> {
     ghost remaining = { λ left. at_most (length left) };
 
     fn next(&mut self) -> Option<Tuple> {
-        match next_in(self.low, self.rest) {
-            Some((tuple, rest)) => {
-                self.low = 1;
-                self.rest = rest;
-                Some(tuple)
+        while let Some(written) = self.written.next() {
+            if let Some(tuple) = tuple_of(&written) {
+                return Some(tuple);
             }
-            None => None,
         }
+        None
     }
 }

@@ -19,6 +19,6 @@ pub use laws::data_is_read_back;
 pub use plain::PlainTable;
 pub use row::Row;
 pub use state::State;
-pub use table::{Change, MAX_DISTANCE, MAX_ROWS, RouteTable};
+pub use table::{Change, MAX_DISTANCE, RouteTable};
 pub use tuple::Tuple;
 pub use writer::{MAX_ROWS_IN_PACKET, UNREACHABLE, write_data};

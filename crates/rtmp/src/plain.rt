@@ -1,19 +1,19 @@
 //! A routing table as a vector of rows.
 
-ghost use Rattle.std.specs.Prelude.{◌≡◌, ◌≤◌, ◌<◌, length, not, true, filter, vec_len};
+ghost use Rattle.std.specs.Prelude.{◌≡◌, ◌≤◌, length, not, true, filter, vec_len};
 ghost use Rattle.std.specs.Prelude.{vec_capacity};
 ghost use Rattle.std.specs.List.{list_all, list_any};
 ghost use Rattle.std.specs.Option.{option_copied};
-ghost use Rattle.at_base.specs.Range.{IsRange, overlaps, is_range};
+ghost use Rattle.at_base.specs.Range.{overlaps, is_range};
 ghost use Rattle.rtmp.specs.Routes as spec;
-ghost use Rattle.rtmp.specs.Routes.{IsRouteMap, added, are_apart, beside, replaced, row_at};
-ghost use Rattle.rtmp.specs.Updates.{before};
+ghost use Rattle.rtmp.specs.Routes.{IsRouteMap, are_apart, beside};
 
 use crate::row::Row;
 use crate::state::State;
-use crate::table::{Change, MAX_DISTANCE, MAX_ROWS, RouteTable};
+use crate::table::{Change, MAX_DISTANCE, RouteTable};
 use crate::update::{Update, is_over, update_all};
-use at_base::{Addr, Error, Range};
+use at_base::limits::MAX_ROWS;
+use at_base::{Addr, Error, Range, place_near, put, recall_valid};
 use std::alloc::Global;
 use std::marker::Model;
 
@@ -52,84 +52,6 @@ fn rows_are_apart(rows: &[Row]) -> bool
         end = row.range.end();
     }
     true
-}
-
-/// The number of rows that start below the network, which is from `low` to `high`.
-fn place_between(rows: &[Row], start: u16, low: usize, high: usize) -> usize
-    requires map { IsRouteMap rows.now }
-    requires from { low ≤ before start rows.now }
-    requires to { before start rows.now ≤ high }
-    requires inside { high ≤ length rows.now }
-    ensures { result ≡ before start rows.now }
-{
-    if low >= high {
-        return low;
-    }
-    let middle = low + (high - low) / 2;
-    if rows[middle].range.start() < start {
-        place_between(rows, start, middle + 1, high)
-    } else {
-        place_between(rows, start, low, middle)
-    }
-}
-
-/// The number of rows that start below the network, by binary search.
-fn place_in(rows: &[Row], start: u16) -> usize
-    requires { IsRouteMap rows.now }
-    ensures { result ≡ before start rows.now }
-{
-    place_between(rows, start, 0, rows.len())
-}
-
-/// Whether a row with this index exists and starts below the network.
-fn starts_below(rows: &[Row], index: usize, start: u16) -> bool
-    requires { IsRouteMap rows.now }
-    ensures { result ≡ true → index < before start rows.now }
-{
-    if index >= rows.len() {
-        return false;
-    }
-    rows[index].range.start() < start
-}
-
-/// Whether a row with this index exists and doesn't start below the network.
-fn starts_past(rows: &[Row], index: usize, start: u16) -> bool
-    ensures { result ≡ true → before start rows.now ≤ index }
-{
-    if index >= rows.len() {
-        return false;
-    }
-    rows[index].range.start() >= start
-}
-
-/// The number of rows that start below the network, which is often `near`.
-fn place_near(rows: &[Row], start: u16, near: usize) -> usize
-    requires { IsRouteMap rows.now }
-    ensures { result ≡ before start rows.now }
-{
-    if !starts_past(rows, near, start) {
-        return place_in(rows, start);
-    }
-    if near == 0 {
-        return 0;
-    }
-    if starts_below(rows, near - 1, start) {
-        return near;
-    }
-    place_in(rows, start)
-}
-
-/// The row of a range, if any. Its index is often `near`.
-fn row_of(rows: &[Row], range: Range, near: usize) -> Option<&Row>
-    requires { IsRouteMap rows.now }
-    ensures { option_copied result ≡ row_at range rows.now }
-{
-    let place = place_near(rows, range.start(), near);
-    if place >= rows.len() {
-        return None;
-    }
-    let row = &rows[place];
-    if row.range == range { Some(row) } else { None }
 }
 
 /// The usable row whose range contains the network, if any.
@@ -177,13 +99,6 @@ fn heard_row(range: Range, distance: u8, source: Addr, port: u8) -> Row
         next: source,
         state: State::Good,
     }
-}
-
-/// Does nothing. It gives the prover the fact that a range is valid, which only a call can.
-fn recall_valid(range: Range)
-    ensures { IsRange range.start range.end }
-{
-    let _start = range.start();
 }
 
 /// The row of the range of a port's own cable.
@@ -236,44 +151,6 @@ fn is_new(rows: &[Row], range: Range, distance: u8) -> bool
     ensures near { result ≡ true → distance ≤ 14 }
 {
     distance <= MAX_DISTANCE && !overlaps_any(rows, range)
-}
-
-/// The index of the first row that doesn't start below the network, or the number of rows.
-fn place_for(rows: &[Row], start: u16) -> usize
-    ensures place { result ≡ before start rows.now }
-    ensures inside { result ≤ length rows.now }
-{
-    let mut index = 0;
-    for row in rows {
-        if row.range.start() >= start {
-            return index;
-        }
-        index += 1;
-    }
-    index
-}
-
-/// Inserts the row at its place. The vector must have room for it.
-fn put(rows: &mut Vec<Row>, row: Row)
-    requires { vec_len rows.old < vec_capacity rows.old }
-    ensures { rows.new.items ≡ added row rows.old.items }
-{
-    let index = place_for(rows.as_slice(), row.range.start());
-    rows.insert(index, row).unwrap();
-}
-
-/// Replaces the row of the same range, if any. Its index is often `near`.
-fn replace(rows: &mut Vec<Row>, row: Row, near: usize)
-    requires { IsRouteMap rows.old.items }
-    ensures { rows.new.items ≡ replaced row rows.old.items }
-{
-    let place = place_near(rows.as_slice(), row.range.start(), near);
-    if place >= rows.len() {
-        return;
-    }
-    if rows[place].range == row.range {
-        rows[place] = row;
-    }
 }
 
 impl RouteTable for PlainTable {
@@ -333,23 +210,28 @@ impl RouteTable for PlainTable {
         source: Addr,
         port: u8,
     ) -> Result<Change, Error> {
-        let near = place_near(self.rows.as_slice(), range.start(), self.near);
-        self.near = near.wrapping_add(1);
-        if let Some(row) = row_of(self.rows.as_slice(), range, near) {
-            let (row, change) = after_hearing(row, distance, source, port);
-            replace(&mut self.rows, row, near);
-            return Ok(change);
+        match place_near(self.rows.as_slice(), range, self.near) {
+            Ok(place) => {
+                self.near = place.wrapping_add(1);
+                let (row, change) = after_hearing(&self.rows[place], distance, source, port);
+                self.rows[place] = row;
+                Ok(change)
+            }
+            Err(place) => {
+                self.near = place.wrapping_add(1);
+                if !is_new(self.rows.as_slice(), range, distance) {
+                    return Ok(Change::Ignored);
+                }
+                if self.rows.len() >= MAX_ROWS {
+                    return Err(Error::Full);
+                }
+                recall_valid(range);
+                self.rows.reserve(1)?;
+                let row = heard_row(range, distance, source, port);
+                self.rows.insert(place, row).unwrap();
+                Ok(Change::Added)
+            }
         }
-        if !is_new(self.rows.as_slice(), range, distance) {
-            return Ok(Change::Ignored);
-        }
-        if self.rows.len() >= MAX_ROWS {
-            return Err(Error::Full);
-        }
-        recall_valid(range);
-        self.rows.reserve(1)?;
-        put(&mut self.rows, heard_row(range, distance, source, port));
-        Ok(Change::Added)
     }
 
     fn age(&mut self) {

@@ -1,7 +1,7 @@
 //! Rows of routing tables.
 
 use crate::state::State;
-use at_base::{Addr, Range};
+use at_base::{Addr, Range, Spanned};
 
 /// A row of a routing table: the route to the networks of a range.
 ///
@@ -18,6 +18,14 @@ pub struct Row {
     pub next: Addr,
     /// How recently the row was confirmed.
     pub state: State,
+}
+
+impl Spanned for Row {
+    ghost span = { λ r. r.range };
+
+    fn range(&self) -> Range {
+        self.range
+    }
 }
 
 impl Row {

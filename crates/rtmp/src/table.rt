@@ -7,13 +7,11 @@ ghost use Rattle.std.specs.List.{list_all};
 ghost use Rattle.rtmp.specs.Routes as spec;
 ghost use Rattle.rtmp.specs.Routes.{IsRouteMap, aged, are_apart, beside, directed, heard, poisoned};
 ghost use Rattle.rtmp.specs.declared.table.Change.TheVariants.{Added};
+ghost use Rattle.at_base.specs.Limits.{max_rows};
 
 use crate::row::Row;
 use at_base::{Addr, Error, Range};
 use std::alloc::Global;
-
-/// The greatest number of rows in a routing table.
-pub const MAX_ROWS: usize = 200;
 
 /// The greatest distance, in routers from the sender, at which a router accepts a range from
 /// another router.
@@ -74,7 +72,7 @@ pub trait RouteTable: Drop {
         ensures ok { OnOk result (rows self.new ≡ given.now) }
         ensures range { (result ≡ Err Error.BadRange) ↔ (are_apart given.now ≡ false) }
         ensures full { (result ≡ Err Error.Full)
-            ↔ ((are_apart given.now ≡ true) × (200 < length given.now)) }
+            ↔ ((are_apart given.now ≡ true) × (max_rows < length given.now)) }
         ensures refused { IfErr result
             (λ e. (e ≡ Error.BadRange) ⊎ (e ≡ Error.Full) ⊎ (e ≡ Error.Memory)) }
         ensures unchanged { OnErr result (rows self.new ≡ rows self.old) };
@@ -86,7 +84,7 @@ pub trait RouteTable: Drop {
     fn direct(&mut self, range: Range, port: u8) -> Result<(), Error>
         ensures ok { OnOk result (rows self.new ≡ directed range port (rows self.old)) }
         ensures full { (result ≡ Err Error.Full)
-            ↔ (200 ≤ length (beside range (rows self.old))) }
+            ↔ (max_rows ≤ length (beside range (rows self.old))) }
         ensures refused { IfErr result (λ e. (e ≡ Error.Full) ⊎ (e ≡ Error.Memory)) }
         ensures unchanged { OnErr result (rows self.new ≡ rows self.old) };
 
@@ -99,7 +97,7 @@ pub trait RouteTable: Drop {
             (λ change. (rows self.new, change) ≡ heard range distance source port (rows self.old)) }
         ensures full { (result ≡ Err Error.Full)
             ↔ (((heard range distance source port (rows self.old)).1 ≡ Added)
-            × (200 ≤ length (rows self.old))) }
+            × (max_rows ≤ length (rows self.old))) }
         ensures stays { (heard range distance source port (rows self.old)).1 ≢ Added → IsOk result }
         ensures refused { IfErr result (λ e. (e ≡ Error.Full) ⊎ (e ≡ Error.Memory)) }
         ensures unchanged { OnErr result (rows self.new ≡ rows self.old) };

@@ -1,4 +1,3 @@
 pub mod Replies
 pub mod Values
 pub mod MadeLawful
-pub mod Quiet

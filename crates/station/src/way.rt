@@ -3,6 +3,7 @@
 ghost use Rattle.std.specs.Prelude.{◌≡◌, ◌<◌, ◌≤◌, ℕ, length, IfOk, IsOkUnless};
 ghost use Rattle.station.specs.Lawful.{IsGood, IsNext};
 ghost use Rattle.station.specs.Making.{made};
+ghost use Rattle.at_base.specs.Limits.{max_data};
 
 use crate::laws::slices_have_bytes;
 use crate::output::{Next, Output};
@@ -27,7 +28,7 @@ impl Way {
     /// The datagram with this data, sent on this way. The caller ensures that the data has at most
     /// 586 bytes. Error: `Memory`.
     pub fn make(&self, alloc: Global, payload: &[u8]) -> Result<Output, Error>
-        requires { length payload.now ≤ 586 }
+        requires { length payload.now ≤ max_data }
         ensures ok { IfOk result (λ output. output ≡ made self.now payload.now) }
         ensures good { IfOk result (λ output. IsNext self.now.next
             → (ports : ℕ) → self.now.port < ports → IsGood ports output) }

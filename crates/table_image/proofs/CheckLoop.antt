@@ -1,12 +1,9 @@
 -- Checking items in a loop.
-use Rattle.std.proofs.Common.{◌≡◌, ℕ, suc, ◌+◌, ◌*◌, ◌<◌, ◌≤◌, Bool, true, false, Result, Ok, Err, MatchResult, List, ◌∷◌, length, get_or}
+use Rattle.std.proofs.Common.{◌≡◌, ℕ, suc, ◌+◌, ◌*◌, ◌<◌, ◌≤◌, true, Result, Ok, Err, MatchResult, List, ◌∷◌, length, get_or}
 use Rattle.std.proofs.Common.{drop, refl, sym, ap, subst, ◌∙◌, arith, inl, inr}
-use Rattle.std.specs.List.{list_all}
 use Rattle.std.proofs.Math.Seq.{drop-cons}
-use Rattle.std.proofs.Math.ListN.{drop_of_length-le}
 use Rattle.std.proofs.Math.Nat.{mul-le-mul_right}
 use Rattle.std.proofs.lemmas.List.{length-append}
-use Rattle.std.proofs.lemmas.List.Folds.{list_all_at}
 use Rattle.at_base.specs.Grammar.{Grammar}
 use Rattle.at_base.specs.Spelling.{list_bytes, bytes_of, ListPasses, IsValue}
 use Rattle.table_image.specs.Flaws.{Wrong}
@@ -62,25 +59,6 @@ pub stops : {B : Type 0} (item : ℕ → Grammar Wrong true B) (next : B → ℕ
 stops {B} item next xs start i low at x q w lt e flaw so_far =
     so_far.flawed q w (subst (λ (ys : List B). ListFlawAt (λ low. FlawAt (item low)) (λ low. bytes_of (item low)) (λ low. IsValue
     (item low)) next low ys at q w) (sym (from_item xs i x lt e)) (inl flaw))
-
-pub is_through : {B : Type 0} (item : ℕ → Grammar Wrong true B) (next : B → ℕ) (xs : List B) (start i low at : ℕ) → length xs ≤ i
-    → Standing item next xs start i low at
-    → ListPasses (λ low. IsValue (item low)) next 0 xs × (at ≡ start + length (list_bytes (λ low. bytes_of (item low)) next 0 xs))
-is_through {B} item next xs start i low at le so_far =
-    let none = drop_of_length-le xs le in
-    let ends = so_far.ends in
-    let nothing : length (list_bytes (λ low. bytes_of (item low)) next low (drop i xs)) ≡ 0 =
-    ap (λ (ys : List B). length (list_bytes (λ low. bytes_of (item low)) next low ys)) none in
-    (so_far.passes (subst (λ (ys : List B). ListPasses (λ low. IsValue (item low)) next low ys) (sym none) tt), omega arith)
-
--- each item passes a test that all items pass
-pub one_of_all : {B : Type 0} (test : B → Bool) (xs : List B) (i : ℕ) (x : B) → list_all test xs ≡ true → i < length xs → x ≡ get_or xs i x
-    → test x ≡ true
-one_of_all {B} test xs i x all lt e =
-    elim (test x) as (λ (b : Bool). test x ≡ b → b ≡ true) [
-      | true ↦ λ h. refl
-      | false ↦ λ h. (let bad = list_all_at test xs i x lt (ap test (sym e) ∙ h) in absurd (let both : true ≡ false = sym all ∙ bad in cc))
-    ] refl
 
 -- one more of n items has room, if all n have
 pub room_left : (i n most : ℕ) → i < n → i * most + most ≤ n * most

@@ -1,8 +1,8 @@
 -- The results of checks of parts with lists.
-use Rattle.std.proofs.Common.{◌≡◌, ℕ, ◌+◌, ◌^◌, ◌<◌, ◌≤◌, Bool, true, false, ltb, ◌&&◌, nat_le, List, [], ◌∷◌, length, Some, None, Result}
+use Rattle.std.proofs.Common.{◌≡◌, ℕ, ◌+◌, ◌^◌, ◌<◌, ◌≤◌, Bool, true, false, ltb, List, [], ◌∷◌, length, Some, None, Result}
 use Rattle.std.proofs.Common.{Ok, Err, refl, ap, subst, arith, inl, inr}
 use Rattle.std.specs.List.{list_all}
-use Rattle.std.proofs.lemmas.Bool.{and_parts, leb-true, le-ltb, lt-ltb}
+use Rattle.std.proofs.lemmas.Bool.{le-ltb, lt-ltb}
 use Rattle.std.specs.Prelude.{◌⊎◌}
 use Rattle.at_base.specs.declared.error.Cause.TheVariants.{Index, Order, Value}
 use Rattle.at_base.specs.declared.address.Addr.{Addr}
@@ -12,7 +12,6 @@ use Rattle.at_base.specs.Spelling.{bytes_of, IsValue, Passes}
 use Rattle.table_image.specs.Flaws.{Wrong, Here}
 use Rattle.table_image.specs.Tests.{enumerator}
 use Rattle.at_base.specs.Text.{is_entity}
-use Rattle.table_image.specs.Short.{short_list, short_router}
 use Rattle.table_image.specs.Limits.{max_cables, max_routers, max_nodes, max_ports, max_rows, max_zone_lists, max_names}
 use Rattle.table_image.specs.Spelling.{counted, text_spelling, zone_spelling, zones_spelling, address_spelling, port_spelling, row_spelling}
 use Rattle.table_image.specs.Spelling.{zone_list_spelling, flag_number, flag_of, cable_spelling, router_spelling, own_router_spelling}
@@ -257,22 +256,6 @@ pub node_checks : (cables : ℕ) (n : Node) (at a b : ℕ) (r : Result ℕ Misfi
 node_checks cables n at a b r f lt h k j = (node_says cables n at a b r f lt h k j).it
 
 -- ---- short lists
-
--- the facts about the lists of a router that are within their limits
-pub record IsShortRouter (x : Router) : Type 0 where
-  pub ports : length x.ports ≤ max_ports
-  pub rows : length x.rows ≤ max_rows
-  pub lists : length x.lists ≤ max_zone_lists
-  pub each : list_all short_list x.lists ≡ true
-
-pub router_short : (x : Router) → short_router x ≡ true → IsShortRouter x
-router_short x h =
-    let a =
-    and_parts (nat_le (length x.ports) max_ports && nat_le (length x.rows) max_rows && nat_le (length x.lists) max_zone_lists)
-    (list_all short_list x.lists) h in
-    let b = and_parts (nat_le (length x.ports) max_ports && nat_le (length x.rows) max_rows) (nat_le (length x.lists) max_zone_lists) a.0 in
-    let c = and_parts (nat_le (length x.ports) max_ports) (nat_le (length x.rows) max_rows) b.0 in
-    record { ports = leb-true _ _ c.0; rows = leb-true _ _ c.1; lists = leb-true _ _ b.1; each = a.1 }
 
 pub all_true : {A : Type 0} (xs : List A) → list_all (λ x. true) xs ≡ true
 all_true [] = refl

@@ -1,5 +1,5 @@
 -- Zone lists of a router as zone tables, list by list, and that they are a map.
-use Rattle.std.proofs.Common.{◌≡◌, ℕ, suc, ◌+◌, ◌≤◌, max, Bool, true, false, not, ◌&&◌, ◌||◌, ◌==◌, List, [], ◌∷◌, ◌++◌, length}
+use Rattle.std.proofs.Common.{◌≡◌, ℕ, suc, ◌+◌, ◌≤◌, Bool, true, false, not, ◌&&◌, ◌||◌, ◌==◌, List, [], ◌∷◌, ◌++◌, length}
 use Rattle.std.proofs.Common.{refl, sym, ap, subst, ◌∙◌, arith, nat_lt, nat_le}
 use Rattle.std.specs.Prelude.{if◌then◌else◌}
 use Rattle.std.specs.List.{list_all}
@@ -8,7 +8,7 @@ use Rattle.std.proofs.lemmas.Bool.{and_parts, eqb-true, lt-ltb}
 use Rattle.std.proofs.lemmas.List.{append_assoc}
 use Rattle.at_base.specs.Range.{is_range}
 use Rattle.zip_zones.specs.Zones.{Known, IsZoneMap, are_above, are_distinct, each_once, end_of, has_room, is_known, is_past}
-use Rattle.zip_zones.specs.Zones.{list_of_least, set_list}
+use Rattle.zip_zones.specs.Zones.{set_list}
 use Rattle.zip_zones.proofs.Names.{distinct_fold, not_more}
 use Rattle.zip_zones.proofs.Appended.{front_map, last_parts}
 use Rattle.zip_zones.proofs.Tables.{known_of_parts, known_parts}
@@ -44,24 +44,6 @@ zone_map_step l lists = by_test (is_told l) refl
 -- the least number of zones of a list
 abbrev pub least_for : ZoneList → ℕ
 least_for l = if l.complete then 0 else length l.zones + 1
-
--- the list of the zone table is one of its names, with at least this many zones
-pub known_is_least : (l : ZoneList) → known_of_list l ≡ list_of_least (range_of l) (least_for l) l.zones
-known_is_least l = by_test l.complete
-  where
-    of_total : ℕ → Known
-    of_total n = record { range = range_of l; total = n; names = each_once l.zones }
-
-    none_greater : (n : ℕ) → n ≡ max 0 n
-    none_greater n = omega arith
-
-    greater : (n m : ℕ) → m ≤ n → max (n + 1) m ≡ n + 1
-    greater n m le = omega (arith, le)
-
-    by_test : (b : Bool) → (if b then set_list (range_of l) l.zones else of_total (length l.zones + 1))
-        ≡ list_of_least (range_of l) (if b then 0 else length l.zones + 1) l.zones
-    by_test true = ap of_total (none_greater (length (each_once l.zones)))
-    by_test false = ap of_total (sym (greater (length l.zones) (length (each_once l.zones)) (not_more l.zones)))
 
 -- ---- room
 

@@ -1,5 +1,5 @@
 -- Texts that are written one after the other.
-use Rattle.std.proofs.Common.{◌≡◌, ℕ, List, [], ◌++◌, Option, Some, None, Result, Ok, Err, OnOk, ap, subst, sym, ◌∙◌}
+use Rattle.std.proofs.Common.{◌≡◌, ℕ, List, [], ◌++◌, Option, Some, None, Result, Ok, Err, OnOk, ap, sym, ◌∙◌}
 use Rattle.std.proofs.lemmas.List.{append_assoc, append-nil}
 use Rattle.std.specs.Io.KnownBytes.{Appends}
 use Rattle.text.specs.Going.{Goes}
@@ -41,7 +41,3 @@ goes_put u v t s r a e x = record { gone = x.gone; went = x.went; rest = x.rest 
 pub on_both : {A E : Type 0} {P Q R : Type 0} (r : Result A E) → OnOk r P → OnOk r Q → (P → Q → R) → OnOk r R
 on_both (Ok a) p q f = f p q
 on_both (Err e) p q f = tt
-
--- all text that was added is written
-pub goes_out : (u v w : Option (List ℕ)) (t s a : List ℕ) → Goes u t a v s → Appends v w s → Appends u w (t ++ a)
-goes_out u v w t s a x y = subst (Appends u w) x.rest (appends_then u v w x.gone s x.went y)

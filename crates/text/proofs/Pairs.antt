@@ -10,7 +10,3 @@ pub after_one_more : (bytes : List ℕ) (byte : ℕ) (rest : Option (List ℕ)) 
     ≡ after (bytes ++ byte ∷ []) rest
 after_one_more bytes byte None = refl
 after_one_more bytes byte (Some more) = rw append_assoc refl
-
-pub after_none : (rest : Option (List ℕ)) → rest ≡ after [] rest
-after_none None = refl
-after_none (Some more) = refl

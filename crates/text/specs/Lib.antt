@@ -2,3 +2,4 @@ pub mod Words
 pub mod Cuts
 pub mod Digits
 pub mod Going
+pub mod Writing

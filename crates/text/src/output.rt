@@ -1,8 +1,9 @@
 //! A buffered writer of text that counts the writes that failed.
 
-ghost use Rattle.std.specs.Prelude.{◌≡◌, ◌≢◌, ◌<◌, length, [], ◌∷◌, ◌++◌, OnOk, OnErr, IsOkUnless};
+ghost use Rattle.std.specs.Prelude.{◌≡◌, ◌<◌, length, [], ◌∷◌, ◌++◌, OnOk, OnErr};
 ghost use Rattle.std.specs.Io.KnownBytes.{Appends};
 ghost use Rattle.text.specs.Going.{Goes};
+ghost use Rattle.text.specs.Writing.{Writes};
 
 use at_base::Error;
 use std::alloc::Global;
@@ -43,9 +44,7 @@ impl<W: Write> Output<W> {
         ensures ok { OnOk result
             (Appends (W.contents self.old.writer) (W.contents self.new.writer)
             (text.now ++ 10 ∷ [])) }
-        ensures fault { OnErr result (self.new.faults ≢ self.old.faults) }
-        ensures refused { IsOkUnless result Error.WriteFault }
-        ensures stays { OnOk result (self.new.faults ≡ self.old.faults) }
+        ensures writes { Writes self.old.faults self.new.faults result }
         ensures text { self.new.text ≡ self.old.text }
     {
         match put_line(&mut self.writer, text) {
@@ -65,9 +64,7 @@ impl<W: Write> Output<W> {
         ensures empty { OnOk result (self.new.text.items ≡ []) }
         // Text that can't be written stays buffered.
         ensures left { OnErr result (self.new.text ≡ self.old.text) }
-        ensures fault { OnErr result (self.new.faults ≢ self.old.faults) }
-        ensures refused { IsOkUnless result Error.WriteFault }
-        ensures stays { OnOk result (self.new.faults ≡ self.old.faults) }
+        ensures writes { Writes self.old.faults self.new.faults result }
     {
         match put(&mut self.writer, self.text.as_slice()) {
             Ok(()) => {
@@ -88,9 +85,7 @@ impl<W: Write> Output<W> {
         ensures gone { OnOk result (Goes (W.contents self.old.writer) self.old.text.items []
             (W.contents self.new.writer) self.new.text.items) }
         ensures left { OnErr result (self.new.text ≡ self.old.text) }
-        ensures fault { OnErr result (self.new.faults ≢ self.old.faults) }
-        ensures refused { IsOkUnless result Error.WriteFault }
-        ensures stays { OnOk result (self.new.faults ≡ self.old.faults) }
+        ensures writes { Writes self.old.faults self.new.faults result }
     {
         if self.text.len() >= FULL {
             self.flush()

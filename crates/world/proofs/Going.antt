@@ -1,7 +1,11 @@
 -- Steps of a tick, one after the other.
 use Rattle.std.proofs.Common.{◌≡◌, ℕ, ◌+◌, Bool, not, cond, IsTrue, List, [], ◌∷◌, ◌++◌, refl, sym, ap, ◌∙◌, subst, arith}
 use Rattle.std.proofs.Common.{append-nil, append_assoc}
+use Rattle.std.proofs.lemmas.Result.{on_ok_weaker}
 use Rattle.std.specs.List.{list_any}
+use Rattle.std.specs.Prelude.{◌⊎◌, Result, Err, IfErr, OnOk}
+use Rattle.at_base.specs.declared.error.Error.{Error}
+use Rattle.at_base.specs.declared.error.Error.TheVariants.{Full, Memory}
 use Rattle.cable_model.proofs.Counting.{count-append}
 use Rattle.cable_model.proofs.Stamps.{once_front}
 use Rattle.cable_model.specs.Pending.{Pair, pending}
@@ -10,8 +14,8 @@ use Rattle.cable_model.specs.declared.seat.Seat.{Seat}
 use Rattle.live_cables.proofs.Played.{lost_then, nothing_lost, nothing_played, played_then}
 use Rattle.live_cables.specs.Living.{Plays, PlaysOn, Wires, happened, loses}
 use Rattle.live_cables.specs.Playing.{IsPlayed, are_allowed, are_lost, is_in, is_took, losses}
-use Rattle.live_cables.specs.Steps.{loses_by}
-use Rattle.world.specs.Going.{Ends, Goes, GoesOn}
+use Rattle.live_cables.specs.Steps.{HasNoRoom, loses_by}
+use Rattle.world.specs.Going.{Did, Ends, Goes, GoesOn}
 
 pub goes_none : (w : Wires) → GoesOn 0 w w
 goes_none w = record {
@@ -100,6 +104,36 @@ module _ (taken : ℕ) (a b c : Wires) (x : GoesOn taken a b) where
     few = y.few;
     ended = y.ended;
   }
+
+-- ---- Two steps, of which the second may be refused
+
+pub did_then : {A : Type 0} (room : ℕ) (a b c : Wires) (r : Result A Error) → GoesOn 0 a b → Did (GoesOn 0 b c) room b c r
+    → Did (GoesOn 0 a c) room a c r
+did_then room a b c r x y = record {
+  goes = goes_then 0 a b c x y.goes;
+  done = on_ok_weaker r (λ d. goes_on_then 0 a b c x 0 0 (omega arith) d) y.done;
+  full = y.full;
+  refused = y.refused;
+}
+
+pub did_end : {A : Type 0} (most room : ℕ) (a b c : Wires) (r : Result A Error) → GoesOn 0 a b → Did (Ends most b c) room b c r
+    → Did (Ends most a c) room a c r
+did_end most room a b c r x y = record {
+  goes = goes_then 0 a b c x y.goes;
+  done = on_ok_weaker r (λ d. ends_then 0 a b c x most refl d) y.done;
+  full = y.full;
+  refused = y.refused;
+}
+
+-- what a call of the cables did
+pub did_play : {A : Type 0} (room : ℕ) (a b : Wires) (r : Result A Error) → Plays a b → OnOk r (PlaysOn 0 a b)
+    → (r ≡ Err Full → HasNoRoom room b.cabling) → IfErr r (λ e. (e ≡ Full) ⊎ (e ≡ Memory)) → Did (GoesOn 0 a b) room a b r
+did_play room a b r plays on full refused = record {
+  goes = goes_plays a b plays;
+  done = on_ok_weaker r (λ d. goes_plays_on 0 a b d) on;
+  full = full;
+  refused = refused;
+}
 
 -- ---- Addresses that settle
 

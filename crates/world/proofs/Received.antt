@@ -20,14 +20,12 @@ use Rattle.station.specs.Ways.{checks, is_to}
 use Rattle.end_node.specs.Holding.{NodeHolding}
 use Rattle.end_node.specs.Taking.{taken}
 use Rattle.end_node.specs.declared.node.Datagram.{Datagram as Received}
-use Rattle.station.specs.Members.{EitherHears, EitherTicks}
+use Rattle.station.specs.Members.{EitherHears}
 use Rattle.station.specs.declared.member.Member.{Member}
 use Rattle.station.specs.declared.member.Member.TheVariants.{Router, Node}
 use Rattle.live_cables.specs.Living.{IsTakenBy, Wires, happened}
 use Rattle.live_node.specs.Living.{LivingNode, LiveHears as NodeHears, informed, is_waiting, routed, routing_in, taught, told, zones_in}
-use Rattle.live_node.specs.Ticking.{LiveTicks as NodeTicks}
 use Rattle.live_router.specs.Living.{Living, LiveHears as RouterHears}
-use Rattle.live_router.specs.Ticking.{LiveTicks as RouterTicks}
 use Rattle.rtmp.specs.Data.{RoutingData}
 use Rattle.station.specs.Hearing.{Hearing}
 use Rattle.station.specs.Resolution.{packet_at}
@@ -232,14 +230,6 @@ member_hears (Router old) (Router new) x added h = inl refl
 member_hears (Router old) (Node new) x added h = absurd h
 member_hears (Node old) (Router new) x added h = absurd h
 member_hears (Node old) (Node new) x added h = node_hears old new x added h
-
--- A station receives nothing in its tick.
-pub member_ticks : (old new : Member Living LivingNode) (added : List Output) → EitherTicks RouterTicks NodeTicks old added new
-    → got new ≡ got old
-member_ticks (Router old) (Router new) added h = refl
-member_ticks (Router old) (Node new) added h = absurd h
-member_ticks (Node old) (Router new) added h = absurd h
-member_ticks (Node old) (Node new) added h = ap (λ (l : LivingNode). l.node.received) h.left
 
 -- ---- Lists of stations
 

@@ -1,7 +1,7 @@
 -- Stations, one of which changes, and the frames that are pending for them.
 use Rattle.std.proofs.Common.{◌≡◌, ◌⊎◌, ◌↔◌, inl, inr, ℕ, zero, suc, ◌<◌, Bool, true, false, ◌==◌, not, List, [], ◌∷◌, ◌++◌}
 use Rattle.std.proofs.Common.{◌+◌, ◌≤◌, cond, Some, map, length, slice_get, slice_set, Contains, IfErr, Result, Ok, Err}
-use Rattle.std.proofs.Common.{refl, sym, ap, ◌∙◌, subst, arith, eq-eqb, filter, OnErr, OnOk}
+use Rattle.std.proofs.Common.{refl, sym, ap, ◌∙◌, subst, arith, eq-eqb, filter}
 use Rattle.std.specs.List.{list_any, AllByRecursion as Each}
 use Rattle.std.proofs.lemmas.Bool.{and_from}
 use Rattle.at_base.specs.declared.error.Error.{Error}
@@ -134,13 +134,6 @@ laid_whole w h =
     let nodes = length-map one w.plan.nodes in
     omega (arith, all, planned, both, routers, nodes)
 
-pub laid_few : (w : Worldly) → IsLaid w → length w.stations ≤ 400
-laid_few w h =
-    let all = laid_whole w h in
-    let routers = h.sound.few_routers in
-    let nodes = h.sound.few_nodes in
-    omega (arith, all, routers, nodes)
-
 -- The stations have the seats that they need.
 pub laid_seated : (w : Worldly) → IsLaid w → AreSeated w.wires.cabling.seats (map ports_of w.stations)
 laid_seated w h =
@@ -174,11 +167,6 @@ laid_lives w h = record {
   few = h.few;
   limit = h.limit;
 }
-
--- A fact that holds for both results.
-pub either_way : {T E : Type 0} (r : Result T E) (P : Type 0) → OnOk r P → OnErr r P → P
-either_way (Ok x) P ok err = ok
-either_way (Err e) P ok err = err
 
 pub length_set : {X : Type 0} (xs : List X) (k : ℕ) (x : X) → length (slice_set xs k x) ≡ length xs
 length_set [] k x = refl

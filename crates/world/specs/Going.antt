@@ -1,9 +1,12 @@
 -- The effects of a tick's steps on the cables.
-use Rattle.std.specs.Prelude.{◌≡◌, ◌⊎◌, ℕ, ◌≤◌, IsTrue, List, [], ◌++◌}
-use Rattle.cable_model.specs.Pending.{pending}
+use Rattle.std.specs.Prelude.{◌≡◌, ◌⊎◌, ℕ, ◌≤◌, IsTrue, List, [], ◌++◌, Result, Err, IfErr, OnOk}
+use Rattle.at_base.specs.declared.error.Error.{Error}
+use Rattle.at_base.specs.declared.error.Error.TheVariants.{Full, Memory}
 use Rattle.cable_model.specs.Transcript.{ArePutOnce, Entry, count}
 use Rattle.live_cables.specs.Living.{Wires, happened, loses}
 use Rattle.live_cables.specs.Playing.{IsPlayed, are_lost, is_took}
+use Rattle.live_cables.specs.Steps.{HasNoRoom}
+use Rattle.cable_model.specs.Logs.{pending_on}
 
 -- Entries that `IsPlayed` allows were added, while the seats, the limit, and which cables lose frames stayed the same;
 -- addresses may have settled. That no two frames have the same stamp is a premise, so that steps can be combined before
@@ -28,4 +31,11 @@ pub record Ends (most : ℕ) (old new : Wires) : Type 0 where
   pub taken : ℕ
   pub goes_on : GoesOn taken old new
   pub few : taken ≤ most
-  pub ended : (pending new.cabling.seats (happened new) ≡ []) ⊎ (taken ≡ most)
+  pub ended : (pending_on new.cabling ≡ []) ⊎ (taken ≡ most)
+
+-- What a step did, whether or not it finished: it is refused for lack of room for this many entries, or out of memory.
+pub record Did {A : Type 0} (Done : Type 0) (room : ℕ) (old new : Wires) (result : Result A Error) : Type 0 where
+  pub goes : Goes old new
+  pub done : OnOk result Done
+  pub full : result ≡ Err Full → HasNoRoom room new.cabling
+  pub refused : IfErr result (λ e. (e ≡ Full) ⊎ (e ≡ Memory))

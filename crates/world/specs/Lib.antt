@@ -12,3 +12,4 @@ pub mod Acting
 pub mod Ticking
 pub mod Stopping
 pub mod Scheduling
+pub mod Ended

@@ -1,13 +1,13 @@
 -- The frames that the stations of a world take in a tick.
 use Rattle.std.specs.Prelude.{◌≡◌, ℕ, zero, suc, List, Some, slice_get, slice_set}
 use Rattle.cable_model.specs.Outcomes.{IsLeast}
-use Rattle.cable_model.specs.Pending.{pending}
 use Rattle.station.specs.Members.{EitherHears}
 use Rattle.station.specs.declared.member.Member.{Member}
-use Rattle.live_cables.specs.Living.{TakesIn, Wires, happened}
+use Rattle.live_cables.specs.Living.{TakesIn, Wires}
 use Rattle.live_node.specs.Living.{LivingNode, LiveHears as NodeHears}
 use Rattle.live_router.specs.Living.{Living, LiveHears as RouterHears}
 use Rattle.planned_stations.specs.Planning.{ports_of}
+use Rattle.cable_model.specs.Logs.{pending_on}
 
 -- The station with this number became what `Does` says of it, and the others stayed.
 pub record IsOne (station : ℕ) (stations now : List (Member Living LivingNode))
@@ -28,7 +28,7 @@ IsTaker stamp station stations now old new =
 pub record IsOfFirst (wires : Wires) (Does : ℕ → ℕ → Type 0) : Type 0 where
   pub stamp : ℕ
   pub station : ℕ
-  pub least : IsLeast (pending wires.cabling.seats (happened wires)) stamp station
+  pub least : IsLeast (pending_on wires.cabling) stamp station
   pub by : Does stamp station
 
 -- The frame with the lowest pending stamp was taken by the lowest station for which it was pending.

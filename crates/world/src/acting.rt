@@ -3,11 +3,10 @@
 ghost use Rattle.std.specs.Prelude.{◌≡◌, ◌⊎◌, ◌<◌, ◌≤◌, ◌++◌, ◌∷◌, ℕ, [], length};
 ghost use Rattle.std.specs.Prelude.{IfErr, IfNone, IfSome, IsOkUnless, OnErr, OnOk, Ok, Err, Some};
 ghost use Rattle.at_base.specs.ErrorNumber.{number_of};
-ghost use Rattle.live_cables.specs.Steps.{HasNoRoom};
 ghost use Rattle.station.specs.Lawful.{AreLawful};
 ghost use Rattle.world.specs.Acting.{AreDone, IsOver, KeepsFirst, tick_of};
 ghost use Rattle.world.specs.Doing.{IsDone, acted, acted_by, number_from, station_for};
-ghost use Rattle.world.specs.Going.{Goes, GoesOn};
+ghost use Rattle.world.specs.Going.{Did, GoesOn};
 
 use at_base::Error;
 use internet_file::{Action, Do, Plan};
@@ -100,10 +99,7 @@ fn act_one<T: RouteTable>(
         (wires.old, refused.old.items) (wires.new, refused.new.items)) }
     ensures stays { OnErr result (refused.new.items ≡ refused.old.items) }
     ensures keeps { KeepsFirst refused.old.items refused.new.items }
-    ensures goes { Goes wires.old wires.new }
-    ensures done { OnOk result (GoesOn 0 wires.old wires.new) }
-    ensures full { (result ≡ Err Error.Full) → HasNoRoom 5 wires.new.cabling }
-    ensures refused { IfErr result (λ e. (e ≡ Error.Full) ⊎ (e ≡ Error.Memory)) }
+    ensures did { Did (GoesOn 0 wires.old wires.new) 5 wires.old wires.new result }
 {
     let Some(action) = plan.actions().get(index as usize) else {
         return Ok(());
@@ -152,10 +148,7 @@ pub fn act_all<T: RouteTable>(
         schedule.old.items schedule.new.items
         (wires.old, refused.old.items) (wires.new, refused.new.items)) }
     ensures keeps { KeepsFirst refused.old.items refused.new.items }
-    ensures goes { Goes wires.old wires.new }
-    ensures done { OnOk result (GoesOn 0 wires.old wires.new) }
-    ensures full { (result ≡ Err Error.Full) → HasNoRoom 5 wires.new.cabling }
-    ensures refused { IfErr result (λ e. (e ≡ Error.Full) ⊎ (e ≡ Error.Memory)) }
+    ensures did { Did (GoesOn 0 wires.old wires.new) 5 wires.old wires.new result }
 {
     match next_due(schedule, plan.actions(), now) {
         Some(index) => {

@@ -1,11 +1,10 @@
 //! The phases of a tick.
 
-ghost use Rattle.std.specs.Prelude.{◌≡◌, ◌⊎◌, ◌≤◌, length, map, IfErr, OnErr, OnOk};
+ghost use Rattle.std.specs.Prelude.{◌≡◌, ◌≤◌, length, map, OnErr, OnOk};
 ghost use Rattle.live_cables.specs.Living.{happened};
-ghost use Rattle.live_cables.specs.Steps.{HasNoRoom};
 ghost use Rattle.planned_stations.specs.Planning.{AreSeated, ports_of};
 ghost use Rattle.world.specs.Acting.{KeepsFirst};
-ghost use Rattle.world.specs.Going.{Ends, Goes, GoesOn};
+ghost use Rattle.world.specs.Going.{Did, Ends, GoesOn};
 ghost use Rattle.world.specs.Received.{AreReceived, got};
 ghost use Rattle.world.specs.Stopping.{StopsBefore, StopsIn};
 ghost use Rattle.world.specs.Ticking.{Begins, Plays};
@@ -36,15 +35,12 @@ fn before_takings<T: RouteTable>(
     ensures ports { map ports_of stations.new.items ≡ map ports_of stations.old.items }
     ensures got { map got stations.new.items ≡ map got stations.old.items }
     ensures keeps { KeepsFirst refused.old.items refused.new.items }
-    ensures goes { Goes wires.old wires.new }
-    ensures done { OnOk result (GoesOn 0 wires.old wires.new) }
+    ensures did { Did (GoesOn 0 wires.old wires.new) 5 wires.old wires.new result }
     ensures begins { OnOk result (Begins plan.now now stations.old.items stations.new.items
         wires.old wires.new refused.old.items refused.new.items
         schedule.old.items schedule.new.items) }
     ensures stopped { OnErr result
         (StopsBefore stations.old.items stations.new.items wires.old wires.new) }
-    ensures full { (result ≡ Err Error.Full) → HasNoRoom 5 wires.new.cabling }
-    ensures refused { IfErr result (λ e. (e ≡ Error.Full) ⊎ (e ≡ Error.Memory)) }
 {
     match tick_all(*refused.allocator(), stations, wires) {
         Ok(()) => {}
@@ -67,8 +63,7 @@ pub fn run_phases<T: RouteTable>(
     requires seated { AreSeated wires.old.cabling.seats (map ports_of stations.old.items) }
     ensures ports { map ports_of stations.new.items ≡ map ports_of stations.old.items }
     ensures keeps { KeepsFirst refused.old.items refused.new.items }
-    ensures goes { Goes wires.old wires.new }
-    ensures done { OnOk result (Ends 10000 wires.old wires.new) }
+    ensures did { Did (Ends 10000 wires.old wires.new) 1285 wires.old wires.new result }
     ensures plays { OnOk result (Plays plan.now now stations.old.items stations.new.items
         wires.old wires.new refused.old.items refused.new.items
         schedule.old.items schedule.new.items) }
@@ -77,8 +72,6 @@ pub fn run_phases<T: RouteTable>(
         schedule.old.items schedule.new.items) }
     ensures received { AreReceived (happened wires.old) (map got stations.old.items)
         → AreReceived (happened wires.new) (map got stations.new.items) }
-    ensures full { (result ≡ Err Error.Full) → HasNoRoom 1285 wires.new.cabling }
-    ensures refused { IfErr result (λ e. (e ≡ Error.Full) ⊎ (e ≡ Error.Memory)) }
 {
     match before_takings(plan, stations, wires, refused, schedule, now) {
         Ok(()) => {}

@@ -1,15 +1,14 @@
 //! Advances the stations of a world by a tick.
 
-ghost use Rattle.std.specs.Prelude.{◌≡◌, ◌⊎◌, ◌≤◌, ℕ, fold, length, map, slice_get};
-ghost use Rattle.std.specs.Prelude.{IfErr, OnErr, OnOk, Some};
+ghost use Rattle.std.specs.Prelude.{◌≡◌, ◌≤◌, ℕ, fold, length, map, slice_get};
+ghost use Rattle.std.specs.Prelude.{OnErr, OnOk, Some};
 ghost use Rattle.station.specs.declared.member.Member.{Member as MemberValue};
-ghost use Rattle.live_cables.specs.Steps.{HasNoRoom};
 ghost use Rattle.live_node.specs.Living.{LivingNode};
 ghost use Rattle.live_router.specs.Living.{Living};
 ghost use Rattle.planned_stations.specs.Planning.{ports_of};
 ghost use Rattle.world.specs.Doing as spec;
 ghost use Rattle.world.specs.Doing.{own_in, settled_own};
-ghost use Rattle.world.specs.Going.{Goes, GoesOn};
+ghost use Rattle.world.specs.Going.{Did, GoesOn};
 ghost use Rattle.world.specs.Passing.{AreAged, HasPassed, HasTicked, HavePassed, IsAged};
 ghost use Rattle.world.specs.Received.{got};
 ghost use Rattle.world.specs.Stopping.{ArePassing, MayTick, StopsAt, StopsPassing};
@@ -84,10 +83,7 @@ fn age_mappings<T: RouteTable>(
     ensures got { got station.new ≡ got station.old }
     ensures aged { OnOk result (IsAged seat station.old station.new wires.old wires.new) }
     ensures stopped { OnErr result (station.new ≡ station.old) }
-    ensures goes { Goes wires.old wires.new }
-    ensures done { OnOk result (GoesOn 0 wires.old wires.new) }
-    ensures full { (result ≡ Err Error.Full) → HasNoRoom 5 wires.new.cabling }
-    ensures refused { IfErr result (λ e. (e ≡ Error.Full) ⊎ (e ≡ Error.Memory)) }
+    ensures did { Did (GoesOn 0 wires.old wires.new) 5 wires.old wires.new result }
 {
     if wires.is_idle(seat) {
         return Ok(());
@@ -115,10 +111,7 @@ fn age_all_mappings<T: RouteTable>(
     ensures aged { OnOk result (AreAged seat ports station.old station.new wires.old wires.new) }
     ensures stopped { OnErr result
         (StopsAt seat ports station.old station.new wires.old wires.new) }
-    ensures goes { Goes wires.old wires.new }
-    ensures done { OnOk result (GoesOn 0 wires.old wires.new) }
-    ensures full { (result ≡ Err Error.Full) → HasNoRoom 5 wires.new.cabling }
-    ensures refused { IfErr result (λ e. (e ≡ Error.Full) ⊎ (e ≡ Error.Memory)) }
+    ensures did { Did (GoesOn 0 wires.old wires.new) 5 wires.old wires.new result }
 {
     for port in 0..ports {
         match age_mappings(station, wires, seat + port as usize) {
@@ -143,10 +136,7 @@ fn tick<T: RouteTable>(
     ensures ticked { OnOk result
         (HasTicked number seat station.old station.new wires.old wires.new) }
     ensures stopped { OnErr result (MayTick seat station.old station.new wires.old wires.new) }
-    ensures goes { Goes wires.old wires.new }
-    ensures done { OnOk result (GoesOn 0 wires.old wires.new) }
-    ensures full { (result ≡ Err Error.Full) → HasNoRoom 5 wires.new.cabling }
-    ensures refused { IfErr result (λ e. (e ≡ Error.Full) ⊎ (e ≡ Error.Memory)) }
+    ensures did { Did (GoesOn 0 wires.old wires.new) 5 wires.old wires.new result }
 {
     let mut outputs = match Outputs::new(alloc) {
         Ok(outputs) => outputs,
@@ -176,10 +166,7 @@ fn tick_station<T: RouteTable>(
         (HasPassed number seat station.old station.new wires.old wires.new) }
     ensures stopped { OnErr result
         (StopsPassing number seat station.old station.new wires.old wires.new) }
-    ensures goes { Goes wires.old wires.new }
-    ensures done { OnOk result (GoesOn 0 wires.old wires.new) }
-    ensures full { (result ≡ Err Error.Full) → HasNoRoom 5 wires.new.cabling }
-    ensures refused { IfErr result (λ e. (e ≡ Error.Full) ⊎ (e ≡ Error.Memory)) }
+    ensures did { Did (GoesOn 0 wires.old wires.new) 5 wires.old wires.new result }
 {
     match tick(alloc, station, wires, number, seat) {
         Ok(()) => {}
@@ -214,10 +201,7 @@ pub fn tick_all<T: RouteTable>(
         stations.old.items stations.new.items wires.old wires.new) }
     ensures stopped { OnErr result
         (ArePassing stations.old.items stations.new.items wires.old wires.new) }
-    ensures goes { Goes wires.old wires.new }
-    ensures done { OnOk result (GoesOn 0 wires.old wires.new) }
-    ensures full { (result ≡ Err Error.Full) → HasNoRoom 5 wires.new.cabling }
-    ensures refused { IfErr result (λ e. (e ≡ Error.Full) ⊎ (e ≡ Error.Memory)) }
+    ensures did { Did (GoesOn 0 wires.old wires.new) 5 wires.old wires.new result }
 {
     let mut seat = 0;
     for index in 0..stations.len() {

@@ -4,15 +4,15 @@ ghost use Rattle.std.specs.Prelude.{◌≡◌, ◌⊎◌, ◌↔◌, ◌<◌, �
 ghost use Rattle.std.specs.Prelude.{IfErr, IfOk, OnErr, OnOk};
 ghost use Rattle.std.specs.List.{list_any};
 ghost use Rattle.cable_model.specs.Outcomes.{is_named};
-ghost use Rattle.cable_model.specs.Pending as spec;
 ghost use Rattle.cable_model.specs.Transcript.{one};
 ghost use Rattle.live_cables.specs.Living.{happened};
 ghost use Rattle.live_cables.specs.Steps.{HasNoRoom};
 ghost use Rattle.planned_stations.specs.Planning.{AreSeated, ports_of};
-ghost use Rattle.world.specs.Going.{Ends, Goes, GoesOn};
+ghost use Rattle.world.specs.Going.{Did, Ends, Goes, GoesOn};
 ghost use Rattle.world.specs.Received.{AreReceived, got};
 ghost use Rattle.world.specs.Stopping.{AreTaking, IsHearer, MayHear};
 ghost use Rattle.world.specs.Taking.{AreTaken, IsTaken, IsTaker};
+ghost use Rattle.cable_model.specs.Logs.{pending_on};
 
 use at_base::Error;
 use live_cables::LiveCables;
@@ -41,7 +41,7 @@ fn take<T: RouteTable>(
     ensures received { AreReceived (happened wires.old) (map got stations.old.items)
         → AreReceived (happened wires.new) (map got stations.new.items) }
     ensures not_pending { (result ≡ Err Error.NotPending) ↔ (list_any (is_named stamp station)
-        (spec.pending wires.old.cabling.seats (happened wires.old)) ≡ false) }
+        (pending_on wires.old.cabling) ≡ false) }
     ensures full { (result ≡ Err Error.Full) → HasNoRoom 1285 wires.new.cabling }
     ensures refused { IfErr result (λ e. (e ≡ Error.NotPending) ⊎ (e ≡ Error.Full)
         ⊎ (e ≡ Error.Memory)) }
@@ -67,7 +67,7 @@ fn take_first<T: RouteTable>(
     ensures stay { IfOk result (λ was_one. was_one ≡ false
         → (stations.new.items ≡ stations.old.items) × (wires.new ≡ wires.old)) }
     ensures none { IfOk result (λ was_one. was_one ≡ false
-        → spec.pending wires.new.cabling.seats (happened wires.new) ≡ []) }
+        → pending_on wires.new.cabling ≡ []) }
     ensures received { AreReceived (happened wires.old) (map got stations.old.items)
         → AreReceived (happened wires.new) (map got stations.new.items) }
     ensures full { (result ≡ Err Error.Full) → HasNoRoom 1285 wires.new.cabling }
@@ -90,16 +90,13 @@ pub fn take_all<T: RouteTable>(
 ) -> Result<(), Error>
     requires { AreSeated wires.old.cabling.seats (map ports_of stations.old.items) }
     ensures ports { map ports_of stations.new.items ≡ map ports_of stations.old.items }
-    ensures goes { Goes wires.old wires.new }
-    ensures done { OnOk result (Ends most wires.old wires.new) }
+    ensures did { Did (Ends most wires.old wires.new) 1285 wires.old wires.new result }
     ensures taken { OnOk result ((n : ℕ) × AreTaken n stations.old.items stations.new.items
         wires.old wires.new) }
     ensures stopped { OnErr result (AreTaking most stations.old.items stations.new.items
         wires.old wires.new) }
     ensures received { AreReceived (happened wires.old) (map got stations.old.items)
         → AreReceived (happened wires.new) (map got stations.new.items) }
-    ensures full { (result ≡ Err Error.Full) → HasNoRoom 1285 wires.new.cabling }
-    ensures refused { IfErr result (λ e. (e ≡ Error.Full) ⊎ (e ≡ Error.Memory)) }
 {
     for _step in 0..most {
         match take_first(stations, wires) {

@@ -1,6 +1,6 @@
 //! A tick of a world.
 
-ghost use Rattle.std.specs.Prelude.{◌≡◌, ◌<◌, ◌≤◌, ◌+◌, ◌⊎◌, IfErr, IfSome, None, OnErr, OnOk, Some};
+ghost use Rattle.std.specs.Prelude.{◌≡◌, ◌<◌, ◌≤◌, ◌+◌, ◌⊎◌, IfErr, None, OnErr, OnOk, Some};
 ghost use Rattle.cable_model.specs.Transcript.{ArePutOnce};
 ghost use Rattle.live_cables.specs.Living.{happened};
 ghost use Rattle.live_cables.specs.Steps.{HasNoRoom};
@@ -8,6 +8,7 @@ ghost use Rattle.world.specs.Acting.{KeepsFirst};
 ghost use Rattle.world.specs.Stopping.{MayStop};
 ghost use Rattle.world.specs.Ticking.{IsTick};
 ghost use Rattle.world.specs.Worlds.{Ticks, TicksOn};
+ghost use Rattle.world.specs.Ended.{Over, Stops, Ticked};
 
 use crate::losing::losing_at;
 use crate::phases::run_phases;
@@ -63,12 +64,7 @@ impl<T: RouteTable> World<T> {
         ensures stopped { self.new.stopped ≡ self.old.stopped }
         ensures over { self.old.plan.ticks ≤ self.old.now → result ≡ Err Error.Full }
         ensures over_stays { self.old.plan.ticks ≤ self.old.now → self.new ≡ self.old }
-        ensures ticks { Ticks self.old.plan self.new.now self.old.wires self.new.wires }
-        ensures ticks_on { OnOk result
-            (TicksOn self.old.plan self.new.now self.old.wires self.new.wires) }
-        ensures plays { OnOk result (IsTick self.old self.new) }
-        ensures steps_stay { OnErr result (MayStop self.old self.new) }
-        ensures keeps { KeepsFirst self.old.refused self.new.refused }
+        ensures ticked { Ticked self.old self.new result }
         ensures full { (result ≡ Err Error.Full)
             → (self.old.plan.ticks ≤ self.old.now) ⊎ HasNoRoom 1285 self.new.wires.cabling }
         ensures refused { IfErr result (λ e. (e ≡ Error.Full) ⊎ (e ≡ Error.Memory)) }
@@ -92,24 +88,9 @@ impl<T: RouteTable> World<T> {
         ensures began { self.old.stopped ≡ None → self.old.now < self.old.plan.ticks
             → self.new.now ≡ self.old.now + 1 }
         ensures plan { self.new.plan ≡ self.old.plan }
-        ensures over { self.old.stopped ≡ None → self.old.plan.ticks ≤ self.old.now
-            → result ≡ Err Error.Full }
-        // A tick after the plan's last one changes only `stopped`.
-        ensures over_stays { self.old.stopped ≡ None → self.old.plan.ticks ≤ self.old.now
-            → self.new ≡ record self.old { stopped = Some Error.Full } }
-        ensures again { IfSome self.old.stopped
-            (λ e. (result ≡ Err e) × (self.new ≡ self.old)) }
-        ensures stops { IfErr result (λ e. self.new.stopped ≡ Some e) }
-        ensures goes_on { OnOk result (self.new.stopped ≡ None) }
-        ensures ticks { Ticks self.old.plan self.new.now self.old.wires self.new.wires }
-        ensures ticks_on { OnOk result
-            (TicksOn self.old.plan self.new.now self.old.wires self.new.wires) }
-        ensures plays { OnOk result (IsTick self.old self.new) }
-        ensures steps_stay { OnErr result (MayStop self.old self.new) }
-        ensures keeps { KeepsFirst self.old.refused self.new.refused }
-        // A tick within the plan is full only if the transcript has no room.
-        ensures full { self.old.stopped ≡ None → (result ≡ Err Error.Full)
-            → (self.old.plan.ticks ≤ self.old.now) ⊎ HasNoRoom 1285 self.new.wires.cabling }
+        ensures over { Over self.old self.new result }
+        ensures stops { Stops self.old self.new result }
+        ensures ticked { Ticked self.old self.new result }
         ensures refused { IfErr result (λ e.
             (self.old.stopped ≡ Some e) ⊎ (e ≡ Error.Full) ⊎ (e ≡ Error.Memory)) }
     {

@@ -1,10 +1,9 @@
 -- The replies for several networks, one network after the other.
-use Rattle.std.proofs.Common.{◌≡◌, ℕ, suc, ◌-◌, true, List, [], ◌∷◌, ◌++◌, map, take, Option, Some, None, refl, ap, sym}
+use Rattle.std.proofs.Common.{◌≡◌, ℕ, suc, ◌-◌, List, [], ◌∷◌, ◌++◌, map, take, refl, ap, sym}
 use Rattle.std.proofs.Common.{◌∙◌, append_assoc, arith}
 use Rattle.std.specs.List.{flat_map}
 use Rattle.std.proofs.lemmas.List.{map-append}
-use Rattle.zip_zones.specs.Answers.{grouped, onto_first, replies_for}
-use Rattle.zip_zones.specs.Zones.{Known, complete_at, known_of, names_at}
+use Rattle.zip_zones.specs.Answers.{grouped, onto_first}
 
 first_of : {A B : Type 0} (f : ℕ → List A) (g : A → B) (old mid new : List B) (net m : ℕ) (rest : List ℕ) → mid ≡ old ++ map g (f net)
     → new ≡ mid ++ map g (flat_map f (take m rest)) → new ≡ old ++ map g (flat_map f (take (suc m) (net ∷ rest)))
@@ -43,15 +42,3 @@ some_group name (group ∷ groups) h = cc
 no_names : (names : List (List ℕ)) → grouped names ≡ [] → names ≡ []
 no_names [] h = refl
 no_names (name ∷ names) h = absurd (some_group name _ h)
-
-map_none : {A B : Type 0} (f : A → B) (xs : List A) → map f xs ≡ [] → xs ≡ []
-map_none f [] h = refl
-map_none f (x ∷ xs) h = absurd cc
-
--- a complete list for which there are no replies has no names
-pub no_replies : (table : List Known) (net : ℕ) → complete_at net table ≡ true → replies_for table net ≡ [] → names_at net table ≡ []
-no_replies table net complete none = by (known_of net table) refl
-  where
-    by : (k : Option Known) → known_of net table ≡ k → names_at net table ≡ []
-    by None e = rw e refl
-    by (Some k) e = rw e (no_names k.names (map_none _ _ (rw (e, rw e at complete) at none)))

@@ -1,10 +1,12 @@
 -- Lists that are added after all others, and what that keeps.
-use Rattle.std.proofs.Common.{List, [], arith, length, nat_le, nat_lt, refl, suc, true, zero, ℕ, ◌&&◌, ◌++◌, ◌-◌, ◌<◌, ◌∷◌, ◌≡◌, ◌≤◌}
+use Rattle.std.proofs.Common.{List, [], arith, length, nat_le, nat_lt, refl, suc, sym, true, zero, ℕ, ◌&&◌, ◌++◌, ◌-◌, ◌<◌, ◌∷◌, ◌≡◌, ◌≤◌}
 use Rattle.std.specs.Prelude.{Some, slice_get}
 use Rattle.std.specs.List.{list_all}
 use Rattle.std.proofs.lemmas.Bool.Decides.{nat_tests}
 use Rattle.std.proofs.lemmas.Bool.{and_parts, ltb-true}
 use Rattle.std.proofs.lemmas.List.{length-append}
+use Rattle.std.proofs.lemmas.List.Folds.{list_all-append}
+use Rattle.std.proofs.Math.Bool.{and_assoc}
 use Rattle.std.proofs.Math.Nat.{le-max_right, max-le}
 use Rattle.at_base.specs.Range.{Span, is_range}
 use Rattle.zip_zones.specs.Zones.{Known, IsZoneMap, are_above, each_once, end_of, has_room, is_known, list_of_least}
@@ -27,26 +29,19 @@ end_found low (x ∷ table) k e =
     let last : length (x ∷ table) - 1 ≡ length table = omega arith in
     end_at low (x ∷ table) (length table) k refl (rw (← last) e)
 
-above_last : (low : ℕ) (table : List Known) (k : Known) → are_above low table ≡ true → nat_lt (end_of low table) k.range.start ≡ true
-    → are_above low (table ++ k ∷ []) ≡ true
-above_last low [] k h past = rw past refl
-above_last low (x ∷ table) k h past =
-    let q = and_parts (nat_lt low x.range.start) (are_above x.range.end table) h in
-    rw (q.0, above_last x.range.end table k q.1 past) refl
-
-all_last : (table : List Known) (k : Known) → list_all is_known table ≡ true → is_known k ≡ true
-    → list_all is_known (table ++ k ∷ []) ≡ true
-all_last [] k each new = rw new refl
-all_last (x ∷ table) k each new =
-    let e = and_parts (is_known x) (list_all is_known table) each in
-    rw (e.0, all_last table k e.1 new) refl
+-- lists after others are above a network exactly if they are above the end of those
+above_append : (low : ℕ) (a b : List Known) → are_above low (a ++ b) ≡ (are_above low a && are_above (end_of low a) b)
+above_append low [] b = refl
+above_append low (x ∷ a) b =
+    rw (above_append x.range.end a b)
+    (sym (and_assoc (nat_lt low x.range.start) (are_above x.range.end a) (are_above (end_of x.range.end a) b)))
 
 -- adding a list after the others keeps the map
 pub append_map : (table : List Known) (k : Known) → IsZoneMap table → is_known k ≡ true → nat_lt (end_of 0 table) k.range.start ≡ true
     → length table < 200 → IsZoneMap (table ++ k ∷ [])
 append_map table k h new past few = record {
-  apart = above_last 0 table k h.apart past;
-  each = all_last table k h.each new;
+  apart = rw (above_append 0 table (k ∷ []), h.apart, past) refl;
+  each = rw (list_all-append is_known table (k ∷ []), h.each, new) refl;
   few = omega (arith, length-append table (k ∷ []), few);
 }
 
@@ -68,43 +63,18 @@ room_parts least names table h =
     le_of : (a b : ℕ) → nat_le a b ≡ true → a ≤ b
     le_of a b t = grind (arith, nat_tests)
 
--- ---- the lists at the front of a map
-
-above_front : (low : ℕ) (a b : List Known) → are_above low (a ++ b) ≡ true → are_above low a ≡ true
-above_front low [] b h = refl
-above_front low (x ∷ a) b h =
-    let q = and_parts (nat_lt low x.range.start) (are_above x.range.end (a ++ b)) h in
-    rw (q.0, above_front x.range.end a b q.1) refl
-
-all_front : (a b : List Known) → list_all is_known (a ++ b) ≡ true → list_all is_known a ≡ true
-all_front [] b h = refl
-all_front (x ∷ a) b h =
-    let e = and_parts (is_known x) (list_all is_known (a ++ b)) h in
-    rw (e.0, all_front a b e.1) refl
-
 -- the lists at the front are a map
 pub front_map : (a b : List Known) → IsZoneMap (a ++ b) → IsZoneMap a
 front_map a b h = record {
-  apart = above_front 0 a b h.apart;
-  each = all_front a b h.each;
+  apart = (and_parts (are_above 0 a) _ (rw (above_append 0 a b) at h.apart)).0;
+  each = (and_parts (list_all is_known a) _ (rw (list_all-append is_known a b) at h.each)).0;
   few = omega (arith, length-append a b, h.few);
 }
-
-past_last : (low : ℕ) (table : List Known) (k : Known) → are_above low (table ++ k ∷ []) ≡ true
-    → nat_lt (end_of low table) k.range.start ≡ true
-past_last low [] k h = (and_parts (nat_lt low k.range.start) true h).0
-past_last low (x ∷ table) k h =
-    let q = and_parts (nat_lt low x.range.start) (are_above x.range.end (table ++ k ∷ [])) h in
-    past_last x.range.end table k q.1
-
-known_last : (table : List Known) (k : Known) → list_all is_known (table ++ k ∷ []) ≡ true → is_known k ≡ true
-known_last [] k h = (and_parts (is_known k) true h).0
-known_last (x ∷ table) k h =
-    let e = and_parts (is_known x) (list_all is_known (table ++ k ∷ [])) h in
-    known_last table k e.1
 
 -- the last list of a map starts above the others and is valid, and fewer than 200 others are before it
 pub last_parts : (table : List Known) (k : Known) → IsZoneMap (table ++ k ∷ [])
     → (nat_lt (end_of 0 table) k.range.start ≡ true) × (is_known k ≡ true) × (length table < 200)
 last_parts table k h =
-    (past_last 0 table k h.apart, known_last table k h.each, omega (arith, length-append table (k ∷ []), h.few))
+    let past = (and_parts (are_above 0 table) _ (rw (above_append 0 table (k ∷ [])) at h.apart)).1 in
+    let good = (and_parts (list_all is_known table) _ (rw (list_all-append is_known table (k ∷ [])) at h.each)).1 in
+    ((and_parts _ true past).0, (and_parts _ true good).0, omega (arith, length-append table (k ∷ []), h.few))

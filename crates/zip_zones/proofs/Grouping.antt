@@ -3,13 +3,13 @@ use Rattle.std.proofs.Common.{◌≡◌, ℕ, suc, ◌+◌, ◌-◌, ◌≤◌, 
 use Rattle.std.proofs.Common.{drop, slice_index_or, Some, refl, ap, sym, ◌∙◌, append_assoc, if◌then◌else◌, arith}
 use Rattle.std.specs.Prelude.{nat_le}
 use Rattle.std.specs.List.{list_all}
-use Rattle.std.proofs.lemmas.Bool.{and_parts, leb-true}
+use Rattle.std.proofs.lemmas.Bool.{leb-true}
 use Rattle.std.proofs.lemmas.Bool.Decides.{nat_tests}
-use Rattle.at_base.specs.Range.{is_between}
+use Rattle.at_base.proofs.Lists.{found_all}
 use Rattle.std.proofs.lemmas.List.{take_all}
 use Rattle.zip_zones.specs.Answers.{first_group, going_on, grouped, onto_first}
 use Rattle.zip_zones.specs.Written.{entries_size}
-use Rattle.zip_zones.specs.Zones.{Known, is_known, known_of, names_at}
+use Rattle.zip_zones.specs.Zones.{Known, is_known, known_of}
 
 -- the first group is a front of the names
 pub first_taken : (room : ℕ) (names : List (List ℕ)) → take (length (first_group room names)) names ≡ first_group room names
@@ -52,21 +52,9 @@ known_few : (k : Known) → is_known k ≡ true → length k.names ≤ 64
 known_few k h = grind (arith, nat_tests)
 
 -- a list has at most 64 names
-pub names_few : (net : ℕ) (table : List Known) → list_all is_known table ≡ true → length (names_at net table) ≤ 64
-names_few net [] h = omega arith
-names_few net (k ∷ table) h =
-    let p = and_parts (is_known k) (list_all is_known table) h in
-    (elim (is_between k.range.start k.range.end net) as (λ b. is_between k.range.start k.range.end net ≡ b
-    → length (names_at net (k ∷ table)) ≤ 64) [
-      | true ↦ λ b. let is : names_at net (k ∷ table) ≡ k.names = rw b refl in rw is (known_few k p.0)
-      | false ↦ λ b. let is : names_at net (k ∷ table) ≡ names_at net table = rw b refl in rw is (names_few net table p.1)
-    ]) refl
-
 pub found_few : (net : ℕ) (table : List Known) (k : Known) → list_all is_known table ≡ true → known_of net table ≡ Some k
     → length k.names ≤ 64
-found_few net table k h found =
-    let is : names_at net table ≡ k.names = rw found refl in
-    rw (← is) (names_few net table h)
+found_few net table k h found = known_few k (found_all is_known _ table k h found)
 
 -- ---- replies, one by one
 

@@ -2,11 +2,8 @@ pub mod Names
 pub mod Tables
 pub mod Asked
 pub mod Shape
-pub mod InPlace
-pub mod NetworksInPlace
 pub mod Written
 pub mod Appended
 pub mod ReadBack
 pub mod Answering
 pub mod Grouping
-pub mod Halving

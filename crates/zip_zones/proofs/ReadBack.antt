@@ -13,11 +13,11 @@ use Rattle.at_base.specs.Spelling.{Begins, Follows, IsValue, ListPasses, bytes_o
 use Rattle.at_base.specs.Text.{IsName, is_name}
 use Rattle.at_base.proofs.Ranges.{ends_of}
 use Rattle.at_base.proofs.Readers.{begins_one}
-use Rattle.zip_zones.specs.declared.entry.Nets.TheVariants.{One}
+use Rattle.zip_zones.specs.declared.entries.Nets.TheVariants.{One}
 use Rattle.zip_zones.specs.declared.packet.Packet.{Packet}
 use Rattle.zip_zones.specs.declared.packet.Packet.TheVariants as p
 use Rattle.zip_zones.specs.Formats.{body, default_zone, packet}
-use Rattle.zip_zones.specs.Networks.{network}
+use Rattle.zip_zones.specs.Packets.{network}
 use Rattle.zip_zones.specs.Packets.{entry, next_net, wrong_name, wrong_net}
 use Rattle.zip_zones.specs.Written.{BeginsWith, default_for, entries_of, extended_reply, first_of, flags_for, listed, net_info, question}
 use Rattle.zip_zones.proofs.Shape.{packet_lawful}

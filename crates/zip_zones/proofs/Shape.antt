@@ -10,13 +10,17 @@ use Rattle.zip_zones.specs.declared.packet.Function.{Function}
 use Rattle.zip_zones.specs.declared.packet.Function.TheVariants as f
 use Rattle.zip_zones.specs.Formats.{body, default_zone, function_in, function_of, number_of, packet, wrong_function}
 use Rattle.zip_zones.specs.declared.packet.Packet.{Packet}
-use Rattle.zip_zones.specs.Networks.{network}
+use Rattle.zip_zones.specs.Packets.{network}
 use Rattle.zip_zones.specs.declared.entry.Entry.{Entry}
 use Rattle.zip_zones.specs.Packets.{entry, wrong_name}
 
 pub network_lawful : IsLawful network
 unfolding network
 network_lawful = λ n p. (refl, tt)
+
+pub network_long : (low n : ℕ) → IsValue network n → 1 ≤ length (bytes_of network n)
+unfolding network
+network_long low n h = omega arith
 
 pub entry_lawful : (low : ℕ) → IsLawful (entry low)
 unfolding entry

@@ -7,11 +7,11 @@ use Rattle.std.proofs.lemmas.List.{append-nil, length-append}
 use Rattle.at_base.specs.Packets.{any, text}
 use Rattle.at_base.specs.Spelling.{bytes_of, list_bytes}
 use Rattle.zip_zones.specs.declared.entry.Entry.{Entry}
-use Rattle.zip_zones.specs.declared.entry.Nets.TheVariants.{One}
+use Rattle.zip_zones.specs.declared.entries.Nets.TheVariants.{One}
 use Rattle.zip_zones.specs.declared.packet.NetInfo.{NetInfo}
 use Rattle.zip_zones.specs.declared.packet.Packet.TheVariants as p
 use Rattle.zip_zones.specs.Formats.{body, default_zone, packet}
-use Rattle.zip_zones.specs.Networks.{network}
+use Rattle.zip_zones.specs.Packets.{network}
 use Rattle.zip_zones.specs.Packets.{entry, next_net}
 use Rattle.zip_zones.specs.Written.{default_for, entries_bytes, entries_of, entries_size, flags_for, networks_bytes, question}
 

@@ -6,6 +6,7 @@ use Rattle.std.specs.Prelude.{Option, Some, None, nat_le, option_map, if◌then�
 use Rattle.std.specs.Int.{from_be_bytes, to_be_bytes, w16}
 use Rattle.std.specs.List.{flat_map}
 use Rattle.at_base.specs.Range.{Span}
+use Rattle.at_base.specs.Limits.{max_zones}
 use Rattle.rtmp.specs.declared.row.Row.{Row}
 use Rattle.rtmp.specs.Routes.{is_direct, row_for}
 use Rattle.zip_zones.specs.declared.entry.Entry.{Entry}
@@ -117,7 +118,7 @@ range_heard rows net = by_row (row_for net rows)
 -- a list of a range with this many zones is accepted: no other range overlaps it, it has at most 64 zones, and the
 -- table has room
 abbrev pub is_taken : Span → ℕ → List Known → Bool
-is_taken range zones table = not (overlaps_another range table) && nat_le zones 64 && not (is_full_for range table)
+is_taken range zones table = not (overlaps_another range table) && nat_le zones max_zones && not (is_full_for range table)
 
 -- the table after a name of a network was received, where the network has total zones
 abbrev pub after_name : List Row → ℕ → List Known → Entry → List Known

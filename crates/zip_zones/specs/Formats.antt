@@ -6,13 +6,13 @@ use Rattle.at_base.specs.declared.error.Field.TheVariants.{Function as FunctionF
 use Rattle.at_base.specs.Grammar.{Grammar, done, field, part, list, many, number, room, run, one, two}
 use Rattle.at_base.specs.Packets.{any, only, text}
 use Rattle.zip_zones.specs.declared.entry.Entry.{Entry}
-use Rattle.zip_zones.specs.declared.entry.Nets.TheVariants.{Any, One}
+use Rattle.zip_zones.specs.declared.entries.Nets.TheVariants.{Any, One}
 use Rattle.zip_zones.specs.declared.packet.Function.{Function}
 use Rattle.zip_zones.specs.declared.packet.Function.TheVariants as f
 use Rattle.zip_zones.specs.declared.packet.NetInfo.{NetInfo}
 use Rattle.zip_zones.specs.declared.packet.Packet.{Packet}
 use Rattle.zip_zones.specs.declared.packet.Packet.TheVariants as p
-use Rattle.zip_zones.specs.Networks.{network}
+use Rattle.zip_zones.specs.Packets.{network}
 use Rattle.zip_zones.specs.Packets.{entry, next_net, wrong_name}
 
 -- ---- functions

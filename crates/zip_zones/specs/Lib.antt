@@ -1,8 +1,7 @@
 pub mod Zones
-pub mod Places
+pub mod Held
 pub mod Pages
 pub mod Packets
-pub mod Networks
 pub mod Formats
 pub mod Written
 pub mod Answers

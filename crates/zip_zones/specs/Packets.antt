@@ -1,15 +1,18 @@
--- The entries of ZIP replies. (Inside AppleTalk, the chapter on ZIP)
-use Rattle.std.specs.Prelude.{Err, List, None, Ok, Option, Result, Some, [], if◌then◌else◌, length, not, true, ℕ, ◌&&◌, ◌+◌, ◌==◌, ◌≡◌}
+-- The networks of ZIP queries, and the entries of replies. (Inside AppleTalk, the chapter on ZIP)
+use Rattle.std.specs.Prelude.{List, None, Option, Some, if◌then◌else◌, not, true, ℕ, ◌&&◌, ◌+◌, ◌==◌}
 use Rattle.at_base.specs.declared.error.Error.{Error}
 use Rattle.at_base.specs.declared.error.Error.TheVariants.{BadField, BadName}
 use Rattle.at_base.specs.declared.error.Field.TheVariants.{Network}
 use Rattle.at_base.specs.Grammar.{Grammar, done, field, part, number, two}
-use Rattle.at_base.specs.Packets.{packets, text}
-use Rattle.at_base.specs.Reading.{many_at, read}
+use Rattle.at_base.specs.Packets.{any, text}
 use Rattle.at_base.specs.Text.{is_name}
 use Rattle.zip_zones.specs.declared.entry.Entry.{Entry}
-use Rattle.zip_zones.specs.declared.entry.Nets.{Nets}
-use Rattle.zip_zones.specs.declared.entry.Nets.TheVariants.{Any, One}
+use Rattle.zip_zones.specs.declared.entries.Nets.{Nets}
+use Rattle.zip_zones.specs.declared.entries.Nets.TheVariants.{Any, One}
+
+-- the format of a network
+unfoldable pub network : Grammar Error true ℕ
+network = field (number two any) (λ n. n) (λ n. done n)
 
 -- the test that a name is a valid zone name
 abbrev pub wrong_name : List ℕ → Option Error
@@ -31,15 +34,3 @@ entry low =
 abbrev pub next_net : Nets → Entry → ℕ
 next_net Any e = 0
 next_net One e = e.net + 1
-
--- the entries in the bytes, up to their end; low is what the entry before the first one passes on, or 0
-unfoldable pub entries_in : Nets → ℕ → List ℕ → List Entry
-entries_in nets low bytes = found (many_at (λ n. read packets (entry n)) (next_net nets) low (length bytes) bytes)
-  where
-    found : Result (List Entry) Error → List Entry
-    found (Ok entries) = entries
-    found (Err e) = []
-
--- the bytes are entries up to their end; low is what the entry before the first one passes on, or 0
-abbrev pub IsEntries : Nets → ℕ → List ℕ → Type 0
-IsEntries nets low bytes = many_at (λ n. read packets (entry n)) (next_net nets) low (length bytes) bytes ≡ Ok (entries_in nets low bytes)

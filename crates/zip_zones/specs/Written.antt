@@ -8,12 +8,13 @@ use Rattle.at_base.specs.Multicast.{group_hw, group_of}
 use Rattle.at_base.specs.Range.{Span}
 use Rattle.at_base.specs.Spelling.{Begins, bytes_of}
 use Rattle.at_base.specs.Text.{is_name, same_name}
+use Rattle.at_base.specs.Limits.{max_data}
 use Rattle.zip_zones.specs.declared.entry.Entry.{Entry}
 use Rattle.zip_zones.specs.declared.packet.NetInfo.{NetInfo}
 use Rattle.zip_zones.specs.declared.packet.Packet.{Packet}
 use Rattle.zip_zones.specs.declared.packet.Packet.TheVariants as p
 use Rattle.zip_zones.specs.Formats.{packet}
-use Rattle.zip_zones.specs.Networks.{network}
+use Rattle.zip_zones.specs.Packets.{network}
 use Rattle.zip_zones.specs.Packets.{entry}
 
 -- the bytes of networks, one after the other
@@ -37,7 +38,7 @@ entries_size (name ∷ names) = 3 + length name + entries_size names
 
 -- each payload fits into the 586 bytes of a datagram's data
 abbrev pub AreShort : List (List ℕ) → Type 0
-AreShort payloads = All (λ payload. length payload ≤ 586) payloads
+AreShort payloads = All (λ payload. length payload ≤ max_data) payloads
 
 -- the extended reply with these names of a network that has total zones
 abbrev pub extended_reply : ℕ → ℕ → List (List ℕ) → Packet

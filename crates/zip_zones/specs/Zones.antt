@@ -1,10 +1,12 @@
 -- Zone tables: finite maps from ranges to zone lists, and the effects of calls on them.
 -- (Inside AppleTalk, the chapter on ZIP)
-use Rattle.std.specs.Prelude.{ℕ, ◌≤◌, max, Bool, true, false, not, ◌&&◌, ◌==◌, IsTrue, List, [], ◌∷◌, ◌++◌, length, map, filter, fold, find}
+use Rattle.std.specs.Prelude.{ℕ, ◌≤◌, max, Bool, true, false, not, ◌&&◌, ◌==◌, IsTrue, List, [], ◌∷◌, ◌++◌, length, map, filter, fold}
 use Rattle.std.specs.Prelude.{Option, Some, None, nat_le, nat_lt, is_some, if◌then◌else◌}
 use Rattle.std.specs.List.{list_all, list_any}
-use Rattle.at_base.specs.Range.{Span, is_between, is_range, overlaps, same_range}
+use Rattle.at_base.specs.Range.{Span, is_range}
+use Rattle.at_base.specs.Spans as spans
 use Rattle.at_base.specs.Text.{same_name}
+use Rattle.at_base.specs.Limits.{max_lists, max_zones}
 use Rattle.rtmp.specs.declared.row.Row.{Row}
 use Rattle.rtmp.specs.States.{is_usable}
 
@@ -42,42 +44,37 @@ has_zone zone k = list_any (same_name zone) k.names
 
 -- each range starts above the end of the one before it, and the first above low
 abbrev pub are_above : ℕ → List Known → Bool
-are_above low [] = true
-are_above low (k ∷ table) = nat_lt low k.range.start && are_above k.range.end table
+are_above low table = spans.are_above (λ k. k.range) low table
 
 -- the range is valid, and the list has at most 64 zones, no more names than zones, and no name twice
 abbrev pub is_known : Known → Bool
-is_known k = is_range k.range.start k.range.end && nat_le k.total 64 && nat_le (length k.names) k.total && are_distinct k.names
+is_known k = is_range k.range.start k.range.end && nat_le k.total max_zones && nat_le (length k.names) k.total && are_distinct k.names
 
 -- A zone table is a finite map from disjoint ranges to zone lists, listed by rising range: at most 200 lists.
 pub record IsZoneMap (table : List Known) : Type 0 where
   pub apart : IsTrue (are_above 0 table)
   pub each : IsTrue (list_all is_known table)
-  pub few : length table ≤ 200
+  pub few : length table ≤ max_lists
 
 -- the list of a range, if any
 abbrev pub known_for : Span → List Known → Option Known
-known_for range table = find (λ k. same_range k.range range) table
+known_for range table = spans.item_of (λ k. k.range) range table
 
 -- the list whose range contains the network, if any
 abbrev pub known_of : ℕ → List Known → Option Known
-known_of net table = find (λ k. is_between k.range.start k.range.end net) table
+known_of net table = spans.item_for (λ k. k.range) net table
 
 -- another range of the table overlaps this one
 abbrev pub overlaps_another : Span → List Known → Bool
-overlaps_another range table = list_any (λ k. overlaps k.range range && not (same_range k.range range)) table
+overlaps_another range table = spans.overlaps_another (λ k. k.range) range table
 
 -- the table without the list of a range
 abbrev pub without : Span → List Known → List Known
-without range table = filter (λ k. not (same_range k.range range)) table
+without range table = spans.without (λ k. k.range) range table
 
 -- the table with this list, instead of the one of its range if there is one, else inserted by rising range
 abbrev pub with_known : Known → List Known → List Known
-with_known known [] = known ∷ []
-with_known known (k ∷ table) =
-    if nat_lt k.range.start known.range.start then k ∷ with_known known table
-    else if same_range k.range known.range then known ∷ table
-    else known ∷ k ∷ table
+with_known known table = spans.with_item (λ k. k.range) known table
 
 -- ---- changes of the map
 
@@ -106,7 +103,7 @@ is_past range table = nat_lt (end_of 0 table) range.start
 
 -- the table has room for one more list with these names
 abbrev pub has_room : ℕ → List (List ℕ) → List Known → Bool
-has_room least names table = nat_le least 64 && nat_le (length names) 64 && nat_lt (length table) 200
+has_room least names table = nat_le least max_zones && nat_le (length names) max_zones && nat_lt (length table) max_lists
 
 -- the list after a name was received; a complete list is unchanged
 abbrev pub with_zone : List ℕ → Known → Known
@@ -118,7 +115,7 @@ heard range total name table = with_known (with_zone name (list_of range total (
 
 -- the table has no room for a list of the range
 abbrev pub is_full_for : Span → List Known → Bool
-is_full_for range table = not (is_some (known_for range table)) && nat_le 200 (length table)
+is_full_for range table = not (is_some (known_for range table)) && nat_le max_lists (length table)
 
 -- ---- queries of the map
 

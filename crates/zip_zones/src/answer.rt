@@ -13,6 +13,7 @@ ghost use Rattle.zip_zones.specs.Formats as formats_spec;
 ghost use Rattle.zip_zones.specs.Formats.{default_zone};
 ghost use Rattle.zip_zones.specs.Written as written_spec;
 ghost use Rattle.zip_zones.specs.Written.{flags_for, zone_group};
+ghost use Rattle.at_base.specs.Limits.{max_data};
 
 use crate::packet::{Function, NetInfo};
 use crate::page::put_name;
@@ -144,7 +145,7 @@ fn put_default(bytes: &mut Vec<u8>, default: &Option<Name>) -> Result<(), Error>
 fn write_info(alloc: Global, info: &NetInfo) -> Result<Bytes, Error>
     requires { (info.now.flags / 128 == 1) ≡ is_some info.now.default }
     ensures ok { IfOk result (λ bytes. bytes ≡ bytes_of formats_spec.packet (ReplyValue info.now)) }
-    ensures short { IfOk result (λ bytes. length bytes ≤ 586) }
+    ensures short { IfOk result (λ bytes. length bytes ≤ max_data) }
     ensures refused { IsOkUnless result Error.Memory }
 {
     let default_len = match &info.default {
@@ -175,7 +176,7 @@ pub fn answer_net_info(
     requires { 0 < length names.now }
     ensures ok { IfOk result (λ bytes. bytes
         ≡ bytes_of formats_spec.packet (ReplyValue (written_spec.net_info asked.now range names.now))) }
-    ensures short { IfOk result (λ bytes. length bytes ≤ 586) }
+    ensures short { IfOk result (λ bytes. length bytes ≤ max_data) }
     ensures refused { IsOkUnless result Error.Memory }
 {
     let info = net_info(asked, range, names);
@@ -194,7 +195,7 @@ pub fn reply_net_info(
 ) -> Result<Option<Bytes>, Error>
     ensures ok { IfOk result (λ made. made
         ≡ option_map (bytes_of formats_spec.packet) (net_info_reply asked.now range names.now)) }
-    ensures short { IfOk result (λ made. IfSome made (λ bytes. length bytes ≤ 586)) }
+    ensures short { IfOk result (λ made. IfSome made (λ bytes. length bytes ≤ max_data)) }
     ensures silent { names.now ≡ [] → IsOk result }
     ensures refused { IsOkUnless result Error.Memory }
 {

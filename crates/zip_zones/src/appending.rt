@@ -6,8 +6,9 @@ ghost use Rattle.zip_zones.specs.Zones as spec;
 ghost use Rattle.zip_zones.specs.Zones.{end_of, list_of_least};
 
 use crate::known::KnownZones;
-use crate::table::{MAX_LISTS, MAX_ZONES, ZoneTable, recall_valid};
-use at_base::{Error, Name, Range};
+use crate::table::ZoneTable;
+use at_base::limits::{MAX_LISTS, MAX_ZONES};
+use at_base::{Error, Name, Range, recall_valid};
 
 /// The last network of the last list, or 0 without lists.
 fn end(lists: &[KnownZones]) -> u16

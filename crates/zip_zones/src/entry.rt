@@ -1,12 +1,11 @@
 //! Entries of replies: a network and a zone name.
 
-ghost use Rattle.std.specs.Prelude.{◌≡◌};
 ghost use Rattle.at_base.specs.Grammar.{number, two};
 ghost use Rattle.at_base.specs.Packets.{packets, text};
 ghost use Rattle.at_base.specs.Reading as reading_spec;
 ghost use Rattle.at_base.specs.Reading.{Gives, field_at};
 ghost use Rattle.zip_zones.specs.Packets as spec;
-ghost use Rattle.zip_zones.specs.Packets.{next_net, wrong_name, wrong_net};
+ghost use Rattle.zip_zones.specs.Packets.{wrong_name, wrong_net};
 
 use at_base::packet::{text_at, u16_at};
 use at_base::{Error, Field, Name, is_zone_name};
@@ -21,15 +20,6 @@ pub struct Entry {
     pub net: u16,
     /// The name of the zone.
     pub name: Name,
-}
-
-/// Whether the entries of a reply are of one network.
-#[derive(Clone, Copy, Debug, PartialEq, Eq)]
-pub(crate) enum Nets {
-    /// The entries may be of any networks.
-    Any,
-    /// All entries are of the first entry's network.
-    One,
 }
 
 /// A network. Unless `low` is 0, it must be `low - 1`, the network of the entry before.
@@ -65,16 +55,5 @@ pub(crate) fn entry_at(low: u32, bytes: &[u8]) -> Result<(Entry, &[u8]), Error>
     match name_at(rest) {
         Ok((name, rest)) => Ok((Entry { net, name }, rest)),
         Err(error) => Err(error),
-    }
-}
-
-/// The number that an entry passes to the next one: 0, or its network plus 1 where all entries are
-/// of one network.
-pub(crate) fn low_after(nets: Nets, entry: &Entry) -> u32
-    ensures { result ≡ next_net nets entry.now }
-{
-    match nets {
-        Nets::Any => 0,
-        Nets::One => u32::from(entry.net) + 1,
     }
 }

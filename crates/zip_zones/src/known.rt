@@ -4,10 +4,11 @@ ghost use Rattle.std.specs.Prelude.{IfOk, IsOkUnless, OnErr, OnOk, [], length, �
 ghost use Rattle.zip_zones.specs.Zones as spec;
 ghost use Rattle.zip_zones.specs.Zones.{each_once, list_of_least, set_list, with_name, with_zone};
 ghost use Rattle.std.specs.Arc.{arc_value};
+ghost use Rattle.at_base.specs.Limits.{max_zones};
 
 use crate::zone::Zone;
+use crate::zone_set::ZoneSet;
 use at_base::{Error, Name, Range};
-use indexmap::IndexSet;
 use std::alloc::Global;
 use std::marker::Model;
 use std::sync::Arc;
@@ -19,7 +20,7 @@ pub(crate) struct KnownZones {
     total: u8,
     // The names are shared between copies: a router copies its table before it learns, and changes
     // few lists.
-    zones: Arc<IndexSet<Zone>, Global>,
+    zones: Arc<ZoneSet, Global>,
     alloc: Global,
 }
 
@@ -32,13 +33,13 @@ impl Model for KnownZones {
     ghost view = { λ k. record {
       range = k.range;
       total = k.total;
-      names = (arc_value k.zones).keys;
+      names = arc_value k.zones;
     } };
 }
 
 /// Makes the names shareable between copies. Error: `Memory`.
-fn shared(alloc: Global, zones: IndexSet<Zone>) -> Result<Arc<IndexSet<Zone>, Global>, Error>
-    ensures ok { IfOk result (λ shared. (arc_value shared).keys ≡ zones.keys) }
+fn shared(alloc: Global, zones: ZoneSet) -> Result<Arc<ZoneSet, Global>, Error>
+    ensures ok { IfOk result (λ shared. arc_value shared ≡ zones) }
     ensures err { IsOkUnless result Error.Memory }
 {
     match Arc::new(alloc, zones) {
@@ -47,22 +48,12 @@ fn shared(alloc: Global, zones: IndexSet<Zone>) -> Result<Arc<IndexSet<Zone>, Gl
     }
 }
 
-/// The names, with one more unless it is among them in any case. Error: `Memory`.
-fn with(zones: &IndexSet<Zone>, name: &Name) -> Result<IndexSet<Zone>, Error>
-    ensures ok { IfOk result (λ more. more.keys ≡ with_name zones.now.keys name.now) }
-    ensures err { IsOkUnless result Error.Memory }
-{
-    let mut more = zones.clone()?;
-    more.insert(Zone::new(name))?;
-    Ok(more)
-}
-
 /// The names, each once, ignoring case. Error: `Memory`.
-fn zones_of(alloc: Global, names: &[Name]) -> Result<IndexSet<Zone>, Error>
-    ensures ok { IfOk result (λ zones. zones.keys ≡ each_once names.now) }
+fn zones_of(alloc: Global, names: &[Name]) -> Result<ZoneSet, Error>
+    ensures ok { IfOk result (λ zones. zones ≡ each_once names.now) }
     ensures err { IsOkUnless result Error.Memory }
 {
-    let mut zones = IndexSet::new(alloc);
+    let mut zones = ZoneSet::new(alloc, names.len())?;
     for name in names {
         zones.insert(Zone::new(name))?;
     }
@@ -76,7 +67,8 @@ impl KnownZones {
             (λ known. known ≡ record { range = range; total = total; names = [] }) }
         ensures err { IsOkUnless result Error.Memory }
     {
-        let zones = shared(alloc, IndexSet::new(alloc))?;
+        let zones = ZoneSet::new(alloc, total as usize)?;
+        let zones = shared(alloc, zones)?;
         Ok(KnownZones {
             range,
             total,
@@ -87,7 +79,7 @@ impl KnownZones {
 
     /// The complete list with these names. Error: `Memory`.
     pub(crate) fn of(alloc: Global, range: Range, names: &[Name]) -> Result<KnownZones, Error>
-        requires { length names.now ≤ 64 }
+        requires { length names.now ≤ max_zones }
         ensures ok { IfOk result (λ known. known ≡ set_list range names.now) }
         ensures err { IsOkUnless result Error.Memory }
     {
@@ -109,7 +101,7 @@ impl KnownZones {
         least: u8,
         names: &[Name],
     ) -> Result<KnownZones, Error>
-        requires { length names.now ≤ 64 }
+        requires { length names.now ≤ max_zones }
         ensures ok { IfOk result (λ known. known ≡ list_of_least range least names.now) }
         ensures err { IsOkUnless result Error.Memory }
     {
@@ -166,7 +158,8 @@ impl KnownZones {
         ensures err { IsOkUnless result Error.Memory }
         ensures kept { OnErr result (self.new ≡ self.old) }
     {
-        let zones = with(self.zones.as_ref(), name)?;
+        let mut zones = self.zones.as_ref().copy()?;
+        zones.insert(Zone::new(name))?;
         self.zones = shared(self.alloc, zones)?;
         Ok(())
     }
@@ -203,6 +196,6 @@ impl KnownZones {
     pub(crate) fn has(&self, zone: &Name) -> bool
         ensures { result ≡ spec.has_zone zone.now self.now }
     {
-        self.zones.as_ref().contains(&Zone::new(zone))
+        self.zones.as_ref().has(&Zone::new(zone))
     }
 }

@@ -19,6 +19,7 @@ mod writer;
 mod zone;
 mod zone_function;
 mod zone_page;
+mod zone_set;
 
 pub use answer::{answer_net_info, reply_net_info};
 pub use entries::Entries;
@@ -33,7 +34,7 @@ pub use packet::{Function, NetInfo, Packet};
 pub use page::{MAX_PAGE, Page, zone_list_page};
 pub use question::write_get_net_info;
 pub use replies::answer_query;
-pub use table::{MAX_LISTS, MAX_ZONES, ZoneTable};
+pub use table::ZoneTable;
 pub use writer::{MAX_NETWORKS, write_extended, write_query};
 pub use zone_function::ZoneFunction;
 pub use zone_page::page_for;

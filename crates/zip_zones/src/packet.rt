@@ -9,9 +9,10 @@ ghost use Rattle.zip_zones.specs.Answers.{zone_asked};
 ghost use Rattle.zip_zones.specs.Formats.{body, default_zone, function_of, wrong_function};
 ghost use Rattle.zip_zones.specs.Formats as spec;
 
-use crate::entries::{Entries, check_entries};
-use crate::entry::{Nets, name_at};
-use crate::networks::{Networks, check_networks};
+use crate::entries::{Entries, Nets};
+use crate::entry::name_at;
+use crate::networks::{NetworkFormat, Networks};
+use at_base::in_place::{all_items, items_at};
 use at_base::packet::{byte_at, byte_only, hardware_at, run_at, text_at, u16_at};
 use at_base::{Error, Field, Hw, Name, Text32};
 
@@ -121,14 +122,14 @@ fn default_at(flags: u8, bytes: &[u8]) -> Result<(Option<Name>, &[u8]), Error>
 }
 
 /// The body of a query: the networks asked for.
-#[tactic(auto, unfolding(crate::specs::Formats::body, crate::specs::Networks::networks_read))]
+#[tactic(auto, unfolding(crate::specs::Formats::body))]
 fn query_at(bytes: &[u8]) -> Result<(Packet<'_>, &[u8]), Error>
     ensures { Gives (λ x. (x.0, x.1.now)) result
         (reading_spec.read packets (body Function.Query) bytes.now) }
 {
     let (count, networks) = byte_at(bytes)?;
-    let rest = check_networks(count, networks)?;
-    Ok((Packet::Query(Networks::new(count, networks)), rest))
+    let (networks, rest) = items_at(NetworkFormat, count, networks)?;
+    Ok((Packet::Query(networks), rest))
 }
 
 /// The body of a reply: names of any networks.
@@ -138,8 +139,8 @@ fn reply_at(bytes: &[u8]) -> Result<(Packet<'_>, &[u8]), Error>
         (reading_spec.read packets (body Function.Reply) bytes.now) }
 {
     let (count, entries) = byte_at(bytes)?;
-    check_entries(Nets::Any, entries)?;
-    Ok((Packet::Reply(count, Entries::new(Nets::Any, entries)), &[]))
+    let entries = all_items(Nets::Any, entries)?;
+    Ok((Packet::Reply(count, entries), &[]))
 }
 
 /// The body of a GetNetInfo request: five bytes, and the requested zone.
@@ -164,14 +165,11 @@ fn extended_at(bytes: &[u8]) -> Result<(Packet<'_>, &[u8]), Error>
         (reading_spec.read packets (body Function.ExtendedReply) bytes.now) }
 {
     let (total, entries) = byte_at(bytes)?;
-    check_entries(Nets::One, entries)?;
+    let entries = all_items(Nets::One, entries)?;
     if entries.is_empty() {
         return Err(Error::Truncated);
     }
-    Ok((
-        Packet::ExtendedReply(total, Entries::new(Nets::One, entries)),
-        &[],
-    ))
+    Ok((Packet::ExtendedReply(total, entries), &[]))
 }
 
 /// The body of a NetInfo reply.

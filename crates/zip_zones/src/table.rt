@@ -8,22 +8,17 @@ ghost use Rattle.zip_zones.specs.Zones.{lists_at, names_at, overlaps_another, ra
 ghost use Rattle.zip_zones.specs.Zones.{known_for, with_known, with_name};
 ghost use Rattle.zip_zones.specs.Zones as spec;
 ghost use Rattle.zip_zones.specs.Zones.{with_zone, without};
-ghost use Rattle.zip_zones.specs.Places.{IsAt};
-ghost use Rattle.at_base.specs.Range.{IsRange};
+ghost use Rattle.at_base.specs.Spans.{AreApart, IsAt};
+ghost use Rattle.at_base.specs.Limits.{max_lists, max_zones};
 
 use crate::known::KnownZones;
-use crate::search::{list_for, list_of, overlaps_other, place_of};
+use crate::search::{list_for, list_of, overlaps_other};
 use crate::zone::Zone;
-use at_base::{Error, Name, Range};
+use at_base::limits::{MAX_LISTS, MAX_ZONES};
+use at_base::{Error, Name, Range, place_of, put, recall_valid};
 use indexmap::IndexSet;
 use std::alloc::Global;
 use std::marker::Model;
-
-/// The greatest number of lists in a zone table.
-pub const MAX_LISTS: usize = 200;
-
-/// The greatest number of zones of a range.
-pub const MAX_ZONES: usize = 64;
 
 /// The zone table of a router: a finite map from disjoint ranges to zone lists.
 ///
@@ -92,22 +87,15 @@ fn insert_all(zones: &mut IndexSet<Zone>, others: &[Zone]) -> Result<(), Error>
     Ok(())
 }
 
-/// Does nothing. It gives the prover the fact that a range is valid, which only a call can.
-pub(crate) fn recall_valid(range: Range)
-    ensures { IsRange range.start range.end }
-{
-    let _start = range.start();
-}
-
 /// Checks that the table has room for a list of this range with this many zones. Errors: `BadRange`
 /// where another range overlaps it, `Full`.
 fn check_room(lists: &[KnownZones], range: Range, zones: usize) -> Result<(), Error>
-    requires { IsZoneMap lists.now }
-    ensures ok { OnOk result ((overlaps_another range lists.now ≡ false) × (zones ≤ 64)
+    requires { AreApart (λ k. k.range) 0 lists.now }
+    ensures ok { OnOk result ((overlaps_another range lists.now ≡ false) × (zones ≤ max_zones)
         × (is_full_for range lists.now ≡ false)) }
     ensures range { (result ≡ Err Error.BadRange) ↔ (overlaps_another range lists.now ≡ true) }
     ensures full { (result ≡ Err Error.Full) ↔ ((overlaps_another range lists.now ≡ false)
-        × ((64 < zones) ⊎ (is_full_for range lists.now ≡ true))) }
+        × ((max_zones < zones) ⊎ (is_full_for range lists.now ≡ true))) }
     ensures refused { IfErr result (λ e. (e ≡ Error.BadRange) ⊎ (e ≡ Error.Full)) }
 {
     if overlaps_other(lists, range) {
@@ -122,24 +110,11 @@ fn check_room(lists: &[KnownZones], range: Range, zones: usize) -> Result<(), Er
     Ok(())
 }
 
-/// Puts a list at its place, instead of the one of its range, if any. The vector must have room for
-/// it.
-fn put(lists: &mut Vec<KnownZones>, known: KnownZones)
-    requires map { IsZoneMap lists.old.items }
-    requires room { vec_len lists.old < vec_capacity lists.old }
-    ensures { lists.new.items ≡ with_known known lists.old.items }
-{
-    match place_of(lists.as_slice(), known.range()) {
-        Ok(place) => lists[place] = known,
-        Err(place) => lists.insert(place, known).unwrap(),
-    }
-}
-
 /// The index of the list of a range, if the list has `total` zones.
 fn place_to_go_on(lists: &[KnownZones], range: Range, total: u8) -> Option<usize>
-    requires { IsZoneMap lists.now }
-    ensures some { IfSome result (λ place. (at : IsAt range lists.now place)
-        × (spec.list_of range total (Some at.known) ≡ at.known)) }
+    requires { AreApart (λ k. k.range) 0 lists.now }
+    ensures some { IfSome result (λ place. (at : IsAt (λ k. k.range) range lists.now place)
+        × (spec.list_of range total (Some at.item) ≡ at.item)) }
     ensures none { IfNone result (spec.list_of range total (known_for range lists.now)
         ≡ record { range = range; total = total; names = [] }) }
 {
@@ -152,7 +127,7 @@ fn place_to_go_on(lists: &[KnownZones], range: Range, total: u8) -> Option<usize
 /// Begins a list with a name, where the range has no list of `total` zones. Error: `Memory`;
 /// nothing changes then.
 fn begin(lists: &mut Vec<KnownZones>, range: Range, total: u8, name: &Name) -> Result<(), Error>
-    requires { IsZoneMap lists.old.items }
+    requires { AreApart (λ k. k.range) 0 lists.old.items }
     ensures ok { OnOk result (lists.new.items ≡ with_known
         (with_zone name.now (record { range = range; total = total; names = [] }))
         lists.old.items) }
@@ -169,7 +144,7 @@ fn begin(lists: &mut Vec<KnownZones>, range: Range, total: u8, name: &Name) -> R
 
 /// Adds a name of a range that has `total` zones. Error: `Memory`; nothing changes then.
 fn hear(lists: &mut Vec<KnownZones>, range: Range, total: u8, name: &Name) -> Result<(), Error>
-    requires { IsZoneMap lists.old.items }
+    requires { AreApart (λ k. k.range) 0 lists.old.items }
     ensures ok { OnOk result
         (lists.new.items ≡ heard range total name.now lists.old.items) }
     ensures err { IsOkUnless result Error.Memory }
@@ -210,7 +185,7 @@ impl ZoneTable {
         ensures ok { OnOk result (self.new ≡ with_known (set_list range names.now) self.old) }
         ensures range { (result ≡ Err Error.BadRange) ↔ (overlaps_another range self.old ≡ true) }
         ensures full { (result ≡ Err Error.Full) ↔ ((overlaps_another range self.old ≡ false)
-            × ((64 < length names.now) ⊎ (is_full_for range self.old ≡ true))) }
+            × ((max_zones < length names.now) ⊎ (is_full_for range self.old ≡ true))) }
         ensures refused { IfErr result
             (λ e. (e ≡ Error.BadRange) ⊎ (e ≡ Error.Full) ⊎ (e ≡ Error.Memory)) }
         ensures kept { OnErr result (self.new ≡ self.old) }
@@ -233,7 +208,7 @@ impl ZoneTable {
         ensures ok { OnOk result (self.new ≡ heard range total name.now self.old) }
         ensures range { (result ≡ Err Error.BadRange) ↔ (overlaps_another range self.old ≡ true) }
         ensures full { (result ≡ Err Error.Full) ↔ ((overlaps_another range self.old ≡ false)
-            × ((64 < total) ⊎ (is_full_for range self.old ≡ true))) }
+            × ((max_zones < total) ⊎ (is_full_for range self.old ≡ true))) }
         ensures refused { IfErr result
             (λ e. (e ≡ Error.BadRange) ⊎ (e ≡ Error.Full) ⊎ (e ≡ Error.Memory)) }
         ensures kept { OnErr result (self.new ≡ self.old) }
@@ -305,7 +280,7 @@ impl ZoneTable {
     /// The ranges whose lists have the zone, ignoring case, in rising order. Error: `Memory`.
     pub fn cables_of(&self, zone: &Name) -> Result<Vec<Range>, Error>
         ensures ok { IfOk result (λ ranges. ranges.items ≡ ranges_of zone.now self.now) }
-        ensures few { IfOk result (λ ranges. length ranges.items ≤ 200) }
+        ensures few { IfOk result (λ ranges. length ranges.items ≤ max_lists) }
         ensures refused { IsOkUnless result Error.Memory }
     {
         let mut ranges = Vec::new(*self.lists.allocator());
@@ -321,7 +296,7 @@ impl ZoneTable {
     /// list. Error: `Memory`, which no names never need.
     pub fn names_of(&self, net: u16) -> Result<Vec<Name>, Error>
         ensures ok { IfOk result (λ names. names.items ≡ names_at net self.now) }
-        ensures few { IfOk result (λ names. length names.items ≤ 64) }
+        ensures few { IfOk result (λ names. length names.items ≤ max_zones) }
         ensures none { names_at net self.now ≡ [] → IsOk result }
         ensures refused { IsOkUnless result Error.Memory }
     {

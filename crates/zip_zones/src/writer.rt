@@ -6,21 +6,19 @@ ghost use Rattle.at_base.specs.Spelling.{bytes_of};
 ghost use Rattle.zip_zones.specs.declared.packet.Packet.TheVariants.{Query as QueryValue};
 ghost use Rattle.zip_zones.specs.Formats as formats_spec;
 ghost use Rattle.zip_zones.specs.Formats.{number_of};
-ghost use Rattle.zip_zones.specs.Networks as networks_spec;
 ghost use Rattle.zip_zones.specs.Packets as packets_spec;
 ghost use Rattle.zip_zones.specs.Written.{entries_bytes, entries_of, entries_size, extended_reply};
 ghost use Rattle.zip_zones.specs.Written.{networks_bytes};
+ghost use Rattle.at_base.specs.Limits.{max_data};
 
 use crate::packet::Function;
 use crate::page::put_name;
+use at_base::limits::MAX_DATA;
 use at_base::{Bytes, Error, Name};
 use std::alloc::Global;
 
 /// The greatest number of networks in a query.
 pub const MAX_NETWORKS: usize = 255;
-
-/// The greatest number of bytes of a datagram's data.
-const MAX_DATA: usize = 586;
 
 /// The length of the bytes before the networks of a query, and before the entries of a reply.
 const HEAD_LEN: usize = 2;
@@ -45,9 +43,9 @@ pub(crate) fn number(function: Function) -> u8
 }
 
 /// Appends a network.
-#[tactic(auto, unfolding(crate::specs::Networks::network))]
+#[tactic(auto, unfolding(crate::specs::Packets::network))]
 fn put_network(bytes: &mut Vec<u8>, net: u16) -> Result<(), Error>
-    ensures put { OnOk result (bytes.new.items ≡ bytes.old.items ++ bytes_of networks_spec.network net) }
+    ensures put { OnOk result (bytes.new.items ≡ bytes.old.items ++ bytes_of packets_spec.network net) }
     ensures refused { IsOkUnless result Error.Memory }
 {
     bytes.extend_from_slice(&net.to_be_bytes())?;
@@ -138,8 +136,8 @@ pub fn write_extended(alloc: Global, net: u16, total: u8, names: &[Name]) -> Res
     requires { 0 < length names.now }
     ensures ok { IfOk result (λ bytes. bytes
         ≡ bytes_of formats_spec.packet (extended_reply net total names.now)) }
-    ensures short { IfOk result (λ bytes. length bytes ≤ 586) }
-    ensures long { (result ≡ Err Error.TooLong) ↔ (586 < 2 + entries_size names.now) }
+    ensures short { IfOk result (λ bytes. length bytes ≤ max_data) }
+    ensures long { (result ≡ Err Error.TooLong) ↔ (max_data < 2 + entries_size names.now) }
     ensures refused { IfErr result (λ e. (e ≡ Error.TooLong) ⊎ (e ≡ Error.Memory)) }
 {
     let len = entries_len(names, MAX_ENTRIES)?;

@@ -33,7 +33,7 @@ unplayed text e (inr (inr (file, inr memory))) = inr (inr (file, inr (inl memory
 pub returns-in-Ok-clause-refused : goal.returns-in-Ok-clause-refused
 returns-in-Ok-clause-refused g c =
     map_some _ _ (g.R.Read.remaining c.args.input.now.reader) c.in-Ok.ensures.played
-    (λ text p. handed text c.hand_over.result (p.1.world.plan, p.1.file) c.hand_over.ensures.refused)
+    (λ text p. handed text c.hand_over.result (p.1.world.plan, p.1.file) c.hand_over.ensures.hands.refused)
 
 pub returns-in-Err-clause-refused : goal.returns-in-Err-clause-refused
 returns-in-Err-clause-refused g c =
@@ -42,6 +42,6 @@ returns-in-Err-clause-refused g c =
 -- If the image was touched, the lines of the play were written before.
 pub returns-in-Ok-clause-order : goal.returns-in-Ok-clause-order
 returns-in-Ok-clause-order g c =
-    either c.hand_over.ensures.order inl
+    either c.hand_over.ensures.hands.order inl
     (λ wrote. inr (map_some _ _ (g.R.Read.remaining c.args.input.now.reader) c.in-Ok.ensures.played
     (λ text p. (c.in-Ok.played.lines.items, c.in-Ok.played.yes, p.0, p.1, wrote))))

@@ -1,28 +1,59 @@
-use Rattle.commands.proofs.Known.{any_some, map_some}
+use Rattle.std.proofs.Common.{inr}
+use Rattle.std.proofs.lemmas.Result.{err_from_is_err_and}
+use Rattle.commands.proofs.Known.{any_some, map_some, printed_only, read_only, unread_line}
 use Rattle.commands.proofs.tracing.run_frozen.Goals as goal
 
-pub returns-in-Ok-clause-flaw : goal.returns-in-Ok-clause-flaw
-returns-in-Ok-clause-flaw g c =
-    map_some _ _ (g.I.Read.remaining c.args.image.now.reader) c.in_ok-image.ensures.flaw (λ bytes none f flawed. absurd (none f flawed))
+pub returns-in_err-image-clause-refused : goal.returns-in_err-image-clause-refused
+returns-in_err-image-clause-refused g c =
+    let stop = err_from_is_err_and c.from_residual.result c.from_residual.ensures.1 in
+    rw (stop.1, stop.2) (record {
+      flaw = c.in_err-image.ensures.flaw;
+      bad_line =
+          map_some _ _ (g.I.Read.remaining c.args.image.now.reader) c.in_err-image.ensures.only (λ bytes only.
+          any_some _ (g.S.Read.remaining c.args.script.now.reader) (λ text i n spelled bad. unread_line n _ (only i spelled)));
+      good =
+          map_some _ _ (g.I.Read.remaining c.args.image.now.reader) c.in_err-image.ensures.only (λ bytes only.
+          any_some _ (g.S.Read.remaining c.args.script.now.reader) (λ text i steps spelled whole. read_only _ (only i spelled)));
+    })
 
-pub returns-in-Ok-clause-bad_line : goal.returns-in-Ok-clause-bad_line
-returns-in-Ok-clause-bad_line g c =
-    any_some _ (g.I.Read.remaining c.args.image.now.reader) (λ bytes.
-    map_some _ _ (g.S.Read.remaining c.args.script.now.reader) c.in-Ok.ensures.bad_line (λ text none i n spelled bad. absurd (none n bad)))
+pub returns-in-Ok-clause-refused : goal.returns-in-Ok-clause-refused
+returns-in-Ok-clause-refused g c = record {
+  flaw =
+      map_some _ _ (g.I.Read.remaining c.args.image.now.reader) c.in_ok-image.ensures.flaw (λ bytes none f flawed. absurd (none f flawed));
+  bad_line =
+      any_some _ (g.I.Read.remaining c.args.image.now.reader) (λ bytes.
+      map_some _ _ (g.S.Read.remaining c.args.script.now.reader) c.in-Ok.ensures.bad_line (λ text none i n spelled bad. absurd (none n bad)));
+  good =
+      any_some _ (g.I.Read.remaining c.args.image.now.reader) (λ bytes.
+      any_some _ (g.S.Read.remaining c.args.script.now.reader) (λ text i steps spelled whole.
+      printed_only _ c.trace_script.result c.trace_script.ensures.prints.refused));
+}
 
-pub returns-in-Err-clause-flaw : goal.returns-in-Err-clause-flaw
-returns-in-Err-clause-flaw g c =
-    map_some _ _ (g.I.Read.remaining c.args.image.now.reader) c.in_ok-image.ensures.flaw (λ bytes none f flawed. absurd (none f flawed))
+pub returns-in-Err-clause-refused : goal.returns-in-Err-clause-refused
+returns-in-Err-clause-refused g c = record {
+  flaw =
+      map_some _ _ (g.I.Read.remaining c.args.image.now.reader) c.in_ok-image.ensures.flaw (λ bytes none f flawed. absurd (none f flawed));
+  bad_line =
+      any_some _ (g.I.Read.remaining c.args.image.now.reader) (λ bytes.
+      map_some _ _ (g.S.Read.remaining c.args.script.now.reader) c.in-Err.ensures.bad_line (λ text at i n spelled bad. at n bad));
+  good =
+      any_some _ (g.I.Read.remaining c.args.image.now.reader) (λ bytes.
+      map_some _ _ (g.S.Read.remaining c.args.script.now.reader) c.in-Err.ensures.good (λ text only i steps spelled whole.
+      read_only c.in-Err.error (only steps whole)));
+}
 
-pub returns-in-Err-clause-bad_line : goal.returns-in-Err-clause-bad_line
-returns-in-Err-clause-bad_line g c =
-    any_some _ (g.I.Read.remaining c.args.image.now.reader) (λ bytes.
-    map_some _ _ (g.S.Read.remaining c.args.script.now.reader) c.in-Err.ensures.bad_line (λ text at i n spelled bad. at n bad))
+pub returns-in-Ok-clause-first : goal.returns-in-Ok-clause-first
+returns-in-Ok-clause-first g c = record {
+  kept = λ read memory. c.in_ok-image.ensures.kept_image;
+  touched = inr c.in_ok-image.ensures.kept_image;
+  image_first =
+      map_some _ _ (g.I.Read.remaining c.args.image.now.reader) c.in_ok-image.ensures.flaw (λ bytes none f flawed. absurd (none f flawed));
+}
 
-pub returns-in-Ok-clause-image_first : goal.returns-in-Ok-clause-image_first
-returns-in-Ok-clause-image_first g c =
-    map_some _ _ (g.I.Read.remaining c.args.image.now.reader) c.in_ok-image.ensures.flaw (λ bytes none f flawed. absurd (none f flawed))
-
-pub returns-in-Err-clause-image_first : goal.returns-in-Err-clause-image_first
-returns-in-Err-clause-image_first g c =
-    map_some _ _ (g.I.Read.remaining c.args.image.now.reader) c.in_ok-image.ensures.flaw (λ bytes none f flawed. absurd (none f flawed))
+pub returns-in-Err-clause-first : goal.returns-in-Err-clause-first
+returns-in-Err-clause-first g c = record {
+  kept = λ read memory. c.in_ok-image.ensures.kept_image;
+  touched = inr c.in_ok-image.ensures.kept_image;
+  image_first =
+      map_some _ _ (g.I.Read.remaining c.args.image.now.reader) c.in_ok-image.ensures.flaw (λ bytes none f flawed. absurd (none f flawed));
+}

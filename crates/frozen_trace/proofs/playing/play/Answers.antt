@@ -26,5 +26,5 @@ loop-step-preserved g c =
         goes_then _ _ _ c.args.output.now.text.items _ _ held.0.0 one.0 held.0.2 one.2,
       ),
       c.in_ok-play_step.ensures.known,
-      c.in_ok-play_step.ensures.stays ∙ held.2,
+      c.in_ok-play_step.ensures.prints.stays ∙ held.2,
     )

@@ -87,7 +87,7 @@ loop-turn-preserved g c =
           (ap (λ (t : List ℕ). told run old ++ t) printed.told_is ∙ sym (told_then run old new first.0 grown.0 first.1 grown.1))
           (goes_then _ _ _ c.args.output.now.text.items _ _ _ _ held.1 c.in_ok-print_from-in-Ok.ensures.gone),
       c.in_ok-print_from-in-Ok.ensures.known,
-      c.in_ok-print_from-in-Ok.ensures.stays ∙ held.3,
+      c.in_ok-print_from-in-Ok.ensures.prints.stays ∙ held.3,
     )
 
 pub returns-clause-played : goal.returns-clause-played

@@ -40,5 +40,5 @@ loop-entry-preserved g c =
           ∙ ap (λ (l : Printed). printed l.addresses (l.cables ++ cable_of (f e))) held.1
           ∙ ap (printed i) (append_assoc known (cables_of before) (cable_of (f e))
           ∙ ap (λ (l : List ℕ). known ++ l) (sym (ap cables_of more ∙ cables_one before (f e)))),
-      c.in_ok-print_entry.ensures.stays ∙ held.2,
+      c.in_ok-print_entry.ensures.prints.stays ∙ held.2,
     )

@@ -1,6 +1,5 @@
-use Rattle.std.proofs.Common.{List, length, ap, sym, ◌∙◌, arith}
+use Rattle.std.proofs.Common.{sym, ◌∙◌}
 use Rattle.std.proofs.lemmas.List.{append-nil}
-use Rattle.aarp.specs.Choosing.{Choice}
 use Rattle.live_router.proofs.Settled.{AreSettled, settled_silent, settled_stay}
 use Rattle.live_router.proofs.addresses.ports_after.Goals as goal
 
@@ -15,8 +14,3 @@ returns-then-are_settled-clause-put g c =
     let all : AreSettled c.args.router.now.ports =
     rw (← c.ports_now-ports.ensures.value) (sym c.are_settled.ensures ∙ c.if-are_settled.true) in
     rw (settled_silent 0 c.args.router.now.ports all) (sym (append-nil c.args.made.now.items))
-
-pub returns-clause-good : goal.returns-clause-good
-returns-clause-good g c =
-    let same = ap (λ (l : List Choice). length l) c.ports_now-ports.ensures.value in
-    (c.in_ok-tick_ports.ensures {u = tt}).good (length c.args.router.now.ports) (omega (arith, same))

@@ -16,12 +16,12 @@ passed (Err e) old new plan now ticks does = tt
 pub returns-clause-lived : goal.returns-clause-lived
 returns-clause-lived c =
     passed c.tick-ticked.result c.args.world.now c.tick-ticked.new.self c.tick-ticked.ensures.plan c.tick-ticked.ensures.now
-    c.tick-ticked.ensures.ticks_on
-    c.tick-ticked.ensures.plays
+    c.tick-ticked.ensures.ticked.ticks_on
+    c.tick-ticked.ensures.ticked.plays
 
 pub returns-clause-full : goal.returns-clause-full
 returns-clause-full c =
-    λ is lives early. by lives early (c.tick-ticked.ensures.full c.requires.unstopped is)
+    λ is lives early. by lives early (c.tick-ticked.ensures.over.full c.requires.unstopped is)
   where
     by : Lives c.args.world.now → c.args.world.now.now < c.args.world.now.plan.ticks
         → (c.args.world.now.plan.ticks ≤ c.args.world.now.now) ⊎ HasNoRoom 1285 c.tick-ticked.new.self.wires.cabling
@@ -34,7 +34,7 @@ returns-clause-full c =
       early = early;
       wires = c.tick-ticked.new.self.wires;
       ticks = subst (λ n. Ticks c.args.world.now.plan n c.args.world.now.wires c.tick-ticked.new.self.wires)
-          (c.tick-ticked.ensures.began c.requires.unstopped early) c.tick-ticked.ensures.ticks;
+          (c.tick-ticked.ensures.began c.requires.unstopped early) c.tick-ticked.ensures.ticked.ticks;
       limit = c.recall_lived.ensures.limit;
       full = none;
     }

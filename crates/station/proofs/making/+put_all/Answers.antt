@@ -1,13 +1,8 @@
 use Rattle.std.proofs.Common.{rules, ◌≡◌, [], ◌∷◌, ◌++◌, ◌∙◌, ap, append_assoc}
-use Rattle.std.proofs.lemmas.Result.{on_err_weaker, on_ok_weaker}
+use Rattle.std.proofs.lemmas.Result.{on_err_weaker}
 use Rattle.station.proofs.Replies.{first_and_others, replying_one_more}
 use Rattle.station.specs.Ways.{replying}
 use Rattle.station.proofs.making.+put_all.Goals as goal
-
-pub returns-in_ok-put-in-len1-up-clause-good : goal.returns-in_ok-put-in-len1-up-clause-good
-returns-in_ok-put-in-len1-up-clause-good t c =
-    on_ok_weaker c.put_all.result
-    (λ others n way before. others n way ((c.in_ok-put-in-len1-up.ensures {u = tt}).good n way before)) c.put_all.ensures.good
 
 pub returns-in_ok-put-in-len1-up-clause-in_part : goal.returns-in_ok-put-in-len1-up-clause-in_part
 returns-in_ok-put-in-len1-up-clause-in_part t c =
@@ -15,7 +10,7 @@ returns-in_ok-put-in-len1-up-clause-in_part t c =
     let payloads = first_and_others c.args.payloads.now payload c.in-len1-up.len_at_least c.payload-item.is in
     let same : c.as_slice.result.now ≡ payload = search rules in
     let put : c.put.new.made.items ≡ c.args.made.now.items ++ replying c.args.way.now (payload ∷ []) =
-    (c.in_ok-put-in-len1-up.ensures {u = tt}).put ∙ ap (λ p. c.args.made.now.items ++ replying c.args.way.now (p ∷ [])) same in
+    c.in_ok-put-in-len1-up.ensures.puts.put ∙ ap (λ p. c.args.made.now.items ++ replying c.args.way.now (p ∷ [])) same in
     on_err_weaker c.put_all.result
     (λ part. (
       payload ∷ part.0,

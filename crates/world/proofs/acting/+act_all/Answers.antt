@@ -1,22 +1,15 @@
-use Rattle.std.proofs.Common.{◌≡◌, Some, arith, refl, subst, suc}
+use Rattle.std.proofs.Common.{◌≡◌, Some, refl, subst, suc}
 use Rattle.std.proofs.lemmas.Result.{on_ok_weaker}
-use Rattle.world.proofs.Going.{goes_none, goes_nowhere, goes_on_then, goes_then}
+use Rattle.world.proofs.Going.{did_then, goes_none, goes_nowhere}
 use Rattle.world.proofs.Kept.{kept_on}
 use Rattle.world.specs.Acting.{IsOver, tick_of}
 use Rattle.world.proofs.acting.+act_all.Goals as goal
 
-pub returns-in-Ok-clause-goes : goal.returns-in-Ok-clause-goes
-returns-in-Ok-clause-goes g t c = goes_then 0 _ _ _ c.in-Ok.ensures.done c.act_all.ensures.goes
+pub returns-in-Ok-clause-did : goal.returns-in-Ok-clause-did
+returns-in-Ok-clause-did g t c = did_then 5 _ _ _ c.act_all.result c.in-Ok.ensures.did.done c.act_all.ensures.did
 
-pub returns-in-Ok-clause-done : goal.returns-in-Ok-clause-done
-returns-in-Ok-clause-done g t c =
-    on_ok_weaker c.act_all.result (λ d. goes_on_then 0 _ _ _ c.in-Ok.ensures.done 0 0 (omega arith) d) c.act_all.ensures.done
-
-pub returns-in-None-clause-goes : goal.returns-in-None-clause-goes
-returns-in-None-clause-goes g t c = goes_nowhere _
-
-pub returns-in-None-clause-done : goal.returns-in-None-clause-done
-returns-in-None-clause-done g t c = goes_none _
+pub returns-in-None-clause-did : goal.returns-in-None-clause-did
+returns-in-None-clause-did g t c = record { goes = goes_nowhere _; done = goes_none _; full = λ e. cc; refused = tt }
 
 pub returns-in-Ok-clause-are_done : goal.returns-in-Ok-clause-are_done
 returns-in-Ok-clause-are_done g t c =

@@ -1,27 +1,36 @@
-use Rattle.std.proofs.Common.{refl, slice_get, sym, ap, ◌∙◌}
+use Rattle.std.proofs.Common.{refl, slice_get, sym, ap, ◌∙◌, inr, Result, Ok, Err, rules}
+use Rattle.std.specs.Prelude.{IsOkUnless}
+use Rattle.at_base.specs.declared.error.Error.{Error}
+use Rattle.at_base.specs.declared.error.Error.TheVariants.{Memory}
 use Rattle.std.proofs.lemmas.Bool.{ltb-true}
 use Rattle.std.proofs.lemmas.Option.{slice_get_read}
 use Rattle.std.proofs.lemmas.Result.{on_ok_weaker}
-use Rattle.live_cables.proofs.Calls.{on_ok}
-use Rattle.world.proofs.Going.{goes_none, goes_plays, goes_plays_on}
-use Rattle.world.specs.Going.{GoesOn}
+use Rattle.live_cables.specs.Living.{Wires}
+use Rattle.world.proofs.Going.{did_play, goes_none, goes_nowhere}
+use Rattle.world.specs.Going.{Did, GoesOn}
 use Rattle.world.proofs.Doing.{done_for, done_noted, done_ok}
 use Rattle.world.proofs.acting.act_one.Goals as goal
 
-pub returns-in_default-clause-done : goal.returns-in_default-clause-done
-returns-in_default-clause-done g c = goes_none _
+-- A call that leaves the cables alone is refused only for memory.
+still : {A : Type 0} (w : Wires) (r : Result A Error) → IsOkUnless r Memory → Did (GoesOn 0 w w) 5 w w r
+still w (Ok u) memory = record { goes = goes_nowhere w; done = goes_none w; full = λ e. cc; refused = tt }
+still w (Err e) memory = record { goes = goes_nowhere w; done = tt; full = λ f. cc (f, memory); refused = inr memory }
 
-pub returns-in_default-get-clause-done : goal.returns-in_default-get-clause-done
-returns-in_default-get-clause-done g c = goes_none _
+pub returns-in_err-outputs-clause-did : goal.returns-in_err-outputs-clause-did
+returns-in_err-outputs-clause-did g c = still _ c.from_residual.result (search rules)
 
-pub returns-in-Err-clause-done : goal.returns-in-Err-clause-done
-returns-in-Err-clause-done g c = on_ok c.note.result (GoesOn 0 c.args.wires.now c.args.wires.now) (goes_none _)
+pub returns-in_default-clause-did : goal.returns-in_default-clause-did
+returns-in_default-clause-did g c = still _ _ tt
 
-pub returns-clause-goes : goal.returns-clause-goes
-returns-clause-goes g c = goes_plays _ _ c.give.ensures.plays
+pub returns-in_default-get-clause-did : goal.returns-in_default-get-clause-did
+returns-in_default-get-clause-did g c = still _ _ tt
 
-pub returns-clause-done : goal.returns-clause-done
-returns-clause-done g c = on_ok_weaker c.give.result (λ d. goes_plays_on 0 _ _ d) c.give.ensures.done
+pub returns-in-Err-clause-did : goal.returns-in-Err-clause-did
+returns-in-Err-clause-did g c = still _ c.note.result c.note.ensures.refused
+
+pub returns-clause-did : goal.returns-clause-did
+returns-clause-did g c =
+    did_play 5 _ _ c.give.result c.give.ensures.plays c.give.ensures.done c.give.ensures.full c.give.ensures.refused
 
 pub returns-in-Err-clause-is_done : goal.returns-in-Err-clause-is_done
 returns-in-Err-clause-is_done g c =

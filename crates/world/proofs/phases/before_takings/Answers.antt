@@ -1,15 +1,11 @@
-use Rattle.std.proofs.Common.{◌≡◌, arith, inr, subst, Result, Ok, Err, OnErr}
+use Rattle.std.proofs.Common.{arith, inr, subst, Result, Ok, Err, OnErr}
 use Rattle.std.proofs.lemmas.Result.{on_ok_weaker}
-use Rattle.world.proofs.Going.{goes_on_then, goes_then}
+use Rattle.world.proofs.Going.{did_then}
 use Rattle.world.specs.Acting.{AreDone}
 use Rattle.world.proofs.phases.before_takings.Goals as goal
 
-pub returns-clause-goes : goal.returns-clause-goes
-returns-clause-goes g c = goes_then 0 _ _ _ c.in-Ok.ensures.done c.act_all.ensures.goes
-
-pub returns-clause-done : goal.returns-clause-done
-returns-clause-done g c =
-    on_ok_weaker c.act_all.result (λ d. goes_on_then 0 _ _ _ c.in-Ok.ensures.done 0 0 (omega arith) d) c.act_all.ensures.done
+pub returns-clause-did : goal.returns-clause-did
+returns-clause-did g c = did_then 5 _ _ _ c.act_all.result c.in-Ok.ensures.did.done c.act_all.ensures.did
 
 pub returns-clause-begins : goal.returns-clause-begins
 returns-clause-begins g c =
@@ -29,7 +25,7 @@ returns-clause-stopped g c =
       seats = c.in-Ok.ensures.passed.0;
       wires = c.tick_all.new.wires;
       passes = c.in-Ok.ensures.passed.1;
-      goes = c.act_all.ensures.goes;
+      goes = c.act_all.ensures.did.goes;
     }))
   where
     always : {T E P : Type 0} (r : Result T E) → P → OnErr r P

@@ -10,7 +10,7 @@ pub loop-port-preserved : goal.loop-port-preserved
 loop-port-preserved g c = let next : suc c.loop-port.port ≡ c.loop-port.port + 1 = omega arith in (
   c.age_mappings.ensures.ports ∙ c.loop-port.invariant.0,
   c.age_mappings.ensures.got ∙ c.loop-port.invariant.1,
-  goes_on_then 0 _ _ _ c.loop-port.invariant.2 0 0 (omega arith) c.in-Ok.ensures.done,
+  goes_on_then 0 _ _ _ c.loop-port.invariant.2 0 0 (omega arith) c.in-Ok.ensures.did.done,
   subst (λ n. AreAged c.args.seat n c.args.station.now c.age_mappings.new.station c.args.wires.now c.age_mappings.new.wires) next
       (c.loop-port.station, c.loop-port.wires, c.loop-port.invariant.3, c.in-Ok.ensures.aged),
 )
@@ -21,8 +21,18 @@ returns-in-Err-clause-ports g c = c.age_mappings.ensures.ports ∙ c.loop-port.i
 pub returns-in-Err-clause-got : goal.returns-in-Err-clause-got
 returns-in-Err-clause-got g c = c.age_mappings.ensures.got ∙ c.loop-port.invariant.1
 
-pub returns-in-Err-clause-goes : goal.returns-in-Err-clause-goes
-returns-in-Err-clause-goes g c = goes_then 0 _ _ _ c.loop-port.invariant.2 c.age_mappings.ensures.goes
+pub returns-in-Err-clause-did : goal.returns-in-Err-clause-did
+returns-in-Err-clause-did g c = record {
+  goes = goes_then 0 _ _ _ c.loop-port.invariant.2 c.age_mappings.ensures.did.goes;
+  done = tt;
+  full = c.in-Err.ensures.did.full;
+  refused = c.in-Err.ensures.did.refused;
+}
 
-pub returns-clause-goes : goal.returns-clause-goes
-returns-clause-goes g c = c.loop-port.invariant.2.goes
+pub returns-clause-did : goal.returns-clause-did
+returns-clause-did g c = record {
+  goes = c.loop-port.invariant.2.goes;
+  done = c.loop-port.invariant.2;
+  full = λ e. cc;
+  refused = tt;
+}

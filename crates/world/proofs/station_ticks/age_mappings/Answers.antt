@@ -1,5 +1,6 @@
-use Rattle.std.proofs.Common.{sym, ap, fold}
-use Rattle.world.proofs.Going.{goes_plays, goes_plays_on}
+use Rattle.std.proofs.Common.{◌≡◌, Err, sym, ap, arith, fold}
+use Rattle.at_base.specs.declared.error.Error.TheVariants.{Full}
+use Rattle.world.proofs.Going.{did_play}
 use Rattle.world.specs.Doing.{given_up}
 use Rattle.world.proofs.station_ticks.age_mappings.Goals as goal
 
@@ -10,17 +11,15 @@ returns-then-is_idle-clause-aged g c = record {
   told = sym (ap (fold given_up c.args.station.now) (c.is_idle.ensures.given_up c.if-is_idle.true));
 }
 
-pub returns-then-is_idle-clause-goes : goal.returns-then-is_idle-clause-goes
-returns-then-is_idle-clause-goes g c = goes_plays _ _ (c.is_idle.ensures.done c.if-is_idle.true).plays
+pub returns-then-is_idle-clause-did : goal.returns-then-is_idle-clause-did
+returns-then-is_idle-clause-did g c =
+    did_play 5 _ _ _ (c.is_idle.ensures.done c.if-is_idle.true).plays (c.is_idle.ensures.done c.if-is_idle.true) (λ e. cc) tt
 
-pub returns-then-is_idle-clause-done : goal.returns-then-is_idle-clause-done
-returns-then-is_idle-clause-done g c = goes_plays_on 0 _ _ (c.is_idle.ensures.done c.if-is_idle.true)
+pub returns-in-Ok-clause-did : goal.returns-in-Ok-clause-did
+returns-in-Ok-clause-did g c = did_play 5 _ _ _ c.pass.ensures.plays c.in-Ok.ensures.done (λ e. cc) tt
 
-pub returns-in-Ok-clause-goes : goal.returns-in-Ok-clause-goes
-returns-in-Ok-clause-goes g c = goes_plays _ _ c.pass.ensures.plays
-
-pub returns-in-Ok-clause-done : goal.returns-in-Ok-clause-done
-returns-in-Ok-clause-done g c = goes_plays_on 0 _ _ c.in-Ok.ensures.done
-
-pub returns-in-Err-clause-goes : goal.returns-in-Err-clause-goes
-returns-in-Err-clause-goes g c = goes_plays _ _ c.pass.ensures.plays
+pub returns-in-Err-clause-did : goal.returns-in-Err-clause-did
+returns-in-Err-clause-did g c =
+    did_play 5 _ _ _ c.pass.ensures.plays tt
+    (λ e. let same : c.in-Err.error ≡ Full = cc in let one = c.in-Err.ensures.full (ap Err same) in omega (arith, one))
+    c.in-Err.ensures.refused

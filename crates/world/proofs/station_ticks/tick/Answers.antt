@@ -6,13 +6,15 @@ use Rattle.world.proofs.Going.{goes_on_settled, goes_plays, goes_plays_on, goes_
 use Rattle.world.proofs.Stopped.{any_error}
 use Rattle.world.proofs.station_ticks.tick.Goals as goal
 
-pub returns-clause-goes : goal.returns-clause-goes
-returns-clause-goes g c = goes_settled _ c.settle.new.wires _ c.settle.ensures.others (goes_plays _ _ c.give.ensures.plays)
-
-pub returns-clause-done : goal.returns-clause-done
-returns-clause-done g c =
-    on_ok_weaker c.give.result
-    (λ d. goes_on_settled _ c.settle.new.wires _ c.settle.ensures.others 0 (goes_plays_on 0 _ _ d)) c.give.ensures.done
+pub returns-clause-did : goal.returns-clause-did
+returns-clause-did g c = record {
+  goes = goes_settled _ c.settle.new.wires _ c.settle.ensures.others (goes_plays _ _ c.give.ensures.plays);
+  done =
+      on_ok_weaker c.give.result
+      (λ d. goes_on_settled _ c.settle.new.wires _ c.settle.ensures.others 0 (goes_plays_on 0 _ _ d)) c.give.ensures.done;
+  full = c.give.ensures.full;
+  refused = c.give.ensures.refused;
+}
 
 pub returns-clause-stopped : goal.returns-clause-stopped
 returns-clause-stopped g c =

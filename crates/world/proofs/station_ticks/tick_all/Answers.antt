@@ -31,11 +31,21 @@ returns-in-Err-clause-got g c =
     let at = slice_get_read ms (length ms) k old refl (omega (arith, test, len, same)) c.index_mut-station.ensures.value in
     got_stays ms k old c.tick_station.new.station at c.tick_station.ensures.got ∙ c.loop-index.invariant.1
 
-pub returns-in-Err-clause-goes : goal.returns-in-Err-clause-goes
-returns-in-Err-clause-goes g c = goes_then 0 _ _ _ c.loop-index.invariant.3 c.tick_station.ensures.goes
+pub returns-in-Err-clause-did : goal.returns-in-Err-clause-did
+returns-in-Err-clause-did g c = record {
+  goes = goes_then 0 _ _ _ c.loop-index.invariant.3 c.tick_station.ensures.did.goes;
+  done = tt;
+  full = c.in-Err.ensures.did.full;
+  refused = c.in-Err.ensures.did.refused;
+}
 
-pub returns-clause-goes : goal.returns-clause-goes
-returns-clause-goes g c = c.loop-index.invariant.3.goes
+pub returns-clause-did : goal.returns-clause-did
+returns-clause-did g c = record {
+  goes = c.loop-index.invariant.3.goes;
+  done = c.loop-index.invariant.3;
+  full = λ e. cc;
+  refused = tt;
+}
 
 pub loop-index-preserved : goal.loop-index-preserved
 loop-index-preserved g c =
@@ -54,7 +64,7 @@ loop-index-preserved g c =
       ports_set ms k old c.tick_station.new.station at c.tick_station.ensures.ports ∙ c.loop-index.invariant.0,
       got_stays ms k old c.tick_station.new.station at c.tick_station.ensures.got ∙ c.loop-index.invariant.1,
       length_set ms k c.tick_station.new.station ∙ same,
-      goes_on_then 0 _ _ _ c.loop-index.invariant.3 0 0 (omega arith) c.in-Ok.ensures.done,
+      goes_on_then 0 _ _ _ c.loop-index.invariant.3 0 0 (omega arith) c.in-Ok.ensures.did.done,
       omega (arith, few, more),
       subst (λ n. HavePassed n (c.loop-index.seat + c.ports_at-seat.result) c.args.stations.now.items
           (slice_set ms k c.tick_station.new.station) c.args.wires.now c.tick_station.new.wires) next (

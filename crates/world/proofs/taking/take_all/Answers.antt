@@ -1,4 +1,5 @@
-use Rattle.std.proofs.Common.{◌≡◌, ◌+◌, ◌∙◌, suc, arith, inl, map, refl, subst, sym}
+use Rattle.std.proofs.Common.{◌≡◌, ◌+◌, ◌∙◌, suc, arith, inl, map, refl, subst, sym, ap, Err}
+use Rattle.at_base.specs.declared.error.Error.TheVariants.{Full}
 use Rattle.cable_model.specs.Transcript.{one}
 use Rattle.planned_stations.specs.Planning.{AreSeated, ports_of}
 use Rattle.world.proofs.Going.{goes_none, goes_on_then, goes_then}
@@ -43,17 +44,19 @@ returns-clause-taken g c = (c.loop-step._step, c.loop-step.invariant.3)
 pub returns-in-Ok-false-clause-ports : goal.returns-in-Ok-false-clause-ports
 returns-in-Ok-false-clause-ports g c = c.take_first.ensures.ports ∙ c.loop-step.invariant.0
 
-pub returns-in-Ok-false-clause-goes : goal.returns-in-Ok-false-clause-goes
-returns-in-Ok-false-clause-goes g c = goes_then c.loop-step._step _ _ _ c.loop-step.invariant.1 c.take_first.ensures.goes
-
-pub returns-in-Ok-false-clause-done : goal.returns-in-Ok-false-clause-done
-returns-in-Ok-false-clause-done g c = record {
-  taken = c.loop-step._step;
-  goes_on =
-      goes_on_then c.loop-step._step _ _ _ c.loop-step.invariant.1 0 c.loop-step._step (omega arith)
-      (subst (λ b. GoesOn (one b) c.loop-step.wires c.take_first.new.wires) c.in-Ok-false.field-0-test c.in-Ok-false.ensures.took);
-  few = omega (arith, c.loop-step);
-  ended = inl (c.in-Ok-false.ensures.none c.in-Ok-false.field-0-test);
+pub returns-in-Ok-false-clause-did : goal.returns-in-Ok-false-clause-did
+returns-in-Ok-false-clause-did g c = record {
+  goes = goes_then c.loop-step._step _ _ _ c.loop-step.invariant.1 c.take_first.ensures.goes;
+  done = record {
+    taken = c.loop-step._step;
+    goes_on =
+        goes_on_then c.loop-step._step _ _ _ c.loop-step.invariant.1 0 c.loop-step._step (omega arith)
+        (subst (λ b. GoesOn (one b) c.loop-step.wires c.take_first.new.wires) c.in-Ok-false.field-0-test c.in-Ok-false.ensures.took);
+    few = omega (arith, c.loop-step);
+    ended = inl (c.in-Ok-false.ensures.none c.in-Ok-false.field-0-test);
+  };
+  full = λ e. cc;
+  refused = tt;
 }
 
 pub returns-in-Ok-false-clause-received : goal.returns-in-Ok-false-clause-received
@@ -62,8 +65,13 @@ returns-in-Ok-false-clause-received g c = λ h. c.take_first.ensures.received (c
 pub returns-in-Err-clause-ports : goal.returns-in-Err-clause-ports
 returns-in-Err-clause-ports g c = c.take_first.ensures.ports ∙ c.loop-step.invariant.0
 
-pub returns-in-Err-clause-goes : goal.returns-in-Err-clause-goes
-returns-in-Err-clause-goes g c = goes_then c.loop-step._step _ _ _ c.loop-step.invariant.1 c.take_first.ensures.goes
+pub returns-in-Err-clause-did : goal.returns-in-Err-clause-did
+returns-in-Err-clause-did g c = record {
+  goes = goes_then c.loop-step._step _ _ _ c.loop-step.invariant.1 c.take_first.ensures.goes;
+  done = tt;
+  full = λ e. let same : c.in-Err.error ≡ Full = cc in c.in-Err.ensures.full (ap Err same);
+  refused = c.in-Err.ensures.refused;
+}
 
 pub returns-in-Err-clause-received : goal.returns-in-Err-clause-received
 returns-in-Err-clause-received g c = λ h. c.take_first.ensures.received (c.loop-step.invariant.2 h)

@@ -3,4 +3,4 @@ use Rattle.zip_zones.specs.Zones.{each_once}
 use Rattle.zip_zones.proofs.known.zones_of.Given as goal
 
 abbrev pub invariant-loop-name : goal.invariant-loop-name
-invariant-loop-name l = l.zones.keys ≡ each_once (take l.name-index l.names)
+invariant-loop-name l = l.zones ≡ each_once (take l.name-index l.names)

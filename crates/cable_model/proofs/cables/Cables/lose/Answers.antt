@@ -2,7 +2,7 @@ use Rattle.std.proofs.Common.{rules, ◌≡◌, ◌≤◌, true, false, arith, l
 use Rattle.std.specs.List.{list_any}
 use Rattle.cable_model.proofs.Stamps.{put_below}
 use Rattle.cable_model.proofs.Stored.{when_some}
-use Rattle.cable_model.proofs.Takes.{no_spare, same_spare}
+use Rattle.cable_model.proofs.Takes.{no_spare, roomy}
 use Rattle.cable_model.specs.Books.{said as said_in}
 use Rattle.std.specs.Prelude.{is_some}
 use Rattle.cable_model.specs.Logs.{transcript as said}
@@ -23,12 +23,7 @@ returns-then-is_none-clause-full c =
     search rules
 
 pub invariant_of-self : goal.invariant_of-self
-invariant_of-self c = (
-  c.make_room.ensures.kept c.self.inside.seats c.self.invariant.0,
-  c.self.invariant.1,
-  same_spare c.self.inside.seats c.self.inside.limit c.self.inside.log c.make_room.new.log c.self.inside.spare
-      c.make_room.ensures.same c.self.invariant.2,
-)
+invariant_of-self c = roomy c.make_room.ensures.same c.self.invariant
 
 pub returns-in-Err-clause-not_pending : goal.returns-in-Err-clause-not_pending
 returns-in-Err-clause-not_pending c =
@@ -54,7 +49,7 @@ pub invariant_of-self-2 : goal.invariant_of-self-2
 invariant_of-self-2 c =
     let s = c.self.inside.seats in
     let limit = c.self.inside.limit in
-    let k = c.make_room.ensures.kept s c.self.invariant.0 in
+    let k = (roomy c.make_room.ensures.same c.self.invariant).0 in
     let kept = ap (λ k. length k.items) c.lost.ensures.kept in
     let used = c.lost.ensures.uses in
     let few : vec_len c.lost.new.log.lines ≤ limit = omega (arith, c.lost.ensures.one, c.in-Ok.ensures.within) in (

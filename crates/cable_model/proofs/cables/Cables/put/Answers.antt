@@ -1,29 +1,24 @@
 use Rattle.std.proofs.Common.{[], ◌∷◌, ◌≡◌, ◌≤◌, ◌*◌, arith, ap, length, vec_len, ◌∙◌}
 use Rattle.cable_model.proofs.Steps.{adds_of, grows_then, same_grows, told}
-use Rattle.cable_model.proofs.Takes.{no_spare, same_spare}
+use Rattle.cable_model.proofs.Takes.{no_spare, roomy}
 use Rattle.cable_model.specs.Books.{Grows}
 use Rattle.cable_model.specs.Outcomes.{framed}
 use Rattle.cable_model.proofs.cables.Cables.put.Goals as goal
 use Rattle.cable_model.specs.Places.{widest}
 
 pub invariant_of-self : goal.invariant_of-self
-invariant_of-self c = (
-  c.make_room.ensures.kept c.self.inside.seats c.self.invariant.0,
-  c.self.invariant.1,
-  same_spare c.self.inside.seats c.self.inside.limit c.self.inside.log c.make_room.new.log c.self.inside.spare
-      c.make_room.ensures.same c.self.invariant.2,
-)
+invariant_of-self c = roomy c.make_room.ensures.same c.self.invariant
 
 pub put-requires-clause-book : goal.put-requires-clause-book
 put-requires-clause-book c =
     (c.keep-number.ensures.book c.self.inside.seats
-    (c.make_room.ensures.kept c.self.inside.seats c.self.invariant.0).book)
+    (roomy c.make_room.ensures.same c.self.invariant).0.book)
 
 pub invariant_of-self-2 : goal.invariant_of-self-2
 invariant_of-self-2 c =
     let s = c.self.inside.seats in
     let limit = c.self.inside.limit in
-    let k = c.make_room.ensures.kept s c.self.invariant.0 in
+    let k = (roomy c.make_room.ensures.same c.self.invariant).0 in
     let kept = ap (λ k. length k.items) c.put.ensures.kept in
     let lines = ap (λ v. v.len) c.keep-number.ensures.lines in
     let number = c.keep-number.ensures.uses in
@@ -47,7 +42,7 @@ pub returns-clause-ok : goal.returns-clause-ok
 returns-clause-ok c =
     let s = c.self.inside.seats in
     let same = same_grows c.self.inside.log c.make_room.new.log c.make_room.ensures.same in
-    let kept = c.keep-number.ensures.grows s (c.make_room.ensures.kept s c.self.invariant.0).book in
+    let kept = c.keep-number.ensures.grows s (roomy c.make_room.ensures.same c.self.invariant).0.book in
     let put : Grows c.keep-number.new.log c.put.new.log
     (framed (record { stamp = c.make_room.new.log.next_stamp; cable = c.args.cable; station = c.args.station }) c.args.to c.args.kind
     c.args.bytes ∷ []) [] =

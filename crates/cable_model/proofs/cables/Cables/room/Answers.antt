@@ -1,20 +1,15 @@
 use Rattle.std.proofs.Common.{arith, ap, ◌≡◌, ◌*◌}
-use Rattle.cable_model.proofs.Takes.{same_spare}
+use Rattle.cable_model.proofs.Takes.{roomy}
 use Rattle.cable_model.proofs.cables.Cables.room.Goals as goal
 use Rattle.cable_model.specs.Places.{widest}
 
 pub invariant_of-self : goal.invariant_of-self
-invariant_of-self c = (
-  c.make_spare.ensures.kept c.self.inside.seats c.self.invariant.0,
-  c.self.invariant.1,
-  same_spare c.self.inside.seats c.self.inside.limit c.self.inside.log c.make_spare.new.log c.self.inside.spare
-      c.make_spare.ensures.same c.self.invariant.2,
-)
+invariant_of-self c = roomy c.make_spare.ensures.same c.self.invariant
 
 pub invariant_of-self-2 : goal.invariant_of-self-2
 invariant_of-self-2 c =
     let s = c.self.inside.seats in
-    let k = c.make_spare.ensures.kept s c.self.invariant.0 in
+    let k = (roomy c.make_spare.ensures.same c.self.invariant).0 in
     let room = c.in-Ok.ensures in
     let frames : c.args.more * c.widest.result ≡ c.args.more * widest s = ap (λ n. c.args.more * n) c.widest.ensures.value in (
       k,

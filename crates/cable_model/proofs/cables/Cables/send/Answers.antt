@@ -1,7 +1,7 @@
 use Rattle.std.proofs.Common.{◌≡◌, ◌*◌, ◌++◌, [], ◌∷◌, List, ℕ, ◌≤◌, vec_len, arith, length, subst, ap, append_assoc, ap₂, ◌∙◌}
 use Rattle.cable_model.proofs.RoomLeft.{room_for}
 use Rattle.cable_model.proofs.Steps.{adds_of, grows_then, same_grows, tells_then, told}
-use Rattle.cable_model.proofs.Takes.{enough, no_spare, same_spare, sent_room, settle_room, settled_room, waiting_long}
+use Rattle.cable_model.proofs.Takes.{enough, no_spare, roomy, sent_room, settle_room, settled_room, waiting_long}
 use Rattle.cable_model.specs.Books.{Grows, HasRoom, held as held_in, said as said_in}
 use Rattle.cable_model.specs.Logs.{Cabling}
 use Rattle.cable_model.specs.Outcomes.{Places, Sender, held_next, leg}
@@ -13,15 +13,10 @@ use Rattle.cable_model.proofs.cables.Cables.send.Goals as goal
 use Rattle.cable_model.specs.Places.{widest}
 
 pub invariant_of-self : goal.invariant_of-self
-invariant_of-self g c = (
-  c.make_room.ensures.kept c.self.inside.seats c.self.invariant.0,
-  c.self.invariant.1,
-  same_spare c.self.inside.seats c.self.inside.limit c.self.inside.log c.make_room.new.log c.self.inside.spare
-      c.make_room.ensures.same c.self.invariant.2,
-)
+invariant_of-self g c = roomy c.make_room.ensures.same c.self.invariant
 
 pub sent-requires-clause-book : goal.sent-requires-clause-book
-sent-requires-clause-book g c = (c.make_room.ensures.kept c.self.inside.seats c.self.invariant.0).book
+sent-requires-clause-book g c = (roomy c.make_room.ensures.same c.self.invariant).0.book
 
 pub sent-requires-clause-room : goal.sent-requires-clause-room
 sent-requires-clause-room g c =
@@ -44,7 +39,7 @@ settle-requires-clause-room g c =
     let rooms = c.self.inside.rooms in
     let mid = c.make_room.new.log in
     let new = c.sent.new.log in
-    let k = c.make_room.ensures.kept s c.self.invariant.0 in
+    let k = (roomy c.make_room.ensures.same c.self.invariant).0 in
     let places : Places = record { finds = g.R.Resolve.finds c.args.resolver.now; lists = g.R.Resolve.lists c.args.resolver.now } in
     let known : rooms ≡ known_rooms → IsAnswering places =
     λ e. c.requires.known (subst (λ (v : Cabling). v.rooms ≡ known_rooms) c.self.view_is e) in
@@ -61,7 +56,7 @@ settle-requires-clause-room g c =
 
 pub settle-requires-clause-few : goal.settle-requires-clause-few
 settle-requires-clause-few g c =
-    let k = c.make_room.ensures.kept c.self.inside.seats c.self.invariant.0 in
+    let k = (roomy c.make_room.ensures.same c.self.invariant).0 in
     let mid = c.make_room.new.log in
     let none = ap length k.idle in
     omega (arith, c.sent.ensures.uses.waiting, none, mid.waiting.ok.0)
@@ -72,7 +67,7 @@ invariant_of-self-2 g c =
     let rooms = c.self.inside.rooms in
     let mid = c.make_room.new.log in
     let new = c.sent.new.log in
-    let k = c.make_room.ensures.kept s c.self.invariant.0 in
+    let k = (roomy c.make_room.ensures.same c.self.invariant).0 in
     let places : Places = record { finds = g.R.Resolve.finds c.args.resolver.now; lists = g.R.Resolve.lists c.args.resolver.now } in
     let known : rooms ≡ known_rooms → IsAnswering places =
     λ e. c.requires.known (subst (λ (v : Cabling). v.rooms ≡ known_rooms) c.self.view_is e) in
@@ -119,7 +114,7 @@ returns-clause-ok g c =
     let es = entries (next_stamp (said_in old)) in
     let grows = subst (λ n. Grows mid new (entries n) waits) stamp c.sent.ensures.grows in
     let first = grows_then old mid new [] es [] waits (same_grows old mid room) grows in
-    let held = (waiting_long mid new es waits (c.make_room.ensures.kept s c.self.invariant.0).idle grows).0 in
+    let held = (waiting_long mid new es waits (roomy c.make_room.ensures.same c.self.invariant).0.idle grows).0 in
     let done = c.settle.ensures.settled in
     let x = c.args.resolver.now in
     let y = c.settle.new.resolver in

@@ -7,7 +7,7 @@ use Rattle.std.proofs.lemmas.Bool.{and_parts}
 use Rattle.cable_model.proofs.Books.{stamp_is}
 use Rattle.cable_model.proofs.Legs.{needs}
 use Rattle.cable_model.proofs.Steps.{adds_of, grows_then, same_grows, tells_then, told}
-use Rattle.cable_model.proofs.Takes.{enough, known_room, no_spare, none_long, same_said, same_spare, seat_there, take_few, take_more}
+use Rattle.cable_model.proofs.Takes.{enough, known_room, no_spare, none_long, roomy, same_said, seat_there, take_few, take_more}
 use Rattle.cable_model.proofs.Takes.{take_spare}
 use Rattle.cable_model.specs.Books.{HasHeldRoom, HasRoom, IsSpare, pair_at, said as said_in, seat_at}
 use Rattle.cable_model.specs.Logs.{Cabling, transcript as said}
@@ -31,12 +31,7 @@ returns-in_default-clause-full g c =
     search rules
 
 pub invariant_of-self : goal.invariant_of-self
-invariant_of-self g c = (
-  c.make_room.ensures.kept c.self.inside.seats c.self.invariant.0,
-  c.self.invariant.1,
-  same_spare c.self.inside.seats c.self.inside.limit c.self.inside.log c.make_room.new.log c.self.inside.spare
-      c.make_room.ensures.same c.self.invariant.2,
-)
+invariant_of-self g c = roomy c.make_room.ensures.same c.self.invariant
 
 pub returns-in-Err-clause-not_pending : goal.returns-in-Err-clause-not_pending
 returns-in-Err-clause-not_pending g c =
@@ -46,12 +41,7 @@ returns-in-Err-clause-not_pending g c =
     search rules
 
 pub invariant_of-self-in-Err-make_ready : goal.invariant_of-self-in-Err-make_ready
-invariant_of-self-in-Err-make_ready g c = (
-  c.make_room.ensures.kept c.self.inside.seats c.self.invariant.0,
-  c.self.invariant.1,
-  same_spare c.self.inside.seats c.self.inside.limit c.self.inside.log c.make_room.new.log c.self.inside.spare
-      c.make_room.ensures.same c.self.invariant.2,
-)
+invariant_of-self-in-Err-make_ready g c = roomy c.make_room.ensures.same c.self.invariant
 
 pub returns-in-Err-make_ready-clause-not_pending : goal.returns-in-Err-make_ready-clause-not_pending
 returns-in-Err-make_ready-clause-not_pending g c =
@@ -75,12 +65,7 @@ receive-requires g c =
     record { port = subst (λ n. n < g.S.Station.ports_of c.args.taker.now) (sym port) less }
 
 pub invariant_of-self-in-Err-receive : goal.invariant_of-self-in-Err-receive
-invariant_of-self-in-Err-receive g c = (
-  c.make_room.ensures.kept c.self.inside.seats c.self.invariant.0,
-  c.self.invariant.1,
-  same_spare c.self.inside.seats c.self.inside.limit c.self.inside.log c.make_room.new.log c.self.inside.spare
-      c.make_room.ensures.same c.self.invariant.2,
-)
+invariant_of-self-in-Err-receive g c = roomy c.make_room.ensures.same c.self.invariant
 
 pub returns-in-Err-receive-clause-not_pending : goal.returns-in-Err-receive-clause-not_pending
 returns-in-Err-receive-clause-not_pending g c =
@@ -131,11 +116,11 @@ add_all-requires-clause-more g c =
 
 pub add_all-requires-clause-idle : goal.add_all-requires-clause-idle
 add_all-requires-clause-idle g c =
-    ap (λ v. v.items) c.took.ensures.waiting ∙ (c.make_room.ensures.kept c.self.inside.seats c.self.invariant.0).idle
+    ap (λ v. v.items) c.took.ensures.waiting ∙ (roomy c.make_room.ensures.same c.self.invariant).0.idle
 
 pub add_all-requires-clause-book : goal.add_all-requires-clause-book
 add_all-requires-clause-book g c =
-    c.took.ensures.book c.self.inside.seats (c.make_room.ensures.kept c.self.inside.seats c.self.invariant.0).book
+    c.took.ensures.book c.self.inside.seats (roomy c.make_room.ensures.same c.self.invariant).0.book
 
 pub invariant_of-self-2 : goal.invariant_of-self-2
 invariant_of-self-2 g c =
@@ -154,7 +139,7 @@ invariant_of-self-2 g c =
     λ e. c.requires.known (subst (λ (v : Cabling). v.rooms ≡ known_rooms) c.self.view_is e) in
     let limit = c.self.inside.limit in
     let last = c.add_all.new.log in
-    let k = c.make_room.ensures.kept s c.self.invariant.0 in
+    let k = (roomy c.make_room.ensures.same c.self.invariant).0 in
     let all = c.add_all.ensures in
     let kept = ap (λ k. length k.items) c.took.ensures.kept in
     let spare = ap all_spare same in

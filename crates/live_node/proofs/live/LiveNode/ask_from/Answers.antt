@@ -6,4 +6,4 @@ use Rattle.live_node.proofs.live.LiveNode.ask_from.Goals as goal
 pub returns-clause-good : goal.returns-clause-good
 returns-clause-good c =
     let inside : IsWayIn 1 (Some c.way_from.result) = rw c.way_from.ensures (omega arith, tt) in
-    on_ok_weaker c.put.result (λ good. good 1 inside) c.put.ensures.good
+    on_ok_weaker c.put.result (λ _. c.put.ensures.good 1 inside) c.put.ensures.puts.put

@@ -1,7 +1,12 @@
 use Rattle.std.proofs.Common.{arith, length, ◌<◌, ◌≡◌}
 use Rattle.rtmp.specs.Routes.{beside}
-use Rattle.rtmp.proofs.Maps.{directed_map}
+use Rattle.rtmp.proofs.Maps.{beside_apart, directed_map}
 use Rattle.rtmp.proofs.plain.PlainTableRouteTable.direct.Goals as goal
+
+pub put-requires-clause-map : goal.put-requires-clause-map
+put-requires-clause-map c =
+    let same = (c.in_ok-reserve.ensures {u = tt}).items in
+    rw (c.keep_beside.ensures.kept, same) (beside_apart c.args.range c.self.inside.rows.items c.self.invariant)
 
 pub invariant_of-self-2 : goal.invariant_of-self-2
 invariant_of-self-2 c =

@@ -1,31 +1,40 @@
-use Rattle.std.proofs.Common.{◌≡◌, Some, true, refl, sym, ap, ◌∙◌, arith}
-use Rattle.std.specs.Option.{option_copied}
-use Rattle.rtmp.specs.Routes.{row_at, is_new}
-use Rattle.rtmp.proofs.Heard.{there, new_map}
+use Rattle.std.proofs.Common.{◌≡◌, true, refl, sym, ◌∙◌, arith}
+use Rattle.at_base.proofs.Spans.{item_read}
+use Rattle.at_base.specs.Spans.{IsAt, IsBefore}
+use Rattle.rtmp.specs.Routes.{heard_row, is_new}
+use Rattle.rtmp.proofs.Heard.{There, new_map, there}
+use Rattle.rtmp.proofs.Maps.{rows_apart}
 use Rattle.rtmp.proofs.plain.PlainTableRouteTable.hear.Goals as goal
 
--- the table after hearing, by the row that was found
+pub place_near-requires : goal.place_near-requires
+place_near-requires c = rw c.as_slice.ensures.value (rows_apart c.self.inside.rows.items c.self.invariant)
+
+-- the row that was found
+found : (c : goal.After-self-in-Ok-1)
+    → There c.args.range c.args.distance c.args.source c.args.port c.self.inside.rows.items c.in-Ok.place c.index.result.now
+found c =
+    let rows = c.self.inside.rows.items in
+    let at : IsAt (λ r. r.range) c.args.range rows c.in-Ok.place = rw (← c.as_slice.ensures.value) (c.in-Ok.ensures {u = tt}).found in
+    there c.args.range c.args.distance c.args.source c.args.port rows c.in-Ok.place c.index.result.now at c.self.invariant
+    (item_read (λ r. r.range) c.args.range rows c.in-Ok.place at c.index.result.now c.index.ensures)
+
 pub invariant_of-self : goal.invariant_of-self
-invariant_of-self c =
-    let found : row_at c.args.range c.self.inside.rows.items ≡ Some c.in-Some.row.now =
-    rw c.as_slice-2.ensures.value at (sym c.row_of.ensures ∙ ap option_copied c.in-Some.is) in
-    let t =
-    there c.args.range c.args.distance c.args.source c.args.port c.self.inside.rows.items c.in-Some.row.now c.self.invariant found in
-    rw (c.replace.ensures, c.after_hearing-row.ensures) t.map
+invariant_of-self c = rw c.after_hearing-row.ensures (found c).map
 
-pub returns-in-Some-clause-ok : goal.returns-in-Some-clause-ok
-returns-in-Some-clause-ok c =
-    let found : row_at c.args.range c.self.inside.rows.items ≡ Some c.in-Some.row.now =
-    rw c.as_slice-2.ensures.value at (sym c.row_of.ensures ∙ ap option_copied c.in-Some.is) in
-    let t =
-    there c.args.range c.args.distance c.args.source c.args.port c.self.inside.rows.items c.in-Some.row.now c.self.invariant found in
-    rw (← c.self.view_is, t.is, c.replace.ensures, c.after_hearing-row.ensures) refl
+pub returns-in-Ok-clause-ok : goal.returns-in-Ok-clause-ok
+returns-in-Ok-clause-ok c = rw (← c.self.view_is, c.after_hearing-row.ensures, (found c).is) refl
 
-pub invariant_of-self-2 : goal.invariant_of-self-2
-invariant_of-self-2 c =
-    let same = (c.in_ok-reserve.ensures {u = tt}).items in
-    let is : is_new c.args.range c.args.distance c.self.inside.rows.items ≡ true =
-    rw c.as_slice-3.ensures.value at (sym c.is_new.ensures.value ∙ c.if-not-is_new.false) in
-    rw (c.put.ensures, c.heard_row.ensures, same)
-    (new_map c.args.range c.args.distance c.args.source c.args.port c.self.inside.rows.items c.self.invariant c.recall_valid.ensures is
-    (omega arith))
+pub returns-in-Ok-clause-full : goal.returns-in-Ok-clause-full
+returns-in-Ok-clause-full c = (λ e. cc, λ h. absurd ((found c).old (rw c.self.view_is h.0)))
+
+pub invariant_of-self-in-Err : goal.invariant_of-self-in-Err
+invariant_of-self-in-Err c =
+    let rows = c.self.inside.rows.items in
+    let at : IsBefore (λ r. r.range) c.args.range rows c.in-Err.place =
+    rw (← c.as_slice.ensures.value) (c.in-Err.ensures {u = tt}).missing in
+    let row = heard_row c.args.range c.args.distance c.args.source c.args.port in
+    let same = (c.in_ok-reserve-in-Err.ensures {u = tt}).items in
+    let is : is_new c.args.range c.args.distance rows ≡ true =
+    rw c.as_slice-in-Err.ensures.value at (sym c.is_new.ensures.value ∙ c.if-not-is_new.false) in
+    rw (c.insert.ensures.items, c.unwrap.ensures, c.heard_row-row.ensures, same, ← at.put row refl)
+    (new_map c.args.range c.args.distance c.args.source c.args.port rows c.self.invariant c.recall_valid.ensures is (omega arith))

@@ -21,11 +21,11 @@ invariant_of-self g c =
     let old = c.self.inside in
     let new = c.run_phases-played.new.wires in
     laid_after _ _ c.self.invariant refl c.run_phases-played.ensures.ports
-    (c.run_phases-played.ensures.goes.seats ∙ ap (λ (w : Wires). w.cabling.seats) c.set_losing.ensures)
-    (c.run_phases-played.ensures.goes.limit ∙ ap (λ (w : Wires). w.cabling.limit) c.set_losing.ensures) c.self.invariant.few
+    (c.run_phases-played.ensures.did.goes.seats ∙ ap (λ (w : Wires). w.cabling.seats) c.set_losing.ensures)
+    (c.run_phases-played.ensures.did.goes.limit ∙ ap (λ (w : Wires). w.cabling.limit) c.set_losing.ensures) c.self.invariant.few
     (due_ticks old.plan old.passed old.wires new
     (ticks_goes old.plan old.passed old.wires new c.in-Ok.losing.items c.in-Ok.ensures.losing c.self.invariant.seats
-    c.recall_once.ensures c.set_losing.new.self c.set_losing.ensures c.run_phases-played.ensures.goes)
+    c.recall_once.ensures c.set_losing.new.self c.set_losing.ensures c.run_phases-played.ensures.did.goes)
     c.self.invariant.due)
     (c.run_phases-played.ensures.received
     (subst (λ (w : Wires). AreReceived (happened w) (map got old.stations.items)) (sym c.set_losing.ensures) c.self.invariant.received))
@@ -36,7 +36,7 @@ returns-clause-ticks g c =
     let new = c.run_phases-played.new.wires in
     subst (λ (w : Worldly). Ticks w.plan w.now w.wires new) c.self.view_is
     (ticks_goes old.plan old.passed old.wires new c.in-Ok.losing.items c.in-Ok.ensures.losing c.self.invariant.seats
-    c.recall_once.ensures c.set_losing.new.self c.set_losing.ensures c.run_phases-played.ensures.goes)
+    c.recall_once.ensures c.set_losing.new.self c.set_losing.ensures c.run_phases-played.ensures.did.goes)
 
 pub returns-clause-ticks_on : goal.returns-clause-ticks_on
 returns-clause-ticks_on g c =
@@ -45,7 +45,7 @@ returns-clause-ticks_on g c =
     subst (λ (w : Worldly). OnOk c.run_phases-played.result (TicksOn w.plan w.now w.wires new)) c.self.view_is
     (on_ok_weaker c.run_phases-played.result
     (λ d. ticks_ends old.plan old.passed old.wires new c.in-Ok.losing.items c.in-Ok.ensures.losing c.self.invariant.seats
-    c.recall_once.ensures c.set_losing.new.self c.set_losing.ensures d) c.run_phases-played.ensures.done)
+    c.recall_once.ensures c.set_losing.new.self c.set_losing.ensures d) c.run_phases-played.ensures.did.done)
 
 pub returns-clause-plays : goal.returns-clause-plays
 returns-clause-plays g c =

@@ -1,7 +1,13 @@
 use Rattle.std.proofs.Common.{◌≡◌}
 use Rattle.zip_zones.specs.Zones.{set_list}
-use Rattle.zip_zones.proofs.Tables.{with_map, set_known}
+use Rattle.zip_zones.proofs.Tables.{lists_apart, set_known, with_map}
 use Rattle.zip_zones.proofs.table.ZoneTable.set.Goals as goal
+
+pub check_room-requires : goal.check_room-requires
+check_room-requires c = rw c.as_slice.ensures.value (lists_apart c.self.inside.lists.items c.self.invariant)
+
+pub put-requires-clause-map : goal.put-requires-clause-map
+put-requires-clause-map c = rw c.reserve.ensures.items (lists_apart c.self.inside.lists.items c.self.invariant)
 
 pub invariant_of-self-2 : goal.invariant_of-self-2
 invariant_of-self-2 c =

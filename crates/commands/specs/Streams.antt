@@ -1,0 +1,85 @@
+-- What a call used of its inputs, and wrote to its outputs.
+use Rattle.std.specs.Prelude.{◌≡◌, ◌≢◌, ◌⊎◌, ℕ, List, Option, Result, Err, IfErr, IfSome, IsErrAnd, IsOkUnless, IsSome, OnErr, OnOk}
+use Rattle.std.specs.Io.KnownBytes.{IsAtEnd}
+use Rattle.at_base.specs.Spelling.{Spells}
+use Rattle.at_base.specs.declared.error.Error.{Error}
+use Rattle.at_base.specs.declared.error.Error.TheVariants.{BadScript, Memory, ReadFault, WriteFault}
+use Rattle.script.specs.Scripts.{IsBadAt, IsScript}
+use Rattle.script.specs.declared.step.Step.{Step}
+use Rattle.table_image.specs.Internet.{Internet}
+use Rattle.table_image.specs.Reading.{IsFirstFlaw, refusal}
+use Rattle.table_image.specs.Spelling.{image_spelling}
+use Rattle.table_image.specs.declared.flaw.Flaw.{Flaw}
+use Rattle.commands.specs.declared.input.TheConstants.{READS}
+
+-- ---- Inputs: what is left of one, its failed reads before and after the call, and the reason of the last
+
+-- After Ok the input was read to its end, and no read failed. The reason of a failed read is kept, and it is reported.
+pub record Reads {A X : Type 0} (left : Option (List ℕ)) (before after : ℕ) (why : Option X) (result : Result A Error) : Type 0 where
+  pub end : OnOk result (IsAtEnd left)
+  pub stays : OnOk result (after ≡ before)
+  pub reason : after ≢ before → IsSome why
+  pub reported : after ≢ before → result ≡ Err ReadFault
+
+-- So it is, and the call reads nothing else: ReadFault comes of a failed read, or after the greatest number of reads.
+pub record Uses {A X : Type 0} (left : Option (List ℕ)) (before after reads : ℕ) (why : Option X) (result : Result A Error) : Type 0 where
+  pub end : OnOk result (IsAtEnd left)
+  pub stays : OnOk result (after ≡ before)
+  pub reason : after ≢ before → IsSome why
+  pub reported : after ≢ before → result ≡ Err ReadFault
+  pub read_fault : result ≡ Err ReadFault → (after ≢ before) ⊎ (reads ≡ READS)
+  pub limit : result ≡ Err ReadFault → after ≡ before → reads ≡ READS
+
+-- ---- Outputs: their failed writes before and after the call
+
+-- WriteFault comes of a failed write, and after Ok none failed.
+pub record Wrote {A : Type 0} (before after : ℕ) (result : Result A Error) : Type 0 where
+  pub write_fault : result ≡ Err WriteFault → after ≢ before
+  pub stays : OnOk result (after ≡ before)
+
+-- The same of lines and of an image that is written after them: if that can't be written, the lines were.
+pub record WroteImage {A : Type 0} (SameLines SameImage : Type 0) (before after image_before image_after : ℕ) (result : Result A Error)
+    : Type 0 where
+  pub write_fault : result ≡ Err WriteFault → (after ≢ before) ⊎ (image_after ≢ image_before)
+  pub blamed : OnErr result (SameImage ⊎ (after ≡ before))
+  pub nothing_written : IfErr result (λ e. e ≢ WriteFault → SameLines × SameImage)
+  pub stays : OnOk result (after ≡ before)
+  pub image_stays : OnOk result (image_after ≡ image_before)
+
+-- The lines, and then the image, were to be written, and nothing else can fail.
+pub record Hands {A : Type 0} (SameImage Lines : Type 0) (before after image_before image_after : ℕ) (result : Result A Error)
+    : Type 0 where
+  pub fault : OnErr result ((after ≢ before) ⊎ (image_after ≢ image_before))
+  pub blamed : OnErr result (SameImage ⊎ (after ≡ before))
+  pub refused : IsOkUnless result WriteFault
+  pub stays : OnOk result (after ≡ before)
+  pub image_stays : OnOk result (image_after ≡ image_before)
+  pub order : SameImage ⊎ Lines
+
+-- ---- Errors, by the bytes of the inputs where they are known
+
+-- Bytes that spell no image have the error of their first flaw, and bytes that spell one have none of its kind.
+pub record Judged {A : Type 0} (image : Option (List ℕ)) (result : Result A Error) : Type 0 where
+  pub flaw : IfSome image (λ bytes. (f : Flaw) → IsFirstFlaw bytes f → IsErrAnd result (λ e.
+      (e ≡ refusal bytes f) ⊎ (e ≡ ReadFault) ⊎ (e ≡ Memory)))
+  pub spelled : IfSome image (λ bytes. (i : Internet) → Spells image_spelling bytes i → IfErr result (λ e.
+      (e ≡ Memory) ⊎ (e ≡ ReadFault) ⊎ (e ≡ WriteFault)))
+
+-- Bytes that spell no image have the error of their first flaw, whatever the script is; if they spell one, a script with a
+-- bad line has the error of its first bad line, and a script without has none of its kind.
+pub record Run {A : Type 0} (image script : Option (List ℕ)) (result : Result A Error) : Type 0 where
+  pub flaw : IfSome image (λ bytes. (f : Flaw) → IsFirstFlaw bytes f → IsErrAnd result (λ e.
+      (e ≡ refusal bytes f) ⊎ (e ≡ ReadFault) ⊎ (e ≡ Memory)))
+  pub bad_line : IfSome image (λ bytes. IfSome script (λ text. (i : Internet) (n : ℕ) → Spells image_spelling bytes i
+      → IsBadAt text n → IsErrAnd result (λ e. (e ≡ BadScript n) ⊎ (e ≡ ReadFault) ⊎ (e ≡ Memory))))
+  pub good : IfSome image (λ bytes. IfSome script (λ text. (i : Internet) (steps : List Step) → Spells image_spelling bytes i
+      → IsScript text steps → IfErr result (λ e. (e ≡ Memory) ⊎ (e ≡ ReadFault) ⊎ (e ≡ WriteFault))))
+
+-- ---- The order of two inputs
+
+-- The image that was read to its end is kept whatever the result is, and the script is untouched unless it is kept, and
+-- where it has a flaw.
+pub record First {A : Type 0} (image : Option (List ℕ)) (Untouched Kept : Type 0) (result : Result A Error) : Type 0 where
+  pub kept : result ≢ Err ReadFault → result ≢ Err Memory → Kept
+  pub touched : Untouched ⊎ Kept
+  pub image_first : IfSome image (λ bytes. (f : Flaw) → IsFirstFlaw bytes f → Untouched)

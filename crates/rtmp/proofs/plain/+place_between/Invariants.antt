@@ -1,5 +1,0 @@
-use Rattle.std.proofs.Common.{◌-◌}
-use Rattle.rtmp.proofs.plain.+place_between.Given as goal
-
-abbrev pub decreases-place_between : goal.decreases-place_between
-decreases-place_between l = l.high - l.low
