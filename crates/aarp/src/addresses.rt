@@ -3,29 +3,29 @@
 ghost use Rattle.std.specs.Prelude.{◌≡◌, ◌<◌, ◌≤◌, ◌==◌, [], ◌∷◌, ◌++◌, length};
 ghost use Rattle.std.specs.List.{list_any};
 ghost use Rattle.at_base.specs.Address.{same_address};
+ghost use Rattle.at_base.specs.Limits.{max_held};
 
 use at_base::Addr;
+use at_base::limits::MAX_HELD;
 use std::marker::Model;
 
-/// The most addresses in a list.
-const MAX_ADDRESSES: usize = 16;
-
-/// A list of at most 16 addresses, kept inline.
+/// A list of at most `MAX_HELD` addresses, kept inline.
 #[derive(Debug, Drop)]
 pub struct Addresses {
-    items: [Addr; MAX_ADDRESSES],
+    items: [Addr; MAX_HELD],
     len: usize,
 }
 
 impl Model for Addresses {
     ghost use Rattle.std.specs.Prelude.{◌≤◌, List, take};
     ghost use Rattle.at_base.specs.declared.address.Addr.{Addr as AddrValue};
+    ghost use Rattle.at_base.specs.Limits.{max_held};
 
     ghost Value = { List AddrValue };
 
     ghost view = { λ a. take a.len a.items };
 
-    ghost invariant = { λ a. a.len ≤ 16 };
+    ghost invariant = { λ a. a.len ≤ max_held };
 }
 
 impl Addresses {
@@ -34,7 +34,7 @@ impl Addresses {
         ensures { result ≡ [] }
     {
         Addresses {
-            items: [Addr::NONE; MAX_ADDRESSES],
+            items: [Addr::NONE; MAX_HELD],
             len: 0,
         }
     }
@@ -42,7 +42,7 @@ impl Addresses {
     /// The number of addresses, at most 16.
     pub fn len(&self) -> usize
         ensures value { result ≡ length self.now }
-        ensures few { result ≤ 16 }
+        ensures few { result ≤ max_held }
     {
         self.as_slice().len()
     }
@@ -57,7 +57,7 @@ impl Addresses {
     /// The addresses, in order.
     pub fn as_slice(&self) -> &[Addr]
         ensures value { result.now ≡ self.now }
-        ensures few { length self.now ≤ 16 }
+        ensures few { length self.now ≤ max_held }
     {
         &self.items[..self.len]
     }
@@ -71,7 +71,7 @@ impl Addresses {
 
     /// Appends an address. The caller ensures that the list has fewer than 16.
     pub fn push(&mut self, addr: Addr)
-        requires { length self.old < 16 }
+        requires { length self.old < max_held }
         ensures { self.new ≡ self.old ++ addr ∷ [] }
     {
         self.items[self.len] = addr;

@@ -11,3 +11,4 @@ pub mod Loops
 pub mod Prefixes
 pub mod Lists
 pub mod Spans
+pub mod Numbers

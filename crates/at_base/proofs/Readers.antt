@@ -1,11 +1,12 @@
 -- Contracts of whole readers, from the result of reading.
-use Rattle.std.proofs.Common.{◌≡◌, ℕ, Bool, true, List, ◌++◌, Ok, Err, sym, ap, ◌∙◌}
+use Rattle.std.proofs.Common.{◌≡◌, ℕ, Bool, true, List, ◌++◌, Option, Some, None, option_map, Result, Ok, Err, refl, sym, ap, ◌∙◌}
+use Rattle.std.specs.Result.{result_ok}
 use Rattle.at_base.specs.Grammar.{Grammar, Refusals}
 use Rattle.at_base.specs.Spelling.{Spells, Begins}
-use Rattle.at_base.specs.Reading.{read, Reads}
+use Rattle.at_base.specs.Reading.{read, Reads, value_of}
 use Rattle.at_base.specs.Lawful.{IsLawful}
 use Rattle.at_base.proofs.Fields.{IsBytes, ok, ok_is}
-use Rattle.at_base.proofs.Laws.{read_takes, read_again, read_follows, follows_all, read_fault, one_fault}
+use Rattle.at_base.proofs.Laws.{read_takes, read_again, read_follows, read_refused, follows_all, read_fault, one_fault}
 
 -- an input that begins with a value reads as it
 pub begins_read : {W E : Type 0} {s : Bool} {A : Type 0} (r : Refusals W E) (g : Grammar W s A) → IsLawful g → (bytes : List ℕ) (z : A)
@@ -41,3 +42,35 @@ reads_err {E = E} {A = A} r g keep view lawful bytes e fits is =
       λ z b.
           (let same : ok {E = E} (z, b.0) ≡ Err e = sym (begins_read r g lawful bytes z b) ∙ is in absurd cc),
     )
+
+-- the value that a reader returned, if it returned one
+abbrev pub found : {E X Y : Type 0} → (X → Y) → Result X E → Option Y
+found view (Ok x) = Some (view x)
+found view (Err e) = None
+
+-- a reader returns the result of reading
+pub reads_value : {W E : Type 0} {s : Bool} {A X : Type 0} (r : Refusals W E) (g : Grammar W s A) → IsLawful g → (view : X → A)
+    → (bytes : List ℕ) (result : Result X E) → Reads r g (λ d. d) view bytes result → value_of (read r g bytes) ≡ found view result
+reads_value r g lawful view bytes (Ok x) (y, b, same, one) =
+    rw (begins_read r g lawful bytes y b) (ap Some same)
+reads_value r g lawful view bytes (Err e) (f, one, none) = rw (read_refused r g lawful bytes e f) refl
+
+-- a reader that keeps a part of the value returns that part
+pub reads_kept : {W E : Type 0} {s : Bool} {A V X : Type 0} (r : Refusals W E) (g : Grammar W s A) → IsLawful g
+    → (keep : A → V) (view : X → V) (bytes : List ℕ) (result : Result X E) → Reads r g keep view bytes result
+    → option_map keep (value_of (read r g bytes)) ≡ found view result
+reads_kept r g lawful keep view bytes (Ok x) (y, b, same, one) = rw (begins_read r g lawful bytes y b) (ap Some same)
+reads_kept r g lawful keep view bytes (Err e) (f, one, none) = rw (read_refused r g lawful bytes e f) refl
+
+-- what a reader returned, without its refusals
+pub value_ok : {W E : Type 0} {s : Bool} {A : Type 0} (r : Refusals W E) (g : Grammar W s A) → IsLawful g → (bytes : List ℕ)
+    (result : Result A E) → Reads r g (λ d. d) (λ x. x) bytes result → result_ok result ≡ value_of (read r g bytes)
+value_ok r g lawful bytes (Ok x) reads = sym (reads_value r g lawful (λ x. x) bytes (Ok x) reads)
+value_ok r g lawful bytes (Err e) reads = sym (reads_value r g lawful (λ x. x) bytes (Err e) reads)
+
+-- the same, of a reader whose values stand for those of the format
+pub seen_ok : {W E : Type 0} {s : Bool} {A X : Type 0} (r : Refusals W E) (g : Grammar W s A) → IsLawful g → (view : X → A)
+    → (bytes : List ℕ) (result : Result X E) → Reads r g (λ d. d) view bytes result
+    → option_map view (result_ok result) ≡ value_of (read r g bytes)
+seen_ok r g lawful view bytes (Ok x) reads = sym (reads_value r g lawful view bytes (Ok x) reads)
+seen_ok r g lawful view bytes (Err e) reads = sym (reads_value r g lawful view bytes (Err e) reads)

@@ -3,12 +3,13 @@ use Rattle.std.proofs.Common.{◌≡◌, ℕ, zero, suc, ◌+◌, ◌<◌, ◌�
 use Rattle.std.proofs.Common.{Some, None, refl, ap, sym, subst, ◌∙◌, get_or, arith, nat_lt, nat_le, true≢false}
 use Rattle.std.specs.Prelude.{is_some, slice_get, if◌then◌else◌}
 use Rattle.std.specs.List.{list_all, list_any}
-use Rattle.std.proofs.Math.Bool.{and-false}
+use Rattle.std.proofs.Math.Bool.{and-false, or-false, or-true}
 use Rattle.std.proofs.lemmas.Option.{slice_get_read}
 use Rattle.std.proofs.lemmas.Bool.Decides.{nat_tests}
 use Rattle.std.proofs.lemmas.Bool.{and_parts, or_parts, ltb-true, ltb-false, lt-ltb, lt-leb, le-ltb}
-use Rattle.at_base.specs.Range.{Span, overlaps, same_range}
-use Rattle.at_base.specs.Spans.{AreApart, IsAt, IsBefore, are_above, before, item_of, overlaps_another, with_item}
+use Rattle.at_base.specs.Range.{Span, is_between, overlaps, same_range}
+use Rattle.at_base.specs.Spans.{AreApart, IsAt, IsBefore, are_above, before, item_for, item_of, overlaps_another, with_item}
+use Rattle.at_base.proofs.Cases.{by_test}
 use Rattle.at_base.proofs.Ranges.{not_same, one_range}
 
 module _ {A : Type 0} (span : A → Span) where
@@ -266,3 +267,130 @@ module _ {A : Type 0} (span : A → Span) where
       by false t f rest =
           let r = rest f in
           (omega (arith, h.0, h.1, r.0), rw (lt-leb _ _ r.0, and-false (nat_le (span a).start range.end)) r.1)
+
+  -- ---- the item of a network
+
+  -- an item doesn't end before it starts
+  ends_over : (low : ℕ) (items : List A) (i : ℕ) (d : A) → AreApart span low items → i < length items
+      → (span (get_or items i d)).start ≤ (span (get_or items i d)).end
+  ends_over low [] i d h lt = absurd (omega (arith, lt))
+  ends_over low (a ∷ items) zero d h lt = h.1
+  ends_over low (a ∷ items) (suc i) d h lt = ends_over (span a).end items i d h.2 (omega (arith, lt))
+
+  -- items apart rise by their starts
+  pub starts_rise : (low : ℕ) (items : List A) → AreApart span low items → (i j : ℕ) (d : A) → i ≤ j → j < length items
+      → (span (get_or items i d)).start ≤ (span (get_or items j d)).start
+  starts_rise low [] h i j d le l = absurd (omega (arith, l))
+  starts_rise low (a ∷ items) h zero zero d le l = omega arith
+  starts_rise low (a ∷ items) h zero (suc j) d le l =
+      omega (arith, h.1, starts_over (span a).end items j d h.2 (omega (arith, l)))
+  starts_rise low (a ∷ items) h (suc i) zero d le l = absurd (omega (arith, le))
+  starts_rise low (a ∷ items) h (suc i) (suc j) d le l = starts_rise (span a).end items h.2 i j d (omega (arith, le)) (omega (arith, l))
+
+  -- items above a network don't hold it
+  none_holds : (net low : ℕ) (items : List A) → net ≤ low → AreApart span low items → item_for span net items ≡ None
+  none_holds net low [] le h = refl
+  none_holds net low (a ∷ items) le h =
+      let out : is_between (span a).start (span a).end net ≡ false = grind (arith, nat_tests, h.0) in
+      rw out (none_holds net (span a).end items (omega (arith, le, h.0, h.1)) h.2)
+
+  -- where the first item starts above a network, no item holds it
+  pub before_all : (net low : ℕ) (items : List A) → AreApart span low items → before span (suc net) items ≡ 0
+      → item_for span net items ≡ None
+  before_all net low [] h first = refl
+  before_all net low (a ∷ items) h first = by (nat_lt (span a).start (suc net)) refl first
+    where
+      by : (b : Bool) → nat_lt (span a).start (suc net) ≡ b → (if b then suc (before span (suc net) items) else 0) ≡ 0
+          → item_for span net (a ∷ items) ≡ None
+      by true t e = absurd (omega (arith, e))
+      by false t e =
+          let out : is_between (span a).start (span a).end net ≡ false = grind (arith, nat_tests, ltb-false _ _ t) in
+          rw out (none_holds net (span a).end items (omega (arith, ltb-false _ _ t, h.1)) h.2)
+
+  -- an item before a network's place starts below it
+  under_before : (start : ℕ) (items : List A) (i : ℕ) (d : A) → i < before span start items → (span (get_or items i d)).start < start
+  under_before start [] i d lt = absurd (omega (arith, lt))
+  under_before start (a ∷ items) zero d lt = place_cases (λ n. 0 < n → (span a).start < start) a start items (λ t l. t)
+      (λ le l. absurd (omega (arith, l))) lt
+  under_before start (a ∷ items) (suc i) d lt =
+      place_cases (λ n. suc i < n → (i < before span start items → (span (get_or items i d)).start < start) → (span (get_or items i d)).start < start)
+      a start items (λ t l rest. rest (omega (arith, l))) (λ le l rest. absurd (omega (arith, l))) lt (under_before start items i d)
+
+  -- an item ends before the last one that starts below a network starts
+  ends_under : (start high i : ℕ) (items : List A) (d : A) → AreApart span high items → before span start items ≡ suc i
+      → (high < (span (get_or items i d)).start) × ((span (get_or items i d)).start < start)
+  ends_under start high i items d h last =
+      let fits = before_fits start items in
+      (starts_over high items i d h (omega (arith, last, fits)), under_before start items i d (omega (arith, last)))
+
+  -- the place of a network in items with one more, if it isn't the first
+  place_after : (start i : ℕ) (a : A) (items : List A) → before span start (a ∷ items) ≡ suc i
+      → ((span a).start < start) × (before span start items ≡ i)
+  place_after start i a items e =
+      place_cases (λ n. n ≡ suc i → ((span a).start < start) × (before span start items ≡ i)) a start items
+      (λ t e. (t, omega (arith, e))) (λ le e. absurd (omega (arith, e))) e
+
+  from_le : (m n : ℕ) → m < suc n → nat_le m n ≡ true
+  from_le m n lt = grind (arith, nat_tests)
+
+  -- of the items that start at a network or below it, only the last may hold it
+  pub last_before : (net low i : ℕ) (items : List A) (x : A) → AreApart span low items → before span (suc net) items ≡ suc i
+      → x ≡ get_or items i x → item_for span net items ≡ (if nat_le net (span x).end then Some x else None)
+  last_before net low i [] x h last is = absurd (omega (arith, last))
+  last_before net low zero (a ∷ items) x h last is =
+      let p = place_after (suc net) zero a items last in
+      let none = before_all net (span a).end items h.2 p.1 in
+      let from : nat_le (span a).start net ≡ true = from_le (span a).start net p.0 in
+      rw (is, from, none) refl
+  last_before net low (suc i) (a ∷ items) x h last is =
+      let p = place_after (suc net) (suc i) a items last in
+      let e = ends_under (suc net) (span a).end i items x h.2 p.1 in
+      let out : is_between (span a).start (span a).end net ≡ false = ends_first (span a).start (span a).end net (omega (arith, e.0, e.1)) in
+      rw out (last_before net (span a).end i items x h.2 p.1 is)
+    where
+      ends_first : (s e n : ℕ) → e < n → is_between s e n ≡ false
+      ends_first s e n lt = grind (arith, nat_tests)
+
+  none_over : (range : Span) (low : ℕ) (items : List A) → range.end ≤ low → AreApart span low items
+      → list_any (λ a. overlaps (span a) range) items ≡ false
+  none_over range low [] le h = refl
+  none_over range low (a ∷ items) le h =
+      rw (lt-leb (span a).start range.end (omega (arith, le, h.0)), none_over range (span a).end items (omega (arith, le, h.0, h.1)) h.2) refl
+
+  -- where the first item starts above the end of a range, none overlaps it
+  pub all_past : (range : Span) (low : ℕ) (items : List A) → AreApart span low items → before span (suc range.end) items ≡ 0
+      → list_any (λ a. overlaps (span a) range) items ≡ false
+  all_past range low [] h first = refl
+  all_past range low (a ∷ items) h first = by (nat_lt (span a).start (suc range.end)) refl first
+    where
+      by : (b : Bool) → nat_lt (span a).start (suc range.end) ≡ b → (if b then suc (before span (suc range.end) items) else 0) ≡ 0
+          → (overlaps (span a) range || list_any (λ x. overlaps (span x) range) items) ≡ false
+      by true t e = absurd (omega (arith, e))
+      by false t e =
+          let past = ltb-false _ _ t in
+          let out : overlaps (span a) range ≡ false = grind (arith, nat_tests, past) in
+          rw (out, none_over range (span a).end items (omega (arith, past, h.1)) h.2) refl
+
+  -- of the items that start at the end of a range or below it, one overlaps the range if the last does
+  pub last_overlaps : (range : Span) (low i : ℕ) (items : List A) (x : A) → AreApart span low items
+      → before span (suc range.end) items ≡ suc i → x ≡ get_or items i x
+      → list_any (λ a. overlaps (span a) range) items ≡ nat_le range.start (span x).end
+  last_overlaps range low i [] x h last is = absurd (omega (arith, last))
+  last_overlaps range low zero (a ∷ items) x h last is =
+      let p = place_after (suc range.end) zero a items last in
+      let none = all_past range (span a).end items h.2 p.1 in
+      let from : nat_le (span a).start range.end ≡ true = from_le (span a).start range.end p.0 in
+      rw (is, from, none) (or-false (nat_le range.start (span a).end))
+  last_overlaps range low (suc i) (a ∷ items) x h last is =
+      let p = place_after (suc range.end) (suc i) a items last in
+      let e = ends_under (suc range.end) (span a).end i items x h.2 p.1 in
+      let own : (span x).start ≤ (span x).end = rw is (ends_over (span a).end items i x h.2 (omega (arith, p.1, before_fits (suc range.end) items))) in
+      let later : (span a).end < (span x).start = rw is e.0 in
+      earlier (span a) (span x) (list_any (λ y. overlaps (span y) range) items) (omega (arith, later, own))
+      (last_overlaps range (span a).end i items x h.2 p.1 is)
+    where
+      earlier : (s t : Span) (any : Bool) → s.end < t.end → any ≡ nat_le range.start t.end
+          → (overlaps s range || any) ≡ nat_le range.start t.end
+      earlier s t any lt e = by_test (nat_le range.start s.end)
+          (λ u. let v : nat_le range.start t.end ≡ true = grind (arith, nat_tests) in rw (e, v) (or-true (overlaps s range)))
+          (λ u. let out : overlaps s range ≡ false = grind (arith, nat_tests) in rw out e)

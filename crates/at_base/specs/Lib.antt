@@ -15,3 +15,4 @@ pub mod Starts
 pub mod Limits
 pub mod InPlace
 pub mod Spans
+pub mod Numbers

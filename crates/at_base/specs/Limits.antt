@@ -1,6 +1,18 @@
 -- The greatest numbers that several crates keep to, as in src/limits.rt.
 use Rattle.std.specs.Prelude.{ℕ}
 
+-- the greatest number of cables of an internet
+abbrev pub max_cables : ℕ
+max_cables = 200
+
+-- the greatest number of routers of an internet
+abbrev pub max_routers : ℕ
+max_routers = 200
+
+-- the greatest number of nodes of an internet
+abbrev pub max_nodes : ℕ
+max_nodes = 200
+
 -- the greatest number of zones of a range
 abbrev pub max_zones : ℕ
 max_zones = 64

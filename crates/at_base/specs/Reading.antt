@@ -63,3 +63,8 @@ abbrev pub Reads : {W E : Type 0} {s : Bool} {A V X : Type 0} → Refusals W E �
 Reads {A = A} r g keep view bytes (Ok x) = (y : A) × Begins g bytes y × (keep y ≡ view x) × ((z : A) → Begins g bytes z → z ≡ y)
 Reads {E = E} {A = A} r g keep view bytes (Err e) = FirstFault r g bytes e × ((f : E) → FirstFault r g bytes f → f ≡ e) ×
     ((z : A) → Begins g bytes z → ⊥)
+
+-- the value that was read, if the reading succeeded
+abbrev pub value_of : {E A B : Type 0} → Result (A × B) E → Option A
+value_of (Ok x) = Some x.0
+value_of (Err e) = None

@@ -1,5 +1,14 @@
 //! The greatest numbers that several crates keep to. Contracts name them by `specs/Limits`.
 
+/// The greatest number of cables of an internet.
+pub const MAX_CABLES: usize = 200;
+
+/// The greatest number of routers of an internet.
+pub const MAX_ROUTERS: usize = 200;
+
+/// The greatest number of nodes of an internet.
+pub const MAX_NODES: usize = 200;
+
 /// The greatest number of zones of a range.
 pub const MAX_ZONES: usize = 64;
 

@@ -1,8 +1,11 @@
 //! Finite maps from disjoint ranges, as slices and vectors by rising range.
 
-ghost use Rattle.std.specs.Prelude.{◌≡◌, ◌≤◌, ◌<◌, length, true, false};
+ghost use Rattle.std.specs.Prelude.{◌≡◌, ◌≤◌, ◌<◌, suc, length, true, false};
 ghost use Rattle.std.specs.Prelude.{IfErr, IfOk, vec_capacity, vec_len};
-ghost use Rattle.at_base.specs.Spans.{AreApart, IsAt, IsBefore, before, with_item};
+ghost use Rattle.std.specs.List.{list_any};
+ghost use Rattle.std.specs.Option.{option_copied};
+ghost use Rattle.at_base.specs.Range.{overlaps};
+ghost use Rattle.at_base.specs.Spans.{AreApart, IsAt, IsBefore, before, item_for, with_item};
 
 use crate::range::Range;
 
@@ -55,6 +58,15 @@ fn place_in<T: Spanned>(items: &[T], start: u16) -> usize
     place_between(items, start, 0, items.len())
 }
 
+/// The number of items that start at the network or below it.
+fn place_past<T: Spanned>(items: &[T], net: u16) -> usize
+    requires { AreApart T.span 0 items.now }
+    ensures place { result ≡ before T.span (suc net) items.now }
+    ensures inside { result ≤ length items.now }
+{
+    items.partition_point(|item| item.range().start() <= net)
+}
+
 /// Whether the index is the number of items that start below the network, and less than that of all
 /// items.
 fn is_place<T: Spanned>(items: &[T], start: u16, index: usize) -> bool
@@ -103,6 +115,41 @@ pub fn place_near<T: Spanned>(items: &[T], range: Range, near: usize) -> Result<
         return found_at(items, range, near);
     }
     place_of(items, range)
+}
+
+/// The item before the index, if its range contains the network.
+fn holder_before<T: Spanned>(items: &[T], place: usize, net: u16) -> Option<&T>
+    requires inside { place ≤ length items.now }
+    requires map { AreApart T.span 0 items.now }
+    requires past { place ≡ before T.span (suc net) items.now }
+    ensures { option_copied result ≡ item_for T.span net items.now }
+{
+    if place == 0 {
+        return None;
+    }
+    let item = &items[place - 1];
+    if item.range().end() < net {
+        return None;
+    }
+    Some(item)
+}
+
+/// The item whose range contains the network, if any. By binary search.
+pub fn item_at<T: Spanned>(items: &[T], net: u16) -> Option<&T>
+    requires { AreApart T.span 0 items.now }
+    ensures { option_copied result ≡ item_for T.span net items.now }
+{
+    let place = place_past(items, net);
+    holder_before(items, place, net)
+}
+
+/// Whether the range overlaps that of any item. By binary search.
+pub fn overlaps_any<T: Spanned>(items: &[T], range: Range) -> bool
+    requires map { AreApart T.span 0 items.now }
+    ensures { result ≡ list_any (λ a. overlaps (T.span a) range) items.now }
+{
+    let place = place_past(items, range.end());
+    place > 0 && items[place - 1].range().end() >= range.start()
 }
 
 /// Puts an item at its place, instead of the one of its range, if any. The vector must have room.

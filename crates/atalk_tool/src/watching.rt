@@ -6,7 +6,7 @@ ghost use Rattle.audit.specs.Rules.{is_for};
 ghost use Rattle.rtmp.specs.States.{is_usable};
 
 use playing::Progress;
-use rtmp::PlainTable;
+use rtmp::Routes;
 use table_image::{Cable, Image, Router, Row};
 use world::World;
 
@@ -48,7 +48,7 @@ impl<'a, R: Eprint> Watching<'a, R> {
     }
 
     /// Prints the progress of the play.
-    fn show(&mut self, world: &World<PlainTable>) {
+    fn show(&mut self, world: &World<Routes>) {
         let ticks = world.plan().ticks();
         let missing = match world.freeze() {
             Ok(image) => missing_in(&image),
@@ -62,7 +62,7 @@ impl<'a, R: Eprint> Watching<'a, R> {
 }
 
 impl<R: Eprint> Progress for Watching<'_, R> {
-    fn passed(&mut self, world: &World<PlainTable>) {
+    fn passed(&mut self, world: &World<Routes>) {
         let ticks = world.plan().ticks();
         self.passed = self.passed.saturating_add(1);
         if self.passed >= ticks {

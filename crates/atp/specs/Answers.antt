@@ -5,6 +5,7 @@ use Rattle.at_base.specs.Spelling.{bytes_of}
 use Rattle.atp.specs.declared.ask.AnswerPart.{AnswerPart}
 use Rattle.atp.specs.Bitmaps.{asks_for}
 use Rattle.atp.specs.Packets.{AtpPacket, packet}
+use Rattle.at_base.specs.Limits.{max_data}
 
 -- a valid answer: at most 8 parts of at most 578 bytes of data
 abbrev pub is_answer : List AnswerPart → Bool
@@ -37,4 +38,4 @@ bytes_of_all ps = map (bytes_of packet) ps
 
 -- each payload fits into the 586 bytes of a datagram's data
 abbrev pub AreShort : List (List ℕ) → Type 0
-AreShort payloads = All (λ payload. length payload ≤ 586) payloads
+AreShort payloads = All (λ payload. length payload ≤ max_data) payloads

@@ -6,6 +6,7 @@ use Rattle.at_base.specs.declared.error.Error.{Error}
 use Rattle.at_base.specs.declared.error.Error.TheVariants.{BadLength, BadField}
 use Rattle.at_base.specs.Packets.{any}
 use Rattle.at_base.specs.Grammar.{Grammar, done, field, room, limit, many, number, run, one, two}
+use Rattle.at_base.specs.Limits.{max_data}
 
 -- a packet: its control byte, the bitmap of a request or the part number of a response, the transaction's ID, user
 -- bytes and data
@@ -32,7 +33,7 @@ data_byte low = field (number one any) (λ b. b) (λ b. done b)
 -- and data up to the end
 unfoldable pub packet : Grammar Error false AtpPacket
 packet =
-    room 8 (limit 586 BadLength (
+    room 8 (limit max_data BadLength (
     field (number one wrong_control) (λ p. p.control) (λ control.
     field (number one (wrong_part control)) (λ p. p.part) (λ part.
     field (number two any) (λ p. p.id) (λ id.

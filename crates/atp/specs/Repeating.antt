@@ -10,6 +10,7 @@ use Rattle.atp.specs.declared.repeats.Step.TheVariants as step
 use Rattle.atp.specs.declared.transaction.Transaction.{Transaction}
 use Rattle.atp.specs.declared.repeats.When.{When}
 use Rattle.atp.specs.declared.repeats.When.TheVariants as when
+use Rattle.at_base.specs.Limits.{max_data}
 
 -- the request of the transaction is due now, or after one more tick
 abbrev pub is_due_by : When → Transaction → Bool
@@ -49,4 +50,4 @@ repeats slots = repeats_from 0 65536 slots
 
 -- each request fits into a datagram
 abbrev pub AreShort : List Repeat → Type 0
-AreShort repeats = All (λ r. length r.bytes ≤ 586) repeats
+AreShort repeats = All (λ r. length r.bytes ≤ max_data) repeats

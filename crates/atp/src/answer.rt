@@ -6,6 +6,7 @@ ghost use Rattle.at_base.specs.Spelling.{bytes_of};
 ghost use Rattle.atp.specs.Answers.{AreShort, is_answer, answer_packets, bytes_of_all, response_of};
 ghost use Rattle.atp.specs.Packets.{packet};
 ghost use Rattle.atp.specs.Bitmaps as spec;
+ghost use Rattle.at_base.specs.Limits.{max_data};
 
 use crate::ask::AnswerPart;
 use crate::packet::{MAX_DATA, MAX_PARTS, write};
@@ -105,7 +106,7 @@ fn packet_of(
     requires short { length part.now.payload ≤ 578 }
     ensures ok { IfOk result (λ bytes. bytes
         ≡ bytes_of packet (response_of id count index part.now)) }
-    ensures short { IfOk result (λ bytes. length bytes ≤ 586) }
+    ensures short { IfOk result (λ bytes. length bytes ≤ max_data) }
     ensures err { IsOkUnless result Error.Memory }
 {
     let control = if index + 1 == count {

@@ -1,6 +1,6 @@
 //! ATP packets: a reader that borrows its input, and a writer.
 
-ghost use Rattle.std.specs.Prelude.{◌≡◌, ◌⊎◌, ◌<◌, ◌≤◌, ◌↔◌, [], length, IfOk, IfErr};
+ghost use Rattle.std.specs.Prelude.{◌≡◌, ◌⊎◌, ◌<◌, ◌≤◌, ◌↔◌, [], length, option_map, IfOk, IfErr};
 ghost use Rattle.at_base.specs.Grammar.{number, run, one};
 ghost use Rattle.at_base.specs.Packets.{packets, any};
 ghost use Rattle.at_base.specs.Reading as reading_spec;
@@ -8,7 +8,8 @@ ghost use Rattle.at_base.specs.Reading.{Gives, Reads, field_at, many_at};
 ghost use Rattle.at_base.specs.Spelling.{bytes_of};
 ghost use Rattle.atp.specs.Packets as spec;
 ghost use Rattle.atp.specs.Packets.{data_byte, wrong_control, wrong_part};
-ghost use Rattle.atp.specs.InPlace.{packet_value};
+ghost use Rattle.atp.specs.InPlace.{packet_value, transaction_in};
+ghost use Rattle.at_base.specs.Limits.{max_data};
 
 use at_base::packet::{byte_at, run_at, u16_at};
 use at_base::{Bytes, Error, Field};
@@ -123,6 +124,13 @@ impl<'a> Packet<'a> {
         parts_of(bytes)
     }
 
+    /// The packet in the bytes, if they are one. Allocates nothing.
+    pub fn at(bytes: &'a [u8]) -> Option<Packet<'a>>
+        ensures { option_map packet_value result ≡ transaction_in bytes.now }
+    {
+        Packet::read(bytes).ok()
+    }
+
     /// Whether the packet is a request.
     pub fn is_request(&self) -> bool
         ensures { result ≡ spec.is_request self.now.control }
@@ -199,7 +207,7 @@ pub fn write(
       user = user;
       payload = payload.now;
     })) }
-    ensures short { IfOk result (λ bytes. length bytes ≤ 586) }
+    ensures short { IfOk result (λ bytes. length bytes ≤ max_data) }
     ensures long { (result ≡ Err Error.TooLong) ↔ (578 < length payload.now) }
     ensures refused { IfErr result (λ e. (e ≡ Error.TooLong) ⊎ (e ≡ Error.Memory)) }
 {

@@ -8,6 +8,7 @@ ghost use Rattle.atp.specs.Requesting.{IsSendable, known};
 ghost use Rattle.atp.specs.Slots.{IsTable};
 ghost use Rattle.atp.specs.declared.transaction.Transaction.{Transaction as Value};
 ghost use Rattle.slab.specs.Slab.{get};
+ghost use Rattle.at_base.specs.Limits.{max_data};
 
 use crate::ask::Peer;
 use crate::table::{key_of, least_due};
@@ -66,7 +67,7 @@ impl Transaction {
     fn repeat(&self, alloc: Global) -> Result<Repeat, Error>
         requires { IsSendable self.now.ask }
         ensures ok { IfOk result (λ repeat. repeat ≡ repeat_of self.now) }
-        ensures short { IfOk result (λ repeat. length repeat.bytes ≤ 586) }
+        ensures short { IfOk result (λ repeat. length repeat.bytes ≤ max_data) }
         ensures refused { IsOkUnless result Error.Memory }
     {
         let bytes = self.request(alloc)?;

@@ -11,6 +11,7 @@ ghost use Rattle.atp.specs.Requesting as requesting_spec;
 ghost use Rattle.atp.specs.Requesting.{begun, request_control, request_of, sent, ticked};
 ghost use Rattle.atp.specs.Requesting.{answers, is_heard, with_end, with_part, with_status};
 ghost use Rattle.atp.specs.Requesting.{part_of, release_of};
+ghost use Rattle.at_base.specs.Limits.{max_data};
 
 use crate::ask::{AnswerPart, Ask, Peer};
 use crate::packet::{Packet, write};
@@ -209,7 +210,7 @@ impl Transaction {
         requires short { length self.now.ask.payload ≤ 578 }
         requires release { self.now.ask.release ≤ 7 }
         ensures ok { IfOk result (λ bytes. bytes ≡ bytes_of packets_spec.packet (request_of self.now)) }
-        ensures short { IfOk result (λ bytes. length bytes ≤ 586) }
+        ensures short { IfOk result (λ bytes. length bytes ≤ max_data) }
         ensures err { IsOkUnless result Error.Memory }
     {
         write(

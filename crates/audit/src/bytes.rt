@@ -30,7 +30,7 @@ pub fn audit_bytes(alloc: Global, bytes: &[u8]) -> Result<Verdict, Error>
         → Spells image_spelling bytes.now i
         → MatchResult result (Judges i) (λ e. e ≡ Error.Memory) }
     // Other bytes are refused with their first flaw.
-    ensures first { (f : Flaw) → IsFirstFlaw bytes.now f → result ≡ Err (refusal bytes.now f) }
+    ensures first { (f : Flaw) → IsFirstFlaw bytes.now f → result ≡ Err (refusal f) }
     // An error reports the first flaw, or a failed allocation where the bytes spell an image.
     ensures refused { IfErr result (Refuses bytes.now) }
 {

@@ -3,15 +3,16 @@
 
 ghost use Rattle.std.specs.Prelude.{◌≡◌, ◌<◌, ◌*◌, false, Some, IfSome, position};
 ghost use Rattle.at_base.specs.Text.{same_name};
-ghost use Rattle.table_image.specs.Limits.{max_zones};
+ghost use Rattle.at_base.specs.Limits.{max_zones};
 ghost use Rattle.audit.specs.Places.{index_of};
 ghost use Rattle.audit.specs.ZoneLists.{has_double};
 
 use at_base::Name;
-use table_image::{Image, MAX_ZONES};
+use at_base::limits::MAX_ZONES;
+use table_image::Image;
 
 /// The number of zones of a cable that may have hints.
-const ZONES: usize = MAX_ZONES as usize;
+const ZONES: usize = MAX_ZONES;
 
 /// The number of hashes of names.
 const HASHES: usize = 128;

@@ -3,13 +3,13 @@
 ghost use Rattle.std.specs.Prelude.{◌≡◌, ◌≢◌, ◌<◌, ◌≤◌, ◌&&◌, ℕ, not, true, false};
 ghost use Rattle.std.specs.Prelude.{IsTrue, fold, length};
 ghost use Rattle.std.specs.List.{list_all};
-ghost use Rattle.table_image.specs.Limits.{max_zones};
+ghost use Rattle.at_base.specs.Limits.{max_zones};
 ghost use Rattle.audit.specs.Found.{is_found, all_found};
 ghost use Rattle.audit.specs.ZoneLists.{has_double, are_among};
 
 use crate::zone_hints::ZoneHints;
 use at_base::Name;
-use table_image::MAX_ZONES;
+use at_base::limits::MAX_ZONES;
 
 // Goes on to the end after a false mark, so that many marks can be handled at once.
 fn fold_all(marks: &[bool]) -> bool
@@ -27,7 +27,7 @@ fn are_all(marks: &[bool]) -> bool
 /// The zones of a cable that were found in a list, by their indices.
 #[derive(Drop)]
 struct Found {
-    zones: [bool; MAX_ZONES as usize],
+    zones: [bool; MAX_ZONES],
 }
 
 impl Found {
@@ -35,7 +35,7 @@ impl Found {
         ensures { (k : ℕ) → is_found result k ≡ false }
     {
         Found {
-            zones: [false; MAX_ZONES as usize],
+            zones: [false; MAX_ZONES],
         }
     }
 

@@ -61,7 +61,7 @@ pub record Hands {A : Type 0} (SameImage Lines : Type 0) (before after image_bef
 -- Bytes that spell no image have the error of their first flaw, and bytes that spell one have none of its kind.
 pub record Judged {A : Type 0} (image : Option (List ℕ)) (result : Result A Error) : Type 0 where
   pub flaw : IfSome image (λ bytes. (f : Flaw) → IsFirstFlaw bytes f → IsErrAnd result (λ e.
-      (e ≡ refusal bytes f) ⊎ (e ≡ ReadFault) ⊎ (e ≡ Memory)))
+      (e ≡ refusal f) ⊎ (e ≡ ReadFault) ⊎ (e ≡ Memory)))
   pub spelled : IfSome image (λ bytes. (i : Internet) → Spells image_spelling bytes i → IfErr result (λ e.
       (e ≡ Memory) ⊎ (e ≡ ReadFault) ⊎ (e ≡ WriteFault)))
 
@@ -69,7 +69,7 @@ pub record Judged {A : Type 0} (image : Option (List ℕ)) (result : Result A Er
 -- bad line has the error of its first bad line, and a script without has none of its kind.
 pub record Run {A : Type 0} (image script : Option (List ℕ)) (result : Result A Error) : Type 0 where
   pub flaw : IfSome image (λ bytes. (f : Flaw) → IsFirstFlaw bytes f → IsErrAnd result (λ e.
-      (e ≡ refusal bytes f) ⊎ (e ≡ ReadFault) ⊎ (e ≡ Memory)))
+      (e ≡ refusal f) ⊎ (e ≡ ReadFault) ⊎ (e ≡ Memory)))
   pub bad_line : IfSome image (λ bytes. IfSome script (λ text. (i : Internet) (n : ℕ) → Spells image_spelling bytes i
       → IsBadAt text n → IsErrAnd result (λ e. (e ≡ BadScript n) ⊎ (e ≡ ReadFault) ⊎ (e ≡ Memory))))
   pub good : IfSome image (λ bytes. IfSome script (λ text. (i : Internet) (steps : List Step) → Spells image_spelling bytes i

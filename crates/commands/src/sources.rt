@@ -26,7 +26,7 @@ pub fn read_image<R: Read>(alloc: Global, input: &mut Input<R>) -> Result<Image,
     // Bytes that spell no image have the error of their first flaw, or `ReadFault` or `Memory`.
     ensures flaw { IfSome (R.remaining input.old.reader) (λ bytes.
         (f : Flaw) → IsFirstFlaw bytes f → IsErrAnd result (λ e.
-        (e ≡ refusal bytes f) ⊎ (e ≡ Error.ReadFault) ⊎ (e ≡ Error.Memory))) }
+        (e ≡ refusal f) ⊎ (e ≡ Error.ReadFault) ⊎ (e ≡ Error.Memory))) }
     ensures only { IfSome (R.remaining input.old.reader) (λ bytes.
         (i : Internet) → Spells image_spelling bytes i → IfErr result (λ e.
         (e ≡ Error.Memory) ⊎ (e ≡ Error.ReadFault))) }

@@ -16,7 +16,7 @@ use crate::input::Input;
 use crate::sources::{read_image, read_steps};
 use at_base::Error;
 use frozen_trace::trace_script;
-use rtmp::PlainTable;
+use rtmp::Routes;
 use std::alloc::Global;
 use std::io::{Read, Write};
 use text::Output;
@@ -58,7 +58,7 @@ pub fn run_frozen<I: Read, S: Read, W: Write>(
 {
     let image = read_image(alloc, image)?;
     match read_steps(alloc, script) {
-        Ok(steps) => trace_script::<PlainTable, W>(alloc, image, steps.as_slice(), output),
+        Ok(steps) => trace_script::<Routes, W>(alloc, image, steps.as_slice(), output),
         Err(error) => Err(error),
     }
 }

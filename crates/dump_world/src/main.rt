@@ -7,7 +7,7 @@ mod lines;
 use at_base::Error;
 use internet_file::read;
 use lines::put_entry;
-use rtmp::{PlainTable, RouteTable};
+use rtmp::{RouteTable, Routes};
 use std::alloc::Global;
 use std::io::{Read, Write, writer};
 use std::process::ExitCode;
@@ -37,7 +37,7 @@ fn print<T: RouteTable, W: Write>(world: &World<T>, output: &mut Output<W>) -> R
 /// Plays a file, and prints its transcript, also if a tick has an error.
 fn print_play<W: Write>(alloc: Global, text: &[u8], output: &mut Output<W>) -> Result<(), Error> {
     let plan = read(alloc, text)?;
-    let mut world = World::<PlainTable>::new(alloc, plan)?;
+    let mut world = World::<Routes>::new(alloc, plan)?;
     let answer = play(&mut world);
     print(&world, output)?;
     answer

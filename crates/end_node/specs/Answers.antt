@@ -6,9 +6,7 @@ use Rattle.aarp.specs.Choosing.{answer, heard as port_heard, settled}
 use Rattle.aarp.specs.declared.packet.Packet.{Packet}
 use Rattle.at_base.specs.Range.{is_between}
 use Rattle.at_base.specs.declared.address.Addr.{Addr}
-use Rattle.at_base.specs.Packets.{packets}
-use Rattle.at_base.specs.Reading.{read}
-use Rattle.atp.specs.Packets.{AtpPacket, packet as atp_packet}
+use Rattle.atp.specs.Packets.{AtpPacket}
 use Rattle.atp.specs.Requesting.{Transactions, after_hearing, known}
 use Rattle.atp.specs.declared.ask.Peer.{Peer}
 use Rattle.circular_buffer.specs.Buffer.{keep_last}
@@ -17,7 +15,7 @@ use Rattle.echo.specs.Echo.{echo_reply}
 use Rattle.station.specs.Hearing.{Hearing}
 use Rattle.station.specs.Ports.{has}
 use Rattle.station.specs.Resolution.{packet_at, wired}
-use Rattle.station.specs.Values.{datagram_at, value_of}
+use Rattle.station.specs.Values.{datagram_at}
 use Rattle.station.specs.Ways.{checks, is_to, replying}
 use Rattle.station.specs.declared.heard.Kind.{Kind}
 use Rattle.station.specs.declared.heard.Kind.TheVariants.{Ddp, Aarp}
@@ -25,9 +23,11 @@ use Rattle.station.specs.declared.heard.Link.{Link}
 use Rattle.station.specs.declared.heard.Link.TheVariants as link
 use Rattle.station.specs.declared.output.Output.{Output}
 use Rattle.end_node.specs.Holding.{NodeHolding}
-use Rattle.end_node.specs.Lookups.{names_in, told}
+use Rattle.end_node.specs.Lookups.{told}
+use Rattle.nbp.specs.Packets.{names_in}
 use Rattle.end_node.specs.Ways.{way_back}
 use Rattle.end_node.specs.declared.node.Datagram.{Datagram as Received}
+use Rattle.atp.specs.InPlace.{transaction_in}
 
 -- the target means every node of the node's cable
 abbrev pub is_all : NodeHolding → Addr → Bool
@@ -105,10 +105,6 @@ abbrev pub heard : NodeHolding → Hearing → List Output × NodeHolding
 heard h x = heard_kind x.kind h x
 
 -- ---- Transactions
-
--- the ATP packet in a datagram's data, if any
-unfoldable pub transaction_in : List ℕ → Option AtpPacket
-transaction_in payload = value_of (read packets atp_packet payload)
 
 -- the address and the socket that a datagram comes from
 abbrev pub peer : Datagram → Peer

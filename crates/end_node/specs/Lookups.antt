@@ -1,8 +1,6 @@
 -- A node's replies to lookups. (Inside AppleTalk, the chapter on NBP)
 use Rattle.std.specs.Prelude.{ℕ, Bool, ◌||◌, ◌==◌, cond, List, [], ◌∷◌, map, length, Option, Some, None}
 use Rattle.aarp.specs.Choosing.{settled}
-use Rattle.at_base.specs.Packets.{packets}
-use Rattle.at_base.specs.Reading.{read}
 use Rattle.at_base.specs.Spelling.{bytes_of}
 use Rattle.at_base.specs.Text.{is_only, same_name}
 use Rattle.at_base.specs.declared.address.Addr.{Addr}
@@ -13,15 +11,10 @@ use Rattle.nbp.specs.Registered.{answers}
 use Rattle.nbp.specs.declared.packet.Function.{Function}
 use Rattle.nbp.specs.declared.packet.Function.TheVariants.{BroadcastRequest, Lookup, Reply, ForwardRequest}
 use Rattle.nbp.specs.declared.tuple.Tuple.{Tuple}
-use Rattle.station.specs.Values.{value_of}
 use Rattle.station.specs.Ways.{is_summed, nobody, replying}
 use Rattle.station.specs.declared.output.Output.{Output}
 use Rattle.end_node.specs.Holding.{NodeHolding}
 use Rattle.end_node.specs.Ways.{reply_way}
-
--- the NBP packet in a datagram's data, if any
-unfoldable pub names_in : List ℕ → Option NbpPacket
-names_in payload = value_of (read packets packet payload)
 
 -- the zone means the receiver's own: it is empty or *
 abbrev pub is_any : List ℕ → Bool

@@ -9,6 +9,7 @@ ghost use Rattle.end_node.specs.Asking.{asked_by, asking_from, request_bytes};
 ghost use Rattle.nbp.specs.Registered.{IsLeastFree, is_registrable, is_taken, with_name};
 ghost use Rattle.station.specs.Lawful.{IsNext, PutsOut};
 ghost use Rattle.station.specs.Making.{made};
+ghost use Rattle.at_base.specs.Limits.{max_names};
 
 use crate::lookups::{is_any, text_of};
 use crate::node::{Datagram, EndNode};
@@ -199,7 +200,7 @@ impl EndNode {
         ensures full { (result ≡ Err Error.Full)
             ↔ (((is_registrable object && is_registrable kind) ≡ true)
             × (is_taken object kind self.old.names ≡ false)
-            × (32 ≤ length self.old.names)) }
+            × (max_names ≤ length self.old.names)) }
         ensures refused { IfErr result (λ e. (e ≡ Error.BadName) ⊎ (e ≡ Error.BadField Taken)
             ⊎ (e ≡ Error.Full) ⊎ (e ≡ Error.Memory)) }
         ensures kept { OnErr result (self.new ≡ self.old) }

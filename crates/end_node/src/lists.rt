@@ -8,7 +8,7 @@ ghost use Rattle.atp.specs.InPlace.{packet_value};
 ghost use Rattle.atp.specs.Outcomes.{left_open, outcome_of};
 ghost use Rattle.atp.specs.Requesting.{IsNextId, begun, known, open_count, sent};
 ghost use Rattle.end_node.specs.Answers as answers_spec;
-ghost use Rattle.end_node.specs.Answers.{AsksHearOwn, HearsAny, transaction_in};
+ghost use Rattle.end_node.specs.Answers.{AsksHearOwn, HearsAny};
 ghost use Rattle.end_node.specs.Asking as asking_spec;
 ghost use Rattle.end_node.specs.Asking.{ask_bytes};
 ghost use Rattle.station.specs.Lawful.{IsNext, PutsOut};
@@ -71,32 +71,12 @@ fn begin(
     Ok((id, bytes))
 }
 
-/// The ATP packet in the data of a datagram, if any.
-fn read_packet(payload: &[u8]) -> Option<Packet<'_>>
-    ensures { option_map packet_value result ≡ transaction_in payload.now }
-{
-    match Packet::read(payload) {
-        Ok(packet) => Some(packet),
-        Err(_) => None,
-    }
-}
-
-/// The address and the socket that a datagram comes from.
-fn peer(view: &View<'_>) -> Peer
-    ensures { result ≡ answers_spec.peer view.now }
-{
-    Peer {
-        addr: view.source(),
-        socket: view.source_socket(),
-    }
-}
-
 /// The ATP packet in a datagram, if it is for the socket of the node's transactions.
 fn brought_by<'a>(view: &View<'a>) -> Option<Packet<'a>>
     ensures { option_map packet_value result ≡ answers_spec.brought_by view.now }
 {
     if is_to(view, types::ATP, TRANSACTIONS) {
-        read_packet(view.payload())
+        Packet::at(view.payload())
     } else {
         None
     }
@@ -124,7 +104,11 @@ pub(crate) fn hear_answer(requester: &mut Requester, view: &View<'_>) -> Result<
     ensures refused { IsOkUnless result Error.Memory }
     ensures stay { OnErr result (requester.new ≡ requester.old) }
 {
-    hear_any(requester, peer(view), brought_by(view))
+    let from = Peer {
+        addr: view.source(),
+        socket: view.source_socket(),
+    };
+    hear_any(requester, from, brought_by(view))
 }
 
 impl EndNode {

@@ -5,9 +5,11 @@ ghost use Rattle.std.specs.Prelude.{IfOk, IsOk, IsOkUnless, None};
 ghost use Rattle.at_base.specs.Text.{is_only, same_name};
 ghost use Rattle.nbp.specs.Registered.{answers};
 ghost use Rattle.end_node.specs.Lookups as spec;
-ghost use Rattle.end_node.specs.Lookups.{looked_up, names_in, replies, reply_of, told};
+ghost use Rattle.end_node.specs.Lookups.{looked_up, replies, reply_of, told};
+ghost use Rattle.nbp.specs.Packets.{names_in};
 ghost use Rattle.station.specs.Made.{AreMade, IsWayIn, Makes, Puts};
 ghost use Rattle.station.specs.Ways.{replying};
+ghost use Rattle.at_base.specs.Limits.{max_names};
 
 use crate::node::EndNode;
 use at_base::{Addr, Error, Name, Text32};
@@ -16,16 +18,6 @@ use nbp::{Function, Names, Packet, Tuple, write};
 use station::making::put;
 use station::ways::is_summed;
 use station::{Output, Way};
-
-/// The NBP packet in the data of a datagram, if any.
-fn read_packet(payload: &[u8]) -> Option<Packet<'_>>
-    ensures { result ≡ names_in payload.now }
-{
-    match Packet::read(payload) {
-        Ok(packet) => Some(packet),
-        Err(_) => None,
-    }
-}
 
 fn is_star(zone: &[u8]) -> bool
     ensures { result ≡ is_only 42 zone.now }
@@ -139,7 +131,7 @@ fn asked(names: &Names, tuple: &Tuple) -> Result<Vec<Tuple>, Error>
     ensures ok { IfOk result (λ tuples. tuples.items
         ≡ answers tuple.now.object tuple.now.kind names.now) }
     ensures none { answers tuple.now.object tuple.now.kind names.now ≡ [] → IsOk result }
-    ensures few { IfOk result (λ tuples. length tuples.items ≤ 32) }
+    ensures few { IfOk result (λ tuples. length tuples.items ≤ max_names) }
     ensures refused { IsOkUnless result Error.Memory }
 {
     // Only the prover needs this read: it shows that there are at most 32 names.
@@ -158,7 +150,7 @@ impl EndNode {
         tuple: &Tuple,
         own: Addr,
     ) -> Result<(), Error>
-        ensures { Makes 1 32 (replies self.now summed id tuple.now (Some own))
+        ensures { Makes 1 max_names (replies self.now summed id tuple.now (Some own))
             made.old.items made.new.items result }
     {
         let way = self.reply_way(answer_header(summed, tuple));
@@ -178,7 +170,7 @@ impl EndNode {
         id: u8,
         tuple: &Tuple,
     ) -> Result<(), Error>
-        ensures { Makes 1 32 (looked_up self.now summed id tuple.now)
+        ensures { Makes 1 max_names (looked_up self.now summed id tuple.now)
             made.old.items made.new.items result }
     {
         if !is_in(&self.zone, tuple.zone.as_slice()) {
@@ -197,7 +189,7 @@ impl EndNode {
         view: &View<'_>,
         packet: &Packet<'_>,
     ) -> Result<(), Error>
-        ensures { Makes 1 32 (told self.now view.now (Some packet.now))
+        ensures { Makes 1 max_names (told self.now view.now (Some packet.now))
             made.old.items made.new.items result }
     {
         let tuple = packet.first().copy();
@@ -210,10 +202,10 @@ impl EndNode {
     /// Adds the replies to a datagram for the names socket; one without an NBP packet is ignored.
     /// Error: `Memory`.
     pub(crate) fn tell(&self, made: &mut Vec<Output>, view: &View<'_>) -> Result<(), Error>
-        ensures { Makes 1 32 (told self.now view.now (names_in view.now.payload))
+        ensures { Makes 1 max_names (told self.now view.now (names_in view.now.payload))
             made.old.items made.new.items result }
     {
-        match read_packet(view.payload()) {
+        match Packet::at(view.payload()) {
             Some(packet) => self.tell_by(made, view, &packet),
             None => Ok(()),
         }

@@ -13,6 +13,7 @@ ghost use Rattle.station.specs.Made.{AreMade, Makes};
 ghost use Rattle.station.specs.Ports as ports_spec;
 ghost use Rattle.station.specs.Ways as ways_of;
 ghost use Rattle.station.specs.Ways.{replying};
+ghost use Rattle.at_base.specs.Limits.{max_names};
 
 use crate::lists::hear_answer;
 use crate::node::{Datagram, EndNode};
@@ -122,7 +123,7 @@ impl EndNode {
 
     /// Adds the replies to a datagram that the node accepted. Error: `Memory`.
     fn serve(&self, made: &mut Vec<Output>, view: &View<'_>) -> Result<(), Error>
-        ensures { Makes 1 32 (served self.now view.now)
+        ensures { Makes 1 max_names (served self.now view.now)
             made.old.items made.new.items result }
     {
         if is_to(view, kind::AEP, socket::ECHO) {

@@ -4,7 +4,7 @@ use Rattle.std.proofs.Common.{refl, ap, arith, lt-ltb, Ok}
 use Rattle.std.specs.List.{list_all, AllByRecursion as Each}
 use Rattle.std.proofs.lemmas.Bool.{and_parts, and_from, leb-true}
 use Rattle.at_base.specs.Range.{is_between}
-use Rattle.at_base.specs.Grammar.{Grammar}
+use Rattle.at_base.specs.Grammar.{Grammar, one}
 use Rattle.at_base.specs.Spelling.{IsValue, ListPasses, bytes_of}
 use Rattle.freeze.proofs.Values.{counted_value}
 use Rattle.freeze.specs.Frozen.{cables_by, frozen_nodes, frozen_routers}
@@ -24,7 +24,7 @@ use Rattle.planned_stations.specs.Planning.{ports_of}
 use Rattle.table_image.proofs.CheckedParts.{image_checks}
 use Rattle.table_image.specs.Flaws.{Wrong}
 use Rattle.table_image.specs.Internet.{Internet}
-use Rattle.table_image.specs.Limits.{max_cables, max_nodes, max_routers}
+use Rattle.at_base.specs.Limits.{max_cables, max_nodes, max_routers}
 use Rattle.table_image.specs.Spelling.{cable_spelling, counted, image_spelling, node_spelling, router_spelling}
 
 -- ---- Ports and cables
@@ -117,9 +117,9 @@ pub image_value : (i : Internet) → length i.cables ≤ 200 → length i.router
     → IsValue image_spelling i
 image_value i few_c few_r few_n cables routers nodes =
     let count = length i.cables in
-    let gc = counted max_cables (λ low. cable_spelling) (λ c. 0) in
-    let gr = counted max_routers (λ low. router_spelling count) (λ r. 0) in
-    let gn = counted max_nodes (λ low. node_spelling count) (λ n. 0) in
+    let gc = counted one max_cables (λ low. cable_spelling) (λ c. 0) in
+    let gr = counted one max_routers (λ low. router_spelling count) (λ r. 0) in
+    let gn = counted one max_nodes (λ low. node_spelling count) (λ n. 0) in
     let a = 5 + length (bytes_of gc i.cables) in
     let b = a + length (bytes_of gr i.routers) in
     let c = b + length (bytes_of gn i.nodes) in

@@ -4,7 +4,7 @@ use Rattle.std.proofs.Common.{refl, sym, ap, subst, arith, nat_lt, nat_le, leb-t
 use Rattle.std.specs.List.{list_all, All, AllByRecursion as Each}
 use Rattle.std.proofs.lemmas.Bool.{and_parts}
 use Rattle.aarp.specs.Choosing.{Choice}
-use Rattle.at_base.specs.Grammar.{Grammar}
+use Rattle.at_base.specs.Grammar.{Grammar, one}
 use Rattle.at_base.specs.Spelling.{IsValue, ListPasses, bytes_of, list_bytes}
 use Rattle.at_base.specs.Text.{IsName, is_name}
 use Rattle.end_node.specs.Holding.{NodeHolding}
@@ -20,7 +20,7 @@ use Rattle.table_image.proofs.CheckedParts.{FitsName, FitsNode, cable_checks, li
 use Rattle.table_image.proofs.CheckedParts.{router_checks}
 use Rattle.table_image.specs.Checking.{Checks}
 use Rattle.table_image.specs.Flaws.{Wrong}
-use Rattle.table_image.specs.Limits.{max_names, max_ports, max_rows, max_zone_lists, max_zones}
+use Rattle.at_base.specs.Limits.{max_names, max_ports, max_rows, max_lists, max_zones}
 use Rattle.table_image.specs.Spelling.{cable_spelling, counted, name_spelling, node_spelling, own_router_spelling}
 use Rattle.table_image.specs.Spelling.{port_spelling, router_spelling}
 use Rattle.table_image.specs.Spelling.{row_spelling, zone_list_spelling, zone_spelling, zones_spelling}
@@ -42,9 +42,9 @@ checked g y at h = (h, refl)
 -- Items that pass are a valid list with a count.
 pub counted_value : {B : Type 0} (limit : ℕ) (item : ℕ → Grammar Wrong true B) (next : B → ℕ) (xs : List B)
     → length xs ≤ limit → limit < 256
-    → ListPasses (λ low. IsValue (item low)) next 0 xs → IsValue (counted limit item next) xs
+    → ListPasses (λ low. IsValue (item low)) next 0 xs → IsValue (counted one limit item next) xs
 counted_value limit item next xs few small h =
-    (counted_checks limit item next xs 0 (Ok (1 + length (list_bytes (λ low. bytes_of (item low)) next 0 xs))) few small (h, refl)).0
+    (counted_checks one limit item next xs 0 (Ok (1 + length (list_bytes (λ low. bytes_of (item low)) next 0 xs))) few small (h, refl)).0
 
 -- ---- Zones
 
@@ -153,12 +153,12 @@ router_value count cables h few seated routes zones fits_ports fits_rows fits_li
     let rows = counted_value max_rows (row_spelling (length x.ports)) (λ r. r.start + 1) x.rows
     (subst (λ n. n ≤ 200) (sym (length-map frozen_row h.routes)) routes.few) (omega arith)
     (rows_pass (length x.ports) 0 0 h.routes (omega arith) routes.apart routes.each there fits_rows) in
-    let lists = counted_value max_zone_lists zone_list_spelling (λ l. l.start + 1) x.lists
+    let lists = counted_value max_lists zone_list_spelling (λ l. l.start + 1) x.lists
     (subst (λ n. n ≤ 200) (sym (length-map frozen_list h.zones)) zones.few) (omega arith)
     (lists_pass 0 0 h.zones (omega arith) zones.apart zones.each fits_lists) in
-    let a = ends (counted max_ports (λ low. port_spelling count) (λ p. 0)) x.ports 0 in
-    let b = ends (counted max_rows (row_spelling (length x.ports)) (λ r. r.start + 1)) x.rows a in
-    let c = ends (counted max_zone_lists zone_list_spelling (λ l. l.start + 1)) x.lists b in
+    let a = ends (counted one max_ports (λ low. port_spelling count) (λ p. 0)) x.ports 0 in
+    let b = ends (counted one max_rows (row_spelling (length x.ports)) (λ r. r.start + 1)) x.rows a in
+    let c = ends (counted one max_lists zone_list_spelling (λ l. l.start + 1)) x.lists b in
     (router_checks count x 0 a b (Ok c) (ports, refl) (rows, refl) (lists, refl)).0
   where
     length-map : {X Y : Type 0} (f : X → Y) (xs : List X) → length (map f xs) ≡ length xs
@@ -205,7 +205,7 @@ node_value count cable h there fits zone router names small =
     (names_pass 0 0 h.names (omega arith) names.rising names.each small) in
     let a = ends zone_spelling x.zone (0 + 10) in
     let b = ends own_router_spelling x.router a in
-    let c = ends (counted max_names name_spelling (λ n. n.enumerator + 1)) x.names b in
+    let c = ends (counted one max_names name_spelling (λ n. n.enumerator + 1)) x.names b in
     (node_checks count x 0 a b (Ok c) fits there (text_value is_name h.zone zone len.0 len.1, refl) (router, refl) (named, refl)).0
   where
     length-map : (xs : List Named) → length (map frozen_name xs) ≡ length xs

@@ -4,6 +4,7 @@ ghost use Rattle.std.specs.Prelude.{◌≡◌, ◌≤◌, length, IfOk, IsOkUnle
 ghost use Rattle.at_base.specs.Spelling.{IsValue};
 ghost use Rattle.freeze.specs.Freezing.{frozen_cable};
 ghost use Rattle.table_image.specs.Spelling.{cable_spelling};
+ghost use Rattle.at_base.specs.Limits.{max_zones};
 
 use crate::fits::fit_cable;
 use at_base::{Error, Name, Range};
@@ -15,7 +16,7 @@ use table_image::{Cable, Listed};
 pub fn freeze_cable(alloc: Global, range: Range, zones: &[Name]) -> Result<Cable, Error>
     ensures ok { IfOk result (λ frozen. frozen ≡ frozen_cable range zones.now) }
     // With at most 64 zones it is a valid cable of an image.
-    ensures valid { length zones.now ≤ 64 → IfOk result (λ frozen. IsValue cable_spelling frozen) }
+    ensures valid { length zones.now ≤ max_zones → IfOk result (λ frozen. IsValue cable_spelling frozen) }
     ensures refused { IsOkUnless result Error.Memory }
 {
     let frozen = Cable {

@@ -24,6 +24,7 @@ use Rattle.station.specs.declared.output.Next.{Next}
 use Rattle.station.specs.declared.output.Next.TheVariants as next
 use Rattle.table_image.specs.Internet.{Internet}
 use Rattle.table_image.specs.declared.node.Node.{Node}
+use Rattle.at_base.specs.Limits.{max_data}
 
 -- The index of the node that has the address.
 abbrev pub node_at : List Node → Addr → Option ℕ
@@ -56,7 +57,7 @@ next_for i node via target =
 abbrev pub order_for : ℕ → Node → Header → ℕ → Result Next Error → Result Order Error
 order_for station node header len (Err e) = Err e
 order_for station node header len (Ok to) =
-    cond (nat_lt 586 len) (Err TooLong) (Ok (record { station = station; cable = node.cable; next = to; header = header }))
+    cond (nat_lt max_data len) (Err TooLong) (Ok (record { station = station; cable = node.cable; next = to; header = header }))
 
 -- The order for a node to send a broadcast request for names to this router.
 abbrev pub asking_for : ℕ → Node → Result Addr Error → Result Order Error

@@ -3,13 +3,13 @@
 use crate::edits::edited;
 use crate::parts::{put_parts, put_routes, put_zone_table};
 use crate::{making, reading};
+use at_base::limits::{
+    MAX_CABLES, MAX_LISTS, MAX_NAMES, MAX_NODES, MAX_PORTS, MAX_ROUTERS, MAX_ROWS, MAX_ZONES,
+};
 use audit::audit;
 use case_words::{Answer, Stop, Words, put_line, yes_or_no};
 use std::alloc::Global;
-use table_image::{
-    Image, Listed, MAX_CABLES, MAX_NAMES, MAX_NODES, MAX_PORTS, MAX_ROUTERS, MAX_ROWS,
-    MAX_ZONE_LISTS, MAX_ZONES, write,
-};
+use table_image::{Image, Listed, write};
 
 /// Adds a name to a list of a router's zone table, as `10-19 total 3 Green`.
 fn add(alloc: Global, table: &mut zip_zones::ZoneTable, words: &mut Words<'_>) -> Answer {
@@ -121,7 +121,7 @@ pub(crate) fn limits(text: &mut String) -> Answer {
     )?;
     writeln!(
         text,
-        "{MAX_PORTS} ports, {MAX_ROWS} rows, {MAX_ZONE_LISTS} zone lists of a router"
+        "{MAX_PORTS} ports, {MAX_ROWS} rows, {MAX_LISTS} zone lists of a router"
     )?;
     Ok(())
 }

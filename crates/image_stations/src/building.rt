@@ -15,8 +15,27 @@ use station::Member;
 use std::alloc::Global;
 use table_image::Image;
 
-/// Appends the routers with indexes from `from` on.
+/// Appends the router with this index.
 #[tactic(auto, using(crate::proofs::Pushed::with_next))]
+fn put_router<T: RouteTable>(
+    stations: &mut Vec<Member<Router<T>, EndNode>>,
+    image: &Image,
+    index: u8,
+) -> Result<(), Error>
+    requires passes { Passes image.now }
+    requires there { index < length image.now.routers }
+    requires first { AreFirst image.now index stations.old.items }
+    requires fresh { AreFresh stations.old.items }
+    ensures put { OnOk result (AreFirst image.now (index + 1) stations.new.items) }
+    ensures fresh { OnOk result (AreFresh stations.new.items) }
+    ensures refused { IsOkUnless result Error.Memory }
+{
+    let router = router_of(*stations.allocator(), image, index)?;
+    stations.push(Member::Router(router))?;
+    Ok(())
+}
+
+/// Appends the routers with indexes from `from` on.
 fn put_routers<T: RouteTable>(
     stations: &mut Vec<Member<Router<T>, EndNode>>,
     image: &Image,
@@ -32,8 +51,7 @@ fn put_routers<T: RouteTable>(
     ensures refused { IsOkUnless result Error.Memory }
 {
     if (from as usize) < image.routers().len() {
-        let router = router_of(*stations.allocator(), image, from)?;
-        stations.push(Member::Router(router))?;
+        put_router(stations, image, from)?;
         put_routers(stations, image, from + 1)
     } else {
         Ok(())

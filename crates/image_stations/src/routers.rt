@@ -11,6 +11,7 @@ ghost use Rattle.rtmp.specs.declared.row.Row.{Row as RouteRow};
 ghost use Rattle.table_image.specs.Bounds.{IsBounded};
 ghost use Rattle.table_image.specs.RouteRows.{route_row, rows_at};
 ghost use Rattle.table_image.specs.ZoneMaps.{lists_at, zone_map};
+ghost use Rattle.at_base.specs.Limits.{max_ports};
 
 use crate::plans::plans_of;
 use at_base::Error;
@@ -63,7 +64,7 @@ fn router_by<T: RouteTable>(
     routes: T,
     zones: ZoneTable,
 ) -> Result<Router<T>, Error>
-    requires few { length ports.now ≤ 16 }
+    requires few { length ports.now ≤ max_ports }
     requires seated { IsTrue (list_all (is_port_seated image.now.cables) ports.now) }
     requires ported { IsTrue (list_all (λ (row : RouteRow). nat_lt row.port (length ports.now))
         (T.rows routes)) }

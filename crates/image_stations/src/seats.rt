@@ -6,6 +6,7 @@ ghost use Rattle.std.specs.List.{AllByRecursion as Each};
 ghost use Rattle.std.specs.Option.{unwrap_or};
 ghost use Rattle.legal_runs.specs.Stations.{cable_seats};
 ghost use Rattle.image_stations.specs.Seating.{node_seat, node_seats_from, router_seat, seats_from};
+ghost use Rattle.at_base.specs.Limits.{max_ports};
 
 use at_base::Error;
 use cable_model::Seat;
@@ -22,7 +23,7 @@ fn port_on(ports: &[Port], cable: u8) -> Option<usize>
 
 /// The index of the first of these ports that is on the cable, and 0 if none is.
 fn number_on(ports: &[Port], cable: u8) -> u8
-    requires { length ports.now ≤ 16 }
+    requires { length ports.now ≤ max_ports }
     ensures { result ≡ unwrap_or (position (λ p. p.cable == cable) ports.now) 0 }
 {
     match port_on(ports, cable) {
@@ -33,7 +34,7 @@ fn number_on(ports: &[Port], cable: u8) -> u8
 
 /// The seat of a router's port. `port` is one of `ports`.
 fn seat_by(router: u16, ports: &[Port], port: &Port) -> Seat
-    requires { length ports.now ≤ 16 }
+    requires { length ports.now ≤ max_ports }
     ensures { result ≡ router_seat router ports.now port.now }
 {
     Seat {
@@ -47,7 +48,7 @@ fn seat_by(router: u16, ports: &[Port], port: &Port) -> Seat
 
 /// Appends the seats of some of a router's ports.
 fn put_ports(seats: &mut Vec<Seat>, router: u16, ports: &[Port], some: &[Port]) -> Result<(), Error>
-    requires { length ports.now ≤ 16 }
+    requires { length ports.now ≤ max_ports }
     ensures put { OnOk result (seats.new.items
         ≡ seats.old.items ++ map (router_seat router ports.now) some.now) }
     ensures refused { IsOkUnless result Error.Memory }
@@ -64,7 +65,7 @@ fn put_ports(seats: &mut Vec<Seat>, router: u16, ports: &[Port], some: &[Port]) 
 /// Appends the seats of routers whose stations are numbered from `from` on.
 fn put_routers(seats: &mut Vec<Seat>, from: u16, routers: &[Router]) -> Result<(), Error>
     requires few { from + length routers.now ≤ 200 }
-    requires ports { Each (λ router. length router.ports ≤ 16) routers.now }
+    requires ports { Each (λ router. length router.ports ≤ max_ports) routers.now }
     ensures put { OnOk result (seats.new.items ≡ seats.old.items ++ seats_from from routers.now) }
     ensures refused { IsOkUnless result Error.Memory }
 {

@@ -5,10 +5,11 @@ use Rattle.text.specs.Words.{given}
 use Rattle.internet_file.specs.Entries.{all, at, entry}
 use Rattle.internet_file.specs.Values.{list_within, range, zone}
 use Rattle.internet_file.specs.declared.cable.Cable.{Cable}
+use Rattle.at_base.specs.Limits.{max_zones}
 
 -- A list of 1 to 64 names of zones.
 abbrev pub zones : Data → Option (List (List ℕ))
-zones d = given (list_within 1 64 d) (all zone)
+zones d = given (list_within 1 max_zones d) (all zone)
 
 -- The cable in an entry.
 abbrev pub cable_of : Data → Option Cable

@@ -17,6 +17,7 @@ use Rattle.internet_file.specs.declared.cable.Cable.{Cable}
 use Rattle.internet_file.specs.declared.loss.Loss.{Loss}
 use Rattle.internet_file.specs.declared.node.Node.{Node}
 use Rattle.internet_file.specs.declared.router.Router.{Router}
+use Rattle.at_base.specs.Limits.{max_cables, max_nodes, max_routers}
 
 -- The plan in an internet file.
 pub record Planned : Type 0 where
@@ -56,15 +57,15 @@ entries_at key ms = unwrap_or (list_at key ms) []
 
 -- The cables of a file, or the error of the first invalid one.
 unfoldable pub cables_in : Members → Result (List Cable) Error
-cables_in ms = part_up_to 200 CablePart cable_of (entries_at (codes "cable") ms)
+cables_in ms = part_up_to max_cables CablePart cable_of (entries_at (codes "cable") ms)
 
 -- The routers of a file with these cables, or the error of the first invalid one.
 unfoldable pub routers_in : List Cable → Members → Result (List Router) Error
-routers_in cables ms = part_up_to 200 RouterPart (router_of cables) (entries_at (codes "router") ms)
+routers_in cables ms = part_up_to max_routers RouterPart (router_of cables) (entries_at (codes "router") ms)
 
 -- The nodes of a file with these cables, or the error of the first invalid one.
 unfoldable pub nodes_in : List Cable → Members → Result (List Node) Error
-nodes_in cables ms = part_up_to 200 NodePart (node_of cables) (entries_at (codes "node") ms)
+nodes_in cables ms = part_up_to max_nodes NodePart (node_of cables) (entries_at (codes "node") ms)
 
 -- The losses of a file with this many ticks and these cables, or the error of the first invalid one.
 unfoldable pub losses_in : ℕ → List Cable → Members → Result (List Loss) Error

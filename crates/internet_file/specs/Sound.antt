@@ -11,10 +11,11 @@ use Rattle.internet_file.specs.declared.loss.Loss.{Loss}
 use Rattle.internet_file.specs.declared.node.Node.{Node}
 use Rattle.internet_file.specs.declared.port.Port.{Port}
 use Rattle.internet_file.specs.declared.router.Router.{Router}
+use Rattle.at_base.specs.Limits.{max_cables, max_nodes, max_ports, max_routers, max_zones}
 
 -- The range is valid, and there are 1 to 64 zones.
 abbrev pub is_cable : Cable → Bool
-is_cable c = is_range c.range.start c.range.end && is_between 1 64 (length c.zones)
+is_cable c = is_range c.range.start c.range.end && is_between 1 max_zones (length c.zones)
 
 -- A station on a cable with this range may try the address.
 abbrev pub may_try : Span → Addr → Bool
@@ -36,7 +37,7 @@ is_port cables p = is_seated cables p.cable p.tries
 -- The router has 1 to 16 valid ports, no two of them on cables that have a network in common.
 abbrev pub is_router : List Cable → Router → Bool
 is_router cables r =
-    is_between 1 16 (length r.port) && list_all (is_port cables) r.port && are_apart cables r.port
+    is_between 1 max_ports (length r.port) && list_all (is_port cables) r.port && are_apart cables r.port
 
 -- The node is on a cable that exists, and may try its addresses.
 abbrev pub is_node : List Cable → Node → Bool
@@ -52,9 +53,9 @@ is_action nodes a = is_between 1 (length nodes) a.node
 
 -- The invariant of a plan: its limits, and that its parts are consistent.
 pub record IsSound (p : Planned) : Type 0 where
-  pub few_cables : length p.cables ≤ 200
-  pub few_routers : length p.routers ≤ 200
-  pub few_nodes : length p.nodes ≤ 200
+  pub few_cables : length p.cables ≤ max_cables
+  pub few_routers : length p.routers ≤ max_routers
+  pub few_nodes : length p.nodes ≤ max_nodes
   pub cables : IsTrue (list_all is_cable p.cables)
   pub routers : IsTrue (list_all (is_router p.cables) p.routers)
   pub nodes : IsTrue (list_all (is_node p.cables) p.nodes)

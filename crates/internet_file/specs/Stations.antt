@@ -15,6 +15,7 @@ use Rattle.internet_file.specs.declared.node.Node.{Node}
 use Rattle.internet_file.specs.declared.port.Port.{Port}
 use Rattle.internet_file.specs.declared.router.Router.{Router}
 use Rattle.internet_file.specs.declared.service.Service.{Service}
+use Rattle.at_base.specs.Limits.{max_names, max_ports}
 
 -- The cable with this number, from 1.
 abbrev pub cable_at : List Cable → ℕ → Option Cable
@@ -51,7 +52,7 @@ are_apart cables (p ∷ ports) = list_all (λ q. not (meet cables p q)) ports &&
 -- A list of 1 to 16 ports, no two of them on cables that have a network in common.
 abbrev pub ports : List Cable → Data → Option (List Port)
 ports cables d =
-    given (list_within 1 16 d) (λ ds. given (all (port_of cables) ds) (λ ps. cond (are_apart cables ps) (Some ps) None))
+    given (list_within 1 max_ports d) (λ ds. given (all (port_of cables) ds) (λ ps. cond (are_apart cables ps) (Some ps) None))
 
 -- The router in an entry.
 abbrev pub router_of : List Cable → Data → Option Router
@@ -70,7 +71,7 @@ service_of d =
 -- A node with these names may register the service.
 abbrev pub may_register : List Named → Service → Bool
 may_register names s =
-    is_registrable s.object && is_registrable s.kind && not (is_taken s.object s.kind names) && nat_lt (length names) 32
+    is_registrable s.object && is_registrable s.kind && not (is_taken s.object s.kind names) && nat_lt (length names) max_names
 
 -- The names with that of the service, which has the lowest free enumerator.
 abbrev pub with_service : List Named → Service → List Named

@@ -10,9 +10,9 @@ ghost use Rattle.internet_file.specs.Values as values_spec;
 use crate::entries::{Reader, all};
 use crate::fields::range_at;
 use crate::key::{entry, get};
-use crate::listed::Listed;
 use crate::value::{list_within, zone};
-use at_base::{Error, Name, Range};
+use at_base::limits::MAX_ZONES;
+use at_base::{Error, Listed, Name, Range};
 use std::alloc::Global;
 use toml::{Table, Value};
 
@@ -47,7 +47,7 @@ fn zones_at(alloc: Global, table: &Table, key: &str) -> Result<Option<Listed<Nam
     let Some(value) = get(table, key) else {
         return Ok(None);
     };
-    let Some(values) = list_within(1, 64, value) else {
+    let Some(values) = list_within(1, MAX_ZONES, value) else {
         return Ok(None);
     };
     all(alloc, &Zones, values)

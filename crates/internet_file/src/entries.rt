@@ -6,8 +6,7 @@ ghost use Rattle.toml.specs.Data.{Data};
 ghost use Rattle.toml.specs.View.{view};
 ghost use Rattle.internet_file.specs.Entries as spec;
 
-use crate::listed::Listed;
-use at_base::{Error, Part};
+use at_base::{Error, Listed, Part};
 use std::alloc::Global;
 use toml::Value;
 

@@ -7,7 +7,6 @@ mod cable;
 mod entries;
 mod fields;
 mod key;
-mod listed;
 mod loss;
 mod names;
 mod node;
@@ -22,7 +21,6 @@ mod value;
 
 pub use action::{Action, Do};
 pub use cable::Cable;
-pub use listed::Listed;
 pub use loss::Loss;
 pub use node::Node;
 pub use plan::Plan;

@@ -7,12 +7,12 @@ ghost use Rattle.internet_file.specs.Files.{actions_in, cables_in, losses_in, no
 use crate::action::{Action, Actions};
 use crate::cable::{Cable, Cables};
 use crate::entries::{part, part_up_to};
-use crate::listed::Listed;
 use crate::loss::{Loss, Losses};
 use crate::node::{Node, Nodes};
 use crate::router::{Router, Routers};
 use crate::top::entries_at;
-use at_base::{Error, Part};
+use at_base::limits::{MAX_CABLES, MAX_NODES, MAX_ROUTERS};
+use at_base::{Error, Listed, Part};
 use std::alloc::Global;
 use toml::Table;
 
@@ -23,7 +23,13 @@ pub(crate) fn read_cables(alloc: Global, table: &Table) -> Result<Listed<Cable>,
     ensures refused { IfErr result (λ e.
         (cables_in (table_view table.now) ≡ Err e) ⊎ (e ≡ Error.Memory)) }
 {
-    part_up_to(alloc, 200, Part::Cable, &Cables, entries_at(table, "cable"))
+    part_up_to(
+        alloc,
+        MAX_CABLES as u32,
+        Part::Cable,
+        &Cables,
+        entries_at(table, "cable"),
+    )
 }
 
 /// The routers, at most 200. Errors: that of the first invalid entry; `Memory`.
@@ -40,7 +46,7 @@ pub(crate) fn read_routers(
     let reader = Routers { cables };
     part_up_to(
         alloc,
-        200,
+        MAX_ROUTERS as u32,
         Part::Router,
         &reader,
         entries_at(table, "router"),
@@ -59,7 +65,13 @@ pub(crate) fn read_nodes(
         (nodes_in cables.now (table_view table.now) ≡ Err e) ⊎ (e ≡ Error.Memory)) }
 {
     let reader = Nodes { cables };
-    part_up_to(alloc, 200, Part::Node, &reader, entries_at(table, "node"))
+    part_up_to(
+        alloc,
+        MAX_NODES as u32,
+        Part::Node,
+        &reader,
+        entries_at(table, "node"),
+    )
 }
 
 /// The losses. Errors: that of the first invalid entry; `Memory`.

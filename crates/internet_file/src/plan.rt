@@ -5,10 +5,10 @@ ghost use Rattle.internet_file.specs.Sound.{IsSound};
 
 use crate::action::Action;
 use crate::cable::Cable;
-use crate::listed::Listed;
 use crate::loss::Loss;
 use crate::node::Node;
 use crate::router::Router;
+use at_base::Listed;
 use std::marker::Model;
 
 /// The plan in an internet file: a network, and what happens in it in each tick.

@@ -11,9 +11,8 @@ use crate::cable::Cable;
 use crate::entries::{Reader, all};
 use crate::fields::{hardware_at, one_at};
 use crate::key::{entry, get};
-use crate::listed::Listed;
 use crate::value::{list_within, try_address};
-use at_base::{Addr, Error, Hw, Range};
+use at_base::{Addr, Error, Hw, Listed, Range};
 use std::alloc::Global;
 use toml::{Table, Value};
 

@@ -10,10 +10,10 @@ ghost use Rattle.internet_file.specs.Stations.{router_of};
 use crate::cable::Cable;
 use crate::entries::{Reader, all};
 use crate::key::{entry, get};
-use crate::listed::Listed;
 use crate::port::{Port, Ports};
 use crate::value::list_within;
-use at_base::Error;
+use at_base::limits::MAX_PORTS;
+use at_base::{Error, Listed};
 use std::alloc::Global;
 use toml::{Table, Value};
 
@@ -71,7 +71,7 @@ fn ports_at(
     let Some(value) = get(table, key) else {
         return Ok(None);
     };
-    let Some(values) = list_within(1, 16, value) else {
+    let Some(values) = list_within(1, MAX_PORTS, value) else {
         return Ok(None);
     };
     let Some(ports) = all(alloc, &Ports { cables }, values)? else {

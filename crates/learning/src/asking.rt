@@ -3,6 +3,7 @@
 ghost use Rattle.std.specs.Prelude.{◌≡◌, ◌≤◌, ◌++◌, length, IfOk, IsOkUnless, OnOk};
 ghost use Rattle.rtmp.specs.Routes.{IsRouteMap};
 ghost use Rattle.learning.specs.Queries.{queries_of, query_at};
+ghost use Rattle.at_base.specs.Limits.{max_rows};
 
 use crate::query::Query;
 use at_base::Error;
@@ -48,7 +49,7 @@ pub fn queries<T: RouteTable>(
 ) -> Result<Vec<Query>, Error>
     ensures ok { IfOk result (λ list. list.items ≡ queries_of (T.rows routes.now) zones.now) }
     // At most one for each row of a routing table.
-    ensures few { IfOk result (λ list. length list.items ≤ 200) }
+    ensures few { IfOk result (λ list. length list.items ≤ max_rows) }
     ensures refused { IsOkUnless result Error.Memory }
 {
     recall_map(routes);

@@ -18,14 +18,14 @@ use Rattle.legal_stations.proofs.Requested.{requested}
 use Rattle.legal_runs.specs.Answers.{Answers, Expanded, Expands, IsLookup, IsMade, LookedUp, Others, asks_here, ends_at, seeks_here}
 use Rattle.legal_runs.specs.Requests.{is_broadcast, is_forward, key_in, listing, request, zone_of}
 use Rattle.nbp.specs.Expansion.{asks}
-use Rattle.nbp.specs.Packets.{NbpPacket, key}
+use Rattle.nbp.specs.Packets.{NbpPacket, key, names_in}
 use Rattle.nbp.specs.declared.expansion.Ask.{Ask}
 use Rattle.nbp.specs.declared.expansion.Ask.TheVariants as ask
 use Rattle.nbp.specs.declared.packet.Function.{Function}
 use Rattle.nbp.specs.declared.packet.Function.TheVariants.{BroadcastRequest, ForwardRequest, Lookup, Reply}
 use Rattle.nbp.specs.declared.tuple.Tuple.{Tuple}
 use Rattle.router.specs.Holding.{Holding}
-use Rattle.router.specs.Requests.{asked, looked_on, looked_up, made_by, made_of, names_in, ranges, requests_made}
+use Rattle.router.specs.Requests.{asked, looked_on, looked_up, made_by, made_of, ranges, requests_made}
 use Rattle.router.specs.declared.request.Request.{Request}
 use Rattle.station.specs.Lawful.{IsGood, are_bytes}
 use Rattle.station.specs.Making.{all_made}

@@ -5,7 +5,7 @@ use Rattle.std.specs.List.{list_all}
 use Rattle.std.proofs.lemmas.Bool.{and_parts, or_left, or_right}
 use Rattle.at_base.specs.Checksum.{sum_of}
 use Rattle.at_base.specs.Packets.{packets}
-use Rattle.at_base.specs.Reading.{read}
+use Rattle.at_base.specs.Reading.{read, value_of}
 use Rattle.at_base.specs.Spelling.{Begins, Spells}
 use Rattle.at_base.proofs.Readers.{begins_read, spelled_begins}
 use Rattle.ddp.specs.Bodies.{body, hops, target, with_hops}
@@ -15,10 +15,9 @@ use Rattle.ddp.proofs.Shape.{bytes_laid, datagram_lawful, laid}
 use Rattle.legal_runs.specs.Answers.{IsBody}
 use Rattle.legal_runs.specs.Requests.{packet_in, request, value_of as value_in}
 use Rattle.legal_runs.proofs.Frames.{Framed, inside_is}
-use Rattle.nbp.specs.Packets.{NbpPacket, packet}
-use Rattle.router.specs.Requests.{names_in}
+use Rattle.nbp.specs.Packets.{NbpPacket, packet, names_in}
 use Rattle.station.specs.Lawful.{are_bytes}
-use Rattle.station.specs.Values.{datagram_at, value_of}
+use Rattle.station.specs.Values.{datagram_at}
 use Rattle.station.specs.Ways.{checks}
 
 -- Bytes that spell a datagram begin with it.

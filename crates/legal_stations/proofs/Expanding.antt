@@ -26,13 +26,13 @@ use Rattle.legal_runs.specs.Legs.{Leg}
 use Rattle.legal_runs.specs.Requests.{listing, listing_from, zone_of}
 use Rattle.legal_runs.proofs.Seated.{home_is}
 use Rattle.nbp.specs.Expansion.{ask, ask_by, asks}
-use Rattle.nbp.specs.Packets.{NbpPacket, key}
+use Rattle.nbp.specs.Packets.{NbpPacket, key, names_in}
 use Rattle.nbp.specs.declared.expansion.Ask.{Ask}
 use Rattle.nbp.specs.declared.expansion.Ask.TheVariants.{Forward}
 use Rattle.nbp.specs.declared.packet.Function.{Function}
 use Rattle.nbp.specs.declared.packet.Function.TheVariants.{BroadcastRequest, Reply}
 use Rattle.router.specs.Holding.{Holding}
-use Rattle.router.specs.Requests.{asked, names_in, ranges, requests_made}
+use Rattle.router.specs.Requests.{asked, ranges, requests_made}
 use Rattle.station.specs.Lawful.{IsGood, are_bytes}
 use Rattle.station.specs.Ways.{is_summed}
 use Rattle.station.specs.declared.output.Output.{Output}

@@ -17,9 +17,9 @@ use Rattle.legal_runs.specs.Requests.{zone_of}
 use Rattle.legal_runs.proofs.Seated.{listed_some}
 use Rattle.nbp.specs.declared.packet.Function.{Function}
 use Rattle.nbp.specs.declared.packet.Function.TheVariants.{ForwardRequest, Reply}
-use Rattle.nbp.specs.Packets.{NbpPacket, key}
+use Rattle.nbp.specs.Packets.{NbpPacket, key, names_in}
 use Rattle.router.specs.Holding.{Holding}
-use Rattle.router.specs.Requests.{looked_on, looked_up, made_by, made_of, names_in, requests_made}
+use Rattle.router.specs.Requests.{looked_on, looked_up, made_by, made_of, requests_made}
 use Rattle.station.specs.Lawful.{IsGood, are_bytes}
 use Rattle.station.specs.Ways.{is_summed}
 use Rattle.station.specs.declared.output.Next.{Next}

@@ -5,7 +5,7 @@ use Rattle.std.specs.Int.{byte_at}
 use Rattle.std.specs.List.{AllByRecursion as Each}
 use Rattle.std.proofs.lemmas.Bool.{and_parts}
 use Rattle.at_base.specs.Packets.{packets}
-use Rattle.at_base.specs.Reading.{read}
+use Rattle.at_base.specs.Reading.{read, value_of}
 use Rattle.at_base.specs.Spelling.{IsValue, bytes_of}
 use Rattle.at_base.specs.declared.address.Addr.{Addr}
 use Rattle.at_base.specs.declared.error.Error.{Error}
@@ -14,13 +14,11 @@ use Rattle.at_base.proofs.Laws.{read_takes}
 use Rattle.ddp.specs.Datagram.{datagram, datagram_of}
 use Rattle.ddp.proofs.Shape.{bytes_laid}
 use Rattle.end_node.specs.Lookups.{reply_of}
-use Rattle.nbp.specs.Packets.{NbpPacket, function_of, head, packet, packet_of}
+use Rattle.nbp.specs.Packets.{NbpPacket, function_of, head, packet, packet_of, names_in}
 use Rattle.nbp.specs.declared.packet.Function.TheVariants.{Reply}
 use Rattle.nbp.specs.declared.tuple.Tuple.{Tuple}
 use Rattle.nbp.proofs.Shape.{packet_lawful}
-use Rattle.router.specs.Requests.{names_in}
 use Rattle.station.specs.Lawful.{IsGood, are_bytes}
-use Rattle.station.specs.Values.{value_of}
 use Rattle.station.specs.Ways.{replying}
 use Rattle.station.specs.declared.way.Way.{Way}
 use Rattle.legal_stations.proofs.Datagrams.{data_bytes}

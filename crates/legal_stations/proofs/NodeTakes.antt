@@ -18,7 +18,8 @@ use Rattle.echo.specs.Echo.{echo_reply}
 use Rattle.end_node.specs.Answers.{Hears, heard, heard_datagram, heard_kind, heard_own, served, takes}
 use Rattle.station.specs.Ways.{checks, is_summed, is_to, reply_header, replying}
 use Rattle.end_node.specs.Holding.{NodeHolding}
-use Rattle.end_node.specs.Lookups.{answer_header, is_in, looked_up, names_in as node_names, replies, reply_of, told, told_by, told_of}
+use Rattle.end_node.specs.Lookups.{answer_header, is_in, looked_up, replies, reply_of, told, told_by, told_of}
+use Rattle.nbp.specs.Packets.{NbpPacket, names_in}
 use Rattle.end_node.specs.Ways.{reply_way, way_back}
 use Rattle.image_stations.specs.Holders.{HoldsNode}
 use Rattle.legal_stations.proofs.Requested.{requested}
@@ -26,12 +27,10 @@ use Rattle.legal_runs.specs.Answers.{Others, ends_at}
 use Rattle.legal_runs.specs.Legal.{Block, IsLegal}
 use Rattle.legal_runs.specs.Legs.{fate as fate_in, fate_by, is_datagram, is_unicast, places_of}
 use Rattle.legal_runs.specs.Stations.{cable_seats, has_address, is_router}
-use Rattle.nbp.specs.Packets.{NbpPacket}
 use Rattle.nbp.specs.Registered.{answers}
 use Rattle.nbp.specs.declared.packet.Function.{Function}
 use Rattle.nbp.specs.declared.packet.Function.TheVariants.{BroadcastRequest, ForwardRequest, Lookup, Reply}
 use Rattle.nbp.specs.declared.tuple.Tuple.{Tuple}
-use Rattle.router.specs.Requests.{names_in}
 use Rattle.station.specs.Lawful.{AreLawful, IsGood}
 use Rattle.station.specs.declared.output.Output.{Output}
 use Rattle.station.specs.declared.way.Way.{Way}
@@ -65,11 +64,6 @@ heard_so old new p added h = record {
   router = ap (λ (y : List Output × NodeHolding). y.1.router) h.0;
   names = ap (λ (y : List Output × NodeHolding). y.1.names) h.0;
 }
-
--- Nodes and routers read the same packet from a datagram's data.
-same_names : (payload : List ℕ) → node_names payload ≡ names_in payload
-unfolding node_names names_in
-same_names payload = refl
 
 module _ (i : Internet) (ok : Passes i) (p : Pair) (k n : ℕ) (far : p.seat.station ≡ length i.routers + k) (h : NodeHolding)
     (holds : HoldsNode i k h) where
@@ -182,16 +176,16 @@ module _ (i : Internet) (ok : Passes i) (p : Pair) (k n : ℕ) (far : p.seat.sta
     served_answer : Each (IsGood n) (served h d) → Answered i p (served h d)
     served_answer = by_four (is_to 4 4 d) refl
       where
-        by_two : (b : Bool) → Each (IsGood n) (if b then told h d (node_names d.payload) else []) → Answered i p
-            (if b then told h d (node_names d.payload) else [])
-        by_two true good = told_answer (node_names d.payload) (sym (same_names d.payload)) good
+        by_two : (b : Bool) → Each (IsGood n) (if b then told h d (names_in d.payload) else []) → Answered i p
+            (if b then told h d (names_in d.payload) else [])
+        by_two true good = told_answer (names_in d.payload) refl good
         by_two false good = answered [] tt tt
 
         by_four : (b : Bool) → is_to 4 4 d ≡ b
             → Each (IsGood n) (if b then replying (way_back h d) (option_to_list (echo_reply d)) else if is_to 2 2 d then told h d
-            (node_names d.payload) else [])
+            (names_in d.payload) else [])
             → Answered i p (if b then replying (way_back h d) (option_to_list (echo_reply d)) else if is_to 2 2 d then told h d
-            (node_names d.payload) else [])
+            (names_in d.payload) else [])
         by_four true e good = echo_answer e good
         by_four false e good = by_two (is_to 2 2 d) good
 

@@ -4,7 +4,7 @@ use Rattle.std.proofs.Common.{sym, ap, ◌∙◌, subst, arith, IsTrue, append-n
 use Rattle.std.proofs.lemmas.Bool.{and_parts, ltb-true}
 use Rattle.at_base.specs.declared.error.Error.{Error}
 use Rattle.at_base.specs.Packets.{packets}
-use Rattle.at_base.specs.Reading.{read}
+use Rattle.at_base.specs.Reading.{read, value_of as station_value}
 use Rattle.at_base.specs.Spelling.{Begins, IsValue, bytes_of}
 use Rattle.at_base.proofs.Fields.{IsBytes}
 use Rattle.at_base.proofs.Laws.{read_follows, read_takes}
@@ -12,12 +12,10 @@ use Rattle.at_base.proofs.Readers.{begins_read, spelled_begins}
 use Rattle.nbp.specs.declared.packet.Function.{Function}
 use Rattle.nbp.specs.declared.packet.Function.TheVariants.{Reply}
 use Rattle.nbp.specs.declared.tuple.Tuple.{Tuple}
-use Rattle.nbp.specs.Packets.{IsTuple, NbpPacket, key, packet, packet_of, tuple}
+use Rattle.nbp.specs.Packets.{IsTuple, NbpPacket, key, packet, packet_of, tuple, names_in}
 use Rattle.nbp.proofs.Shape.{one_tuple, packet_lawful, tuple_lawful}
 use Rattle.legal_runs.specs.Requests.{zone_in, zone_of, value_of}
-use Rattle.router.specs.Requests.{names_in}
 use Rattle.station.specs.Lawful.{are_bytes}
-use Rattle.station.specs.Values.{value_of as station_value}
 
 -- A list of bytes is a list of numbers below 256.
 bytes_fit : (bytes : List ℕ) → IsTrue (are_bytes bytes) → IsBytes bytes

@@ -19,9 +19,12 @@ use Rattle.legal_runs.specs.Answers.{Others, asks_here, ends_at, seeks_here}
 use Rattle.router.specs.Answers.{handled, made_for, requests_after, served}
 use Rattle.station.specs.Ways.{is_to, replying}
 use Rattle.router.specs.Holding.{Holding}
-use Rattle.router.specs.Requests.{names_in, requests_made}
+use Rattle.router.specs.Requests.{requests_made}
+use Rattle.nbp.specs.Packets.{names_in}
 use Rattle.router.specs.Ways.{way_back}
-use Rattle.router.specs.Zones.{info, info_way, told_by, transacted, transaction_in, zones_in, zones_told}
+use Rattle.router.specs.Zones.{info, info_way, told_by, transacted, zones_told}
+use Rattle.atp.specs.InPlace.{transaction_in}
+use Rattle.zip_zones.specs.Formats.{zones_in, packet as zip_packet}
 use Rattle.router.specs.declared.course.Ending.{Ending}
 use Rattle.station.specs.Lawful.{IsGood}
 use Rattle.station.specs.declared.output.Output.{Output}
@@ -30,7 +33,6 @@ use Rattle.table_image.specs.Bounds.{IsBounded}
 use Rattle.table_image.specs.Internet.{Internet}
 use Rattle.table_image.specs.declared.port.Port.{Port}
 use Rattle.zip_zones.specs.Answers.{replies}
-use Rattle.zip_zones.specs.Formats.{packet as zip_packet}
 use Rattle.zip_zones.specs.declared.packet.Packet.{Packet}
 use Rattle.zip_zones.specs.declared.packet.Packet.TheVariants as zip
 use Rattle.legal_stations.proofs.Arrivals.{Arrives}

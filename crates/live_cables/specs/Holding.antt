@@ -16,6 +16,7 @@ use Rattle.cable_model.specs.declared.resolve.HeldBy.{HeldBy}
 use Rattle.cable_model.specs.declared.seat.Seat.{Seat}
 use Rattle.live_cables.specs.Finding.{Knowing, is_first_for, own_or_none, request_for, seat_by, seat_on}
 use Rattle.live_cables.specs.declared.answer.Answer.{Answer}
+use Rattle.at_base.specs.Limits.{max_mappings}
 
 -- A datagram that is held with a stamp until an address is known. Its bytes are those of its entry.
 abbrev pub datagram : Addr → ℕ → Held
@@ -126,7 +127,7 @@ IsMet i answer maps false new = IsKnownAt maps i answer.source × (new ≡ maps)
 
 -- Each seat knows at most 256 mappings.
 abbrev pub AreFew : List Mappings → Type 0
-AreFew maps = Each (λ (m : Mappings). length m.known ≤ 256) maps
+AreFew maps = Each (λ (m : Mappings). length m.known ≤ max_mappings) maps
 
 -- The stamps of the datagrams that are held at a seat for the source of a response, oldest first.
 abbrev pub stamps_for : Option Mappings → Answer → List (Option ℕ)

@@ -10,6 +10,7 @@ ghost use Rattle.live_cables.specs.Finding.{held_at, hw_of, mapped, own_or_none,
 ghost use Rattle.live_cables.specs.Holding.{AreFew, AreReleased, IsKnownAt, IsMet, IsRequest, shed_at, stamps_for};
 ghost use Rattle.live_cables.specs.Holding.{with_held, with_known, with_tick, without_held};
 ghost use Rattle.live_cables.specs.Steps.{Puts};
+ghost use Rattle.at_base.specs.Limits.{max_held};
 
 use crate::answer::Answer;
 use crate::holding::release;
@@ -313,7 +314,7 @@ impl Neighbours {
     /// their cables, oldest first, and takes them out. Does nothing if the seat has no mappings.
     /// The caller ensures that the cables have room for 16 further entries. Allocates nothing.
     pub fn release(&mut self, cables: &mut Cables, seat: usize, answer: Answer)
-        requires { 16 ≤ cables.old.spare }
+        requires { max_held ≤ cables.old.spare }
         ensures released { AreReleased answer.source_hw (stamps_for (slice_get self.old.maps seat) answer)
             cables.old cables.new }
         ensures left { self.new ≡ record self.old {

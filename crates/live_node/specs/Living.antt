@@ -2,17 +2,15 @@
 use Rattle.std.specs.Prelude.{◌≡◌, ℕ, Bool, true, not, ◌&&◌, List, Option, Some, None, if◌then◌else◌, nat_lt}
 use Rattle.std.specs.Option.{unwrap_or}
 use Rattle.at_base.specs.Packets.{packets}
-use Rattle.at_base.specs.Reading.{read}
 use Rattle.ddp.specs.Datagram.{Datagram}
 use Rattle.end_node.specs.Answers.{Hears}
 use Rattle.station.specs.Ways.{is_to}
 use Rattle.end_node.specs.Holding.{NodeHolding}
 use Rattle.end_node.specs.Taking.{taken}
-use Rattle.rtmp.specs.Data.{RoutingData, routing_data}
+use Rattle.rtmp.specs.Data.{RoutingData, routing_in}
 use Rattle.station.specs.Hearing.{Hearing}
-use Rattle.station.specs.Values.{value_of}
 use Rattle.station.specs.declared.output.Output.{Output}
-use Rattle.zip_zones.specs.Formats.{packet as zip_packet}
+use Rattle.zip_zones.specs.Formats.{zones_in}
 use Rattle.zip_zones.specs.declared.packet.NetInfo.{NetInfo}
 use Rattle.zip_zones.specs.declared.packet.Packet.{Packet}
 use Rattle.zip_zones.specs.declared.packet.Packet.TheVariants.{Query, Reply, GetNetInfo, NetInfoReply, ExtendedReply}
@@ -25,14 +23,6 @@ pub record LivingNode : Type 0 where
   pub asked : ℕ
   pub wait : ℕ
   pub answered : Bool
-
--- the packet of routing data in a datagram's data, if any
-unfoldable pub routing_in : List ℕ → Option RoutingData
-routing_in payload = value_of (read packets routing_data payload)
-
--- the ZIP packet in a datagram's data, if any
-unfoldable pub zones_in : List ℕ → Option Packet
-zones_in payload = value_of (read packets zip_packet payload)
 
 -- A node after a packet of routing data, if there is one: the router that sent it becomes the node's router.
 abbrev pub routed : LivingNode → Option RoutingData → LivingNode

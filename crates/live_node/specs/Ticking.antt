@@ -3,26 +3,18 @@
 use Rattle.std.specs.Prelude.{◌≡◌, ℕ, ◌+◌, ◌-◌, Bool, false, is_some, not, ◌&&◌, ◌==◌, List, [], ◌∷◌, ◌++◌, nat_lt}
 use Rattle.std.specs.Prelude.{Option, Some, None, if◌then◌else◌}
 use Rattle.aarp.specs.Choosing.{Choice, settled, ticked}
-use Rattle.aarp.specs.Packets.{packet, written}
-use Rattle.aarp.specs.declared.packet.Packet.{Packet}
 use Rattle.at_base.specs.Spelling.{bytes_of}
 use Rattle.at_base.specs.declared.address.Addr.{Addr}
-use Rattle.at_base.specs.Multicast.{all_hw}
 use Rattle.atp.specs.Requesting.{Transactions}
 use Rattle.end_node.specs.Repeating.{AreRenewed, repeats_by}
 use Rattle.live_node.specs.Living.{LivingNode}
 use Rattle.station.specs.Making.{made}
 use Rattle.station.specs.declared.output.Next.TheVariants as next
 use Rattle.station.specs.declared.output.Output.{Output}
-use Rattle.station.specs.declared.output.Output.TheVariants.{Wire}
 use Rattle.station.specs.declared.way.Way.{Way}
 use Rattle.zip_zones.specs.Formats.{packet as spelled_packet}
 use Rattle.zip_zones.specs.Written.{question}
-
--- the frame with a probe, if there is one, to all stations of the cable
-abbrev pub probe : Option Packet → List Output
-probe None = []
-probe (Some p) = Wire 0 all_hw (bytes_of packet (written p)) ∷ []
+use Rattle.station.specs.Resolution.{probed}
 
 -- A node's router, and the number of ticks since the node last received routing data, after one more tick; after 250
 -- ticks the node forgets its router.
@@ -88,7 +80,7 @@ living_after own asks l = record {
 -- The outputs of a live node in a tick, after which it has this address or none: a probe, or a GetNetInfo request, or
 -- neither, and then the requests for zones that the tick makes due.
 abbrev pub sent_live : Option Addr → LivingNode → List Output
-sent_live own l = probe (ticked l.node.port).1 ++ questions own l ++ repeats_by own l.node.asks.slots
+sent_live own l = probed 0 (ticked l.node.port).1 ++ questions own l ++ repeats_by own l.node.asks.slots
 
 -- A live node in state old has these outputs in a tick, after which it has this address or none, and is in state new
 -- after it.

@@ -4,33 +4,17 @@ ghost use Rattle.std.specs.Prelude.{◌≡◌, ◌≤◌, ◌+◌, ◌++◌, len
 ghost use Rattle.aarp.specs.Choosing.{settled};
 ghost use Rattle.end_node.specs.Repeating.{AreRenewed};
 ghost use Rattle.live_node.specs.Passing.{passed};
-ghost use Rattle.live_node.specs.Ticking.{LiveTicks, probe, questions};
+ghost use Rattle.live_node.specs.Ticking.{LiveTicks, questions};
+ghost use Rattle.station.specs.Resolution.{probed};
 ghost use Rattle.end_node.specs.Repeating.{repeats_by};
 ghost use Rattle.station.specs.Lawful.{PutsOut};
 ghost use Rattle.station.specs.Made.{AreMade};
 
 use crate::live::LiveNode;
 use aarp::Packet;
-use at_base::{Addr, Bytes, Error, Hw};
+use at_base::{Addr, Error};
+use station::frames::put_probe;
 use station::{Output, Outputs};
-
-/// Adds the probe of this tick, if there is one, to all stations of the cable. Error: `Memory`.
-#[tactic(auto, unfolding(station::specs::Made::AreMade))]
-fn put_probe(made: &mut Vec<Output>, sent: &Option<Packet>) -> Result<(), Error>
-    ensures put { OnOk result (made.new.items ≡ made.old.items ++ probe sent.now) }
-    ensures few { OnOk result (length made.new.items ≤ length made.old.items + 1) }
-    ensures good { OnOk result (AreMade 1 made.old.items → AreMade 1 made.new.items) }
-    ensures refused { IsOkUnless result Error.Memory }
-{
-    let Some(sent) = sent else { return Ok(()) };
-    let bytes = Bytes::copy(*made.allocator(), &sent.write())?;
-    made.push(Output::Wire {
-        port: 0,
-        to: Hw::ALL,
-        bytes,
-    })?;
-    Ok(())
-}
 
 impl LiveNode {
     /// Counts a tick, after which the node has this address or none.
@@ -47,13 +31,13 @@ impl LiveNode {
     /// none. Error: `Memory`.
     fn made(&self, sent: &Option<Packet>, own: Option<Addr>) -> Result<Vec<Output>, Error>
         ensures ok { IfOk result (λ made. made.items
-            ≡ probe sent.now ++ questions own self.now ++ repeats_by own self.now.node.asks.slots) }
+            ≡ probed 0 sent.now ++ questions own self.now ++ repeats_by own self.now.node.asks.slots) }
         ensures few { IfOk result (λ made. length made.items ≤ 34) }
         ensures good { IfOk result (λ made. AreMade 1 made.items) }
         ensures refused { IsOkUnless result Error.Memory }
     {
         let mut made = Vec::new(self.node.allocator());
-        put_probe(&mut made, sent)?;
+        put_probe(&mut made, 0, sent)?;
         self.put_question(own, &mut made)?;
         self.node.put_repeats(own, &mut made)?;
         Ok(made)
@@ -68,7 +52,7 @@ impl LiveNode {
         outputs: &mut Outputs,
     ) -> Result<(), Error>
         ensures sent { OnOk result (PutsOut 1 outputs.old.items outputs.new.items (λ added. added
-            ≡ probe sent.now ++ questions own self.now ++ repeats_by own self.now.node.asks.slots)) }
+            ≡ probed 0 sent.now ++ questions own self.now ++ repeats_by own self.now.node.asks.slots)) }
         ensures refused { IsOkUnless result Error.Memory }
         ensures outputs_stay { OnErr result (outputs.new.items ≡ outputs.old.items) }
     {

@@ -2,7 +2,9 @@
 
 ghost use Rattle.std.specs.Prelude.{◌≡◌};
 ghost use Rattle.live_node.specs.Living as spec;
-ghost use Rattle.live_node.specs.Living.{informed, routed, routing_in, taught, told, zones_in};
+ghost use Rattle.live_node.specs.Living.{informed, routed, taught, told};
+ghost use Rattle.rtmp.specs.Data.{routing_in};
+ghost use Rattle.zip_zones.specs.Formats.{zones_in};
 
 use crate::live::LiveNode;
 use ddp::{View, kind, socket};
@@ -10,33 +12,13 @@ use rtmp::DataPacket;
 use station::ways::is_to;
 use zip_zones::{NetInfo, Packet};
 
-/// The packet of routing data in the data of a datagram, if any.
-fn read_routing(payload: &[u8]) -> Option<DataPacket<'_>>
-    ensures { result ≡ routing_in payload.now }
-{
-    match DataPacket::read(payload) {
-        Ok(packet) => Some(packet),
-        Err(_) => None,
-    }
-}
-
-/// The ZIP packet in the data of a datagram, if any.
-fn read_zones(payload: &[u8]) -> Option<Packet<'_>>
-    ensures { result ≡ zones_in payload.now }
-{
-    match Packet::read(payload) {
-        Ok(packet) => Some(packet),
-        Err(_) => None,
-    }
-}
-
 impl LiveNode {
     /// Handles data for the routing socket: the router that sent a packet of routing data becomes
     /// the node's router.
     fn hear_routing(&mut self, payload: &[u8])
         ensures { self.new ≡ routed self.old (routing_in payload.now) }
     {
-        if let Some(packet) = read_routing(payload) {
+        if let Some(packet) = DataPacket::at(payload) {
             self.node.set_router(Some(packet.router()));
             self.silence = 0;
         }
@@ -66,7 +48,7 @@ impl LiveNode {
     fn hear_zones(&mut self, payload: &[u8])
         ensures { self.new ≡ told self.old (zones_in payload.now) }
     {
-        if let Some(Packet::NetInfoReply(info)) = read_zones(payload) {
+        if let Some(Packet::NetInfoReply(info)) = Packet::at(payload) {
             self.hear_info(&info);
         }
     }

@@ -13,6 +13,7 @@ ghost use Rattle.end_node.specs.Sending.{header_to, sending};
 ghost use Rattle.nbp.specs.Registered.{IsLeastFree, is_registrable, is_taken, with_name};
 ghost use Rattle.station.specs.Lawful.{PutsOut};
 ghost use Rattle.station.specs.Making.{made};
+ghost use Rattle.at_base.specs.Limits.{max_names};
 
 use crate::live::LiveNode;
 use at_base::{Addr, Error, Text32};
@@ -116,7 +117,7 @@ impl LiveNode {
         ensures full { (result ≡ Err Error.Full)
             ↔ (((is_registrable object && is_registrable kind) ≡ true)
             × (is_taken object kind self.old.node.names ≡ false)
-            × (32 ≤ length self.old.node.names)) }
+            × (max_names ≤ length self.old.node.names)) }
         ensures refused { IfErr result (λ e. (e ≡ Error.BadName) ⊎ (e ≡ Error.BadField Taken)
             ⊎ (e ≡ Error.Full) ⊎ (e ≡ Error.Memory)) }
         ensures kept { OnErr result (self.new ≡ self.old) }

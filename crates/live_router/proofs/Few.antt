@@ -8,7 +8,8 @@ use Rattle.aarp.specs.declared.packet.Packet.{Packet}
 use Rattle.at_base.specs.Range.{Span}
 use Rattle.at_base.specs.Spelling.{bytes_of}
 use Rattle.at_base.specs.declared.address.Addr.{Addr}
-use Rattle.live_router.specs.Ticking.{data_by, data_from, data_way, packets_for, ports_ticked, probe_by, probes}
+use Rattle.live_router.specs.Ticking.{data_by, data_from, data_way, packets_for, ports_ticked, probes}
+use Rattle.station.specs.Resolution.{probed}
 use Rattle.rtmp.specs.Data.{routing_data}
 use Rattle.rtmp.specs.Sending.{packet_numbered}
 use Rattle.rtmp.specs.declared.row.Row.{Row}
@@ -46,7 +47,7 @@ data_few k range (Some me) rows =
 -- the number of probes and packets of routing data that a port sends in a tick
 abbrev of_port : ℕ → Choice → List Row → ℕ
 of_port k c rows =
-    length (probe_by k (ticked c).1) + length (data_by k (ticked c).0.range (settled (ticked c).0) rows)
+    length (probed k (ticked c).1) + length (data_by k (ticked c).0.range (settled (ticked c).0) rows)
 
 -- a port that sends a probe in a tick isn't settled after it
 probes_or_settled : (c : Choice) → ((ticked c).1 ≡ None) ⊎ ((ticked c).0.is_settled ≡ false)
@@ -59,7 +60,7 @@ probes_or_settled c = by c.is_settled (nat_lt c.probes 10) refl refl
 
 -- a port that isn't settled sends no routing data
 pair_few : (k : ℕ) (c : Choice) (probe : Option Packet) (rows : List Row) → (probe ≡ None) ⊎ (c.is_settled ≡ false)
-    → length (probe_by k probe) + length (data_by k c.range (settled c) rows) ≤ 3
+    → length (probed k probe) + length (data_by k c.range (settled c) rows) ≤ 3
 pair_few k c None rows h = omega (arith, data_few k c.range (settled c) rows)
 pair_few k c (Some p) rows (inl e) = absurd cc
 pair_few k c (Some p) rows (inr e) =
@@ -77,7 +78,7 @@ ports_few k (c ∷ cs) rows =
       arith,
       port_few k c rows,
       ports_few (k + 1) cs rows,
-      length-append (probe_by k (ticked c).1) (probes (k + 1) cs),
+      length-append (probed k (ticked c).1) (probes (k + 1) cs),
       length-append (data_by k (ticked c).0.range (settled (ticked c).0) rows) (data_from (k + 1) (ports_ticked cs) rows),
     )
 

@@ -5,10 +5,10 @@ use Rattle.std.proofs.lemmas.Bool.{lt-ltb}
 use Rattle.aarp.specs.Choosing.{Choice}
 use Rattle.ddp.specs.Datagram.{Datagram}
 use Rattle.live_router.proofs.Seated.{Seated, after_seated}
-use Rattle.live_router.specs.Living.{routes_taught, routes_then, routing_in}
+use Rattle.live_router.specs.Living.{routes_taught, routes_then}
+use Rattle.rtmp.specs.Data.{routing_in, RoutingData}
 use Rattle.station.specs.Ways.{is_to}
 use Rattle.router.specs.Holding.{Holding}
-use Rattle.rtmp.specs.Data.{RoutingData}
 use Rattle.rtmp.specs.declared.row.Row.{Row}
 
 routes_seated : (n port : ℕ) (rows : List Row) (c : Option Choice) (packet : Option RoutingData) → nat_lt port n ≡ true

@@ -1,19 +1,16 @@
 -- The state of a live router, and what it learns from frames. (Inside AppleTalk, the chapters on RTMP and ZIP)
 use Rattle.std.specs.Prelude.{◌≡◌, ℕ, List, Option, Some, None, if◌then◌else◌, slice_get}
 use Rattle.aarp.specs.Choosing.{Choice}
-use Rattle.at_base.specs.Packets.{packets}
-use Rattle.at_base.specs.Reading.{read}
 use Rattle.ddp.specs.Datagram.{Datagram}
 use Rattle.learning.specs.Heard.{routes_after}
 use Rattle.router.specs.Answers.{heard}
 use Rattle.station.specs.Ways.{is_to}
 use Rattle.router.specs.Ending.{ended}
 use Rattle.router.specs.Holding.{Holding}
-use Rattle.router.specs.Zones.{zones_in}
-use Rattle.rtmp.specs.Data.{RoutingData, routing_data}
+use Rattle.zip_zones.specs.Formats.{zones_in}
+use Rattle.rtmp.specs.Data.{RoutingData, routing_in}
 use Rattle.rtmp.specs.declared.row.Row.{Row}
 use Rattle.station.specs.Hearing.{Hearing}
-use Rattle.station.specs.Values.{value_of}
 use Rattle.station.specs.declared.output.Output.{Output}
 use Rattle.zip_zones.specs.Answers.{after_reply}
 use Rattle.zip_zones.specs.Zones.{Known}
@@ -24,10 +21,6 @@ use Rattle.zip_zones.specs.declared.packet.Packet.{Packet}
 pub record Living : Type 0 where
   pub router : Holding
   pub phase : ℕ
-
--- the packet of routing data in a datagram's data, if any
-unfoldable pub routing_in : List ℕ → Option RoutingData
-routing_in payload = value_of (read packets routing_data payload)
 
 -- The rows after a packet of routing data, if there is one, that ended on port p; only the packets of a neighbour on
 -- that port count.

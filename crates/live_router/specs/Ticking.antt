@@ -3,12 +3,9 @@
 use Rattle.std.specs.Prelude.{◌≡◌, ℕ, ◌+◌, ◌%◌, Bool, false, not, ◌&&◌, ◌==◌, List, [], ◌∷◌, ◌++◌, length, map, nat_lt, option_to_list}
 use Rattle.std.specs.Prelude.{Option, Some, None, if◌then◌else◌}
 use Rattle.aarp.specs.Choosing.{Choice, settled, ticked}
-use Rattle.aarp.specs.Packets.{packet, written}
-use Rattle.aarp.specs.declared.packet.Packet.{Packet}
 use Rattle.at_base.specs.Range.{Span}
 use Rattle.at_base.specs.Spelling.{bytes_of}
 use Rattle.at_base.specs.declared.address.Addr.{Addr}
-use Rattle.at_base.specs.Multicast.{all_hw}
 use Rattle.atp.specs.Responding.{ticked as requests_ticked}
 use Rattle.ddp.specs.declared.header.Header.{Header}
 use Rattle.learning.specs.Forgetting.{without_gone}
@@ -23,11 +20,12 @@ use Rattle.rtmp.specs.declared.row.Row.{Row}
 use Rattle.station.specs.Making.{made}
 use Rattle.station.specs.declared.output.Next.TheVariants as next
 use Rattle.station.specs.declared.output.Output.{Output}
-use Rattle.station.specs.declared.output.Output.TheVariants.{Wire}
 use Rattle.station.specs.declared.way.Way.{Way}
 use Rattle.zip_zones.specs.Formats.{packet as spelled_packet}
 use Rattle.zip_zones.specs.Zones.{Known}
 use Rattle.zip_zones.specs.declared.packet.Packet.TheVariants.{Query as QueryPacket}
+use Rattle.station.specs.Resolution.{probed}
+use Rattle.at_base.specs.Limits.{max_rows}
 
 -- ---- Addresses
 
@@ -35,15 +33,10 @@ use Rattle.zip_zones.specs.declared.packet.Packet.TheVariants.{Query as QueryPac
 abbrev pub ports_ticked : List Choice → List Choice
 ports_ticked ports = map (λ c. (ticked c).0) ports
 
--- the frame with a probe, if there is one, on port k to all stations of the cable
-abbrev pub probe_by : ℕ → Option Packet → List Output
-probe_by k None = []
-probe_by k (Some p) = Wire k all_hw (bytes_of packet (written p)) ∷ []
-
 -- the probes of a tick, on the ports, which are numbered from k
 abbrev pub probes : ℕ → List Choice → List Output
 probes k [] = []
-probes k (c ∷ cs) = probe_by k (ticked c).1 ++ probes (k + 1) cs
+probes k (c ∷ cs) = probed k (ticked c).1 ++ probes (k + 1) cs
 
 -- ---- Tables
 
@@ -54,7 +47,7 @@ settles c = not c.is_settled && (ticked c).0.is_settled
 -- The rows after port k settled on a cable with this range: the range gets a direct row, unless the table has no room
 -- for it.
 abbrev pub joined : Span → ℕ → List Row → List Row
-joined range k rows = if nat_lt (length (beside range rows)) 200 then directed range k rows else rows
+joined range k rows = if nat_lt (length (beside range rows)) max_rows then directed range k rows else rows
 
 -- The rows after a tick's settling of ports, which are numbered from k: each port that settles gets a direct row.
 abbrev pub all_joined : ℕ → List Choice → List Row → List Row

@@ -4,16 +4,17 @@ ghost use Rattle.std.specs.Prelude.{◌≡◌, ◌<◌, ◌≤◌, ◌+◌, ◌+
 ghost use Rattle.std.specs.Prelude.{unwrap_or, IfOk, IsOkUnless, OnOk, Some};
 ghost use Rattle.std.specs.List.{list_all};
 ghost use Rattle.aarp.specs.Choosing.{ticked};
-ghost use Rattle.live_router.specs.Ticking as spec;
 ghost use Rattle.live_router.specs.Ticking.{ports_ticked, probes};
-ghost use Rattle.station.specs.Made.{AreMade, IsMadeIn};
+ghost use Rattle.station.specs.Made.{AreMade};
+ghost use Rattle.station.specs.Resolution.{probed};
+ghost use Rattle.at_base.specs.Limits.{max_ports};
 
-use aarp::{Chooser, Packet};
-use at_base::{Bytes, Error, Hw};
+use aarp::Chooser;
+use at_base::Error;
 use router::Router;
 use rtmp::RouteTable;
 use station::Output;
-use std::alloc::Global;
+use station::frames::put_probe;
 
 /// Whether the port's address is settled.
 fn is_settled(chooser: &Chooser) -> bool
@@ -23,41 +24,10 @@ fn is_settled(chooser: &Chooser) -> bool
 }
 
 /// Whether the address of each port is settled.
-fn are_settled(ports: &[Chooser]) -> bool
+pub(crate) fn are_settled(ports: &[Chooser]) -> bool
     ensures { result ≡ list_all (λ c. c.is_settled) ports.now }
 {
     ports.iter().all(is_settled)
-}
-
-/// The frame with a probe, to all stations of the port's cable. Error: `Memory`.
-fn probe_frame(alloc: Global, port: u8, probe: &Packet) -> Result<Output, Error>
-    ensures ok { IfOk result (λ output. output ∷ [] ≡ spec.probe_by port (Some probe.now)) }
-    ensures good { IfOk result (λ output. (n : ℕ) → port < n → IsMadeIn n output) }
-    ensures refused { IsOkUnless result Error.Memory }
-{
-    Ok(Output::Wire {
-        port,
-        to: Hw::ALL,
-        bytes: Bytes::copy(alloc, &probe.write())?,
-    })
-}
-
-/// Adds the frame with a probe, if there is one. Error: `Memory`.
-#[tactic(auto, unfolding(station::specs::Made::AreMade))]
-fn put_probe(made: &mut Vec<Output>, port: u8, probe: &Option<Packet>) -> Result<(), Error>
-    ensures put { OnOk result (made.new.items ≡ made.old.items ++ spec.probe_by port probe.now) }
-    ensures good { (n : ℕ) → port < n → AreMade n made.old.items
-        → AreMade n made.new.items }
-    ensures refused { IsOkUnless result Error.Memory }
-{
-    match probe {
-        Some(probe) => {
-            let frame = probe_frame(*made.allocator(), port, probe)?;
-            made.push(frame)?;
-            Ok(())
-        }
-        None => Ok(()),
-    }
 }
 
 /// Advances the choice of a port's address by a tick: appends the choice after the tick, and adds
@@ -70,7 +40,7 @@ fn tick_port(
 ) -> Result<(), Error>
     ensures next { OnOk result (next.new.items ≡ next.old.items ++ (ticked chooser.now).0 ∷ []) }
     ensures put { OnOk result
-        (made.new.items ≡ made.old.items ++ spec.probe_by port (ticked chooser.now).1) }
+        (made.new.items ≡ made.old.items ++ probed port (ticked chooser.now).1) }
     ensures good { (n : ℕ) → port < n → AreMade n made.old.items
         → AreMade n made.new.items }
     ensures refused { IsOkUnless result Error.Memory }
@@ -88,7 +58,7 @@ fn tick_ports(
     port: u8,
     ports: &[Chooser],
 ) -> Result<(), Error>
-    requires { port + length ports.now ≤ 16 }
+    requires { port + length ports.now ≤ max_ports }
     ensures next { OnOk result (next.new.items ≡ next.old.items ++ ports_ticked ports.now) }
     ensures put { OnOk result (made.new.items ≡ made.old.items ++ probes port ports.now) }
     ensures good { (n : ℕ) → port + length ports.now ≤ n → AreMade n made.old.items

@@ -1,7 +1,7 @@
 //! The queries for zone lists that a router sends.
 
 ghost use Rattle.std.specs.Prelude.{◌≡◌, ◌<◌, ◌≤◌, ◌∷◌, [], ℕ, length};
-ghost use Rattle.std.specs.Prelude.{IfOk, IfSome, IsOkUnless, None, Some};
+ghost use Rattle.std.specs.Prelude.{IfOk, IsOkUnless, None, Some};
 ghost use Rattle.at_base.specs.Spelling.{bytes_of};
 ghost use Rattle.live_router.specs.Ticking.{all_queries, query_from};
 ghost use Rattle.router.specs.Holding as holding_spec;
@@ -15,21 +15,11 @@ use aarp::Chooser;
 use at_base::{Addr, Bytes, Error};
 use ddp::{kind, socket};
 use learning::Query;
+use router::own_at;
 use station::making::put;
 use station::{Next, Output, Way};
 use std::alloc::Global;
 use zip_zones::write_query;
-
-/// The address of the port at an index, if it is settled.
-fn own_at(ports: &[Chooser], port: u8) -> Option<Addr>
-    ensures value { result ≡ holding_spec.own_at ports.now port }
-    ensures inside { IfSome result (λ me. port < length ports.now) }
-{
-    match ports.get(port as usize) {
-        Some(chooser) => chooser.settled(),
-        None => None,
-    }
-}
 
 /// The bytes of the query about the range that begins with this network. Error: `Memory`.
 fn query_bytes(alloc: Global, start: u16) -> Result<Bytes, Error>

@@ -9,6 +9,7 @@ ghost use Rattle.live_router.specs.Ticking as spec;
 ghost use Rattle.live_router.specs.Ticking.{zones_aged};
 ghost use Rattle.learning.specs.Forgetting.{without_gone};
 ghost use Rattle.rtmp.specs.Routes.{aged, beside};
+ghost use Rattle.at_base.specs.Limits.{max_ports, max_rows};
 
 use crate::tables::Tables;
 use aarp::Chooser;
@@ -41,7 +42,7 @@ fn any_settles(before: &[Chooser], after: &[Chooser]) -> bool
 /// no room for it. Error: `Memory`.
 fn join<T: RouteTable>(routes: &mut T, range: Range, port: u8) -> Result<(), Error>
     ensures ok { OnOk result (T.rows routes.new ≡ joined range port (T.rows routes.old)) }
-    ensures full { 200 ≤ length (beside range (T.rows routes.old)) → result ≡ Ok tt }
+    ensures full { max_rows ≤ length (beside range (T.rows routes.old)) → result ≡ Ok tt }
     ensures refused { IsOkUnless result Error.Memory }
 {
     match routes.direct(range, port) {
@@ -59,7 +60,7 @@ fn join_all<T: RouteTable>(
     after: &[Chooser],
 ) -> Result<(), Error>
     requires ticked { after.now ≡ ports_ticked before.now }
-    requires few { port + length before.now ≤ 16 }
+    requires few { port + length before.now ≤ max_ports }
     ensures ok { OnOk result
         (T.rows routes.new ≡ all_joined port before.now (T.rows routes.old)) }
     ensures refused { IsOkUnless result Error.Memory }

@@ -4,6 +4,7 @@ ghost use Rattle.std.specs.Prelude.{◌≡◌, ◌<◌, ◌⊎◌, ◌↔◌, []
 ghost use Rattle.std.specs.List.{list_all};
 ghost use Rattle.rtmp.specs.Routes.{poisoned};
 ghost use Rattle.station.specs.Ports.{is_planned, planned};
+ghost use Rattle.at_base.specs.Limits.{max_ports};
 
 use crate::passing::{pass, phase_after};
 use crate::received::hear;
@@ -59,7 +60,7 @@ impl<T: RouteTable> LiveRouter<T> {
           };
           phase = 0;
         }) }
-        ensures full { (result ≡ Err Error.Full) ↔ (16 < length plans.now) }
+        ensures full { (result ≡ Err Error.Full) ↔ (max_ports < length plans.now) }
         ensures refused { IfErr result (λ e. (e ≡ Error.Full) ⊎ (e ≡ Error.Memory)) }
     {
         if plans.len() > MAX_PORTS {

@@ -1,6 +1,6 @@
 //! A tick of a live router.
 
-ghost use Rattle.std.specs.Prelude.{◌≡◌, ◌<◌, ◌≤◌, ◌+◌, ◌++◌, ◌==◌, ◌%◌, [], length, nat_lt};
+ghost use Rattle.std.specs.Prelude.{◌≡◌, ◌<◌, ◌≤◌, ◌+◌, ◌++◌, ◌==◌, ◌%◌, [], false, true, length, nat_lt};
 ghost use Rattle.std.specs.Prelude.{if◌then◌else◌, option_map, unwrap_or};
 ghost use Rattle.std.specs.Prelude.{IfOk, IsOkUnless, IsTrue, OnErr, OnOk};
 ghost use Rattle.std.specs.List.{list_all};
@@ -11,8 +11,9 @@ ghost use Rattle.live_router.specs.Ticking.{ports_ticked, probes};
 ghost use Rattle.live_router.specs.Ticking.{router_after, routes_aged, sent_by, zones_aged};
 ghost use Rattle.station.specs.Lawful.{PutsOut};
 ghost use Rattle.station.specs.Made.{Adds, AreMade};
+ghost use Rattle.at_base.specs.Limits.{max_ports, max_rows};
 
-use crate::addresses::ports_after;
+use crate::addresses::{are_settled, ports_after};
 use crate::asked::put_queries;
 use crate::joined::tables_after;
 use crate::sent::put_all_data;
@@ -48,8 +49,8 @@ fn send_all<T: RouteTable>(
     routes: &T,
     zones: &ZoneTable,
 ) -> Result<(), Error>
-    requires { length ports.now ≤ 16 }
-    ensures { Adds (length ports.now) (length (data_from 0 ports.now (T.rows routes.now)) + 200)
+    requires { length ports.now ≤ max_ports }
+    ensures { Adds (length ports.now) (length (data_from 0 ports.now (T.rows routes.now)) + max_rows)
         (data_from 0 ports.now (T.rows routes.now)
         ++ all_queries ports.now (queries_of (T.rows routes.now) zones.now))
         made.old.items made.new.items result }
@@ -68,8 +69,8 @@ fn send<T: RouteTable>(
     routes: &T,
     zones: &ZoneTable,
 ) -> Result<(), Error>
-    requires { length ports.now ≤ 16 }
-    ensures { Adds (length ports.now) (length (data_from 0 ports.now (T.rows routes.now)) + 200)
+    requires { length ports.now ≤ max_ports }
+    ensures { Adds (length ports.now) (length (data_from 0 ports.now (T.rows routes.now)) + max_rows)
         (if phase % 50 == 0 then data_from 0 ports.now (T.rows routes.now)
         ++ all_queries ports.now (queries_of (T.rows routes.now) zones.now) else [])
         made.old.items made.new.items result }
@@ -120,6 +121,15 @@ fn passed<T: RouteTable>(router: &Router<T>, phase: u8) -> Result<Ticked<T>, Err
     })
 }
 
+/// Whether a tick in this phase changes no more than the requests, and sends nothing: each port is
+/// settled, no routing data is sent, and no row ages.
+fn is_quiet<T: RouteTable>(router: &Router<T>, phase: u8) -> bool
+    ensures { result ≡ true → ((phase % 50 == 0) ≡ false)
+        × (list_all (λ p. p.is_settled) router.now.ports ≡ true) }
+{
+    phase % SEND_TICKS != 0 && are_settled(router.ports_now())
+}
+
 /// Advances a router by a tick; it is in this phase after it. Error: `Memory`; neither the router
 /// nor the outputs change then.
 pub(crate) fn pass<T: RouteTable>(
@@ -135,6 +145,10 @@ pub(crate) fn pass<T: RouteTable>(
     ensures router_stays { OnErr result (router.new ≡ router.old) }
     ensures outputs_stay { OnErr result (outputs.new.items ≡ outputs.old.items) }
 {
+    if is_quiet(router, phase) {
+        router.pass_requests();
+        return Ok(());
+    }
     // All steps that may fail come first: an error then leaves the router unchanged.
     let Ticked {
         made,

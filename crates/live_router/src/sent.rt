@@ -10,6 +10,7 @@ ghost use Rattle.rtmp.specs.Data.{routing_data};
 ghost use Rattle.rtmp.specs.Sending.{packet_numbered};
 ghost use Rattle.station.specs.Made.{AreMade};
 ghost use Rattle.station.specs.Making as making_spec;
+ghost use Rattle.at_base.specs.Limits.{max_ports};
 
 use aarp::Chooser;
 use at_base::{Addr, Error, Range};
@@ -118,7 +119,7 @@ pub(crate) fn put_all_data<T: RouteTable>(
     ports: &[Chooser],
     routes: &T,
 ) -> Result<(), Error>
-    requires { port + length ports.now ≤ 16 }
+    requires { port + length ports.now ≤ max_ports }
     ensures put { OnOk result
         (made.new.items ≡ made.old.items ++ data_from port ports.now (T.rows routes.now)) }
     ensures good { (n : ℕ) → port + length ports.now ≤ n → AreMade n made.old.items

@@ -4,10 +4,11 @@ ghost use Rattle.std.specs.Prelude.{◌≡◌, ◌<◌, length, nat_lt, option_m
 ghost use Rattle.std.specs.Prelude.{IfOk, IfSome, IsOkUnless, IsTrue};
 ghost use Rattle.std.specs.List.{list_all};
 ghost use Rattle.learning.specs.Heard.{routes_after};
-ghost use Rattle.live_router.specs.Living.{routes_taught, routes_then, routing_in, taught};
+ghost use Rattle.live_router.specs.Living.{routes_taught, routes_then, taught};
+ghost use Rattle.rtmp.specs.Data.{routing_in};
 ghost use Rattle.live_router.specs.Living.{zones_taught, zones_then};
 ghost use Rattle.live_router.specs.Replies as spec;
-ghost use Rattle.router.specs.Zones.{zones_in};
+ghost use Rattle.zip_zones.specs.Formats.{zones_in};
 ghost use Rattle.zip_zones.specs.Answers.{after_reply};
 
 use crate::tables::Tables;
@@ -18,26 +19,6 @@ use router::Router;
 use rtmp::{DataPacket, RouteTable};
 use station::ways::is_to;
 use zip_zones::{Packet, ZoneTable};
-
-/// The packet of routing data in the data of a datagram, if any.
-fn read_data(payload: &[u8]) -> Option<DataPacket<'_>>
-    ensures { result ≡ routing_in payload.now }
-{
-    match DataPacket::read(payload) {
-        Ok(packet) => Some(packet),
-        Err(_) => None,
-    }
-}
-
-/// The ZIP packet in the data of a datagram, if any.
-fn read_zip(payload: &[u8]) -> Option<Packet<'_>>
-    ensures { result ≡ zones_in payload.now }
-{
-    match Packet::read(payload) {
-        Ok(packet) => Some(packet),
-        Err(_) => None,
-    }
-}
 
 /// A copy of the routing table after a packet of routing data that ended on a port, whose cable has
 /// this range. Error: `Memory`.
@@ -68,7 +49,7 @@ fn routes_taught_by<T: RouteTable>(
         (routing_in payload.now)) }
     ensures refused { IsOkUnless result Error.Memory }
 {
-    let Some(packet) = read_data(payload) else {
+    let Some(packet) = DataPacket::at(payload) else {
         return Ok(None);
     };
     match router.ports_now().get(port as usize) {
@@ -107,7 +88,7 @@ fn zones_taught_by<T: RouteTable>(
         ≡ zones_taught router.now.routes router.now.zones (zones_in payload.now)) }
     ensures refused { IsOkUnless result Error.Memory }
 {
-    match read_zip(payload) {
+    match Packet::at(payload) {
         Some(packet) if is_reply(&packet) => {
             let table = zones_with(router, packet)?;
             Ok(Some(table))

@@ -8,7 +8,7 @@ use Rattle.at_base.specs.declared.error.Error.TheVariants.{BadField}
 use Rattle.at_base.specs.declared.error.Field.TheVariants.{Function as FunctionField, Count}
 use Rattle.at_base.specs.Grammar.{Grammar, done, field, part, list, room, number, one}
 use Rattle.at_base.specs.Packets.{packets, any, address, text}
-use Rattle.at_base.specs.Reading.{list_at, read}
+use Rattle.at_base.specs.Reading.{list_at, read, value_of}
 use Rattle.at_base.specs.Spelling.{bytes_of}
 use Rattle.nbp.specs.declared.tuple.Tuple.{Tuple}
 use Rattle.nbp.specs.declared.packet.Function.{Function}
@@ -67,6 +67,10 @@ packet =
     field (number one any) (λ p. p.id) (λ id.
     list (λ low. tuple) (λ t. 0) (h % 16) (λ p. p.tuples) (λ tuples.
     done (record { function = function_of (h / 16); id = id; tuples = tuples })))))
+
+-- the packet at the front of the bytes, if any
+unfoldable pub names_in : List ℕ → Option NbpPacket
+names_in payload = value_of (read packets packet payload)
 
 -- the result of reading count tuples at the front of the bytes
 abbrev pub tuples_read : ℕ → List ℕ → Result (List Tuple × List ℕ) Error

@@ -7,6 +7,7 @@ use Rattle.at_base.specs.Text.{IsEntity, is_entity, same_name}
 use Rattle.nbp.specs.declared.names.Named.{Named}
 use Rattle.nbp.specs.declared.tuple.Tuple.{Tuple}
 use Rattle.nbp.specs.Matching.{matches}
+use Rattle.at_base.specs.Limits.{max_names}
 
 -- a valid registered name: a socket from 1 to 254, an enumerator from 1, an object and a type
 pub record IsNamed (n : Named) : Type 0 where
@@ -23,7 +24,7 @@ are_above low (n ∷ names) = nat_lt low n.enumerator && are_above n.enumerator 
 
 -- The invariant of a node's names: at most 32, strictly rising by their enumerators, each one valid.
 pub record IsNames (names : List Named) : Type 0 where
-  pub few : length names ≤ 32
+  pub few : length names ≤ max_names
   pub rising : IsTrue (are_above 0 names)
   pub each : All IsNamed names
 

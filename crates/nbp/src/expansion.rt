@@ -6,6 +6,7 @@ ghost use Rattle.std.specs.List.{All};
 ghost use Rattle.at_base.specs.Range.{same_range};
 ghost use Rattle.nbp.specs.Expansion as spec;
 ghost use Rattle.nbp.specs.Expansion.{IsAskIn, asks};
+ghost use Rattle.at_base.specs.Limits.{max_lists};
 
 use at_base::{Error, Name, Range, is_zone_name};
 use std::alloc::Global;
@@ -24,7 +25,7 @@ pub enum Ask {
 /// name. Error: `Memory`.
 fn listing(alloc: Global, zone: &[u8], table: &ZoneTable) -> Result<Vec<Range>, Error>
     ensures ok { IfOk result (λ ranges. ranges.items ≡ spec.listing zone.now table.now) }
-    ensures few { IfOk result (λ ranges. length ranges.items ≤ 200) }
+    ensures few { IfOk result (λ ranges. length ranges.items ≤ max_lists) }
     ensures err { IsOkUnless result Error.Memory }
 {
     if !is_zone_name(zone) {
@@ -79,7 +80,7 @@ pub fn expand(
 ) -> Result<Vec<Ask>, Error>
     ensures ok { IfOk result (λ made. made.items ≡ asks ports.now zone.now table.now) }
     // At most one for each list of the table.
-    ensures few { IfOk result (λ made. length made.items ≤ 200) }
+    ensures few { IfOk result (λ made. length made.items ≤ max_lists) }
     ensures inside { IfOk result (λ made. All (IsAskIn (length ports.now)) made.items) }
     ensures refused { IsOkUnless result Error.Memory }
 {

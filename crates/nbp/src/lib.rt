@@ -14,6 +14,6 @@ pub use laws::{
     functions_leave_the_key, requests_have_one_tuple, trailing_bytes_leave_the_key, written_is_read,
 };
 pub use matching::matches;
-pub use names::{MAX_NAMES, Named, Names};
+pub use names::{Named, Names};
 pub use packet::{Function, Packet, Tuples, write};
 pub use tuple::{Tuple, TupleView};

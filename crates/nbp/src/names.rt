@@ -9,15 +9,14 @@ ghost use Rattle.at_base.specs.declared.error.What.TheVariants.{Name as NoName};
 ghost use Rattle.nbp.specs.Registered as spec;
 ghost use Rattle.nbp.specs.Registered.{IsLeastFree, IsNames, before, free_from, with_name};
 ghost use Rattle.nbp.specs.Registered.{tuple_of, answers};
+ghost use Rattle.at_base.specs.Limits.{max_names};
 
 use crate::matching::{matches, same};
 use crate::tuple::Tuple;
+use at_base::limits::MAX_NAMES;
 use at_base::{Addr, Error, Field, Text32, What, is_entity};
 use std::alloc::Global;
 use std::marker::Model;
-
-/// The greatest number of names on a node.
-pub const MAX_NAMES: usize = 32;
 
 /// A name registered for one of a node's sockets. Its zone is the node's.
 ///
@@ -90,7 +89,7 @@ fn has(names: &[Named], enumerator: u8) -> bool
 
 /// The least enumerator, from 1, that none of the names has. The names rise by enumerator.
 fn least_free(names: &[Named]) -> u8
-    requires few { length names.now ≤ 32 }
+    requires few { length names.now ≤ max_names }
     ensures value { result ≡ free_from 1 names.now }
     ensures near { result ≤ 33 }
 {
@@ -250,7 +249,7 @@ impl Names {
         ensures full { (result ≡ Err Error.Full)
             ↔ (((spec.is_registrable object && spec.is_registrable kind) ≡ true)
             × (spec.is_taken object kind self.old ≡ false)
-            × (32 ≤ length self.old)) }
+            × (max_names ≤ length self.old)) }
         ensures refused { IfErr result (λ e. (e ≡ Error.BadName) ⊎ (e ≡ Error.BadField Taken)
             ⊎ (e ≡ Error.Full) ⊎ (e ≡ Error.Memory)) }
         ensures kept { OnErr result (self.new ≡ self.old) }

@@ -148,6 +148,13 @@ impl<'a> Packet<'a> {
         }
     }
 
+    /// The packet at the front of the bytes, if any. Allocates nothing.
+    pub fn at(bytes: &'a [u8]) -> Option<Packet<'a>>
+        ensures { result ≡ spec.names_in bytes.now }
+    {
+        Packet::read(bytes).ok()
+    }
+
     /// The function of the packet.
     pub fn function(&self) -> Function
         ensures { result ≡ self.now.function }

@@ -11,18 +11,19 @@ use Rattle.internet_file.specs.declared.port.Port.{Port}
 use Rattle.internet_file.specs.declared.router.Router.{Router}
 use Rattle.live_node.specs.Living.{LivingNode}
 use Rattle.live_router.specs.Living.{Living}
+use Rattle.at_base.specs.Limits.{max_cables, max_ports}
 
 -- The number of the port's cable is at most 200.
 abbrev pub is_low_port : Port → Bool
-is_low_port p = nat_le p.cable 200
+is_low_port p = nat_le p.cable max_cables
 
 -- The router has at most 16 ports, whose cable numbers are at most 200.
 abbrev pub is_low_router : Router → Bool
-is_low_router r = nat_le (length r.port) 16 && list_all is_low_port r.port
+is_low_router r = nat_le (length r.port) max_ports && list_all is_low_port r.port
 
 -- The number of the node's cable is at most 200.
 abbrev pub is_low_node : Node → Bool
-is_low_node n = nat_le n.cable 200
+is_low_node n = nat_le n.cable max_cables
 
 -- The number of ports of each station of a plan: of the routers, then of the nodes.
 abbrev pub planned_ports : Planned → List ℕ

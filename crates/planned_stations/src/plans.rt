@@ -14,6 +14,7 @@ ghost use Rattle.planned_stations.specs.Beginning.{is_free, port_begun, range_of
 ghost use Rattle.planned_stations.specs.Beginning.{with_cable, with_cables};
 ghost use Rattle.planned_stations.specs.Planning.{planned_ports, ports_of};
 ghost use Rattle.station.specs.Ports.{is_planned, planned};
+ghost use Rattle.at_base.specs.Limits.{max_lists};
 
 use at_base::Error;
 use internet_file::{Cable, Node, Plan, Port, Router};
@@ -70,7 +71,7 @@ fn put_zones(zones: &mut ZoneTable, cables: &[Cable], port: &Port) -> Result<(),
     requires there { IsTrue (is_port cables.now port.now) }
     requires cables { IsTrue (list_all is_cable cables.now) }
     requires free { IsTrue (is_free zones.old (spec.cable_at cables.now port.now.cable)) }
-    requires room { length zones.old < 200 }
+    requires room { length zones.old < max_lists }
     ensures put { OnOk result
         (zones.new ≡ with_cable zones.old (spec.cable_at cables.now port.now.cable)) }
     ensures refused { IsOkUnless result Error.Memory }
@@ -86,7 +87,7 @@ fn put_all_zones(zones: &mut ZoneTable, cables: &[Cable], ports: &[Port]) -> Res
     requires cables { IsTrue (list_all is_cable cables.now) }
     requires apart { IsTrue (are_apart cables.now ports.now) }
     requires free { IsTrue (are_free cables.now zones.old ports.now) }
-    requires room { length zones.old + length ports.now ≤ 200 }
+    requires room { length zones.old + length ports.now ≤ max_lists }
     ensures put { OnOk result (zones.new ≡ with_cables cables.now zones.old ports.now) }
     ensures refused { IsOkUnless result Error.Memory }
 {

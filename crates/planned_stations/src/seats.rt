@@ -5,6 +5,7 @@ ghost use Rattle.std.specs.Prelude.{OnOk};
 ghost use Rattle.std.specs.List.{list_all};
 ghost use Rattle.planned_stations.specs.Planning.{is_low_node, is_low_port, is_low_router};
 ghost use Rattle.planned_stations.specs.Seating.{node_seats, plan_seats, port_seats, router_seats};
+ghost use Rattle.at_base.specs.Limits.{max_ports};
 
 use at_base::{Error, Range};
 use cable_model::Seat;
@@ -14,7 +15,7 @@ use std::alloc::Global;
 /// Appends the seats of a router's ports, which are numbered from `from` on.
 fn put_ports(seats: &mut Vec<Seat>, station: u16, from: u8, ports: &[Port]) -> Result<(), Error>
     requires low { IsTrue (list_all is_low_port ports.now) }
-    requires few { from + length ports.now ≤ 16 }
+    requires few { from + length ports.now ≤ max_ports }
     ensures put { OnOk result
         (seats.new.items ≡ seats.old.items ++ port_seats station from ports.now) }
     ensures refused { IsOkUnless result Error.Memory }

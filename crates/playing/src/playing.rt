@@ -18,7 +18,7 @@ use crate::progress::Progress;
 use crate::reading::read_plan;
 use at_base::Error;
 use internet_file::Plan;
-use rtmp::PlainTable;
+use rtmp::Routes;
 use std::alloc::Global;
 use table_image::Image;
 use world::World;
@@ -44,14 +44,14 @@ struct Ended {
 }
 
 /// A fact for the prover: the properties of a world. Does nothing.
-fn recall_lived(world: &World<PlainTable>)
+fn recall_lived(world: &World<Routes>)
     ensures { IsWorld world.now }
 {
     let _entries = world.transcript();
 }
 
 /// Carries out the next tick. Errors: `Full`, `Memory`.
-fn play_tick(world: &mut World<PlainTable>) -> Result<(), Error>
+fn play_tick(world: &mut World<Routes>) -> Result<(), Error>
     requires unstopped { world.old.stopped ≡ None }
     ensures plan { world.new.plan ≡ world.old.plan }
     ensures now { OnOk result (world.new.now ≡ world.old.now + 1) }
@@ -68,7 +68,7 @@ fn play_tick(world: &mut World<PlainTable>) -> Result<(), Error>
 }
 
 /// Carries out all ticks of the plan. Errors: `Full`, `Memory`.
-fn play_ticks<P: Progress>(world: &mut World<PlainTable>, progress: &mut P) -> Result<(), Error>
+fn play_ticks<P: Progress>(world: &mut World<Routes>, progress: &mut P) -> Result<(), Error>
     requires unstopped { world.old.stopped ≡ None }
     requires fresh { world.old.now ≡ 0 }
     ensures plan { world.new.plan ≡ world.old.plan }
@@ -89,13 +89,13 @@ fn play_ticks<P: Progress>(world: &mut World<PlainTable>, progress: &mut P) -> R
 }
 
 /// The world of a plan, before its first tick. Error: `Memory`.
-fn begin(alloc: Global, plan: Plan) -> Result<World<PlainTable>, Error>
+fn begin(alloc: Global, plan: Plan) -> Result<World<Routes>, Error>
     ensures plan { IfOk result (λ w. w.plan ≡ plan) }
     ensures fresh { IfOk result (λ w. (w.now ≡ 0) × (w.stopped ≡ None)) }
     ensures lived { IfOk result (λ w. Lives w) }
     ensures refused { IsOkUnless result Error.Memory }
 {
-    World::<PlainTable>::new(alloc, plan)
+    World::<Routes>::new(alloc, plan)
 }
 
 /// Carries out a plan to its last tick. Errors: `Full`, `Memory`.
@@ -103,7 +103,7 @@ fn play_plan<P: Progress>(
     alloc: Global,
     plan: Plan,
     progress: &mut P,
-) -> Result<World<PlainTable>, Error>
+) -> Result<World<Routes>, Error>
     ensures plan { IfOk result (λ w. w.plan ≡ plan) }
     ensures whole { IfOk result (λ w. w.now ≡ w.plan.ticks) }
     ensures going { IfOk result (λ w. w.stopped ≡ None) }
@@ -122,7 +122,7 @@ fn play_plan<P: Progress>(
 }
 
 /// The lines of a world before its verdict, and the image of its tables. Error: `Memory`.
-fn end(alloc: Global, world: World<PlainTable>) -> Result<Ended, Error>
+fn end(alloc: Global, world: World<Routes>) -> Result<Ended, Error>
     ensures lines { IfOk result (λ e. e.lines.items ≡ refused_lines world.refused
         ++ all_received world 1 (length world.plan.nodes)) }
     ensures frozen { IfOk result (λ e. e.image ≡ frozen world) }

@@ -8,11 +8,11 @@ ghost use Rattle.world.specs.Seen.{node_at, received_by};
 use crate::received::put_received;
 use crate::refused::put_refused;
 use at_base::Error;
-use rtmp::PlainTable;
+use rtmp::Routes;
 use world::World;
 
 /// Appends the lines of the datagrams that a node received. Error: `Memory`.
-fn put_node(text: &mut Vec<u8>, world: &World<PlainTable>, number: u16) -> Result<(), Error>
+fn put_node(text: &mut Vec<u8>, world: &World<Routes>, number: u16) -> Result<(), Error>
     ensures lines { OnOk result (text.new.items
         ≡ text.old.items ++ received_lines number (received_by (node_at world.now number))) }
     ensures refused { IsOkUnless result Error.Memory }
@@ -26,12 +26,7 @@ fn put_node(text: &mut Vec<u8>, world: &World<PlainTable>, number: u16) -> Resul
 
 /// Appends the lines of the datagrams that the `left` nodes from `number` on received. Error:
 /// `Memory`.
-fn put_nodes(
-    text: &mut Vec<u8>,
-    world: &World<PlainTable>,
-    number: u16,
-    left: u16,
-) -> Result<(), Error>
+fn put_nodes(text: &mut Vec<u8>, world: &World<Routes>, number: u16, left: u16) -> Result<(), Error>
     requires within { number + left ≤ 65535 }
     ensures lines { OnOk result
         (text.new.items ≡ text.old.items ++ all_received world.now number left) }
@@ -45,7 +40,7 @@ fn put_nodes(
 }
 
 /// The number of a world's nodes.
-fn nodes_of(world: &World<PlainTable>) -> u16
+fn nodes_of(world: &World<Routes>) -> u16
     ensures number { result ≡ length world.now.plan.nodes }
     ensures few { result ≤ 200 }
 {
@@ -54,7 +49,7 @@ fn nodes_of(world: &World<PlainTable>) -> u16
 
 /// Appends the lines of the actions that had an error, and then those of the datagrams that the
 /// nodes received. Error: `Memory`.
-pub fn put_world(text: &mut Vec<u8>, world: &World<PlainTable>) -> Result<(), Error>
+pub fn put_world(text: &mut Vec<u8>, world: &World<Routes>) -> Result<(), Error>
     ensures lines { OnOk result (text.new.items ≡ text.old.items ++ refused_lines world.now.refused
         ++ all_received world.now 1 (length world.now.plan.nodes)) }
     ensures refused { IsOkUnless result Error.Memory }

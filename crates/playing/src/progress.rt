@@ -1,12 +1,12 @@
 //! Observers of a play's progress.
 
-use rtmp::PlainTable;
+use rtmp::Routes;
 use world::World;
 
 /// Observes a play's progress. It cannot affect the result.
 pub trait Progress {
     /// A tick has finished.
-    fn passed(&mut self, world: &World<PlainTable>);
+    fn passed(&mut self, world: &World<Routes>);
 }
 
 /// An observer that does nothing.
@@ -14,5 +14,5 @@ pub trait Progress {
 pub struct Silent;
 
 impl Progress for Silent {
-    fn passed(&mut self, _world: &World<PlainTable>) {}
+    fn passed(&mut self, _world: &World<Routes>) {}
 }

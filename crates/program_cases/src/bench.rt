@@ -3,15 +3,16 @@
 use crate::worlds::Begun;
 use crate::{arguments, commands_run as run, exits, plans};
 use case_words::{Answer, Bench, Stop, Words};
+use rtmp::RouteTable;
 use std::alloc::Global;
 
-/// The text of an internet file, the bytes of an image, and a world after a command that begins it.
+/// The text of an internet file, the bytes of an image, and a world after a command that begins it. The world's routers have routing tables of type `T`.
 #[derive(Drop)]
-pub(crate) struct Program {
+pub(crate) struct Program<T: RouteTable> {
     alloc: Global,
     text: Vec<u8>,
     image: Vec<u8>,
-    world: Option<Begun>,
+    world: Option<Begun<T>>,
 }
 
 /// The text with the text in the words after it.
@@ -23,7 +24,7 @@ fn longer(alloc: Global, text: &Vec<u8>, mut words: Words<'_>) -> Result<Vec<u8>
     Ok(whole)
 }
 
-impl Program {
+impl<T: RouteTable> Program<T> {
     /// Appends a line to the text, the whole line or, if an allocation fails, nothing.
     fn add_line(&mut self, mut words: Words<'_>) -> Answer {
         let line = words.rest().as_bytes();
@@ -81,8 +82,8 @@ impl Program {
     }
 }
 
-impl Bench for Program {
-    fn new(alloc: Global) -> Program {
+impl<T: RouteTable> Bench for Program<T> {
+    fn new(alloc: Global) -> Program<T> {
         Program {
             alloc,
             text: Vec::new(alloc),

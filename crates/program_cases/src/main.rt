@@ -9,8 +9,10 @@ mod plans;
 mod worlds;
 
 use bench::Program;
+use rtmp::{IndexedTable, PlainTable};
 use std::io;
 
 fn main(rt: HostRuntime) -> Result<(), io::Error> {
-    case_words::run::<Program, HostRuntime>(&rt)
+    case_words::run::<Program<PlainTable>, HostRuntime>(&rt)?;
+    case_words::run::<Program<IndexedTable>, HostRuntime>(&rt)
 }

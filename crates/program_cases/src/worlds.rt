@@ -5,29 +5,27 @@ use cable_model::{Entry, Kind};
 use case_words::{Answer, Stop, Words, put_hw, put_line, put_text};
 use end_node::{Datagram, EndNode};
 use internet_file::read;
-use rtmp::PlainTable;
+use rtmp::RouteTable;
 use std::alloc::{AllocError, Global};
 use table_image::write;
 use world::World;
 
-type Live = World<PlainTable>;
-
 /// A world and the file that it was begun from. A tick that ran out of memory can't be repeated, since the world counts
 /// it; the world is begun again then, and the earlier ticks are repeated.
 #[derive(Drop)]
-pub(crate) struct Begun {
+pub(crate) struct Begun<T: RouteTable> {
     file: Vec<u8>,
-    world: Live,
+    world: World<T>,
     passed: u32,
     spoilt: bool,
 }
 
-fn of_file(alloc: Global, bytes: &[u8]) -> Result<Live, Stop> {
+fn of_file<T: RouteTable>(alloc: Global, bytes: &[u8]) -> Result<World<T>, Stop> {
     Ok(World::new(alloc, read(alloc, bytes)?)?)
 }
 
-impl Begun {
-    pub(crate) fn new(alloc: Global, file: Vec<u8>) -> Result<Begun, Stop> {
+impl<T: RouteTable> Begun<T> {
+    pub(crate) fn new(alloc: Global, file: Vec<u8>) -> Result<Begun<T>, Stop> {
         let world = of_file(alloc, file.as_slice())?;
         Ok(Begun {
             file,
@@ -81,7 +79,11 @@ impl Begun {
     }
 }
 
-fn put_bytes(text: &mut String, world: &Live, number: u32) -> Result<(), AllocError> {
+fn put_bytes<T: RouteTable>(
+    text: &mut String,
+    world: &World<T>,
+    number: u32,
+) -> Result<(), AllocError> {
     text.push(' ')?;
     put_line(text, world.bytes(number))
 }
@@ -94,7 +96,11 @@ fn kind_word(kind: Kind) -> &'static str {
 }
 
 /// Appends an entry as text, with its bytes. Cables and stations count from 0.
-fn put_entry(text: &mut String, world: &Live, entry: &Entry) -> Result<(), AllocError> {
+fn put_entry<T: RouteTable>(
+    text: &mut String,
+    world: &World<T>,
+    entry: &Entry,
+) -> Result<(), AllocError> {
     match *entry {
         Entry::Sent { station, bytes } => {
             write!(text, "sent station {station}")?;
@@ -150,7 +156,7 @@ fn put_entry(text: &mut String, world: &Live, entry: &Entry) -> Result<(), Alloc
 }
 
 /// Appends the entries from an index on.
-fn put_entries(text: &mut String, world: &Live, from: usize) -> Answer {
+fn put_entries<T: RouteTable>(text: &mut String, world: &World<T>, from: usize) -> Answer {
     for entry in world.transcript().iter().skip(from) {
         put_entry(text, world, entry)?;
     }
@@ -158,7 +164,7 @@ fn put_entries(text: &mut String, world: &Live, from: usize) -> Answer {
 }
 
 /// Appends the number of entries, and the numbers of takes and losses among them.
-fn put_counts(text: &mut String, world: &Live) -> Answer {
+fn put_counts<T: RouteTable>(text: &mut String, world: &World<T>) -> Answer {
     let (mut taken, mut lost) = (0u32, 0u32);
     for entry in world.transcript() {
         match entry {
@@ -213,7 +219,7 @@ fn put_datagrams(text: &mut String, received: &[Datagram]) -> Answer {
     Ok(())
 }
 
-fn put_refused(text: &mut String, world: &Live) -> Answer {
+fn put_refused<T: RouteTable>(text: &mut String, world: &World<T>) -> Answer {
     for (action, number) in world.refused() {
         writeln!(text, "action {action} refused {number}")?;
     }
@@ -221,9 +227,9 @@ fn put_refused(text: &mut String, world: &Live) -> Answer {
 }
 
 /// Answers a question about a world.
-fn answer(
+fn answer<T: RouteTable>(
     alloc: Global,
-    world: &Live,
+    world: &World<T>,
     question: &str,
     mut words: Words<'_>,
     text: &mut String,

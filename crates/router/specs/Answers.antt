@@ -14,10 +14,13 @@ use Rattle.station.specs.declared.heard.Kind.TheVariants.{Ddp, Aarp}
 use Rattle.station.specs.declared.output.Output.{Output}
 use Rattle.router.specs.Forwarding.{course, fate}
 use Rattle.router.specs.Holding.{Holding}
-use Rattle.router.specs.Requests.{names_in, requests_made}
+use Rattle.router.specs.Requests.{requests_made}
+use Rattle.nbp.specs.Packets.{names_in}
 use Rattle.router.specs.Resolution.{ports_after, resolved}
 use Rattle.router.specs.Ways.{way_back}
-use Rattle.router.specs.Zones.{transacted, transaction_in, zones_in, zones_told}
+use Rattle.router.specs.Zones.{transacted, zones_told}
+use Rattle.atp.specs.InPlace.{transaction_in}
+use Rattle.zip_zones.specs.Formats.{zones_in}
 use Rattle.router.specs.declared.course.Course.{Course}
 use Rattle.router.specs.declared.course.Ending.{Ending}
 

@@ -9,6 +9,7 @@ use Rattle.rtmp.specs.declared.row.Row.{Row}
 use Rattle.zip_zones.specs.Zones.{Known}
 use Rattle.router.specs.declared.hand.Hand.{Hand}
 use Rattle.router.specs.declared.hand.Hand.TheVariants.{Here, On, Nowhere}
+use Rattle.at_base.specs.Limits.{max_ports}
 
 -- The state of a router: the choice of the address of each port, its routing table, its zone table, and its
 -- exactly-once requests for zone lists.
@@ -20,7 +21,7 @@ pub record Holding : Type 0 where
 
 -- There are at most 16 ports, and each row's port is one of them.
 pub record IsHolding (h : Holding) : Type 0 where
-  pub few : length h.ports ≤ 16
+  pub few : length h.ports ≤ max_ports
   pub seated : IsTrue (list_all (λ r. nat_lt r.port (length h.ports)) h.routes)
 
 -- the address of a port, if it is settled

@@ -3,9 +3,7 @@ use Rattle.std.specs.Prelude.{ℕ, cond, List, [], ◌∷◌, map, Option, Some,
 use Rattle.std.specs.List.{flat_map}
 use Rattle.aarp.specs.Choosing.{Choice}
 use Rattle.at_base.specs.Multicast.{group_of}
-use Rattle.at_base.specs.Packets.{packets}
 use Rattle.at_base.specs.Range.{Span, is_between}
-use Rattle.at_base.specs.Reading.{read}
 use Rattle.at_base.specs.Spelling.{bytes_of}
 use Rattle.at_base.specs.Text.{is_name}
 use Rattle.at_base.specs.declared.address.Addr.{Addr}
@@ -18,7 +16,6 @@ use Rattle.nbp.specs.declared.expansion.Ask.TheVariants as ask
 use Rattle.nbp.specs.declared.packet.Function.{Function}
 use Rattle.nbp.specs.declared.packet.Function.TheVariants.{BroadcastRequest, Lookup, Reply, ForwardRequest}
 use Rattle.nbp.specs.declared.tuple.Tuple.{Tuple}
-use Rattle.station.specs.Values.{value_of}
 use Rattle.station.specs.Ways.{is_summed, nobody, replying, way_from}
 use Rattle.station.specs.declared.output.Next.TheVariants as next
 use Rattle.station.specs.declared.output.Output.{Output}
@@ -26,10 +23,6 @@ use Rattle.station.specs.declared.way.Way.{Way}
 use Rattle.router.specs.Holding.{Holding, hand, own_at}
 use Rattle.router.specs.Ways.{way_by}
 use Rattle.router.specs.declared.request.Request.{Request}
-
--- the NBP packet in a datagram's data, if any
-unfoldable pub names_in : List ℕ → Option NbpPacket
-names_in payload = value_of (read packets packet payload)
 
 -- the address that means every node of a cable
 abbrev pub every_node : Addr

@@ -3,16 +3,14 @@ use Rattle.std.specs.Prelude.{ℕ, cond, List, [], ◌∷◌, map, Option, Some,
 use Rattle.aarp.specs.Choosing.{Choice}
 use Rattle.at_base.specs.Packets.{packets}
 use Rattle.at_base.specs.Range.{Span, is_between}
-use Rattle.at_base.specs.Reading.{read}
 use Rattle.at_base.specs.Spelling.{bytes_of}
-use Rattle.atp.specs.Packets.{AtpPacket, is_request, packet as atp_packet}
+use Rattle.atp.specs.Packets.{AtpPacket, is_request}
 use Rattle.atp.specs.Replies.{reply}
 use Rattle.atp.specs.Responding.{heard}
 use Rattle.atp.specs.declared.ask.AnswerPart.{AnswerPart}
 use Rattle.atp.specs.declared.ask.Peer.{Peer}
 use Rattle.atp.specs.declared.request.Request.{Request}
 use Rattle.ddp.specs.Datagram.{Datagram}
-use Rattle.station.specs.Values.{value_of}
 use Rattle.station.specs.declared.output.Next.TheVariants as next
 use Rattle.station.specs.declared.output.Output.{Output}
 use Rattle.station.specs.declared.way.Way.{Way}
@@ -29,10 +27,6 @@ use Rattle.router.specs.Ways.{is_answered, way_back}
 use Rattle.station.specs.Ways.{reply_header, replying, straight, way_from}
 
 -- ---- ZIP packets
-
--- the ZIP packet in a datagram's data, if any
-unfoldable pub zones_in : List ℕ → Option Packet
-zones_in payload = value_of (read packets zip_packet payload)
 
 -- The way of the GetNetInfo reply for the cable of port q, which has this range: to the node itself if its network is
 -- the cable's, and otherwise to all nodes there.
@@ -63,10 +57,6 @@ zones_told h q d (Some (zip.GetNetInfo unused zone)) = told h q d zone
 zones_told h q d _ = []
 
 -- ---- Zone lists
-
--- the ATP packet in a datagram's data, if any
-unfoldable pub transaction_in : List ℕ → Option AtpPacket
-transaction_in payload = value_of (read packets atp_packet payload)
 
 -- the address and the socket that a datagram comes from
 abbrev pub peer : Datagram → Peer

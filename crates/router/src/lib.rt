@@ -21,4 +21,4 @@ pub use course::{Course, Ending, Step};
 pub use hand::Hand;
 pub use laws::{forwarding_keeps_the_body, tables_stay};
 pub use receive::Reaction;
-pub use router::Router;
+pub use router::{Router, own_at};

@@ -1,6 +1,6 @@
 //! Zone lists, which nodes ask for in ATP transactions.
 
-ghost use Rattle.std.specs.Prelude.{◌≡◌, ◌≤◌, [], ◌∷◌, false, true, length, option_map, Some, None};
+ghost use Rattle.std.specs.Prelude.{◌≡◌, ◌≤◌, [], ◌∷◌, false, true, length, Some, None};
 ghost use Rattle.std.specs.Prelude.{IfOk, IsOk, IsOkUnless};
 ghost use Rattle.std.specs.Option.{unwrap_or};
 ghost use Rattle.atp.specs.Answers.{bytes_of_all};
@@ -11,7 +11,8 @@ ghost use Rattle.atp.specs.Responding as responding_spec;
 ghost use Rattle.zip_zones.specs.Answers.{asked_page};
 ghost use Rattle.station.specs.Made.{AreShort};
 ghost use Rattle.router.specs.Zones as spec;
-ghost use Rattle.router.specs.Zones.{listed, transacted, transaction_in};
+ghost use Rattle.router.specs.Zones.{listed, transacted};
+ghost use Rattle.atp.specs.InPlace.{transaction_in};
 
 use crate::router::Router;
 use at_base::{Bytes, Error};
@@ -20,16 +21,6 @@ use ddp::View;
 use rtmp::RouteTable;
 use std::alloc::Global;
 use zip_zones::{Page, ZoneFunction, page_for};
-
-/// The ATP packet in the data of a datagram, if any.
-fn read_packet(payload: &[u8]) -> Option<Packet<'_>>
-    ensures { option_map packet_value result ≡ transaction_in payload.now }
-{
-    match Packet::read(payload) {
-        Ok(packet) => Some(packet),
-        Err(_) => None,
-    }
-}
 
 /// The address and the socket that a datagram comes from.
 fn peer(view: &View<'_>) -> Peer
@@ -174,7 +165,7 @@ impl<T: RouteTable> Router<T> {
         ensures refused { IsOkUnless result Error.Memory }
     {
         let alloc = *self.ports.allocator();
-        match read_packet(view.payload()) {
+        match Packet::at(view.payload()) {
             None => Ok(nothing(alloc)),
             Some(packet) if packet.is_request() => self.list(view, &packet),
             Some(packet) => release(alloc, &self.responder, peer(view), &packet),

@@ -8,8 +8,10 @@ ghost use Rattle.at_base.specs.Text.{IsName, is_name};
 ghost use Rattle.nbp.specs.Expansion.{IsAskIn};
 ghost use Rattle.station.specs.Made.{Adds, IsWayIn, Makes};
 ghost use Rattle.router.specs.Requests as spec;
-ghost use Rattle.router.specs.Requests.{asked, looked_by, looked_on, made_of, names_in};
+ghost use Rattle.router.specs.Requests.{asked, looked_by, looked_on, made_of};
+ghost use Rattle.nbp.specs.Packets.{names_in};
 ghost use Rattle.router.specs.Requests.{requests_made};
+ghost use Rattle.at_base.specs.Limits.{max_lists};
 
 use crate::request::Request;
 use crate::router::Router;
@@ -26,16 +28,6 @@ use std::alloc::Global;
 
 /// The node number that means any router of a network.
 const ANY_ROUTER: u8 = 0;
-
-/// The NBP packet in the data of a datagram, if any.
-fn read_packet(payload: &[u8]) -> Option<Packet<'_>>
-    ensures { result ≡ names_in payload.now }
-{
-    match Packet::read(payload) {
-        Ok(packet) => Some(packet),
-        Err(_) => None,
-    }
-}
 
 /// The header of a lookup or forward request that a router makes, without a source.
 fn request_header(request: &Request, target: Addr) -> Header
@@ -199,7 +191,7 @@ impl<T: RouteTable> Router<T> {
 
     /// Adds the lookups and forward requests for a broadcast request. Error: `Memory`.
     fn ask_for(&self, made: &mut Vec<Output>, request: &Request) -> Result<(), Error>
-        ensures made { Adds (length self.now.ports) 200
+        ensures made { Adds (length self.now.ports) max_lists
             (made_of self.now Function.BroadcastRequest request.now 0)
             made.old.items made.new.items result }
         ensures nameless { is_name request.now.tuple.zone ≡ false → IsOk result }
@@ -247,11 +239,11 @@ impl<T: RouteTable> Router<T> {
 
     /// Handles the NBP packet in a datagram; a datagram without one is ignored. Error: `Memory`.
     pub(crate) fn hear_names(&self, made: &mut Vec<Output>, view: &View<'_>) -> Result<(), Error>
-        ensures { Adds (length self.now.ports) 200
+        ensures { Adds (length self.now.ports) max_lists
             (requests_made self.now view.now (names_in view.now.payload))
             made.old.items made.new.items result }
     {
-        match read_packet(view.payload()) {
+        match Packet::at(view.payload()) {
             Some(packet) => self.hear_request(made, view, &packet),
             None => Ok(()),
         }
@@ -265,7 +257,7 @@ impl<T: RouteTable> Router<T> {
         view: &View<'_>,
         packet: &Packet<'_>,
     ) -> Result<(), Error>
-        ensures { Adds (length self.now.ports) 200
+        ensures { Adds (length self.now.ports) max_lists
             (requests_made self.now view.now (Some packet.now))
             made.old.items made.new.items result }
     {

@@ -1,11 +1,12 @@
 //! Routers and their tables.
 
 ghost use Rattle.std.specs.Prelude.{◌≡◌, ◌<◌, ◌↔◌, ◌⊎◌, ◌++◌, length, map, nat_lt};
-ghost use Rattle.std.specs.Prelude.{[], IfErr, IfOk, IsOkUnless, IsTrue, OnOk};
+ghost use Rattle.std.specs.Prelude.{[], IfErr, IfOk, IfSome, IsOkUnless, IsTrue, OnOk};
 ghost use Rattle.std.specs.List.{list_all};
 ghost use Rattle.station.specs.Ports.{is_planned, planned};
 ghost use Rattle.router.specs.Holding as spec;
 ghost use Rattle.router.specs.Holding.{IsHandIn, hand_by};
+ghost use Rattle.at_base.specs.Limits.{max_ports};
 
 use crate::hand::Hand;
 use aarp::Chooser;
@@ -52,8 +53,9 @@ impl<T: RouteTable> Model for Router<T> {
 }
 
 /// The address of the port at an index, if it is settled.
-pub(crate) fn own_at(ports: &[Chooser], port: u8) -> Option<Addr>
-    ensures { result ≡ spec.own_at ports.now port }
+pub fn own_at(ports: &[Chooser], port: u8) -> Option<Addr>
+    ensures value { result ≡ spec.own_at ports.now port }
+    ensures inside { IfSome result (λ me. port < length ports.now) }
 {
     match ports.get(port as usize) {
         Some(chooser) => chooser.settled(),
@@ -108,7 +110,7 @@ impl<T: RouteTable> Router<T> {
           zones = zones;
           requests = [];
         }) }
-        ensures full { (result ≡ Err Error.Full) ↔ (16 < length plans.now) }
+        ensures full { (result ≡ Err Error.Full) ↔ (max_ports < length plans.now) }
         ensures refused { IfErr result (λ e. (e ≡ Error.Full) ⊎ (e ≡ Error.Memory)) }
     {
         if plans.len() > MAX_PORTS {

@@ -4,6 +4,7 @@ ghost use Rattle.std.specs.Prelude.{◌≡◌, ◌<◌, ◌≤◌, length, nat_l
 ghost use Rattle.std.specs.List.{list_all};
 ghost use Rattle.atp.specs.Responding.{ticked};
 ghost use Rattle.rtmp.specs.Routes.{poisoned};
+ghost use Rattle.at_base.specs.Limits.{max_ports};
 
 use crate::router::Router;
 use aarp::Chooser;
@@ -21,7 +22,7 @@ impl<T: RouteTable> Router<T> {
     /// The choices of the ports' addresses, in the order of the ports.
     pub fn ports_now(&self) -> &[Chooser]
         ensures value { result.now ≡ self.now.ports }
-        ensures few { length result.now ≤ 16 }
+        ensures few { length result.now ≤ max_ports }
         ensures seated { IsTrue (list_all (λ r. nat_lt r.port (length self.now.ports)) self.now.routes) }
     {
         self.ports.as_slice()

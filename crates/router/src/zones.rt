@@ -8,7 +8,8 @@ ghost use Rattle.station.specs.Made.{IsWayIn, Makes};
 ghost use Rattle.router.specs.Ways as ways_spec;
 ghost use Rattle.station.specs.Ways.{replying};
 ghost use Rattle.router.specs.Zones as zones_spec;
-ghost use Rattle.router.specs.Zones.{info, zones_in, zones_told};
+ghost use Rattle.router.specs.Zones.{info, zones_told};
+ghost use Rattle.zip_zones.specs.Formats.{zones_in};
 
 use crate::router::Router;
 use crate::ways::is_answered;
@@ -19,16 +20,6 @@ use station::making::{put_all, put_one};
 use station::ways::{EVERY_NODE, reply_header, straight, way_from};
 use station::{Next, Output, Way};
 use zip_zones::{Networks, Packet, answer_query, reply_net_info};
-
-/// The ZIP packet in the data of a datagram, if any.
-fn read_packet(payload: &[u8]) -> Option<Packet<'_>>
-    ensures { result ≡ zones_in payload.now }
-{
-    match Packet::read(payload) {
-        Ok(packet) => Some(packet),
-        Err(_) => None,
-    }
-}
 
 impl<T: RouteTable> Router<T> {
     /// The way of the GetNetInfo reply for the cable of a port, which has this range: to the node
@@ -131,7 +122,7 @@ impl<T: RouteTable> Router<T> {
             (zones_told self.now port view.now (zones_in view.now.payload))
             made.old.items made.new.items result }
     {
-        match read_packet(view.payload()) {
+        match Packet::at(view.payload()) {
             Some(packet) => self.answer_packet(made, port, view, packet),
             None => Ok(()),
         }

@@ -5,3 +5,7 @@ pub mod FirstTuple
 pub mod Sent
 pub mod Spelled
 mod Parts
+pub mod Scan
+pub mod Numbering
+pub mod Spoiled
+pub mod Usable

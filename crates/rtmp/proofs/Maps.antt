@@ -83,7 +83,7 @@ pub aged_map : (rows : List Row) → IsRouteMap rows → IsRouteMap (aged rows)
 aged_map rows h =
     updated_map aged_row aged_range aged_good (filter (λ r. not (is_over r)) rows) (filtered_map (λ r. not (is_over r)) rows h)
 
-poisoned_range : (next : Addr) (r : Row) → (poisoned_row next r).range ≡ r.range
+pub poisoned_range : (next : Addr) (r : Row) → (poisoned_row next r).range ≡ r.range
 poisoned_range next r =
     elim (not (is_direct r) && same_address r.next next) as (λ b. (cond b (record r { state = Bad }) r).range ≡ r.range)
     [ true ↦ refl | false ↦ refl ]

@@ -8,7 +8,8 @@ use Rattle.at_base.specs.declared.error.Field.TheVariants.{IdLength, Version}
 use Rattle.at_base.specs.declared.error.Error.{Error}
 use Rattle.at_base.specs.declared.error.Error.TheVariants.{Truncated, BadField, BadRange}
 use Rattle.at_base.specs.Range.{Span, is_range}
-use Rattle.at_base.specs.Packets.{any, only}
+use Rattle.at_base.specs.Packets.{any, only, packets}
+use Rattle.at_base.specs.Reading.{read, value_of}
 use Rattle.at_base.specs.Grammar.{Grammar, done, field, part, room, many, number, one, two}
 use Rattle.rtmp.specs.declared.tuple.Tuple.{Tuple}
 use Rattle.rtmp.specs.declared.written.Written.{Written}
@@ -98,3 +99,7 @@ written_of t = record { start = t.range.start; third = 128 + t.distance; extensi
 -- the packet of a router that sends these tuples
 abbrev pub data_of : Addr → List Tuple → RoutingData
 data_of router tuples = record { router = router; written = map written_of tuples }
+
+-- the packet of routing data that is the bytes, if they are one
+unfoldable pub routing_in : List ℕ → Option RoutingData
+routing_in payload = value_of (read packets routing_data payload)

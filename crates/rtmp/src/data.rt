@@ -4,7 +4,7 @@ ghost use Rattle.std.specs.Prelude.{◌≡◌, []};
 ghost use Rattle.at_base.specs.Packets.{packets};
 ghost use Rattle.at_base.specs.Reading as spec;
 ghost use Rattle.at_base.specs.Reading.{Gives, Reads};
-ghost use Rattle.rtmp.specs.Data.{own_range, routing_data, tuples_of};
+ghost use Rattle.rtmp.specs.Data.{own_range, routing_data, routing_in, tuples_of};
 
 use crate::tuple::Tuple;
 use crate::written::{WrittenFormat, tuple_of};
@@ -67,6 +67,13 @@ impl<'a> DataPacket<'a> {
             Ok((router, written)) => Ok(DataPacket { router, written }),
             Err(error) => Err(error),
         }
+    }
+
+    /// The packet in the bytes, if they are one. Allocates nothing.
+    pub fn at(bytes: &'a [u8]) -> Option<DataPacket<'a>>
+        ensures { result ≡ routing_in bytes.now }
+    {
+        DataPacket::read(bytes).ok()
     }
 
     /// The router that sends the packet.

@@ -3,9 +3,13 @@
 
 mod data;
 mod hearing;
+mod index;
+mod indexed;
 mod laws;
 mod plain;
+mod removal;
 mod row;
+mod rows;
 mod state;
 mod table;
 mod tuple;
@@ -15,6 +19,7 @@ mod written;
 
 pub use data::{DataPacket, Tuples};
 pub use hearing::hear_packet;
+pub use indexed::{IndexedTable, Routes};
 pub use laws::data_is_read_back;
 pub use plain::PlainTable;
 pub use row::Row;

@@ -1,29 +1,29 @@
-//! A routing table as a vector of rows.
+//! A routing table as a vector of rows that every call goes through: the definition of a table, as
+//! a program.
 
-ghost use Rattle.std.specs.Prelude.{◌≡◌, ◌≤◌, length, not, true, filter, vec_len};
-ghost use Rattle.std.specs.Prelude.{vec_capacity};
-ghost use Rattle.std.specs.List.{list_all, list_any};
+ghost use Rattle.std.specs.Prelude.{◌≡◌, ◌≤◌, ◌<◌, nat_le, true};
+ghost use Rattle.std.specs.Prelude.{IfErr, IfOk, vec_capacity, vec_len};
+ghost use Rattle.std.specs.List.{list_any, position};
 ghost use Rattle.std.specs.Option.{option_copied};
-ghost use Rattle.at_base.specs.Range.{overlaps, is_range};
+ghost use Rattle.at_base.specs.Range.{overlaps, same_range};
+ghost use Rattle.at_base.specs.Spans.{AreApart, IsAt, IsBefore};
 ghost use Rattle.rtmp.specs.Routes as spec;
-ghost use Rattle.rtmp.specs.Routes.{IsRouteMap, are_apart, beside};
+ghost use Rattle.rtmp.specs.Routes.{with_row};
 
+use crate::removal::{Removal, remove_rows};
 use crate::row::Row;
-use crate::state::State;
+use crate::rows::{after_hearing, count_beside, direct_row, heard_row, rows_are_apart};
 use crate::table::{Change, MAX_DISTANCE, RouteTable};
-use crate::update::{Update, is_over, update_all};
+use crate::update::{Update, update_all};
 use at_base::limits::MAX_ROWS;
-use at_base::{Addr, Error, Range, place_near, put, recall_valid};
+use at_base::{Addr, Error, Range, recall_valid};
 use std::alloc::Global;
 use std::marker::Model;
 
-/// A routing table as a vector of rows, by rising range. The row of a range is looked for after the
-/// one heard last, and then by binary search; the row for a network is searched row by row.
+/// A routing table as a vector of rows, by rising range.
 #[derive(Debug, Drop)]
 pub struct PlainTable {
     rows: Vec<Row>,
-    // The index expected for the next range that is heard. It is a hint, and is checked before use.
-    near: usize,
 }
 
 impl Model for PlainTable {
@@ -38,22 +38,6 @@ impl Model for PlainTable {
     ghost invariant = { λ t. IsRouteMap t.rows.items };
 }
 
-/// Whether each range ends before the next one starts.
-fn rows_are_apart(rows: &[Row]) -> bool
-    ensures value { result ≡ are_apart rows.now }
-    ensures valid { result ≡ true
-        → list_all (λ r. is_range r.range.start r.range.end) rows.now ≡ true }
-{
-    let mut end = 0;
-    for row in rows {
-        if row.range.start() <= end {
-            return false;
-        }
-        end = row.range.end();
-    }
-    true
-}
-
 /// The usable row whose range contains the network, if any.
 fn usable_row(rows: &[Row], net: u16) -> Option<&Row>
     ensures { option_copied result ≡ spec.row_for net rows.now }
@@ -62,79 +46,42 @@ fn usable_row(rows: &[Row], net: u16) -> Option<&Row>
         .find(|row| row.state.is_usable() && row.range.holds(net))
 }
 
-/// The number of rows that don't overlap the range.
-fn count_beside(rows: &[Row], range: Range) -> usize
-    ensures { result ≡ length (beside range rows.now) }
+/// The index of the row of a range, if any.
+fn index_of(rows: &[Row], range: Range) -> Option<usize>
+    ensures { result ≡ position (λ r. same_range r.range range) rows.now }
+{
+    rows.iter().position(|row| row.range == range)
+}
+
+/// The index of the first row that doesn't start below the range, if any.
+fn index_from(rows: &[Row], range: Range) -> Option<usize>
+    ensures { result ≡ position (λ r. nat_le range.start r.range.start) rows.now }
 {
     rows.iter()
-        .filter(|row| !row.range.overlaps(&range))
-        .count()
+        .position(|row| range.start() <= row.range.start())
 }
 
-/// Removes the rows that overlap the range.
-fn keep_beside(rows: &mut Vec<Row>, range: Range)
-    ensures kept { rows.new.items ≡ beside range rows.old.items }
-    ensures room { vec_capacity rows.new ≡ vec_capacity rows.old }
-    ensures fewer { vec_len rows.new ≤ vec_len rows.old }
+/// The index of the row of a range; or, as an error, the index at which one is to be inserted.
+fn place_of(rows: &[Row], range: Range) -> Result<usize, usize>
+    requires { AreApart (λ r. r.range) 0 rows.now }
+    ensures found { IfOk result (IsAt (λ r. r.range) range rows.now) }
+    ensures missing { IfErr result (IsBefore (λ r. r.range) range rows.now) }
 {
-    rows.retain(|row| !row.range.overlaps(&range));
-}
-
-/// Removes the rows in their last state.
-fn drop_over(rows: &mut Vec<Row>)
-    ensures { rows.new.items ≡ filter (λ r. not (spec.is_over r)) rows.old.items }
-{
-    rows.retain(|row| !is_over(row));
-}
-
-/// The row of a range at `distance` from router `source`, which was heard on a port.
-fn heard_row(range: Range, distance: u8, source: Addr, port: u8) -> Row
-    requires { distance ≤ 14 }
-    ensures { result ≡ spec.heard_row range distance source port }
-{
-    Row {
-        range,
-        distance: distance + 1,
-        port,
-        next: source,
-        state: State::Good,
+    match index_of(rows, range) {
+        Some(index) => Ok(index),
+        None => Err(index_from(rows, range).unwrap_or(rows.len())),
     }
 }
 
-/// The row of the range of a port's own cable.
-fn direct_row(range: Range, port: u8) -> Row
-    ensures { result ≡ spec.direct_row range port }
+/// Puts a row at its place, instead of the one of its range, if any. The vector must have room.
+fn put_row(rows: &mut Vec<Row>, row: Row)
+    requires map { AreApart (λ r. r.range) 0 rows.old.items }
+    requires room { vec_len rows.old < vec_capacity rows.old }
+    ensures { rows.new.items ≡ with_row row rows.old.items }
 {
-    Row {
-        range,
-        distance: 0,
-        port,
-        next: Addr::NONE,
-        state: State::Good,
-    }
-}
-
-/// The row of a range, and the change, after `source` reported on a port that the range is at
-/// `distance`.
-fn after_hearing(row: &Row, distance: u8, source: Addr, port: u8) -> (Row, Change)
-    ensures { result ≡ spec.after_hearing row.now distance source port }
-{
-    let unchanged = (*row, Change::Ignored);
-    let is_next = row.next == source && row.port == port;
-    if row.is_direct() {
-        unchanged
-    } else if distance > MAX_DISTANCE {
-        if !is_next {
-            return unchanged;
-        }
-        let mut bad = *row;
-        bad.state = State::Bad;
-        (bad, Change::Changed)
-    } else if is_next || !row.state.is_usable() || distance < row.distance {
-        let heard = heard_row(row.range, distance, source, port);
-        (heard, Change::Changed)
-    } else {
-        unchanged
+    match place_of(rows.as_slice(), row.range) {
+        Ok(index) => rows[index] = row,
+        Err(index) => rows.insert(index, row).unwrap(),
     }
 }
 
@@ -159,13 +106,12 @@ impl RouteTable for PlainTable {
     fn empty(alloc: Global) -> Result<PlainTable, Error> {
         Ok(PlainTable {
             rows: Vec::new(alloc),
-            near: 0,
         })
     }
 
     fn copy(&self) -> Result<PlainTable, Error> {
         let rows = Vec::from_slice(*self.rows.allocator(), self.rows.as_slice())?;
-        Ok(PlainTable { rows, near: 0 })
+        Ok(PlainTable { rows })
     }
 
     fn len(&self) -> usize {
@@ -198,8 +144,8 @@ impl RouteTable for PlainTable {
         recall_valid(range);
         // Room is made first, so that a refusal leaves the rows as they are.
         self.rows.reserve(1)?;
-        keep_beside(&mut self.rows, range);
-        put(&mut self.rows, direct_row(range, port));
+        remove_rows(&mut self.rows, &Removal::Overlapping(range));
+        put_row(&mut self.rows, direct_row(range, port));
         Ok(())
     }
 
@@ -210,15 +156,13 @@ impl RouteTable for PlainTable {
         source: Addr,
         port: u8,
     ) -> Result<Change, Error> {
-        match place_near(self.rows.as_slice(), range, self.near) {
+        match place_of(self.rows.as_slice(), range) {
             Ok(place) => {
-                self.near = place.wrapping_add(1);
                 let (row, change) = after_hearing(&self.rows[place], distance, source, port);
                 self.rows[place] = row;
                 Ok(change)
             }
             Err(place) => {
-                self.near = place.wrapping_add(1);
                 if !is_new(self.rows.as_slice(), range, distance) {
                     return Ok(Change::Ignored);
                 }
@@ -235,7 +179,7 @@ impl RouteTable for PlainTable {
     }
 
     fn age(&mut self) {
-        drop_over(&mut self.rows);
+        remove_rows(&mut self.rows, &Removal::Over);
         update_all(&mut self.rows, &Update::Age);
     }
 

@@ -48,7 +48,7 @@ fn aged(row: &Row) -> Row
 }
 
 /// The row after the update.
-fn updated_row(update: &Update, row: &Row) -> Row
+pub(crate) fn updated_row(update: &Update, row: &Row) -> Row
     ensures { result ≡ updated update.now row.now }
 {
     let mut after = *row;

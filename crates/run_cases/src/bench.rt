@@ -4,20 +4,20 @@ use crate::{cables, entries, runs, scripts, seats, taking};
 use cable_model::Cables;
 use case_words::{Answer, Bench, Stop, Words};
 use frozen::Frozen;
-use rtmp::PlainTable;
+use rtmp::RouteTable;
 use std::alloc::Global;
 
 /// The bytes of an image, entries to print, and cables and a run after a command that begins them.
 #[derive(Drop)]
-pub(crate) struct Runs {
+pub(crate) struct Runs<T: RouteTable> {
     alloc: Global,
     bytes: Vec<u8>,
     entries: String,
     cables: Option<Cables>,
-    run: Option<Frozen<PlainTable>>,
+    run: Option<Frozen<T>>,
 }
 
-impl Runs {
+impl<T: RouteTable> Runs<T> {
     /// Appends bytes of the image.
     fn add_bytes(&mut self, mut words: Words<'_>) -> Answer {
         let more = words.bytes(self.alloc)?;
@@ -73,8 +73,8 @@ impl Runs {
     }
 }
 
-impl Bench for Runs {
-    fn new(alloc: Global) -> Runs {
+impl<T: RouteTable> Bench for Runs<T> {
+    fn new(alloc: Global) -> Runs<T> {
         Runs {
             alloc,
             bytes: Vec::new(alloc),

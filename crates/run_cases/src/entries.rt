@@ -3,6 +3,8 @@
 use at_base::{Addr, Hw};
 use cable_model::{DropCause, Entry, How, Kind};
 use case_words::{Answer, Stop, Words, put_hw};
+use frozen::Frozen;
+use rtmp::RouteTable;
 use std::alloc::{AllocError, Global};
 use table_image::{Image, read};
 use text::{put_address, put_decimal};
@@ -248,9 +250,9 @@ pub(crate) fn number_of(entry: &Entry) -> Option<u32> {
 }
 
 /// Appends the lines of a run's entries from an index on.
-pub(crate) fn put_trace(
+pub(crate) fn put_trace<T: RouteTable>(
     alloc: Global,
-    run: &frozen::Frozen<rtmp::PlainTable>,
+    run: &Frozen<T>,
     from: usize,
     text: &mut String,
 ) -> Answer {

@@ -12,8 +12,10 @@ mod seats;
 mod taking;
 
 use bench::Runs;
+use rtmp::{IndexedTable, PlainTable};
 use std::io;
 
 fn main(rt: HostRuntime) -> Result<(), io::Error> {
-    case_words::run::<Runs, HostRuntime>(&rt)
+    case_words::run::<Runs<PlainTable>, HostRuntime>(&rt)?;
+    case_words::run::<Runs<IndexedTable>, HostRuntime>(&rt)
 }

@@ -7,21 +7,23 @@ use cable_model::Entry;
 use case_words::{Answer, Stop, Words, put_line, yes_or_no};
 use events::Event;
 use frozen::Frozen;
-use rtmp::PlainTable;
+use rtmp::RouteTable;
 use script::{Step, read};
 use std::alloc::Global;
 
-type Run = Frozen<PlainTable>;
-
 /// A run over the image in the bytes, for at most `limit` entries.
-pub(crate) fn started(alloc: Global, bytes: &[u8], mut words: Words<'_>) -> Result<Run, Stop> {
+pub(crate) fn started<T: RouteTable>(
+    alloc: Global,
+    bytes: &[u8],
+    mut words: Words<'_>,
+) -> Result<Frozen<T>, Stop> {
     let limit = words.named("limit")?;
     let image = table_image::read(alloc, bytes)?;
     Ok(Frozen::start(alloc, image, limit)?)
 }
 
 /// The number of frames that were taken so far.
-fn taken(run: &Run) -> u32 {
+fn taken<T: RouteTable>(run: &Frozen<T>) -> u32 {
     let mut taken = 0u32;
     for entry in run.transcript() {
         if let Entry::Took { .. } = entry {
@@ -32,7 +34,7 @@ fn taken(run: &Run) -> u32 {
 }
 
 /// Drains a run. The takes before one that ran out of memory stay, so the rest follows.
-fn drain(run: &mut Run, most: u32) -> Result<bool, Error> {
+fn drain<T: RouteTable>(run: &mut Frozen<T>, most: u32) -> Result<bool, Error> {
     let before = taken(run);
     match run.drain(most) {
         Err(Error::Memory) => {
@@ -44,7 +46,12 @@ fn drain(run: &mut Run, most: u32) -> Result<bool, Error> {
 }
 
 /// Carries out the line of a script.
-fn happen(alloc: Global, run: &mut Run, line: &str, text: &mut String) -> Answer {
+fn happen<T: RouteTable>(
+    alloc: Global,
+    run: &mut Frozen<T>,
+    line: &str,
+    text: &mut String,
+) -> Answer {
     let steps = read(alloc, line.as_bytes())?;
     for step in steps.iter() {
         match step {
@@ -83,7 +90,12 @@ fn put_outcome(text: &mut String, before: usize, outcome: Result<(), (usize, Err
 }
 
 /// Carries out the events of a script, up to the first one that returns an error.
-fn happen_all(alloc: Global, run: &mut Run, words: Words<'_>, text: &mut String) -> Answer {
+fn happen_all<T: RouteTable>(
+    alloc: Global,
+    run: &mut Frozen<T>,
+    words: Words<'_>,
+    text: &mut String,
+) -> Answer {
     let events = events_of(alloc, steps(alloc, words)?)?;
     match run.run(events.as_slice()) {
         // The events before one that ran out of memory stay, so the rest follows.
@@ -96,7 +108,7 @@ fn happen_all(alloc: Global, run: &mut Run, words: Words<'_>, text: &mut String)
 }
 
 /// Appends, for each cable of the image, how many datagrams reached it.
-fn put_reached(run: &Run, text: &mut String) -> Answer {
+fn put_reached<T: RouteTable>(run: &Frozen<T>, text: &mut String) -> Answer {
     for cable in 0..run.image().cables().len() {
         let mut count: u32 = 0;
         for entry in run.transcript() {
@@ -113,14 +125,19 @@ fn put_reached(run: &Run, text: &mut String) -> Answer {
 }
 
 /// Appends the numbers of entries and of pending pairs.
-fn put_counts(run: &Run, text: &mut String) -> Answer {
+fn put_counts<T: RouteTable>(run: &Frozen<T>, text: &mut String) -> Answer {
     let (entries, pending) = (run.transcript().len(), run.pending_count());
     writeln!(text, "{entries} entries, {pending} pending")?;
     Ok(())
 }
 
 /// Carries out a line of a script, or answers a question.
-pub(crate) fn act(alloc: Global, run: &mut Run, words: Words<'_>, text: &mut String) -> Answer {
+pub(crate) fn act<T: RouteTable>(
+    alloc: Global,
+    run: &mut Frozen<T>,
+    words: Words<'_>,
+    text: &mut String,
+) -> Answer {
     let mut rest = words;
     match rest.word() {
         "send" | "request" | "take" | "drain" => {

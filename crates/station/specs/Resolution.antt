@@ -5,11 +5,11 @@ use Rattle.aarp.specs.Packets.{packet, written}
 use Rattle.aarp.specs.declared.packet.Function.{Function}
 use Rattle.aarp.specs.declared.packet.Function.TheVariants.{Request, Response, Probe}
 use Rattle.aarp.specs.declared.packet.Packet.{Packet}
+use Rattle.at_base.specs.Multicast.{all_hw}
 use Rattle.at_base.specs.Packets.{packets}
-use Rattle.at_base.specs.Reading.{read}
+use Rattle.at_base.specs.Reading.{read, value_of}
 use Rattle.at_base.specs.Spelling.{bytes_of}
 use Rattle.station.specs.Hearing.{Hearing}
-use Rattle.station.specs.Values.{value_of}
 use Rattle.station.specs.declared.heard.Kind.{Kind}
 use Rattle.station.specs.declared.heard.Kind.TheVariants.{Ddp, Aarp}
 use Rattle.station.specs.declared.output.Output.{Output}
@@ -23,6 +23,11 @@ packet_at bytes = option_map (λ w. w.packet) (value_of (read packets packet byt
 abbrev pub wired : ℕ → Option Packet → List Output
 wired p None = []
 wired p (Some sent) = Wire p sent.target_hw (bytes_of packet (written sent)) ∷ []
+
+-- the output of a probe, if there is one, sent on a port to all stations of the cable
+abbrev pub probed : ℕ → Option Packet → List Output
+probed p None = []
+probed p (Some sent) = Wire p all_hw (bytes_of packet (written sent)) ∷ []
 
 -- the response of a port, if it exists, to an AARP packet
 abbrev pub answer_by : Packet → Option Choice → Option Packet

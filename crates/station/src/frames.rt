@@ -1,13 +1,14 @@
 //! The frames that stations receive and send.
 
-ghost use Rattle.std.specs.Prelude.{◌≡◌, ◌<◌, [], ◌∷◌, ℕ, Some, IfOk, IsOkUnless};
+ghost use Rattle.std.specs.Prelude.{◌≡◌, ◌<◌, ◌≤◌, ◌+◌, [], ◌∷◌, ◌++◌, ℕ, length, Some, IfOk, IsOkUnless, OnOk};
 ghost use Rattle.station.specs.Lawful.{AreLawful};
-ghost use Rattle.station.specs.Resolution.{packet_at, wired};
+ghost use Rattle.station.specs.Made.{AreMade};
+ghost use Rattle.station.specs.Resolution.{packet_at, probed, wired};
 ghost use Rattle.station.specs.Values.{datagram_at};
 
 use crate::output::Output;
 use aarp::Packet;
-use at_base::{Bytes, Error};
+use at_base::{Bytes, Error, Hw};
 use ddp::View;
 use std::alloc::Global;
 
@@ -48,4 +49,25 @@ pub fn wire(alloc: Global, port: u8, sent: &Packet) -> Result<Output, Error>
         to: sent.target_hw,
         bytes: Bytes::copy(alloc, &sent.write())?,
     })
+}
+
+/// Adds the output of a probe, if there is one, to all stations of the port's cable. Error:
+/// `Memory`.
+///
+/// Inside AppleTalk, the chapter on AARP.
+#[tactic(auto, unfolding(crate::specs::Made::AreMade))]
+pub fn put_probe(made: &mut Vec<Output>, port: u8, probe: &Option<Packet>) -> Result<(), Error>
+    ensures put { OnOk result (made.new.items ≡ made.old.items ++ probed port probe.now) }
+    ensures few { OnOk result (length made.new.items ≤ length made.old.items + 1) }
+    ensures good { (n : ℕ) → port < n → AreMade n made.old.items → AreMade n made.new.items }
+    ensures refused { IsOkUnless result Error.Memory }
+{
+    let Some(probe) = probe else { return Ok(()) };
+    let bytes = Bytes::copy(*made.allocator(), &probe.write())?;
+    made.push(Output::Wire {
+        port,
+        to: Hw::ALL,
+        bytes,
+    })?;
+    Ok(())
 }

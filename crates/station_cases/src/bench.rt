@@ -12,16 +12,16 @@ use end_node::EndNode;
 use live_node::LiveNode;
 use live_router::LiveRouter;
 use router::Router;
-use rtmp::PlainTable;
+use rtmp::RouteTable;
 use station::ways::straight;
 use std::alloc::Global;
 
 /// The station of a case, by its kind.
 #[derive(Drop)]
-enum Subject {
+enum Subject<T: RouteTable> {
     Nothing,
-    Router(Router<PlainTable>),
-    LiveRouter(LiveRouter<PlainTable>),
+    Router(Router<T>),
+    LiveRouter(LiveRouter<T>),
     Node(EndNode),
     LiveNode(LiveNode),
 }
@@ -32,16 +32,20 @@ const ROOM: usize = 400_000;
 /// The plan of a case's station, the station itself, the number of its ticks so far, and the bytes
 /// with which the next frame begins.
 #[derive(Drop)]
-pub(crate) struct Stations {
+pub(crate) struct Stations<T: RouteTable> {
     alloc: Global,
     plan: Plan,
-    subject: Subject,
+    subject: Subject<T>,
     ticks: u32,
     bytes: Vec<u8>,
 }
 
 /// The live station of a plan, of this kind.
-fn live_subject_of(alloc: Global, plan: &Plan, kind: &str) -> Result<Subject, Stop> {
+fn live_subject_of<T: RouteTable>(
+    alloc: Global,
+    plan: &Plan,
+    kind: &str,
+) -> Result<Subject<T>, Stop> {
     match kind {
         "router" => Ok(Subject::LiveRouter(live_router_of(alloc, plan)?)),
         "node" => Ok(Subject::LiveNode(live_node_of(alloc, plan)?)),
@@ -50,7 +54,11 @@ fn live_subject_of(alloc: Global, plan: &Plan, kind: &str) -> Result<Subject, St
 }
 
 /// The station of a plan, of this kind.
-fn subject_of(alloc: Global, plan: &Plan, mut words: Words<'_>) -> Result<Subject, Stop> {
+fn subject_of<T: RouteTable>(
+    alloc: Global,
+    plan: &Plan,
+    mut words: Words<'_>,
+) -> Result<Subject<T>, Stop> {
     match words.word() {
         "live" => live_subject_of(alloc, plan, words.word()),
         "router" => Ok(Subject::Router(router_of(alloc, plan)?)),
@@ -59,7 +67,7 @@ fn subject_of(alloc: Global, plan: &Plan, mut words: Words<'_>) -> Result<Subjec
     }
 }
 
-impl Subject {
+impl<T: RouteTable> Subject<T> {
     fn hear(&mut self, alloc: Global, frame: &Frame, text: &mut String) -> Answer {
         match self {
             Subject::Nothing => Err(Stop::Unclear),
@@ -99,8 +107,8 @@ impl Subject {
     }
 }
 
-fn ask_live_router(
-    live: &mut LiveRouter<PlainTable>,
+fn ask_live_router<T: RouteTable>(
+    live: &mut LiveRouter<T>,
     mut words: Words<'_>,
     text: &mut String,
 ) -> Answer {
@@ -111,7 +119,7 @@ fn ask_live_router(
     ask_router(live.router(), words, text)
 }
 
-impl Stations {
+impl<T: RouteTable> Stations<T> {
     fn begin(&mut self, words: Words<'_>) -> Answer {
         self.subject = subject_of(self.alloc, &self.plan, words)?;
         self.ticks = 0;
@@ -176,8 +184,8 @@ fn put_straight(words: &mut Words<'_>, text: &mut String) -> Answer {
     Ok(())
 }
 
-impl Bench for Stations {
-    fn new(alloc: Global) -> Stations {
+impl<T: RouteTable> Bench for Stations<T> {
+    fn new(alloc: Global) -> Stations<T> {
         Stations {
             alloc,
             plan: Plan::new(alloc),

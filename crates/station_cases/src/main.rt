@@ -1,5 +1,5 @@
 //! Cases of stations: the outputs of routers and nodes for frames, in ticks and for their users,
-//! and their state after these.
+//! and their state after these. They are carried out twice, with each type of routing table.
 #![tactic(auto)]
 
 mod asking;
@@ -14,8 +14,10 @@ mod routers;
 mod texts;
 
 use bench::Stations;
+use rtmp::{IndexedTable, PlainTable};
 use std::io;
 
 fn main(rt: HostRuntime) -> Result<(), io::Error> {
-    case_words::run::<Stations, HostRuntime>(&rt)
+    case_words::run::<Stations<PlainTable>, HostRuntime>(&rt)?;
+    case_words::run::<Stations<IndexedTable>, HostRuntime>(&rt)
 }

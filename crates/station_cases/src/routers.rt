@@ -4,7 +4,7 @@ use crate::texts::put_row;
 use at_base::{Addr, Name, Range};
 use case_words::{Answer, Stop, Words, put_text};
 use router::{Hand, Router};
-use rtmp::{PlainTable, RouteTable};
+use rtmp::RouteTable;
 use station::Station;
 use std::alloc::AllocError;
 use zip_zones::ZoneTable;
@@ -18,7 +18,7 @@ fn put_own(text: &mut String, own: Option<Addr>) -> Result<(), AllocError> {
 }
 
 /// Appends a line for each port.
-fn put_ports(text: &mut String, router: &Router<PlainTable>) -> Result<(), AllocError> {
+fn put_ports<T: RouteTable>(text: &mut String, router: &Router<T>) -> Result<(), AllocError> {
     for port in 0..router.ports() {
         write!(text, "port {port} ")?;
         put_own(text, router.own(port))?;
@@ -26,7 +26,7 @@ fn put_ports(text: &mut String, router: &Router<PlainTable>) -> Result<(), Alloc
     Ok(())
 }
 
-fn put_rows(text: &mut String, routes: &PlainTable) -> Result<(), AllocError> {
+fn put_rows<T: RouteTable>(text: &mut String, routes: &T) -> Result<(), AllocError> {
     if routes.len() == 0 {
         return writeln!(text, "none");
     }
@@ -84,8 +84,8 @@ fn put_hand(text: &mut String, hand: Hand) -> Result<(), AllocError> {
 }
 
 /// Appends the answer to a question.
-pub(crate) fn ask_router(
-    router: &Router<PlainTable>,
+pub(crate) fn ask_router<T: RouteTable>(
+    router: &Router<T>,
     mut words: Words<'_>,
     text: &mut String,
 ) -> Answer {

@@ -7,13 +7,14 @@ use crate::requesters::Requesting;
 use crate::responders::Responding;
 use crate::tables::Tables;
 use case_words::{Answer, Bench, Stop, Words};
+use rtmp::RouteTable;
 use std::alloc::Global;
 
 /// The subject of a case, which its first command sets.
 #[derive(Drop)]
-enum Subject {
+enum Subject<T: RouteTable> {
     Nothing,
-    Tables(Tables),
+    Tables(Tables<T>),
     Names(Naming),
     Chooser(Choosing),
     Mapper(Mapping),
@@ -21,15 +22,15 @@ enum Subject {
     Responder(Responding),
 }
 
-/// The bench of a case: its subject, once there is one.
+/// The bench of a case: its subject, once there is one. Routing tables are of type `T`.
 #[derive(Drop)]
-pub(crate) struct Cases {
+pub(crate) struct Cases<T: RouteTable> {
     alloc: Global,
-    subject: Subject,
+    subject: Subject<T>,
 }
 
 /// The subject that the first command of a case makes.
-fn subject_of(alloc: Global, mut words: Words<'_>) -> Result<Subject, Stop> {
+fn subject_of<T: RouteTable>(alloc: Global, mut words: Words<'_>) -> Result<Subject<T>, Stop> {
     Ok(match words.word() {
         "tables" => Subject::Tables(Tables::new(alloc)?),
         "names" => Subject::Names(Naming::new(alloc)?),
@@ -41,8 +42,8 @@ fn subject_of(alloc: Global, mut words: Words<'_>) -> Result<Subject, Stop> {
     })
 }
 
-impl Bench for Cases {
-    fn new(alloc: Global) -> Cases {
+impl<T: RouteTable> Bench for Cases<T> {
+    fn new(alloc: Global) -> Cases<T> {
         Cases {
             alloc,
             subject: Subject::Nothing,

@@ -2,12 +2,12 @@
 
 use case_words::{Answer, Stop, Words};
 use learning::{Query, forget, learn_routes, learn_zones, queries};
-use rtmp::{DataPacket, PlainTable};
+use rtmp::{DataPacket, RouteTable};
 use std::alloc::{AllocError, Global};
 use zip_zones::{Packet, ZoneTable};
 
 /// Learns from routing data that was received on a port.
-fn hear_routes(alloc: Global, routes: &mut PlainTable, mut words: Words<'_>) -> Answer {
+fn hear_routes<T: RouteTable>(alloc: Global, routes: &mut T, mut words: Words<'_>) -> Answer {
     let port = words.named("port")?;
     words.expect("on")?;
     let range = words.range()?;
@@ -17,9 +17,9 @@ fn hear_routes(alloc: Global, routes: &mut PlainTable, mut words: Words<'_>) -> 
 }
 
 /// Learns from a ZIP packet.
-fn hear_zones(
+fn hear_zones<T: RouteTable>(
     alloc: Global,
-    routes: &PlainTable,
+    routes: &T,
     zones: &mut ZoneTable,
     mut words: Words<'_>,
 ) -> Answer {
@@ -34,7 +34,12 @@ fn put_query(text: &mut String, query: &Query) -> Result<(), AllocError> {
 }
 
 /// Appends the router's queries: for which networks, and to whom.
-fn put_queries(alloc: Global, routes: &PlainTable, zones: &ZoneTable, text: &mut String) -> Answer {
+fn put_queries<T: RouteTable>(
+    alloc: Global,
+    routes: &T,
+    zones: &ZoneTable,
+    text: &mut String,
+) -> Answer {
     let queries = queries(alloc, routes, zones)?;
     if queries.is_empty() {
         writeln!(text, "none")?;
@@ -46,9 +51,9 @@ fn put_queries(alloc: Global, routes: &PlainTable, zones: &ZoneTable, text: &mut
 }
 
 /// Carries out a command that changes or reads both tables.
-pub(crate) fn act(
+pub(crate) fn act<T: RouteTable>(
     alloc: Global,
-    routes: &mut PlainTable,
+    routes: &mut T,
     zones: &mut ZoneTable,
     mut words: Words<'_>,
     text: &mut String,

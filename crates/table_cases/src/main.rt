@@ -1,4 +1,5 @@
-//! Cases of the state of stations: routes, zones, names, addresses and transactions.
+//! Cases of the state of stations: routes, zones, names, addresses and transactions. They are
+//! carried out twice, with each type of routing table.
 #![tactic(auto)]
 
 mod aarp_packets;
@@ -20,8 +21,10 @@ mod zone_words;
 mod zones;
 
 use bench::Cases;
+use rtmp::{IndexedTable, PlainTable};
 use std::io;
 
 fn main(rt: HostRuntime) -> Result<(), io::Error> {
-    case_words::run::<Cases, HostRuntime>(&rt)
+    case_words::run::<Cases<PlainTable>, HostRuntime>(&rt)?;
+    case_words::run::<Cases<IndexedTable>, HostRuntime>(&rt)
 }

@@ -5,9 +5,10 @@ ghost use Rattle.std.specs.List.{All};
 ghost use Rattle.nbp.specs.Registered as spec;
 ghost use Rattle.nbp.specs.Registered.{IsNamed};
 
+use at_base::limits::MAX_NAMES;
 use at_base::{Error, Text32, is_entity};
 use case_words::{Answer, Stop, Words, put_text};
-use nbp::{MAX_NAMES, Named, Names, Tuple};
+use nbp::{Named, Names, Tuple};
 use std::alloc::{AllocError, Global};
 
 /// The names of a node, and others that may be a copy of them.

@@ -8,14 +8,14 @@ use crate::rows::{put_changes, put_found, put_many, put_rows, row};
 use crate::spelling::put_groups;
 use at_base::{Addr, Bytes, Error, Range};
 use case_words::{Answer, Stop, Words, put_hex};
-use rtmp::{Change, DataPacket, PlainTable, RouteTable, Row, hear_packet, write_data};
+use rtmp::{Change, DataPacket, RouteTable, Row, hear_packet, write_data};
 use std::alloc::{AllocError, Global};
 
 /// A routing table, another that may be a copy of it, and the rows for the next load.
 #[derive(Drop)]
-pub(crate) struct Routes {
-    pub(crate) table: PlainTable,
-    other: PlainTable,
+pub(crate) struct Routes<T: RouteTable> {
+    pub(crate) table: T,
+    other: T,
     given: Vec<Row>,
 }
 
@@ -26,7 +26,7 @@ fn are_near(rows: &[Row]) -> bool
 }
 
 /// Loads the rows, whose distances must be at most 31.
-fn load(table: &mut PlainTable, rows: &[Row]) -> Answer {
+fn load<T: RouteTable>(table: &mut T, rows: &[Row]) -> Answer {
     if !are_near(rows) {
         return Err(Stop::Unclear);
     }
@@ -48,7 +48,7 @@ fn from(words: &mut Words<'_>) -> Result<Addr, Stop> {
 }
 
 /// Handles a report that a range is at a distance.
-fn hear(table: &mut PlainTable, mut words: Words<'_>, text: &mut String) -> Answer {
+fn hear<T: RouteTable>(table: &mut T, mut words: Words<'_>, text: &mut String) -> Answer {
     let range = words.range()?;
     let distance = words.named("distance")?;
     let source = from(&mut words)?;
@@ -59,7 +59,7 @@ fn hear(table: &mut PlainTable, mut words: Words<'_>, text: &mut String) -> Answ
 }
 
 /// Handles a packet of routing data.
-fn hear_bytes(alloc: Global, table: &mut PlainTable, mut words: Words<'_>) -> Answer {
+fn hear_bytes<T: RouteTable>(alloc: Global, table: &mut T, mut words: Words<'_>) -> Answer {
     let port = words.named("port")?;
     let bytes = words.bytes(alloc)?;
     hear_packet(table, &DataPacket::read(bytes.as_slice())?, port)?;
@@ -67,7 +67,11 @@ fn hear_bytes(alloc: Global, table: &mut PlainTable, mut words: Words<'_>) -> An
 }
 
 /// The packet of routing data with a number, as a router sends it on a port.
-fn sent(alloc: Global, table: &PlainTable, mut words: Words<'_>) -> Result<Option<Bytes>, Stop> {
+fn sent<T: RouteTable>(
+    alloc: Global,
+    table: &T,
+    mut words: Words<'_>,
+) -> Result<Option<Bytes>, Stop> {
     let number = words.number()?;
     let port = words.named("port")?;
     words.expect("of")?;
@@ -91,12 +95,12 @@ fn put_sent(text: &mut String, sent: &Option<Bytes>) -> Result<(), AllocError> {
     }
 }
 
-impl Routes {
+impl<T: RouteTable> Routes<T> {
     /// Two tables without rows.
-    pub(crate) fn new(alloc: Global) -> Result<Routes, Error> {
+    pub(crate) fn new(alloc: Global) -> Result<Routes<T>, Error> {
         Ok(Routes {
-            table: PlainTable::empty(alloc)?,
-            other: PlainTable::empty(alloc)?,
+            table: T::empty(alloc)?,
+            other: T::empty(alloc)?,
             given: Vec::new(alloc),
         })
     }

@@ -5,19 +5,20 @@ use crate::zones::Zones;
 use crate::{learned, zone_answers};
 use at_base::Error;
 use case_words::{Answer, Stop, Words};
+use rtmp::RouteTable;
 use std::alloc::Global;
 
 /// A router's tables.
 #[derive(Drop)]
-pub(crate) struct Tables {
+pub(crate) struct Tables<T: RouteTable> {
     alloc: Global,
-    routes: Routes,
+    routes: Routes<T>,
     zones: Zones,
 }
 
-impl Tables {
+impl<T: RouteTable> Tables<T> {
     /// Empty tables.
-    pub(crate) fn new(alloc: Global) -> Result<Tables, Error> {
+    pub(crate) fn new(alloc: Global) -> Result<Tables<T>, Error> {
         Ok(Tables {
             alloc,
             routes: Routes::new(alloc)?,

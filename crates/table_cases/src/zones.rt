@@ -3,7 +3,7 @@
 use crate::zone_words::{names, put_each, put_names, put_ranges};
 use at_base::{Error, Range};
 use case_words::{Answer, Stop, Words, yes_or_no};
-use rtmp::PlainTable;
+use rtmp::RouteTable;
 use std::alloc::Global;
 use zip_zones::ZoneTable;
 
@@ -105,7 +105,7 @@ fn put_count(text: &mut String, table: &ZoneTable) -> Answer {
 }
 
 /// Appends the networks for whose zones a router with these routes asks.
-fn put_due(text: &mut String, table: &ZoneTable, routes: &PlainTable) -> Answer {
+fn put_due<T: RouteTable>(text: &mut String, table: &ZoneTable, routes: &T) -> Answer {
     let due = table.queries_due(routes)?;
     if due.is_empty() {
         writeln!(text, "none")?;
@@ -141,10 +141,10 @@ impl Zones {
     }
 
     /// Carries out a command if it reads a table. Returns whether it does.
-    pub(crate) fn read(
+    pub(crate) fn read<T: RouteTable>(
         &self,
         alloc: Global,
-        routes: &PlainTable,
+        routes: &T,
         mut words: Words<'_>,
         text: &mut String,
     ) -> Result<bool, Stop> {

@@ -2,13 +2,13 @@
 use Rattle.std.proofs.Common.{List, None, Some, [], ap, arith, length, ltb, slice_get, subst, suc, true, zero, ℕ, ◌+◌, ◌<◌, ◌∷◌, ◌≡◌, ◌≤◌}
 use Rattle.std.proofs.lemmas.Bool.{ltb-false, ltb-true}
 use Rattle.at_base.specs.declared.error.Cause.TheVariants.{Count, Index, Name, Order, Value}
-use Rattle.at_base.specs.Grammar.{Grammar}
+use Rattle.at_base.specs.Grammar.{Grammar, Size, one}
 use Rattle.at_base.specs.Spelling.{ListPasses, IsValue}
 use Rattle.at_base.specs.Text.{is_name, IsName, IsEntity, is_entity}
 use Rattle.at_base.proofs.Fields.{is_right, not_wrong}
 use Rattle.table_image.specs.Internet.{Internet}
 use Rattle.table_image.specs.Bounds.{AreZones, Every, IsBounded, IsNodeName, IsNodeWithinLimits, IsRow, IsWithinLimits, Rises}
-use Rattle.table_image.specs.Limits.{max_cables, max_routers, max_nodes, max_ports, max_rows, max_zone_lists, max_zones, max_names}
+use Rattle.at_base.specs.Limits.{max_ports, max_rows, max_lists, max_zones, max_names, max_cables, max_routers, max_nodes}
 use Rattle.table_image.specs.Limits.{max_text, max_distance}
 use Rattle.table_image.specs.Flaws.{Wrong, Here, Before}
 use Rattle.table_image.specs.Tests.{below, rising, enumerator}
@@ -26,28 +26,28 @@ use Rattle.table_image.proofs.Shape.{within_bounds}
 
 -- ---- counted lists
 
-pub counted_few : {B : Type 0} (limit : ℕ) (item : ℕ → Grammar Wrong true B) (next : B → ℕ) (xs : List B)
-    → IsValue (counted limit item next) xs → length xs ≤ limit
+pub counted_few : {B : Type 0} (size : Size) (limit : ℕ) (item : ℕ → Grammar Wrong true B) (next : B → ℕ) (xs : List B)
+    → IsValue (counted size limit item next) xs → length xs ≤ limit
 unfolding counted
-counted_few limit item next xs h = (within_bounds 0 limit Count (length xs) h.0.1).1
+counted_few size limit item next xs h = (within_bounds 0 limit Count (length xs) h.0.1).1
 
-pub counted_each : {B : Type 0} (limit : ℕ) (item : ℕ → Grammar Wrong true B) (next : B → ℕ) (xs : List B)
-    → IsValue (counted limit item next) xs → ListPasses (λ low. IsValue (item low)) next 0 xs
+pub counted_each : {B : Type 0} (size : Size) (limit : ℕ) (item : ℕ → Grammar Wrong true B) (next : B → ℕ) (xs : List B)
+    → IsValue (counted size limit item next) xs → ListPasses (λ low. IsValue (item low)) next 0 xs
 unfolding counted
-counted_each limit item next xs h = h.1.1
+counted_each size limit item next xs h = h.1.1
 
 every_passes : {B : Type 0} (passes : ℕ → B → Type 0) (holds : B → Type 0) (next : B → ℕ) → ((low : ℕ) (x : B) → passes low x → holds x)
     → (low : ℕ) (xs : List B) → ListPasses passes next low xs → Every holds xs
-every_passes passes holds next one low [] h k x e = absurd cc
-every_passes {B} passes holds next one low (y ∷ ys) h zero x e = let same : y ≡ x = cc in subst holds same (one low y h.0)
-every_passes passes holds next one low (y ∷ ys) h (suc k) x e = every_passes passes holds next one (next y) ys h.1 k x e
+every_passes passes holds next each_one low [] h k x e = absurd cc
+every_passes {B} passes holds next each_one low (y ∷ ys) h zero x e = let same : y ≡ x = cc in subst holds same (each_one low y h.0)
+every_passes passes holds next each_one low (y ∷ ys) h (suc k) x e = every_passes passes holds next each_one (next y) ys h.1 k x e
 
 -- each part of a counted list has each property that all values of its format have
-every : {B : Type 0} (limit : ℕ) (item : ℕ → Grammar Wrong true B) (next : B → ℕ) (holds : B → Type 0) → ((low : ℕ) (x : B)
-    → IsValue (item low) x → holds x) → (xs : List B) → IsValue (counted limit item next) xs → Every holds xs
-every limit item next holds one xs h = every_passes (λ low. IsValue (item low)) holds next one 0 xs (counted_each limit item next xs h)
+every : {B : Type 0} (size : Size) (limit : ℕ) (item : ℕ → Grammar Wrong true B) (next : B → ℕ) (holds : B → Type 0) → ((low : ℕ) (x : B)
+    → IsValue (item low) x → holds x) → (xs : List B) → IsValue (counted size limit item next) xs → Every holds xs
+every size limit item next holds each_one xs h = every_passes (λ low. IsValue (item low)) holds next each_one 0 xs (counted_each size limit item next xs h)
 
--- a list rises if each part passes one more than its number to the next one
+-- a list rises if each part passes each_one more than its number to the next one
 module _ {X : Type 0} (passes : ℕ → X → Type 0) (number : X → ℕ) (above : (low : ℕ) (x : X) → passes low x → low ≤ number x) where
   all_above : (low : ℕ) (xs : List X) → ListPasses passes (λ x. number x + 1) low xs → (k : ℕ) (b : X) → slice_get xs k ≡ Some b
       → low ≤ number b
@@ -101,8 +101,8 @@ entity_is s h =
 zones_are : (zones : List (List ℕ)) → IsValue zones_spelling zones → AreZones zones
 unfolding zones_spelling
 zones_are zones h = record {
-  few = counted_few max_zones (λ low. zone_spelling) (λ name. 0) zones h;
-  each = every max_zones (λ low. zone_spelling) (λ name. 0) (λ zone. IsName zone) (λ low. name_is) zones h;
+  few = counted_few one max_zones (λ low. zone_spelling) (λ name. 0) zones h;
+  each = every one max_zones (λ low. zone_spelling) (λ name. 0) (λ zone. IsName zone) (λ low. name_is) zones h;
 }
 
 cable_zones : (cable : Cable) → IsValue cable_spelling cable → AreZones cable.zones
@@ -151,17 +151,17 @@ unfolding router_spelling
 router_limits cables router h =
     let ports = length router.ports in
     record {
-      ports = counted_few max_ports (λ low. port_spelling cables) (λ p. 0) router.ports h.0;
-      rows = counted_few max_rows (row_spelling ports) (λ r. r.start + 1) router.rows h.1.0;
-      lists = counted_few max_zone_lists zone_list_spelling (λ l. l.start + 1) router.lists h.1.1.0;
-      rising = rise (λ low row. IsValue (row_spelling ports low) row) (λ r. r.start) (row_above ports) 0 router.rows (counted_each max_rows
+      ports = counted_few one max_ports (λ low. port_spelling cables) (λ p. 0) router.ports h.0;
+      rows = counted_few one max_rows (row_spelling ports) (λ r. r.start + 1) router.rows h.1.0;
+      lists = counted_few one max_lists zone_list_spelling (λ l. l.start + 1) router.lists h.1.1.0;
+      rising = rise (λ low row. IsValue (row_spelling ports low) row) (λ r. r.start) (row_above ports) 0 router.rows (counted_each one max_rows
           (row_spelling ports) (λ r. r.start + 1) router.rows h.1.0);
       lists_rising = rise (λ low list. IsValue (zone_list_spelling low) list) (λ l. l.start) list_above 0 router.lists
-          (counted_each max_zone_lists zone_list_spelling (λ l. l.start + 1) router.lists h.1.1.0);
-      each_port = every max_ports (λ low. port_spelling cables) (λ p. 0) (λ port. port.cable < cables)
+          (counted_each one max_lists zone_list_spelling (λ l. l.start + 1) router.lists h.1.1.0);
+      each_port = every one max_ports (λ low. port_spelling cables) (λ p. 0) (λ port. port.cable < cables)
           (λ low. port_cable cables) router.ports h.0;
-      each_row = every max_rows (row_spelling ports) (λ r. r.start + 1) (IsRow ports) (row_is ports) router.rows h.1.0;
-      each_list = every max_zone_lists zone_list_spelling (λ l. l.start + 1) (λ list. AreZones list.zones) list_zones router.lists h.1.1.0;
+      each_row = every one max_rows (row_spelling ports) (λ r. r.start + 1) (IsRow ports) (row_is ports) router.rows h.1.0;
+      each_list = every one max_lists zone_list_spelling (λ l. l.start + 1) (λ list. AreZones list.zones) list_zones router.lists h.1.1.0;
     }
 
 node_limits : (cables : ℕ) (node : Node) → IsValue (node_spelling cables) node → IsNodeWithinLimits cables node
@@ -171,16 +171,16 @@ node_limits cables node h =
     record {
       cable = is_index cables node.cable h.0.1;
       zone = name_is node.zone h.1.1.1.0;
-      names = counted_few max_names name_spelling (λ n. n.enumerator + 1) node.names names;
+      names = counted_few one max_names name_spelling (λ n. n.enumerator + 1) node.names names;
       rising = rise (λ low name. IsValue (name_spelling low) name) (λ n. n.enumerator) name_above 0 node.names
-          (counted_each max_names name_spelling (λ n. n.enumerator + 1) node.names names);
-      each_name = every max_names name_spelling (λ n. n.enumerator + 1) IsNodeName node_name_is node.names names;
+          (counted_each one max_names name_spelling (λ n. n.enumerator + 1) node.names names);
+      each_name = every one max_names name_spelling (λ n. n.enumerator + 1) IsNodeName node_name_is node.names names;
     }
 
 -- ---- images
 
 pub front_cables : (cables : List Cable) → IsValue front_spelling cables
-    → IsValue (counted max_cables (λ low. cable_spelling) (λ c. 0)) cables
+    → IsValue (counted one max_cables (λ low. cable_spelling) (λ c. 0)) cables
 unfolding front_spelling
 front_cables cables h = h.1.1.0
 
@@ -190,12 +190,12 @@ image_bounded i h =
     let cables = length i.cables in
     let first = front_cables i.cables h.0 in
     record {
-      cables = counted_few max_cables (λ low. cable_spelling) (λ c. 0) i.cables first;
-      routers = counted_few max_routers (λ low. router_spelling cables) (λ r. 0) i.routers h.1.0;
-      nodes = counted_few max_nodes (λ low. node_spelling cables) (λ n. 0) i.nodes h.1.1.0;
-      each = every max_routers (λ low. router_spelling cables) (λ r. 0) (IsWithinLimits cables)
+      cables = counted_few one max_cables (λ low. cable_spelling) (λ c. 0) i.cables first;
+      routers = counted_few one max_routers (λ low. router_spelling cables) (λ r. 0) i.routers h.1.0;
+      nodes = counted_few one max_nodes (λ low. node_spelling cables) (λ n. 0) i.nodes h.1.1.0;
+      each = every one max_routers (λ low. router_spelling cables) (λ r. 0) (IsWithinLimits cables)
           (λ low. router_limits cables) i.routers h.1.0;
-      each_cable = every max_cables (λ low. cable_spelling) (λ c. 0) (λ cable. AreZones cable.zones) (λ low. cable_zones) i.cables first;
-      each_node = every max_nodes (λ low. node_spelling cables) (λ n. 0) (IsNodeWithinLimits cables)
+      each_cable = every one max_cables (λ low. cable_spelling) (λ c. 0) (λ cable. AreZones cable.zones) (λ low. cable_zones) i.cables first;
+      each_node = every one max_nodes (λ low. node_spelling cables) (λ n. 0) (IsNodeWithinLimits cables)
           (λ low. node_limits cables) i.nodes h.1.1.0;
     }

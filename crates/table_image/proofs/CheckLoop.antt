@@ -8,7 +8,7 @@ use Rattle.at_base.specs.Grammar.{Grammar}
 use Rattle.at_base.specs.Spelling.{list_bytes, bytes_of, ListPasses, IsValue}
 use Rattle.table_image.specs.Flaws.{Wrong}
 use Rattle.table_image.specs.Checking.{ListFlawAt, FlawAt}
-use Rattle.table_image.specs.declared.checking.Misfit.{Misfit}
+use Rattle.table_image.specs.declared.flaw.Flaw.{Flaw}
 
 -- the loop is at item i, at an offset, with the number that the item before passes on
 pub record Standing {B : Type 0} (item : ℕ → Grammar Wrong true B) (next : B → ℕ) (xs : List B) (start i low at : ℕ) : Type 0 where
@@ -67,9 +67,9 @@ room_left i n most lt = let h = mul-le-mul_right most lt in omega (arith, h)
 pub within_limit : (n limit most : ℕ) → n ≤ limit → n * most ≤ limit * most
 within_limit n limit most le = mul-le-mul_right most le
 
--- parts within the limit end within the room of the limit
-pub near_limit : (n limit most at : ℕ) (r : Result ℕ Misfit) → n ≤ limit
-    → MatchResult r (λ end. end ≤ at + 1 + n * most) (λ m. m.place ≤ at + 1 + n * most)
-    → MatchResult r (λ end. end ≤ at + 1 + limit * most) (λ m. m.place ≤ at + 1 + limit * most)
-near_limit n limit most at (Ok end) few near = let h = within_limit n limit most few in omega (arith, h, near)
-near_limit n limit most at (Err m) few near = let h = within_limit n limit most few in omega (arith, h, near)
+-- parts within the limit end within the room of the limit, after a count of so many bytes
+pub near_limit : (n limit most at count : ℕ) (r : Result ℕ Flaw) → n ≤ limit
+    → MatchResult r (λ end. end ≤ at + count + n * most) (λ m. m.place ≤ at + count + n * most)
+    → MatchResult r (λ end. end ≤ at + (count + limit * most)) (λ m. m.place ≤ at + (count + limit * most))
+near_limit n limit most at count (Ok end) few near = let h = within_limit n limit most few in omega (arith, h, near)
+near_limit n limit most at count (Err m) few near = let h = within_limit n limit most few in omega (arith, h, near)

@@ -6,19 +6,19 @@ use Rattle.std.proofs.lemmas.Bool.{le-ltb, lt-ltb}
 use Rattle.std.specs.Prelude.{◌⊎◌}
 use Rattle.at_base.specs.declared.error.Cause.TheVariants.{Index, Order, Value}
 use Rattle.at_base.specs.declared.address.Addr.{Addr}
-use Rattle.at_base.specs.Grammar.{Grammar, Field, done, field, part}
+use Rattle.at_base.specs.Grammar.{Grammar, Field, done, field, one, part}
 use Rattle.at_base.specs.FirstFault.{field_len}
 use Rattle.at_base.specs.Spelling.{bytes_of, IsValue, Passes}
 use Rattle.table_image.specs.Flaws.{Wrong, Here}
 use Rattle.table_image.specs.Tests.{enumerator}
 use Rattle.at_base.specs.Text.{is_entity}
-use Rattle.table_image.specs.Limits.{max_cables, max_routers, max_nodes, max_ports, max_rows, max_zone_lists, max_names}
+use Rattle.at_base.specs.Limits.{max_ports, max_rows, max_lists, max_names, max_cables, max_routers, max_nodes}
 use Rattle.table_image.specs.Spelling.{counted, text_spelling, zone_spelling, zones_spelling, address_spelling, port_spelling, row_spelling}
 use Rattle.table_image.specs.Spelling.{zone_list_spelling, flag_number, flag_of, cable_spelling, router_spelling, own_router_spelling}
 use Rattle.table_image.specs.Spelling.{name_spelling, node_spelling, front_spelling, image_spelling}
 use Rattle.table_image.specs.Internet.{Internet}
 use Rattle.table_image.specs.Checking.{Checks}
-use Rattle.table_image.specs.declared.checking.Misfit.{Misfit}
+use Rattle.table_image.specs.declared.flaw.Flaw.{Flaw}
 use Rattle.table_image.specs.declared.cable.Cable.{Cable}
 use Rattle.table_image.specs.declared.zone_list.ZoneList.{ZoneList}
 use Rattle.table_image.specs.declared.router.Router.{Router}
@@ -28,32 +28,32 @@ use Rattle.table_image.proofs.Checked.{is_within, too_low, too_high, rises, fall
 use Rattle.table_image.proofs.Checked.{after_field, last_part}
 
 -- the facts about the result of a check
-record Says {A : Type 0} (g : Grammar Wrong true A) (y : A) (at : ℕ) (r : Result ℕ Misfit) : Type 0 where
+record Says {A : Type 0} (g : Grammar Wrong true A) (y : A) (at : ℕ) (r : Result ℕ Flaw) : Type 0 where
   it : Checks g y at r
 
-says_field : {A V : Type 0} (fd : Field Wrong V) (get : A → V) (after : V → Grammar Wrong true A) (y : A) (at : ℕ) (r : Result ℕ Misfit)
+says_field : {A V : Type 0} (fd : Field Wrong V) (get : A → V) (after : V → Grammar Wrong true A) (y : A) (at : ℕ) (r : Result ℕ Flaw)
     → Passes fd (get y) → Says (after (get y)) y (at + field_len fd) r
     → Says (field fd get after) y at r
 says_field fd get after y at r p k = record { it = after_field fd get after y at r p k.it }
 
 says_part : {A B : Type 0} (g : Grammar Wrong true B) (get : A → B) (after : B
-    → Grammar Wrong true A) (y : A) (at middle : ℕ) (r : Result ℕ Misfit) → Checks g (get y) at (Ok middle) → Says (after
+    → Grammar Wrong true A) (y : A) (at middle : ℕ) (r : Result ℕ Flaw) → Checks g (get y) at (Ok middle) → Says (after
     (get y)) y middle r
     → Says (part g get after) y at r
 says_part g get after y at middle r h k = record { it = after_part g get after y at middle r h k.it }
 
-says_in_part : {A B : Type 0} (g : Grammar Wrong true B) (get : A → B) (after : B → Grammar Wrong true A) (y : A) (at : ℕ) (m : Misfit)
+says_in_part : {A B : Type 0} (g : Grammar Wrong true B) (get : A → B) (after : B → Grammar Wrong true A) (y : A) (at : ℕ) (m : Flaw)
     → Checks g (get y) at (Err m) → Says (part g get after) y at (Err m)
 says_in_part g get after y at m h = record { it = in_part g get after y at m h }
 
-says_last : {A B : Type 0} (g : Grammar Wrong true B) (get : A → B) (make : B → A) (y : A) (at : ℕ) (r : Result ℕ Misfit) → make (get y) ≡ y
+says_last : {A B : Type 0} (g : Grammar Wrong true B) (get : A → B) (make : B → A) (y : A) (at : ℕ) (r : Result ℕ Flaw) → make (get y) ≡ y
     → Checks g (get y) at r → Says (part g get (λ v. done (make v))) y at r
 says_last g get make y at r e h = record { it = last_part g get make y at r e h }
 
-moved : {A : Type 0} (g : Grammar Wrong true A) (y : A) (a b : ℕ) (r : Result ℕ Misfit) → a ≡ b → Checks g y a r → Checks g y b r
+moved : {A : Type 0} (g : Grammar Wrong true A) (y : A) (a b : ℕ) (r : Result ℕ Flaw) → a ≡ b → Checks g y a r → Checks g y b r
 moved g y a b r e = subst (λ (n : ℕ). Checks g y n r) e
 
-cable_says : (c : Cable) (at : ℕ) (r : Result ℕ Misfit) → c.start < 2 ^ 16 → c.end < 2 ^ 16 → Checks zones_spelling c.zones (at + 4) r
+cable_says : (c : Cable) (at : ℕ) (r : Result ℕ Flaw) → c.start < 2 ^ 16 → c.end < 2 ^ 16 → Checks zones_spelling c.zones (at + 4) r
     → Says cable_spelling c at r
 unfolding cable_spelling
 cable_says c at r start end h =
@@ -61,7 +61,7 @@ cable_says c at r start end h =
     (says_last zones_spelling (λ c. c.zones) (λ names. record { start = c.start; end = c.end; zones = names }) c (at + 2 + 2) r refl
     (moved zones_spelling c.zones (at + 4) (at + 2 + 2) r (omega arith) h)))
 
-pub cable_checks : (c : Cable) (at : ℕ) (r : Result ℕ Misfit) → c.start < 2 ^ 16 → c.end < 2 ^ 16 → Checks zones_spelling c.zones (at + 4) r
+pub cable_checks : (c : Cable) (at : ℕ) (r : Result ℕ Flaw) → c.start < 2 ^ 16 → c.end < 2 ^ 16 → Checks zones_spelling c.zones (at + 4) r
     → Checks cable_spelling c at r
 cable_checks c at r start end h = (cable_says c at r start end h).it
 
@@ -73,7 +73,7 @@ flag_back : (b : Bool) → flag_of (flag_number b) ≡ b
 flag_back true = refl
 flag_back false = refl
 
-list_says : (low : ℕ) (l : ZoneList) (at : ℕ) (r : Result ℕ Misfit) → l.start < 2 ^ 16 → l.end < 2 ^ 16 → low ≤ l.start
+list_says : (low : ℕ) (l : ZoneList) (at : ℕ) (r : Result ℕ Flaw) → l.start < 2 ^ 16 → l.end < 2 ^ 16 → low ≤ l.start
     → Checks zones_spelling l.zones (at + 5) r → Says (zone_list_spelling low) l at r
 unfolding zone_list_spelling
 list_says low l at r start end rise h =
@@ -90,7 +90,7 @@ list_says low l at r start end rise h =
     (ap (λ (b : Bool). record { start = l.start; end = l.end; complete = b; zones = l.zones }) (flag_back l.complete))
     (moved zones_spelling l.zones (at + 5) (at + 2 + 2 + 1) r (omega arith) h))))
 
-pub list_checks : (low : ℕ) (l : ZoneList) (at : ℕ) (r : Result ℕ Misfit) → l.start < 2 ^ 16 → l.end < 2 ^ 16 → low ≤ l.start
+pub list_checks : (low : ℕ) (l : ZoneList) (at : ℕ) (r : Result ℕ Flaw) → l.start < 2 ^ 16 → l.end < 2 ^ 16 → low ≤ l.start
     → Checks zones_spelling l.zones (at + 5) r → Checks (zone_list_spelling low) l at r
 list_checks low l at r start end rise h = (list_says low l at r start end rise h).it
 
@@ -149,7 +149,7 @@ name_falls low n at f some few first lt = (
   refl,
 )
 
-name_says_object : (low : ℕ) (n : NodeName) (at : ℕ) (m : Misfit) → FitsName n → 1 ≤ n.socket → n.socket ≤ 254 → 1 ≤ n.enumerator
+name_says_object : (low : ℕ) (n : NodeName) (at : ℕ) (m : Flaw) → FitsName n → 1 ≤ n.socket → n.socket ≤ 254 → 1 ≤ n.enumerator
     → low ≤ n.enumerator → Checks (text_spelling is_entity) n.object (at + 2) (Err m) → Says (name_spelling low) n at (Err m)
 unfolding name_spelling
 name_says_object low n at m f some few first le h =
@@ -157,11 +157,11 @@ name_says_object low n at m f some few first le h =
     (f.enumerator, enumerates low n.enumerator first le)
     (says_in_part _ _ _ n (at + 1 + 1) m (moved (text_spelling is_entity) n.object (at + 2) (at + 1 + 1) (Err m) (omega arith) h)))
 
-pub name_object : (low : ℕ) (n : NodeName) (at : ℕ) (m : Misfit) → FitsName n → 1 ≤ n.socket → n.socket ≤ 254 → 1 ≤ n.enumerator
+pub name_object : (low : ℕ) (n : NodeName) (at : ℕ) (m : Flaw) → FitsName n → 1 ≤ n.socket → n.socket ≤ 254 → 1 ≤ n.enumerator
     → low ≤ n.enumerator → Checks (text_spelling is_entity) n.object (at + 2) (Err m) → Checks (name_spelling low) n at (Err m)
 name_object low n at m f some few first le h = (name_says_object low n at m f some few first le h).it
 
-name_says_kind : (low : ℕ) (n : NodeName) (at middle : ℕ) (r : Result ℕ Misfit) → FitsName n → 1 ≤ n.socket → n.socket ≤ 254
+name_says_kind : (low : ℕ) (n : NodeName) (at middle : ℕ) (r : Result ℕ Flaw) → FitsName n → 1 ≤ n.socket → n.socket ≤ 254
     → 1 ≤ n.enumerator → low ≤ n.enumerator → Checks (text_spelling is_entity) n.object (at + 2) (Ok middle)
     → Checks (text_spelling is_entity) n.kind middle r → Says (name_spelling low) n at r
 unfolding name_spelling
@@ -172,48 +172,48 @@ name_says_kind low n at middle r f some few first le h k =
     (says_last (text_spelling is_entity) (λ n. n.kind)
     (λ kind. record { socket = n.socket; enumerator = n.enumerator; object = n.object; kind = kind }) n middle r refl k)))
 
-pub name_kind : (low : ℕ) (n : NodeName) (at middle : ℕ) (r : Result ℕ Misfit) → FitsName n → 1 ≤ n.socket → n.socket ≤ 254
+pub name_kind : (low : ℕ) (n : NodeName) (at middle : ℕ) (r : Result ℕ Flaw) → FitsName n → 1 ≤ n.socket → n.socket ≤ 254
     → 1 ≤ n.enumerator → low ≤ n.enumerator → Checks (text_spelling is_entity) n.object (at + 2) (Ok middle)
     → Checks (text_spelling is_entity) n.kind middle r → Checks (name_spelling low) n at r
 name_kind low n at middle r f some few first le h k = (name_says_kind low n at middle r f some few first le h k).it
 
 -- ---- routers
 
-router_says_ports : (cables : ℕ) (x : Router) (at : ℕ) (m : Misfit)
-    → Checks (counted max_ports (λ low. port_spelling cables) (λ p. 0)) x.ports at (Err m) → Says (router_spelling cables) x at (Err m)
+router_says_ports : (cables : ℕ) (x : Router) (at : ℕ) (m : Flaw)
+    → Checks (counted one max_ports (λ low. port_spelling cables) (λ p. 0)) x.ports at (Err m) → Says (router_spelling cables) x at (Err m)
 unfolding router_spelling
 router_says_ports cables x at m h = says_in_part _ _ _ x at m h
 
-pub router_ports : (cables : ℕ) (x : Router) (at : ℕ) (m : Misfit)
-    → Checks (counted max_ports (λ low. port_spelling cables) (λ p. 0)) x.ports at (Err m) → Checks (router_spelling cables) x at (Err m)
+pub router_ports : (cables : ℕ) (x : Router) (at : ℕ) (m : Flaw)
+    → Checks (counted one max_ports (λ low. port_spelling cables) (λ p. 0)) x.ports at (Err m) → Checks (router_spelling cables) x at (Err m)
 router_ports cables x at m h = (router_says_ports cables x at m h).it
 
-router_says_rows : (cables : ℕ) (x : Router) (at middle : ℕ) (m : Misfit)
-    → Checks (counted max_ports (λ low. port_spelling cables) (λ p. 0)) x.ports at (Ok middle)
-    → Checks (counted max_rows (row_spelling (length x.ports)) (λ r. r.start + 1)) x.rows middle (Err m) → Says
+router_says_rows : (cables : ℕ) (x : Router) (at middle : ℕ) (m : Flaw)
+    → Checks (counted one max_ports (λ low. port_spelling cables) (λ p. 0)) x.ports at (Ok middle)
+    → Checks (counted one max_rows (row_spelling (length x.ports)) (λ r. r.start + 1)) x.rows middle (Err m) → Says
     (router_spelling cables) x at (Err m)
 unfolding router_spelling
 router_says_rows cables x at middle m h k = says_part _ _ _ x at middle (Err m) h (says_in_part _ _ _ x middle m k)
 
-pub router_rows : (cables : ℕ) (x : Router) (at middle : ℕ) (m : Misfit)
-    → Checks (counted max_ports (λ low. port_spelling cables) (λ p. 0)) x.ports at (Ok middle)
-    → Checks (counted max_rows (row_spelling (length x.ports)) (λ r. r.start + 1)) x.rows middle (Err m) → Checks
+pub router_rows : (cables : ℕ) (x : Router) (at middle : ℕ) (m : Flaw)
+    → Checks (counted one max_ports (λ low. port_spelling cables) (λ p. 0)) x.ports at (Ok middle)
+    → Checks (counted one max_rows (row_spelling (length x.ports)) (λ r. r.start + 1)) x.rows middle (Err m) → Checks
     (router_spelling cables) x at (Err m)
 router_rows cables x at middle m h k = (router_says_rows cables x at middle m h k).it
 
-router_says : (cables : ℕ) (x : Router) (at a b : ℕ) (r : Result ℕ Misfit)
-    → Checks (counted max_ports (λ low. port_spelling cables) (λ p. 0)) x.ports at (Ok a)
-    → Checks (counted max_rows (row_spelling (length x.ports)) (λ r. r.start + 1)) x.rows a (Ok b) → Checks
-    (counted max_zone_lists zone_list_spelling (λ l. l.start + 1)) x.lists b r → Says (router_spelling cables) x at r
+router_says : (cables : ℕ) (x : Router) (at a b : ℕ) (r : Result ℕ Flaw)
+    → Checks (counted one max_ports (λ low. port_spelling cables) (λ p. 0)) x.ports at (Ok a)
+    → Checks (counted one max_rows (row_spelling (length x.ports)) (λ r. r.start + 1)) x.rows a (Ok b) → Checks
+    (counted one max_lists zone_list_spelling (λ l. l.start + 1)) x.lists b r → Says (router_spelling cables) x at r
 unfolding router_spelling
 router_says cables x at a b r h k j =
-    says_part _ _ _ x at a r h (says_part _ _ _ x a b r k (says_last (counted max_zone_lists zone_list_spelling (λ l. l.start + 1))
+    says_part _ _ _ x at a r h (says_part _ _ _ x a b r k (says_last (counted one max_lists zone_list_spelling (λ l. l.start + 1))
     (λ x. x.lists) (λ lists. record { ports = x.ports; rows = x.rows; lists = lists }) x b r refl j))
 
-pub router_checks : (cables : ℕ) (x : Router) (at a b : ℕ) (r : Result ℕ Misfit)
-    → Checks (counted max_ports (λ low. port_spelling cables) (λ p. 0)) x.ports at (Ok a)
-    → Checks (counted max_rows (row_spelling (length x.ports)) (λ r. r.start + 1)) x.rows a (Ok b) → Checks
-    (counted max_zone_lists zone_list_spelling (λ l. l.start + 1)) x.lists b r → Checks (router_spelling cables) x at r
+pub router_checks : (cables : ℕ) (x : Router) (at a b : ℕ) (r : Result ℕ Flaw)
+    → Checks (counted one max_ports (λ low. port_spelling cables) (λ p. 0)) x.ports at (Ok a)
+    → Checks (counted one max_rows (row_spelling (length x.ports)) (λ r. r.start + 1)) x.rows a (Ok b) → Checks
+    (counted one max_lists zone_list_spelling (λ l. l.start + 1)) x.lists b r → Checks (router_spelling cables) x at r
 router_checks cables x at a b r h k j = (router_says cables x at a b r h k j).it
 
 -- ---- nodes
@@ -234,9 +234,9 @@ length-address : (a : Addr) → length (bytes_of address_spelling a) ≡ 3
 unfolding address_spelling
 length-address a = refl
 
-node_says : (cables : ℕ) (n : Node) (at a b : ℕ) (r : Result ℕ Misfit) → FitsNode n → n.cable < cables
+node_says : (cables : ℕ) (n : Node) (at a b : ℕ) (r : Result ℕ Flaw) → FitsNode n → n.cable < cables
     → Checks zone_spelling n.zone (at + 10) (Ok a) → Checks own_router_spelling n.router a (Ok b)
-    → Checks (counted max_names name_spelling (λ n. n.enumerator + 1)) n.names b r → Says (node_spelling cables) n at r
+    → Checks (counted one max_names name_spelling (λ n. n.enumerator + 1)) n.names b r → Says (node_spelling cables) n at r
 unfolding node_spelling
 node_says cables n at a b r f lt h k j =
     let size = length-address n.address in
@@ -246,13 +246,13 @@ node_says cables n at a b r f lt h k j =
     (says_field _ _ _ n (at + 1 + 3) r (f.hardware, refl) (says_part _ _ _ n (at + 1 + 3 + 6) a r (moved zone_spelling n.zone (at + 10)
     (at + 1 + 3 + 6) (Ok a) where_zone h)
     (says_part _ _ _ n a b r k
-    (says_last (counted max_names name_spelling (λ n. n.enumerator + 1)) (λ n. n.names)
+    (says_last (counted one max_names name_spelling (λ n. n.enumerator + 1)) (λ n. n.names)
     (λ names. record { cable = n.cable; address = n.address; hardware = n.hardware; zone = n.zone; router = n.router; names = names }) n b r
     refl j)))))
 
-pub node_checks : (cables : ℕ) (n : Node) (at a b : ℕ) (r : Result ℕ Misfit) → FitsNode n → n.cable < cables
+pub node_checks : (cables : ℕ) (n : Node) (at a b : ℕ) (r : Result ℕ Flaw) → FitsNode n → n.cable < cables
     → Checks zone_spelling n.zone (at + 10) (Ok a) → Checks own_router_spelling n.router a (Ok b)
-    → Checks (counted max_names name_spelling (λ n. n.enumerator + 1)) n.names b r → Checks (node_spelling cables) n at r
+    → Checks (counted one max_names name_spelling (λ n. n.enumerator + 1)) n.names b r → Checks (node_spelling cables) n at r
 node_checks cables n at a b r f lt h k j = (node_says cables n at a b r f lt h k j).it
 
 -- ---- short lists
@@ -281,43 +281,43 @@ some_value a net node = ((omega arith, is_within 0 1 Value 1 (omega arith) (omeg
 
 -- ---- the whole image
 
-front_says : (cables : List Cable) (r : Result ℕ Misfit) → Checks (counted max_cables (λ low. cable_spelling) (λ c. 0)) cables 5 r
+front_says : (cables : List Cable) (r : Result ℕ Flaw) → Checks (counted one max_cables (λ low. cable_spelling) (λ c. 0)) cables 5 r
     → Says front_spelling cables 0 r
 unfolding front_spelling
 front_says cables r h =
     says_field _ _ _ cables 0 r (refl, refl) (says_field _ _ _ cables 4 r (omega arith, refl)
-    (says_last (counted max_cables (λ low. cable_spelling) (λ c. 0)) (λ c. c) (λ cables. cables) cables 5 r refl h))
+    (says_last (counted one max_cables (λ low. cable_spelling) (λ c. 0)) (λ c. c) (λ cables. cables) cables 5 r refl h))
 
-image_says_cables : (i : Internet) (m : Misfit) → Checks (counted max_cables (λ low. cable_spelling) (λ c. 0)) i.cables 5 (Err m)
+image_says_cables : (i : Internet) (m : Flaw) → Checks (counted one max_cables (λ low. cable_spelling) (λ c. 0)) i.cables 5 (Err m)
     → Says image_spelling i 0 (Err m)
 unfolding image_spelling
 image_says_cables i m h = says_in_part _ _ _ i 0 m (front_says i.cables (Err m) h).it
 
-pub image_cables : (i : Internet) (m : Misfit) → Checks (counted max_cables (λ low. cable_spelling) (λ c. 0)) i.cables 5 (Err m)
+pub image_cables : (i : Internet) (m : Flaw) → Checks (counted one max_cables (λ low. cable_spelling) (λ c. 0)) i.cables 5 (Err m)
     → Checks image_spelling i 0 (Err m)
 image_cables i m h = (image_says_cables i m h).it
 
-image_says_routers : (i : Internet) (a : ℕ) (m : Misfit) → Checks (counted max_cables (λ low. cable_spelling) (λ c. 0)) i.cables 5 (Ok a)
-    → Checks (counted max_routers (λ low. router_spelling (length i.cables)) (λ r. 0)) i.routers a (Err m) → Says image_spelling i 0 (Err m)
+image_says_routers : (i : Internet) (a : ℕ) (m : Flaw) → Checks (counted one max_cables (λ low. cable_spelling) (λ c. 0)) i.cables 5 (Ok a)
+    → Checks (counted one max_routers (λ low. router_spelling (length i.cables)) (λ r. 0)) i.routers a (Err m) → Says image_spelling i 0 (Err m)
 unfolding image_spelling
 image_says_routers i a m h k = says_part _ _ _ i 0 a (Err m) (front_says i.cables (Ok a) h).it (says_in_part _ _ _ i a m k)
 
-pub image_routers : (i : Internet) (a : ℕ) (m : Misfit) → Checks (counted max_cables (λ low. cable_spelling) (λ c. 0)) i.cables 5 (Ok a)
-    → Checks (counted max_routers (λ low. router_spelling (length i.cables)) (λ r. 0)) i.routers a (Err m) → Checks image_spelling i 0
+pub image_routers : (i : Internet) (a : ℕ) (m : Flaw) → Checks (counted one max_cables (λ low. cable_spelling) (λ c. 0)) i.cables 5 (Ok a)
+    → Checks (counted one max_routers (λ low. router_spelling (length i.cables)) (λ r. 0)) i.routers a (Err m) → Checks image_spelling i 0
     (Err m)
 image_routers i a m h k = (image_says_routers i a m h k).it
 
-image_says : (i : Internet) (a b : ℕ) (r : Result ℕ Misfit) → Checks (counted max_cables (λ low. cable_spelling) (λ c. 0)) i.cables 5 (Ok a)
-    → Checks (counted max_routers (λ low. router_spelling (length i.cables)) (λ r. 0)) i.routers a (Ok b) → Checks (counted max_nodes
+image_says : (i : Internet) (a b : ℕ) (r : Result ℕ Flaw) → Checks (counted one max_cables (λ low. cable_spelling) (λ c. 0)) i.cables 5 (Ok a)
+    → Checks (counted one max_routers (λ low. router_spelling (length i.cables)) (λ r. 0)) i.routers a (Ok b) → Checks (counted one max_nodes
     (λ low. node_spelling (length i.cables)) (λ n. 0)) i.nodes b r → Says image_spelling i 0 r
 unfolding image_spelling
 image_says i a b r h k j =
     says_part _ _ _ i 0 a r (front_says i.cables (Ok a) h).it (says_part _ _ _ i a b r k
-    (says_last (counted max_nodes (λ low. node_spelling (length i.cables)) (λ n. 0)) (λ i. i.nodes)
+    (says_last (counted one max_nodes (λ low. node_spelling (length i.cables)) (λ n. 0)) (λ i. i.nodes)
     (λ nodes. record { cables = i.cables; routers = i.routers; nodes = nodes }) i b r refl j))
 
-pub image_checks : (i : Internet) (a b : ℕ) (r : Result ℕ Misfit)
-    → Checks (counted max_cables (λ low. cable_spelling) (λ c. 0)) i.cables 5 (Ok a)
-    → Checks (counted max_routers (λ low. router_spelling (length i.cables)) (λ r. 0)) i.routers a (Ok b) → Checks (counted max_nodes
+pub image_checks : (i : Internet) (a b : ℕ) (r : Result ℕ Flaw)
+    → Checks (counted one max_cables (λ low. cable_spelling) (λ c. 0)) i.cables 5 (Ok a)
+    → Checks (counted one max_routers (λ low. router_spelling (length i.cables)) (λ r. 0)) i.routers a (Ok b) → Checks (counted one max_nodes
     (λ low. node_spelling (length i.cables)) (λ n. 0)) i.nodes b r → Checks image_spelling i 0 r
 image_checks i a b r h k j = (image_says i a b r h k j).it

@@ -4,27 +4,27 @@ use Rattle.std.proofs.Common.{subst, ◌∙◌, append_assoc, arith}
 use Rattle.std.proofs.Math.Seq.{take-suc}
 use Rattle.std.proofs.lemmas.List.{append-nil, length-append}
 use Rattle.at_base.specs.Reading.{◌>>=◌, list_at}
-use Rattle.table_image.specs.declared.flaw.Flaw.{Flaw}
+use Rattle.table_image.specs.declared.flaw.Fault.{Fault}
 use Rattle.table_image.specs.declared.flaw.Stop.{Stop}
 use Rattle.table_image.specs.declared.flaw.Stop.TheVariants as stops
 use Rattle.table_image.specs.Flaws.{StopsAs}
 
 -- reads one item, given the number that the one before it passes on
 abbrev pub Reader : Type 0 → Type 0
-Reader A = ℕ → List ℕ → Result (A × List ℕ) Flaw
+Reader A = ℕ → List ℕ → Result (A × List ℕ) Fault
 
 -- adds the items read before to the result of reading the rest
-abbrev pub with_front : {A : Type 0} → List A → Result (List A × List ℕ) Flaw → Result (List A × List ℕ) Flaw
+abbrev pub with_front : {A : Type 0} → List A → Result (List A × List ℕ) Fault → Result (List A × List ℕ) Fault
 with_front front reading = reading >>= λ x. Ok (front ++ x.0, x.1)
 
-regroup : {A : Type 0} (front : List A) (y : A) (reading : Result (List A × List ℕ) Flaw)
+regroup : {A : Type 0} (front : List A) (y : A) (reading : Result (List A × List ℕ) Fault)
     → with_front front (reading >>= λ x. Ok (y ∷ x.0, x.1)) ≡ with_front (front ++ y ∷ []) reading
 regroup {A} front y (Ok x) = ap (λ (ys : List A). Ok (ys, x.1)) (simp append_assoc)
 regroup front y (Err f) = refl
 
 -- one more item was read
 pub goes_on : {A : Type 0} (item : Reader A) (next : A
-    → ℕ) (front : List A) (low count i : ℕ) (bytes : List ℕ) (y : A) (after : List ℕ) (total : Result (List A × List ℕ) Flaw)
+    → ℕ) (front : List A) (low count i : ℕ) (bytes : List ℕ) (y : A) (after : List ℕ) (total : Result (List A × List ℕ) Fault)
     → i < count → item low bytes ≡ Ok (y, after)
     → with_front front (list_at item next low (count - i) bytes) ≡ total
     → with_front (front ++ y ∷ []) (list_at item next (next y) (count - (i + 1)) after) ≡ total
@@ -37,7 +37,7 @@ goes_on item next front low count i bytes y after total lt h so_far =
 
 -- one more item of a list was passed
 pub goes_on_in : {A : Type 0} (item : Reader A) (next : A
-    → ℕ) (xs : List A) (low i : ℕ) (bytes : List ℕ) (y : A) (after : List ℕ) (total : Result (List A × List ℕ) Flaw)
+    → ℕ) (xs : List A) (low i : ℕ) (bytes : List ℕ) (y : A) (after : List ℕ) (total : Result (List A × List ℕ) Fault)
     → i < length xs → y ≡ get_or xs i y → item low bytes ≡ Ok (y, after)
     → with_front (take i xs) (list_at item next low (length xs - i) bytes) ≡ total
     → with_front (take (i + 1) xs) (list_at item next (next y) (length xs - (i + 1)) after) ≡ total
@@ -48,9 +48,9 @@ goes_on_in {A} item next xs low i bytes y after total lt e h so_far =
     subst (λ (front : List A). with_front front (list_at item next (next y) (length xs - (i + 1)) after) ≡ total) longer
     (goes_on item next (take i xs) low (length xs) i bytes y after total lt h so_far)
 
--- an item has a flaw
+-- an item has a fault
 pub refuses : {A : Type 0} (item : Reader A) (next : A
-    → ℕ) (f : Flaw) (front : List A) (low count i : ℕ) (bytes : List ℕ) (total : Result (List A × List ℕ) Flaw)
+    → ℕ) (f : Fault) (front : List A) (low count i : ℕ) (bytes : List ℕ) (total : Result (List A × List ℕ) Fault)
     → i < count → item low bytes ≡ Err f
     → with_front front (list_at item next low (count - i) bytes) ≡ total → total ≡ Err f
 refuses {A} item next f front low count i bytes total lt h so_far =
@@ -60,7 +60,7 @@ refuses {A} item next f front low count i bytes total lt h so_far =
 
 -- reading an item stopped
 pub stops_as : {A : Type 0} (item : Reader A) (next : A
-    → ℕ) (e : Stop) (front : List A) (low count i : ℕ) (bytes : List ℕ) (total : Result (List A × List ℕ) Flaw)
+    → ℕ) (e : Stop) (front : List A) (low count i : ℕ) (bytes : List ℕ) (total : Result (List A × List ℕ) Fault)
     → i < count → StopsAs e (item low bytes)
     → with_front front (list_at item next low (count - i) bytes) ≡ total → StopsAs e total
 stops_as item next stops.Memory front low count i bytes total lt h so_far = tt
@@ -69,7 +69,7 @@ stops_as item next (stops.Refused f) front low count i bytes total lt h so_far =
 
 -- all items were read
 pub is_done : {A : Type 0} (item : Reader A) (next : A
-    → ℕ) (front : List A) (low count i : ℕ) (bytes : List ℕ) (total : Result (List A × List ℕ) Flaw)
+    → ℕ) (front : List A) (low count i : ℕ) (bytes : List ℕ) (total : Result (List A × List ℕ) Fault)
     → count ≤ i → with_front front (list_at item next low (count - i) bytes) ≡ total → total ≡ Ok (front, bytes)
 is_done {A} item next front low count i bytes total le so_far =
     let k : count - i ≡ 0 = omega arith in
@@ -80,13 +80,13 @@ is_done {A} item next front low count i bytes total le so_far =
 -- ---- reading past items without storing them
 
 -- the items read so far are as many as the turns of the loop
-abbrev pub Passed : {A : Type 0} → Reader A → (A → ℕ) → ℕ → ℕ → ℕ → List ℕ → Result (List A × List ℕ) Flaw → Type 0
+abbrev pub Passed : {A : Type 0} → Reader A → (A → ℕ) → ℕ → ℕ → ℕ → List ℕ → Result (List A × List ℕ) Fault → Type 0
 Passed {A =
     A} item next low count i bytes total = (front : List A) × (length front ≡ i) × (with_front front (list_at item next low
     (count - i) bytes) ≡ total)
 
 pub passes_more : {A : Type 0} (item : Reader A) (next : A
-    → ℕ) (low count i : ℕ) (bytes : List ℕ) (y : A) (after : List ℕ) (total : Result (List A × List ℕ) Flaw)
+    → ℕ) (low count i : ℕ) (bytes : List ℕ) (y : A) (after : List ℕ) (total : Result (List A × List ℕ) Fault)
     → i < count → item low bytes ≡ Ok (y, after) → Passed item next low count i bytes total → Passed item next (next y) count
     (i + 1) after total
 passes_more item next low count i bytes y after total lt h (front, len, so_far) =

@@ -3,38 +3,37 @@ use Rattle.std.proofs.Common.{◌≡◌, ℕ, ◌+◌, ◌-◌, Bool, true, ◌&
 use Rattle.std.specs.List.{list_all}
 use Rattle.std.proofs.lemmas.Bool.{le-leb}
 use Rattle.std.proofs.lemmas.List.{append-nil}
-use Rattle.at_base.specs.declared.error.Error.TheVariants.{BadImage}
+use Rattle.at_base.specs.Grammar.{one}
 use Rattle.at_base.specs.Spelling.{bytes_of, ListPasses, IsValue}
 use Rattle.at_base.specs.FirstFault.{FirstFault}
 use Rattle.table_image.specs.Internet.{Internet}
-use Rattle.table_image.specs.Limits.{max_cables, max_routers, max_nodes, max_ports, max_rows, max_zone_lists, max_zones, max_names}
-use Rattle.table_image.specs.Flaws.{Wrong, Here, Before, flaw_of, flaws}
+use Rattle.at_base.specs.Limits.{max_ports, max_rows, max_lists, max_zones, max_names, max_cables, max_routers, max_nodes}
+use Rattle.table_image.specs.Flaws.{Wrong, Here, Before, fault_of, faults, flaw_after}
 use Rattle.table_image.specs.Short.{short_cable, short_list, short_router, short_node, is_short}
 use Rattle.table_image.specs.Spelling.{zone_spelling, zones_spelling, cable_spelling, port_spelling, row_spelling}
 use Rattle.table_image.specs.Spelling.{zone_list_spelling, router_spelling, name_spelling, node_spelling, image_spelling}
-use Rattle.table_image.specs.Reading.{IsFirstFlaw, refusal}
+use Rattle.table_image.specs.Reading.{IsFirstFlaw}
 use Rattle.table_image.specs.Checking.{Checks, reported}
 use Rattle.table_image.specs.declared.flaw.Flaw.{Flaw}
-use Rattle.table_image.specs.declared.checking.Misfit.{Misfit}
 use Rattle.table_image.specs.declared.cable.Cable.{Cable}
 use Rattle.table_image.specs.declared.zone_list.ZoneList.{ZoneList}
 use Rattle.table_image.specs.declared.router.Router.{Router}
 use Rattle.table_image.specs.declared.node.Node.{Node}
 use Rattle.table_image.proofs.Bounds.{counted_few, counted_each, front_cables}
 use Rattle.table_image.proofs.Flawed.{flawed_first}
-use Rattle.table_image.proofs.Whole.{all_refused, one_flaw, no_flaw}
+use Rattle.table_image.proofs.Whole.{no_flaw}
 
 -- ---- an image is within its limits
 
 all_short : {B : Type 0} (passes : ℕ → B → Type 0) (next : B → ℕ) (short : B → Bool) → ((low : ℕ) (x : B) → passes low x → short x ≡ true)
     → (low : ℕ) (xs : List B) → ListPasses passes next low xs → list_all short xs ≡ true
-all_short passes next short one low [] h = refl
-all_short passes next short one low (x ∷ xs) h =
-    ap (λ b. b && list_all short xs) (one low x h.0) ∙ all_short passes next short one (next x) xs h.1
+all_short passes next short each_one low [] h = refl
+all_short passes next short each_one low (x ∷ xs) h =
+    ap (λ b. b && list_all short xs) (each_one low x h.0) ∙ all_short passes next short each_one (next x) xs h.1
 
 zones_few : (zs : List (List ℕ)) → IsValue zones_spelling zs → nat_le (length zs) max_zones ≡ true
 unfolding zones_spelling
-zones_few zs h = le-leb _ _ (counted_few max_zones (λ low. zone_spelling) (λ name. 0) zs h)
+zones_few zs h = le-leb _ _ (counted_few one max_zones (λ low. zone_spelling) (λ name. 0) zs h)
 
 cable_few : (c : Cable) → IsValue cable_spelling c → short_cable c ≡ true
 unfolding cable_spelling
@@ -48,75 +47,65 @@ router_few : (cables : ℕ) (x : Router) → IsValue (router_spelling cables) x 
 unfolding router_spelling
 router_few cables x h =
     let a : nat_le (length x.ports) max_ports ≡ true =
-    le-leb _ _ (counted_few max_ports (λ low. port_spelling cables) (λ p. 0) x.ports h.0) in
+    le-leb _ _ (counted_few one max_ports (λ low. port_spelling cables) (λ p. 0) x.ports h.0) in
     let b : nat_le (length x.rows) max_rows ≡ true =
-    le-leb _ _ (counted_few max_rows (row_spelling (length x.ports)) (λ r. r.start + 1) x.rows h.1.0) in
-    let d : nat_le (length x.lists) max_zone_lists ≡ true =
-    le-leb _ _ (counted_few max_zone_lists zone_list_spelling (λ l. l.start + 1) x.lists h.1.1.0) in
+    le-leb _ _ (counted_few one max_rows (row_spelling (length x.ports)) (λ r. r.start + 1) x.rows h.1.0) in
+    let d : nat_le (length x.lists) max_lists ≡ true =
+    le-leb _ _ (counted_few one max_lists zone_list_spelling (λ l. l.start + 1) x.lists h.1.1.0) in
     let e : list_all short_list x.lists ≡ true =
     all_short (λ low. IsValue (zone_list_spelling low)) (λ l. l.start + 1) short_list list_few 0 x.lists
-    (counted_each max_zone_lists zone_list_spelling (λ l. l.start + 1) x.lists h.1.1.0) in
+    (counted_each one max_lists zone_list_spelling (λ l. l.start + 1) x.lists h.1.1.0) in
     rw (a, b, d, e) refl
 
 node_few : (cables : ℕ) (n : Node) → IsValue (node_spelling cables) n → short_node n ≡ true
 unfolding node_spelling
-node_few cables n h = le-leb _ _ (counted_few max_names name_spelling (λ n. n.enumerator + 1) n.names h.1.1.1.1.1.0)
+node_few cables n h = le-leb _ _ (counted_few one max_names name_spelling (λ n. n.enumerator + 1) n.names h.1.1.1.1.1.0)
 
 pub value_short : (i : Internet) → IsValue image_spelling i → is_short i ≡ true
 unfolding image_spelling
 value_short i h =
     let cs = front_cables i.cables h.0 in
     let n = length i.cables in
-    let a : nat_le (length i.cables) max_cables ≡ true = le-leb _ _ (counted_few max_cables (λ low. cable_spelling) (λ c. 0) i.cables cs) in
+    let a : nat_le (length i.cables) max_cables ≡ true = le-leb _ _ (counted_few one max_cables (λ low. cable_spelling) (λ c. 0) i.cables cs) in
     let b : nat_le (length i.routers) max_routers ≡ true =
-    le-leb _ _ (counted_few max_routers (λ low. router_spelling n) (λ r. 0) i.routers h.1.0) in
+    le-leb _ _ (counted_few one max_routers (λ low. router_spelling n) (λ r. 0) i.routers h.1.0) in
     let d : nat_le (length i.nodes) max_nodes ≡ true =
-    le-leb _ _ (counted_few max_nodes (λ low. node_spelling n) (λ n. 0) i.nodes h.1.1.0) in
+    le-leb _ _ (counted_few one max_nodes (λ low. node_spelling n) (λ n. 0) i.nodes h.1.1.0) in
     let e : list_all short_cable i.cables ≡ true =
-    all_short (λ low. IsValue cable_spelling) (λ c. 0) short_cable (λ low. cable_few) 0 i.cables (counted_each max_cables
+    all_short (λ low. IsValue cable_spelling) (λ c. 0) short_cable (λ low. cable_few) 0 i.cables (counted_each one max_cables
     (λ low. cable_spelling) (λ c. 0) i.cables cs) in
     let f : list_all short_router i.routers ≡ true =
-    all_short (λ low. IsValue (router_spelling n)) (λ r. 0) short_router (λ low. router_few n) 0 i.routers (counted_each max_routers
+    all_short (λ low. IsValue (router_spelling n)) (λ r. 0) short_router (λ low. router_few n) 0 i.routers (counted_each one max_routers
     (λ low. router_spelling n) (λ r. 0) i.routers h.1.0) in
     let g : list_all short_node i.nodes ≡ true =
-    all_short (λ low. IsValue (node_spelling n)) (λ n. 0) short_node (λ low. node_few n) 0 i.nodes (counted_each max_nodes
+    all_short (λ low. IsValue (node_spelling n)) (λ n. 0) short_node (λ low. node_few n) 0 i.nodes (counted_each one max_nodes
     (λ low. node_spelling n) (λ n. 0) i.nodes h.1.1.0) in
     rw (a, b, d, e, f, g) refl
 
 -- ---- parts that don't fit have the flaw of their bytes
 
 reported_there : (left gone : ℕ) (bytes : List ℕ) (w : Wrong) → length bytes ≡ gone + left
-    → BadImage (reported gone w).place (reported gone w).cause ≡ refusal bytes (flaw_of left w)
-reported_there left gone bytes (Here cause) e = let same : gone ≡ length bytes - left = omega arith in ap (λ (n : ℕ). BadImage n cause) same
+    → reported gone w ≡ flaw_after (length bytes) (fault_of left w)
+reported_there left gone bytes (Here cause) e =
+    let same : gone ≡ length bytes - left = omega arith in ap (λ (n : ℕ). record { place = n; cause = cause }) same
 reported_there left gone bytes (Before cause) e =
-    let same : gone - 1 ≡ length bytes - (1 + left) = omega arith in ap (λ (n : ℕ). BadImage n cause) same
+    let same : gone - 1 ≡ length bytes - (1 + left) = omega arith in ap (λ (n : ℕ). record { place = n; cause = cause }) same
 
--- the first flaw of parts that don't fit
-pub record Misfits (i : Internet) (m : Misfit) : Type 0 where
-  pub flaw : Flaw
-  pub first : IsFirstFlaw (bytes_of image_spelling i) flaw
-  pub is_reported : BadImage m.place m.cause ≡ refusal (bytes_of image_spelling i) flaw
-
-pub misfits : (i : Internet) (m : Misfit) → Checks image_spelling i 0 (Err m) → Misfits i m
-misfits i m (q, w, h, is) =
-    let f = flawed_first image_spelling i 0 q w [] h in
+-- the flaw of a check is the first flaw of the bytes
+pub checked_first : (i : Internet) (f : Flaw) → Checks image_spelling i 0 (Err f) → IsFirstFlaw (bytes_of image_spelling i) f
+unfolding IsFirstFlaw
+checked_first i f (q, w, h, is) =
+    let found = flawed_first image_spelling i 0 q w [] h in
     let same = append-nil (bytes_of image_spelling i) in
-    let first : FirstFault flaws image_spelling (bytes_of image_spelling i) (flaw_of f.left w) =
-    subst (λ (b : List ℕ). FirstFault flaws image_spelling b (flaw_of f.left w)) same f.first in
-    let all : length (bytes_of image_spelling i) ≡ f.gone + f.left = ap (λ (b : List ℕ). length b) (sym same) ∙ f.all in
-    let gone : q ≡ f.gone = f.is_at ∙ omega arith in
-    let said : BadImage (reported q w).place (reported q w).cause ≡ refusal (bytes_of image_spelling i) (flaw_of f.left w) =
-    ap (λ (n : ℕ). BadImage (reported n w).place (reported n w).cause) gone ∙ reported_there f.left f.gone
-    (bytes_of image_spelling i) w all in
-    record { flaw = flaw_of f.left w; first = inl first; is_reported = ap (λ (n : Misfit). BadImage n.place n.cause) is ∙ said }
+    let first : FirstFault faults image_spelling (bytes_of image_spelling i) (fault_of found.left w) =
+    subst (λ (b : List ℕ). FirstFault faults image_spelling b (fault_of found.left w)) same found.first in
+    let all : length (bytes_of image_spelling i) ≡ found.gone + found.left = ap (λ (b : List ℕ). length b) (sym same) ∙ found.all in
+    let gone : q ≡ found.gone = found.is_at ∙ omega arith in (
+      fault_of found.left w,
+      inl first,
+      is ∙ ap (λ (n : ℕ). reported n w) gone ∙ reported_there found.left found.gone (bytes_of image_spelling i) w all,
+    )
 
 -- parts that fit have no flaw
 pub fits_no_flaw : (i : Internet) (f : Flaw) → IsValue image_spelling i → IsFirstFlaw (bytes_of image_spelling i) f → ⊥
-fits_no_flaw i f value h = no_flaw (bytes_of image_spelling i) i f (value, refl) (all_refused (bytes_of image_spelling i) f h)
-
--- parts that don't fit have only this flaw
-pub same_refusal : (i : Internet) (m : Misfit) (f : Flaw) → Misfits i m → IsFirstFlaw (bytes_of image_spelling i) f
-    → BadImage m.place m.cause ≡ refusal (bytes_of image_spelling i) f
-same_refusal i m f n h =
-    n.is_reported ∙ ap (refusal (bytes_of image_spelling i)) (one_flaw (bytes_of image_spelling i) n.flaw f (all_refused
-    (bytes_of image_spelling i) n.flaw n.first) h)
+fits_no_flaw i f value h = no_flaw (bytes_of image_spelling i) i f (value, refl) h

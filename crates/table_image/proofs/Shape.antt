@@ -4,11 +4,11 @@ use Rattle.std.proofs.lemmas.Bool.{ltb-false}
 use Rattle.at_base.specs.Text.{is_name, same_bytes, is_entity}
 use Rattle.at_base.specs.declared.error.Cause.{Cause}
 use Rattle.at_base.specs.declared.error.Cause.TheVariants.{Magic, Value, Version}
-use Rattle.at_base.specs.Grammar.{Grammar}
+use Rattle.at_base.specs.Grammar.{Grammar, Size, one}
 use Rattle.at_base.specs.Lawful.{Has, IsLawful}
 use Rattle.at_base.proofs.Fields.{is_right, not_wrong}
 use Rattle.at_base.proofs.Texts.{same_bytes_is}
-use Rattle.table_image.specs.Limits.{max_cables, max_routers, max_nodes, max_ports, max_rows, max_zone_lists, max_zones, max_names}
+use Rattle.at_base.specs.Limits.{max_ports, max_rows, max_lists, max_zones, max_names, max_cables, max_routers, max_nodes}
 use Rattle.table_image.specs.Flaws.{Wrong, Here}
 use Rattle.table_image.specs.Tests.{within, magic, is_magic}
 use Rattle.table_image.specs.Spelling.{counted, text_spelling, zone_spelling, zones_spelling, address_spelling, cable_spelling}
@@ -25,10 +25,10 @@ within_bounds least most c n e =
 magic_is : (s : List ℕ) → is_magic s ≡ None → magic ≡ s
 magic_is s e = sym (same_bytes_is s magic (is_right (same_bytes s magic) (Here Magic) e))
 
-counted_lawful : {B : Type 0} (limit : ℕ) (item : ℕ → Grammar Wrong true B) (next : B → ℕ) → ((low : ℕ) → IsLawful (item low))
-    → IsLawful (counted limit item next)
+counted_lawful : {B : Type 0} (size : Size) (limit : ℕ) (item : ℕ → Grammar Wrong true B) (next : B → ℕ) → ((low : ℕ) → IsLawful (item low))
+    → IsLawful (counted size limit item next)
 unfolding counted
-counted_lawful limit item next items = λ count p. (λ xs len. len, (items, λ xs len. (refl, tt)))
+counted_lawful size limit item next items = λ count p. (λ xs len. len, (items, λ xs len. (refl, tt)))
 
 text_lawful : (good : List ℕ → Bool) → IsLawful (text_spelling good)
 unfolding text_spelling
@@ -39,7 +39,7 @@ zone_lawful = text_lawful is_name
 
 zones_lawful : IsLawful zones_spelling
 unfolding zones_spelling
-zones_lawful = counted_lawful max_zones (λ low. zone_spelling) (λ name. 0) (λ low. zone_lawful)
+zones_lawful = counted_lawful one max_zones (λ low. zone_spelling) (λ name. 0) (λ low. zone_lawful)
 
 address_lawful : IsLawful address_spelling
 unfolding address_spelling
@@ -97,12 +97,12 @@ zone_list_lawful low =
 router_lawful : (cables : ℕ) → IsLawful (router_spelling cables)
 unfolding router_spelling
 router_lawful cables = (
-  counted_lawful max_ports (λ low. port_spelling cables) (λ p. 0) (λ low. port_lawful cables),
+  counted_lawful one max_ports (λ low. port_spelling cables) (λ p. 0) (λ low. port_lawful cables),
   λ ports p. (
     λ rows q lists r. refl,
     (
-      counted_lawful max_rows (row_spelling (length ports)) _ (row_lawful (length ports)),
-      λ rows q. (λ lists r. refl, (counted_lawful max_zone_lists zone_list_spelling _ zone_list_lawful, λ lists r. (refl, tt))),
+      counted_lawful one max_rows (row_spelling (length ports)) _ (row_lawful (length ports)),
+      λ rows q. (λ lists r. refl, (counted_lawful one max_lists zone_list_spelling _ zone_list_lawful, λ lists r. (refl, tt))),
     ),
   ),
 )
@@ -147,7 +147,7 @@ node_lawful cables =
                   λ router p3. (
                     λ names p4. refl,
                     (
-                      counted_lawful max_names name_spelling _ name_lawful,
+                      counted_lawful one max_names name_spelling _ name_lawful,
                       λ names p4.
                           (refl, tt),
                     ),
@@ -167,7 +167,7 @@ front_lawful =
       λ version q cables r. magic_is s p.1,
       λ version q. (
         λ cables r. (let h = within_bounds 1 1 Version version q.1 in omega arith),
-        (counted_lawful max_cables (λ low. cable_spelling) (λ c. 0) (λ low. cable_lawful), λ cables r. (refl, tt)),
+        (counted_lawful one max_cables (λ low. cable_spelling) (λ c. 0) (λ low. cable_lawful), λ cables r. (refl, tt)),
       ),
     )
 
@@ -178,11 +178,11 @@ image_lawful = (
   λ cables p. (
     λ routers q nodes r. refl,
     (
-      counted_lawful max_routers (λ low. router_spelling (length cables)) (λ r. 0) (λ low. router_lawful (length cables)),
+      counted_lawful one max_routers (λ low. router_spelling (length cables)) (λ r. 0) (λ low. router_lawful (length cables)),
       λ routers q. (
         λ nodes r. refl,
         (
-          counted_lawful max_nodes (λ low. node_spelling (length cables)) (λ n. 0) (λ low. node_lawful (length cables)),
+          counted_lawful one max_nodes (λ low. node_spelling (length cables)) (λ n. 0) (λ low. node_lawful (length cables)),
           λ nodes r.
               (refl, tt),
         ),

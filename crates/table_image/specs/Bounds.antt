@@ -1,7 +1,7 @@
 -- The limits of each part of an internet.
 use Rattle.std.specs.Prelude.{◌≡◌, ◌<◌, ◌≤◌, ℕ, List, length, Some, slice_get}
 use Rattle.at_base.specs.Text.{IsEntity, IsName}
-use Rattle.table_image.specs.Limits.{max_cables, max_routers, max_nodes, max_ports, max_rows, max_zone_lists, max_zones, max_names}
+use Rattle.at_base.specs.Limits.{max_ports, max_rows, max_lists, max_zones, max_names, max_cables, max_routers, max_nodes}
 use Rattle.table_image.specs.Limits.{max_distance}
 use Rattle.table_image.specs.declared.cable.Cable.{Cable}
 use Rattle.table_image.specs.declared.port.Port.{Port}
@@ -33,7 +33,7 @@ pub record AreZones (zones : List (List ℕ)) : Type 0 where
 
 -- a row of a router with this many ports: its distance and port are within their limits
 pub record IsRow (ports : ℕ) (row : Row) : Type 0 where
-  -- the greatest distance is 31
+  -- at most the greatest distance
   pub distance : row.distance ≤ max_distance
   -- the index of a port of the router
   pub port : row.port < ports
@@ -58,7 +58,7 @@ pub record IsWithinLimits (cables : ℕ) (router : Router) : Type 0 where
   -- at most as many rows as the limit
   pub rows : length router.rows ≤ max_rows
   -- at most as many zone lists as the limit
-  pub lists : length router.lists ≤ max_zone_lists
+  pub lists : length router.lists ≤ max_lists
   -- the rows rise strictly by their starts
   pub rising : AreRising router.rows
   -- the zone lists rise strictly by their starts

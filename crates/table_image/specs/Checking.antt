@@ -5,7 +5,7 @@ use Rattle.at_base.specs.Grammar.{Grammar, done, field, part, list, room}
 use Rattle.at_base.specs.Spelling.{Fits, wrong_with, Passes, list_bytes, bytes_of, ListPasses, IsValue}
 use Rattle.at_base.specs.FirstFault.{field_len}
 use Rattle.table_image.specs.Flaws.{Wrong, Here, Before}
-use Rattle.table_image.specs.declared.checking.Misfit.{Misfit}
+use Rattle.table_image.specs.declared.flaw.Flaw.{Flaw}
 
 -- w is the flaw of an item, at the offset q, and the items before it pass
 abbrev pub ListFlawAt : {B : Type 0} → (ℕ → B → ℕ → ℕ → Wrong → Type 0) → (ℕ → B → List ℕ) → (ℕ → B → Type 0) → (B → ℕ) → ℕ → List B → ℕ → ℕ
@@ -29,18 +29,18 @@ FlawAt (list item next n get after) y at q w =
 FlawAt (room n g) y at q w = (n ≤ length (bytes_of g y)) × FlawAt g y at q w
 
 -- the offset at which a flaw is reported: that of its field, or of the byte before the field
-abbrev pub reported : ℕ → Wrong → Misfit
+abbrev pub reported : ℕ → Wrong → Flaw
 reported q (Here cause) = record { place = q; cause = cause }
 reported q (Before cause) = record { place = q - 1; cause = cause }
 
 -- the result of checking a value at the offset `at`: the offset of its end, or its first flaw
-abbrev pub Checks : {A : Type 0} → Grammar Wrong true A → A → ℕ → Result ℕ Misfit → Type 0
+abbrev pub Checks : {A : Type 0} → Grammar Wrong true A → A → ℕ → Result ℕ Flaw → Type 0
 Checks g y at (Ok end) = IsValue g y × (end ≡ at + length (bytes_of g y))
 Checks g y at (Err m) = (q : ℕ) × (w : Wrong) × FlawAt g y at q w × (m ≡ reported q w)
 
 -- the result of checking items, one after the other, from the offset `at` on: the offset of their end, or the first
 -- flaw
-abbrev pub ChecksList : {B : Type 0} → (ℕ → Grammar Wrong true B) → (B → ℕ) → List B → ℕ → Result ℕ Misfit → Type 0
+abbrev pub ChecksList : {B : Type 0} → (ℕ → Grammar Wrong true B) → (B → ℕ) → List B → ℕ → Result ℕ Flaw → Type 0
 ChecksList item next xs at (Ok end) =
     ListPasses (λ low. IsValue (item low)) next 0 xs × (end ≡ at + length (list_bytes (λ low. bytes_of (item low)) next 0 xs))
 ChecksList item next xs at (Err m) =

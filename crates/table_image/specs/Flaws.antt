@@ -1,8 +1,10 @@
--- Flaws of an image: the cause, and the number of input bytes left from the byte on at which the flaw is reported.
-use Rattle.std.specs.Prelude.{◌≡◌, ℕ, ◌+◌, List, Result, Ok, Err}
+-- Flaws of an image, with the offset at which each is reported, and faults, which are flaws as readers find them: with
+-- the number of input bytes left from that byte on.
+use Rattle.std.specs.Prelude.{◌≡◌, ℕ, ◌+◌, ◌-◌, List, Result, Ok, Err}
 use Rattle.at_base.specs.declared.error.Cause.{Cause}
 use Rattle.at_base.specs.declared.error.Cause.TheVariants.{Cut}
 use Rattle.at_base.specs.Grammar.{Refusals}
+use Rattle.table_image.specs.declared.flaw.Fault.{Fault}
 use Rattle.table_image.specs.declared.flaw.Flaw.{Flaw}
 use Rattle.table_image.specs.declared.flaw.Stop.{Stop}
 use Rattle.table_image.specs.declared.flaw.Stop.TheVariants as stops
@@ -12,26 +14,30 @@ pub data Wrong : Type 0 where
   Here : Cause → Wrong
   Before : Cause → Wrong
 
--- the flaw of a field with this many input bytes left from its first byte on
-abbrev pub flaw_of : ℕ → Wrong → Flaw
-flaw_of left (Here cause) = record { left = left; cause = cause }
-flaw_of left (Before cause) = record { left = 1 + left; cause = cause }
+-- the fault of a field with this many input bytes left from its first byte on
+abbrev pub fault_of : ℕ → Wrong → Fault
+fault_of left (Here cause) = record { left = left; cause = cause }
+fault_of left (Before cause) = record { left = 1 + left; cause = cause }
 
--- the flaws of an image; if the input ends within a field, no bytes are left
-abbrev pub flaws : Refusals Wrong Flaw
-flaws = record { cut = record { left = 0; cause = Cut }; placed = flaw_of }
+-- the faults of readers; if the input ends within a field, no bytes are left
+abbrev pub faults : Refusals Wrong Fault
+faults = record { cut = record { left = 0; cause = Cut }; placed = fault_of }
 
--- the reason for stopping is the flaw that reading finds, or a failed allocation
-abbrev pub StopsAs : {Y : Type 0} → Stop → Result Y Flaw → Type 0
+-- the flaw of a fault that was found when so many bytes of the image had been taken in, those left among them
+abbrev pub flaw_after : ℕ → Fault → Flaw
+flaw_after taken f = record { place = taken - f.left; cause = f.cause }
+
+-- the reason for stopping is the fault that reading finds, or a failed allocation
+abbrev pub StopsAs : {Y : Type 0} → Stop → Result Y Fault → Type 0
 StopsAs stops.Memory reading = Unit {0}
 StopsAs (stops.Refused f) reading = reading ≡ Err f
 
 -- a function's result, seen through view, is the result of reading, unless an allocation failed
-abbrev pub GivesOrStops : {X Y : Type 0} → (X → Y) → Result X Stop → Result Y Flaw → Type 0
+abbrev pub GivesOrStops : {X Y : Type 0} → (X → Y) → Result X Stop → Result Y Fault → Type 0
 GivesOrStops view (Ok x) reading = reading ≡ Ok (view x)
 GivesOrStops view (Err e) reading = StopsAs e reading
 
 -- a function read past a value without storing it: it returned a number of that value, and the bytes after it
-abbrev pub GoesPast : {A X : Type 0} → (A → ℕ) → (X → ℕ × List ℕ) → Result X Flaw → Result (A × List ℕ) Flaw → Type 0
+abbrev pub GoesPast : {A X : Type 0} → (A → ℕ) → (X → ℕ × List ℕ) → Result X Fault → Result (A × List ℕ) Fault → Type 0
 GoesPast {A = A} number_of view (Ok x) reading = (y : A) × (reading ≡ Ok (y, (view x).1)) × (number_of y ≡ (view x).0)
 GoesPast number_of view (Err f) reading = reading ≡ Err f

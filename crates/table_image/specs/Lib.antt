@@ -1,6 +1,8 @@
 pub mod Internet
 pub mod Bounds
 pub mod Limits
+pub mod Contexts
+pub mod Counts
 pub mod Sizes
 pub mod Listed
 pub mod Flaws

@@ -2,7 +2,7 @@
 use Rattle.std.specs.Prelude.{Bool, ◌&&◌, length, nat_le}
 use Rattle.std.specs.List.{list_all}
 use Rattle.table_image.specs.Internet.{Internet}
-use Rattle.table_image.specs.Limits.{max_cables, max_routers, max_nodes, max_ports, max_rows, max_zone_lists, max_zones, max_names}
+use Rattle.at_base.specs.Limits.{max_ports, max_rows, max_lists, max_zones, max_names, max_cables, max_routers, max_nodes}
 use Rattle.table_image.specs.declared.cable.Cable.{Cable}
 use Rattle.table_image.specs.declared.zone_list.ZoneList.{ZoneList}
 use Rattle.table_image.specs.declared.router.Router.{Router}
@@ -19,7 +19,7 @@ short_list l = nat_le (length l.zones) max_zones
 -- the lists of a router are within their limits
 abbrev pub short_router : Router → Bool
 short_router r =
-    nat_le (length r.ports) max_ports && nat_le (length r.rows) max_rows && nat_le (length r.lists) max_zone_lists
+    nat_le (length r.ports) max_ports && nat_le (length r.rows) max_rows && nat_le (length r.lists) max_lists
     && list_all short_list r.lists
 
 -- the names of a node are within their limit

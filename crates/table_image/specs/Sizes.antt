@@ -1,6 +1,8 @@
 -- The greatest size, in bytes, of each part of an image, as a sum over its fields.
 use Rattle.std.specs.Prelude.{ℕ, ◌+◌, ◌*◌}
-use Rattle.table_image.specs.Limits.{max_cables, max_routers, max_nodes, max_ports, max_rows, max_zone_lists, max_zones, max_names}
+use Rattle.at_base.specs.Grammar.{Size, one}
+use Rattle.at_base.specs.Limits.{max_ports, max_rows, max_lists, max_zones, max_names, max_cables, max_routers, max_nodes}
+use Rattle.table_image.specs.Counts.{count_len}
 use Rattle.table_image.specs.Limits.{max_text}
 
 -- the size of a byte: a count, an index, a flag or another small number
@@ -8,8 +10,8 @@ abbrev pub byte_size : ℕ
 byte_size = 1
 
 -- the greatest size of a count and of parts of a given size
-abbrev pub counted_size : ℕ → ℕ → ℕ
-counted_size limit size = byte_size + limit * size
+abbrev pub counted_size : Size → ℕ → ℕ → ℕ
+counted_size count limit size = count_len count + limit * size
 
 -- the greatest size of a length-prefixed text
 abbrev pub text_size : ℕ
@@ -17,7 +19,7 @@ text_size = byte_size + max_text
 
 -- the greatest size of the zones of a cable or of a zone list
 abbrev pub zones_size : ℕ
-zones_size = counted_size max_zones text_size
+zones_size = counted_size one max_zones text_size
 
 -- the size of a network
 abbrev pub network_size : ℕ
@@ -53,7 +55,7 @@ zone_list_size = range_size + byte_size + zones_size
 
 -- the greatest size of a router: ports, rows, zone lists
 abbrev pub router_size : ℕ
-router_size = counted_size max_ports port_size + counted_size max_rows row_size + counted_size max_zone_lists zone_list_size
+router_size = counted_size one max_ports port_size + counted_size one max_rows row_size + counted_size one max_lists zone_list_size
 
 -- the greatest size of a node's router: flag and address
 abbrev pub own_router_size : ℕ
@@ -65,7 +67,7 @@ name_size = byte_size + byte_size + text_size + text_size
 
 -- the greatest size of a node: cable and addresses, zone, router, names
 abbrev pub node_size : ℕ
-node_size = port_size + text_size + own_router_size + counted_size max_names name_size
+node_size = port_size + text_size + own_router_size + counted_size one max_names name_size
 
 -- the size of the head: the four bytes of the magic number, and the version
 abbrev pub head_size : ℕ
@@ -73,4 +75,4 @@ head_size = 4 + byte_size
 
 -- the greatest size of an image: head and cables, routers, nodes
 abbrev pub image_size : ℕ
-image_size = head_size + counted_size max_cables cable_size + counted_size max_routers router_size + counted_size max_nodes node_size
+image_size = head_size + counted_size one max_cables cable_size + counted_size one max_routers router_size + counted_size one max_nodes node_size

@@ -4,11 +4,11 @@ use Rattle.std.specs.Prelude.{ℕ, zero, suc, ◌+◌, Bool, true, false, ◌==�
 use Rattle.at_base.specs.declared.address.Addr.{Addr}
 use Rattle.at_base.specs.declared.error.Cause.TheVariants.{Count, Name, Value, Version}
 use Rattle.at_base.specs.Text.{is_name, is_entity}
-use Rattle.at_base.specs.Grammar.{Grammar, done, field, part, list, number, run, one, two}
+use Rattle.at_base.specs.Grammar.{Grammar, Size, done, field, part, list, number, run, one, two}
 use Rattle.rtmp.specs.declared.state.State.{State}
 use Rattle.rtmp.specs.declared.state.State.TheVariants.{Good, Suspect, Bad, Last}
 use Rattle.table_image.specs.Internet.{Internet}
-use Rattle.table_image.specs.Limits.{max_cables, max_routers, max_nodes, max_ports, max_rows, max_zone_lists, max_zones, max_names}
+use Rattle.at_base.specs.Limits.{max_ports, max_rows, max_lists, max_zones, max_names, max_cables, max_routers, max_nodes}
 use Rattle.table_image.specs.Limits.{max_text, max_distance}
 use Rattle.table_image.specs.Sizes.{hardware_size}
 use Rattle.table_image.specs.Flaws.{Wrong, Before}
@@ -21,13 +21,14 @@ use Rattle.table_image.specs.declared.router.Router.{Router}
 use Rattle.table_image.specs.declared.node.NodeName.{NodeName}
 use Rattle.table_image.specs.declared.node.Node.{Node}
 
--- a count up to a limit, and as many parts
-unfoldable pub counted : {B : Type 0} → ℕ → (ℕ → Grammar Wrong true B) → (B → ℕ) → Grammar Wrong true (List B)
-counted limit item next =
-    field (number one (within 0 limit Count)) (λ xs. length xs) (λ count.
+-- a count of one or two bytes, up to a limit, and as many parts
+unfoldable pub counted : {B : Type 0} → Size → ℕ → (ℕ → Grammar Wrong true B) → (B → ℕ) → Grammar Wrong true (List B)
+counted size limit item next =
+    field (number size (within 0 limit Count)) (λ xs. length xs) (λ count.
     list item next count (λ xs. xs) (λ xs. done xs))
 
--- a length of 1 to 32, and a text of as many bytes; if the text fails its test, the flaw is reported at the length
+-- a length from 1 up to its limit, and a text of as many bytes; if the text fails its test, that is reported at the
+-- length
 unfoldable pub text_spelling : (List ℕ → Bool) → Grammar Wrong true (List ℕ)
 text_spelling good =
     field (number one (within 1 max_text Name)) (λ s. length s) (λ len.
@@ -40,7 +41,7 @@ zone_spelling = text_spelling is_name
 
 -- a count and as many zones
 unfoldable pub zones_spelling : Grammar Wrong true (List (List ℕ))
-zones_spelling = counted max_zones (λ low. zone_spelling) (λ name. 0)
+zones_spelling = counted one max_zones (λ low. zone_spelling) (λ name. 0)
 
 -- a network and a node
 unfoldable pub address_spelling : Grammar Wrong true Addr
@@ -111,9 +112,9 @@ zone_list_spelling low =
 -- a router of an internet with this many cables: ports, rows, zone lists
 unfoldable pub router_spelling : ℕ → Grammar Wrong true Router
 router_spelling cables =
-    part (counted max_ports (λ low. port_spelling cables) (λ p. 0)) (λ r. r.ports) (λ ports.
-    part (counted max_rows (row_spelling (length ports)) (λ r. r.start + 1)) (λ r. r.rows) (λ rows.
-    part (counted max_zone_lists zone_list_spelling (λ l. l.start + 1)) (λ r. r.lists) (λ lists.
+    part (counted one max_ports (λ low. port_spelling cables) (λ p. 0)) (λ r. r.ports) (λ ports.
+    part (counted one max_rows (row_spelling (length ports)) (λ r. r.start + 1)) (λ r. r.rows) (λ rows.
+    part (counted one max_lists zone_list_spelling (λ l. l.start + 1)) (λ r. r.lists) (λ lists.
     done (record { ports = ports; rows = rows; lists = lists }))))
 
 -- the address 0.0
@@ -151,7 +152,7 @@ node_spelling cables =
     field (run hardware_size any) (λ n. n.hardware.0) (λ hardware.
     part zone_spelling (λ n. n.zone) (λ zone.
     part own_router_spelling (λ n. n.router) (λ router.
-    part (counted max_names name_spelling (λ n. n.enumerator + 1)) (λ n. n.names) (λ names.
+    part (counted one max_names name_spelling (λ n. n.enumerator + 1)) (λ n. n.names) (λ names.
     done (record {
       cable = cable;
       address = address;
@@ -166,13 +167,13 @@ unfoldable pub front_spelling : Grammar Wrong true (List Cable)
 front_spelling =
     field (run 4 is_magic) (λ c. magic) (λ s.
     field (number one (within 1 1 Version)) (λ c. 1) (λ version.
-    part (counted max_cables (λ low. cable_spelling) (λ c. 0)) (λ c. c) (λ cables.
+    part (counted one max_cables (λ low. cable_spelling) (λ c. 0)) (λ c. c) (λ cables.
     done cables)))
 
 -- an image: the head and the cables, the routers, the nodes
 unfoldable pub image_spelling : Grammar Wrong true Internet
 image_spelling =
     part front_spelling (λ i. i.cables) (λ cables.
-    part (counted max_routers (λ low. router_spelling (length cables)) (λ r. 0)) (λ i. i.routers) (λ routers.
-    part (counted max_nodes (λ low. node_spelling (length cables)) (λ n. 0)) (λ i. i.nodes) (λ nodes.
+    part (counted one max_routers (λ low. router_spelling (length cables)) (λ r. 0)) (λ i. i.routers) (λ routers.
+    part (counted one max_nodes (λ low. node_spelling (length cables)) (λ n. 0)) (λ i. i.nodes) (λ nodes.
     done (record { cables = cables; routers = routers; nodes = nodes }))))

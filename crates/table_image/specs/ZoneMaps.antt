@@ -2,6 +2,7 @@
 use Rattle.std.specs.Prelude.{ℕ, ◌+◌, Bool, not, ◌&&◌, ◌||◌, ◌==◌, List, length, map, filter, Option, option_map, slice_get, nat_le}
 use Rattle.std.specs.Prelude.{if◌then◌else◌}
 use Rattle.std.specs.List.{list_all}
+use Rattle.at_base.specs.Limits.{max_zones}
 use Rattle.at_base.specs.Range.{Span, is_range}
 use Rattle.zip_zones.specs.Zones.{Known, are_above, each_once, set_list}
 use Rattle.table_image.specs.declared.zone_list.ZoneList.{ZoneList}
@@ -31,7 +32,7 @@ have_zone_ranges lists = list_all (λ l. is_range l.start l.end) lists && are_ab
 
 -- the zone table has room for the zones of each list
 abbrev pub have_few_zones : List ZoneList → Bool
-have_few_zones lists = list_all (λ k. nat_le k.total 64) (zone_map lists)
+have_few_zones lists = list_all (λ k. nat_le k.total max_zones) (zone_map lists)
 
 -- the zone lists of a router, by its index from 0, if it exists
 abbrev pub lists_at : ℕ → Internet → Option (List ZoneList)

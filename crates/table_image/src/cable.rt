@@ -2,8 +2,9 @@
 
 ghost use Rattle.table_image.specs.Spelling.{cable_spelling};
 
-use crate::checking::{CheckItem, Misfit};
-use crate::flaw::{Flaw, Stop};
+use crate::checking::CheckItem;
+use crate::context::Context;
+use crate::flaw::{Fault, Flaw, Stop};
 use crate::input::u16_at;
 use crate::item::{Item, ReadItem, WriteItem};
 use crate::listed::Listed;
@@ -27,7 +28,7 @@ pub struct Cable {
 }
 
 impl Item for Cable {
-    ghost spelling = { λ known low. cable_spelling };
+    ghost spelling = { λ context low. cable_spelling };
 
     ghost next = { λ _. 0 };
 
@@ -42,7 +43,7 @@ impl ReadItem for Cable {
     #[tactic(auto, unfolding(crate::specs::Spelling::cable_spelling))]
     fn read_one<'a>(
         alloc: Global,
-        _known: usize,
+        _context: Context,
         _low: u32,
         like: Option<&Cable>,
         bytes: &'a [u8],
@@ -54,7 +55,7 @@ impl ReadItem for Cable {
     }
 
     #[tactic(auto, unfolding(crate::specs::Spelling::cable_spelling))]
-    fn pass_one(_known: usize, _low: u32, bytes: &[u8]) -> Result<(u32, &[u8]), Flaw> {
+    fn pass_one(_context: Context, _low: u32, bytes: &[u8]) -> Result<(u32, &[u8]), Fault> {
         let (_start, rest) = u16_at(bytes)?;
         let (_end, rest) = u16_at(rest)?;
         let (_zones, rest) = pass_zones(rest)?;
@@ -79,7 +80,7 @@ impl CheckItem for Cable {
 
     ghost max_size = { cable_size };
 
-    fn check_one(&self, _known: usize, _low: u32, at: usize) -> Result<usize, Misfit> {
+    fn check_one(&self, _context: Context, _low: u32, at: usize) -> Result<usize, Flaw> {
         // Read only for the prover: a field that is read is known to fit its type.
         let (_start, _end) = (self.start, self.end);
         check_zones(at + RANGE_SIZE, &self.zones)

@@ -6,22 +6,24 @@ ghost use Rattle.std.specs.Prelude.{Some, option_map};
 ghost use Rattle.table_image.specs.RouteRows.{route_row, have_ranges, rows_at};
 ghost use Rattle.std.specs.Result.{OkIff};
 ghost use Rattle.table_image.specs.Short.{is_short};
+ghost use Rattle.at_base.specs.Grammar.{one};
 ghost use Rattle.at_base.specs.Spelling.{bytes_of, IsValue, Spells};
 ghost use Rattle.at_base.specs.Reading as spec;
 ghost use Rattle.table_image.specs.Internet.{Internet, internet};
 ghost use Rattle.table_image.specs.Bounds.{IsBounded};
-ghost use Rattle.table_image.specs.Flaws.{flaws, GivesOrStops, GoesPast};
-ghost use Rattle.table_image.specs.Limits.{max_routers, max_nodes};
+ghost use Rattle.table_image.specs.Flaws.{faults, flaw_after, GivesOrStops, GoesPast};
+ghost use Rattle.at_base.specs.Limits.{max_routers, max_nodes};
 ghost use Rattle.table_image.specs.Spelling.{counted, front_spelling, router_spelling};
 ghost use Rattle.table_image.specs.Spelling.{node_spelling, image_spelling};
 ghost use Rattle.table_image.specs.Reading.{image_at, IsFirstFlaw, refusal, Refuses, RefusesFirst};
-ghost use Rattle.table_image.specs.declared.flaw.Flaw.{Flaw as ImageFlaw};
+ghost use Rattle.table_image.specs.declared.flaw.Flaw.{Flaw};
 
 use crate::cable::Cable;
-use crate::flaw::{Flaw, Stop};
+use crate::context::Context;
+use crate::count::CountSize;
+use crate::flaw::{Fault, Stop};
 use crate::input::{byte_within, magic_at, wrong};
 use crate::item::{counted_of, pass_counted, put_counted};
-use crate::limits::{MAX_CABLES, MAX_NODES, MAX_ROUTERS};
 use crate::listed::Listed;
 use crate::making::{are_short, check_parts};
 use crate::node::Node;
@@ -29,6 +31,7 @@ use crate::output::put_byte;
 use crate::route_rows::{all_have_ranges, route_rows};
 use crate::router::Router;
 use crate::zone_list::ZoneList;
+use at_base::limits::{MAX_CABLES, MAX_NODES, MAX_ROUTERS};
 use at_base::{Bytes, Cause, Error, What};
 use std::alloc::{AllocError, Global};
 use std::marker::Model;
@@ -65,10 +68,9 @@ impl Image {
             → result ≡ Err Error.Full }
         // Parts within the limits are checked as reading checks their bytes.
         ensures first { IsTrue (is_short (internet cables.items routers.items nodes.items))
-            → (f : ImageFlaw) → IsFirstFlaw
+            → (f : Flaw) → IsFirstFlaw
             (bytes_of image_spelling (internet cables.items routers.items nodes.items)) f
-            → result ≡ Err (refusal
-            (bytes_of image_spelling (internet cables.items routers.items nodes.items)) f) }
+            → result ≡ Err (refusal f) }
         ensures flaw { IsTrue (is_short (internet cables.items routers.items nodes.items))
             → IfErr result (RefusesFirst
             (bytes_of image_spelling (internet cables.items routers.items nodes.items))) }
@@ -85,7 +87,19 @@ impl Image {
                 routers,
                 nodes,
             }),
-            Err(misfit) => Err(Error::BadImage(misfit.place as u32, misfit.cause)),
+            Err(flaw) => Err(Error::BadImage(flaw.place as u32, flaw.cause)),
+        }
+    }
+
+    /// The image of parts that were read one by one. The caller ensures that they are an image's.
+    pub fn of(cables: Listed<Cable>, routers: Listed<Router>, nodes: Listed<Node>) -> Image
+        requires { IsValue image_spelling (internet cables routers nodes) }
+        ensures { result ≡ internet cables routers nodes }
+    {
+        Image {
+            cables,
+            routers,
+            nodes,
         }
     }
 
@@ -150,18 +164,26 @@ struct Parts {
 
 #[tactic(auto, unfolding(crate::specs::Spelling::front_spelling))]
 fn front_of(alloc: Global, bytes: &[u8]) -> Result<(Listed<Cable>, &[u8]), Stop>
-    ensures { GivesOrStops (λ x. (x.0, x.1.now)) result (spec.read flaws front_spelling bytes.now) }
+    ensures { GivesOrStops (λ x. (x.0, x.1.now)) result
+        (spec.read faults front_spelling bytes.now) }
 {
     let (_, rest) = magic_at(bytes)?;
     let (_, rest) = byte_within(rest, 1, 1, Cause::Version)?;
-    counted_of::<Cable>(alloc, MAX_CABLES, 0, &[], rest)
+    counted_of::<Cable>(
+        alloc,
+        CountSize::One,
+        MAX_CABLES,
+        Context::nothing(),
+        &[],
+        rest,
+    )
 }
 
 /// A router whose zone lists are those of the cables, in order: a hint for reading the first
 /// router. `None` where a cable's zones can't be shared, or an allocation failed.
-fn router_like(alloc: Global, cables: &Listed<Cable>) -> Option<Router> {
+pub fn router_like(alloc: Global, cables: &[Cable]) -> Option<Router> {
     let mut lists = Vec::with_capacity(alloc, cables.len()).ok()?;
-    for cable in cables.as_slice() {
+    for cable in cables {
         let list = ZoneList {
             start: cable.start,
             end: cable.end,
@@ -183,15 +205,18 @@ fn routers_of<'a>(
     bytes: &'a [u8],
 ) -> Result<(Listed<Router>, &'a [u8]), Stop>
     ensures { GivesOrStops (λ x. (x.0, x.1.now)) result
-        (spec.read flaws (counted max_routers (λ low. router_spelling (length cables.now)) (λ r. 0))
+        (spec.read faults
+        (counted one max_routers (λ low. router_spelling (length cables.now)) (λ r. 0))
         bytes.now) }
 {
-    match router_like(alloc, cables) {
+    let context = Context::nothing().with_cables(cables.len());
+    match router_like(alloc, cables.as_slice()) {
         Some(like) => {
             let likes = [like];
-            counted_of::<Router>(alloc, MAX_ROUTERS, cables.len(), likes.as_slice(), bytes)
+            let likes = likes.as_slice();
+            counted_of::<Router>(alloc, CountSize::One, MAX_ROUTERS, context, likes, bytes)
         }
-        None => counted_of::<Router>(alloc, MAX_ROUTERS, cables.len(), &[], bytes),
+        None => counted_of::<Router>(alloc, CountSize::One, MAX_ROUTERS, context, &[], bytes),
     }
 }
 
@@ -201,16 +226,18 @@ fn nodes_of<'a>(
     bytes: &'a [u8],
 ) -> Result<(Listed<Node>, &'a [u8]), Stop>
     ensures { GivesOrStops (λ x. (x.0, x.1.now)) result
-        (spec.read flaws (counted max_nodes (λ low. node_spelling (length cables.now)) (λ n. 0))
+        (spec.read faults
+        (counted one max_nodes (λ low. node_spelling (length cables.now)) (λ n. 0))
         bytes.now) }
 {
-    counted_of::<Node>(alloc, MAX_NODES, cables.len(), &[], bytes)
+    let context = Context::nothing().with_cables(cables.len());
+    counted_of::<Node>(alloc, CountSize::One, MAX_NODES, context, &[], bytes)
 }
 
 #[tactic(auto, unfolding(crate::specs::Spelling::image_spelling))]
 fn parts_of(alloc: Global, bytes: &[u8]) -> Result<(Parts, &[u8]), Stop>
     ensures { GivesOrStops (λ x. (internet x.0.cables x.0.routers x.0.nodes, x.1.now)) result
-        (spec.read flaws image_spelling bytes.now) }
+        (spec.read faults image_spelling bytes.now) }
 {
     let (cables, rest) = front_of(alloc, bytes)?;
     let (routers, rest) = routers_of(alloc, &cables, rest)?;
@@ -238,28 +265,29 @@ fn whole(alloc: Global, bytes: &[u8]) -> Result<Parts, Stop>
 
 // Reads past the head and the cables without an allocation.
 #[tactic(auto, unfolding(crate::specs::Spelling::front_spelling))]
-fn pass_front(bytes: &[u8]) -> Result<(usize, &[u8]), Flaw>
+fn pass_front(bytes: &[u8]) -> Result<(usize, &[u8]), Fault>
     ensures { GoesPast (λ cables. length cables) (λ x. (x.0, x.1.now)) result
-        (spec.read flaws front_spelling bytes.now) }
+        (spec.read faults front_spelling bytes.now) }
 {
     let (_magic, rest) = magic_at(bytes)?;
     let (_version, rest) = byte_within(rest, 1, 1, Cause::Version)?;
-    pass_counted::<Cable>(MAX_CABLES, 0, rest)
+    pass_counted::<Cable>(CountSize::One, MAX_CABLES, Context::nothing(), rest)
 }
 
 #[tactic(auto, unfolding(crate::specs::Spelling::image_spelling))]
-fn pass_image(bytes: &[u8]) -> Result<(usize, &[u8]), Flaw>
+fn pass_image(bytes: &[u8]) -> Result<(usize, &[u8]), Fault>
     ensures { GoesPast (λ i. length i.cables) (λ x. (x.0, x.1.now)) result
-        (spec.read flaws image_spelling bytes.now) }
+        (spec.read faults image_spelling bytes.now) }
 {
     let (cables, rest) = pass_front(bytes)?;
-    let (_routers, rest) = pass_counted::<Router>(MAX_ROUTERS, cables, rest)?;
-    let (_nodes, rest) = pass_counted::<Node>(MAX_NODES, cables, rest)?;
+    let context = Context::nothing().with_cables(cables);
+    let (_routers, rest) = pass_counted::<Router>(CountSize::One, MAX_ROUTERS, context, rest)?;
+    let (_nodes, rest) = pass_counted::<Node>(CountSize::One, MAX_NODES, context, rest)?;
     Ok((cables, rest))
 }
 
 #[tactic(auto, unfolding(crate::specs::Reading::image_at))]
-fn look_through(bytes: &[u8]) -> Result<(), Flaw>
+fn look_through(bytes: &[u8]) -> Result<(), Fault>
     ensures spells { OnOk result ((i : Internet) × (image_at bytes.now ≡ Ok i)) }
     ensures flawed { IfErr result (λ f. image_at bytes.now ≡ Err f) }
 {
@@ -271,23 +299,23 @@ fn look_through(bytes: &[u8]) -> Result<(), Flaw>
 }
 
 // The limits of an image keep the offset of a flaw below 2 ^ 32.
-fn refused(bytes: &[u8], flaw: Flaw) -> Error
-    requires { length bytes.now < flaw.left + 2 ^ 32 }
-    ensures { result ≡ refusal bytes.now flaw }
+fn refused(bytes: &[u8], fault: Fault) -> Error
+    requires { length bytes.now < fault.left + 2 ^ 32 }
+    ensures { result ≡ refusal (flaw_after (length bytes.now) fault) }
 {
-    let place = bytes.len().saturating_sub(flaw.left);
-    Error::BadImage(place as u32, flaw.cause)
+    let place = bytes.len().saturating_sub(fault.left);
+    Error::BadImage(place as u32, fault.cause)
 }
 
 // The error after a failed allocation. It is `Memory` only if the bytes spell an image, so the
 // whole input is checked, without an allocation.
 fn refused_for_memory(bytes: &[u8]) -> Error
     ensures refused { Refuses bytes.now result }
-    ensures first { (f : ImageFlaw) → IsFirstFlaw bytes.now f → result ≡ refusal bytes.now f }
+    ensures first { (f : Flaw) → IsFirstFlaw bytes.now f → result ≡ refusal f }
 {
     match look_through(bytes) {
         Ok(()) => Error::Memory,
-        Err(flaw) => refused(bytes, flaw),
+        Err(fault) => refused(bytes, fault),
     }
 }
 
@@ -301,7 +329,7 @@ pub fn read(alloc: Global, bytes: &[u8]) -> Result<Image, Error>
     ensures only { (i : Internet) → Spells image_spelling bytes.now i
         → MatchResult result (λ j. j ≡ i) (λ e. e ≡ Error.Memory) }
     // If the bytes have a flaw, it is reported.
-    ensures first { (f : ImageFlaw) → IsFirstFlaw bytes.now f → result ≡ Err (refusal bytes.now f) }
+    ensures first { (f : Flaw) → IsFirstFlaw bytes.now f → result ≡ Err (refusal f) }
     // An error reports the first flaw, or a failed allocation where the bytes spell an image.
     ensures refused { IfErr result (Refuses bytes.now) }
 {
@@ -319,7 +347,7 @@ pub fn read(alloc: Global, bytes: &[u8]) -> Result<Image, Error>
             })
         }
         Err(Stop::Memory) => Err(refused_for_memory(bytes)),
-        Err(Stop::Refused(flaw)) => Err(refused(bytes, flaw)),
+        Err(Stop::Refused(fault)) => Err(refused(bytes, fault)),
     }
 }
 
@@ -329,9 +357,11 @@ fn put_image(out: &mut Vec<u8>, image: &Image) -> Result<(), AllocError>
 {
     out.extend_from_slice(&[0x41, 0x54, 0x49, 0x4D])?;
     put_byte(out, 1)?;
-    put_counted(out, MAX_CABLES, 0, &image.cables)?;
-    put_counted(out, MAX_ROUTERS, image.cables.len(), &image.routers)?;
-    put_counted(out, MAX_NODES, image.cables.len(), &image.nodes)
+    let context = Context::nothing();
+    put_counted(out, CountSize::One, MAX_CABLES, context, &image.cables)?;
+    let context = context.with_cables(image.cables.len());
+    put_counted(out, CountSize::One, MAX_ROUTERS, context, &image.routers)?;
+    put_counted(out, CountSize::One, MAX_NODES, context, &image.nodes)
 }
 
 // The number of bytes of the written image: the check of its parts returns the offset of their end.

@@ -1,41 +1,43 @@
 //! Fields at the front of bytes. Each function returns a field's value and the bytes after it, or
-//! the flaw.
+//! the fault.
 
 ghost use Rattle.std.specs.Prelude.{◌≡◌, ◌+◌, length};
 ghost use Rattle.at_base.specs.Grammar.{number, run, one, two};
 ghost use Rattle.at_base.specs.Reading.{Gives, bytes_at, field_at, read};
 ghost use Rattle.at_base.specs.Text as spec;
 ghost use Rattle.at_base.specs.Text.{is_name};
-ghost use Rattle.table_image.specs.Flaws.{flaws};
+ghost use Rattle.table_image.specs.Counts.{size_of};
+ghost use Rattle.table_image.specs.Flaws.{faults};
 ghost use Rattle.table_image.specs.Tests.{any, below, enumerator, is_magic, rising, within};
 ghost use Rattle.table_image.specs.Spelling.{address_spelling, text_spelling};
 
-use crate::flaw::Flaw;
+use crate::count::CountSize;
+use crate::flaw::Fault;
 use crate::limits::MAX_TEXT;
 use crate::sizes::{BYTE_SIZE, HARDWARE_SIZE, NETWORK_SIZE};
 use at_base::{Addr, Cause, Hw, Name, Text32, is_entity, is_zone_name};
 
-fn cut() -> Flaw
+fn cut() -> Fault
     ensures { result ≡ record { left = 0; cause = Cause.Cut } }
 {
-    Flaw {
+    Fault {
         left: 0,
         cause: Cause::Cut,
     }
 }
 
-/// The flaw of the field at the front of the bytes.
-pub(crate) fn wrong(bytes: &[u8], cause: Cause) -> Flaw
+/// The fault of the field at the front of the bytes.
+pub(crate) fn wrong(bytes: &[u8], cause: Cause) -> Fault
     ensures { result ≡ record { left = length bytes.now; cause = cause } }
 {
-    Flaw {
+    Fault {
         left: bytes.len(),
         cause,
     }
 }
 
-fn split(bytes: &[u8], len: usize) -> Result<(&[u8], &[u8]), Flaw>
-    ensures { Gives (λ x. (x.0.now, x.1.now)) result (bytes_at flaws.cut len bytes.now) }
+fn split(bytes: &[u8], len: usize) -> Result<(&[u8], &[u8]), Fault>
+    ensures { Gives (λ x. (x.0.now, x.1.now)) result (bytes_at faults.cut len bytes.now) }
 {
     if bytes.len() < len {
         return Err(cut());
@@ -44,14 +46,9 @@ fn split(bytes: &[u8], len: usize) -> Result<(&[u8], &[u8]), Flaw>
 }
 
 /// A byte from `least` to `most`.
-pub(crate) fn byte_within(
-    bytes: &[u8],
-    least: u8,
-    most: u8,
-    cause: Cause,
-) -> Result<(u8, &[u8]), Flaw>
+pub fn byte_within(bytes: &[u8], least: u8, most: u8, cause: Cause) -> Result<(u8, &[u8]), Fault>
     ensures { Gives (λ x. (x.0, x.1.now)) result
-        (field_at flaws (number one (within least most cause)) bytes.now) }
+        (field_at faults (number one (within least most cause)) bytes.now) }
 {
     let (front, rest) = split(bytes, BYTE_SIZE)?;
     let byte = u8::from_be_bytes([front[0]]);
@@ -61,17 +58,45 @@ pub(crate) fn byte_within(
     Ok((byte, rest))
 }
 
-fn byte_at(bytes: &[u8]) -> Result<(u8, &[u8]), Flaw>
-    ensures { Gives (λ x. (x.0, x.1.now)) result (field_at flaws (number one any) bytes.now) }
+fn byte_at(bytes: &[u8]) -> Result<(u8, &[u8]), Fault>
+    ensures { Gives (λ x. (x.0, x.1.now)) result (field_at faults (number one any) bytes.now) }
 {
     let (front, rest) = split(bytes, BYTE_SIZE)?;
     Ok((u8::from_be_bytes([front[0]]), rest))
 }
 
-/// A 0-based index into a list of `count`.
-pub(crate) fn index_at(bytes: &[u8], count: usize) -> Result<(u8, &[u8]), Flaw>
+// A count of this size.
+#[inline(always)]
+fn count_at(bytes: &[u8], size: CountSize) -> Result<(u16, &[u8]), Fault>
     ensures { Gives (λ x. (x.0, x.1.now)) result
-        (field_at flaws (number one (below count)) bytes.now) }
+        (field_at faults (number (size_of size) any) bytes.now) }
+{
+    match size {
+        CountSize::One => {
+            let (count, rest) = byte_at(bytes)?;
+            Ok((u16::from(count), rest))
+        }
+        CountSize::Two => u16_at(bytes),
+    }
+}
+
+/// A count of this size, at most the limit.
+#[inline(always)]
+pub fn count_within(bytes: &[u8], size: CountSize, limit: usize) -> Result<(u16, &[u8]), Fault>
+    ensures { Gives (λ x. (x.0, x.1.now)) result
+        (field_at faults (number (size_of size) (within 0 limit Cause.Count)) bytes.now) }
+{
+    let (count, rest) = count_at(bytes, size)?;
+    if limit < count as usize {
+        return Err(wrong(bytes, Cause::Count));
+    }
+    Ok((count, rest))
+}
+
+/// A 0-based index into a list of `count`.
+pub(crate) fn index_at(bytes: &[u8], count: usize) -> Result<(u8, &[u8]), Fault>
+    ensures { Gives (λ x. (x.0, x.1.now)) result
+        (field_at faults (number one (below count)) bytes.now) }
 {
     let (index, rest) = byte_at(bytes)?;
     if index as usize >= count {
@@ -81,9 +106,9 @@ pub(crate) fn index_at(bytes: &[u8], count: usize) -> Result<(u8, &[u8]), Flaw>
 }
 
 /// An enumerator that is not below `low`.
-pub(crate) fn enumerator_at(bytes: &[u8], low: u32) -> Result<(u8, &[u8]), Flaw>
+pub(crate) fn enumerator_at(bytes: &[u8], low: u32) -> Result<(u8, &[u8]), Fault>
     ensures { Gives (λ x. (x.0, x.1.now)) result
-        (field_at flaws (number one (enumerator low)) bytes.now) }
+        (field_at faults (number one (enumerator low)) bytes.now) }
 {
     let (number, rest) = byte_at(bytes)?;
     if number < 1 {
@@ -96,17 +121,17 @@ pub(crate) fn enumerator_at(bytes: &[u8], low: u32) -> Result<(u8, &[u8]), Flaw>
 }
 
 /// A number of two bytes.
-pub(crate) fn u16_at(bytes: &[u8]) -> Result<(u16, &[u8]), Flaw>
-    ensures { Gives (λ x. (x.0, x.1.now)) result (field_at flaws (number two any) bytes.now) }
+pub(crate) fn u16_at(bytes: &[u8]) -> Result<(u16, &[u8]), Fault>
+    ensures { Gives (λ x. (x.0, x.1.now)) result (field_at faults (number two any) bytes.now) }
 {
     let (front, rest) = split(bytes, NETWORK_SIZE)?;
     Ok((u16::from_be_bytes([front[0], front[1]]), rest))
 }
 
 /// A number of two bytes that is not below `low`.
-pub(crate) fn rising_at(bytes: &[u8], low: u32) -> Result<(u16, &[u8]), Flaw>
+pub(crate) fn rising_at(bytes: &[u8], low: u32) -> Result<(u16, &[u8]), Fault>
     ensures { Gives (λ x. (x.0, x.1.now)) result
-        (field_at flaws (number two (rising low)) bytes.now) }
+        (field_at faults (number two (rising low)) bytes.now) }
 {
     let (number, rest) = u16_at(bytes)?;
     if u32::from(number) < low {
@@ -116,8 +141,8 @@ pub(crate) fn rising_at(bytes: &[u8], low: u32) -> Result<(u16, &[u8]), Flaw>
 }
 
 /// The four bytes at the front of an image.
-pub(crate) fn magic_at(bytes: &[u8]) -> Result<(&[u8], &[u8]), Flaw>
-    ensures { Gives (λ x. (x.0.now, x.1.now)) result (field_at flaws (run 4 is_magic) bytes.now) }
+pub fn magic_at(bytes: &[u8]) -> Result<(&[u8], &[u8]), Fault>
+    ensures { Gives (λ x. (x.0.now, x.1.now)) result (field_at faults (run 4 is_magic) bytes.now) }
 {
     let (front, rest) = split(bytes, 4)?;
     if front[0] != 0x41 || front[1] != 0x54 || front[2] != 0x49 || front[3] != 0x4D {
@@ -127,8 +152,8 @@ pub(crate) fn magic_at(bytes: &[u8]) -> Result<(&[u8], &[u8]), Flaw>
 }
 
 /// A hardware address.
-pub(crate) fn hardware_at(bytes: &[u8]) -> Result<(Hw, &[u8]), Flaw>
-    ensures { Gives (λ x. (x.0.0, x.1.now)) result (field_at flaws (run 6 any) bytes.now) }
+pub(crate) fn hardware_at(bytes: &[u8]) -> Result<(Hw, &[u8]), Fault>
+    ensures { Gives (λ x. (x.0.0, x.1.now)) result (field_at faults (run 6 any) bytes.now) }
 {
     let (front, rest) = split(bytes, HARDWARE_SIZE)?;
     let mut hardware = [0; 6];
@@ -138,8 +163,8 @@ pub(crate) fn hardware_at(bytes: &[u8]) -> Result<(Hw, &[u8]), Flaw>
 
 /// A network address.
 #[tactic(auto, unfolding(crate::specs::Spelling::address_spelling))]
-pub(crate) fn address_at(bytes: &[u8]) -> Result<(Addr, &[u8]), Flaw>
-    ensures { Gives (λ x. (x.0, x.1.now)) result (read flaws address_spelling bytes.now) }
+pub(crate) fn address_at(bytes: &[u8]) -> Result<(Addr, &[u8]), Fault>
+    ensures { Gives (λ x. (x.0, x.1.now)) result (read faults address_spelling bytes.now) }
 {
     let (net, rest) = u16_at(bytes)?;
     let (node, rest) = byte_at(rest)?;
@@ -147,10 +172,10 @@ pub(crate) fn address_at(bytes: &[u8]) -> Result<(Addr, &[u8]), Flaw>
 }
 
 // A bad text is reported at its length byte, the one before its first byte.
-fn wrong_text(after: &[u8]) -> Flaw
+fn wrong_text(after: &[u8]) -> Fault
     ensures { result ≡ record { left = 1 + length after.now; cause = Cause.Name } }
 {
-    Flaw {
+    Fault {
         left: 1 + after.len(),
         cause: Cause::Name,
     }
@@ -158,8 +183,8 @@ fn wrong_text(after: &[u8]) -> Flaw
 
 /// A zone name.
 #[tactic(auto, unfolding(crate::specs::Spelling::text_spelling))]
-pub(crate) fn name_at(bytes: &[u8]) -> Result<(Name, &[u8]), Flaw>
-    ensures { Gives (λ x. (x.0, x.1.now)) result (read flaws (text_spelling is_name) bytes.now) }
+pub(crate) fn name_at(bytes: &[u8]) -> Result<(Name, &[u8]), Fault>
+    ensures { Gives (λ x. (x.0, x.1.now)) result (read faults (text_spelling is_name) bytes.now) }
 {
     let (len, after) = byte_within(bytes, 1, MAX_TEXT, Cause::Name)?;
     let (text, rest) = split(after, len as usize)?;
@@ -171,8 +196,9 @@ pub(crate) fn name_at(bytes: &[u8]) -> Result<(Name, &[u8]), Flaw>
 
 /// An object or a type of a node's name.
 #[tactic(auto, unfolding(crate::specs::Spelling::text_spelling))]
-pub(crate) fn entity_at(bytes: &[u8]) -> Result<(Text32, &[u8]), Flaw>
-    ensures { Gives (λ x. (x.0, x.1.now)) result (read flaws (text_spelling spec.is_entity) bytes.now) }
+pub(crate) fn entity_at(bytes: &[u8]) -> Result<(Text32, &[u8]), Fault>
+    ensures { Gives (λ x. (x.0, x.1.now)) result
+        (read faults (text_spelling spec.is_entity) bytes.now) }
 {
     let (len, after) = byte_within(bytes, 1, MAX_TEXT, Cause::Name)?;
     let (text, rest) = split(after, len as usize)?;

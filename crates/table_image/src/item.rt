@@ -5,21 +5,25 @@ ghost use Rattle.std.specs.List.{flat_map};
 ghost use Rattle.at_base.specs.Grammar.{Grammar};
 ghost use Rattle.at_base.specs.Spelling.{bytes_of};
 ghost use Rattle.at_base.specs.Reading.{Gives, read, list_at};
-ghost use Rattle.table_image.specs.Flaws.{Wrong, flaws, GivesOrStops, GoesPast};
+ghost use Rattle.table_image.specs.Contexts.{nothing};
+ghost use Rattle.table_image.specs.Counts.{size_of};
+ghost use Rattle.table_image.specs.Flaws.{Wrong, faults, GivesOrStops, GoesPast};
 ghost use Rattle.table_image.specs.Spelling.{counted};
+ghost use Rattle.table_image.specs.declared.context.Context.{Context as ContextValue};
 
-use crate::flaw::{Flaw, Stop};
-use crate::input::byte_within;
+use crate::context::Context;
+use crate::count::CountSize;
+use crate::flaw::{Fault, Stop};
+use crate::input::count_within;
 use crate::listed::Listed;
 use crate::output::put_count;
-use at_base::Cause;
 use std::alloc::{AllocError, Global};
 
 /// A part of an image that lists consist of.
 pub trait Item: Drop {
-    // The format of the part, given the number of parts that it may refer to, and the number that
-    // the part before it passes on.
-    ghost spelling: { ℕ → ℕ → Grammar Wrong true Self };
+    // The format of the part, given what it may refer to, and the number that the part before it
+    // passes on.
+    ghost spelling: { ContextValue → ℕ → Grammar Wrong true Self };
 
     // The number that the part passes to the next one.
     ghost next: { Self → ℕ };
@@ -30,8 +34,8 @@ pub trait Item: Drop {
 
     /// A law, without run time: the bytes of a part don't depend on the parts around it.
     fn written_alike()
-        ensures { (known low : ℕ) (x : Self)
-            → bytes_of (spelling known low) x ≡ bytes_of (spelling 0 0) x };
+        ensures { (context : ContextValue) (low : ℕ) (x : Self)
+            → bytes_of (spelling context low) x ≡ bytes_of (spelling nothing 0) x };
 }
 
 /// A part that can be read.
@@ -40,48 +44,48 @@ pub trait ReadItem: Item {
     /// before; if this one is like it, reading takes less time and memory, with the same result.
     fn read_one<'a>(
         alloc: Global,
-        known: usize,
+        context: Context,
         low: u32,
         like: Option<&Self>,
         bytes: &'a [u8],
     ) -> Result<(Self, &'a [u8]), Stop>
         ensures { GivesOrStops (λ x. (x.0, x.1.now)) result
-            (read flaws (Self.spelling known low) bytes.now) };
+            (read faults (Self.spelling context low) bytes.now) };
 
     /// Reads past the part at the front of the bytes without an allocation: returns the number that
     /// the part passes on, and the bytes after it.
-    fn pass_one(known: usize, low: u32, bytes: &[u8]) -> Result<(u32, &[u8]), Flaw>
+    fn pass_one(context: Context, low: u32, bytes: &[u8]) -> Result<(u32, &[u8]), Fault>
         ensures { GoesPast Self.next (λ x. (x.0, x.1.now)) result
-            (read flaws (Self.spelling known low) bytes.now) };
+            (read faults (Self.spelling context low) bytes.now) };
 }
 
 /// A part that is read without an allocation.
 pub trait FlatItem: Item {
     /// The part at the front of the bytes, and the bytes after it.
-    fn flat_at(known: usize, low: u32, bytes: &[u8]) -> Result<(Self, &[u8]), Flaw>
+    fn flat_at(context: Context, low: u32, bytes: &[u8]) -> Result<(Self, &[u8]), Fault>
         ensures { Gives (λ x. (x.0, x.1.now)) result
-            (read flaws (Self.spelling known low) bytes.now) };
+            (read faults (Self.spelling context low) bytes.now) };
 }
 
 impl<T: FlatItem> ReadItem for T {
     #[inline(always)]
     fn read_one<'a>(
         _alloc: Global,
-        known: usize,
+        context: Context,
         low: u32,
         _like: Option<&T>,
         bytes: &'a [u8],
     ) -> Result<(T, &'a [u8]), Stop> {
-        match T::flat_at(known, low, bytes) {
+        match T::flat_at(context, low, bytes) {
             Ok(found) => Ok(found),
-            Err(flaw) => Err(Stop::Refused(flaw)),
+            Err(fault) => Err(Stop::Refused(fault)),
         }
     }
 
-    fn pass_one(known: usize, low: u32, bytes: &[u8]) -> Result<(u32, &[u8]), Flaw> {
-        match T::flat_at(known, low, bytes) {
+    fn pass_one(context: Context, low: u32, bytes: &[u8]) -> Result<(u32, &[u8]), Fault> {
+        match T::flat_at(context, low, bytes) {
             Ok((found, rest)) => Ok((found.next_low(), rest)),
-            Err(flaw) => Err(flaw),
+            Err(fault) => Err(fault),
         }
     }
 }
@@ -91,20 +95,20 @@ pub trait WriteItem: Item {
     /// Appends the bytes of the part.
     fn write_one(&self, out: &mut Vec<u8>) -> Result<(), AllocError>
         ensures { OnOk result
-            (out.new.items ≡ out.old.items ++ bytes_of (Self.spelling 0 0) self.now) };
+            (out.new.items ≡ out.old.items ++ bytes_of (Self.spelling nothing 0) self.now) };
 }
 
 // A list of one part needs no allocation of its own.
 fn single_of<'a, T: ReadItem>(
     alloc: Global,
-    known: usize,
+    context: Context,
     like: Option<&T>,
     bytes: &'a [u8],
 ) -> Result<(Listed<T>, &'a [u8]), Stop>
     ensures { GivesOrStops (λ x. (x.0, x.1.now)) result
-        (list_at (λ low. read flaws (T.spelling known low)) T.next 0 1 bytes.now) }
+        (list_at (λ low. read faults (T.spelling context low)) T.next 0 1 bytes.now) }
 {
-    let (item, rest) = T::read_one(alloc, known, 0, like, bytes)?;
+    let (item, rest) = T::read_one(alloc, context, 0, like, bytes)?;
     Ok((Listed::one(item), rest))
 }
 
@@ -112,20 +116,20 @@ fn single_of<'a, T: ReadItem>(
 // the part of the same index in the other list, or else with the one before it.
 fn list_of<'a, T: ReadItem>(
     alloc: Global,
-    known: usize,
-    count: u8,
+    context: Context,
+    count: u16,
     likes: &[T],
     bytes: &'a [u8],
 ) -> Result<(Listed<T>, &'a [u8]), Stop>
     ensures { GivesOrStops (λ x. (x.0, x.1.now)) result
-        (list_at (λ low. read flaws (T.spelling known low)) T.next 0 count bytes.now) }
+        (list_at (λ low. read faults (T.spelling context low)) T.next 0 count bytes.now) }
 {
     let mut items = Vec::with_capacity(alloc, count as usize)?;
     let mut rest = bytes;
     let mut low = 0;
     for i in 0..count {
         let like = likes.get(i as usize).or(items.last());
-        let (item, after) = T::read_one(alloc, known, low, like, rest)?;
+        let (item, after) = T::read_one(alloc, context, low, like, rest)?;
         low = item.next_low();
         items.push(item)?;
         rest = after;
@@ -133,34 +137,39 @@ fn list_of<'a, T: ReadItem>(
     Ok((Listed::from_vec(items), rest))
 }
 
-/// A count of at most the limit, and as many parts. `likes` is another list; parts that are like
-/// its parts take less time and memory, with the same result.
+/// A count of this size, at most the limit, and as many parts. `likes` is another list; parts that
+/// are like its parts take less time and memory, with the same result.
 #[tactic(auto, unfolding(crate::specs::Spelling::counted))]
 pub(crate) fn counted_of<'a, T: ReadItem>(
     alloc: Global,
-    limit: u8,
-    known: usize,
+    size: CountSize,
+    limit: usize,
+    context: Context,
     likes: &[T],
     bytes: &'a [u8],
 ) -> Result<(Listed<T>, &'a [u8]), Stop>
     ensures { GivesOrStops (λ x. (x.0, x.1.now)) result
-        (read flaws (counted limit (T.spelling known) T.next) bytes.now) }
+        (read faults (counted (size_of size) limit (T.spelling context) T.next) bytes.now) }
 {
-    let (count, rest) = byte_within(bytes, 0, limit, Cause::Count)?;
+    let (count, rest) = count_within(bytes, size, limit)?;
     if count == 1 {
-        return single_of(alloc, known, likes.first(), rest);
+        return single_of(alloc, context, likes.first(), rest);
     }
-    list_of(alloc, known, count, likes, rest)
+    list_of(alloc, context, count, likes, rest)
 }
 
-fn pass_list<T: ReadItem>(known: usize, count: u8, bytes: &[u8]) -> Result<(usize, &[u8]), Flaw>
+fn pass_list<T: ReadItem>(
+    context: Context,
+    count: u16,
+    bytes: &[u8],
+) -> Result<(usize, &[u8]), Fault>
     ensures { GoesPast (λ xs. length xs) (λ x. (x.0, x.1.now)) result
-        (list_at (λ low. read flaws (T.spelling known low)) T.next 0 count bytes.now) }
+        (list_at (λ low. read faults (T.spelling context low)) T.next 0 count bytes.now) }
 {
     let mut rest = bytes;
     let mut low = 0;
     for _ in 0..count {
-        let (next, after) = T::pass_one(known, low, rest)?;
+        let (next, after) = T::pass_one(context, low, rest)?;
         low = next;
         rest = after;
     }
@@ -170,20 +179,21 @@ fn pass_list<T: ReadItem>(known: usize, count: u8, bytes: &[u8]) -> Result<(usiz
 /// Reads past a count and as many parts, and returns their number.
 #[tactic(auto, unfolding(crate::specs::Spelling::counted))]
 pub(crate) fn pass_counted<T: ReadItem>(
-    limit: u8,
-    known: usize,
+    size: CountSize,
+    limit: usize,
+    context: Context,
     bytes: &[u8],
-) -> Result<(usize, &[u8]), Flaw>
+) -> Result<(usize, &[u8]), Fault>
     ensures { GoesPast (λ xs. length xs) (λ x. (x.0, x.1.now)) result
-        (read flaws (counted limit (T.spelling known) T.next) bytes.now) }
+        (read faults (counted (size_of size) limit (T.spelling context) T.next) bytes.now) }
 {
-    let (count, rest) = byte_within(bytes, 0, limit, Cause::Count)?;
-    pass_list::<T>(known, count, rest)
+    let (count, rest) = count_within(bytes, size, limit)?;
+    pass_list::<T>(context, count, rest)
 }
 
 fn put_list<T: WriteItem>(out: &mut Vec<u8>, items: &[T]) -> Result<(), AllocError>
     ensures { OnOk result
-        (out.new.items ≡ out.old.items ++ flat_map (bytes_of (T.spelling 0 0)) items.now) }
+        (out.new.items ≡ out.old.items ++ flat_map (bytes_of (T.spelling nothing 0)) items.now) }
 {
     for item in items {
         item.write_one(out)?;
@@ -191,20 +201,21 @@ fn put_list<T: WriteItem>(out: &mut Vec<u8>, items: &[T]) -> Result<(), AllocErr
     Ok(())
 }
 
-/// Appends a count and the parts. The limit and the number of parts that they may refer to don't
-/// affect the bytes; they say which format is meant.
+/// Appends a count and the parts. The limit and the context don't affect the bytes; they say which
+/// format is meant.
 pub(crate) fn put_counted<T: WriteItem>(
     out: &mut Vec<u8>,
-    _limit: u8,
-    _known: usize,
+    size: CountSize,
+    _limit: usize,
+    _context: Context,
     items: &Listed<T>,
 ) -> Result<(), AllocError>
     ensures { OnOk result
-        (out.new.items ≡ out.old.items ++ bytes_of (counted _limit (T.spelling _known) T.next)
-        items.now) }
+        (out.new.items ≡ out.old.items
+        ++ bytes_of (counted (size_of size) _limit (T.spelling _context) T.next) items.now) }
 {
     T::written_alike();
-    put_count(out, items.len())?;
+    put_count(out, size, items.len())?;
     put_list(out, items.as_slice())?;
     Ok(())
 }

@@ -3,6 +3,8 @@
 
 mod cable;
 mod checking;
+mod context;
+mod count;
 mod directory;
 mod flaw;
 mod image;
@@ -13,6 +15,7 @@ mod listed;
 mod making;
 mod node;
 mod output;
+pub mod parts;
 mod port;
 mod route_rows;
 mod router;
@@ -24,10 +27,8 @@ mod zones;
 
 pub use cable::Cable;
 pub use directory::{Directory, Place};
+pub use flaw::Flaw;
 pub use image::{Image, one_spelling, read, write};
-pub use limits::{
-    MAX_CABLES, MAX_NAMES, MAX_NODES, MAX_PORTS, MAX_ROUTERS, MAX_ROWS, MAX_ZONE_LISTS, MAX_ZONES,
-};
 pub use listed::Listed;
 pub use node::{Node, NodeName};
 pub use port::Port;

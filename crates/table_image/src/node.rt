@@ -5,22 +5,24 @@ ghost use Rattle.at_base.specs.Spelling.{bytes_of, IsValue};
 ghost use Rattle.at_base.specs.Reading.{Gives, read};
 ghost use Rattle.table_image.specs.Checking.{Checks};
 ghost use Rattle.at_base.specs.Text as text_spec;
-ghost use Rattle.table_image.specs.Flaws.{flaws};
+ghost use Rattle.table_image.specs.Flaws.{faults};
 ghost use Rattle.table_image.specs.Spelling.{node_spelling, name_spelling, own_router_spelling};
 ghost use Rattle.table_image.specs.Spelling.{text_spelling};
 ghost use Rattle.table_image.specs.Sizes as spec;
 ghost use Rattle.table_image.specs.Sizes.{text_size};
 
-use crate::checking::{CheckItem, Misfit, check_counted};
-use crate::flaw::{Flaw, Stop};
+use crate::checking::{CheckItem, check_counted};
+use crate::context::Context;
+use crate::count::CountSize;
+use crate::flaw::{Fault, Flaw, Stop};
 use crate::input::{
     address_at, byte_within, entity_at, enumerator_at, hardware_at, index_at, name_at,
 };
 use crate::item::{FlatItem, Item, ReadItem, WriteItem, counted_of, pass_counted, put_counted};
-use crate::limits::MAX_NAMES;
 use crate::listed::Listed;
 use crate::output::{put_address, put_byte, put_text};
 use crate::sizes::{BYTE_SIZE, OWN_ROUTER_SIZE, PORT_SIZE};
+use at_base::limits::MAX_NAMES;
 use at_base::{Addr, Cause, Hw, Name, Text32, is_entity};
 use std::alloc::{AllocError, Global};
 
@@ -59,7 +61,7 @@ pub struct Node {
 }
 
 impl Item for NodeName {
-    ghost spelling = { λ known low. name_spelling low };
+    ghost spelling = { λ context low. name_spelling low };
 
     ghost next = { λ n. n.enumerator + 1 };
 
@@ -73,16 +75,16 @@ impl Item for NodeName {
 
 impl FlatItem for NodeName {
     #[tactic(auto, unfolding(crate::specs::Spelling::name_spelling))]
-    fn flat_at(_known: usize, low: u32, bytes: &[u8]) -> Result<(NodeName, &[u8]), Flaw> {
+    fn flat_at(_context: Context, low: u32, bytes: &[u8]) -> Result<(NodeName, &[u8]), Fault> {
         let (socket, rest) = byte_within(bytes, 1, 254, Cause::Value)?;
         let (enumerator, rest) = enumerator_at(rest, low)?;
         let (object, rest) = match entity_at(rest) {
             Ok(found) => found,
-            Err(flaw) => return Err(flaw),
+            Err(fault) => return Err(fault),
         };
         let (kind, rest) = match entity_at(rest) {
             Ok(found) => found,
-            Err(flaw) => return Err(flaw),
+            Err(fault) => return Err(fault),
         };
         Ok((
             NodeName {
@@ -107,8 +109,8 @@ impl WriteItem for NodeName {
 }
 
 #[tactic(auto, unfolding(crate::specs::Spelling::own_router_spelling))]
-fn own_router_at(bytes: &[u8]) -> Result<(Option<Addr>, &[u8]), Flaw>
-    ensures { Gives (λ x. (x.0, x.1.now)) result (read flaws own_router_spelling bytes.now) }
+fn own_router_at(bytes: &[u8]) -> Result<(Option<Addr>, &[u8]), Fault>
+    ensures { Gives (λ x. (x.0, x.1.now)) result (read faults own_router_spelling bytes.now) }
 {
     let (flag, rest) = byte_within(bytes, 0, 1, Cause::Value)?;
     if flag == 0 {
@@ -132,7 +134,7 @@ fn put_own_router(out: &mut Vec<u8>, router: Option<Addr>) -> Result<(), AllocEr
 }
 
 impl Item for Node {
-    ghost spelling = { λ known low. node_spelling known };
+    ghost spelling = { λ context low. node_spelling context.cables };
 
     ghost next = { λ _. 0 };
 
@@ -148,20 +150,27 @@ impl ReadItem for Node {
     #[tactic(auto, unfolding(crate::specs::Spelling::node_spelling))]
     fn read_one<'a>(
         alloc: Global,
-        known: usize,
+        context: Context,
         _low: u32,
         _like: Option<&Node>,
         bytes: &'a [u8],
     ) -> Result<(Node, &'a [u8]), Stop> {
-        let (cable, rest) = index_at(bytes, known)?;
+        let (cable, rest) = index_at(bytes, context.cables)?;
         let (address, rest) = address_at(rest)?;
         let (hardware, rest) = hardware_at(rest)?;
         let (zone, rest) = match name_at(rest) {
             Ok(found) => found,
-            Err(flaw) => return Err(Stop::Refused(flaw)),
+            Err(fault) => return Err(Stop::Refused(fault)),
         };
         let (router, rest) = own_router_at(rest)?;
-        let (names, rest) = counted_of::<NodeName>(alloc, MAX_NAMES, 0, &[], rest)?;
+        let (names, rest) = counted_of::<NodeName>(
+            alloc,
+            CountSize::One,
+            MAX_NAMES,
+            context,
+            &[],
+            rest,
+        )?;
         Ok((
             Node {
                 cable,
@@ -176,16 +185,16 @@ impl ReadItem for Node {
     }
 
     #[tactic(auto, unfolding(crate::specs::Spelling::node_spelling))]
-    fn pass_one(known: usize, _low: u32, bytes: &[u8]) -> Result<(u32, &[u8]), Flaw> {
-        let (_cable, rest) = index_at(bytes, known)?;
+    fn pass_one(context: Context, _low: u32, bytes: &[u8]) -> Result<(u32, &[u8]), Fault> {
+        let (_cable, rest) = index_at(bytes, context.cables)?;
         let (_address, rest) = address_at(rest)?;
         let (_hardware, rest) = hardware_at(rest)?;
         let (_zone, rest) = match name_at(rest) {
             Ok(found) => found,
-            Err(flaw) => return Err(flaw),
+            Err(fault) => return Err(fault),
         };
         let (_router, rest) = own_router_at(rest)?;
-        let (_names, rest) = pass_counted::<NodeName>(MAX_NAMES, 0, rest)?;
+        let (_names, rest) = pass_counted::<NodeName>(CountSize::One, MAX_NAMES, context, rest)?;
         Ok((0, rest))
     }
 }
@@ -198,18 +207,24 @@ impl WriteItem for Node {
         out.extend_from_slice(&self.hardware.0)?;
         put_text(out, self.zone.as_slice())?;
         put_own_router(out, self.router)?;
-        put_counted(out, MAX_NAMES, 0, &self.names)
+        put_counted(
+            out,
+            CountSize::One,
+            MAX_NAMES,
+            Context::nothing(),
+            &self.names,
+        )
     }
 }
 
-fn check_entity(text: &Text32, at: usize) -> Result<usize, Misfit>
+fn check_entity(text: &Text32, at: usize) -> Result<usize, Flaw>
     requires { at + text_size < 2 ^ 40 }
     ensures checked { Checks (text_spelling text_spec.is_entity) text.now at result }
     ensures near { MatchResult result (λ end. end ≤ at + text_size)
         (λ m. m.place ≤ at + text_size) }
 {
     let bytes = text.as_slice();
-    let wrong = Misfit {
+    let wrong = Flaw {
         place: at,
         cause: Cause::Name,
     };
@@ -235,8 +250,8 @@ impl CheckItem for NodeName {
 
     ghost max_size = { name_size };
 
-    fn check_one(&self, _known: usize, low: u32, at: usize) -> Result<usize, Misfit> {
-        let wrong = Misfit {
+    fn check_one(&self, _context: Context, low: u32, at: usize) -> Result<usize, Flaw> {
+        let wrong = Flaw {
             place: at,
             cause: Cause::Value,
         };
@@ -247,20 +262,20 @@ impl CheckItem for NodeName {
             return Err(wrong);
         }
         if self.enumerator < 1 {
-            return Err(Misfit {
+            return Err(Flaw {
                 place: at + ENUMERATOR_AT,
                 cause: Cause::Value,
             });
         }
         if u32::from(self.enumerator) < low {
-            return Err(Misfit {
+            return Err(Flaw {
                 place: at + ENUMERATOR_AT,
                 cause: Cause::Order,
             });
         }
         match check_entity(&self.object, at + OBJECT_AT) {
             Ok(end) => check_entity(&self.kind, end),
-            Err(misfit) => Err(misfit),
+            Err(flaw) => Err(flaw),
         }
     }
 }
@@ -291,18 +306,18 @@ impl CheckItem for Node {
 
     ghost max_size = { node_size };
 
-    fn check_one(&self, known: usize, _low: u32, at: usize) -> Result<usize, Misfit> {
+    fn check_one(&self, context: Context, _low: u32, at: usize) -> Result<usize, Flaw> {
         // Read only for the prover: a field that is read is known to fit its type.
         let (_net, _node) = (self.address.net, self.address.node);
         let _hardware = self.hardware.as_slice();
-        if self.cable as usize >= known {
-            return Err(Misfit {
+        if self.cable as usize >= context.cables {
+            return Err(Flaw {
                 place: at,
                 cause: Cause::Index,
             });
         }
         let zone = self.zone.as_slice();
         let end = at + ZONE_TEXT_AT + zone.len() + own_router_size(self.router);
-        check_counted(MAX_NAMES, 0, end, &self.names)
+        check_counted(CountSize::One, MAX_NAMES, context, end, &self.names)
     }
 }

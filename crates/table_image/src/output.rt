@@ -2,10 +2,13 @@
 
 ghost use Rattle.std.specs.Prelude.{◌≡◌, ◌≤◌, ◌++◌, ◌∷◌, length, OnOk};
 ghost use Rattle.std.specs.Int.{w8, w16, to_be_bytes};
+ghost use Rattle.at_base.specs.Grammar.{width};
 ghost use Rattle.at_base.specs.Spelling.{bytes_of};
+ghost use Rattle.table_image.specs.Counts.{size_of};
 ghost use Rattle.table_image.specs.Limits.{max_text};
 ghost use Rattle.table_image.specs.Spelling.{address_spelling};
 
+use crate::count::CountSize;
 use at_base::Addr;
 use std::alloc::AllocError;
 
@@ -23,10 +26,14 @@ pub(crate) fn put_byte(out: &mut Vec<u8>, byte: u8) -> Result<(), AllocError>
     out.extend_from_slice(&byte.to_be_bytes())
 }
 
-/// Appends a count as a byte. The limits of an image keep counts below 256.
-pub(crate) fn put_count(out: &mut Vec<u8>, count: usize) -> Result<(), AllocError>
-    ensures { OnOk result (out.new.items ≡ out.old.items ++ to_be_bytes w8 count) }
+/// Appends a count of this size. The limits of an image keep counts within their sizes.
+pub(crate) fn put_count(out: &mut Vec<u8>, size: CountSize, count: usize) -> Result<(), AllocError>
+    ensures { OnOk result
+        (out.new.items ≡ out.old.items ++ to_be_bytes (width (size_of size)) count) }
 {
+    if let CountSize::Two = size {
+        out.push((count / 256 % 256) as u8)?;
+    }
     out.push((count % 256) as u8)?;
     Ok(())
 }

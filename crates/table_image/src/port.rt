@@ -3,8 +3,9 @@
 ghost use Rattle.std.specs.Prelude.{◌+◌};
 ghost use Rattle.table_image.specs.Spelling.{port_spelling};
 
-use crate::checking::{CheckItem, Misfit};
-use crate::flaw::Flaw;
+use crate::checking::CheckItem;
+use crate::context::Context;
+use crate::flaw::{Fault, Flaw};
 use crate::input::{address_at, hardware_at, index_at};
 use crate::item::{FlatItem, Item, WriteItem};
 use crate::output::{put_address, put_byte};
@@ -26,7 +27,7 @@ pub struct Port {
 }
 
 impl Item for Port {
-    ghost spelling = { λ known low. port_spelling known };
+    ghost spelling = { λ context low. port_spelling context.cables };
 
     ghost next = { λ _. 0 };
 
@@ -40,8 +41,8 @@ impl Item for Port {
 
 impl FlatItem for Port {
     #[tactic(auto, unfolding(crate::specs::Spelling::port_spelling))]
-    fn flat_at(known: usize, _low: u32, bytes: &[u8]) -> Result<(Port, &[u8]), Flaw> {
-        let (cable, rest) = index_at(bytes, known)?;
+    fn flat_at(context: Context, _low: u32, bytes: &[u8]) -> Result<(Port, &[u8]), Fault> {
+        let (cable, rest) = index_at(bytes, context.cables)?;
         let (address, rest) = address_at(rest)?;
         let (hardware, rest) = hardware_at(rest)?;
         Ok((
@@ -72,12 +73,12 @@ impl CheckItem for Port {
 
     ghost max_size = { port_size };
 
-    fn check_one(&self, known: usize, _low: u32, at: usize) -> Result<usize, Misfit> {
+    fn check_one(&self, context: Context, _low: u32, at: usize) -> Result<usize, Flaw> {
         // Read only for the prover: a field that is read is known to fit its type.
         let (_net, _node) = (self.address.net, self.address.node);
         let _hardware = self.hardware.as_slice();
-        if self.cable as usize >= known {
-            return Err(Misfit {
+        if self.cable as usize >= context.cables {
+            return Err(Flaw {
                 place: at,
                 cause: Cause::Index,
             });

@@ -2,14 +2,16 @@
 
 ghost use Rattle.table_image.specs.Spelling.{router_spelling};
 
-use crate::checking::{CheckItem, Misfit, check_counted};
-use crate::flaw::{Flaw, Stop};
+use crate::checking::{CheckItem, check_counted};
+use crate::context::Context;
+use crate::count::CountSize;
+use crate::flaw::{Fault, Flaw, Stop};
 use crate::item::{Item, ReadItem, WriteItem, counted_of, pass_counted, put_counted};
-use crate::limits::{MAX_PORTS, MAX_ROWS, MAX_ZONE_LISTS};
 use crate::listed::Listed;
 use crate::port::Port;
 use crate::row::Row;
 use crate::zone_list::{ZoneList, lists_at};
+use at_base::limits::{MAX_LISTS, MAX_PORTS, MAX_ROWS};
 use std::alloc::{AllocError, Global};
 
 /// A router: its ports, its routing table and its zone information table.
@@ -21,12 +23,12 @@ pub struct Router {
     pub ports: Listed<Port>,
     /// The rows of its routing table, at most `MAX_ROWS`, strictly rising by their first networks.
     pub rows: Listed<Row>,
-    /// Its zone lists, at most `MAX_ZONE_LISTS`, strictly rising by their first networks.
+    /// Its zone lists, at most `MAX_LISTS`, strictly rising by their first networks.
     pub lists: Listed<ZoneList>,
 }
 
 impl Item for Router {
-    ghost spelling = { λ known low. router_spelling known };
+    ghost spelling = { λ context low. router_spelling context.cables };
 
     ghost next = { λ _. 0 };
 
@@ -43,22 +45,31 @@ impl ReadItem for Router {
     #[tactic(auto, unfolding(crate::specs::Spelling::router_spelling))]
     fn read_one<'a>(
         alloc: Global,
-        known: usize,
+        context: Context,
         _low: u32,
         like: Option<&Router>,
         bytes: &'a [u8],
     ) -> Result<(Router, &'a [u8]), Stop> {
-        let (ports, rest) = counted_of::<Port>(alloc, MAX_PORTS, known, &[], bytes)?;
-        let (rows, rest) = counted_of::<Row>(alloc, MAX_ROWS, ports.len(), &[], rest)?;
+        let (ports, rest) = counted_of::<Port>(
+            alloc,
+            CountSize::One,
+            MAX_PORTS,
+            context,
+            &[],
+            bytes,
+        )?;
+        let of_ports = context.with_ports(ports.len());
+        let (rows, rest) = counted_of::<Row>(alloc, CountSize::One, MAX_ROWS, of_ports, &[], rest)?;
         let (lists, rest) = lists_at(alloc, like.map(|router| &router.lists), rest)?;
         Ok((Router { ports, rows, lists }, rest))
     }
 
     #[tactic(auto, unfolding(crate::specs::Spelling::router_spelling))]
-    fn pass_one(known: usize, _low: u32, bytes: &[u8]) -> Result<(u32, &[u8]), Flaw> {
-        let (ports, rest) = pass_counted::<Port>(MAX_PORTS, known, bytes)?;
-        let (_rows, rest) = pass_counted::<Row>(MAX_ROWS, ports, rest)?;
-        let (_lists, rest) = pass_counted::<ZoneList>(MAX_ZONE_LISTS, 0, rest)?;
+    fn pass_one(context: Context, _low: u32, bytes: &[u8]) -> Result<(u32, &[u8]), Fault> {
+        let (ports, rest) = pass_counted::<Port>(CountSize::One, MAX_PORTS, context, bytes)?;
+        let of_ports = context.with_ports(ports);
+        let (_rows, rest) = pass_counted::<Row>(CountSize::One, MAX_ROWS, of_ports, rest)?;
+        let (_lists, rest) = pass_counted::<ZoneList>(CountSize::One, MAX_LISTS, context, rest)?;
         Ok((0, rest))
     }
 }
@@ -66,9 +77,11 @@ impl ReadItem for Router {
 impl WriteItem for Router {
     #[tactic(auto, unfolding(crate::specs::Spelling::router_spelling))]
     fn write_one(&self, out: &mut Vec<u8>) -> Result<(), AllocError> {
-        put_counted(out, MAX_PORTS, 0, &self.ports)?;
-        put_counted(out, MAX_ROWS, self.ports.len(), &self.rows)?;
-        put_counted(out, MAX_ZONE_LISTS, 0, &self.lists)
+        let context = Context::nothing();
+        let of_ports = context.with_ports(self.ports.len());
+        put_counted(out, CountSize::One, MAX_PORTS, context, &self.ports)?;
+        put_counted(out, CountSize::One, MAX_ROWS, of_ports, &self.rows)?;
+        put_counted(out, CountSize::One, MAX_LISTS, context, &self.lists)
     }
 }
 
@@ -80,14 +93,15 @@ impl CheckItem for Router {
 
     ghost max_size = { router_size };
 
-    fn check_one(&self, known: usize, _low: u32, at: usize) -> Result<usize, Misfit> {
-        let end = match check_counted(MAX_PORTS, known, at, &self.ports) {
+    fn check_one(&self, context: Context, _low: u32, at: usize) -> Result<usize, Flaw> {
+        let end = match check_counted(CountSize::One, MAX_PORTS, context, at, &self.ports) {
             Ok(end) => end,
-            Err(misfit) => return Err(misfit),
+            Err(flaw) => return Err(flaw),
         };
-        match check_counted(MAX_ROWS, self.ports.len(), end, &self.rows) {
-            Ok(end) => check_counted(MAX_ZONE_LISTS, 0, end, &self.lists),
-            Err(misfit) => Err(misfit),
+        let of_ports = context.with_ports(self.ports.len());
+        match check_counted(CountSize::One, MAX_ROWS, of_ports, end, &self.rows) {
+            Ok(end) => check_counted(CountSize::One, MAX_LISTS, context, end, &self.lists),
+            Err(flaw) => Err(flaw),
         }
     }
 }

@@ -3,8 +3,9 @@
 ghost use Rattle.std.specs.Prelude.{◌≡◌, ◌+◌};
 ghost use Rattle.table_image.specs.Spelling.{row_spelling, state_of, state_number};
 
-use crate::checking::{CheckItem, Misfit};
-use crate::flaw::Flaw;
+use crate::checking::CheckItem;
+use crate::context::Context;
+use crate::flaw::{Fault, Flaw};
 use crate::input::{address_at, byte_within, index_at, rising_at, u16_at};
 use crate::item::{FlatItem, Item, WriteItem};
 use crate::limits::MAX_DISTANCE;
@@ -67,7 +68,7 @@ fn number_of(state: State) -> u8
 }
 
 impl Item for Row {
-    ghost spelling = { row_spelling };
+    ghost spelling = { λ context low. row_spelling context.ports low };
 
     ghost next = { λ r. r.start + 1 };
 
@@ -82,11 +83,11 @@ impl Item for Row {
 impl FlatItem for Row {
     #[inline(always)]
     #[tactic(auto, unfolding(crate::specs::Spelling::row_spelling))]
-    fn flat_at(known: usize, low: u32, bytes: &[u8]) -> Result<(Row, &[u8]), Flaw> {
+    fn flat_at(context: Context, low: u32, bytes: &[u8]) -> Result<(Row, &[u8]), Fault> {
         let (start, rest) = rising_at(bytes, low)?;
         let (end, rest) = u16_at(rest)?;
         let (distance, rest) = byte_within(rest, 0, MAX_DISTANCE, Cause::Value)?;
-        let (port, rest) = index_at(rest, known)?;
+        let (port, rest) = index_at(rest, context.ports)?;
         let (next, rest) = address_at(rest)?;
         let (number, rest) = byte_within(rest, 0, 3, Cause::Value)?;
         Ok((
@@ -128,23 +129,23 @@ impl CheckItem for Row {
 
     ghost max_size = { row_size };
 
-    fn check_one(&self, known: usize, low: u32, at: usize) -> Result<usize, Misfit> {
+    fn check_one(&self, context: Context, low: u32, at: usize) -> Result<usize, Flaw> {
         // Read only for the prover: a field that is read is known to fit its type.
         let (_end, _net, _node) = (self.end, self.next.net, self.next.node);
         if u32::from(self.start) < low {
-            return Err(Misfit {
+            return Err(Flaw {
                 place: at,
                 cause: Cause::Order,
             });
         }
         if self.distance > MAX_DISTANCE {
-            return Err(Misfit {
+            return Err(Flaw {
                 place: at + DISTANCE_AT,
                 cause: Cause::Value,
             });
         }
-        if self.port as usize >= known {
-            return Err(Misfit {
+        if self.port as usize >= context.ports {
+            return Err(Flaw {
                 place: at + PORT_AT,
                 cause: Cause::Index,
             });

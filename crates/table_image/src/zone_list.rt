@@ -1,20 +1,23 @@
 //! Zone lists of routers.
 
 ghost use Rattle.std.specs.Prelude.{◌≡◌, ◌+◌, Ok, IfSome, length};
+ghost use Rattle.at_base.specs.Grammar.{one};
 ghost use Rattle.at_base.specs.Reading.{read, list_at};
-ghost use Rattle.table_image.specs.Flaws.{flaws, GivesOrStops};
-ghost use Rattle.table_image.specs.Limits.{max_zone_lists};
+ghost use Rattle.table_image.specs.Flaws.{faults, GivesOrStops};
+ghost use Rattle.at_base.specs.Limits.{max_lists};
 ghost use Rattle.table_image.specs.Spelling.{counted, zone_list_spelling};
 
-use crate::checking::{CheckItem, Misfit};
-use crate::flaw::{Flaw, Stop};
+use crate::checking::CheckItem;
+use crate::context::Context;
+use crate::count::CountSize;
+use crate::flaw::{Fault, Flaw, Stop};
 use crate::input::{byte_within, rising_at, u16_at};
 use crate::item::{Item, ReadItem, WriteItem, counted_of};
-use crate::limits::MAX_ZONE_LISTS;
 use crate::listed::Listed;
 use crate::output::{put_byte, put_u16};
 use crate::sizes::{BYTE_SIZE, RANGE_SIZE};
 use crate::zones::{after_zones, check_zones, pass_zones, put_zones, zones_at};
+use at_base::limits::MAX_LISTS;
 use at_base::{Cause, Name};
 use std::alloc::{AllocError, Global};
 
@@ -35,7 +38,7 @@ pub struct ZoneList {
 }
 
 impl Item for ZoneList {
-    ghost spelling = { λ known low. zone_list_spelling low };
+    ghost spelling = { λ context low. zone_list_spelling low };
 
     ghost next = { λ l. l.start + 1 };
 
@@ -52,7 +55,7 @@ impl ReadItem for ZoneList {
     #[tactic(auto, unfolding(crate::specs::Spelling::zone_list_spelling))]
     fn read_one<'a>(
         alloc: Global,
-        _known: usize,
+        _context: Context,
         low: u32,
         like: Option<&ZoneList>,
         bytes: &'a [u8],
@@ -73,7 +76,7 @@ impl ReadItem for ZoneList {
     }
 
     #[tactic(auto, unfolding(crate::specs::Spelling::zone_list_spelling))]
-    fn pass_one(_known: usize, low: u32, bytes: &[u8]) -> Result<(u32, &[u8]), Flaw> {
+    fn pass_one(_context: Context, low: u32, bytes: &[u8]) -> Result<(u32, &[u8]), Fault> {
         let (start, rest) = rising_at(bytes, low)?;
         let (_end, rest) = u16_at(rest)?;
         let (_complete, rest) = byte_within(rest, 0, 1, Cause::Value)?;
@@ -87,7 +90,7 @@ impl ReadItem for ZoneList {
 #[tactic(auto, unfolding(crate::specs::Spelling::zone_list_spelling))]
 fn after_list<'a>(list: &ZoneList, low: u32, bytes: &'a [u8]) -> Option<&'a [u8]>
     ensures { IfSome result
-        (λ rest. read flaws (zone_list_spelling low) bytes.now ≡ Ok (list.now, rest.now)) }
+        (λ rest. read faults (zone_list_spelling low) bytes.now ≡ Ok (list.now, rest.now)) }
 {
     let Ok((start, rest)) = rising_at(bytes, low) else {
         return None;
@@ -107,7 +110,7 @@ fn after_list<'a>(list: &ZoneList, low: u32, bytes: &'a [u8]) -> Option<&'a [u8]
 // The bytes after the zone lists, if they begin with them, one after the other.
 fn after_lists<'a>(lists: &[ZoneList], bytes: &'a [u8]) -> Option<&'a [u8]>
     ensures { IfSome result (λ rest.
-        list_at (λ low. read flaws (zone_list_spelling low)) (λ l. l.start + 1) 0
+        list_at (λ low. read faults (zone_list_spelling low)) (λ l. l.start + 1) 0
         (length lists.now) bytes.now
         ≡ Ok (lists.now, rest.now)) }
 {
@@ -127,11 +130,11 @@ fn lists_again<'a>(
     bytes: &'a [u8],
 ) -> Option<(Listed<ZoneList>, &'a [u8])>
     ensures { IfSome result (λ x.
-        read flaws (counted max_zone_lists zone_list_spelling (λ l. l.start + 1)) bytes.now
+        read faults (counted one max_lists zone_list_spelling (λ l. l.start + 1)) bytes.now
         ≡ Ok (x.0, x.1.now)) }
 {
     let (count, after) = bytes.split_first()?;
-    if *count > MAX_ZONE_LISTS || *count as usize != lists.len() {
+    if *count as usize > MAX_LISTS || *count as usize != lists.len() {
         return None;
     }
     let rest = after_lists(lists.as_slice(), after)?;
@@ -145,9 +148,16 @@ fn new_lists_at<'a>(
     bytes: &'a [u8],
 ) -> Result<(Listed<ZoneList>, &'a [u8]), Stop>
     ensures { GivesOrStops (λ x. (x.0, x.1.now)) result
-        (read flaws (counted max_zone_lists zone_list_spelling (λ l. l.start + 1)) bytes.now) }
+        (read faults (counted one max_lists zone_list_spelling (λ l. l.start + 1)) bytes.now) }
 {
-    let (lists, rest) = counted_of::<ZoneList>(alloc, MAX_ZONE_LISTS, 0, likes, bytes)?;
+    let (lists, rest) = counted_of::<ZoneList>(
+        alloc,
+        CountSize::One,
+        MAX_LISTS,
+        Context::nothing(),
+        likes,
+        bytes,
+    )?;
     Ok((lists.into_shared(alloc), rest))
 }
 
@@ -158,7 +168,7 @@ pub(crate) fn lists_at<'a>(
     bytes: &'a [u8],
 ) -> Result<(Listed<ZoneList>, &'a [u8]), Stop>
     ensures { GivesOrStops (λ x. (x.0, x.1.now)) result
-        (read flaws (counted max_zone_lists zone_list_spelling (λ l. l.start + 1)) bytes.now) }
+        (read faults (counted one max_lists zone_list_spelling (λ l. l.start + 1)) bytes.now) }
 {
     let Some(lists) = like else {
         return new_lists_at(alloc, &[], bytes);
@@ -190,11 +200,11 @@ impl CheckItem for ZoneList {
 
     ghost max_size = { zone_list_size };
 
-    fn check_one(&self, _known: usize, low: u32, at: usize) -> Result<usize, Misfit> {
+    fn check_one(&self, _context: Context, low: u32, at: usize) -> Result<usize, Flaw> {
         // Read only for the prover: a field that is read is known to fit its type.
         let _end = self.end;
         if u32::from(self.start) < low {
-            return Err(Misfit {
+            return Err(Flaw {
                 place: at,
                 cause: Cause::Order,
             });

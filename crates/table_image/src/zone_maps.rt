@@ -5,6 +5,7 @@ ghost use Rattle.std.specs.Prelude.{false, true, nat_lt, option_map, if◌then�
 ghost use Rattle.std.specs.Prelude.{IfSome, IsOkUnless, OnOk, Some, is_some, slice_get};
 ghost use Rattle.std.specs.List.{list_all};
 ghost use Rattle.std.specs.Option.{option_copied};
+ghost use Rattle.at_base.specs.Limits.{max_lists, max_zones};
 ghost use Rattle.at_base.specs.Range.{is_range};
 ghost use Rattle.zip_zones.specs.Zones.{IsZoneMap, are_above};
 ghost use Rattle.table_image.specs.Bounds.{Every};
@@ -13,9 +14,9 @@ ghost use Rattle.table_image.specs.ZoneMaps.{have_few_zones, have_zone_ranges, l
 ghost use Rattle.table_image.specs.declared.zone_list.ZoneList.{ZoneList as ListValue};
 
 use crate::image::Image;
-use crate::limits::MAX_ZONES;
 use crate::router::Router;
 use crate::zone_list::ZoneList;
+use at_base::limits::MAX_ZONES;
 use at_base::{Error, Range, What};
 use std::alloc::Global;
 use zip_zones::ZoneTable;
@@ -64,24 +65,24 @@ fn have_ranges(lists: &[ZoneList]) -> bool
     have_each_range(lists) && are_apart(lists)
 }
 
-/// Whether a zone table has room for the zones of the list, which has at most 64 names.
+/// Whether a zone table has room for the zones of the list, which has at most `MAX_ZONES` names.
 fn is_short(list: &ZoneList) -> bool
-    ensures { result ≡ (list.now.complete || nat_lt (length list.now.zones) 64) }
+    ensures { result ≡ (list.now.complete || nat_lt (length list.now.zones) max_zones) }
 {
-    list.complete || list.zones.len() < MAX_ZONES as usize
+    list.complete || list.zones.len() < MAX_ZONES
 }
 
-/// Whether each list is complete or has fewer than 64 names.
+/// Whether each list is complete or has fewer than `MAX_ZONES` names.
 fn are_each_short(lists: &[ZoneList]) -> bool
     ensures { result
-        ≡ list_all (λ (l : ListValue). l.complete || nat_lt (length l.zones) 64) lists.now }
+        ≡ list_all (λ (l : ListValue). l.complete || nat_lt (length l.zones) max_zones) lists.now }
 {
     lists.iter().all(is_short)
 }
 
 /// Whether a zone table has room for the zones of each list.
 fn are_short(lists: &[ZoneList]) -> bool
-    requires { Every (λ (l : ListValue). length l.zones ≤ 64) lists.now }
+    requires { Every (λ (l : ListValue). length l.zones ≤ max_zones) lists.now }
     ensures { result ≡ have_few_zones lists.now }
 {
     are_each_short(lists)
@@ -89,7 +90,7 @@ fn are_short(lists: &[ZoneList]) -> bool
 
 /// The least number of zones of the list: one more than its names if it isn't complete, else 0.
 fn least_of(list: &ZoneList) -> u8
-    requires { length list.now.zones ≤ 64 }
+    requires { length list.now.zones ≤ max_zones }
     ensures { result ≡ (if list.now.complete then 0 else length list.now.zones + 1) }
 {
     if list.complete {
@@ -102,7 +103,7 @@ fn least_of(list: &ZoneList) -> u8
 /// Appends the list to the table, if it has a zone or is complete. Error: `Memory`.
 fn put(table: &mut ZoneTable, list: &ZoneList) -> Result<(), Error>
     requires map { IsZoneMap (table.old ++ zone_map (list.now ∷ [])) }
-    requires few { length list.now.zones ≤ 64 }
+    requires few { length list.now.zones ≤ max_zones }
     ensures ok { OnOk result (table.new ≡ table.old ++ zone_map (list.now ∷ [])) }
     ensures err { IsOkUnless result Error.Memory }
 {
@@ -116,7 +117,7 @@ fn put(table: &mut ZoneTable, list: &ZoneList) -> Result<(), Error>
 /// The zone table of these lists. Error: `Memory`.
 fn put_all(alloc: Global, lists: &[ZoneList]) -> Result<ZoneTable, Error>
     requires map { IsZoneMap (zone_map lists.now) }
-    requires zones { Every (λ (l : ListValue). length l.zones ≤ 64) lists.now }
+    requires zones { Every (λ (l : ListValue). length l.zones ≤ max_zones) lists.now }
     ensures ok { IfOk result (λ table. table ≡ zone_map lists.now) }
     ensures err { IsOkUnless result Error.Memory }
 {
@@ -129,8 +130,8 @@ fn put_all(alloc: Global, lists: &[ZoneList]) -> Result<ZoneTable, Error>
 
 /// The zone table of these lists. Errors: `BadRange`, `Full`, `Memory`, in this order.
 fn table_of(alloc: Global, lists: &[ZoneList]) -> Result<ZoneTable, Error>
-    requires few { length lists.now ≤ 200 }
-    requires zones { Every (λ (l : ListValue). length l.zones ≤ 64) lists.now }
+    requires few { length lists.now ≤ max_lists }
+    requires zones { Every (λ (l : ListValue). length l.zones ≤ max_zones) lists.now }
     ensures ok { IfOk result (λ table. table ≡ zone_map lists.now) }
     ensures range { (result ≡ Err Error.BadRange) ↔ (have_zone_ranges lists.now ≡ false) }
     ensures full { (result ≡ Err Error.Full) ↔ ((have_zone_ranges lists.now ≡ true)
@@ -154,13 +155,14 @@ fn router_at(routers: &[Router], index: u8) -> Option<&Router>
     routers.get(index as usize)
 }
 
-/// The zone lists of a router, if it exists: at most 200, of at most 64 names each.
+/// The zone lists of a router, if it exists: at most `MAX_LISTS`, of at most
+/// `MAX_ZONES` names each.
 fn lists_of(image: &Image, router: u8) -> Option<&[ZoneList]>
     ensures lists { option_copied result ≡ lists_at router image.now }
     ensures there { is_some result ≡ nat_lt router (length image.now.routers) }
-    ensures few { IfSome result (λ lists. length lists.now ≤ 200) }
+    ensures few { IfSome result (λ lists. length lists.now ≤ max_lists) }
     ensures zones { IfSome result
-        (λ lists. Every (λ (l : ListValue). length l.zones ≤ 64) lists.now) }
+        (λ lists. Every (λ (l : ListValue). length l.zones ≤ max_zones) lists.now) }
 {
     let found = router_at(image.routers(), router)?;
     Some(found.lists.as_slice())
@@ -171,7 +173,7 @@ impl Image {
     /// gets a total of one more than its names; one without names is left out.
     ///
     /// Errors: `NoSuch(Router)`; else `BadRange` where the range of a list isn't valid, or two
-    /// overlap; else `Full` where a list that isn't complete has 64 names; else `Memory`.
+    /// overlap; else `Full` where a list that isn't complete has `MAX_ZONES` names; else `Memory`.
     pub fn zones_of(&self, alloc: Global, router: u8) -> Result<ZoneTable, Error>
         ensures ok { IfOk result
             (λ table. option_map zone_map (lists_at router self.now) ≡ Some table) }

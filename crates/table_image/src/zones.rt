@@ -5,24 +5,26 @@ ghost use Rattle.std.specs.Prelude.{Ok, OnOk, IfSome, MatchResult};
 ghost use Rattle.at_base.specs.Spelling.{bytes_of};
 ghost use Rattle.at_base.specs.Reading.{read, list_at};
 ghost use Rattle.table_image.specs.Checking.{Checks};
-ghost use Rattle.table_image.specs.Flaws.{flaws, GivesOrStops, GoesPast};
-ghost use Rattle.table_image.specs.Limits.{max_zones};
+ghost use Rattle.table_image.specs.Flaws.{faults, GivesOrStops, GoesPast};
+ghost use Rattle.at_base.specs.Limits.{max_zones};
 ghost use Rattle.table_image.specs.Sizes.{zones_size};
 ghost use Rattle.table_image.specs.Spelling.{zone_spelling, zones_spelling};
 
-use crate::checking::{CheckItem, Misfit, check_counted};
-use crate::flaw::{Flaw, Stop};
+use crate::checking::{CheckItem, check_counted};
+use crate::context::Context;
+use crate::count::CountSize;
+use crate::flaw::{Fault, Flaw, Stop};
 use crate::input::name_at;
 use crate::item::{FlatItem, Item, WriteItem, counted_of, pass_counted, put_counted};
-use crate::limits::MAX_ZONES;
 use crate::listed::Listed;
 use crate::output::put_text;
 use crate::sizes::BYTE_SIZE;
 use at_base::Name;
+use at_base::limits::MAX_ZONES;
 use std::alloc::{AllocError, Global};
 
 impl Item for Name {
-    ghost spelling = { λ known low. zone_spelling };
+    ghost spelling = { λ context low. zone_spelling };
 
     ghost next = { λ _. 0 };
 
@@ -34,7 +36,7 @@ impl Item for Name {
 }
 
 impl FlatItem for Name {
-    fn flat_at(_known: usize, _low: u32, bytes: &[u8]) -> Result<(Name, &[u8]), Flaw> {
+    fn flat_at(_context: Context, _low: u32, bytes: &[u8]) -> Result<(Name, &[u8]), Fault> {
         name_at(bytes)
     }
 }
@@ -50,9 +52,16 @@ impl WriteItem for Name {
 #[inline(never)]
 #[tactic(auto, unfolding(crate::specs::Spelling::zones_spelling))]
 fn new_zones_at(alloc: Global, bytes: &[u8]) -> Result<(Listed<Name>, &[u8]), Stop>
-    ensures { GivesOrStops (λ x. (x.0, x.1.now)) result (read flaws zones_spelling bytes.now) }
+    ensures { GivesOrStops (λ x. (x.0, x.1.now)) result (read faults zones_spelling bytes.now) }
 {
-    let (zones, rest) = counted_of(alloc, MAX_ZONES, 0, &[], bytes)?;
+    let (zones, rest) = counted_of(
+        alloc,
+        CountSize::One,
+        MAX_ZONES,
+        Context::nothing(),
+        &[],
+        bytes,
+    )?;
     Ok((zones.into_shared(alloc), rest))
 }
 
@@ -61,7 +70,7 @@ fn new_zones_at(alloc: Global, bytes: &[u8]) -> Result<(Listed<Name>, &[u8]), St
 #[tactic(auto, unfolding(crate::specs::Spelling::text_spelling))]
 fn after_name<'a>(name: &Name, bytes: &'a [u8]) -> Option<&'a [u8]>
     ensures { IfSome result
-        (λ rest. read flaws zone_spelling bytes.now ≡ Ok (name.now, rest.now)) }
+        (λ rest. read faults zone_spelling bytes.now ≡ Ok (name.now, rest.now)) }
 {
     let text = name.as_slice();
     let (len, after) = bytes.split_first()?;
@@ -80,7 +89,7 @@ fn after_name<'a>(name: &Name, bytes: &'a [u8]) -> Option<&'a [u8]>
 #[inline(never)]
 fn after_names<'a>(names: &[Name], bytes: &'a [u8]) -> Option<&'a [u8]>
     ensures { IfSome result (λ rest.
-        list_at (λ low. read flaws zone_spelling) (λ name. 0) 0 (length names.now) bytes.now
+        list_at (λ low. read faults zone_spelling) (λ name. 0) 0 (length names.now) bytes.now
         ≡ Ok (names.now, rest.now)) }
 {
     let mut rest = bytes;
@@ -95,10 +104,10 @@ fn after_names<'a>(names: &[Name], bytes: &'a [u8]) -> Option<&'a [u8]>
 #[tactic(auto, unfolding(crate::specs::Spelling::zones_spelling, crate::specs::Spelling::counted))]
 pub(crate) fn after_zones<'a>(zones: &Listed<Name>, bytes: &'a [u8]) -> Option<&'a [u8]>
     ensures { IfSome result
-        (λ rest. read flaws zones_spelling bytes.now ≡ Ok (zones.now, rest.now)) }
+        (λ rest. read faults zones_spelling bytes.now ≡ Ok (zones.now, rest.now)) }
 {
     let (count, after) = bytes.split_first()?;
-    if *count > MAX_ZONES || *count as usize != zones.len() {
+    if *count as usize > MAX_ZONES || *count as usize != zones.len() {
         return None;
     }
     let rest = after_names(zones.as_slice(), after)?;
@@ -109,7 +118,7 @@ pub(crate) fn after_zones<'a>(zones: &Listed<Name>, bytes: &'a [u8]) -> Option<&
 #[inline(always)]
 fn zones_again<'a>(zones: &Listed<Name>, bytes: &'a [u8]) -> Option<(Listed<Name>, &'a [u8])>
     ensures { IfSome result
-        (λ x. read flaws zones_spelling bytes.now ≡ Ok (x.0, x.1.now)) }
+        (λ x. read faults zones_spelling bytes.now ≡ Ok (x.0, x.1.now)) }
 {
     let rest = after_zones(zones, bytes)?;
     Some((zones.again()?, rest))
@@ -122,7 +131,7 @@ pub(crate) fn zones_at<'a>(
     like: Option<&Listed<Name>>,
     bytes: &'a [u8],
 ) -> Result<(Listed<Name>, &'a [u8]), Stop>
-    ensures { GivesOrStops (λ x. (x.0, x.1.now)) result (read flaws zones_spelling bytes.now) }
+    ensures { GivesOrStops (λ x. (x.0, x.1.now)) result (read faults zones_spelling bytes.now) }
 {
     let Some(zones) = like else {
         return new_zones_at(alloc, bytes);
@@ -135,11 +144,11 @@ pub(crate) fn zones_at<'a>(
 
 /// Reads past a count and zones, and returns the number of zones.
 #[tactic(auto, unfolding(crate::specs::Spelling::zones_spelling))]
-pub(crate) fn pass_zones(bytes: &[u8]) -> Result<(usize, &[u8]), Flaw>
+pub(crate) fn pass_zones(bytes: &[u8]) -> Result<(usize, &[u8]), Fault>
     ensures { GoesPast (λ xs. length xs) (λ x. (x.0, x.1.now)) result
-        (read flaws zones_spelling bytes.now) }
+        (read faults zones_spelling bytes.now) }
 {
-    pass_counted::<Name>(MAX_ZONES, 0, bytes)
+    pass_counted::<Name>(CountSize::One, MAX_ZONES, Context::nothing(), bytes)
 }
 
 /// Appends a count and zones.
@@ -147,7 +156,7 @@ pub(crate) fn pass_zones(bytes: &[u8]) -> Result<(usize, &[u8]), Flaw>
 pub(crate) fn put_zones(out: &mut Vec<u8>, names: &Listed<Name>) -> Result<(), AllocError>
     ensures { OnOk result (out.new.items ≡ out.old.items ++ bytes_of zones_spelling names.now) }
 {
-    put_counted(out, MAX_ZONES, 0, names)
+    put_counted(out, CountSize::One, MAX_ZONES, Context::nothing(), names)
 }
 
 impl CheckItem for Name {
@@ -158,19 +167,19 @@ impl CheckItem for Name {
 
     ghost max_size = { text_size };
 
-    fn check_one(&self, _known: usize, _low: u32, at: usize) -> Result<usize, Misfit> {
+    fn check_one(&self, _context: Context, _low: u32, at: usize) -> Result<usize, Flaw> {
         Ok(at + BYTE_SIZE + self.as_slice().len())
     }
 }
 
 /// Checks a count and zones.
 #[tactic(auto, unfolding(crate::specs::Spelling::zones_spelling))]
-pub(crate) fn check_zones(at: usize, names: &Listed<Name>) -> Result<usize, Misfit>
+pub(crate) fn check_zones(at: usize, names: &Listed<Name>) -> Result<usize, Flaw>
     requires few { length names.now ≤ max_zones }
     requires room { at + zones_size < 2 ^ 40 }
     ensures checked { Checks zones_spelling names.now at result }
     ensures near { MatchResult result (λ end. end ≤ at + zones_size)
         (λ m. m.place ≤ at + zones_size) }
 {
-    check_counted(MAX_ZONES, 0, at, names)
+    check_counted(CountSize::One, MAX_ZONES, Context::nothing(), at, names)
 }

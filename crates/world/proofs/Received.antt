@@ -24,9 +24,10 @@ use Rattle.station.specs.Members.{EitherHears}
 use Rattle.station.specs.declared.member.Member.{Member}
 use Rattle.station.specs.declared.member.Member.TheVariants.{Router, Node}
 use Rattle.live_cables.specs.Living.{IsTakenBy, Wires, happened}
-use Rattle.live_node.specs.Living.{LivingNode, LiveHears as NodeHears, informed, is_waiting, routed, routing_in, taught, told, zones_in}
+use Rattle.live_node.specs.Living.{LivingNode, LiveHears as NodeHears, informed, is_waiting, routed, taught, told}
+use Rattle.rtmp.specs.Data.{routing_in, RoutingData}
+use Rattle.zip_zones.specs.Formats.{zones_in}
 use Rattle.live_router.specs.Living.{Living, LiveHears as RouterHears}
-use Rattle.rtmp.specs.Data.{RoutingData}
 use Rattle.station.specs.Hearing.{Hearing}
 use Rattle.station.specs.Resolution.{packet_at}
 use Rattle.station.specs.Values.{datagram_at}

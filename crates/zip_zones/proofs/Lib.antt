@@ -7,3 +7,6 @@ pub mod Appended
 pub mod ReadBack
 pub mod Answering
 pub mod Grouping
+pub mod Queries
+pub mod Having
+pub mod Indexed

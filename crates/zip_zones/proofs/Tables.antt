@@ -1,10 +1,10 @@
 -- Zone tables as lists by rising range, and what each change keeps.
-use Rattle.std.proofs.Common.{◌≡◌, ◌==◌, ℕ, ◌<◌, ◌≤◌, Bool, true, false, not, ◌&&◌, List, [], length, refl, sym, ap, ◌∙◌, arith, nat_le}
+use Rattle.std.proofs.Common.{◌≡◌, ◌==◌, ℕ, ◌<◌, ◌≤◌, Bool, true, false, not, ◌&&◌, ◌||◌, List, [], ◌∷◌, length, refl, sym, ap, ◌∙◌, arith, nat_le}
 use Rattle.std.specs.Prelude.{Option, Some, None, slice_set, if◌then◌else◌}
-use Rattle.std.specs.List.{list_all}
+use Rattle.std.specs.List.{list_all, list_any}
 use Rattle.std.proofs.lemmas.Bool.Decides.{nat_tests}
 use Rattle.std.proofs.lemmas.Bool.{and_parts}
-use Rattle.at_base.specs.Range.{Span, same_range, is_range}
+use Rattle.at_base.specs.Range.{Span, is_range, overlaps, same_range}
 use Rattle.at_base.specs.Spans.{AreApart, IsAt}
 use Rattle.at_base.proofs.Ranges.{ends_of, one_range}
 use Rattle.at_base.proofs.Lists.{all_filter, few_filter, found_all, found_is}
@@ -136,3 +136,22 @@ pub heard_over : (range : Span) (total : ℕ) (name : List ℕ) (table : List Kn
 heard_over range total name table place at stays =
     let known : list_of range total (known_for range table) ≡ at.item = ap (list_of range total) at.found ∙ stays in
     rw known (sym (at.put (with_zone name at.item) (same_after name at.item ∙ at.own)))
+
+-- ---- ranges that overlap
+
+-- where a range has no list, another range overlaps it if any does
+pub others_only : (range : Span) (table : List Known) → known_for range table ≡ None
+    → list_any (λ k. overlaps k.range range) table ≡ overlaps_another range table
+others_only range [] none = refl
+others_only range (k ∷ table) none = by (same_range k.range range) none (others_only range table)
+  where
+    and_true : (b : Bool) → b ≡ (b && true)
+    and_true true = refl
+    and_true false = refl
+
+    by : (b : Bool) → (if b then Some k else known_for range table) ≡ None
+        → (known_for range table ≡ None → list_any (λ k. overlaps k.range range) table ≡ overlaps_another range table)
+        → (overlaps k.range range || list_any (λ k. overlaps k.range range) table)
+        ≡ ((overlaps k.range range && not b) || overlaps_another range table)
+    by true e rest = cc
+    by false e rest = rw (rest e) (ap (λ (b : Bool). b || overlaps_another range table) (and_true (overlaps k.range range)))

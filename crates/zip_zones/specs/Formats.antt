@@ -4,7 +4,8 @@ use Rattle.at_base.specs.declared.error.Error.{Error}
 use Rattle.at_base.specs.declared.error.Error.TheVariants.{BadField, Truncated}
 use Rattle.at_base.specs.declared.error.Field.TheVariants.{Function as FunctionField, Lengths}
 use Rattle.at_base.specs.Grammar.{Grammar, done, field, part, list, many, number, room, run, one, two}
-use Rattle.at_base.specs.Packets.{any, only, text}
+use Rattle.at_base.specs.Packets.{any, only, packets, text}
+use Rattle.at_base.specs.Reading.{read, value_of}
 use Rattle.zip_zones.specs.declared.entry.Entry.{Entry}
 use Rattle.zip_zones.specs.declared.entries.Nets.TheVariants.{Any, One}
 use Rattle.zip_zones.specs.declared.packet.Function.{Function}
@@ -133,3 +134,7 @@ body f.ExtendedReply =
 -- the format of a packet: two bytes at least; the function, and its body
 unfoldable pub packet : Grammar Error false Packet
 packet = room 2 (field (number one wrong_function) (λ p. number_of (function_in p)) (λ n. body (function_of n)))
+
+-- the packet at the front of the bytes, if any
+unfoldable pub zones_in : List ℕ → Option Packet
+zones_in payload = value_of (read packets packet payload)

@@ -1,5 +1,5 @@
 pub mod Zones
-pub mod Held
+pub mod Indexing
 pub mod Pages
 pub mod Packets
 pub mod Formats

@@ -5,6 +5,7 @@ ghost use Rattle.std.specs.Prelude.{IfErr, IsOkUnless, OnErr, OnOk};
 ghost use Rattle.zip_zones.specs.Zones as spec;
 ghost use Rattle.zip_zones.specs.Zones.{end_of, list_of_least};
 
+use crate::change::put_last;
 use crate::known::KnownZones;
 use crate::table::ZoneTable;
 use at_base::limits::{MAX_LISTS, MAX_ZONES};
@@ -34,20 +35,10 @@ fn has_room(lists: &[KnownZones], least: u8, names: &[Name]) -> bool
     least as usize <= MAX_ZONES && names.len() <= MAX_ZONES && lists.len() < MAX_LISTS
 }
 
-/// Adds a list after the others. Error: `Memory`; nothing changes then.
-fn put_last(lists: &mut Vec<KnownZones>, known: KnownZones) -> Result<(), Error>
-    ensures ok { OnOk result (lists.new.items ≡ lists.old.items ++ known ∷ []) }
-    ensures err { IsOkUnless result Error.Memory }
-    ensures kept { OnErr result (lists.new.items ≡ lists.old.items) }
-{
-    lists.push(known)?;
-    Ok(())
-}
-
 impl ZoneTable {
     /// Adds the list of a range above all others, of at least `least` zones, with these names, each
-    /// once, ignoring case. The list is complete if it has as many names as zones. Searches
-    /// nothing.
+    /// once, ignoring case. The list is complete if it has as many names as zones. Its place needs
+    /// no search.
     ///
     /// Errors: `BadRange` where the range isn't above all others; `Full` above 64 zones or names,
     /// duplicates counted too, and where the table has 200 lists; `Memory`. A refusal changes
@@ -70,7 +61,7 @@ impl ZoneTable {
         }
         recall_valid(range);
         let known = KnownZones::at_least(*self.lists.allocator(), range, least, names)?;
-        put_last(&mut self.lists, known)?;
+        put_last(&mut self.lists, &mut self.index, known)?;
         Ok(())
     }
 }

@@ -1,13 +1,16 @@
 //! The zone list of one range.
 
-ghost use Rattle.std.specs.Prelude.{IfOk, IsOkUnless, OnErr, OnOk, [], length, ◌<◌, ◌≡◌, ◌≤◌};
-ghost use Rattle.zip_zones.specs.Zones as spec;
-ghost use Rattle.zip_zones.specs.Zones.{each_once, list_of_least, set_list, with_name, with_zone};
+ghost use Rattle.std.specs.Prelude.{◌≡◌, ◌≤◌, ◌++◌, ◌∷◌, [], length, IfOk, IsOkUnless};
+ghost use Rattle.std.specs.Prelude.{OnErr, OnOk};
 ghost use Rattle.std.specs.Arc.{arc_value};
 ghost use Rattle.at_base.specs.Limits.{max_zones};
+ghost use Rattle.at_base.specs.Numbers.{AreRising};
+ghost use Rattle.zip_zones.specs.Indexing.{any_named, key_of, with_start};
+ghost use Rattle.zip_zones.specs.Zones as spec;
+ghost use Rattle.zip_zones.specs.Zones.{has_zone, list_of_least, set_list, with_zone};
 
-use crate::zone::Zone;
-use crate::zone_set::ZoneSet;
+use crate::index::has;
+use crate::once::{FEW, each_once, is_among};
 use at_base::{Error, Name, Range};
 use std::alloc::Global;
 use std::marker::Model;
@@ -20,7 +23,7 @@ pub(crate) struct KnownZones {
     total: u8,
     // The names are shared between copies: a router copies its table before it learns, and changes
     // few lists.
-    zones: Arc<ZoneSet, Global>,
+    names: Arc<Vec<Name>, Global>,
     alloc: Global,
 }
 
@@ -33,46 +36,42 @@ impl Model for KnownZones {
     ghost view = { λ k. record {
       range = k.range;
       total = k.total;
-      names = arc_value k.zones;
+      names = (arc_value k.names).items;
     } };
 }
 
 /// Makes the names shareable between copies. Error: `Memory`.
-fn shared(alloc: Global, zones: ZoneSet) -> Result<Arc<ZoneSet, Global>, Error>
-    ensures ok { IfOk result (λ shared. arc_value shared ≡ zones) }
+fn shared(alloc: Global, names: Vec<Name>) -> Result<Arc<Vec<Name>, Global>, Error>
+    ensures ok { IfOk result (λ shared. arc_value shared ≡ names) }
     ensures err { IsOkUnless result Error.Memory }
 {
-    match Arc::new(alloc, zones) {
+    match Arc::new(alloc, names) {
         Ok(shared) => Ok(shared),
         Err(_) => Err(Error::Memory),
     }
 }
 
-/// The names, each once, ignoring case. Error: `Memory`.
-fn zones_of(alloc: Global, names: &[Name]) -> Result<ZoneSet, Error>
-    ensures ok { IfOk result (λ zones. zones ≡ each_once names.now) }
-    ensures err { IsOkUnless result Error.Memory }
-{
-    let mut zones = ZoneSet::new(alloc, names.len())?;
-    for name in names {
-        zones.insert(Zone::new(name))?;
-    }
-    Ok(zones)
-}
-
 impl KnownZones {
-    /// A list of `total` zones without names. Error: `Memory`.
-    pub(crate) fn new(alloc: Global, range: Range, total: u8) -> Result<KnownZones, Error>
-        ensures ok { IfOk result
-            (λ known. known ≡ record { range = range; total = total; names = [] }) }
+    /// A list of `total` zones with its first name. Error: `Memory`.
+    pub(crate) fn begun(
+        alloc: Global,
+        range: Range,
+        total: u8,
+        name: &Name,
+    ) -> Result<KnownZones, Error>
+        ensures ok { IfOk result (λ known. known
+            ≡ with_zone name.now (record { range = range; total = total; names = [] })) }
         ensures err { IsOkUnless result Error.Memory }
     {
-        let zones = ZoneSet::new(alloc, total as usize)?;
-        let zones = shared(alloc, zones)?;
+        let mut first = Vec::with_capacity(alloc, total as usize)?;
+        if total != 0 {
+            first.push(*name)?;
+        }
+        let names = shared(alloc, first)?;
         Ok(KnownZones {
             range,
             total,
-            zones,
+            names,
             alloc,
         })
     }
@@ -83,13 +82,13 @@ impl KnownZones {
         ensures ok { IfOk result (λ known. known ≡ set_list range names.now) }
         ensures err { IsOkUnless result Error.Memory }
     {
-        let zones = zones_of(alloc, names)?;
-        let total = zones.len() as u8;
-        let zones = shared(alloc, zones)?;
+        let kept = each_once(alloc, names)?;
+        let total = kept.len() as u8;
+        let names = shared(alloc, kept)?;
         Ok(KnownZones {
             range,
             total,
-            zones,
+            names,
             alloc,
         })
     }
@@ -105,13 +104,13 @@ impl KnownZones {
         ensures ok { IfOk result (λ known. known ≡ list_of_least range least names.now) }
         ensures err { IsOkUnless result Error.Memory }
     {
-        let zones = zones_of(alloc, names)?;
-        let total = least.max(zones.len() as u8);
-        let zones = shared(alloc, zones)?;
+        let kept = each_once(alloc, names)?;
+        let total = least.max(kept.len() as u8);
+        let names = shared(alloc, kept)?;
         Ok(KnownZones {
             range,
             total,
-            zones,
+            names,
             alloc,
         })
     }
@@ -122,45 +121,44 @@ impl KnownZones {
         ensures err { IsOkUnless result Error.Memory }
     {
         // The count of owners can't overflow.
-        match Arc::try_clone(&self.zones) {
-            Ok(zones) => Ok(KnownZones {
+        match Arc::try_clone(&self.names) {
+            Ok(names) => Ok(KnownZones {
                 range: self.range,
                 total: self.total,
-                zones,
+                names,
                 alloc: self.alloc,
             }),
             Err(_) => Err(Error::Memory),
         }
     }
 
-    /// Adds a name, unless the list is complete or has it. Error: `Memory`; nothing changes then.
-    pub(crate) fn take(&mut self, name: &Name) -> Result<(), Error>
-        ensures ok { OnOk result (self.new ≡ with_zone name.now self.old) }
+    /// Adds a name after the others. Error: `Memory`; nothing changes then.
+    pub(crate) fn push(&mut self, name: &Name) -> Result<(), Error>
+        ensures ok { OnOk result
+            (self.new ≡ record self.old { names = self.old.names ++ name.now ∷ [] }) }
         ensures err { IsOkUnless result Error.Memory }
         ensures kept { OnErr result (self.new ≡ self.old) }
     {
-        if self.is_complete() {
-            return Ok(());
-        }
         // A list that was begun after the table was copied has no other owner.
-        if let Some(zones) = Arc::get_mut(&mut self.zones) {
-            zones.insert(Zone::new(name))?;
+        if let Some(names) = Arc::get_mut(&mut self.names) {
+            names.push(*name)?;
             return Ok(());
         }
-        self.take_shared(name)
+        self.push_shared(name)
     }
 
     /// Adds a name to a copy of the names, which have other owners. Error: `Memory`; nothing
     /// changes then.
-    fn take_shared(&mut self, name: &Name) -> Result<(), Error>
+    fn push_shared(&mut self, name: &Name) -> Result<(), Error>
         ensures ok { OnOk result
-            (self.new ≡ record self.old { names = with_name self.old.names name.now }) }
+            (self.new ≡ record self.old { names = self.old.names ++ name.now ∷ [] }) }
         ensures err { IsOkUnless result Error.Memory }
         ensures kept { OnErr result (self.new ≡ self.old) }
     {
-        let mut zones = self.zones.as_ref().copy()?;
-        zones.insert(Zone::new(name))?;
-        self.zones = shared(self.alloc, zones)?;
+        let mut names = Vec::with_capacity(self.alloc, self.names.as_ref().len() + 1)?;
+        names.extend_from_slice(self.names.as_ref().as_slice())?;
+        names.push(*name)?;
+        self.names = shared(self.alloc, names)?;
         Ok(())
     }
 
@@ -179,23 +177,31 @@ impl KnownZones {
     }
 
     /// The names received so far.
-    pub(crate) fn zones(&self) -> &[Zone]
+    pub(crate) fn names(&self) -> &[Name]
         ensures { result.now ≡ self.now.names }
     {
-        self.zones.as_ref().as_slice()
+        self.names.as_ref().as_slice()
     }
 
     /// Whether all names were received.
     pub(crate) fn is_complete(&self) -> bool
         ensures { result ≡ spec.is_complete self.now }
     {
-        self.zones.as_ref().len() == self.total as usize
+        self.names().len() == self.total as usize
     }
 
-    /// Whether the zone is among the names, ignoring case.
-    pub(crate) fn has(&self, zone: &Name) -> bool
-        ensures { result ≡ spec.has_zone zone.now self.now }
+    /// Whether the zone is among the names, ignoring case. The index must have their numbers, which
+    /// are looked at only where comparing the names would cost more.
+    pub(crate) fn has(&self, index: &[u64], zone: &Name) -> bool
+        requires rising { AreRising 0 index.now }
+        requires indexed { any_named zone.now self.now.names
+            (with_start (key_of zone.now) self.now.range.start index.now)
+            ≡ has_zone zone.now self.now }
+        ensures { result ≡ has_zone zone.now self.now }
     {
-        self.zones.as_ref().has(&Zone::new(zone))
+        if self.names().len() <= FEW {
+            return is_among(self.names(), zone);
+        }
+        has(index, self.range.start(), self.names(), zone)
     }
 }

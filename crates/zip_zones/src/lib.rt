@@ -3,12 +3,15 @@
 
 mod answer;
 mod appending;
+mod change;
 mod due;
 mod entries;
 mod entry;
+mod index;
 mod known;
 mod laws;
 mod networks;
+mod once;
 mod packet;
 mod page;
 mod question;
@@ -19,7 +22,6 @@ mod writer;
 mod zone;
 mod zone_function;
 mod zone_page;
-mod zone_set;
 
 pub use answer::{answer_net_info, reply_net_info};
 pub use entries::Entries;

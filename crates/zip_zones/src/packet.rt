@@ -238,6 +238,13 @@ impl<'a> Packet<'a> {
         }
     }
 
+    /// The packet at the front of the bytes, if any. Allocates nothing.
+    pub fn at(bytes: &'a [u8]) -> Option<Packet<'a>>
+        ensures { result ≡ spec.zones_in bytes.now }
+    {
+        Packet::read(bytes).ok()
+    }
+
     /// The requested zone, if the packet is a GetNetInfo request.
     pub fn asked(&self) -> Option<Text32>
         ensures { result ≡ zone_asked self.now }

@@ -1,21 +1,25 @@
 //! The zone table of a router.
 
-ghost use Rattle.std.specs.Prelude.{◌≡◌, ◌⊎◌, ◌↔◌, ◌<◌, ◌≤◌, [], false, fold, length, option_map};
+ghost use Rattle.std.specs.Prelude.{◌≡◌, ◌⊎◌, ◌↔◌, ◌<◌, ◌≤◌, [], false, filter_map, fold, length};
+ghost use Rattle.std.specs.Prelude.{option_map};
 ghost use Rattle.std.specs.Prelude.{slice_get, true, vec_capacity, vec_len, None, Some};
 ghost use Rattle.std.specs.Prelude.{IfErr, IfNone, IfOk, IfSome, IsOk, IsOkUnless, OnErr, OnOk};
 ghost use Rattle.zip_zones.specs.Zones.{IsZoneMap, all_zones, complete_at, heard, is_full_for};
 ghost use Rattle.zip_zones.specs.Zones.{lists_at, names_at, overlaps_another, ranges_of, set_list};
 ghost use Rattle.zip_zones.specs.Zones.{known_for, with_known, with_name};
+ghost use Rattle.zip_zones.specs.Indexing.{hit as spec_hit};
 ghost use Rattle.zip_zones.specs.Zones as spec;
 ghost use Rattle.zip_zones.specs.Zones.{with_zone, without};
-ghost use Rattle.at_base.specs.Spans.{AreApart, IsAt};
+ghost use Rattle.at_base.specs.Spans.{AreApart, IsAt, IsBefore};
 ghost use Rattle.at_base.specs.Limits.{max_lists, max_zones};
 
+use crate::change::{hear, replace, take_out};
+use crate::index::numbers_of;
 use crate::known::KnownZones;
-use crate::search::{list_for, list_of, overlaps_other};
+use crate::search::{hit, is_full, list_for, list_of, overlaps_other};
 use crate::zone::Zone;
-use at_base::limits::{MAX_LISTS, MAX_ZONES};
-use at_base::{Error, Name, Range, place_of, put, recall_valid};
+use at_base::limits::MAX_ZONES;
+use at_base::{Error, Name, Range, place_of, recall_valid};
 use indexmap::IndexSet;
 use std::alloc::Global;
 use std::marker::Model;
@@ -26,49 +30,64 @@ use std::marker::Model;
 #[derive(Drop)]
 pub struct ZoneTable {
     pub(crate) lists: Vec<KnownZones>,
+    pub(crate) index: Vec<u64>,
 }
 
 impl Model for ZoneTable {
     ghost use Rattle.std.specs.Prelude.{List};
-    ghost use Rattle.zip_zones.specs.Zones.{IsZoneMap, Known};
+    ghost use Rattle.zip_zones.specs.Indexing.{IsIndexed};
+    ghost use Rattle.zip_zones.specs.Zones.{Known};
 
     ghost Value = { List Known };
 
     ghost view = { λ t. t.lists.items };
 
-    ghost invariant = { λ t. IsZoneMap t.lists.items };
+    ghost invariant = { λ t. IsIndexed t.lists.items t.index.items };
 }
 
-/// Removes the list of a range.
-fn take_out(lists: &mut Vec<KnownZones>, range: Range)
-    ensures kept { lists.new.items ≡ without range lists.old.items }
-    ensures room { vec_capacity lists.new ≡ vec_capacity lists.old }
-    ensures fewer { vec_len lists.new ≤ vec_len lists.old }
-{
-    lists.retain(|known| known.range() != range);
-}
+/// How many more lists and numbers a copy has room for: a router copies its table before it learns,
+/// mostly of one range.
+const SPARE: usize = 4;
 
 /// A copy of each list. Error: `Memory`.
 fn copy_all(alloc: Global, lists: &[KnownZones]) -> Result<Vec<KnownZones>, Error>
     ensures ok { IfOk result (λ copies. copies.items ≡ lists.now) }
     ensures err { IsOkUnless result Error.Memory }
 {
-    let mut copies = Vec::with_capacity(alloc, lists.len())?;
+    let mut copies = Vec::with_capacity(alloc, lists.len().saturating_add(SPARE))?;
     for known in lists {
         copies.push(known.copy()?)?;
     }
     Ok(copies)
 }
 
-/// The names of zones. Error: `Memory`, which no names never need.
-fn names_from(alloc: Global, zones: &[Zone]) -> Result<Vec<Name>, Error>
-    ensures ok { IfOk result (λ names. names.items ≡ zones.now) }
-    ensures none { zones.now ≡ [] → IsOk result }
+/// A copy of the index. Error: `Memory`.
+fn copy_index(alloc: Global, index: &[u64]) -> Result<Vec<u64>, Error>
+    ensures ok { IfOk result (λ copy. copy.items ≡ index.now) }
     ensures err { IsOkUnless result Error.Memory }
 {
-    if zones.is_empty() {
+    let mut copy = Vec::with_capacity(alloc, index.len().saturating_add(SPARE))?;
+    copy.extend_from_slice(index)?;
+    Ok(copy)
+}
+
+/// A copy of names. Error: `Memory`, which no names never need.
+fn copy_names(alloc: Global, names: &[Name]) -> Result<Vec<Name>, Error>
+    ensures ok { IfOk result (λ copies. copies.items ≡ names.now) }
+    ensures none { names.now ≡ [] → IsOk result }
+    ensures err { IsOkUnless result Error.Memory }
+{
+    if names.is_empty() {
         return Ok(Vec::new(alloc));
     }
+    Ok(Vec::from_slice(alloc, names)?)
+}
+
+/// The names of zones. Error: `Memory`.
+fn names_from(alloc: Global, zones: &[Zone]) -> Result<Vec<Name>, Error>
+    ensures ok { IfOk result (λ names. names.items ≡ zones.now) }
+    ensures err { IsOkUnless result Error.Memory }
+{
     let mut names = Vec::with_capacity(alloc, zones.len())?;
     for zone in zones {
         names.push(*zone.name())?;
@@ -76,84 +95,68 @@ fn names_from(alloc: Global, zones: &[Zone]) -> Result<Vec<Name>, Error>
     Ok(names)
 }
 
-/// Adds each zone that isn't in the set. Error: `Memory`.
-fn insert_all(zones: &mut IndexSet<Zone>, others: &[Zone]) -> Result<(), Error>
+/// Adds each name that isn't in the set, ignoring case. Error: `Memory`.
+fn insert_all(zones: &mut IndexSet<Zone>, others: &[Name]) -> Result<(), Error>
     ensures ok { OnOk result (zones.new.keys ≡ fold with_name zones.old.keys others.now) }
     ensures err { IsOkUnless result Error.Memory }
 {
-    for zone in others {
-        zones.insert(*zone)?;
+    for name in others {
+        zones.insert(Zone::new(name))?;
     }
     Ok(())
 }
 
-/// Checks that the table has room for a list of this range with this many zones. Errors: `BadRange`
-/// where another range overlaps it, `Full`.
-fn check_room(lists: &[KnownZones], range: Range, zones: usize) -> Result<(), Error>
+/// The ranges of the lists that numbers of the index are of, where their names are the zone. Error:
+/// `Memory`.
+fn hits(
+    alloc: Global,
+    lists: &[KnownZones],
+    zone: &Name,
+    numbers: &[u64],
+) -> Result<Vec<Range>, Error>
+    requires { AreApart (λ k. k.range) 0 lists.now }
+    ensures ok { IfOk result
+        (λ ranges. ranges.items ≡ filter_map (spec_hit zone.now lists.now) numbers.now) }
+    ensures refused { IsOkUnless result Error.Memory }
+{
+    let mut ranges = Vec::new(alloc);
+    for number in numbers {
+        if let Some(range) = hit(lists, zone, *number) {
+            ranges.push(range)?;
+        }
+    }
+    Ok(ranges)
+}
+
+/// The index of the list of a range; or, as an error within Ok, the index at which one is to be
+/// inserted. The table must have room for it, with this many zones. Errors: `BadRange` where another
+/// range overlaps it, `Full`.
+fn place_for(
+    lists: &[KnownZones],
+    range: Range,
+    zones: usize,
+) -> Result<Result<usize, usize>, Error>
     requires { AreApart (λ k. k.range) 0 lists.now }
     ensures ok { OnOk result ((overlaps_another range lists.now ≡ false) × (zones ≤ max_zones)
         × (is_full_for range lists.now ≡ false)) }
+    ensures place { IfOk result (λ place. IfOk place (IsAt (λ k. k.range) range lists.now)
+        × IfErr place (IsBefore (λ k. k.range) range lists.now)) }
     ensures range { (result ≡ Err Error.BadRange) ↔ (overlaps_another range lists.now ≡ true) }
     ensures full { (result ≡ Err Error.Full) ↔ ((overlaps_another range lists.now ≡ false)
         × ((max_zones < zones) ⊎ (is_full_for range lists.now ≡ true))) }
     ensures refused { IfErr result (λ e. (e ≡ Error.BadRange) ⊎ (e ≡ Error.Full)) }
 {
-    if overlaps_other(lists, range) {
+    let place = place_of(lists, range);
+    if overlaps_other(lists, range, place) {
         return Err(Error::BadRange);
     }
     if zones > MAX_ZONES {
         return Err(Error::Full);
     }
-    if list_for(lists, range).is_none() && lists.len() >= MAX_LISTS {
+    if is_full(lists, range, place) {
         return Err(Error::Full);
     }
-    Ok(())
-}
-
-/// The index of the list of a range, if the list has `total` zones.
-fn place_to_go_on(lists: &[KnownZones], range: Range, total: u8) -> Option<usize>
-    requires { AreApart (λ k. k.range) 0 lists.now }
-    ensures some { IfSome result (λ place. (at : IsAt (λ k. k.range) range lists.now place)
-        × (spec.list_of range total (Some at.item) ≡ at.item)) }
-    ensures none { IfNone result (spec.list_of range total (known_for range lists.now)
-        ≡ record { range = range; total = total; names = [] }) }
-{
-    match place_of(lists, range) {
-        Ok(place) if lists[place].total() == total => Some(place),
-        _ => None,
-    }
-}
-
-/// Begins a list with a name, where the range has no list of `total` zones. Error: `Memory`;
-/// nothing changes then.
-fn begin(lists: &mut Vec<KnownZones>, range: Range, total: u8, name: &Name) -> Result<(), Error>
-    requires { AreApart (λ k. k.range) 0 lists.old.items }
-    ensures ok { OnOk result (lists.new.items ≡ with_known
-        (with_zone name.now (record { range = range; total = total; names = [] }))
-        lists.old.items) }
-    ensures err { IsOkUnless result Error.Memory }
-    ensures kept { OnErr result (lists.new.items ≡ lists.old.items) }
-{
-    let mut known = KnownZones::new(*lists.allocator(), range, total)?;
-    known.take(name)?;
-    // Room is made first, so that a refusal leaves the lists as they are.
-    lists.reserve(1)?;
-    put(lists, known);
-    Ok(())
-}
-
-/// Adds a name of a range that has `total` zones. Error: `Memory`; nothing changes then.
-fn hear(lists: &mut Vec<KnownZones>, range: Range, total: u8, name: &Name) -> Result<(), Error>
-    requires { AreApart (λ k. k.range) 0 lists.old.items }
-    ensures ok { OnOk result
-        (lists.new.items ≡ heard range total name.now lists.old.items) }
-    ensures err { IsOkUnless result Error.Memory }
-    ensures kept { OnErr result (lists.new.items ≡ lists.old.items) }
-{
-    match place_to_go_on(lists.as_slice(), range, total) {
-        Some(place) => lists[place].take(name),
-        None => begin(lists, range, total, name),
-    }
+    Ok(place)
 }
 
 impl ZoneTable {
@@ -165,6 +168,7 @@ impl ZoneTable {
     {
         Ok(ZoneTable {
             lists: Vec::new(alloc),
+            index: Vec::new(alloc),
         })
     }
 
@@ -173,8 +177,10 @@ impl ZoneTable {
         ensures ok { IfOk result (λ table. table ≡ self.now) }
         ensures refused { IsOkUnless result Error.Memory }
     {
-        let lists = copy_all(*self.lists.allocator(), self.lists.as_slice())?;
-        Ok(ZoneTable { lists })
+        let alloc = self.allocator();
+        let lists = copy_all(alloc, self.lists.as_slice())?;
+        let index = copy_index(alloc, self.index.as_slice())?;
+        Ok(ZoneTable { lists, index })
     }
 
     /// Sets the complete list of a range: the names, each once, ignoring case.
@@ -190,12 +196,10 @@ impl ZoneTable {
             (λ e. (e ≡ Error.BadRange) ⊎ (e ≡ Error.Full) ⊎ (e ≡ Error.Memory)) }
         ensures kept { OnErr result (self.new ≡ self.old) }
     {
-        check_room(self.lists.as_slice(), range, names.len())?;
+        let place = place_for(self.lists.as_slice(), range, names.len())?;
         recall_valid(range);
         let known = KnownZones::of(*self.lists.allocator(), range, names)?;
-        // Room is made first, so that a refusal leaves the lists as they are.
-        self.lists.reserve(1)?;
-        put(&mut self.lists, known);
+        replace(&mut self.lists, &mut self.index, place, known)?;
         Ok(())
     }
 
@@ -213,9 +217,9 @@ impl ZoneTable {
             (λ e. (e ≡ Error.BadRange) ⊎ (e ≡ Error.Full) ⊎ (e ≡ Error.Memory)) }
         ensures kept { OnErr result (self.new ≡ self.old) }
     {
-        check_room(self.lists.as_slice(), range, total as usize)?;
+        let place = place_for(self.lists.as_slice(), range, total as usize)?;
         recall_valid(range);
-        hear(&mut self.lists, range, total, name)?;
+        hear(&mut self.lists, &mut self.index, range, total, place, name)?;
         Ok(())
     }
 
@@ -223,7 +227,7 @@ impl ZoneTable {
     pub fn remove(&mut self, range: Range)
         ensures { self.new ≡ without range self.old }
     {
-        take_out(&mut self.lists, range);
+        take_out(&mut self.lists, &mut self.index, range);
     }
 
     /// Whether the list of the network's range is complete. Allocates nothing.
@@ -242,7 +246,7 @@ impl ZoneTable {
         ensures { result ≡ lists_at net zone.now self.now }
     {
         match list_of(self.lists.as_slice(), net) {
-            Some(known) => known.has(zone),
+            Some(known) => known.has(self.index.as_slice(), zone),
             None => false,
         }
     }
@@ -283,13 +287,8 @@ impl ZoneTable {
         ensures few { IfOk result (λ ranges. length ranges.items ≤ max_lists) }
         ensures refused { IsOkUnless result Error.Memory }
     {
-        let mut ranges = Vec::new(*self.lists.allocator());
-        for known in self.lists.as_slice() {
-            if known.has(zone) {
-                ranges.push(known.range())?;
-            }
-        }
-        Ok(ranges)
+        let numbers = numbers_of(self.index.as_slice(), zone);
+        hits(self.allocator(), self.lists.as_slice(), zone, numbers)
     }
 
     /// The names in the list of the network's range, which needn't be complete; none if it has no
@@ -302,7 +301,7 @@ impl ZoneTable {
     {
         let alloc = *self.lists.allocator();
         match list_of(self.lists.as_slice(), net) {
-            Some(known) => names_from(alloc, known.zones()),
+            Some(known) => copy_names(alloc, known.names()),
             None => Ok(Vec::new(alloc)),
         }
     }
@@ -317,7 +316,7 @@ impl ZoneTable {
         let mut zones = IndexSet::new(alloc);
         for known in self.lists.as_slice() {
             if known.is_complete() {
-                insert_all(&mut zones, known.zones())?;
+                insert_all(&mut zones, known.names())?;
             }
         }
         names_from(alloc, zones.as_slice())

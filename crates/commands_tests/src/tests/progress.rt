@@ -2,7 +2,7 @@
 
 use super::plays::{EARLY, SMALL};
 use playing::{Progress, play_text};
-use rtmp::PlainTable;
+use rtmp::Routes;
 use std::alloc::Global;
 use world::World;
 
@@ -14,7 +14,7 @@ struct Counting {
 }
 
 impl Progress for Counting {
-    fn passed(&mut self, world: &World<PlainTable>) {
+    fn passed(&mut self, world: &World<Routes>) {
         self.ticks = self.ticks.saturating_add(1);
         // The node sends a probe in the first tick.
         let has_lived = !world.transcript().is_empty();

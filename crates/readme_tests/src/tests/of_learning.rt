@@ -2,7 +2,7 @@
 
 use at_base::{Error, Range};
 use learning::{Query, forget, learn_routes, queries};
-use rtmp::{DataPacket, PlainTable, RouteTable};
+use rtmp::{DataPacket, RouteTable, Routes};
 use std::alloc::Global;
 use std::test::*;
 use zip_zones::ZoneTable;
@@ -11,7 +11,7 @@ use zip_zones::ZoneTable;
 /// other cable.
 fn asked(alloc: Global, packet: &DataPacket<'_>) -> Result<Vec<Query>, Error> {
     let cable = Range::new(10, 19)?;
-    let mut routes = PlainTable::empty(alloc)?;
+    let mut routes = Routes::empty(alloc)?;
     routes.direct(cable, 0)?;
     let mut zones = ZoneTable::new(alloc)?;
     learn_routes(&mut routes, cable, 0, packet)?;

@@ -2,7 +2,7 @@
 
 use at_base::{Addr, Error, Hw, Range};
 use router::{Hand, Router};
-use rtmp::{PlainTable, RouteTable};
+use rtmp::{RouteTable, Routes};
 use station::PortPlan;
 use std::alloc::Global;
 use std::test::*;
@@ -17,7 +17,7 @@ fn handed(alloc: Global, net: u16) -> Result<Hand, Error> {
         tries: &[],
         own: Some(Addr { net: 10, node: 1 }),
     };
-    let mut routes = PlainTable::empty(alloc)?;
+    let mut routes = Routes::empty(alloc)?;
     routes.direct(range, 0)?;
     let router = Router::new(alloc, &[plan], routes, ZoneTable::new(alloc)?)?;
     Ok(router.hand(net))

@@ -1,5 +1,5 @@
 use Rattle.std.proofs.Common.{◌≤◌, ◌∙◌, ap, sym, subst, not, length, List, ℕ, arith}
-use Rattle.table_image.specs.Limits.{max_zones}
+use Rattle.at_base.specs.Limits.{max_zones}
 use Rattle.audit.specs.ZoneLists.{has_double, is_list_for}
 use Rattle.audit.proofs.CableOrder.{no_double}
 use Rattle.audit.proofs.Finding.{index_within}

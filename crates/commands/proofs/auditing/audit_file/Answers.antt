@@ -9,10 +9,10 @@ use Rattle.commands.proofs.auditing.audit_file.Goals as goal
 -- Bytes that were read to their end and have a verdict have no flaw.
 no_flaw : (told : Option (List ℕ)) (bytes : List ℕ) (answer : Result Verdict Error) (v : Verdict)
     → IfSome told (λ bs. bytes ≡ bs) → answer ≡ Ok v
-    → ((f : Flaw) → IsFirstFlaw bytes f → answer ≡ Err (refusal bytes f)) → IfSome told (λ bs. (f : Flaw) → IsFirstFlaw bs f → ⊥)
+    → ((f : Flaw) → IsFirstFlaw bytes f → answer ≡ Err (refusal f)) → IfSome told (λ bs. (f : Flaw) → IsFirstFlaw bs f → ⊥)
 no_flaw None bytes answer v whole is first = tt
 no_flaw (Some bs) bytes answer v whole is first = λ f flawed.
-    let refused : answer ≡ Err (refusal bytes f) = first f (rw whole flawed) in cc
+    let refused : answer ≡ Err (refusal f) = first f (rw whole flawed) in cc
 
 pub returns-clause-judged : goal.returns-clause-judged
 returns-clause-judged g c = record {

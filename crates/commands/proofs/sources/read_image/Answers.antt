@@ -8,7 +8,7 @@ use Rattle.commands.proofs.sources.read_image.Goals as goal
 
 pub returns-clause-flaw : goal.returns-clause-flaw
 returns-clause-flaw g c =
-    of_read (λ (bytes : List ℕ). (f : Flaw) → IsFirstFlaw bytes f → IsErrAnd c.read-image.result (λ e. (e ≡ refusal bytes f)
+    of_read (λ (bytes : List ℕ). (f : Flaw) → IsFirstFlaw bytes f → IsErrAnd c.read-image.result (λ e. (e ≡ refusal f)
     ⊎ (e ≡ ReadFault) ⊎ (e ≡ Memory))) (g.R.Read.remaining c.args.input.now.reader) c.as_slice.result.now
     (rw c.as_slice.ensures.value c.in_ok-bytes.ensures.ok)
     (λ f flawed. rw (c.read-image.ensures.first f flawed) (inl refl))

@@ -2,7 +2,7 @@ use Rattle.std.proofs.Common.{Ok, Err, sym}
 use Rattle.at_base.specs.Packets.{packets}
 use Rattle.ddp.specs.Datagram.{datagram}
 use Rattle.ddp.proofs.Shape.{datagram_lawful}
-use Rattle.station.proofs.Values.{reads_value}
+use Rattle.at_base.proofs.Readers.{reads_value}
 use Rattle.station.specs.Values.{datagram_at}
 use Rattle.station.proofs.frames.read_datagram.Goals as goal
 

@@ -2,7 +2,7 @@ use Rattle.std.proofs.Common.{Ok, Err, sym}
 use Rattle.at_base.specs.Packets.{packets}
 use Rattle.aarp.specs.Packets.{packet}
 use Rattle.aarp.proofs.Shape.{packet_lawful}
-use Rattle.station.proofs.Values.{reads_kept}
+use Rattle.at_base.proofs.Readers.{reads_kept}
 use Rattle.station.specs.Resolution.{packet_at}
 use Rattle.station.proofs.frames.read_packet.Goals as goal
 

@@ -6,6 +6,6 @@ pub returns : goal.returns
 unfolding image_spelling
 returns c =
     let cables = c.in_ok-cables.ensures in
-    let routers = c.in_ok-_routers.ensures in
-    let nodes = c.in_ok-_nodes.ensures in
+    let routers = rw c.with_cables-context.ensures at c.in_ok-_routers.ensures in
+    let nodes = rw c.with_cables-context.ensures at c.in_ok-_nodes.ensures in
     (record { cables = cables.0; routers = routers.0; nodes = nodes.0 }, rw (cables.1, cables.2, routers.1, nodes.1) refl, cables.2)

@@ -1,7 +1,8 @@
-use Rattle.std.proofs.Common.{ap, ◌∙◌, inr, arith, Err}
+use Rattle.std.proofs.Common.{ap, ◌∙◌, inr, arith, Err, length}
 use Rattle.at_base.specs.declared.error.Error.{Error}
+use Rattle.table_image.specs.Flaws.{flaw_after}
 use Rattle.table_image.specs.Reading.{refusal}
-use Rattle.table_image.proofs.Whole.{all_takes, all_refuses, place_fits, one_flaw, one_reading, read_no_flaw, no_flaw, only_memory}
+use Rattle.table_image.proofs.Whole.{all_takes, refuses_first, place_fits, one_flaw, one_reading, read_no_flaw, no_fault, only_memory}
 use Rattle.table_image.proofs.image.read.Goals as goal
 
 pub invariant_of-result : goal.invariant_of-result
@@ -10,7 +11,7 @@ invariant_of-result c = (all_takes c.args.bytes.now _ (λ i. omega (arith, c.typ
 pub refused-requires : goal.refused-requires
 refused-requires c =
     let flawed = rw c.in-Err-Refused.field-0-is at (c.in-Err-Refused.ensures {u = tt}) in
-    place_fits c.args.bytes.now c.in-Err-Refused.flaw (λ i. omega (arith, c.type_inv.bytes i)) flawed
+    place_fits c.args.bytes.now c.in-Err-Refused.fault (λ i. omega (arith, c.type_inv.bytes i)) flawed
 
 pub returns-in-Ok-clause-found : goal.returns-in-Ok-clause-found
 returns-in-Ok-clause-found c = all_takes c.args.bytes.now _ (λ i. omega (arith, c.type_inv.bytes i)) c.in-Ok.ensures
@@ -29,21 +30,17 @@ pub returns-in-Err-Refused-clause-only : goal.returns-in-Err-Refused-clause-only
 returns-in-Err-Refused-clause-only c =
     λ x s.
     let flawed = rw c.in-Err-Refused.field-0-is at (c.in-Err-Refused.ensures {u = tt}) in
-    absurd (no_flaw c.args.bytes.now x c.in-Err-Refused.flaw s flawed)
+    absurd (no_fault c.args.bytes.now x c.in-Err-Refused.fault s flawed)
 
 pub returns-in-Err-Refused-clause-first : goal.returns-in-Err-Refused-clause-first
 returns-in-Err-Refused-clause-first c =
     λ f h.
     let flawed = rw c.in-Err-Refused.field-0-is at (c.in-Err-Refused.ensures {u = tt}) in
-    ap (λ (e : Error). Err e) (c.refused.ensures ∙ ap (refusal c.args.bytes.now)
-    (one_flaw c.args.bytes.now c.in-Err-Refused.flaw f flawed h))
+    ap (λ (e : Error). Err e) (c.refused.ensures ∙ ap refusal
+    (one_flaw c.args.bytes.now c.in-Err-Refused.fault f flawed h))
 
 pub returns-in-Err-Refused-clause-refused : goal.returns-in-Err-Refused-clause-refused
 returns-in-Err-Refused-clause-refused c =
     let flawed = rw c.in-Err-Refused.field-0-is at (c.in-Err-Refused.ensures {u = tt}) in
-    inr (
-      c.in-Err-Refused.flaw,
-      all_refuses c.args.bytes.now c.in-Err-Refused.flaw (λ i. omega
-          (arith, c.type_inv.bytes i)) flawed,
-      c.refused.ensures,
-    )
+    let first = refuses_first c.args.bytes.now c.in-Err-Refused.fault (λ i. omega (arith, c.type_inv.bytes i)) flawed in
+    inr (flaw_after (length c.args.bytes.now) c.in-Err-Refused.fault, first, c.refused.ensures)

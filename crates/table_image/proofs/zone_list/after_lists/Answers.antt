@@ -1,6 +1,6 @@
 use Rattle.std.proofs.Common.{◌≡◌, ℕ, ◌+◌, ◌-◌, length, take, sym, subst}
 use Rattle.at_base.specs.Reading.{read, list_at}
-use Rattle.table_image.specs.Flaws.{flaws}
+use Rattle.table_image.specs.Flaws.{faults}
 use Rattle.table_image.specs.Spelling.{zone_list_spelling}
 use Rattle.table_image.specs.declared.zone_list.ZoneList.{ZoneList}
 use Rattle.table_image.proofs.Loop.{goes_on_in, with_front}
@@ -8,7 +8,7 @@ use Rattle.table_image.proofs.zone_list.after_lists.Goals as goal
 
 pub loop-list-preserved : goal.loop-list-preserved
 loop-list-preserved c =
-    let item = λ (low : ℕ). read flaws (zone_list_spelling low) in
+    let item = λ (low : ℕ). read faults (zone_list_spelling low) in
     let next : ZoneList → ℕ = λ l. l.start + 1 in
     let lists = c.args.lists.now in
     let i = c.loop-list.list-index in

@@ -1,6 +1,5 @@
-use Rattle.std.proofs.Common.{List, ◌∙◌}
+use Rattle.std.proofs.Common.{List, ℕ, ◌∙◌}
 use Rattle.std.proofs.lemmas.Result.{on_ok_weaker}
-use Rattle.at_base.specs.declared.bytes.Bytes.{Bytes}
 use Rattle.at_base.specs.Spelling.{bytes_of}
 use Rattle.zip_zones.specs.Formats.{packet as spelled_packet}
 use Rattle.zip_zones.specs.Written.{extended_reply}
@@ -19,7 +18,7 @@ returns-in_ok-put_group-in-len1-up-clause-put t c =
     let split = split_of c.args.names.now c.name-item.result c.as_slice.result.now c.fitting.result c.in-len1-up.len_at_least
     c.name-item.is c.as_slice.ensures.value c.as_slice.ensures.short c.fitting.ensures.count in
     on_ok_weaker c.put_groups.result (λ new.
-    ◌∙◌ {A = List Bytes} new (rw (
+    ◌∙◌ {A = List (List ℕ)} new (rw (
       (c.in_ok-put_group-in-len1-up.ensures {u = tt}).put,
       c.split_at.ensures.front,
       c.split_at.ensures.back,

@@ -1,7 +1,8 @@
+use Rattle.std.proofs.Common.{arith}
 use Rattle.live_node.proofs.Starting.{none_made}
 use Rattle.live_node.proofs.live.LiveNode.made.Goals as goal
 
 pub returns-clause-good : goal.returns-clause-good
 returns-clause-good c =
     c.in_ok-put_repeats.ensures.good (c.in_ok-put_question.ensures.good
-    (c.in_ok-put_probe.ensures.good (none_made c.new-made.result.items c.new-made.ensures.items)))
+    (c.put_probe.ensures.good 1 (omega arith) (none_made c.new-made.result.items c.new-made.ensures.items)))

@@ -6,11 +6,11 @@ use Rattle.rtmp.proofs.Heard.{There, new_map, there}
 use Rattle.rtmp.proofs.Maps.{rows_apart}
 use Rattle.rtmp.proofs.plain.PlainTableRouteTable.hear.Goals as goal
 
-pub place_near-requires : goal.place_near-requires
-place_near-requires c = rw c.as_slice.ensures.value (rows_apart c.self.inside.rows.items c.self.invariant)
+pub place_of-requires : goal.place_of-requires
+place_of-requires c = rw c.as_slice.ensures.value (rows_apart c.self.inside.rows.items c.self.invariant)
 
 -- the row that was found
-found : (c : goal.After-self-in-Ok-1)
+found : (c : goal.After-self-1)
     → There c.args.range c.args.distance c.args.source c.args.port c.self.inside.rows.items c.in-Ok.place c.index.result.now
 found c =
     let rows = c.self.inside.rows.items in

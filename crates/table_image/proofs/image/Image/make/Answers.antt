@@ -1,8 +1,12 @@
-use Rattle.std.proofs.Common.{◌≡◌, ap, sym, ◌∙◌, Err, true, false}
-use Rattle.at_base.specs.declared.error.Error.{Error}
+use Rattle.std.proofs.Common.{◌≡◌, ap, refl, sym, ◌∙◌, Err, true, false}
+use Rattle.at_base.specs.Spelling.{bytes_of}
 use Rattle.table_image.specs.Internet.{Internet}
+use Rattle.table_image.specs.Reading.{refusal}
 use Rattle.table_image.specs.Short.{is_short}
-use Rattle.table_image.proofs.Made.{value_short, misfits, fits_no_flaw, same_refusal}
+use Rattle.table_image.specs.Spelling.{image_spelling}
+use Rattle.table_image.specs.declared.flaw.Flaw.{Flaw}
+use Rattle.table_image.proofs.Made.{value_short, checked_first, fits_no_flaw}
+use Rattle.table_image.proofs.Whole.{same_flaw}
 use Rattle.table_image.proofs.image.Image.make.Goals as goal
 
 pub returns-then-not-are_short-clause-made : goal.returns-then-not-are_short-clause-made
@@ -26,20 +30,18 @@ returns-in-Err-clause-made c =
     λ h.
     let i : Internet = record { cables = c.args.cables.items; routers = c.args.routers.items; nodes = c.args.nodes.items } in
     let checked = rw (c.from_vec-cables.ensures, c.from_vec-routers.ensures, c.from_vec-nodes.ensures) at c.in-Err.ensures.checked in
-    let m = misfits i c.in-Err.misfit checked in
-    fits_no_flaw i m.flaw h m.first
+    fits_no_flaw i c.in-Err.flaw h (checked_first i c.in-Err.flaw checked)
 
 pub returns-in-Err-clause-first : goal.returns-in-Err-clause-first
 returns-in-Err-clause-first c =
     λ short f h.
     let i : Internet = record { cables = c.args.cables.items; routers = c.args.routers.items; nodes = c.args.nodes.items } in
     let checked = rw (c.from_vec-cables.ensures, c.from_vec-routers.ensures, c.from_vec-nodes.ensures) at c.in-Err.ensures.checked in
-    ap (λ (e : Error). Err e) (same_refusal i c.in-Err.misfit f (misfits i c.in-Err.misfit checked) h)
+    ap (λ (g : Flaw). Err (refusal g)) (same_flaw (bytes_of image_spelling i) c.in-Err.flaw f (checked_first i c.in-Err.flaw checked) h)
 
 pub returns-in-Err-clause-flaw : goal.returns-in-Err-clause-flaw
 returns-in-Err-clause-flaw c =
     λ short.
     let i : Internet = record { cables = c.args.cables.items; routers = c.args.routers.items; nodes = c.args.nodes.items } in
     let checked = rw (c.from_vec-cables.ensures, c.from_vec-routers.ensures, c.from_vec-nodes.ensures) at c.in-Err.ensures.checked in
-    let m = misfits i c.in-Err.misfit checked in
-    (m.flaw, m.first, m.is_reported)
+    (c.in-Err.flaw, checked_first i c.in-Err.flaw checked, refl)

@@ -15,7 +15,7 @@ returns-then-from-low-clause-checked c =
 pub returns-in-Err-clause-checked : goal.returns-in-Err-clause-checked
 returns-in-Err-clause-checked c =
     let f : FitsName c.args.self.now = record { socket = omega arith; enumerator = omega arith } in
-    name_object c.args.low c.args.self.now c.args.at c.in-Err.misfit f (omega arith) (omega arith) (omega arith)
+    name_object c.args.low c.args.self.now c.args.at c.in-Err.flaw f (omega arith) (omega arith) (omega arith)
     (omega arith) c.in-Err.ensures.checked
 
 pub returns-in-Ok-clause-checked : goal.returns-in-Ok-clause-checked

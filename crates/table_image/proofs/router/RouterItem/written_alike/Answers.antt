@@ -4,4 +4,4 @@ use Rattle.table_image.proofs.router.RouterItem.written_alike.Goals as goal
 
 pub returns : goal.returns
 unfolding router_spelling counted port_spelling
-returns c = λ known low x. refl
+returns c = λ context low x. refl

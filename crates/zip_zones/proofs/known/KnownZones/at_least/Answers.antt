@@ -4,5 +4,5 @@ use Rattle.zip_zones.proofs.known.KnownZones.at_least.Goals as goal
 
 pub overflow_cast-len : goal.overflow_cast-len
 overflow_cast-len c =
-    let len = c.len.ensures ∙ ap (λ (names : List (List ℕ)). length names) c.in_ok-zones.ensures.ok in
+    let len = c.len.ensures ∙ c.in_ok-kept.kept.ok.0 ∙ ap (λ (names : List (List ℕ)). length names) c.in_ok-kept.ensures.ok in
     omega (arith, not_more c.args.names.now, len, c.requires)

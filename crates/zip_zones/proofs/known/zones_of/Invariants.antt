@@ -1,6 +1,0 @@
-use Rattle.std.proofs.Common.{◌≡◌, take}
-use Rattle.zip_zones.specs.Zones.{each_once}
-use Rattle.zip_zones.proofs.known.zones_of.Given as goal
-
-abbrev pub invariant-loop-name : goal.invariant-loop-name
-invariant-loop-name l = l.zones ≡ each_once (take l.name-index l.names)
