@@ -13,7 +13,7 @@ use Rattle.at_base.proofs.Fields.{ok_is, bind_ok, bind_err, checked_ok, err_is, 
 abbrev pub Stays : {W E X : Type 0} → Refusals W E → ℕ → E → Result X E → Type 0
 Stays {W} r n f whole = (f ≡ r.cut) ⊎ ((left : ℕ) × (w : W) × (f ≡ r.placed left w) × (whole ≡ Err (r.placed (left + n) w)))
 
-stays_then : {W E X Y : Type 0} (r : Refusals W E) (n : ℕ) (f : E) (whole : Result X E) (then : X → Result Y E)
+pub stays_then : {W E X Y : Type 0} (r : Refusals W E) (n : ℕ) (f : E) (whole : Result X E) (then : X → Result Y E)
     → Stays r n f whole → Stays r n f (whole >>= then)
 stays_then r n f whole then (inl cut) = inl cut
 stays_then r n f whole then (inr (left, w, e, h)) = inr (left, w, e, rw h refl)
@@ -27,7 +27,7 @@ bytes_more len cut front more x e =
 
 -- ---- fields
 
-field_more : {W E V : Type 0} (r : Refusals W E) (fd : Field W V) (front more : List ℕ) (x : V × List ℕ)
+pub field_more : {W E V : Type 0} (r : Refusals W E) (fd : Field W V) (front more : List ℕ) (x : V × List ℕ)
     → field_at r fd front ≡ Ok x → field_at r fd (front ++ more) ≡ Ok (x.0, x.1 ++ more)
 field_more r (number size wrong) front more x e =
     let value : List ℕ → ℕ = λ bytes. from_be_bytes (width size) bytes in
@@ -47,7 +47,7 @@ checked_stays r front more None x y f e = absurd cc
 checked_stays {A = A} r front more (Some w) x y f e =
     inr (length front, w, sym (err_is {A = A} (r.placed (length front) w) f e), rw (length-append front more) refl)
 
-field_stays : {W E V : Type 0} (r : Refusals W E) (fd : Field W V) (front more : List ℕ) (f : E)
+pub field_stays : {W E V : Type 0} (r : Refusals W E) (fd : Field W V) (front more : List ℕ) (f : E)
     → field_at r fd front ≡ Err f → Stays r (length more) f (field_at r fd (front ++ more))
 field_stays r (number size wrong) front more f e =
     let value : List ℕ → ℕ = λ bytes. from_be_bytes (width size) bytes in
@@ -71,7 +71,7 @@ module _ {E B : Type 0} (item : ℕ → List ℕ → Result (B × List ℕ) E) (
     abbrev rest_of : ℕ → B × List ℕ → Result (List B × List ℕ) E
     rest_of n y = list_at item next (next y.0) n y.1 >>= λ ys. Ok (y.0 ∷ ys.0, ys.1)
 
-    list_more : (low n : ℕ) (front : List ℕ) (x : List B × List ℕ) → list_at item next low n front ≡ Ok x
+    pub list_more : (low n : ℕ) (front : List ℕ) (x : List B × List ℕ) → list_at item next low n front ≡ Ok x
         → list_at item next low n (front ++ more) ≡ Ok (x.0, x.1 ++ more)
     list_more low zero front x e =
         subst (λ (z : List B × List ℕ). list_at item next low zero (front ++ more) ≡ Ok (z.0, z.1 ++ more))
@@ -83,7 +83,7 @@ module _ {E B : Type 0} (item : ℕ → List ℕ → Result (B × List ℕ) E) (
         (ok_is {E = E} (a.0.0 ∷ b.0.0, b.0.1) x b.2)
         (rw (reads low front a.0 a.1, list_more (next a.0.0) n a.0.1 b.0 b.1) refl)
 
-    list_stays : {W : Type 0} (r : Refusals W E)
+    pub list_stays : {W : Type 0} (r : Refusals W E)
         → ((low : ℕ) (front : List ℕ) (f : E) → item low front ≡ Err f → Stays r (length more) f (item low (front ++ more)))
         → (low n : ℕ) (front : List ℕ) (f : E) → list_at item next low n front ≡ Err f
         → Stays r (length more) f (list_at item next low n (front ++ more))

@@ -1,7 +1,8 @@
 //! Finite maps from disjoint ranges, as slices and vectors by rising range.
 
 ghost use Rattle.std.specs.Prelude.{◌≡◌, ◌≤◌, ◌<◌, suc, length, true, false};
-ghost use Rattle.std.specs.Prelude.{IfErr, IfOk, vec_capacity, vec_len};
+ghost use Rattle.std.specs.Prelude.{IfErr, IfNone, IfOk, IfSome, None, slice_get};
+ghost use Rattle.std.specs.Prelude.{vec_capacity, vec_len};
 ghost use Rattle.std.specs.List.{list_any};
 ghost use Rattle.std.specs.Option.{option_copied};
 ghost use Rattle.at_base.specs.Range.{overlaps};
@@ -117,21 +118,23 @@ pub fn place_near<T: Spanned>(items: &[T], range: Range, near: usize) -> Result<
     place_of(items, range)
 }
 
-/// The item before the index, if its range contains the network.
-fn holder_before<T: Spanned>(items: &[T], place: usize, net: u16) -> Option<&T>
-    requires inside { place ≤ length items.now }
-    requires map { AreApart T.span 0 items.now }
-    requires past { place ≡ before T.span (suc net) items.now }
-    ensures { option_copied result ≡ item_for T.span net items.now }
+/// The index of the item whose range contains the network, if any. By binary search.
+pub fn index_at<T: Spanned>(items: &[T], net: u16) -> Option<usize>
+    requires { AreApart T.span 0 items.now }
+    ensures found { IfSome result
+        (λ index. slice_get items.now index ≡ item_for T.span net items.now) }
+    ensures inside { IfSome result (λ index. index < length items.now) }
+    ensures none { IfNone result (item_for T.span net items.now ≡ None) }
 {
+    let place = place_past(items, net);
     if place == 0 {
         return None;
     }
-    let item = &items[place - 1];
-    if item.range().end() < net {
+    let index = place - 1;
+    if items[index].range().end() < net {
         return None;
     }
-    Some(item)
+    Some(index)
 }
 
 /// The item whose range contains the network, if any. By binary search.
@@ -139,8 +142,10 @@ pub fn item_at<T: Spanned>(items: &[T], net: u16) -> Option<&T>
     requires { AreApart T.span 0 items.now }
     ensures { option_copied result ≡ item_for T.span net items.now }
 {
-    let place = place_past(items, net);
-    holder_before(items, place, net)
+    match index_at(items, net) {
+        Some(index) => Some(&items[index]),
+        None => None,
+    }
 }
 
 /// Whether the range overlaps that of any item. By binary search.

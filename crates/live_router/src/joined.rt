@@ -8,6 +8,7 @@ ghost use Rattle.live_router.specs.Ticking.{all_joined, joined, ports_ticked, ro
 ghost use Rattle.live_router.specs.Ticking as spec;
 ghost use Rattle.live_router.specs.Ticking.{zones_aged};
 ghost use Rattle.learning.specs.Forgetting.{without_gone};
+ghost use Rattle.rtmp.specs.Routes as routes_spec;
 ghost use Rattle.rtmp.specs.Routes.{aged, beside};
 ghost use Rattle.at_base.specs.Limits.{max_ports, max_rows};
 
@@ -16,7 +17,7 @@ use aarp::Chooser;
 use at_base::{Error, Range};
 use learning::forget;
 use router::Router;
-use rtmp::RouteTable;
+use rtmp::{RouteTable, Row, State};
 use zip_zones::ZoneTable;
 
 /// Whether a port settles in a tick, by its choice before and after the tick.
@@ -89,16 +90,48 @@ fn routes_joined<T: RouteTable>(router: &Router<T>, after: &[Chooser]) -> Result
     Ok(routes)
 }
 
+/// Whether the row is removed by the next aging.
+fn is_over(row: &Row) -> bool
+    ensures { result ≡ routes_spec.is_over row.now }
+{
+    match row.state {
+        State::Last => !row.is_direct(),
+        _ => false,
+    }
+}
+
+/// Whether the next aging removes a row.
+fn any_over<T: RouteTable>(routes: &T) -> bool
+    ensures { result ≡ list_any routes_spec.is_over (T.rows routes.now) }
+{
+    for index in 0..routes.len() {
+        if let Some(row) = routes.row(index) {
+            if is_over(&row) {
+                return true;
+            }
+        }
+    }
+    false
+}
+
 /// The tables after a period: the rows of this routing table age, and the zone lists of removed
 /// rows are removed. Error: `Memory`.
 fn tables_aged<T: RouteTable>(zones: &ZoneTable, joined: T) -> Result<Tables<T>, Error>
     ensures routes { IfOk result
         (λ next. option_map T.rows next.routes ≡ Some (aged (T.rows joined))) }
     ensures zones { IfOk result
-        (λ next. next.zones ≡ Some (without_gone (T.rows joined) zones.now)) }
+        (λ next. unwrap_or next.zones zones.now ≡ without_gone (T.rows joined) zones.now) }
     ensures refused { IsOkUnless result Error.Memory }
 {
     let mut routes = joined;
+    // In most periods no row goes, and the zone table needn't be copied.
+    if !any_over(&routes) {
+        routes.age();
+        return Ok(Tables {
+            routes: Some(routes),
+            zones: None,
+        });
+    }
     let mut zones = zones.copy()?;
     forget(&mut routes, &mut zones);
     Ok(Tables {

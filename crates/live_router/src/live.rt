@@ -26,17 +26,21 @@ pub struct LiveRouter<T: RouteTable> {
     router: Router<T>,
     // The ticks since the rows last aged, or since the start.
     phase: u8,
+    // Whether each port is known to be settled. A frame may end that, and a tick looks again.
+    settled: bool,
 }
 
 impl<T: RouteTable> Model for LiveRouter<T> {
-    ghost use Rattle.std.specs.Prelude.{◌<◌};
+    ghost use Rattle.std.specs.Prelude.{◌≡◌, ◌<◌, true};
+    ghost use Rattle.std.specs.List.{list_all};
     ghost use Rattle.live_router.specs.Living.{Living};
 
     ghost Value = { Living };
 
     ghost view = { λ l. record { router = l.router; phase = l.phase } };
 
-    ghost invariant = { λ l. l.phase < 100 };
+    ghost invariant = { λ l. (l.phase < 100)
+        × (l.settled ≡ true → list_all (λ p. p.is_settled) l.router.ports ≡ true) };
 }
 
 impl<T: RouteTable> LiveRouter<T> {
@@ -68,7 +72,11 @@ impl<T: RouteTable> LiveRouter<T> {
         }
         let routes = T::empty(alloc)?;
         let router = Router::new(alloc, plans, routes, zones)?;
-        Ok(LiveRouter { router, phase: 0 })
+        Ok(LiveRouter {
+            router,
+            phase: 0,
+            settled: false,
+        })
     }
 
     /// The router in its current state. Allocates nothing.
@@ -107,12 +115,16 @@ impl<T: RouteTable> Station for LiveRouter<T> {
     }
 
     fn receive(&mut self, heard: &Heard<'_>, outputs: &mut Outputs) -> Result<(), Error> {
+        self.settled = false;
         hear(&mut self.router, heard, outputs)
     }
 
     fn tick(&mut self, outputs: &mut Outputs) -> Result<(), Error> {
         let phase = phase_after(self.phase);
-        pass(&mut self.router, phase, outputs)?;
+        let settled = self.settled;
+        // A tick that fails leaves nothing known.
+        self.settled = false;
+        self.settled = pass(&mut self.router, phase, settled, outputs)?;
         self.phase = phase;
         Ok(())
     }

@@ -122,17 +122,20 @@ fn passed<T: RouteTable>(router: &Router<T>, phase: u8) -> Result<Ticked<T>, Err
 }
 
 /// Whether a tick in this phase changes no more than the requests, and sends nothing: each port is
-/// settled, no routing data is sent, and no row ages.
-fn is_quiet<T: RouteTable>(router: &Router<T>, phase: u8) -> bool
+/// settled, which may be known (`settled`), no routing data is sent, and no row ages.
+fn is_quiet<T: RouteTable>(router: &Router<T>, phase: u8, settled: bool) -> bool
+    requires { settled ≡ true → list_all (λ p. p.is_settled) router.now.ports ≡ true }
     ensures { result ≡ true → ((phase % 50 == 0) ≡ false)
         × (list_all (λ p. p.is_settled) router.now.ports ≡ true) }
 {
-    phase % SEND_TICKS != 0 && are_settled(router.ports_now())
+    phase % SEND_TICKS != 0 && (settled || are_settled(router.ports_now()))
 }
 
-/// Advances a router by a tick; it is in this phase after it. Error: `Memory`; neither the router
-/// nor the outputs change then.
-pub(crate) fn pass<T: RouteTable>(
+/// Advances a router by a tick that isn't quiet; it is in this phase after it. Error: `Memory`;
+/// neither the router nor the outputs change then.
+// Apart, so that a quiet tick doesn't clear the room for what this one makes.
+#[inline(never)]
+fn pass_busy<T: RouteTable>(
     router: &mut Router<T>,
     phase: u8,
     outputs: &mut Outputs,
@@ -145,10 +148,6 @@ pub(crate) fn pass<T: RouteTable>(
     ensures router_stays { OnErr result (router.new ≡ router.old) }
     ensures outputs_stay { OnErr result (outputs.new.items ≡ outputs.old.items) }
 {
-    if is_quiet(router, phase) {
-        router.pass_requests();
-        return Ok(());
-    }
     // All steps that may fail come first: an error then leaves the router unchanged.
     let Ticked {
         made,
@@ -161,4 +160,32 @@ pub(crate) fn pass<T: RouteTable>(
     take_ports(router, ports);
     router.pass_requests();
     Ok(())
+}
+
+/// Advances a router by a tick; it is in this phase after it. Whether each port is settled may be
+/// known before (`settled`), and the result says whether it is known after. Error: `Memory`;
+/// neither the router nor the outputs change then.
+pub(crate) fn pass<T: RouteTable>(
+    router: &mut Router<T>,
+    phase: u8,
+    settled: bool,
+    outputs: &mut Outputs,
+) -> Result<bool, Error>
+    requires { settled ≡ true → list_all (λ p. p.is_settled) router.old.ports ≡ true }
+    ensures ok { OnOk result
+        (PutsOut (length router.old.ports) outputs.old.items outputs.new.items (λ added.
+        added ≡ probes 0 router.old.ports ++ sent_by phase (router_after phase router.old))) }
+    ensures after { OnOk result (router.new ≡ router_after phase router.old) }
+    ensures settled { IfOk result
+        (λ known. known ≡ true → list_all (λ p. p.is_settled) router.new.ports ≡ true) }
+    ensures refused { IsOkUnless result Error.Memory }
+    ensures router_stays { OnErr result (router.new ≡ router.old) }
+    ensures outputs_stay { OnErr result (outputs.new.items ≡ outputs.old.items) }
+{
+    if is_quiet(router, phase, settled) {
+        router.pass_requests();
+        return Ok(true);
+    }
+    pass_busy(router, phase, outputs)?;
+    Ok(false)
 }

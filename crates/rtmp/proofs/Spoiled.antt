@@ -1,6 +1,6 @@
 -- The rows after a router was lost, where only rows that the index names are looked at.
 use Rattle.std.proofs.Common.{◌≡◌, ℕ, ◌+◌, ◌*◌, ◌%◌, ◌<◌, ◌≤◌, Bool, true, false, cond, not, ◌&&◌, ◌||◌, ◌==◌, List, [], ◌∷◌, map}
-use Rattle.std.proofs.Common.{filter, find, Some, None, refl, ap, ◌∙◌, arith, nat_le, nat_lt}
+use Rattle.std.proofs.Common.{zero, suc, slice_get, slice_set, filter, find, Some, None, refl, ap, sym, subst, ◌∙◌, arith, nat_le, nat_lt}
 use Rattle.std.specs.List.{list_all, list_any}
 use Rattle.std.proofs.Math.Bool.{and-false}
 use Rattle.std.proofs.lemmas.Bool.{and_parts, eqb-true, le-leb, lt-leb, lt-ltb, le-ltb}
@@ -9,15 +9,15 @@ use Rattle.std.proofs.lemmas.Nat.{mod-mul-add}
 use Rattle.at_base.specs.Address.{is_none, same_address}
 use Rattle.at_base.specs.declared.address.Addr.{Addr}
 use Rattle.at_base.specs.Numbers.{between, in_order, with_number}
-use Rattle.at_base.specs.Range.{is_between, is_range, same_range}
-use Rattle.at_base.specs.Spans.{AreApart, item_for, item_of}
+use Rattle.at_base.specs.Range.{is_between, is_range}
+use Rattle.at_base.specs.Spans.{AreApart, item_for}
 use Rattle.at_base.proofs.Cases.{by_test}
 use Rattle.at_base.proofs.Numbers.{with_cases}
 use Rattle.at_base.proofs.Ranges.{between_when, ends_of, when_between}
 use Rattle.rtmp.specs.declared.row.Row.{Row}
 use Rattle.rtmp.specs.declared.state.State.TheVariants.{Bad}
 use Rattle.rtmp.specs.Indexing.{first_number, number_of, numbers_of, spoiled, spoiled_row}
-use Rattle.rtmp.specs.Routes.{is_direct, is_row, poisoned, poisoned_row, with_row}
+use Rattle.rtmp.specs.Routes.{is_direct, is_row, poisoned, poisoned_row}
 use Rattle.rtmp.proofs.Maps.{poisoned_range}
 
 -- ---- one row
@@ -67,50 +67,48 @@ found_over net low (a ∷ rows) x h found =
 same_self : (n : ℕ) → (n == n) ≡ true
 same_self n = grind (arith, nat_tests)
 
--- putting the row for a network, poisoned, in its place
-pub spoiled_found : (next : Addr) (net low : ℕ) (rows : List Row) (x : Row) → AreApart (λ r. r.range) low rows
-    → item_for (λ r. r.range) net rows ≡ Some x → with_row (poisoned_row next x) rows ≡ map (spoiled_row next net) rows
-spoiled_found next net low [] x h found = cc
-spoiled_found next net low (a ∷ rows) x h found =
-    by (is_between a.range.start a.range.end net) refl found (spoiled_found next net a.range.end rows x h.2)
-  where
-    by : (b : Bool) → is_between a.range.start a.range.end net ≡ b
-        → cond b (Some a) (item_for (λ r. r.range) net rows) ≡ Some x
-        → (item_for (λ r. r.range) net rows ≡ Some x → with_row (poisoned_row next x) rows ≡ map (spoiled_row next net) rows)
-        → with_row (poisoned_row next x) (a ∷ rows) ≡ cond b (poisoned_row next a) a ∷ map (spoiled_row next net) rows
-    by true t f rest =
-        let same : a ≡ x = cc in
-        let below : nat_lt a.range.start a.range.start ≡ false = le-ltb a.range.start a.range.start (omega arith) in
-        let end = (when_between a.range.start a.range.end net t).1 in
-        rw (← same, poisoned_range next a, below, same_self a.range.start, same_self a.range.end, spoiled_above next net a.range.end rows h.2 end)
-        refl
-    by false t f rest =
-        let over = found_over net a.range.end rows x h.2 f in
-        let below : nat_lt a.range.start x.range.start ≡ true = lt-ltb _ _ (omega (arith, over, h.1)) in
-        rw (poisoned_range next x, below) (ap (λ (l : List Row). a ∷ l) (rest f))
+-- a row starts above what all rows are above
+at_over : (low i : ℕ) (rows : List Row) (x : Row) → AreApart (λ r. r.range) low rows → slice_get rows i ≡ Some x → low < x.range.start
+at_over low i [] x h at = cc
+at_over low zero (a ∷ rows) x h at = let same : a ≡ x = cc in rw (← same) h.0
+at_over low (suc i) (a ∷ rows) x h at =
+    let over = at_over a.range.end i rows x h.2 at in
+    omega (arith, h.0, h.1, over)
 
--- a row that one search finds is found by any search that it passes
-found_by : (p q : Row → Bool) (rows : List Row) (x : Row) → find p rows ≡ Some x → q x ≡ true → find q rows ≡ None → ⊥
-found_by p q [] x found passes none = cc
-found_by p q (a ∷ rows) x found passes none = by (p a) (q a) refl found none (found_by p q rows x)
+-- the row for a network, poisoned in its place
+pub spoiled_at : (next : Addr) (net low i : ℕ) (rows : List Row) (x : Row) → AreApart (λ r. r.range) low rows
+    → slice_get rows i ≡ Some x → item_for (λ r. r.range) net rows ≡ Some x
+    → slice_set rows i (poisoned_row next x) ≡ map (spoiled_row next net) rows
+spoiled_at next net low i [] x h at found = cc
+spoiled_at next net low zero (a ∷ rows) x h at found = by (is_between a.range.start a.range.end net) refl found
   where
-    by : (b d : Bool) → q a ≡ d → cond b (Some a) (find p rows) ≡ Some x → cond d (Some a) (find q rows) ≡ None
-        → (find p rows ≡ Some x → q x ≡ true → find q rows ≡ None → ⊥) → ⊥
-    by b true t f n rest = cc
-    by true false t f n rest = cc
-    by false false t f n rest = rest f passes n
+    same : a ≡ x
+    same = cc
+
+    by : (b : Bool) → is_between a.range.start a.range.end net ≡ b → cond b (Some a) (item_for (λ r. r.range) net rows) ≡ Some x
+        → (poisoned_row next x ∷ rows) ≡ cond b (poisoned_row next a) a ∷ map (spoiled_row next net) rows
+    by true t f =
+        let end = (when_between a.range.start a.range.end net t).1 in
+        rw (same, spoiled_above next net a.range.end rows h.2 end) refl
+    by false t f =
+        let over : a.range.end < a.range.start = subst (λ r. a.range.end < r.range.start) (sym same) (found_over net a.range.end rows x h.2 f) in
+        absurd (omega (arith, over, h.1))
+spoiled_at next net low (suc i) (a ∷ rows) x h at found =
+    by (is_between a.range.start a.range.end net) found (spoiled_at next net a.range.end i rows x h.2 at)
+  where
+    by : (b : Bool) → cond b (Some a) (item_for (λ r. r.range) net rows) ≡ Some x
+        → (item_for (λ r. r.range) net rows ≡ Some x → slice_set rows i (poisoned_row next x) ≡ map (spoiled_row next net) rows)
+        → (a ∷ slice_set rows i (poisoned_row next x)) ≡ cond b (poisoned_row next a) a ∷ map (spoiled_row next net) rows
+    by true f rest =
+        let same : a ≡ x = cc in
+        let over : a.range.end < a.range.start = subst (λ r. a.range.end < r.range.start) (sym same) (at_over a.range.end i rows x h.2 at) in
+        absurd (omega (arith, over, h.1))
+    by false f rest = ap (λ (l : List Row). a ∷ l) (rest f)
 
 pub poisoned_number : (next : Addr) (r : Row) → number_of (poisoned_row next r) ≡ number_of r
 poisoned_number next r =
     elim (not (is_direct r) && same_address r.next next) as (λ b. number_of (cond b (record r { state = Bad }) r) ≡ number_of r)
     [ true ↦ refl | false ↦ refl ]
-
--- the row for a network is the row of its range
-pub spoiled_other : (net : ℕ) (rows : List Row) (x : Row) → item_for (λ r. r.range) net rows ≡ Some x
-    → item_of (λ r. r.range) x.range rows ≡ None → ⊥
-spoiled_other net rows x found none =
-    found_by (λ r. is_between r.range.start r.range.end net) (λ r. same_range r.range x.range) rows x found
-    (rw (same_self x.range.start, same_self x.range.end) refl) none
 
 -- ---- rows with numbers
 

@@ -6,13 +6,14 @@ ghost use Rattle.std.specs.Prelude.{vec_capacity, vec_len, OnOk, IsOkUnless};
 ghost use Rattle.at_base.specs.Spans.{AreApart};
 ghost use Rattle.rtmp.specs.Indexing as spec;
 ghost use Rattle.rtmp.specs.Indexing.{numbers_of};
+ghost use Rattle.rtmp.specs.Routes.{IsRouteMap, poisoned};
 
 use crate::row::Row;
-use crate::update::{Update, updated_row};
-use at_base::{Addr, Error, item_at, place_of, put_number};
+use crate::update::{Update, update_all, updated_row};
+use at_base::{Addr, Error, index_at, numbers_between, put_number};
 
 /// The least number that a row through this router can have; the next router's is 65,536 more.
-pub(crate) fn first_number(next: Addr) -> u64
+fn first_number(next: Addr) -> u64
     ensures value { result ≡ spec.first_number next }
     ensures small { result ≤ 1099511562240 }
 {
@@ -93,22 +94,34 @@ fn spoil_row(rows: &mut Vec<Row>, number: u64, next: Addr)
 {
     // A number is a multiple of 65,536 and the first network of a range.
     let net = (number % 65536) as u16;
-    let row = match item_at(rows.as_slice(), net).copied() {
-        Some(row) => row,
-        None => return,
-    };
-    match place_of(rows.as_slice(), row.range) {
-        Ok(place) => rows[place] = updated_row(&Update::Poison(next), &row),
-        Err(_) => {}
+    match index_at(rows.as_slice(), net) {
+        Some(place) => rows[place] = updated_row(&Update::Poison(next), &rows[place]),
+        None => {}
     }
 }
 
 /// The rows that these numbers name become bad if they go through this router.
-pub(crate) fn spoil_rows(rows: &mut Vec<Row>, numbers: &[u64], next: Addr)
+fn spoil_rows(rows: &mut Vec<Row>, numbers: &[u64], next: Addr)
     requires { AreApart (λ r. r.range) 0 rows.old.items }
     ensures { rows.new.items ≡ spec.spoiled next numbers.now rows.old.items }
 {
     for number in numbers {
         spoil_row(rows, *number, next);
+    }
+}
+
+/// The rows that go through this router become bad. Rows and their numbers are given.
+pub(crate) fn poison_rows(rows: &mut Vec<Row>, numbers: &[u64], next: Addr)
+    requires map { IsRouteMap rows.old.items }
+    requires numbered { numbers.now ≡ numbers_of rows.old.items }
+    ensures { rows.new.items ≡ poisoned next rows.old.items }
+{
+    let low = first_number(next);
+    let lost = numbers_between(numbers, low, low + 65536);
+    // To find one row by its number takes as long as to look at sixteen.
+    if lost.len() > rows.len() / 16 {
+        update_all(rows, &Update::Poison(next));
+    } else {
+        spoil_rows(rows, lost, next);
     }
 }

@@ -4,16 +4,14 @@ ghost use Rattle.std.specs.Prelude.{◌≡◌, ◌≤◌, true};
 ghost use Rattle.rtmp.specs.Routes as spec;
 ghost use Rattle.rtmp.specs.Routes.{IsRouteMap};
 
-use crate::index::{first_number, make_room, renew, replace_row, spoil_rows};
+use crate::index::{make_room, poison_rows, renew, replace_row};
 use crate::removal::{Removal, remove_rows};
 use crate::row::Row;
 use crate::rows::{after_hearing, count_beside, direct_row, heard_row, rows_are_apart};
 use crate::table::{Change, MAX_DISTANCE, RouteTable};
 use crate::update::{Update, update_all};
 use at_base::limits::MAX_ROWS;
-use at_base::{
-    Addr, Error, Range, item_at, numbers_between, overlaps_any, place_near, put, recall_valid,
-};
+use at_base::{Addr, Error, Range, item_at, overlaps_any, place_near, put, recall_valid};
 use std::alloc::Global;
 use std::marker::Model;
 
@@ -172,8 +170,6 @@ impl RouteTable for IndexedTable {
             return;
         }
         renew(self.rows.as_slice(), &mut self.by_next);
-        let low = first_number(next);
-        let numbers = numbers_between(self.by_next.as_slice(), low, low + 65536);
-        spoil_rows(&mut self.rows, numbers, next);
+        poison_rows(&mut self.rows, self.by_next.as_slice(), next);
     }
 }

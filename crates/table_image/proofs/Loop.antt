@@ -17,7 +17,7 @@ Reader A = ℕ → List ℕ → Result (A × List ℕ) Fault
 abbrev pub with_front : {A : Type 0} → List A → Result (List A × List ℕ) Fault → Result (List A × List ℕ) Fault
 with_front front reading = reading >>= λ x. Ok (front ++ x.0, x.1)
 
-regroup : {A : Type 0} (front : List A) (y : A) (reading : Result (List A × List ℕ) Fault)
+pub regroup : {A : Type 0} (front : List A) (y : A) (reading : Result (List A × List ℕ) Fault)
     → with_front front (reading >>= λ x. Ok (y ∷ x.0, x.1)) ≡ with_front (front ++ y ∷ []) reading
 regroup {A} front y (Ok x) = ap (λ (ys : List A). Ok (ys, x.1)) (simp append_assoc)
 regroup front y (Err f) = refl

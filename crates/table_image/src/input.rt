@@ -27,7 +27,7 @@ fn cut() -> Fault
 }
 
 /// The fault of the field at the front of the bytes.
-pub(crate) fn wrong(bytes: &[u8], cause: Cause) -> Fault
+pub fn wrong(bytes: &[u8], cause: Cause) -> Fault
     ensures { result ≡ record { left = length bytes.now; cause = cause } }
 {
     Fault {
@@ -94,7 +94,7 @@ pub fn count_within(bytes: &[u8], size: CountSize, limit: usize) -> Result<(u16,
 }
 
 /// A 0-based index into a list of `count`.
-pub(crate) fn index_at(bytes: &[u8], count: usize) -> Result<(u8, &[u8]), Fault>
+pub fn index_at(bytes: &[u8], count: usize) -> Result<(u8, &[u8]), Fault>
     ensures { Gives (λ x. (x.0, x.1.now)) result
         (field_at faults (number one (below count)) bytes.now) }
 {
@@ -121,7 +121,7 @@ pub(crate) fn enumerator_at(bytes: &[u8], low: u32) -> Result<(u8, &[u8]), Fault
 }
 
 /// A number of two bytes.
-pub(crate) fn u16_at(bytes: &[u8]) -> Result<(u16, &[u8]), Fault>
+pub fn u16_at(bytes: &[u8]) -> Result<(u16, &[u8]), Fault>
     ensures { Gives (λ x. (x.0, x.1.now)) result (field_at faults (number two any) bytes.now) }
 {
     let (front, rest) = split(bytes, NETWORK_SIZE)?;
@@ -129,7 +129,7 @@ pub(crate) fn u16_at(bytes: &[u8]) -> Result<(u16, &[u8]), Fault>
 }
 
 /// A number of two bytes that is not below `low`.
-pub(crate) fn rising_at(bytes: &[u8], low: u32) -> Result<(u16, &[u8]), Fault>
+pub fn rising_at(bytes: &[u8], low: u32) -> Result<(u16, &[u8]), Fault>
     ensures { Gives (λ x. (x.0, x.1.now)) result
         (field_at faults (number two (rising low)) bytes.now) }
 {
@@ -152,7 +152,7 @@ pub fn magic_at(bytes: &[u8]) -> Result<(&[u8], &[u8]), Fault>
 }
 
 /// A hardware address.
-pub(crate) fn hardware_at(bytes: &[u8]) -> Result<(Hw, &[u8]), Fault>
+pub fn hardware_at(bytes: &[u8]) -> Result<(Hw, &[u8]), Fault>
     ensures { Gives (λ x. (x.0.0, x.1.now)) result (field_at faults (run 6 any) bytes.now) }
 {
     let (front, rest) = split(bytes, HARDWARE_SIZE)?;
@@ -163,7 +163,7 @@ pub(crate) fn hardware_at(bytes: &[u8]) -> Result<(Hw, &[u8]), Fault>
 
 /// A network address.
 #[tactic(auto, unfolding(crate::specs::Spelling::address_spelling))]
-pub(crate) fn address_at(bytes: &[u8]) -> Result<(Addr, &[u8]), Fault>
+pub fn address_at(bytes: &[u8]) -> Result<(Addr, &[u8]), Fault>
     ensures { Gives (λ x. (x.0, x.1.now)) result (read faults address_spelling bytes.now) }
 {
     let (net, rest) = u16_at(bytes)?;
@@ -183,7 +183,7 @@ fn wrong_text(after: &[u8]) -> Fault
 
 /// A zone name.
 #[tactic(auto, unfolding(crate::specs::Spelling::text_spelling))]
-pub(crate) fn name_at(bytes: &[u8]) -> Result<(Name, &[u8]), Fault>
+pub fn name_at(bytes: &[u8]) -> Result<(Name, &[u8]), Fault>
     ensures { Gives (λ x. (x.0, x.1.now)) result (read faults (text_spelling is_name) bytes.now) }
 {
     let (len, after) = byte_within(bytes, 1, MAX_TEXT, Cause::Name)?;

@@ -137,7 +137,7 @@ impl<T: Eq> Eq for Listed<T> {
 impl<T: Drop> Listed<T> {
     /// The same values, stored so that they can be shared. If the allocation fails, they are stored
     /// as before.
-    pub(crate) fn into_shared(self, alloc: Global) -> Listed<T>
+    pub fn into_shared(self, alloc: Global) -> Listed<T>
         ensures { result ≡ self }
     {
         let kept = match self.kept {
@@ -151,7 +151,7 @@ impl<T: Drop> Listed<T> {
     }
 
     /// The same values again, without a copy, if they can be shared.
-    pub(crate) fn share(&self) -> Option<Listed<T>>
+    pub fn share(&self) -> Option<Listed<T>>
         ensures { IfSome result (λ other. other ≡ self.now) }
     {
         match &self.kept {
@@ -168,7 +168,7 @@ impl<T: Drop> Listed<T> {
 
 impl<T: Copy + Drop> Listed<T> {
     /// The same values again, without an allocation: one value, or values that can be shared.
-    pub(crate) fn again(&self) -> Option<Listed<T>>
+    pub fn again(&self) -> Option<Listed<T>>
         ensures { IfSome result (λ other. other ≡ self.now) }
     {
         match &self.kept {

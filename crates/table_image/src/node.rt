@@ -108,8 +108,9 @@ impl WriteItem for NodeName {
     }
 }
 
+/// A node's router: a flag, and its address if there is one.
 #[tactic(auto, unfolding(crate::specs::Spelling::own_router_spelling))]
-fn own_router_at(bytes: &[u8]) -> Result<(Option<Addr>, &[u8]), Fault>
+pub fn own_router_at(bytes: &[u8]) -> Result<(Option<Addr>, &[u8]), Fault>
     ensures { Gives (λ x. (x.0, x.1.now)) result (read faults own_router_spelling bytes.now) }
 {
     let (flag, rest) = byte_within(bytes, 0, 1, Cause::Value)?;

@@ -85,10 +85,10 @@ impl ReadItem for ZoneList {
     }
 }
 
-// The bytes after the zone list, if they begin with it.
+/// The bytes after the zone list, if they begin with it.
 #[inline(always)]
 #[tactic(auto, unfolding(crate::specs::Spelling::zone_list_spelling))]
-fn after_list<'a>(list: &ZoneList, low: u32, bytes: &'a [u8]) -> Option<&'a [u8]>
+pub fn after_list<'a>(list: &ZoneList, low: u32, bytes: &'a [u8]) -> Option<&'a [u8]>
     ensures { IfSome result
         (λ rest. read faults (zone_list_spelling low) bytes.now ≡ Ok (list.now, rest.now)) }
 {

@@ -65,10 +65,10 @@ fn new_zones_at(alloc: Global, bytes: &[u8]) -> Result<(Listed<Name>, &[u8]), St
     Ok((zones.into_shared(alloc), rest))
 }
 
-// The bytes after the name, if they begin with it.
+/// The bytes after the name, if they begin with it.
 #[inline(always)]
 #[tactic(auto, unfolding(crate::specs::Spelling::text_spelling))]
-fn after_name<'a>(name: &Name, bytes: &'a [u8]) -> Option<&'a [u8]>
+pub fn after_name<'a>(name: &Name, bytes: &'a [u8]) -> Option<&'a [u8]>
     ensures { IfSome result
         (λ rest. read faults zone_spelling bytes.now ≡ Ok (name.now, rest.now)) }
 {

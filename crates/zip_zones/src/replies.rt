@@ -89,8 +89,7 @@ fn put_replies(made: &mut Vec<Bytes>, table: &ZoneTable, net: u16) -> Result<(),
     if !table.complete(net) {
         return Ok(());
     }
-    let list = table.names_of(net)?;
-    let names = list.as_slice();
+    let names = table.names_in_place(net);
     put_groups(made, net, names.len() as u8, names)
 }
 

@@ -1,6 +1,7 @@
 //! The zone table of a router.
 
-ghost use Rattle.std.specs.Prelude.{◌≡◌, ◌⊎◌, ◌↔◌, ◌<◌, ◌≤◌, [], false, filter_map, fold, length};
+ghost use Rattle.std.specs.Prelude.{◌≡◌, ◌⊎◌, ◌↔◌, ◌<◌, ◌≤◌, ◌++◌, [], false, filter_map, fold};
+ghost use Rattle.std.specs.Prelude.{length};
 ghost use Rattle.std.specs.Prelude.{option_map};
 ghost use Rattle.std.specs.Prelude.{slice_get, true, vec_capacity, vec_len, None, Some};
 ghost use Rattle.std.specs.Prelude.{IfErr, IfNone, IfOk, IfSome, IsOk, IsOkUnless, OnErr, OnOk};
@@ -61,13 +62,31 @@ fn copy_all(alloc: Global, lists: &[KnownZones]) -> Result<Vec<KnownZones>, Erro
     Ok(copies)
 }
 
+/// How many numbers are copied at once. A piece of more than some 8,000 bytes would be copied by an
+/// instruction that counts once for each byte.
+const PIECE: usize = 512;
+
+/// Appends numbers, piece by piece. Error: `Memory`.
+fn put_pieces(copy: &mut Vec<u64>, numbers: &[u64]) -> Result<(), Error>
+    ensures ok { OnOk result (copy.new.items ≡ copy.old.items ++ numbers.now) }
+    ensures err { IsOkUnless result Error.Memory }
+{
+    if numbers.len() <= PIECE {
+        copy.extend_from_slice(numbers)?;
+        return Ok(());
+    }
+    let (piece, rest) = numbers.split_at(PIECE);
+    copy.extend_from_slice(piece)?;
+    put_pieces(copy, rest)
+}
+
 /// A copy of the index. Error: `Memory`.
 fn copy_index(alloc: Global, index: &[u64]) -> Result<Vec<u64>, Error>
     ensures ok { IfOk result (λ copy. copy.items ≡ index.now) }
     ensures err { IsOkUnless result Error.Memory }
 {
     let mut copy = Vec::with_capacity(alloc, index.len().saturating_add(SPARE))?;
-    copy.extend_from_slice(index)?;
+    put_pieces(&mut copy, index)?;
     Ok(copy)
 }
 
@@ -291,6 +310,17 @@ impl ZoneTable {
         hits(self.allocator(), self.lists.as_slice(), zone, numbers)
     }
 
+    /// The names in the list of the network's range, in place; none if it has no list.
+    pub(crate) fn names_in_place(&self, net: u16) -> &[Name]
+        ensures value { result.now ≡ names_at net self.now }
+        ensures few { length result.now ≤ max_zones }
+    {
+        match list_of(self.lists.as_slice(), net) {
+            Some(known) => known.names(),
+            None => &[],
+        }
+    }
+
     /// The names in the list of the network's range, which needn't be complete; none if it has no
     /// list. Error: `Memory`, which no names never need.
     pub fn names_of(&self, net: u16) -> Result<Vec<Name>, Error>
@@ -299,11 +329,7 @@ impl ZoneTable {
         ensures none { names_at net self.now ≡ [] → IsOk result }
         ensures refused { IsOkUnless result Error.Memory }
     {
-        let alloc = *self.lists.allocator();
-        match list_of(self.lists.as_slice(), net) {
-            Some(known) => copy_names(alloc, known.names()),
-            None => Ok(Vec::new(alloc)),
-        }
+        copy_names(self.allocator(), self.names_in_place(net))
     }
 
     /// The zones of all complete lists, by rising range, each once, ignoring case, in its first

@@ -1,19 +1,8 @@
-use Rattle.std.proofs.Common.{[], arith, length, rules, sym, ◌∙◌}
+use Rattle.std.proofs.Common.{[], arith, rules, sym, ◌∙◌}
 use Rattle.std.proofs.lemmas.List.{append-nil}
 use Rattle.live_router.specs.Ticking.{router_after}
 use Rattle.live_router.proofs.Settled.{quiet_after, quiet_silent}
-use Rattle.station.proofs.MadeLawful.{made_lawful}
 use Rattle.live_router.proofs.passing.pass.Goals as goal
-
-pub returns-clause-ok : goal.returns-clause-ok
-returns-clause-ok g c =
-    let passed = c.in_ok-made.ensures {u = tt} in
-    record {
-      added = c.in_ok-made.field-0.made.items;
-      grown = rw (← c.room.ensures.kept) c.append.ensures;
-      holds = passed.made;
-      lawful = made_lawful (length c.args.router.now.ports) c.in_ok-made.field-0.made.items passed.good passed.few;
-    }
 
 pub returns-then-is_quiet-clause-ok : goal.returns-then-is_quiet-clause-ok
 returns-then-is_quiet-clause-ok g c =

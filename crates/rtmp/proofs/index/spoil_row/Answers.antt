@@ -1,30 +1,22 @@
-use Rattle.std.proofs.Common.{◌≡◌, ◌%◌, Some, None, sym, ◌∙◌}
-use Rattle.at_base.specs.Spans.{IsAt, item_for}
-use Rattle.rtmp.specs.Routes.{poisoned_row}
-use Rattle.rtmp.proofs.Maps.{poisoned_range}
-use Rattle.rtmp.proofs.Spoiled.{spoiled_found, spoiled_none, spoiled_other}
+use Rattle.std.proofs.Common.{◌≡◌, ◌%◌, Some, None, slice_get, refl, sym, ◌∙◌}
+use Rattle.std.proofs.lemmas.Option.{slice_get_read}
+use Rattle.at_base.specs.Spans.{item_for}
+use Rattle.rtmp.proofs.Spoiled.{spoiled_at, spoiled_none}
 use Rattle.rtmp.proofs.index.spoil_row.Goals as goal
+
+pub returns-in-Some : goal.returns-in-Some
+returns-in-Some c =
+    let rows = c.args.rows.now.items in
+    let given = c.in-Some.ensures {u = tt} in
+    let read : slice_get rows c.in-Some.place ≡ Some c.index.result.now =
+    slice_get_read rows _ c.in-Some.place c.index.result.now refl (rw c.as_slice.ensures.value at given.inside) c.index.ensures in
+    let found : slice_get rows c.in-Some.place ≡ item_for (λ r. r.range) (c.args.number % 65536) rows =
+    rw c.as_slice.ensures.value at given.found in
+    rw c.updated_row.ensures
+    (spoiled_at c.args.next (c.args.number % 65536) 0 c.in-Some.place rows c.index.result.now c.requires read (sym found ∙ read))
 
 pub returns-in-None : goal.returns-in-None
 returns-in-None c =
     let none : item_for (λ r. r.range) (c.args.number % 65536) c.args.rows.now.items ≡ None =
-    rw c.as_slice.ensures.value at (sym c.item_at.ensures ∙ (sym c.copied.ensures ∙ c.in-None.is)) in
+    rw c.as_slice.ensures.value at (c.in-None.ensures {u = tt}).none in
     spoiled_none c.args.next (c.args.number % 65536) c.args.rows.now.items none
-
-pub returns-in-Ok : goal.returns-in-Ok
-returns-in-Ok c =
-    let rows = c.args.rows.now.items in
-    let found : item_for (λ r. r.range) (c.args.number % 65536) rows ≡ Some c.in-Some.row =
-    rw c.as_slice.ensures.value at (sym c.item_at.ensures ∙ (sym c.copied.ensures ∙ c.in-Some.is)) in
-    let at : IsAt (λ r. r.range) c.in-Some.row.range rows c.in-Ok.place =
-    rw (← c.as_slice-2.ensures.value) (c.in-Ok.ensures {u = tt}).found in
-    rw c.updated_row.ensures
-    (sym (at.put (poisoned_row c.args.next c.in-Some.row) (poisoned_range c.args.next c.in-Some.row))
-    ∙ spoiled_found c.args.next (c.args.number % 65536) 0 rows c.in-Some.row c.requires found)
-
-pub returns-in-Err : goal.returns-in-Err
-returns-in-Err c =
-    let rows = c.args.rows.now.items in
-    let found : item_for (λ r. r.range) (c.args.number % 65536) rows ≡ Some c.in-Some.row =
-    rw c.as_slice.ensures.value at (sym c.item_at.ensures ∙ (sym c.copied.ensures ∙ c.in-Some.is)) in
-    absurd (spoiled_other (c.args.number % 65536) rows c.in-Some.row found (rw c.as_slice-2.ensures.value at (c.in-Err.ensures {u = tt}).missing).none)
