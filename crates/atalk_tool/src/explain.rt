@@ -4,9 +4,10 @@
 use at_base::{Error, Part};
 use command_line::{Outcome, Source};
 use file_advice::explain_entry;
-use image_advice::{explain_bytes, explain_kind, explain_no};
+use image_advice::{explain_flaw, explain_kind, explain_no, explain_no_of_bytes};
 use std::io;
 use std::io::ErrorKind;
+use table_image::Image;
 
 /// Facts about a run of the program besides its outcome.
 #[derive(Drop)]
@@ -15,8 +16,12 @@ pub struct Evidence<'a> {
     pub source: Option<Source<'a>>,
     /// Why a read failed.
     pub fault: Option<ErrorKind>,
-    /// The bytes of the image, or the text of an invalid internet file.
+    /// The bytes of a play's image, or the text of an invalid internet file.
     pub bytes: Option<Vec<u8>>,
+    /// The image that was read.
+    pub image: Option<Image>,
+    /// The byte at the first flaw of an image.
+    pub flawed: Option<u8>,
     /// The file for the image, if it couldn't be written.
     pub unwritten: Option<&'a str>,
 }
@@ -40,10 +45,7 @@ fn explain_outcome(
 ) -> io::Result<()> {
     match outcome {
         Outcome::Answered(Ok(true)) => Ok(()),
-        Outcome::Answered(Ok(false)) => match &evidence.bytes {
-            Some(bytes) => explain_no(rt, bytes.as_slice()),
-            None => Ok(()),
-        },
+        Outcome::Answered(Ok(false)) => explain_answer(rt, evidence),
         Outcome::Answered(Err(error)) => explain_error(rt, error, evidence),
         Outcome::NotOpened(kind) => {
             explain_source(rt, evidence)?;
@@ -56,6 +58,17 @@ fn explain_outcome(
         Outcome::NoArguments(ErrorKind::OutOfMemory) => eprintln!(rt; "atalk: out of memory"),
         // Clap's text was already printed, or that an argument isn't text.
         Outcome::NoArguments(_) | Outcome::NoJob(_, _) => Ok(()),
+    }
+}
+
+/// Explains a no, if the image is there.
+fn explain_answer(rt: &(impl Eprint + AllocGlobal), evidence: &Evidence<'_>) -> io::Result<()> {
+    if let Some(image) = &evidence.image {
+        return explain_no(rt, image);
+    }
+    match &evidence.bytes {
+        Some(bytes) => explain_no_of_bytes(rt, bytes.as_slice()),
+        None => Ok(()),
     }
 }
 
@@ -91,7 +104,7 @@ fn explain_error(
     match error {
         Error::BadImage(place, cause) => {
             explain_source(rt, evidence)?;
-            explain_bytes(rt, *place, *cause, &evidence.bytes)
+            explain_flaw(rt, *place, *cause, evidence.flawed)
         }
         Error::ReadFault => {
             explain_source(rt, evidence)?;

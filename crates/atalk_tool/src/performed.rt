@@ -24,6 +24,8 @@ impl<'a> Performed<'a> {
                 source: None,
                 fault: None,
                 bytes: None,
+                image: None,
+                flawed: None,
                 unwritten: None,
             },
         }
@@ -40,6 +42,8 @@ impl<'a> Performed<'a> {
                 source: Some(source),
                 fault: None,
                 bytes: None,
+                image: None,
+                flawed: None,
                 unwritten: None,
             },
         }
@@ -56,6 +60,8 @@ impl<'a> Performed<'a> {
                 source: Some(Source::File(path)),
                 fault: None,
                 bytes: None,
+                image: None,
+                flawed: None,
                 unwritten: None,
             },
         }

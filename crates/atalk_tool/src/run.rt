@@ -47,13 +47,20 @@ fn audit_reader<'a, R: Print + AllocGlobal, S: Read + Drop>(
     let mut input = commands::Input::new(reader);
     let mut output = Output::new(rt.alloc(), writer(rt));
     let answer = audit_file(rt.alloc(), &mut input, &mut output);
-    let commands::Input { fault, kept, .. } = input;
+    let commands::Input {
+        fault,
+        image,
+        flawed,
+        ..
+    } = input;
     Performed {
         outcome: Outcome::Answered(answer),
         evidence: Evidence {
             source: Some(source),
             fault,
-            bytes: kept,
+            bytes: None,
+            image,
+            flawed,
             unwritten: None,
         },
     }
@@ -89,15 +96,15 @@ fn evidence_of<'a, I: Drop, S: Drop>(
 ) -> Evidence<'a>
     ensures bad_line { (n : ℕ) → answer.now ≡ Err (Error.BadScript n)
         → result.source ≡ Some sources.entry.script }
-    // An image that was read to its end is kept, so the read that failed is that of the script.
+    // An image that was read is kept, so the read that failed is that of the script.
     ensures read_fault { answer.now ≡ Err Error.ReadFault → result.source
-        ≡ Some (if is_some image.kept then sources.entry.script else sources.entry.image) }
+        ≡ Some (if is_some image.image then sources.entry.script else sources.entry.image) }
     ensures reason { answer.now ≡ Err Error.ReadFault → result.fault
-        ≡ (if is_some image.kept then script.fault else image.fault) }
+        ≡ (if is_some image.image then script.fault else image.fault) }
 {
     let by_script = match answer {
         Err(Error::BadScript(_)) => true,
-        Err(Error::ReadFault) => image.kept.is_some(),
+        Err(Error::ReadFault) => image.image.is_some(),
         _ => false,
     };
     if by_script {
@@ -105,13 +112,17 @@ fn evidence_of<'a, I: Drop, S: Drop>(
             source: Some(sources.script),
             fault: script.fault,
             bytes: None,
+            image: None,
+            flawed: None,
             unwritten: None,
         }
     } else {
         Evidence {
             source: Some(sources.image),
             fault: image.fault,
-            bytes: image.kept,
+            bytes: None,
+            image: image.image,
+            flawed: image.flawed,
             unwritten: None,
         }
     }

@@ -56,6 +56,8 @@ fn play_reader<'a, R: Print + Eprint + AllocGlobal, S: Read + Drop, I: Write + D
             source: Some(job.source),
             fault,
             bytes: kept,
+            image: None,
+            flawed: None,
             unwritten: unwritten(&image, job.image),
         },
     }

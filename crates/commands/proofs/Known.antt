@@ -1,10 +1,11 @@
 -- Facts about input that was read to its end.
-use Rattle.std.proofs.Common.{◌≡◌, ◌⊎◌, ℕ, List, Option, Some, None, Result, Ok, Err, IfErr, IfOk, IfSome, ap, inl, inr, subst, sym, ◌∙◌}
+use Rattle.std.proofs.Common.{◌≡◌, ◌≢◌, ◌⊎◌, ℕ, List, Option, Some, None, Result, Ok, Err, IfErr, IfOk, IfSome, OnOk, ap, inl, inr, subst, sym, ◌∙◌}
 use Rattle.std.specs.Prelude.{IsErrAnd}
 use Rattle.at_base.specs.declared.error.Error.{Error}
 use Rattle.at_base.specs.declared.error.Error.TheVariants.{BadScript, Memory, ReadFault, WriteFault}
 use Rattle.script.specs.Scripts.{IsBadAt, IsScript}
 use Rattle.script.specs.declared.step.Step.{Step}
+use Rattle.commands.specs.Streams.{First}
 
 -- A property of the bytes that were read is a property of the reader's bytes.
 pub of_read : (P : List ℕ → Type 0) (told : Option (List ℕ)) (bytes : List ℕ) → IfSome told (λ bs. bytes ≡ bs) → P bytes
@@ -48,6 +49,11 @@ pub any_some : {X : Type 0} (Q : X → Type 0) (told : Option X) → ((x : X) �
 any_some Q None f = tt
 any_some Q (Some x) f = f x
 
+-- A fact that holds whatever the result is.
+pub on_ok : {A P : Type 0} (r : Result A Error) → P → OnOk r P
+on_ok (Ok a) p = p
+on_ok (Err e) p = tt
+
 -- What a run that prints may be refused for.
 pub printed_only : {A : Type 0} (X : Type 0) (r : Result A Error) → IfErr r (λ e. (e ≡ Memory) ⊎ ((e ≡ WriteFault) × X))
     → IfErr r (λ e. (e ≡ Memory) ⊎ (e ≡ ReadFault) ⊎ (e ≡ WriteFault))
@@ -63,3 +69,13 @@ read_only e (inr read) = inr (inl read)
 pub unread_line : (n : ℕ) (e : Error) → (e ≡ Memory) ⊎ (e ≡ ReadFault) → (e ≡ BadScript n) ⊎ (e ≡ ReadFault) ⊎ (e ≡ Memory)
 unread_line n e (inl memory) = inr (inr memory)
 unread_line n e (inr read) = inr (inl read)
+
+-- Where an image is refused, the script is untouched.
+pub image_refused : {A : Type 0} (image : Option (List ℕ)) (Untouched Kept : Type 0) (e : Error) → Untouched → ((n : ℕ) → e ≢ BadScript n)
+    → First {A = A} image Untouched Kept (Err e)
+image_refused image Untouched Kept e same other = record {
+  kept = tt;
+  kept_for = λ n bad. absurd (other n cc);
+  touched = inl same;
+  image_first = any_some _ image (λ bytes f flawed. same);
+}

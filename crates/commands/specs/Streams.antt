@@ -77,9 +77,10 @@ pub record Run {A : Type 0} (image script : Option (List ℕ)) (result : Result 
 
 -- ---- The order of two inputs
 
--- The image that was read to its end is kept whatever the result is, and the script is untouched unless it is kept, and
--- where it has a flaw.
+-- The image is kept where a trace was written, and where the script has a bad line. The script is untouched unless the
+-- image is kept, and where it has a flaw.
 pub record First {A : Type 0} (image : Option (List ℕ)) (Untouched Kept : Type 0) (result : Result A Error) : Type 0 where
-  pub kept : result ≢ Err ReadFault → result ≢ Err Memory → Kept
+  pub kept : OnOk result Kept
+  pub kept_for : (n : ℕ) → result ≡ Err (BadScript n) → Kept
   pub touched : Untouched ⊎ Kept
   pub image_first : IfSome image (λ bytes. (f : Flaw) → IsFirstFlaw bytes f → Untouched)

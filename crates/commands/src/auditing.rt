@@ -1,7 +1,7 @@
 //! Audits the image in an input, and writes the line of the verdict.
 
 ghost use Rattle.std.specs.Prelude.{◌≡◌, ◌≢◌, ◌∷◌, ◌++◌};
-ghost use Rattle.std.specs.Prelude.{[], IfOk, IfErr, IfSome};
+ghost use Rattle.std.specs.Prelude.{[], IfOk, IfErr, IfSome, OnOk};
 ghost use Rattle.std.specs.Prelude.{IsSomeAnd};
 ghost use Rattle.std.specs.Io.KnownBytes.{Appends};
 ghost use Rattle.at_base.specs.Spelling.{Spells};
@@ -11,16 +11,17 @@ ghost use Rattle.audit.specs.Verdicts.{Judges, is_yes, verdict_line};
 ghost use Rattle.audit.specs.declared.verdict.Verdict.{Verdict};
 ghost use Rattle.commands.specs.Streams.{Judged, Uses, Wrote};
 
+use crate::image_input::read_from;
 use crate::input::Input;
 use at_base::Error;
-use audit::audit_bytes;
+use audit::audit;
 use std::alloc::Global;
 use std::io::{Read, Write};
 use text::Output;
 
-/// Reads the whole input, and writes the line of the verdict on its image. Returns whether the
-/// image passes the audit. The bytes are kept in the input. Errors: `ReadFault`, `BadImage`,
-/// `Memory`, `WriteFault`.
+/// Reads the whole input, piece by piece, and writes the line of the verdict on its image. Returns
+/// whether the image passes the audit. The image is kept in the input. Errors: `ReadFault`,
+/// `BadImage`, `Memory`, `WriteFault`.
 pub fn audit_file<R: Read, W: Write>(
     alloc: Global,
     input: &mut Input<R>,
@@ -39,15 +40,13 @@ pub fn audit_file<R: Read, W: Write>(
     ensures wrote { Wrote output.old.faults output.new.faults result }
     // After an error other than `WriteFault`, nothing was written.
     ensures nothing_written { IfErr result (λ e. e ≢ Error.WriteFault → output.new ≡ output.old) }
-    // Input that was read to its end is kept, whatever the result is.
-    ensures kept { result ≢ Err Error.ReadFault → result ≢ Err Error.Memory
-        → IsSomeAnd input.new.kept (λ v.
-        IfSome (R.remaining input.old.reader) (λ bytes. v.items ≡ bytes)) }
+    // The image that was read is kept.
+    ensures kept { OnOk result (IsSomeAnd input.new.image (λ i.
+        IfSome (R.remaining input.old.reader) (λ bytes. Spells image_spelling bytes i))) }
 {
-    let bytes = input.read_all(alloc)?;
-    let answer = audit_bytes(alloc, bytes.as_slice());
-    input.kept = Some(bytes);
-    let verdict = answer?;
+    let image = read_from(alloc, input)?;
+    let verdict = audit(&image);
+    input.image = Some(image);
     let line = verdict.line(alloc)?;
     output.write_line(line.as_bytes())?;
     Ok(verdict.is_yes())

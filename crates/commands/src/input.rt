@@ -9,6 +9,7 @@ ghost use Rattle.commands.specs.declared.input.TheConstants.{READS};
 use at_base::Error;
 use std::alloc::{AllocError, Global};
 use std::io::{ErrorKind, Read};
+use table_image::Image;
 
 /// The greatest number of reads of one input. An input of short reads that never ends is given up
 /// after them.
@@ -27,9 +28,12 @@ pub struct Input<R> {
     pub faults: u32,
     /// The reason of the last read that failed.
     pub fault: Option<ErrorKind>,
-    /// The bytes that explain the result: the input that was read to its end, or the image of a
-    /// play.
+    /// The bytes that explain the result: the text of a play, or its image.
     pub kept: Option<Vec<u8>>,
+    /// The image that explains the result: the one that was read.
+    pub image: Option<Image>,
+    /// The byte at the place where an image that was read has its first flaw.
+    pub flawed: Option<u8>,
     ghost counted: { reads ≤ READS },
 }
 
@@ -41,6 +45,7 @@ impl<R: Read> Input<R> {
         ensures sound { result.faults ≡ 0 }
         ensures reason { result.fault ≡ None }
         ensures empty { result.kept ≡ None }
+        ensures no_image { result.image ≡ None }
     {
         Input {
             reader,
@@ -48,6 +53,8 @@ impl<R: Read> Input<R> {
             faults: 0,
             fault: None,
             kept: None,
+            image: None,
+            flawed: None,
         }
     }
 
@@ -86,7 +93,7 @@ impl<R: Read> Input<R> {
     }
 
     /// Reads once, and again if a read was interrupted.
-    fn read(&mut self, buffer: &mut [u8]) -> Result<usize, Error>
+    pub(crate) fn read(&mut self, buffer: &mut [u8]) -> Result<usize, Error>
         ensures bound { ReadsAtMost result buffer.new }
         ensures ok { IfOk result (λ n. Consumes
             (R.remaining self.old.reader) (R.remaining self.new.reader) (take n buffer.new)) }

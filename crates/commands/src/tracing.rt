@@ -12,8 +12,9 @@ ghost use Rattle.table_image.specs.Spelling.{image_spelling};
 ghost use Rattle.commands.specs.Streams.{First, Reads, Run, Wrote};
 ghost use Rattle.commands.specs.declared.input.TheConstants.{READS};
 
+use crate::image_input::read_image;
 use crate::input::Input;
-use crate::sources::{read_image, read_steps};
+use crate::sources::read_steps;
 use at_base::Error;
 use frozen_trace::trace_script;
 use rtmp::Routes;
@@ -23,7 +24,7 @@ use text::Output;
 
 /// Reads the whole image and then the whole script, runs the script over the frozen tables, and
 /// writes its trace; if the image fails the audit, writes only the line of the verdict. Returns
-/// whether the image passes the audit. The image's bytes are kept in its input. Errors:
+/// whether the image passes the audit. The image is kept in its input. Errors:
 /// `ReadFault`, `BadImage`, `BadScript`, `Memory`, `WriteFault`.
 pub fn run_frozen<I: Read, S: Read, W: Write>(
     alloc: Global,
@@ -53,8 +54,8 @@ pub fn run_frozen<I: Read, S: Read, W: Write>(
     ensures nothing_written { IfErr result (λ e. e ≢ Error.WriteFault → e ≢ Error.Memory
         → output.new ≡ output.old) }
     ensures first { First (I.remaining image.old.reader) (script.new ≡ script.old)
-        (IsSomeAnd image.new.kept (λ v.
-        IfSome (I.remaining image.old.reader) (λ bytes. v.items ≡ bytes))) result }
+        (IsSomeAnd image.new.image (λ i.
+        IfSome (I.remaining image.old.reader) (λ bytes. Spells image_spelling bytes i))) result }
 {
     let image = read_image(alloc, image)?;
     match read_steps(alloc, script) {

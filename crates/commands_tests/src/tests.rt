@@ -9,9 +9,9 @@ mod progress;
 mod reading;
 mod tracing;
 
-use at_base::Error;
-use commands::{Input, READS, append, audit_file};
-use fakes::{Frail, Holding, Pieces, Places, Restless};
+use at_base::{Cause, Error};
+use commands::{Input, READS, append, audit_file, read_from};
+use fakes::{Endless, Frail, Holding, Pieces, Places, Restless};
 use reading::{nearly_given_up, read_all};
 use std::alloc::Global;
 use std::io::{ErrorKind, Read};
@@ -254,40 +254,101 @@ fn an_earlier_failure_refuses_nothing(rt: HostRuntime) {
     assert_eq!(rt; answer, Ok(true));
 }
 
-/// Whether an input keeps its bytes when it is audited, unless an allocation fails.
-fn keeps(alloc: Global, bytes: &[u8]) -> Option<bool> {
+/// Whether an input keeps its image when it is audited, and the byte at its flaw, unless an
+/// allocation fails.
+fn keeps(alloc: Global, bytes: &[u8]) -> Option<(bool, Option<u8>)> {
     let mut room = [0u8; 80];
     let mut input = Input::new(Pieces::new(bytes, 3));
     let mut output = Output::new(alloc, room.as_mut_slice());
     let answer = audit_file(alloc, &mut input, &mut output);
-    let kept = matches!(&input.kept, Some(kept) if kept.as_slice() == bytes);
     if answer == Err(Error::Memory) {
         None
     } else {
-        Some(kept)
+        Some((input.image.is_some(), input.flawed))
     }
 }
 
 #[test]
-fn an_input_keeps_its_bytes(rt: HostRuntime) {
-    for bytes in [EMPTY, BACKWARD, b"ATIN".as_slice()] {
+fn an_input_keeps_its_image_or_the_byte_at_its_flaw(rt: HostRuntime) {
+    let cases = [
+        (EMPTY, (true, None)),
+        (BACKWARD, (true, None)),
+        (b"ATIN".as_slice(), (false, Some(0x41))),
+        (b"ATIM\x02".as_slice(), (false, Some(2))),
+        (b"ATIM".as_slice(), (false, None)),
+    ];
+    for (bytes, wanted) in cases {
         let kept = match keeps(rt.alloc(), bytes) {
             None => keeps(rt.alloc(), bytes),
             kept => kept,
         };
-        assert_eq!(rt; kept, Some(true));
+        assert_eq!(rt; kept, Some(wanted));
     }
+}
+
+/// The image `EMPTY`, or the refusal, of a reader that fails at this read.
+fn read_failing(alloc: Global, bytes: &[u8], piece: usize, at: u32) -> Result<usize, Error> {
+    let mut pieces = Pieces::new(bytes, piece);
+    pieces.fails_at = Some(at);
+    let image = read_from(alloc, &mut Input::new(pieces))?;
+    Ok(image.cables().len())
+}
+
+#[test]
+fn a_fault_in_bytes_that_were_read_comes_before_a_failure(rt: HostRuntime) {
+    let cases = [
+        (
+            b"ATIX".as_slice(),
+            4,
+            2,
+            Err(Error::BadImage(0, Cause::Magic)),
+        ),
+        (b"ATIX".as_slice(), 3, 2, Err(Error::ReadFault)),
+        (EMPTY, 3, 2, Err(Error::ReadFault)),
+        (EMPTY, 3, 9, Ok(0)),
+    ];
+    for (bytes, piece, at, wanted) in cases {
+        let answer = match read_failing(rt.alloc(), bytes, piece, at) {
+            Err(Error::Memory) => read_failing(rt.alloc(), bytes, piece, at),
+            answer => answer,
+        };
+        assert_eq!(rt; answer, wanted);
+    }
+}
+
+/// The refusal of an image without end, and the number of reads.
+fn read_endless(alloc: Global) -> (Option<Error>, u32) {
+    let first = b"ATIM\x01\x01".as_slice();
+    let mut input = Input::new(Endless { first, reads: 0 });
+    let answer = read_from(alloc, &mut input);
+    (answer.err(), input.reader.reads)
+}
+
+#[test]
+fn an_image_without_end_is_refused_at_its_first_fault(rt: HostRuntime) {
+    let found = match read_endless(rt.alloc()) {
+        (Some(Error::Memory), _) => read_endless(rt.alloc()),
+        found => found,
+    };
+    assert_eq!(rt; found, (Some(Error::BadImage(10, Cause::Count)), 1));
 }
 
 #[test]
 fn nothing_is_written_of_an_input_whose_third_read_fails(rt: HostRuntime) {
+    // A fault in the pieces before is told first.
     let bytes = [7u8; 276];
-    let mut pieces = Pieces::new(bytes.as_slice(), 100);
-    pieces.fails_at = Some(3);
-    let mut room = [0u8; 80];
-    let answer = audit(rt.alloc(), pieces, room.as_mut_slice());
-    assert_eq!(rt; answer, Err(Error::ReadFault));
-    assert!(rt; holds(room.as_slice(), b""));
+    let cases = [
+        (bytes.as_slice(), Err(Error::BadImage(0, Cause::Magic))),
+        (EMPTY, Err(Error::ReadFault)),
+    ];
+    for (bytes, wanted) in cases {
+        let mut pieces = Pieces::new(bytes, 3);
+        pieces.fails_at = Some(3);
+        let mut room = [0u8; 80];
+        let answer = audit(rt.alloc(), pieces, room.as_mut_slice());
+        assert_eq!(rt; answer, wanted);
+        assert!(rt; holds(room.as_slice(), b""));
+    }
 }
 
 #[test]

@@ -34,16 +34,14 @@ fn explain_cause(cause: Cause) -> &'static str {
 }
 
 /// Prints the place and the cause of an image's first fault, with the byte at that place.
-pub fn explain_bytes(
+pub fn explain_flaw(
     rt: &impl Eprint,
     place: u32,
     cause: Cause,
-    bytes: &Option<Vec<u8>>,
+    byte: Option<u8>,
 ) -> io::Result<()> {
     eprint!(rt; "is no image: at byte {place}")?;
-    if let Some(bytes) = bytes
-        && let Some(byte) = bytes.get(place as usize)
-    {
+    if let Some(byte) = byte {
         eprint!(rt; " (0x{byte:02X})")?;
     }
     eprintln!(rt; ", counted from 0, {}", explain_cause(cause))?;

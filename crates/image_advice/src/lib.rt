@@ -10,5 +10,5 @@ mod no;
 mod place;
 mod rule;
 
-pub use fault::{explain_bytes, explain_kind};
-pub use no::explain_no;
+pub use fault::{explain_flaw, explain_kind};
+pub use no::{explain_no, explain_no_of_bytes};

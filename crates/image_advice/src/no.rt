@@ -4,21 +4,26 @@ use crate::place::explain_place;
 use crate::rule::{meaning, what_to_change};
 use audit::{Verdict, audit};
 use std::io;
-use table_image::read;
+use table_image::{Image, read};
 
-/// Audits the bytes of an image again, and explains the place that breaks a rule. Writes nothing if
-/// the bytes are no image, if the image passes, or if there isn't enough memory to read it.
-pub fn explain_no(rt: &(impl Eprint + AllocGlobal), bytes: &[u8]) -> io::Result<()> {
-    let image = match read(rt.alloc(), bytes) {
-        Ok(image) => image,
-        Err(_) => return Ok(()),
-    };
-    match audit(&image) {
+/// Audits an image again, and explains the place that breaks a rule. Writes nothing if the image
+/// passes.
+pub fn explain_no(rt: &impl Eprint, image: &Image) -> io::Result<()> {
+    match audit(image) {
         Verdict::Yes(_) => Ok(()),
         Verdict::No(fault) => {
             eprintln!(rt; "C{}: {}", fault.rule, meaning(fault.rule))?;
-            explain_place(rt, &image, fault.rule, fault.place)?;
+            explain_place(rt, image, fault.rule, fault.place)?;
             eprintln!(rt; "What to change: {}", what_to_change(fault.rule))
         }
+    }
+}
+
+/// The same of the image that bytes spell. Writes nothing if they are no image, or if there isn't
+/// enough memory to read it.
+pub fn explain_no_of_bytes(rt: &(impl Eprint + AllocGlobal), bytes: &[u8]) -> io::Result<()> {
+    match read(rt.alloc(), bytes) {
+        Ok(image) => explain_no(rt, &image),
+        Err(_) => Ok(()),
     }
 }

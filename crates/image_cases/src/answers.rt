@@ -2,6 +2,7 @@
 
 use crate::edits::edited;
 use crate::parts::{put_parts, put_routes, put_zone_table};
+use crate::pieces::another;
 use crate::{making, reading};
 use at_base::limits::{
     MAX_CABLES, MAX_LISTS, MAX_NAMES, MAX_NODES, MAX_PORTS, MAX_ROUTERS, MAX_ROWS, MAX_ZONES,
@@ -88,9 +89,13 @@ pub(crate) fn image(
     }
 }
 
-/// Appends whether writing the image in the bytes gives the same bytes.
+/// Appends whether writing the image in the bytes gives the same bytes. They are read in two pieces
+/// too, cut at each place, and byte by byte.
 fn is_kept(alloc: Global, bytes: &Vec<u8>, words: Words<'_>, text: &mut String) -> Answer {
     let bytes = edited(alloc, bytes, words)?;
+    if let Some(cut) = another(alloc, bytes.as_slice())? {
+        writeln!(text, "another answer if they are cut at {cut}")?;
+    }
     let image = table_image::read(alloc, bytes.as_slice())?;
     let written = write(alloc, &image)?;
     let same = yes_or_no(written.as_slice() == bytes.as_slice());

@@ -8,6 +8,7 @@ mod edits;
 mod equal;
 mod making;
 mod parts;
+mod pieces;
 mod reading;
 mod verdicts;
 

@@ -66,6 +66,28 @@ impl Read for Places {
     }
 }
 
+/// A reader that gives these bytes and then a name of three bytes, again and again, without end.
+#[derive(Clone, Copy)]
+pub struct Endless<'a> {
+    pub first: &'a [u8],
+    pub reads: u32,
+}
+
+impl Read for Endless<'_> {
+    fn read(&mut self, buffer: &mut [u8]) -> io::Result<usize> {
+        self.reads = self.reads.saturating_add(1);
+        let names = b"Red".as_slice();
+        for i in 0..buffer.len() {
+            buffer[i] = match self.first.get(i) {
+                Some(byte) => *byte,
+                None => names[(i.wrapping_sub(self.first.len())) % 3],
+            };
+        }
+        self.first = b"".as_slice();
+        Ok(buffer.len())
+    }
+}
+
 /// A reader that is interrupted at each read.
 #[derive(Drop)]
 pub struct Restless;

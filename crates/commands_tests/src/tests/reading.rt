@@ -47,5 +47,7 @@ pub fn nearly_given_up<R>(reader: R, left: u32) -> Input<R>
         faults: 0,
         fault: None,
         kept: None,
+        image: None,
+        flawed: None,
     }
 }

@@ -1,6 +1,6 @@
-use Rattle.std.proofs.Common.{inr}
+use Rattle.std.proofs.Common.{inr, refl}
 use Rattle.std.proofs.lemmas.Result.{err_from_is_err_and}
-use Rattle.commands.proofs.Known.{any_some, map_some, printed_only, read_only, unread_line}
+use Rattle.commands.proofs.Known.{any_some, image_refused, map_some, on_ok, printed_only, read_only, unread_line}
 use Rattle.commands.proofs.tracing.run_frozen.Goals as goal
 
 pub returns-in_err-image-clause-refused : goal.returns-in_err-image-clause-refused
@@ -42,18 +42,25 @@ returns-in-Err-clause-refused g c = record {
       read_only c.in-Err.error (only steps whole)));
 }
 
+pub returns-in_err-image-clause-first : goal.returns-in_err-image-clause-first
+returns-in_err-image-clause-first g c =
+    let stop = err_from_is_err_and c.from_residual.result c.from_residual.ensures.1 in
+    rw (stop.1, stop.2) (image_refused (g.I.Read.remaining c.args.image.now.reader) _ _ _ refl c.in_err-image.ensures.no_script)
+
 pub returns-in-Ok-clause-first : goal.returns-in-Ok-clause-first
 returns-in-Ok-clause-first g c = record {
-  kept = λ read memory. c.in_ok-image.ensures.kept_image;
-  touched = inr c.in_ok-image.ensures.kept_image;
+  kept = on_ok c.trace_script.result c.in_ok-image.ensures.kept;
+  kept_for = λ n bad. c.in_ok-image.ensures.kept;
+  touched = inr c.in_ok-image.ensures.kept;
   image_first =
       map_some _ _ (g.I.Read.remaining c.args.image.now.reader) c.in_ok-image.ensures.flaw (λ bytes none f flawed. absurd (none f flawed));
 }
 
 pub returns-in-Err-clause-first : goal.returns-in-Err-clause-first
 returns-in-Err-clause-first g c = record {
-  kept = λ read memory. c.in_ok-image.ensures.kept_image;
-  touched = inr c.in_ok-image.ensures.kept_image;
+  kept = tt;
+  kept_for = λ n bad. c.in_ok-image.ensures.kept;
+  touched = inr c.in_ok-image.ensures.kept;
   image_first =
       map_some _ _ (g.I.Read.remaining c.args.image.now.reader) c.in_ok-image.ensures.flaw (λ bytes none f flawed. absurd (none f flawed));
 }

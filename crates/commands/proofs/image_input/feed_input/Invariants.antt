@@ -1,0 +1,14 @@
+use Rattle.std.proofs.Common.{◌≡◌, ◌≤◌, None, List, ℕ}
+use Rattle.std.specs.Io.KnownBytes.{Consumes}
+use Rattle.image_feed.specs.Feeds.{HasRead}
+use Rattle.commands.proofs.image_input.feed_input.Given as goal
+
+abbrev pub invariant-loop-turn : goal.invariant-loop-turn
+invariant-loop-turn g l = record {
+  turns : l._turn ≤ l.input.reads;
+  sound : l.input.faults ≡ l.initial.input.faults;
+  reason : l.input.fault ≡ l.initial.input.fault;
+  counted : l.initial.input.reads ≤ l.input.reads;
+  none : l.feed.refused ≡ None;
+  fed : (all : List ℕ) × HasRead l.feed all × Consumes (g.R.Read.remaining l.initial.input.reader) (g.R.Read.remaining l.input.reader) all;
+}

@@ -1,0 +1,105 @@
+//! Images that are read piece by piece.
+
+ghost use Rattle.std.specs.Prelude.{◌≡◌, ◌≢◌, ◌⊎◌, ℕ, None};
+ghost use Rattle.std.specs.Prelude.{IfErr, IfOk, IfSome, IsErrAnd, IsSomeAnd, OnOk};
+ghost use Rattle.at_base.specs.Spelling.{Spells};
+ghost use Rattle.table_image.specs.Internet.{Internet};
+ghost use Rattle.table_image.specs.Reading.{IsFirstFlaw, refusal};
+ghost use Rattle.table_image.specs.Spelling.{image_spelling};
+ghost use Rattle.table_image.specs.declared.flaw.Flaw.{Flaw};
+ghost use Rattle.image_feed.specs.Feeds.{HasRead, IsFlawed};
+ghost use Rattle.commands.specs.Streams.{Uses};
+
+use crate::input::{Input, READS};
+use at_base::Error;
+use image_feed::{Feed, MAX_PIECE};
+use std::alloc::Global;
+use std::io::Read;
+use table_image::Image;
+
+/// Feeds the input to its end. Errors: `ReadFault`, `BadImage`, `Memory`.
+fn feed_input<R: Read>(alloc: Global, input: &mut Input<R>) -> Result<Feed, Error>
+    ensures fed { IfOk result (λ feed. (feed.refused ≡ None)
+        × IfSome (R.remaining input.old.reader) (HasRead feed)) }
+    ensures flaw { IfErr result (λ e. IfSome (R.remaining input.old.reader) (λ bytes.
+        (e ≡ Error.ReadFault) ⊎ (e ≡ Error.Memory) ⊎ IsFlawed e bytes)) }
+    ensures refused { IfErr result (λ e. e ≢ Error.WriteFault) }
+    ensures no_script { IfErr result (λ e. (n : ℕ) → e ≢ Error.BadScript n) }
+    ensures uses { Uses (R.remaining input.new.reader) input.old.faults input.new.faults
+        input.new.reads input.new.fault result }
+{
+    let mut feed = Feed::new(alloc)?;
+    let mut buffer = [0; MAX_PIECE];
+    for _turn in input.reads..READS {
+        let count = match input.read(buffer.as_mut_slice()) {
+            Ok(count) => count,
+            Err(error) => return Err(error),
+        };
+        if count == 0 {
+            return Ok(feed);
+        }
+        match feed.feed(&buffer[..count]) {
+            Ok(()) => {}
+            Err(error) => {
+                input.flawed = feed.flawed_byte();
+                return Err(error);
+            }
+        }
+    }
+    Err(Error::ReadFault)
+}
+
+/// Reads the input to its end, piece by piece, and returns its image. An input that spells no image
+/// is read up to its first flaw. Errors: `ReadFault`, `BadImage`, `Memory`.
+pub fn read_from<R: Read>(alloc: Global, input: &mut Input<R>) -> Result<Image, Error>
+    ensures found { IfOk result (λ image. IfSome (R.remaining input.old.reader)
+        (λ bytes. Spells image_spelling bytes image)) }
+    // Bytes that spell no image have the error of their first flaw, or `ReadFault` or `Memory`.
+    ensures flaw { IfSome (R.remaining input.old.reader) (λ bytes.
+        (f : Flaw) → IsFirstFlaw bytes f → IsErrAnd result (λ e.
+        (e ≡ refusal f) ⊎ (e ≡ Error.ReadFault) ⊎ (e ≡ Error.Memory))) }
+    ensures only { IfSome (R.remaining input.old.reader) (λ bytes.
+        (i : Internet) → Spells image_spelling bytes i → IfErr result (λ e.
+        (e ≡ Error.Memory) ⊎ (e ≡ Error.ReadFault))) }
+    ensures refused { IfErr result (λ e. e ≢ Error.WriteFault) }
+    ensures uses { Uses (R.remaining input.new.reader) input.old.faults input.new.faults
+        input.new.reads input.new.fault result }
+{
+    match feed_input(alloc, input) {
+        Ok(feed) => feed.finish(),
+        Err(error) => Err(error),
+    }
+}
+
+/// Reads the input to its end, piece by piece, and returns its image, which is kept in the input
+/// too. An input that spells no image is read up to its first flaw. Errors: `ReadFault`,
+/// `BadImage`, `Memory`.
+pub fn read_image<R: Read>(alloc: Global, input: &mut Input<R>) -> Result<Image, Error>
+    ensures found { IfOk result (λ image. IfSome (R.remaining input.old.reader)
+        (λ bytes. Spells image_spelling bytes image)) }
+    // Bytes that spell no image have the error of their first flaw, or `ReadFault` or `Memory`.
+    ensures flaw { IfSome (R.remaining input.old.reader) (λ bytes.
+        (f : Flaw) → IsFirstFlaw bytes f → IsErrAnd result (λ e.
+        (e ≡ refusal f) ⊎ (e ≡ Error.ReadFault) ⊎ (e ≡ Error.Memory))) }
+    ensures only { IfSome (R.remaining input.old.reader) (λ bytes.
+        (i : Internet) → Spells image_spelling bytes i → IfErr result (λ e.
+        (e ≡ Error.Memory) ⊎ (e ≡ Error.ReadFault))) }
+    ensures refused { IfErr result (λ e. e ≢ Error.WriteFault) }
+    ensures no_script { IfErr result (λ e. (n : ℕ) → e ≢ Error.BadScript n) }
+    ensures uses { Uses (R.remaining input.new.reader) input.old.faults input.new.faults
+        input.new.reads input.new.fault result }
+    ensures kept { OnOk result (IsSomeAnd input.new.image (λ i.
+        IfSome (R.remaining input.old.reader) (λ bytes. Spells image_spelling bytes i))) }
+{
+    let feed = match feed_input(alloc, input) {
+        Ok(feed) => feed,
+        Err(error) => return Err(error),
+    };
+    match feed.finish_twice() {
+        Ok((image, again)) => {
+            input.image = Some(again);
+            Ok(image)
+        }
+        Err(error) => Err(error),
+    }
+}

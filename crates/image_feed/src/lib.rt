@@ -1,0 +1,19 @@
+//! Images that come in pieces: each part is read as soon as its bytes are there, and they are not
+//! kept.
+#![tactic(auto)]
+
+mod cable;
+mod count;
+mod cut;
+mod feed;
+mod front;
+mod growth;
+mod head;
+mod lists;
+mod names;
+mod node;
+mod router;
+mod several;
+mod tables;
+
+pub use feed::{Feed, MAX_PIECE};

@@ -1,0 +1,134 @@
+//! Nodes that come in pieces.
+
+ghost use Rattle.std.specs.Prelude.{◌≡◌, [], None};
+ghost use Rattle.image_feed.specs.Parts.{node_head};
+
+use crate::growth::Growing;
+use crate::head::read_head;
+use crate::several::Several;
+use at_base::limits::MAX_NAMES;
+use at_base::{Addr, Hw, Name};
+use std::alloc::Global;
+use table_image::parts::{
+    Context, Fault, FlatItem, Item, Stop, address_at, hardware_at, index_at, name_at, own_router_at,
+};
+use table_image::{Node, NodeName};
+
+/// A node without its names.
+#[derive(Clone, Copy, Debug)]
+pub(crate) struct NodeHead {
+    pub cable: u8,
+    pub address: Addr,
+    pub hardware: Hw,
+    pub zone: Name,
+    pub router: Option<Addr>,
+}
+
+/// A node of which the first fields may have been read.
+#[derive(Drop)]
+pub(crate) struct GrowingNode {
+    /// Its head, if it was read.
+    pub head: Option<NodeHead>,
+    /// Its names.
+    pub names: Several<NodeName>,
+}
+
+impl Item for NodeHead {
+    ghost spelling = { λ context low. node_head context.cables };
+
+    ghost next = { λ _. 0 };
+
+    fn next_low(&self) -> u32 {
+        0
+    }
+
+    #[tactic(auto, unfolding(crate::specs::Parts::node_head))]
+    fn written_alike() {}
+}
+
+impl FlatItem for NodeHead {
+    #[tactic(auto, unfolding(crate::specs::Parts::node_head))]
+    fn flat_at(context: Context, _low: u32, bytes: &[u8]) -> Result<(NodeHead, &[u8]), Fault> {
+        let (cable, rest) = index_at(bytes, context.cables)?;
+        let (address, rest) = address_at(rest)?;
+        let (hardware, rest) = hardware_at(rest)?;
+        let (zone, rest) = match name_at(rest) {
+            Ok(found) => found,
+            Err(fault) => return Err(fault),
+        };
+        let (router, rest) = own_router_at(rest)?;
+        Ok((
+            NodeHead {
+                cable,
+                address,
+                hardware,
+                zone,
+                router,
+            },
+            rest,
+        ))
+    }
+}
+
+impl GrowingNode {
+    /// A node of which nothing was read.
+    pub(crate) fn new(alloc: Global) -> GrowingNode
+        ensures head { result.head ≡ None }
+        ensures left { result.names.left ≡ None }
+        ensures items { result.names.items.items ≡ [] }
+        ensures low { result.names.low ≡ 0 }
+    {
+        GrowingNode {
+            head: None,
+            names: Several::new(alloc),
+        }
+    }
+}
+
+impl Growing for GrowingNode {
+    ghost use Rattle.std.specs.Prelude.{◌&&◌, is_some};
+    ghost use Rattle.table_image.specs.Spelling.{node_spelling};
+    ghost use Rattle.image_feed.specs.Growing.{none_left};
+    ghost use Rattle.image_feed.specs.Parts.{node_on};
+
+    type Whole = Node;
+
+    ghost spelling = { λ context. node_spelling context.cables };
+
+    ghost goes_on = { λ context like n. node_on context.cables n };
+
+    ghost whole = { λ n. is_some n.head && none_left n.names.left };
+
+    fn is_whole(&self) -> bool {
+        self.head.is_some() && self.names.is_whole()
+    }
+
+    fn advance<'a>(
+        &mut self,
+        _alloc: Global,
+        context: Context,
+        _like: Option<&Node>,
+        bytes: &'a [u8],
+    ) -> Result<&'a [u8], Stop> {
+        let rest = read_head(&mut self.head, context, 0, bytes)?;
+        let Some(_) = self.head else {
+            return Ok(rest);
+        };
+        self.names.advance(context, MAX_NAMES, rest)
+    }
+
+    fn take(&mut self, alloc: Global, _like: Option<&Node>) -> Result<Node, Stop> {
+        let Some(head) = self.head else {
+            unreachable!()
+        };
+        self.head = None;
+        Ok(Node {
+            cable: head.cable,
+            address: head.address,
+            hardware: head.hardware,
+            zone: head.zone,
+            router: head.router,
+            names: self.names.take(alloc),
+        })
+    }
+}

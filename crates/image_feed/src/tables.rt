@@ -1,0 +1,210 @@
+//! The tables of an internet of which a part was read.
+
+ghost use Rattle.std.specs.Prelude.{◌≡◌, ◌&&◌, [], ℕ, List, IfOk, true};
+ghost use Rattle.table_image.specs.Internet.{internet};
+ghost use Rattle.table_image.specs.declared.cable.Cable.{Cable as CableValue};
+ghost use Rattle.table_image.specs.declared.router.Router.{Router as RouterValue};
+ghost use Rattle.image_feed.specs.Growing.{Advances, none_left};
+ghost use Rattle.image_feed.specs.Tables.{IsNew, cables_part, context_of, image_head, internet_of};
+ghost use Rattle.image_feed.specs.Tables.{is_whole, nodes_part, routers_part, tables_on};
+
+use crate::cable::GrowingCable;
+use crate::growth::Growth;
+use crate::head::read_head;
+use crate::node::GrowingNode;
+use crate::router::GrowingRouter;
+use at_base::Cause;
+use at_base::limits::{MAX_CABLES, MAX_NODES, MAX_ROUTERS};
+use std::alloc::Global;
+use table_image::parts::{
+    Context, Fault, FlatItem, Item, Stop, byte_within, magic_at, router_like, wrong,
+};
+use table_image::{Cable, Listed, Node, Router};
+
+/// The first fields of an image.
+#[derive(Clone, Copy, Debug)]
+pub(crate) struct ImageHead {
+    pub version: u8,
+}
+
+impl Item for ImageHead {
+    ghost spelling = { λ context low. image_head };
+
+    ghost next = { λ _. 0 };
+
+    fn next_low(&self) -> u32 {
+        0
+    }
+
+    #[tactic(auto, unfolding(crate::specs::Tables::image_head))]
+    fn written_alike() {}
+}
+
+impl FlatItem for ImageHead {
+    #[tactic(auto, unfolding(crate::specs::Tables::image_head))]
+    fn flat_at(_context: Context, _low: u32, bytes: &[u8]) -> Result<(ImageHead, &[u8]), Fault> {
+        let (_magic, rest) = magic_at(bytes)?;
+        let (version, rest) = byte_within(rest, 1, 1, Cause::Version)?;
+        Ok((ImageHead { version }, rest))
+    }
+}
+
+/// The tables of an internet of which the first parts were read.
+#[derive(Drop)]
+pub(crate) struct Tables {
+    /// The first fields, if they were read.
+    pub head: Option<ImageHead>,
+    pub cables: Growth<GrowingCable>,
+    pub routers: Growth<GrowingRouter>,
+    pub nodes: Growth<GrowingNode>,
+}
+
+impl Tables {
+    /// The tables of an internet of which nothing was read.
+    pub(crate) fn new(alloc: Global) -> Tables
+        ensures { IsNew result }
+    {
+        Tables {
+            head: None,
+            cables: Growth::new(alloc, GrowingCable::new()),
+            routers: Growth::new(alloc, GrowingRouter::new(alloc)),
+            nodes: Growth::new(alloc, GrowingNode::new(alloc)),
+        }
+    }
+
+    /// Whether all of it was read.
+    pub(crate) fn is_whole(&self) -> bool
+        ensures { result ≡ is_whole self.now }
+    {
+        self.head.is_some()
+            && self.cables.is_whole()
+            && self.routers.is_whole()
+            && self.nodes.is_whole()
+    }
+
+    // The context of routers and nodes.
+    fn context(&self) -> Context
+        ensures { result ≡ context_of self.now.cables.items.items }
+    {
+        Context::nothing().with_cables(self.cables.items.as_slice().len())
+    }
+
+    // Reads what the bytes have of the nodes. Nothing follows them.
+    fn advance_nodes<'a>(&mut self, alloc: Global, bytes: &'a [u8]) -> Result<&'a [u8], Stop>
+        ensures others { (self.new.head ≡ self.old.head) × (self.new.cables ≡ self.old.cables)
+            × (self.new.routers ≡ self.old.routers) }
+        ensures next { (routers : List RouterValue) → Advances (λ rest. rest.now)
+            (nodes_part self.old self.old.cables.items.items routers) bytes.now
+            (nodes_part self.new self.old.cables.items.items routers)
+            (none_left self.new.nodes.left) result }
+        ensures end { IfOk result (λ rest. none_left self.new.nodes.left ≡ true
+            → rest.now ≡ []) }
+    {
+        let context = self.context();
+        let rest = match self.nodes.advance(alloc, context, MAX_NODES, bytes) {
+            Ok(rest) => rest,
+            Err(stop) => return Err(stop),
+        };
+        if !self.nodes.is_whole() {
+            return Ok(rest);
+        }
+        if rest.is_empty() {
+            return Ok(rest);
+        }
+        Err(Stop::Refused(wrong(rest, Cause::Trailing)))
+    }
+
+    // Reads what the bytes have of the routers and of what follows them.
+    fn advance_routers<'a>(&mut self, alloc: Global, bytes: &'a [u8]) -> Result<&'a [u8], Stop>
+        ensures others { (self.new.head ≡ self.old.head) × (self.new.cables ≡ self.old.cables) }
+        ensures next { Advances (λ rest. rest.now)
+            (routers_part self.old self.old.cables.items.items) bytes.now
+            (routers_part self.new self.old.cables.items.items)
+            (none_left self.new.routers.left && none_left self.new.nodes.left) result }
+        ensures end { IfOk result (λ rest.
+            (none_left self.new.routers.left && none_left self.new.nodes.left) ≡ true
+            → rest.now ≡ []) }
+    {
+        let context = self.context();
+        let rest = match self.routers.advance(alloc, context, MAX_ROUTERS, bytes) {
+            Ok(rest) => rest,
+            Err(stop) => return Err(stop),
+        };
+        if !self.routers.is_whole() {
+            return Ok(rest);
+        }
+        self.advance_nodes(alloc, rest)
+    }
+
+    // The routers' zone lists are usually those of the cables.
+    fn expect_lists(&mut self, alloc: Global)
+        ensures others { (self.new.head ≡ self.old.head) × (self.new.cables ≡ self.old.cables)
+            × (self.new.nodes ≡ self.old.nodes) }
+        ensures same { (cables : List CableValue) (bytes : List ℕ)
+            → routers_part self.old cables bytes ≡ routers_part self.new cables bytes }
+    {
+        if self.routers.hint.is_none()
+            && self.routers.left.is_none()
+            && self.routers.next.is_new()
+        {
+            self.routers.hint = router_like(alloc, self.cables.items.as_slice());
+        }
+    }
+
+    // Reads what the bytes have of the cables and of what follows them.
+    fn advance_cables<'a>(&mut self, alloc: Global, bytes: &'a [u8]) -> Result<&'a [u8], Stop>
+        ensures head { self.new.head ≡ self.old.head }
+        ensures next { Advances (λ rest. rest.now) (cables_part self.old) bytes.now
+            (cables_part self.new) (none_left self.new.cables.left
+            && none_left self.new.routers.left && none_left self.new.nodes.left) result }
+        ensures end { IfOk result (λ rest. (none_left self.new.cables.left
+            && none_left self.new.routers.left && none_left self.new.nodes.left) ≡ true
+            → rest.now ≡ []) }
+    {
+        let rest = match self
+            .cables
+            .advance(alloc, Context::nothing(), MAX_CABLES, bytes)
+        {
+            Ok(rest) => rest,
+            Err(stop) => return Err(stop),
+        };
+        if !self.cables.is_whole() {
+            return Ok(rest);
+        }
+        self.expect_lists(alloc);
+        self.advance_routers(alloc, rest)
+    }
+
+    /// Reads what the bytes have of the tables. Returns the bytes after it.
+    pub(crate) fn advance<'a>(&mut self, alloc: Global, bytes: &'a [u8]) -> Result<&'a [u8], Stop>
+        ensures next { Advances (λ rest. rest.now) (tables_on self.old) bytes.now
+            (tables_on self.new) (is_whole self.new) result }
+        ensures end { IfOk result (λ rest. is_whole self.new ≡ true → rest.now ≡ []) }
+    {
+        let rest = match read_head(&mut self.head, Context::nothing(), 0, bytes) {
+            Ok(rest) => rest,
+            Err(stop) => return Err(stop),
+        };
+        let Some(_) = self.head else {
+            return Ok(rest);
+        };
+        self.advance_cables(alloc, rest)
+    }
+
+    /// The cables, routers and nodes that were read.
+    pub(crate) fn into_parts(self) -> (Listed<Cable>, Listed<Router>, Listed<Node>)
+        ensures { internet result.0 result.1 result.2 ≡ internet_of self }
+    {
+        let Tables {
+            cables,
+            routers,
+            nodes,
+            ..
+        } = self;
+        (
+            cables.into_listed(),
+            routers.into_listed(),
+            nodes.into_listed(),
+        )
+    }
+}
