@@ -5,6 +5,7 @@ pub mod Fields
 pub mod Items
 pub mod Laws
 pub mod Readers
+pub mod Below
 mod Examples
 pub mod Packets
 pub mod Loops

@@ -6,3 +6,4 @@ pub mod Ends
 pub mod Last
 pub mod Begins
 pub mod Fed
+pub mod Waiting

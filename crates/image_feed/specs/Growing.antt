@@ -1,5 +1,5 @@
 -- Reading in pieces: what a reader that stopped within a part reads of the bytes that follow.
-use Rattle.std.specs.Prelude.{◌≡◌, ◌≢◌, ◌⊎◌, ℕ, zero, suc, ◌+◌, Bool, true, false, ◌==◌, List, [], ◌∷◌, ◌++◌, length, Option, Some, None, Result, Ok, Err}
+use Rattle.std.specs.Prelude.{◌≡◌, ◌≢◌, ◌⊎◌, ℕ, zero, suc, ◌+◌, ◌<◌, Bool, true, false, ◌==◌, List, [], ◌∷◌, ◌++◌, length, Option, Some, None, Result, Ok, Err}
 use Rattle.at_base.specs.declared.error.Cause.TheVariants.{Count}
 use Rattle.at_base.specs.Grammar.{Grammar, number, one}
 use Rattle.at_base.specs.Reading.{◌>>=◌, field_at, list_at, read}
@@ -26,6 +26,10 @@ Denies first bytes f = (f ≢ faults.cut) × ((more : List ℕ) → first (bytes
 -- the bytes end within what is read
 abbrev pub IsCut : {A : Type 0} → (List ℕ → Result A Fault) → List ℕ → Type 0
 IsCut reads bytes = reads bytes ≡ Err faults.cut
+
+-- These bytes end within what is read, whatever follows them, as long as all are fewer than so many.
+abbrev pub Wants : {A : Type 0} → (List ℕ → Result A Fault) → List ℕ → ℕ → Type 0
+Wants reads bytes n = (more : List ℕ) → length (bytes ++ more) < n → IsCut reads (bytes ++ more)
 
 -- A reader stopped: an allocation failed, or the bytes have this fault.
 abbrev pub StopsAt : {A : Type 0} → (List ℕ → Result A Fault) → List ℕ → Stop → Type 0

@@ -108,6 +108,14 @@ impl Growing for GrowingCable {
         self.names.advance(alloc, zones_of(like), rest)
     }
 
+    fn wants(&self, bytes: &[u8]) -> usize {
+        if self.head.is_some() {
+            self.names.wants(bytes)
+        } else {
+            0
+        }
+    }
+
     fn take(&mut self, alloc: Global, like: Option<&Cable>) -> Result<Cable, Stop> {
         let Some(head) = self.head else {
             unreachable!()

@@ -1,18 +1,27 @@
 //! Bytes that end within a part.
 
-ghost use Rattle.std.specs.Prelude.{◌≡◌, ◌≢◌, IfErr, IfOk, None};
+ghost use Rattle.std.specs.Prelude.{◌≡◌, ◌≢◌, IfErr, IfOk, None, false, true};
 ghost use Rattle.table_image.specs.Flaws.{faults};
 ghost use Rattle.table_image.specs.declared.flaw.Stop.TheVariants.{Refused};
 
 use at_base::Cause;
 use table_image::parts::{Fault, Stop};
 
+/// Whether the fault is that the bytes end too early.
+#[inline(always)]
+pub(crate) fn is_cut(fault: Fault) -> bool
+    ensures yes { result ≡ true → fault ≡ faults.cut }
+    ensures no { result ≡ false → fault ≢ faults.cut }
+{
+    fault.left == 0 && matches!(fault.cause, Cause::Cut)
+}
+
 /// The bytes again, where they only end too early, so that more may follow; else the refusal.
 pub(crate) fn unless_cut(fault: Fault, bytes: &[u8]) -> Result<&[u8], Stop>
     ensures waits { IfOk result (λ rest. (rest.now ≡ bytes.now) × (fault ≡ faults.cut)) }
     ensures refused { IfErr result (λ e. (e ≡ Refused fault) × (fault ≢ faults.cut)) }
 {
-    if fault.left == 0 && matches!(fault.cause, Cause::Cut) {
+    if is_cut(fault) {
         return Ok(bytes);
     }
     Err(Stop::Refused(fault))
@@ -23,7 +32,7 @@ pub(crate) fn none_if_cut<X>(fault: Fault) -> Result<Option<X>, Stop>
     ensures waits { IfOk result (λ o. (o ≡ None) × (fault ≡ faults.cut)) }
     ensures refused { IfErr result (λ e. (e ≡ Refused fault) × (fault ≢ faults.cut)) }
 {
-    if fault.left == 0 && matches!(fault.cause, Cause::Cut) {
+    if is_cut(fault) {
         return Ok(None);
     }
     Err(Stop::Refused(fault))

@@ -12,7 +12,7 @@ ghost use Rattle.table_image.specs.declared.flaw.Fault.{Fault as FaultValue};
 ghost use Rattle.table_image.specs.declared.flaw.Flaw.{Flaw};
 ghost use Rattle.table_image.specs.declared.flaw.Stop.TheVariants.{Memory as MemoryStop, Refused};
 ghost use Rattle.image_feed.specs.Feeds.{HasRead, Waits, cut_at};
-ghost use Rattle.image_feed.specs.Growing.{Leads, StopsAt};
+ghost use Rattle.image_feed.specs.Growing.{Leads, StopsAt, Wants};
 ghost use Rattle.image_feed.specs.Tables.{tables_on};
 
 use crate::tables::Tables;
@@ -34,6 +34,8 @@ pub struct Feed {
     kept: Vec<u8>,
     // Room for them.
     spare: Vec<u8>,
+    // They end within a name as long as they are fewer than this.
+    wanted: usize,
     // The number of bytes that were fed.
     fed: usize,
     refused: Option<Error>,
@@ -42,6 +44,8 @@ pub struct Feed {
 impl Model for Feed {
     ghost use Rattle.std.specs.Prelude.{ℕ, List};
     ghost use Rattle.image_feed.specs.Feeds.{Fed, HasRead};
+    ghost use Rattle.image_feed.specs.Growing.{Wants};
+    ghost use Rattle.image_feed.specs.Tables.{tables_on};
 
     ghost Value = { Fed };
 
@@ -52,36 +56,32 @@ impl Model for Feed {
       refused = f.refused;
     } };
 
-    ghost invariant = { λ f. (all : List ℕ) × HasRead (record {
+    ghost invariant = { λ f. ((all : List ℕ) × HasRead (record {
       tables = f.tables;
       kept = f.kept.items;
       fed = f.fed;
       refused = f.refused;
-    }) all };
+    }) all) × Wants (tables_on f.tables) f.kept.items f.wanted };
 }
 
 /// Puts a piece after the bytes.
 fn append(bytes: &mut Vec<u8>, piece: &[u8]) -> Result<(), AllocError>
     ensures { OnOk result (bytes.new.items ≡ bytes.old.items ++ piece.now) }
 {
-    bytes.extend_from_slice(piece)
+    match piece {
+        [byte] => Ok(bytes.push(*byte)?),
+        _ => bytes.extend_from_slice(piece),
+    }
 }
 
-/// Reads what the bytes that were kept and the piece have, and keeps the rest.
-fn read_piece(
-    tables: &mut Tables,
-    kept: &mut Vec<u8>,
-    spare: &mut Vec<u8>,
-    piece: &[u8],
-) -> Result<(), Stop>
-    ensures leads { OnOk result (Leads (tables_on tables.old) (kept.old.items ++ piece.now)
+/// Reads what the bytes that were kept have, and keeps the rest.
+fn read_kept(tables: &mut Tables, kept: &mut Vec<u8>, spare: &mut Vec<u8>) -> Result<(), Stop>
+    ensures leads { OnOk result (Leads (tables_on tables.old) kept.old.items
         (tables_on tables.new) kept.new.items) }
     ensures waits { OnOk result (Waits tables.new kept.new.items) }
-    ensures stops { IfErr result
-        (StopsAt (tables_on tables.old) (kept.old.items ++ piece.now)) }
+    ensures stops { IfErr result (StopsAt (tables_on tables.old) kept.old.items) }
 {
     let alloc = *kept.allocator();
-    append(kept, piece)?;
     let rest = match tables.advance(alloc, kept.as_slice()) {
         Ok(rest) => rest,
         Err(stop) => return Err(stop),
@@ -89,6 +89,34 @@ fn read_piece(
     spare.clear();
     append(spare, rest)?;
     std::mem::swap(kept, spare);
+    Ok(())
+}
+
+/// Reads what the bytes that were kept and the piece have, and keeps the rest. While a name isn't
+/// whole, there is nothing to read.
+fn read_piece(
+    tables: &mut Tables,
+    kept: &mut Vec<u8>,
+    spare: &mut Vec<u8>,
+    wanted: &mut usize,
+    piece: &[u8],
+) -> Result<(), Stop>
+    requires { Wants (tables_on tables.old) kept.old.items wanted.old }
+    ensures wants { Wants (tables_on tables.new) kept.new.items wanted.new }
+    ensures leads { OnOk result (Leads (tables_on tables.old) (kept.old.items ++ piece.now)
+        (tables_on tables.new) kept.new.items) }
+    ensures waits { OnOk result (Waits tables.new kept.new.items) }
+    ensures stops { IfErr result
+        (StopsAt (tables_on tables.old) (kept.old.items ++ piece.now)) }
+{
+    let before = std::mem::replace(wanted, 0);
+    append(kept, piece)?;
+    if kept.len() < before {
+        *wanted = before;
+        return Ok(());
+    }
+    read_kept(tables, kept, spare)?;
+    *wanted = tables.wants(kept.as_slice());
     Ok(())
 }
 
@@ -171,6 +199,7 @@ impl Feed {
             tables: Tables::new(alloc),
             kept: Vec::new(alloc),
             spare: Vec::new(alloc),
+            wanted: 0,
             fed: 0,
             refused: None,
         })
@@ -192,7 +221,13 @@ impl Feed {
             return Err(error);
         }
         self.fed = fed_with(self.fed, piece);
-        match read_piece(&mut self.tables, &mut self.kept, &mut self.spare, piece) {
+        match read_piece(
+            &mut self.tables,
+            &mut self.kept,
+            &mut self.spare,
+            &mut self.wanted,
+            piece,
+        ) {
             Ok(()) => Ok(()),
             Err(stop) => {
                 let error = error_of(self.fed, stop);

@@ -72,7 +72,7 @@ pub(crate) fn after_first<T>(parts: &[T], count: usize) -> &[T]
 }
 
 /// The first parts.
-fn first<T>(parts: &[T], count: usize) -> &[T]
+pub(crate) fn first<T>(parts: &[T], count: usize) -> &[T]
     ensures { result.now ≡ take count parts.now }
 {
     if count < parts.len() {

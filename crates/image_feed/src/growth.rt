@@ -5,7 +5,7 @@ ghost use Rattle.std.specs.Prelude.{IsOkUnless, IsSome, OnOk};
 ghost use Rattle.std.specs.Option.{option_copied};
 ghost use Rattle.table_image.specs.declared.flaw.Stop.TheVariants.{Memory};
 ghost use Rattle.table_image.specs.declared.context.Context.{Context as ContextValue};
-ghost use Rattle.image_feed.specs.Growing.{Advances, growth_on, like_of, none_left};
+ghost use Rattle.image_feed.specs.Growing.{Advances, Wants, growth_on, like_of, none_left};
 
 use crate::count::{after_next, is_none_left, read_count};
 use crate::several::make_room;
@@ -25,7 +25,7 @@ pub(crate) trait Growing: Drop {
     ghost use Rattle.table_image.specs.declared.context.Context.{Context as ContextValue};
     ghost use Rattle.table_image.specs.declared.flaw.Fault.{Fault as FaultValue};
     ghost use Rattle.table_image.specs.declared.flaw.Stop.TheVariants.{Memory};
-    ghost use Rattle.image_feed.specs.Growing.{Advances};
+    ghost use Rattle.image_feed.specs.Growing.{Advances, Wants};
 
     /// The part.
     type Whole: Drop;
@@ -54,6 +54,11 @@ pub(crate) trait Growing: Drop {
     ) -> Result<&'a [u8], Stop>
         ensures { Advances (λ rest. rest.now) (goes_on context (option_copied like.entry) self.old)
             bytes.now (goes_on context (option_copied like.entry) self.new) (whole self.new) result };
+
+    /// The bytes end within a name as long as they are fewer than this.
+    fn wants(&self, bytes: &[u8]) -> usize
+        ensures { (context : ContextValue) (like : Option Self.Whole)
+            → Wants (goes_on context like self.now) bytes.now result };
 
     /// The part, after which the next one begins.
     fn take(&mut self, alloc: Global, like: Option<&Self::Whole>) -> Result<Self::Whole, Stop>
@@ -196,6 +201,18 @@ impl<S: Growing> Growth<S> {
         };
         make_room(&mut self.items, left)?;
         self.advance_parts(alloc, context, limit, rest)
+    }
+
+    /// The bytes end within a name as long as they are fewer than this.
+    pub(crate) fn wants(&self, bytes: &[u8]) -> usize
+        ensures { (limit : ℕ) (context : ContextValue)
+            → Wants (growth_on limit (S.spelling context) (S.goes_on context) self.now.left
+            self.now.items.items self.now.hint self.now.next) bytes.now result }
+    {
+        match after_next(self.left) {
+            Some(_) => self.next.wants(bytes),
+            None => 0,
+        }
     }
 
     /// The list.

@@ -7,7 +7,7 @@ ghost use Rattle.at_base.specs.Reading.{read};
 ghost use Rattle.table_image.specs.Flaws.{faults};
 ghost use Rattle.table_image.specs.declared.flaw.Stop.TheVariants.{Memory};
 ghost use Rattle.table_image.specs.declared.zone_list.ZoneList.{ZoneList as ListValue};
-ghost use Rattle.image_feed.specs.Growing.{Advances, Leads, items_on, none_left};
+ghost use Rattle.image_feed.specs.Growing.{Advances, Leads, Wants, items_on, none_left};
 ghost use Rattle.image_feed.specs.Fronts.{front_of};
 ghost use Rattle.table_image.specs.Spelling.{zone_list_spelling};
 ghost use Rattle.image_feed.specs.Zones.{IsFresh, head_of, is_next_whole, list_head, lists_on};
@@ -366,6 +366,16 @@ impl Lists {
             return Ok(rest);
         }
         self.advance_lists(alloc, parts_of(like), rest)
+    }
+
+    /// The bytes end within a name as long as they are fewer than this.
+    pub(crate) fn wants(&self, bytes: &[u8]) -> usize
+        ensures { (like : List ListValue) → Wants (lists_on like self.now) bytes.now result }
+    {
+        match after_next(self.left) {
+            Some(_) if self.head.is_some() => self.names.wants(bytes),
+            _ => 0,
+        }
     }
 
     /// The lists, which begin anew. If they are those of the other router, they are stored once.

@@ -1,6 +1,6 @@
 //! Lists of zone names, which are often those of another list.
 
-ghost use Rattle.std.specs.Prelude.{◌≡◌, ◌≤◌, [], None, Ok, Some, suc, take, length, true};
+ghost use Rattle.std.specs.Prelude.{◌≡◌, ◌≤◌, [], ℕ, List, None, Ok, Some, suc, take, length, true};
 ghost use Rattle.std.specs.Prelude.{IfOk, IfSome, IsOkUnless, IsSome, OnOk, unwrap_or};
 ghost use Rattle.std.specs.Option.{option_copied};
 ghost use Rattle.at_base.specs.Reading.{list_at, read};
@@ -8,13 +8,13 @@ ghost use Rattle.table_image.specs.Flaws.{faults};
 ghost use Rattle.table_image.specs.Spelling.{zone_spelling};
 ghost use Rattle.table_image.specs.declared.flaw.Stop.TheVariants.{Memory};
 ghost use Rattle.image_feed.specs.declared.front.Front.TheVariants.{Same};
-ghost use Rattle.image_feed.specs.Growing.{Advances, Leads, Steps, none_left};
+ghost use Rattle.image_feed.specs.Growing.{Advances, Leads, Steps, Wants, none_left};
 ghost use Rattle.image_feed.specs.Fronts.{front_of};
 ghost use Rattle.image_feed.specs.Zones.{names_on};
 
 use crate::count::{after_next, is_none_left, read_count};
-use crate::cut::none_if_cut;
-use crate::front::{Again, Front, after_first, parts_of};
+use crate::cut::{is_cut, none_if_cut};
+use crate::front::{Again, Front, after_first, first, parts_of};
 use at_base::Name;
 use at_base::limits::MAX_ZONES;
 use std::alloc::Global;
@@ -37,11 +37,10 @@ pub(crate) struct Names {
     pub front: Front<Name>,
 }
 
-/// How many of the names the bytes begin with, at most so many, and the bytes after them. Not
-/// inlined: inside another loop this one takes one and a half times as many instructions.
+/// How many of the names the bytes begin with, and the bytes after them. Not inlined: inside another
+/// loop this one takes one and a half times as many instructions.
 #[inline(never)]
-fn after_same<'a>(names: &[Name], most: u16, bytes: &'a [u8]) -> (u16, &'a [u8])
-    ensures most { result.0 ≤ most }
+fn after_same<'a>(names: &[Name], bytes: &'a [u8]) -> (usize, &'a [u8])
     ensures fits { result.0 ≤ length names.now }
     ensures names { list_at (λ low. read faults zone_spelling) (λ name. 0) 0 result.0 bytes.now
         ≡ Ok (take result.0 names.now, result.1.now) }
@@ -49,9 +48,6 @@ fn after_same<'a>(names: &[Name], most: u16, bytes: &'a [u8]) -> (u16, &'a [u8])
     let mut rest = bytes;
     let mut count = 0;
     for name in names {
-        if count == most {
-            return (count, rest);
-        }
         match after_name(name, rest) {
             Some(after) => rest = after,
             None => return (count, rest),
@@ -59,6 +55,19 @@ fn after_same<'a>(names: &[Name], most: u16, bytes: &'a [u8]) -> (u16, &'a [u8])
         count += 1;
     }
     (count, rest)
+}
+
+/// How many bytes a name has within which these end, or 0 where they don't say it.
+fn name_wants(bytes: &[u8]) -> usize
+    ensures { Wants (read faults zone_spelling) bytes.now result }
+{
+    let Some(length) = bytes.first() else {
+        return 0;
+    };
+    match name_at(bytes) {
+        Err(fault) if is_cut(fault) => *length as usize + 1,
+        _ => 0,
+    }
 }
 
 impl Names {
@@ -107,9 +116,10 @@ impl Names {
         if count > like.len() {
             return bytes;
         }
-        let (more, rest) = after_same(after_first(like, count), left, bytes);
-        self.left = Some(left - more);
-        self.front = Front::Same(count + more as usize);
+        let expected = first(after_first(like, count), left as usize);
+        let (more, rest) = after_same(expected, bytes);
+        self.left = Some(left - more as u16);
+        self.front = Front::Same(count + more);
         rest
     }
 
@@ -177,6 +187,16 @@ impl Names {
             return Ok(rest);
         }
         self.advance_names(alloc, parts_of(like), rest)
+    }
+
+    /// The bytes end within a name as long as they are fewer than this.
+    pub(crate) fn wants(&self, bytes: &[u8]) -> usize
+        ensures { (like : List (List ℕ)) → Wants (names_on like self.now) bytes.now result }
+    {
+        match after_next(self.left) {
+            Some(_) => name_wants(bytes),
+            None => 0,
+        }
     }
 
     /// Whether the names are all those of the other list.

@@ -117,6 +117,11 @@ impl Growing for GrowingNode {
         self.names.advance(context, MAX_NAMES, rest)
     }
 
+    // Nodes are a small part of an image.
+    fn wants(&self, _bytes: &[u8]) -> usize {
+        0
+    }
+
     fn take(&mut self, alloc: Global, _like: Option<&Node>) -> Result<Node, Stop> {
         let Some(head) = self.head else {
             unreachable!()

@@ -112,6 +112,14 @@ impl Growing for GrowingRouter {
         self.advance_rows(alloc, context, like, rest)
     }
 
+    fn wants(&self, bytes: &[u8]) -> usize {
+        if self.ports.is_whole() && self.rows.is_whole() {
+            self.lists.wants(bytes)
+        } else {
+            0
+        }
+    }
+
     fn take(&mut self, alloc: Global, like: Option<&Router>) -> Result<Router, Stop> {
         let lists = self.lists.take(alloc, lists_of(like))?;
         Ok(Router {

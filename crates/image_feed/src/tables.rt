@@ -4,7 +4,7 @@ ghost use Rattle.std.specs.Prelude.{◌≡◌, ◌&&◌, [], ℕ, List, IfOk, tr
 ghost use Rattle.table_image.specs.Internet.{internet};
 ghost use Rattle.table_image.specs.declared.cable.Cable.{Cable as CableValue};
 ghost use Rattle.table_image.specs.declared.router.Router.{Router as RouterValue};
-ghost use Rattle.image_feed.specs.Growing.{Advances, none_left};
+ghost use Rattle.image_feed.specs.Growing.{Advances, Wants, none_left};
 ghost use Rattle.image_feed.specs.Tables.{IsNew, cables_part, context_of, image_head, internet_of};
 ghost use Rattle.image_feed.specs.Tables.{is_whole, nodes_part, routers_part, tables_on};
 
@@ -189,6 +189,22 @@ impl Tables {
             return Ok(rest);
         };
         self.advance_cables(alloc, rest)
+    }
+
+    /// The bytes end within a name as long as they are fewer than this.
+    pub(crate) fn wants(&self, bytes: &[u8]) -> usize
+        ensures { Wants (tables_on self.now) bytes.now result }
+    {
+        if self.head.is_none() {
+            return 0;
+        }
+        if !self.cables.is_whole() {
+            return self.cables.wants(bytes);
+        }
+        if !self.routers.is_whole() {
+            return self.routers.wants(bytes);
+        }
+        0
     }
 
     /// The cables, routers and nodes that were read.

@@ -18,6 +18,7 @@ pub(crate) fn name(alloc: Global, mut words: Words<'_>, text: &mut String) -> An
         "same" => name.same(&words.name(alloc)?),
         "spelled-like" => name.is_spelled_like(&words.name(alloc)?),
         "equals" => name == words.name(alloc)? && name.clone()? == name,
+        "begins" => name.begins(words.text(alloc)?.as_slice()),
         _ => return Err(Stop::Unclear),
     };
     writeln!(text, "{}", yes_or_no(holds))?;

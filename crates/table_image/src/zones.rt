@@ -72,16 +72,12 @@ pub fn after_name<'a>(name: &Name, bytes: &'a [u8]) -> Option<&'a [u8]>
     ensures { IfSome result
         (λ rest. read faults zone_spelling bytes.now ≡ Ok (name.now, rest.now)) }
 {
-    let text = name.as_slice();
+    let length = name.as_slice().len();
     let (len, after) = bytes.split_first()?;
-    if *len as usize != text.len() || after.len() < text.len() {
+    if *len as usize != length || after.len() < length || !name.begins(after) {
         return None;
     }
-    let (front, rest) = after.split_at(text.len());
-    if front != text {
-        return None;
-    }
-    Some(rest)
+    Some(&after[length..])
 }
 
 // The bytes after the names, if they begin with them, one after the other. Not inlined: inside

@@ -13,7 +13,6 @@ loop-name-preserved c =
     rw one (ap (λ (y : List ℕ). take i c.args.names.now ++ y ∷ []) read
     ∙ sym (take-suc c.args.names.now i c.name-item.result (omega (arith, same, c.loop-name-test.true)))) in (
       ap (λ n. n + 1) same,
-      omega (arith, c.loop-name.invariant.1, c.if-count-most.false),
-      names_next i c.args.bytes.now (take i c.args.names.now) c.loop-name.rest.now c.name-item.result c.in-Some.after.now c.loop-name.invariant.2
+      names_next i c.args.bytes.now (take i c.args.names.now) c.loop-name.rest.now c.name-item.result c.in-Some.after.now c.loop-name.invariant.1
           (c.in-Some.ensures {u = tt}) ∙ ap (λ (l : List (List ℕ)). Ok (l, c.in-Some.after.now)) longer,
     )

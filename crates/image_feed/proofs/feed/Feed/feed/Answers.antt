@@ -33,7 +33,8 @@ has c all h = record {
 }
 
 pub invariant_of-self : goal.invariant_of-self
-invariant_of-self c = (c.self.invariant.0 ++ c.args.piece.now, has c c.self.invariant.0 c.self.invariant.1)
+invariant_of-self c =
+    let was = c.self.invariant.0 in ((was.0 ++ c.args.piece.now, has c was.0 was.1), c.read_piece.ensures.wants)
 
 pub returns-in-Ok-clause-read : goal.returns-in-Ok-clause-read
 returns-in-Ok-clause-read c = λ all h. has c all (rw (← c.self.view_is) at h)
@@ -74,7 +75,8 @@ has_refused c all h = record {
 }
 
 pub invariant_of-self-in-Err : goal.invariant_of-self-in-Err
-invariant_of-self-in-Err c = (c.self.invariant.0 ++ c.args.piece.now, has_refused c c.self.invariant.0 c.self.invariant.1)
+invariant_of-self-in-Err c =
+    let was = c.self.invariant.0 in ((was.0 ++ c.args.piece.now, has_refused c was.0 was.1), c.read_piece.ensures.wants)
 
 pub returns-in-Err-clause-read : goal.returns-in-Err-clause-read
 returns-in-Err-clause-read c = λ all h. has_refused c all (rw (← c.self.view_is) at h)

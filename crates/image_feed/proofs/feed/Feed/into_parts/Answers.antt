@@ -23,7 +23,7 @@ returns-then-not-is_whole-clause-refused c = λ none all h.
 pub returns-clause-value : goal.returns-clause-value
 returns-clause-value c =
     let whole : is_whole c.self.inside.tables ≡ true = sym c.is_whole.ensures ∙ c.if-not-is_whole.false in
-    rw c.into_parts.ensures (whole_spells _ c.self.invariant.0 c.in_default.is c.self.invariant.1 whole).0
+    rw c.into_parts.ensures (whole_spells _ c.self.invariant.0.0 c.in_default.is c.self.invariant.0.1 whole).0
 
 pub returns-clause-found : goal.returns-clause-found
 returns-clause-found c = λ all h.

@@ -16,7 +16,7 @@ begins c =
     }
 
 pub invariant_of-result : goal.invariant_of-result
-invariant_of-result c = ([], begins c)
+invariant_of-result c = (([], begins c), λ more few. absurd (omega (arith, few)))
 
 pub returns-clause-ok : goal.returns-clause-ok
 returns-clause-ok c = begins c
