@@ -6,14 +6,17 @@ mod explain;
 mod performed;
 mod run;
 mod run_play;
+mod streams;
 mod watching;
 
 use run::{Terminals, run};
 use std::io::IsTerminal;
 use std::process::ExitCode;
+use streams::take_places;
 
 // No `Result` here: an `Err` of `main` would end with status 1, which means that the audit failed.
 fn main(rt: HostRuntime) -> ExitCode {
+    let _places = take_places(&rt);
     let terminals = Terminals {
         input: rt.stdin().is_terminal(),
         errors: rt.stderr().is_terminal(),

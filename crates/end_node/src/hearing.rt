@@ -1,12 +1,13 @@
 //! Nodes as stations.
 
-ghost use Rattle.std.specs.Prelude.{IfOk, IsOkUnless, OnErr, OnOk, Some, ◌≡◌};
+ghost use Rattle.std.specs.Prelude.{IfOk, IsOk, IsOkUnless, None, OnErr, OnOk, Some, ◌≡◌};
 ghost use Rattle.aarp.specs.Choosing.{answer};
 ghost use Rattle.end_node.specs.Answers.{Hears, heard_packet};
 ghost use Rattle.end_node.specs.Taking as spec;
 ghost use Rattle.station.specs.Hearing.{hearing};
 ghost use Rattle.station.specs.Lawful.{PutsOut};
 ghost use Rattle.station.specs.Resolution.{packet_at, wired};
+ghost use Rattle.station.specs.declared.heard.Kind.TheVariants.{Aarp, Ddp};
 
 use crate::node::EndNode;
 use aarp::Packet;
@@ -38,6 +39,7 @@ impl EndNode {
         ensures ok { OnOk result (PutsOut 1 outputs.old.items outputs.new.items (λ added.
             (added, self.new) ≡ heard_packet self.old (packet_at bytes.now))) }
         ensures asks { OnOk result (self.new.asks ≡ self.old.asks) }
+        ensures no_packet { packet_at bytes.now ≡ None → IsOk result }
         ensures refused { IsOkUnless result Error.Memory }
         ensures station_stays { OnErr result (self.new ≡ self.old) }
         ensures outputs_stay { OnErr result (outputs.new.items ≡ outputs.old.items) }
@@ -62,6 +64,11 @@ impl EndNode {
         ensures ok { OnOk result (PutsOut 1 outputs.old.items outputs.new.items
             (λ added. Hears self.old (hearing heard.now) added self.new)) }
         ensures taken { IfOk result (λ t. t ≡ spec.taken self.old (hearing heard.now)) }
+        // What can't be read or isn't taken needs no memory.
+        ensures ignored { heard.now.kind ≡ Ddp → spec.taken self.old (hearing heard.now) ≡ None
+            → IsOk result }
+        ensures no_packet { heard.now.kind ≡ Aarp → packet_at heard.now.bytes.now ≡ None
+            → IsOk result }
         ensures refused { IsOkUnless result Error.Memory }
         ensures station_stays { OnErr result (self.new ≡ self.old) }
         ensures outputs_stay { OnErr result (outputs.new.items ≡ outputs.old.items) }

@@ -201,6 +201,7 @@ impl EndNode {
         ensures asks { OnOk result
             (AsksHearDatagram self.old link (Some view.entry) self.new.asks) }
         ensures taken { IfOk result (λ t. t ≡ taken_datagram self.old link (Some view.entry)) }
+        ensures ignored { taken_datagram self.old link (Some view.entry) ≡ None → IsOk result }
         ensures refused { IsOkUnless result Error.Memory }
         ensures station_stays { OnErr result (self.new ≡ self.old) }
         ensures outputs_stay { OnErr result (outputs.new.items ≡ outputs.old.items) }

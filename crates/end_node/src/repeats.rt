@@ -1,10 +1,12 @@
 //! The requests for zones that a node sends again.
 
-ghost use Rattle.std.specs.Prelude.{◌≡◌, ◌≤◌, ◌+◌, ◌++◌, [], Option, length, map, IsOkUnless, IsTrue, OnOk};
+ghost use Rattle.std.specs.Prelude.{◌≡◌, ◌≤◌, ◌+◌, ◌++◌, [], List, Option, length, map};
+ghost use Rattle.std.specs.Prelude.{IsOk, IsOkUnless, IsTrue, OnErr, OnOk};
 ghost use Rattle.at_base.specs.declared.address.Addr.{Addr as AddrValue};
 ghost use Rattle.atp.specs.Repeating.{AreShort};
 ghost use Rattle.end_node.specs.Repeating.{AreRenewed, repeated, repeats_by};
 ghost use Rattle.station.specs.Made.{AreMade};
+ghost use Rattle.station.specs.declared.output.Output.{Output as OutputValue};
 
 use crate::asking::request_way;
 use crate::node::EndNode;
@@ -15,12 +17,16 @@ use ddp::kind;
 use station::Output;
 use station::making::put;
 
-/// Adds these requests, each as a datagram from this address. Error: `Memory`.
+/// Adds these requests, each as a datagram from this address. Error: `Memory`; only the first of
+/// them may have been added then.
 fn put_all(made: &mut Vec<Output>, own: Addr, repeats: &[Repeat]) -> Result<(), Error>
     requires { AreShort repeats.now }
     ensures put { OnOk result (made.new.items ≡ made.old.items ++ map (repeated own) repeats.now) }
     ensures few { OnOk result (length made.new.items ≤ length made.old.items + length repeats.now) }
     ensures good { OnOk result (AreMade 1 made.old.items → AreMade 1 made.new.items) }
+    ensures silent { repeats.now ≡ [] → IsOk result }
+    ensures in_part { OnErr result
+        ((first : List OutputValue) × (made.new.items ≡ made.old.items ++ first)) }
     ensures refused { IsOkUnless result Error.Memory }
 {
     match repeats {
@@ -34,9 +40,29 @@ fn put_all(made: &mut Vec<Output>, own: Addr, repeats: &[Repeat]) -> Result<(), 
     }
 }
 
+/// Adds these requests, each as a datagram from this address. Error: `Memory`; nothing changes
+/// then.
+fn put_or_none(made: &mut Vec<Output>, own: Addr, repeats: &[Repeat]) -> Result<(), Error>
+    requires { AreShort repeats.now }
+    ensures put { OnOk result (made.new.items ≡ made.old.items ++ map (repeated own) repeats.now) }
+    ensures few { OnOk result (length made.new.items ≤ length made.old.items + length repeats.now) }
+    ensures good { OnOk result (AreMade 1 made.old.items → AreMade 1 made.new.items) }
+    ensures silent { repeats.now ≡ [] → IsOk result }
+    ensures stays { OnErr result (made.new.items ≡ made.old.items) }
+    ensures refused { IsOkUnless result Error.Memory }
+{
+    let before = made.len();
+    let result = put_all(made, own, repeats);
+    if result.is_err() {
+        made.truncate(before);
+    }
+    result
+}
+
 impl EndNode {
     /// Adds the requests for zones that the next tick makes due, at most 32, by rising IDs of their
-    /// transactions, if the node has this address and not none. Error: `Memory`.
+    /// transactions, if the node has this address and not none. Error: `Memory`; nothing changes
+    /// then. Where no request is due, none is needed.
     ///
     /// Inside AppleTalk, the chapter on ATP.
     pub fn put_repeats(&self, own: Option<Addr>, made: &mut Vec<Output>) -> Result<(), Error>
@@ -44,12 +70,13 @@ impl EndNode {
             (made.new.items ≡ made.old.items ++ repeats_by own self.now.asks.slots) }
         ensures few { OnOk result (length made.new.items ≤ length made.old.items + 32) }
         ensures good { OnOk result (AreMade 1 made.old.items → AreMade 1 made.new.items) }
+        ensures silent { repeats_by own self.now.asks.slots ≡ [] → IsOk result }
+        ensures stays { OnErr result (made.new.items ≡ made.old.items) }
         ensures refused { IsOkUnless result Error.Memory }
     {
-        match own {
-            Some(own) => put_all(made, own, self.requester.repeats()?.as_slice()),
-            None => Ok(()),
-        }
+        let Some(own) = own else { return Ok(()) };
+        let repeats = self.requester.repeats()?;
+        put_or_none(made, own, repeats.as_slice())
     }
 
     /// Whether no request for zones is open, so that the next tick makes none due. Allocates

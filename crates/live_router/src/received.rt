@@ -1,11 +1,14 @@
 //! A live router's handling of the frames that it receives.
 
-ghost use Rattle.std.specs.Prelude.{◌≡◌, ◌<◌, length, OnErr, OnOk, IsOkUnless, Some};
+ghost use Rattle.std.specs.Prelude.{◌≡◌, ◌<◌, length, IsOk, OnErr, OnOk, IsOkUnless, None, Some};
 ghost use Rattle.live_router.specs.Living.{taught};
 ghost use Rattle.router.specs.Answers as spec;
 ghost use Rattle.router.specs.Ending.{ended, ended_datagram};
 ghost use Rattle.station.specs.Hearing.{hearing};
 ghost use Rattle.station.specs.Lawful.{PutsOut};
+ghost use Rattle.station.specs.Resolution.{packet_at};
+ghost use Rattle.station.specs.Values.{datagram_at};
+ghost use Rattle.station.specs.declared.heard.Kind.TheVariants.{Aarp, Ddp};
 
 use crate::tables::take_tables;
 use crate::taught::tables_taught;
@@ -59,6 +62,10 @@ pub(crate) fn hear<T: RouteTable>(
         ≡ taught router.old (spec.heard router.old (hearing heard.now)).1
         (ended router.old (hearing heard.now))) }
     ensures ports_stay { length router.new.ports ≡ length router.old.ports }
+    ensures no_datagram { heard.now.kind ≡ Ddp → datagram_at heard.now.bytes.now ≡ None
+        → IsOk result }
+    ensures no_packet { heard.now.kind ≡ Aarp → packet_at heard.now.bytes.now ≡ None
+        → IsOk result }
     ensures refused { IsOkUnless result Error.Memory }
     ensures router_stays { OnErr result (router.new ≡ router.old) }
     ensures outputs_stay { OnErr result (outputs.new.items ≡ outputs.old.items) }

@@ -1,9 +1,9 @@
 //! The AARP packets that a router receives.
 
-ghost use Rattle.std.specs.Prelude.{IsOkUnless, OnErr, OnOk, Some, length, slice_get, ◌<◌, ◌≡◌};
+ghost use Rattle.std.specs.Prelude.{IsOk, IsOkUnless, None, OnErr, OnOk, Some, length, slice_get, ◌<◌, ◌≡◌};
 ghost use Rattle.station.specs.Hearing.{hearing};
 ghost use Rattle.station.specs.Lawful.{PutsOut};
-ghost use Rattle.station.specs.Resolution.{answer_by};
+ghost use Rattle.station.specs.Resolution.{answer_by, packet_at};
 ghost use Rattle.router.specs.Answers.{heard_packet};
 ghost use Rattle.router.specs.Resolution.{ports_after, resolved};
 
@@ -67,6 +67,7 @@ impl<T: RouteTable> Router<T> {
             (PutsOut (length self.old.ports) outputs.old.items outputs.new.items (λ added.
             (added, self.new) ≡ heard_packet self.old (hearing heard.now))) }
         ensures ports_stay { length self.new.ports ≡ length self.old.ports }
+        ensures no_packet { packet_at heard.now.bytes.now ≡ None → IsOk result }
         ensures refused { IsOkUnless result Error.Memory }
         ensures station_stays { OnErr result (self.new ≡ self.old) }
         ensures outputs_stay { OnErr result (outputs.new.items ≡ outputs.old.items) }

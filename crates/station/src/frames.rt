@@ -1,8 +1,8 @@
 //! The frames that stations receive and send.
 
-ghost use Rattle.std.specs.Prelude.{◌≡◌, ◌<◌, ◌≤◌, ◌+◌, [], ◌∷◌, ◌++◌, ℕ, length, Some, IfOk, IsOkUnless, OnOk};
+ghost use Rattle.std.specs.Prelude.{◌≡◌, ◌<◌, [], ◌∷◌, ℕ, Some, IfOk, IsOkUnless, OnErr};
 ghost use Rattle.station.specs.Lawful.{AreLawful};
-ghost use Rattle.station.specs.Made.{AreMade};
+ghost use Rattle.station.specs.Made.{AreMade, Puts};
 ghost use Rattle.station.specs.Resolution.{packet_at, probed, wired};
 ghost use Rattle.station.specs.Values.{datagram_at};
 
@@ -52,15 +52,14 @@ pub fn wire(alloc: Global, port: u8, sent: &Packet) -> Result<Output, Error>
 }
 
 /// Adds the output of a probe, if there is one, to all stations of the port's cable. Error:
-/// `Memory`.
+/// `Memory`; the outputs don't change then.
 ///
 /// Inside AppleTalk, the chapter on AARP.
 #[tactic(auto, unfolding(crate::specs::Made::AreMade))]
 pub fn put_probe(made: &mut Vec<Output>, port: u8, probe: &Option<Packet>) -> Result<(), Error>
-    ensures put { OnOk result (made.new.items ≡ made.old.items ++ probed port probe.now) }
-    ensures few { OnOk result (length made.new.items ≤ length made.old.items + 1) }
+    ensures puts { Puts 1 (probed port probe.now) made.old.items made.new.items result }
     ensures good { (n : ℕ) → port < n → AreMade n made.old.items → AreMade n made.new.items }
-    ensures refused { IsOkUnless result Error.Memory }
+    ensures stays { OnErr result (made.new.items ≡ made.old.items) }
 {
     let Some(probe) = probe else { return Ok(()) };
     let bytes = Bytes::copy(*made.allocator(), &probe.write())?;

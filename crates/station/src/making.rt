@@ -4,6 +4,7 @@ ghost use Rattle.std.specs.Prelude.{◌≡◌, ◌≤◌, ◌∷◌, [], ◌++�
 ghost use Rattle.std.specs.Prelude.{IfSome, OnErr};
 ghost use Rattle.station.specs.Made.{AreMade, AreShort, IsWayIn, Puts};
 ghost use Rattle.station.specs.Ways.{replying};
+ghost use Rattle.station.specs.declared.output.Output.{Output as OutputValue};
 ghost use Rattle.at_base.specs.Limits.{max_data};
 
 use crate::output::Output;
@@ -40,23 +41,41 @@ pub fn put(made: &mut Vec<Output>, way: &Option<Way>, payload: &[u8]) -> Result<
     }
 }
 
-/// Adds the datagrams with these data, one for each, if there is a way. The caller ensures that
-/// each has at most 586 bytes. Error: `Memory`; only the first of the datagrams were added then.
-pub fn put_all(made: &mut Vec<Output>, way: &Option<Way>, payloads: &[Bytes]) -> Result<(), Error>
+/// Adds the datagrams with these data, one for each, if there is a way. Error: `Memory`; only the
+/// first of the datagrams were added then.
+fn put_each(made: &mut Vec<Output>, way: &Option<Way>, payloads: &[Bytes]) -> Result<(), Error>
     requires { AreShort payloads.now }
     ensures puts { Puts (length payloads.now) (replying way.now payloads.now) made.old.items made.new.items
         result }
     ensures good { (n : ℕ) → IsWayIn n way.now → AreMade n made.old.items → AreMade n made.new.items }
-    ensures in_part { OnErr result ((first rest : List (List ℕ)) × (payloads.now ≡ first ++ rest)
-        × (made.new.items ≡ made.old.items ++ replying way.now first)) }
+    ensures in_part { OnErr result
+        ((first : List OutputValue) × (made.new.items ≡ made.old.items ++ first)) }
 {
     match payloads {
         [] => Ok(()),
         [payload, rest @ ..] => {
             put(made, way, payload.as_slice())?;
-            put_all(made, way, rest)
+            put_each(made, way, rest)
         }
     }
+}
+
+/// Adds the datagrams with these data, one for each, if there is a way. The caller ensures that
+/// each has at most 586 bytes. Error: `Memory`; nothing changes then.
+#[tactic(auto, unfolding(crate::specs::Made::AreMade))]
+pub fn put_all(made: &mut Vec<Output>, way: &Option<Way>, payloads: &[Bytes]) -> Result<(), Error>
+    requires { AreShort payloads.now }
+    ensures puts { Puts (length payloads.now) (replying way.now payloads.now) made.old.items made.new.items
+        result }
+    ensures good { (n : ℕ) → IsWayIn n way.now → AreMade n made.old.items → AreMade n made.new.items }
+    ensures stays { OnErr result (made.new.items ≡ made.old.items) }
+{
+    let before = made.len();
+    let result = put_each(made, way, payloads);
+    if result.is_err() {
+        made.truncate(before);
+    }
+    result
 }
 
 /// Adds the datagram with this data, if there is data and a way. The caller ensures that the data

@@ -47,6 +47,7 @@ impl Outputs {
     /// An empty queue. Error: `Memory`, which an empty queue never needs.
     pub fn new(alloc: Global) -> Result<Outputs, Error>
         ensures ok { IfOk result (λ outputs. outputs.items ≡ []) }
+        ensures made { IsOk result }
         ensures refused { IsOkUnless result Error.Memory }
     {
         Ok(Outputs {
@@ -54,17 +55,15 @@ impl Outputs {
         })
     }
 
-    /// Makes room for `n` more outputs. Error: `Memory`, which no outputs never need. The outputs
-    /// don't change.
+    /// Makes room for `n` more outputs. Error: `Memory`, if there isn't room for them already. The
+    /// outputs don't change, and no room goes.
     pub fn room(&mut self, n: usize) -> Result<(), Error>
         ensures ok { OnOk result (n ≤ self.new.spare) }
-        ensures none { n ≡ 0 → IsOk result }
+        ensures spare { self.old.spare ≤ self.new.spare }
+        ensures needed { n ≤ self.old.spare → IsOk result }
         ensures refused { IsOkUnless result Error.Memory }
         ensures kept { self.new.items ≡ self.old.items }
     {
-        if n == 0 {
-            return Ok(());
-        }
         self.items.reserve(n)?;
         Ok(())
     }

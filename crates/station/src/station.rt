@@ -1,6 +1,6 @@
 //! The trait of stations.
 
-ghost use Rattle.std.specs.Prelude.{◌≡◌, ◌<◌, IsSome, OnErr, OnOk, IsOkUnless};
+ghost use Rattle.std.specs.Prelude.{◌≡◌, ◌<◌, None, IsOk, IsSome, OnErr, OnOk, IsOkUnless};
 ghost use Rattle.station.specs.Lawful.{PutsOut};
 
 use crate::heard::Heard;
@@ -11,7 +11,9 @@ use at_base::Error;
 pub trait Station: Drop {
     ghost use Rattle.std.specs.Prelude.{List, ℕ};
     ghost use Rattle.station.specs.Hearing.{Hearing, hearing};
-    ghost use Rattle.station.specs.Resolution.{response_in};
+    ghost use Rattle.station.specs.Resolution.{packet_at, response_in};
+    ghost use Rattle.station.specs.Values.{datagram_at};
+    ghost use Rattle.station.specs.declared.heard.Kind.TheVariants.{Aarp, Ddp};
     ghost use Rattle.station.specs.declared.output.Output.{Output as OutputValue};
 
     // The number of the station's ports.
@@ -37,6 +39,11 @@ pub trait Station: Drop {
         ensures quiet { IsSome (response_in (hearing heard.now))
             → outputs.new.items ≡ outputs.old.items }
         ensures ports_stay { ports_of self.new ≡ ports_of self.old }
+        // What can't be read needs no memory.
+        ensures no_datagram { heard.now.kind ≡ Ddp → datagram_at heard.now.bytes.now ≡ None
+            → IsOk result }
+        ensures no_packet { heard.now.kind ≡ Aarp → packet_at heard.now.bytes.now ≡ None
+            → IsOk result }
         ensures refused { IsOkUnless result Error.Memory }
         ensures station_stays { OnErr result (self.new ≡ self.old) }
         ensures outputs_stay { OnErr result (outputs.new.items ≡ outputs.old.items) };
