@@ -1,6 +1,6 @@
 //! The bench of a case, with which its commands are carried out.
 
-use crate::{answers, equal, verdicts};
+use crate::{answers, changes, equal, verdicts};
 use case_words::{Answer, Bench, Stop, Words};
 use std::alloc::Global;
 
@@ -47,6 +47,7 @@ impl Bench for Images {
             "cable" | "router" | "port" | "row" | "list" | "node" | "name" => self.add_part(words),
             "read" => answers::image(self.alloc, bytes, rest, text),
             "made" => answers::made(self.alloc, parts, rest, text),
+            "each-byte" => changes::changed(self.alloc, bytes, text),
             "audit" => verdicts::audited(self.alloc, bytes, rest, text),
             "equal" => equal::answer(self.alloc, parts, rest, text),
             "verdict" => verdicts::verdict(self.alloc, rest, text),

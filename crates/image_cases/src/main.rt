@@ -4,6 +4,7 @@
 
 mod answers;
 mod bench;
+mod changes;
 mod edits;
 mod equal;
 mod making;

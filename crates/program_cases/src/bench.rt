@@ -1,5 +1,6 @@
 //! The bench of a case, with which its commands are carried out.
 
+use crate::turns::{Command, put_turns};
 use crate::worlds::Begun;
 use crate::{arguments, commands_run as run, exits, plans};
 use case_words::{Answer, Bench, Stop, Words};
@@ -68,6 +69,19 @@ impl<T: RouteTable> Program<T> {
         Ok(())
     }
 
+    /// Runs a command again and again: `turns audit 100`, `turns play 100`, or `turns trace 100`,
+    /// for which the text of the case is the script.
+    fn take_turns(&self, mut words: Words<'_>, text: &mut String) -> Answer {
+        let (image, whole) = (self.image.as_slice(), self.text.as_slice());
+        let command = match words.word() {
+            "audit" => Command::Audit(image),
+            "trace" => Command::Trace(image, whole),
+            "play" => Command::Play(whole),
+            _ => return Err(Stop::Unclear),
+        };
+        put_turns(self.alloc, command, words, text)
+    }
+
     fn on_world(&mut self, words: Words<'_>, text: &mut String) -> Answer {
         match &mut self.world {
             Some(world) => world.act(self.alloc, words, text),
@@ -103,6 +117,7 @@ impl<T: RouteTable> Bench for Program<T> {
             "audit" => run::audit(self.alloc, self.image.as_slice(), text),
             "trace" => run::trace(self.alloc, self.image.as_slice(), words, text),
             "trace-lines" => run::trace_lines(self.alloc, self.image.as_slice(), words, text),
+            "turns" => self.take_turns(words, text),
             "begin" => self.begin_world(words),
             "world" => self.on_world(words, text),
             "arguments" => arguments::answer(self.alloc, words, text),

@@ -5,7 +5,9 @@ mod arguments;
 mod bench;
 mod commands_run;
 mod exits;
+mod mishaps;
 mod plans;
+mod turns;
 mod worlds;
 
 use bench::Program;
