@@ -1,11 +1,11 @@
 //! The command line: reads the arguments, and has the help text.
 
 ghost use Rattle.std.specs.Prelude.{◌≡◌, ◌≢◌, ◌⊎◌, ◌≤◌, ◌∷◌};
-ghost use Rattle.std.specs.Prelude.{List, ℕ, [], None, false, codes, length, map};
+ghost use Rattle.std.specs.Prelude.{List, ℕ, [], None, false, true, codes, length, map};
 ghost use Rattle.std.specs.Prelude.{IfOk, IfErr, IsErrAnd, IsTrue, Some, option_map};
 ghost use Rattle.std.specs.Str.{bytes_eq};
-ghost use Rattle.clap.specs.Words.{app_of, first_of, found_of, kind_of, rows_of, rule_of};
-ghost use Rattle.clap.specs.Words.{subcommand_of, subcommand_rows_of};
+ghost use Rattle.clap.specs.Words.{FailsBy, app_of, fault_of, first_of, found_of, kind_of, rows_of};
+ghost use Rattle.clap.specs.Words.{rule_of, subcommand_of, subcommand_rows_of, takes};
 ghost use Rattle.clap.specs.declared.Command.TheViews.{out-Command as fields_of};
 ghost use Rattle.clap.specs.declared.error.ErrorKind.TheVariants.{DisplayHelp, DisplayVersion};
 ghost use Rattle.clap.specs.declared.error.ErrorKind.TheVariants.{OutOfMemory};
@@ -169,6 +169,12 @@ pub fn read_arguments<'a, S: AsStr>(alloc: Global, arguments: &'a [S]) -> Result
     // The job is that of the command and its operands, in the parse that clap's contracts define.
     ensures meant { IfOk result
         (IsMeant (subcommand_of atalk_app (map S.text arguments.entry.now))) }
+    // Arguments that are refused have the kind of their fault in that parse, and others none; the
+    // only other error is out of memory.
+    ensures kinds { FailsBy (fault_of atalk_app (map S.text arguments.entry.now)) result }
+    // Arguments that the parse takes have no error but out of memory.
+    ensures taken { takes atalk_app (map S.text arguments.entry.now) ≡ true
+        → IfErr result (λ e. kind_of e ≡ OutOfMemory) }
     // `audit FILE` is an audit of FILE; the only error is out of memory.
     ensures audit { (name file : List ℕ)
         → map S.text arguments.entry.now ≡ name ∷ codes "audit" ∷ file ∷ []

@@ -2,10 +2,12 @@
 use Rattle.std.proofs.Common.{◌≡◌, ◌≢◌, ◌⊎◌, ℕ, List, Option, Some, None, Result, Ok, Err, IfErr, IfOk, IfSome, OnOk, ap, inl, inr, subst, sym, ◌∙◌}
 use Rattle.std.specs.Prelude.{IsErrAnd}
 use Rattle.at_base.specs.declared.error.Error.{Error}
-use Rattle.at_base.specs.declared.error.Error.TheVariants.{BadScript, Memory, ReadFault, WriteFault}
+use Rattle.at_base.specs.declared.error.Error.TheVariants.{BadScript, Full, Memory, ReadFault, WriteFault}
+use Rattle.internet_file.specs.Files.{IsFile, IsFileRefused, Planned}
 use Rattle.script.specs.Scripts.{IsBadAt, IsScript}
 use Rattle.script.specs.declared.step.Step.{Step}
-use Rattle.commands.specs.Streams.{First}
+use Rattle.table_image.specs.Reading.{RefusesFirst}
+use Rattle.commands.specs.Streams.{First, IsImageRefused, IsPlayRefused, IsScriptRefused}
 
 -- A property of the bytes that were read is a property of the reader's bytes.
 pub of_read : (P : List ℕ → Type 0) (told : Option (List ℕ)) (bytes : List ℕ) → IfSome told (λ bs. bytes ≡ bs) → P bytes
@@ -79,3 +81,28 @@ image_refused image Untouched Kept e same other = record {
   touched = inl same;
   image_first = any_some _ image (λ bytes f flawed. same);
 }
+
+-- ---- Errors of any reader
+
+-- What a feed is refused for.
+pub flaw_named : (e : Error) (bytes : List ℕ) → (e ≡ Memory) ⊎ RefusesFirst bytes e → IsImageRefused e
+flaw_named e bytes (inl memory) = inr (inl memory)
+flaw_named e bytes (inr flaw) = inr (inr (bytes, flaw))
+
+-- What a script is refused for.
+pub script_named : (e : Error) (text : List ℕ) → ((n : ℕ) × (e ≡ BadScript n) × IsBadAt text n) ⊎ (e ≡ Memory) → IsScriptRefused e
+script_named e text (inl bad) = inr (inr (text, bad.0, bad.1, bad.2))
+script_named e text (inr memory) = inr (inl memory)
+
+-- What a trace is refused for.
+pub trace_named : (X : Type 0) (e : Error) → (e ≡ Memory) ⊎ ((e ≡ WriteFault) × X)
+    → IsImageRefused e ⊎ IsScriptRefused e ⊎ (e ≡ WriteFault)
+trace_named X e (inl memory) = inl (inr (inl memory))
+trace_named X e (inr write) = inr (inr write.0)
+
+-- What a play is refused for.
+pub play_named : (e : Error) (text : List ℕ)
+    → IsFileRefused text e ⊎ (((plan : Planned) × IsFile text plan) × ((e ≡ Full) ⊎ (e ≡ Memory))) → IsPlayRefused e
+play_named e text (inl fault) = inr (inr (inr (text, fault)))
+play_named e text (inr (file, inl full)) = inr (inl full)
+play_named e text (inr (file, inr memory)) = inr (inr (inl memory))

@@ -3,11 +3,12 @@ use Rattle.std.specs.Prelude.{◌≡◌, ◌≢◌, ◌⊎◌, ℕ, List, Option
 use Rattle.std.specs.Io.KnownBytes.{IsAtEnd}
 use Rattle.at_base.specs.Spelling.{Spells}
 use Rattle.at_base.specs.declared.error.Error.{Error}
-use Rattle.at_base.specs.declared.error.Error.TheVariants.{BadScript, Memory, ReadFault, WriteFault}
+use Rattle.at_base.specs.declared.error.Error.TheVariants.{BadScript, Full, Memory, ReadFault, WriteFault}
+use Rattle.internet_file.specs.Files.{IsFileRefused}
 use Rattle.script.specs.Scripts.{IsBadAt, IsScript}
 use Rattle.script.specs.declared.step.Step.{Step}
 use Rattle.table_image.specs.Internet.{Internet}
-use Rattle.table_image.specs.Reading.{IsFirstFlaw, refusal}
+use Rattle.table_image.specs.Reading.{IsFirstFlaw, RefusesFirst, refusal}
 use Rattle.table_image.specs.Spelling.{image_spelling}
 use Rattle.table_image.specs.declared.flaw.Flaw.{Flaw}
 use Rattle.commands.specs.declared.input.TheConstants.{READS}
@@ -32,10 +33,11 @@ pub record Uses {A X : Type 0} (left : Option (List ℕ)) (before after reads : 
 
 -- ---- Outputs: their failed writes before and after the call
 
--- WriteFault comes of a failed write, and after Ok none failed.
+-- WriteFault comes of a failed write, and after Ok none failed. A failed write is reported.
 pub record Wrote {A : Type 0} (before after : ℕ) (result : Result A Error) : Type 0 where
   pub write_fault : result ≡ Err WriteFault → after ≢ before
   pub stays : OnOk result (after ≡ before)
+  pub reported : after ≢ before → result ≡ Err WriteFault
 
 -- The same of lines and of an image that is written after them: if that can't be written, the lines were.
 pub record WroteImage {A : Type 0} (SameLines SameImage : Type 0) (before after image_before image_after : ℕ) (result : Result A Error)
@@ -55,6 +57,20 @@ pub record Hands {A : Type 0} (SameImage Lines : Type 0) (before after image_bef
   pub stays : OnOk result (after ≡ before)
   pub image_stays : OnOk result (image_after ≡ image_before)
   pub order : SameImage ⊎ Lines
+
+-- ---- Errors, whether or not the bytes of the inputs are known
+
+-- What reading an image may be refused for: a failed read, no memory, or the first flaw of some bytes.
+abbrev pub IsImageRefused : Error → Type 0
+IsImageRefused e = (e ≡ ReadFault) ⊎ (e ≡ Memory) ⊎ ((bytes : List ℕ) × RefusesFirst bytes e)
+
+-- What reading a script may be refused for: a failed read, no memory, or the first bad line of some text.
+abbrev pub IsScriptRefused : Error → Type 0
+IsScriptRefused e = (e ≡ ReadFault) ⊎ (e ≡ Memory) ⊎ ((text : List ℕ) × (n : ℕ) × (e ≡ BadScript n) × IsBadAt text n)
+
+-- What playing an internet file may be refused for: a failed read, no room, no memory, or the first fault of some text.
+abbrev pub IsPlayRefused : Error → Type 0
+IsPlayRefused e = (e ≡ ReadFault) ⊎ (e ≡ Full) ⊎ (e ≡ Memory) ⊎ ((text : List ℕ) × IsFileRefused text e)
 
 -- ---- Errors, by the bytes of the inputs where they are known
 

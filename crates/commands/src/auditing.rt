@@ -1,6 +1,6 @@
 //! Audits the image in an input, and writes the line of the verdict.
 
-ghost use Rattle.std.specs.Prelude.{◌≡◌, ◌≢◌, ◌∷◌, ◌++◌};
+ghost use Rattle.std.specs.Prelude.{◌≡◌, ◌≢◌, ◌⊎◌, ◌∷◌, ◌++◌};
 ghost use Rattle.std.specs.Prelude.{[], IfOk, IfErr, IfSome, OnOk};
 ghost use Rattle.std.specs.Prelude.{IsSomeAnd};
 ghost use Rattle.std.specs.Io.KnownBytes.{Appends};
@@ -9,7 +9,8 @@ ghost use Rattle.table_image.specs.Internet.{Internet};
 ghost use Rattle.table_image.specs.Spelling.{image_spelling};
 ghost use Rattle.audit.specs.Verdicts.{Judges, is_yes, verdict_line};
 ghost use Rattle.audit.specs.declared.verdict.Verdict.{Verdict};
-ghost use Rattle.commands.specs.Streams.{Judged, Uses, Wrote};
+ghost use Rattle.commands.specs.Pieces.{ReadsNoMore, ReadsUnflawed};
+ghost use Rattle.commands.specs.Streams.{IsImageRefused, Judged, Uses, Wrote};
 
 use crate::image_input::read_from;
 use crate::input::Input;
@@ -34,7 +35,13 @@ pub fn audit_file<R: Read, W: Write>(
         × Spells image_spelling bytes i × Judges i v × (yes ≡ is_yes v)
         × Appends (W.contents output.old.writer) (W.contents output.new.writer)
         (verdict_line v ++ 10 ∷ []))) }
+    ensures named { IfErr result (λ e. IsImageRefused e ⊎ (e ≡ Error.WriteFault)) }
     ensures judged { Judged (R.remaining input.old.reader) result }
+    // A read fault is the error only where what was read before has no flaw.
+    ensures unflawed { result ≡ Err Error.ReadFault
+        → ReadsUnflawed (R.remaining input.old.reader) (R.remaining input.new.reader) }
+    // No more is read than the piece that has the first flaw.
+    ensures no_more { ReadsNoMore (R.remaining input.old.reader) (R.remaining input.new.reader) }
     ensures uses { Uses (R.remaining input.new.reader) input.old.faults input.new.faults
         input.new.reads input.new.fault result }
     ensures wrote { Wrote output.old.faults output.new.faults result }

@@ -1,6 +1,6 @@
 //! Images that are read piece by piece.
 
-ghost use Rattle.std.specs.Prelude.{◌≡◌, ◌≢◌, ◌⊎◌, ℕ, None};
+ghost use Rattle.std.specs.Prelude.{◌≡◌, ◌≢◌, ◌⊎◌, ℕ, List, None};
 ghost use Rattle.std.specs.Prelude.{IfErr, IfOk, IfSome, IsErrAnd, IsSomeAnd, OnOk};
 ghost use Rattle.at_base.specs.Spelling.{Spells};
 ghost use Rattle.table_image.specs.Internet.{Internet};
@@ -8,7 +8,8 @@ ghost use Rattle.table_image.specs.Reading.{IsFirstFlaw, refusal};
 ghost use Rattle.table_image.specs.Spelling.{image_spelling};
 ghost use Rattle.table_image.specs.declared.flaw.Flaw.{Flaw};
 ghost use Rattle.image_feed.specs.Feeds.{HasRead, IsFlawed};
-ghost use Rattle.commands.specs.Streams.{Uses};
+ghost use Rattle.commands.specs.Pieces.{ReadsNoMore, ReadsUnflawed};
+ghost use Rattle.commands.specs.Streams.{IsImageRefused, Uses};
 
 use crate::input::{Input, READS};
 use at_base::Error;
@@ -21,8 +22,15 @@ use table_image::Image;
 fn feed_input<R: Read>(alloc: Global, input: &mut Input<R>) -> Result<Feed, Error>
     ensures fed { IfOk result (λ feed. (feed.refused ≡ None)
         × IfSome (R.remaining input.old.reader) (HasRead feed)) }
+    ensures has { IfOk result (λ feed. (all : List ℕ) × HasRead feed all) }
+    ensures named { IfErr result IsImageRefused }
     ensures flaw { IfErr result (λ e. IfSome (R.remaining input.old.reader) (λ bytes.
         (e ≡ Error.ReadFault) ⊎ (e ≡ Error.Memory) ⊎ IsFlawed e bytes)) }
+    ensures whole { OnOk result
+        (ReadsUnflawed (R.remaining input.old.reader) (R.remaining input.new.reader)) }
+    ensures unflawed { result ≡ Err Error.ReadFault
+        → ReadsUnflawed (R.remaining input.old.reader) (R.remaining input.new.reader) }
+    ensures no_more { ReadsNoMore (R.remaining input.old.reader) (R.remaining input.new.reader) }
     ensures refused { IfErr result (λ e. e ≢ Error.WriteFault) }
     ensures no_script { IfErr result (λ e. (n : ℕ) → e ≢ Error.BadScript n) }
     ensures uses { Uses (R.remaining input.new.reader) input.old.faults input.new.faults
@@ -54,6 +62,7 @@ fn feed_input<R: Read>(alloc: Global, input: &mut Input<R>) -> Result<Feed, Erro
 pub fn read_from<R: Read>(alloc: Global, input: &mut Input<R>) -> Result<Image, Error>
     ensures found { IfOk result (λ image. IfSome (R.remaining input.old.reader)
         (λ bytes. Spells image_spelling bytes image)) }
+    ensures named { IfErr result IsImageRefused }
     // Bytes that spell no image have the error of their first flaw, or `ReadFault` or `Memory`.
     ensures flaw { IfSome (R.remaining input.old.reader) (λ bytes.
         (f : Flaw) → IsFirstFlaw bytes f → IsErrAnd result (λ e.
@@ -61,6 +70,11 @@ pub fn read_from<R: Read>(alloc: Global, input: &mut Input<R>) -> Result<Image, 
     ensures only { IfSome (R.remaining input.old.reader) (λ bytes.
         (i : Internet) → Spells image_spelling bytes i → IfErr result (λ e.
         (e ≡ Error.Memory) ⊎ (e ≡ Error.ReadFault))) }
+    // A read fault is the error only where what was read before has no flaw.
+    ensures unflawed { result ≡ Err Error.ReadFault
+        → ReadsUnflawed (R.remaining input.old.reader) (R.remaining input.new.reader) }
+    // No more is read than the piece that has the first flaw.
+    ensures no_more { ReadsNoMore (R.remaining input.old.reader) (R.remaining input.new.reader) }
     ensures refused { IfErr result (λ e. e ≢ Error.WriteFault) }
     ensures uses { Uses (R.remaining input.new.reader) input.old.faults input.new.faults
         input.new.reads input.new.fault result }
@@ -77,6 +91,7 @@ pub fn read_from<R: Read>(alloc: Global, input: &mut Input<R>) -> Result<Image, 
 pub fn read_image<R: Read>(alloc: Global, input: &mut Input<R>) -> Result<Image, Error>
     ensures found { IfOk result (λ image. IfSome (R.remaining input.old.reader)
         (λ bytes. Spells image_spelling bytes image)) }
+    ensures named { IfErr result IsImageRefused }
     // Bytes that spell no image have the error of their first flaw, or `ReadFault` or `Memory`.
     ensures flaw { IfSome (R.remaining input.old.reader) (λ bytes.
         (f : Flaw) → IsFirstFlaw bytes f → IsErrAnd result (λ e.
@@ -84,6 +99,13 @@ pub fn read_image<R: Read>(alloc: Global, input: &mut Input<R>) -> Result<Image,
     ensures only { IfSome (R.remaining input.old.reader) (λ bytes.
         (i : Internet) → Spells image_spelling bytes i → IfErr result (λ e.
         (e ≡ Error.Memory) ⊎ (e ≡ Error.ReadFault))) }
+    // A read fault is the error only where what was read before has no flaw.
+    ensures unflawed { result ≡ Err Error.ReadFault
+        → ReadsUnflawed (R.remaining input.old.reader) (R.remaining input.new.reader) }
+    // No more is read than the piece that has the first flaw.
+    ensures no_more { ReadsNoMore (R.remaining input.old.reader) (R.remaining input.new.reader) }
+    ensures whole { OnOk result
+        (ReadsUnflawed (R.remaining input.old.reader) (R.remaining input.new.reader)) }
     ensures refused { IfErr result (λ e. e ≢ Error.WriteFault) }
     ensures no_script { IfErr result (λ e. (n : ℕ) → e ≢ Error.BadScript n) }
     ensures uses { Uses (R.remaining input.new.reader) input.old.faults input.new.faults

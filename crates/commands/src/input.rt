@@ -3,7 +3,7 @@
 ghost use Rattle.std.specs.Prelude.{None, length, take, ◌++◌, ◌<◌, ◌≡◌, ◌≢◌, ◌≤◌, ◌⊎◌};
 ghost use Rattle.std.specs.Prelude.{IfOk, IfErr, IfSome, IsSome, OnOk, OnErr, IsOkUnless};
 ghost use Rattle.std.specs.Io.{ReadsAtMost};
-ghost use Rattle.std.specs.Io.KnownBytes.{Consumes, IsAtEnd};
+ghost use Rattle.std.specs.Io.KnownBytes.{Consumes, IsAtEnd, Keeps};
 ghost use Rattle.commands.specs.declared.input.TheConstants.{READS};
 
 use at_base::Error;
@@ -46,6 +46,7 @@ impl<R: Read> Input<R> {
         ensures reason { result.fault ≡ None }
         ensures empty { result.kept ≡ None }
         ensures no_image { result.image ≡ None }
+        ensures flawless { result.flawed ≡ None }
     {
         Input {
             reader,
@@ -78,6 +79,8 @@ impl<R: Read> Input<R> {
         // An input that is given up has no reason, because none of its reads failed.
         ensures no_reason { self.new.faults ≡ self.old.faults → self.new.fault ≡ self.old.fault }
         ensures kept { self.new.kept ≡ self.old.kept }
+        ensures image { self.new.image ≡ self.old.image }
+        ensures flawed { self.new.flawed ≡ self.old.flawed }
         ensures counted { self.old.reads ≤ self.new.reads }
     {
         let mut bytes = Vec::new(alloc);
@@ -99,6 +102,9 @@ impl<R: Read> Input<R> {
             (R.remaining self.old.reader) (R.remaining self.new.reader) (take n buffer.new)) }
         ensures end { IfOk result (λ n. n ≡ 0 → 0 < length buffer.old
             → IsAtEnd (R.remaining self.new.reader)) }
+        // A read that failed has taken nothing.
+        ensures held { OnErr result
+            (Keeps (R.remaining self.old.reader) (R.remaining self.new.reader)) }
         ensures more { OnOk result (self.old.reads < self.new.reads) }
         ensures stays { OnOk result (self.new.faults ≡ self.old.faults) }
         ensures fault { OnErr result ((self.new.faults ≢ self.old.faults) ⊎ (self.new.reads ≡ READS)) }
@@ -107,6 +113,8 @@ impl<R: Read> Input<R> {
         ensures reason_stays { OnOk result (self.new.fault ≡ self.old.fault) }
         ensures no_reason { self.new.faults ≡ self.old.faults → self.new.fault ≡ self.old.fault }
         ensures kept { self.new.kept ≡ self.old.kept }
+        ensures image { self.new.image ≡ self.old.image }
+        ensures flawed { self.new.flawed ≡ self.old.flawed }
         ensures counted { self.old.reads ≤ self.new.reads }
     {
         for _turn in self.reads..READS {
@@ -128,9 +136,10 @@ impl<R: Read> Input<R> {
 
 /// Appends the piece. The capacity grows by a quarter: a long input is then moved at most some 40
 /// times and takes at most a quarter more memory than its length, while doubling would take up to
-/// twice its length.
+/// twice its length. Error: `AllocError`; the bytes then stay as they were.
 pub fn append(bytes: &mut Vec<u8>, piece: &[u8]) -> Result<(), AllocError>
-    ensures { OnOk result (bytes.new.items ≡ bytes.old.items ++ piece.now) }
+    ensures ok { OnOk result (bytes.new.items ≡ bytes.old.items ++ piece.now) }
+    ensures stays { OnErr result (bytes.new.items ≡ bytes.old.items) }
 {
     let len = bytes.len();
     if bytes.capacity() - len < piece.len() {

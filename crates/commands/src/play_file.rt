@@ -10,7 +10,7 @@ ghost use Rattle.playing.specs.Lives.{Fills};
 ghost use Rattle.playing.specs.Plays.{IsPlay};
 ghost use Rattle.table_image.specs.Internet.{Internet};
 ghost use Rattle.table_image.specs.Spelling.{image_spelling};
-ghost use Rattle.commands.specs.Streams.{Hands, Uses, WroteImage};
+ghost use Rattle.commands.specs.Streams.{Hands, IsPlayRefused, Uses, WroteImage};
 ghost use Rattle.text.specs.Writing.{Writes};
 
 use crate::input::Input;
@@ -68,6 +68,7 @@ fn read_and_play<R: Read, P: Progress>(
     ensures played { IfOk result (λ p. IfSome (R.remaining input.old.reader) (λ text.
         (i : Internet) × IsPlay text p.lines.items p.yes i
         × Spells image_spelling p.image.items i)) }
+    ensures named { IfErr result IsPlayRefused }
     ensures refused { IfSome (R.remaining input.old.reader) (λ text. IfErr result (λ e.
         (e ≡ Error.ReadFault) ⊎ IsFileRefused text e
         ⊎ (((plan : Planned) × IsFile text plan) × ((e ≡ Error.Full) ⊎ (e ≡ Error.Memory))))) }
@@ -180,6 +181,7 @@ pub fn play_bytes<R: Read, W: Write, I: Write, P: Progress>(
         (output.old.text.items ++ lines)
         × Appends (I.contents image.old.writer) (I.contents image.new.writer)
         (image.old.text.items ++ bytes))) }
+    ensures named { IfErr result (λ e. IsPlayRefused e ⊎ (e ≡ Error.WriteFault)) }
     // A text that is no file has the error of its first fault, or `ReadFault` or `Memory`; a text
     // that is a file has only `Full` and errors of memory, the reader or a writer.
     ensures refused { IfSome (R.remaining input.old.reader) (λ text. IfErr result (λ e.

@@ -4,7 +4,7 @@ ghost use Rattle.std.specs.Prelude.{◌≡◌, ◌≢◌, ◌⊎◌, ℕ, List};
 ghost use Rattle.std.specs.Prelude.{IfOk, IfErr, IfSome, IsErrAnd};
 ghost use Rattle.script.specs.Scripts.{IsBadAt, IsScript};
 ghost use Rattle.script.specs.declared.step.Step.{Step as StepValue};
-ghost use Rattle.commands.specs.Streams.{Uses};
+ghost use Rattle.commands.specs.Streams.{IsScriptRefused, Uses};
 
 use crate::input::Input;
 use at_base::Error;
@@ -17,6 +17,7 @@ use std::io::Read;
 pub fn read_steps<R: Read>(alloc: Global, input: &mut Input<R>) -> Result<Vec<Step>, Error>
     ensures found { IfOk result (λ steps. IfSome (R.remaining input.old.reader)
         (λ text. IsScript text steps.items)) }
+    ensures named { IfErr result IsScriptRefused }
     // A script with a bad line has the error of its first bad line, or `ReadFault` or `Memory`.
     ensures bad_line { IfSome (R.remaining input.old.reader) (λ text.
         (n : ℕ) → IsBadAt text n → IsErrAnd result (λ e.

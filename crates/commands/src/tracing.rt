@@ -9,7 +9,9 @@ ghost use Rattle.script.specs.Scripts.{IsScript};
 ghost use Rattle.script.specs.declared.step.Step.{Step as StepValue};
 ghost use Rattle.table_image.specs.Internet.{Internet};
 ghost use Rattle.table_image.specs.Spelling.{image_spelling};
-ghost use Rattle.commands.specs.Streams.{First, Reads, Run, Wrote};
+ghost use Rattle.commands.specs.Pieces.{ReadsNoMore, ReadsUnflawed};
+ghost use Rattle.commands.specs.Streams.{First, IsImageRefused, IsScriptRefused};
+ghost use Rattle.commands.specs.Streams.{Reads, Run, Wrote};
 ghost use Rattle.commands.specs.declared.input.TheConstants.{READS};
 
 use crate::image_input::read_image;
@@ -41,10 +43,17 @@ pub fn run_frozen<I: Read, S: Read, W: Write>(
         × Spells image_spelling bytes i × IsScript text steps × IsPrinted i steps yes lines
         × Appends (W.contents output.old.writer) (W.contents output.new.writer)
         (output.old.text.items ++ lines)))) }
+    ensures named { IfErr result (λ e.
+        IsImageRefused e ⊎ IsScriptRefused e ⊎ (e ≡ Error.WriteFault)) }
     ensures refused { Run (I.remaining image.old.reader) (S.remaining script.old.reader) result }
     ensures read_fault { result ≡ Err Error.ReadFault
         → (image.new.faults ≢ image.old.faults) ⊎ (image.new.reads ≡ READS)
         ⊎ (script.new.faults ≢ script.old.faults) ⊎ (script.new.reads ≡ READS) }
+    // A read fault is the error only where what was read of the image before has no flaw, and no
+    // more of it is read than the piece that has the first flaw.
+    ensures unflawed { result ≡ Err Error.ReadFault
+        → ReadsUnflawed (I.remaining image.old.reader) (I.remaining image.new.reader) }
+    ensures no_more { ReadsNoMore (I.remaining image.old.reader) (I.remaining image.new.reader) }
     ensures image { Reads (I.remaining image.new.reader) image.old.faults image.new.faults
         image.new.fault result }
     ensures script { Reads (S.remaining script.new.reader) script.old.faults script.new.faults

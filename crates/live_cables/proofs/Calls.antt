@@ -179,7 +179,8 @@ took_played seats losing t es stamp station once due calm =
     nothing_here [] = refl
     nothing_here (p ∷ ps) = nothing_here ps
 
-named_is : (c : Cabling) (stamp station : ℕ) (Hears : Hearing → List Output → Type 0) (mid : Cabling)
+-- The frame was pending.
+pub named_is : (c : Cabling) (stamp station : ℕ) (Hears : Hearing → List Output → Type 0) (mid : Cabling)
     → Takes c mid stamp station Hears → IsDueThen c.seats (transcript c) (Took stamp station)
 named_is c stamp station Hears mid x =
     let at = contained_at (pending c.seats (transcript c)) x.pair x.was_pending in

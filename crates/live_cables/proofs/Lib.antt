@@ -12,3 +12,6 @@ pub mod Taken
 pub mod Answered
 pub mod Whole
 pub mod Idle
+pub mod Heard
+mod NoRoom
+mod Parts

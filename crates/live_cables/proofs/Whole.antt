@@ -20,25 +20,32 @@ use Rattle.live_cables.proofs.Knows.{few_same, knows_out, map-set}
 use Rattle.station.specs.Hearing.{Hearing}
 use Rattle.station.specs.declared.output.Output.{Output}
 
--- The cables and what a station knows belong together.
-abbrev pub IsWhole : Cabling → Knowing → Type 0
-IsWhole c k =
+-- The cables, what a station knows and the limit belong together.
+abbrev pub IsWhole : ℕ → Cabling → Knowing → Type 0
+IsWhole limit c k =
     (k.seats ≡ c.seats) × (length k.own ≡ length c.seats) × (length k.maps ≡ length c.seats) × (c.rooms ≡ held_rooms)
-    × AreFew k.maps
+    × AreFew k.maps × (limit ≡ c.limit)
 
 -- What stays the same in a call, and what still holds after it.
 pub record StaysWhole (c d : Cabling) (k l : Knowing) : Type 0 where
   pub seats : d.seats ≡ c.seats
+  pub limit : d.limit ≡ c.limit
   pub rooms : d.rooms ≡ held_rooms
   pub near_seats : l.seats ≡ k.seats
   pub own : l.own ≡ k.own
   pub as_many : length l.maps ≡ length k.maps
   pub few : AreFew l.maps
 
-pub still_whole : (c d : Cabling) (k l : Knowing) → IsWhole c k → StaysWhole c d k l → IsWhole d l
-still_whole c d k l (seats, own, maps, rooms, few) h =
-    let many = ap length (sym h.seats) in
-    (h.near_seats ∙ (seats ∙ sym h.seats), ap length h.own ∙ (own ∙ many), h.as_many ∙ (maps ∙ many), h.rooms, h.few)
+pub still_whole : (limit : ℕ) (c d : Cabling) (k l : Knowing) → IsWhole limit c k → StaysWhole c d k l → IsWhole limit d l
+still_whole limit c d k l (seats, own, maps, rooms, few, most) h =
+    let many = ap length (sym h.seats) in (
+      h.near_seats ∙ (seats ∙ sym h.seats),
+      ap length h.own ∙ (own ∙ many),
+      h.as_many ∙ (maps ∙ many),
+      h.rooms,
+      h.few,
+      most ∙ sym h.limit,
+    )
 
 -- ---- Where only the datagrams that are held differ
 
@@ -47,11 +54,12 @@ as_many_known k l x =
     sym (length-map l.maps (λ (m : Mappings). m.known))
     ∙ (ap length x.known ∙ length-map k.maps (λ (m : Mappings). m.known))
 
-pub whole_known : (c d : Cabling) (k l : Knowing) → IsWhole c k → KnowsSame k l → d.seats ≡ c.seats → d.rooms ≡ held_rooms
-    → IsWhole d l
-whole_known c d k l whole x seats rooms =
-    still_whole c d k l whole (record {
+pub whole_known : (most : ℕ) (c d : Cabling) (k l : Knowing) → IsWhole most c k → KnowsSame k l → d.seats ≡ c.seats
+    → d.limit ≡ c.limit → d.rooms ≡ held_rooms → IsWhole most d l
+whole_known most c d k l whole x seats limit rooms =
+    still_whole most c d k l whole (record {
       seats = seats;
+      limit = limit;
       rooms = rooms;
       near_seats = ap (λ n. n.seats) x.others;
       own = ap (λ n. n.own) x.others;
@@ -129,11 +137,12 @@ module _ (stamp station ports : ℕ) (Hears : Hearing → List Output → Type 0
       knows_out old.0.seats station (transcript old.0 ++ Took stamp station ∷ []) h.took.added old.1 h.took.told h.took.bytes h.after
       h.took.out
 
-  pub whole_taken : (d : Cabling) → IsWhole old.0 old.1 → d.seats ≡ old.0.seats → d.rooms ≡ new.0.rooms → AreFew new.1.maps
-      → IsWhole d new.1
-  whole_taken d whole seats rooms few =
-      still_whole old.0 d old.1 new.1 whole (record {
+  pub whole_taken : (most : ℕ) (d : Cabling) → IsWhole most old.0 old.1 → d.seats ≡ old.0.seats → d.limit ≡ old.0.limit
+      → d.rooms ≡ new.0.rooms → AreFew new.1.maps → IsWhole most d new.1
+  whole_taken most d whole seats limit rooms few =
+      still_whole most old.0 d old.1 new.1 whole (record {
         seats = seats;
+        limit = limit;
         rooms = rooms ∙ (told_rooms old.1.seats station h.answer _ _ h.told ∙ (h.took.entries.rooms ∙ whole.3));
         near_seats = ap (λ n. n.seats) h.others ∙ ap (λ n. n.seats) knows_after.others;
         own = ap (λ n. n.own) h.others ∙ ap (λ n. n.own) knows_after.others;
@@ -154,8 +163,9 @@ module _ (stamp station ports : ℕ) (Hears : Hearing → List Output → Type 0
 abbrev pub wires : Cabling → Knowing → List Bool → Wires
 wires c k losing = record { cabling = c; own = k.own; maps = k.maps; ranges = k.ranges; losing = losing }
 
-pub faced : (c : Cabling) (k f : Knowing) (station : ℕ) → f ≡ record k { station = station } → IsWhole c k → IsWhole c f
-faced c k f station e whole = subst (IsWhole c) (sym e) whole
+pub faced : (most : ℕ) (c : Cabling) (k f : Knowing) (station : ℕ) → f ≡ record k { station = station } → IsWhole most c k
+    → IsWhole most c f
+faced most c k f station e whole = subst (IsWhole most c) (sym e) whole
 
 pub is_knowing : (c : Cabling) (k f : Knowing) (losing : List Bool) (station : ℕ) → f ≡ record k { station = station }
     → k.seats ≡ c.seats → f ≡ knowing (wires c k losing) station
@@ -183,13 +193,15 @@ few_at_first : (seats : List Seat) → AreFew (map (λ (s : Seat). record { know
 few_at_first [] = tt
 few_at_first (s ∷ seats) = (omega arith, few_at_first seats)
 
-pub whole_first : (c : Cabling) (k : Knowing) (seats : List Seat) → c.seats ≡ seats → c.rooms ≡ held_rooms → k.seats ≡ seats
-    → k.own ≡ map (λ (s : Seat). None) seats → k.maps ≡ map (λ (s : Seat). record { known = []; held = [] }) seats → IsWhole c k
-whole_first c k seats cs rooms ks own maps =
+pub whole_first : (most : ℕ) (c : Cabling) (k : Knowing) (seats : List Seat) → c.seats ≡ seats → c.limit ≡ most
+    → c.rooms ≡ held_rooms → k.seats ≡ seats → k.own ≡ map (λ (s : Seat). None) seats
+    → k.maps ≡ map (λ (s : Seat). record { known = []; held = [] }) seats → IsWhole most c k
+whole_first most c k seats cs limit rooms ks own maps =
     let many = ap length (sym cs) in (
       ks ∙ sym cs,
       ap length own ∙ (length-map seats _ ∙ many),
       ap length maps ∙ (length-map seats _ ∙ many),
       rooms,
       subst AreFew (sym maps) (few_at_first seats),
+      sym limit,
     )

@@ -1,5 +1,5 @@
 -- The contents of live cables.
-use Rattle.std.specs.Prelude.{Bool, Contains, IsTrue, List, Option, false, length, slice_get, ℕ, ◌++◌, ◌∷◌, ◌≡◌}
+use Rattle.std.specs.Prelude.{Bool, Contains, IsTrue, List, Option, false, length, slice_get, take, ℕ, ◌++◌, ◌∷◌, ◌≡◌, ◌⊎◌}
 use Rattle.std.specs.Option.{unwrap_or}
 use Rattle.aarp.specs.Mapping.{Mappings, shed, to_ask}
 use Rattle.at_base.specs.Range.{Span}
@@ -12,7 +12,7 @@ use Rattle.live_cables.specs.Finding.{Knowing, held_at as held_in}
 use Rattle.live_cables.specs.Holding.{AreShed, with_tick}
 use Rattle.live_cables.specs.Playing.{IsPlayed, are_lost, is_took}
 use Rattle.live_cables.specs.Putting.{AreAsked, AreGiven}
-use Rattle.live_cables.specs.Steps.{Loses, losses_since}
+use Rattle.live_cables.specs.Steps.{HasNoRoom, Loses, are_gone, losses_since}
 use Rattle.live_cables.specs.Taking.{IsTakenIn}
 use Rattle.station.specs.Hearing.{Hearing}
 use Rattle.station.specs.declared.output.Output.{Output}
@@ -88,12 +88,25 @@ GivesOut station outputs old new =
     × Loses (losses_since old.losing (length old.cabling.lines) mid.0) mid.0 new.cabling × (new.maps ≡ mid.1.maps)
     × Stays old new
 
--- A station took a frame, resolving addresses by its own mappings, and its outputs were sent, or held; then the mapping of
--- an AARP response was learnt, and the datagrams that were held for it were put; then only losses were added, of frames
--- that this call put on cables that lose frames.
+-- A station's outputs were sent, and nothing else changed.
+abbrev pub Sends : ℕ → List Output → Wires → Wires → Type 0
+Sends station outputs old new =
+    (mid : Cabling × Knowing)
+    × AreGiven station outputs (old.cabling, knowing old station) mid × (new.cabling ≡ mid.0) × (new.maps ≡ mid.1.maps)
+    × Stays old new
+
+-- The first of a station's outputs were sent; or all of them were, and then some of the frames were lost that this call
+-- put on cables that lose frames.
+abbrev pub GivesInPart : ℕ → List Output → Wires → Wires → Type 0
+GivesInPart station outputs old new = ((n : ℕ) × Sends station (take n outputs) old new) ⊎ GivesOut station outputs old new
+
+-- There was room for as many entries as a take may need. A station took a frame, resolving addresses by its own mappings,
+-- and its outputs were sent, or held; then the mapping of an AARP response was learnt, and the datagrams that were held for
+-- it were put; then only losses were added, of frames that this call put on cables that lose frames.
 abbrev pub TakesIn : ℕ → ℕ → ℕ → (Hearing → List Output → Type 0) → Wires → Wires → Type 0
 TakesIn stamp station ports Hears old new =
-    (mid : Cabling × Knowing)
+    (HasNoRoom 1285 old.cabling → ⊥)
+    × (mid : Cabling × Knowing)
     × IsTakenIn stamp station ports Hears (old.cabling, knowing old station) mid
     × Loses (losses_since old.losing (length old.cabling.lines) mid.0) mid.0 new.cabling × (new.maps ≡ mid.1.maps)
     × Stays old new
@@ -107,3 +120,26 @@ PassesFor seat old new =
     × (lost : Cabling) × Loses (losses_since old.losing (length old.cabling.lines) asked) asked lost
     × AreShed (shed (held_in old.maps seat)) lost new.cabling × (new.maps ≡ with_tick old.maps seat)
     × Stays old new
+
+-- AARP requests for these addresses were sent by the station of a seat.
+abbrev pub Asks : ℕ → List Addr → Wires → Cabling → Type 0
+Asks seat addrs old new = AreAsked (slice_get old.cabling.seats seat) (slice_get old.own seat) addrs old.cabling new
+
+-- The first datagrams that a seat's tick gives up were lost, after all frames that its requests put on cables that lose
+-- frames.
+abbrev pub ShedsInPart : ℕ → Wires → Cabling → Cabling → Type 0
+ShedsInPart seat old asked new =
+    (lost : Cabling) × Loses (losses_since old.losing (length old.cabling.lines) asked) asked lost
+    × IsTrue (are_gone (losses_since old.losing (length old.cabling.lines) asked) lost)
+    × (n : ℕ) × AreShed (take n (shed (held_in old.maps seat))) lost new
+
+-- The mappings of a seat advanced by a tick, and the first of its AARP requests were sent again; or all of them were, and
+-- then some of the frames were lost that they put on cables that lose frames; or all of these were, and then the first of
+-- the datagrams that the tick gives up.
+abbrev pub PassesInPart : ℕ → Wires → Wires → Type 0
+PassesInPart seat old new =
+    (((n : ℕ) × Asks seat (take n (to_ask (held_in old.maps seat))) old new.cabling)
+    ⊎ ((asked : Cabling) × Asks seat (to_ask (held_in old.maps seat)) old asked
+    × (Loses (losses_since old.losing (length old.cabling.lines) asked) asked new.cabling
+    ⊎ ShedsInPart seat old asked new.cabling)))
+    × (new.maps ≡ with_tick old.maps seat) × Stays old new

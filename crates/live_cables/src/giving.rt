@@ -1,6 +1,6 @@
 //! Sends a station's outputs of a tick.
 
-ghost use Rattle.std.specs.Prelude.{IfErr, OnOk, [], ◌≡◌, ◌⊎◌, option_and_then, slice_get};
+ghost use Rattle.std.specs.Prelude.{IfErr, OnErr, OnOk, [], ℕ, ◌≡◌, ◌⊎◌, drop, option_and_then, slice_get, take};
 ghost use Rattle.std.specs.List.{AllByRecursion};
 ghost use Rattle.cable_model.specs.Rooms.{held_rooms};
 ghost use Rattle.live_cables.specs.Finding.{seat_by};
@@ -39,6 +39,8 @@ fn give(
     ensures near { KnowsSame near.old near.new }
     ensures rooms { cables.new.rooms ≡ held_rooms }
     ensures full { (result ≡ Err Error.Full) → HasNoRoom 5 cables.new }
+    ensures kept { OnErr result (cables.new ≡ cables.old) }
+    ensures near_stays { OnErr result (near.new ≡ near.old) }
     ensures refused { IfErr result (λ e. (e ≡ Error.Full) ⊎ (e ≡ Error.Memory)) }
 {
     match output {
@@ -54,7 +56,8 @@ fn give(
     }
 }
 
-/// Sends the outputs of a station, the oldest first. Errors: `Full`, `Memory`.
+/// Sends the outputs of a station, the oldest first. Errors: `Full`, `Memory`; the first of them are
+/// sent then.
 pub fn give_all(
     cables: &mut Cables,
     near: &mut Neighbours,
@@ -64,12 +67,15 @@ pub fn give_all(
     requires sendable { AllByRecursion IsSendable outputs.old.items }
     requires rooms { cables.old.rooms ≡ held_rooms }
     ensures given { OnOk result (AreGiven station outputs.old.items (cables.old, near.old) (cables.new, near.new)) }
+    ensures part { OnErr result ((n : ℕ)
+        × AreGiven station (take n outputs.old.items) (cables.old, near.old) (cables.new, near.new)) }
     ensures puts { Puts cables.old cables.new }
     ensures near { KnowsSame near.old near.new }
     ensures rooms { cables.new.rooms ≡ held_rooms }
     ensures full { (result ≡ Err Error.Full) → HasNoRoom 5 cables.new }
     ensures refused { IfErr result (λ e. (e ≡ Error.Full) ⊎ (e ≡ Error.Memory)) }
     ensures emptied { OnOk result (outputs.new.items ≡ []) }
+    ensures left { (n : ℕ) × (outputs.new.items ≡ drop n outputs.old.items) }
 {
     let output = match outputs.pop() {
         Some(output) => output,

@@ -1,10 +1,11 @@
 //! Live cables.
 
-ghost use Rattle.std.specs.Prelude.{◌≡◌, ◌⊎◌, ◌↔◌, ◌==◌, [], IfErr, IfOk, IfNone, IfSome};
-ghost use Rattle.std.specs.Prelude.{false, length, map, slice_set, IsOkUnless, IsTrue, None, OnErr};
-ghost use Rattle.std.specs.Prelude.{OnOk, ℕ};
+ghost use Rattle.std.specs.Prelude.{◌≡◌, ◌⊎◌, ◌↔◌, ◌==◌, ◌&&◌, ◌+◌, ◌≤◌, [], IfErr, IfOk, IfNone, IfSome};
+ghost use Rattle.std.specs.Prelude.{drop, false, length, map, nat_lt, slice_set, true, IsOkUnless, IsTrue, None};
+ghost use Rattle.std.specs.Prelude.{OnErr, OnOk, ℕ};
 ghost use Rattle.std.specs.List.{list_any};
 ghost use Rattle.aarp.specs.Mapping as mapping_spec;
+ghost use Rattle.aarp.specs.Mapping.{to_ask};
 ghost use Rattle.cable_model.specs.Books.{HasOneSeat};
 ghost use Rattle.cable_model.specs.Logs as logs_spec;
 ghost use Rattle.cable_model.specs.Logs.{bytes_at, pending_on};
@@ -12,8 +13,8 @@ ghost use Rattle.cable_model.specs.Outcomes.{AreSeatsOf, IsLeast, is_named};
 ghost use Rattle.cable_model.specs.Rooms.{held_rooms};
 ghost use Rattle.cable_model.specs.Transcript.{ArePutOnce};
 ghost use Rattle.live_cables.specs.Finding.{held_at};
-ghost use Rattle.live_cables.specs.Living.{GivesOut, IsTakenBy, PassesFor, Plays, PlaysOn};
-ghost use Rattle.live_cables.specs.Living.{TakesIn, happened};
+ghost use Rattle.live_cables.specs.Living.{GivesInPart, GivesOut, IsTakenBy, PassesFor, PassesInPart};
+ghost use Rattle.live_cables.specs.Living.{Plays, PlaysOn, TakesIn, happened};
 ghost use Rattle.live_cables.specs.Steps.{HasNoRoom};
 ghost use Rattle.station.specs.Lawful.{AreLawful};
 
@@ -37,6 +38,8 @@ pub struct LiveCables {
     near: Neighbours,
     // Whether each cable loses the frames that are put on it in this tick.
     losing: Vec<bool>,
+    // The greatest number of entries.
+    limit: u32,
     alloc: Global,
 }
 
@@ -60,7 +63,8 @@ impl Model for LiveCables {
         × (length c.near.own ≡ length c.cables.seats)
         × (length c.near.maps ≡ length c.cables.seats)
         × (c.cables.rooms ≡ held_rooms)
-        × AreFew c.near.maps };
+        × AreFew c.near.maps
+        × (c.limit ≡ c.cables.limit) };
 }
 
 /// A fact for the prover: no two frames have the same stamp. Does nothing.
@@ -102,6 +106,7 @@ impl LiveCables {
             cables,
             near: Neighbours::new(alloc, seats, ranges)?,
             losing: Vec::new(alloc),
+            limit,
             alloc,
         })
     }
@@ -158,14 +163,18 @@ impl LiveCables {
     /// hardware address isn't known is held, and an AARP request is sent for the address. Outputs
     /// of other kinds are ignored.
     ///
-    /// Errors: `Full`, `Memory`. After an error, what was done so far stays done.
+    /// Errors: `Full`, `Memory`. After an error, the first outputs are sent, or all of them are and
+    /// not all frames that were to be lost are lost.
     pub fn give(&mut self, station: u16, outputs: &mut Outputs) -> Result<(), Error>
         requires lawful { (n : ℕ) × AreLawful n outputs.old.items }
         ensures plays { Plays self.old self.new }
         ensures given { OnOk result
             (GivesOut station outputs.old.items self.old self.new) }
+        ensures part { OnErr result
+            (GivesInPart station outputs.old.items self.old self.new) }
         ensures done { OnOk result (PlaysOn 0 self.old self.new) }
         ensures emptied { OnOk result (outputs.new.items ≡ []) }
+        ensures left { (n : ℕ) × (outputs.new.items ≡ drop n outputs.old.items) }
         ensures full { (result ≡ Err Error.Full) → HasNoRoom 5 self.new.cabling }
         ensures refused { IfErr result (λ e. (e ≡ Error.Full) ⊎ (e ≡ Error.Memory)) }
     {
@@ -181,13 +190,31 @@ impl LiveCables {
         lose_from(self.alloc, &mut self.cables, &self.losing, from)
     }
 
+    /// Whether the limit leaves no room for so many further entries. Allocates nothing.
+    fn has_no_room(&self, more: usize) -> bool
+        requires { more ≤ 1285 }
+        ensures { result ≡ nat_lt self.now.cabling.limit (length self.now.cabling.lines + more) }
+    {
+        (self.limit as usize) < self.cables.transcript().len() + more
+    }
+
+    /// Whether the frame with this stamp is pending for the station, and fewer entries are left
+    /// than a take may need. Allocates nothing.
+    fn is_full_for(&self, stamp: u32, station: u16) -> bool
+        ensures { result ≡ (nat_lt self.now.cabling.limit (length self.now.cabling.lines + 1285)
+            && list_any (is_named stamp station) (pending_on self.now.cabling)) }
+    {
+        self.has_no_room(Rooms::HELD.take.lines) && self.cables.pending(stamp, station)
+    }
+
     /// A station takes a frame that is pending for it, and its outputs go onto its cables. A
     /// datagram to a station whose hardware address isn't known is held, and an AARP request is
     /// sent for the address; an AARP response releases the datagrams that are held for its sender.
     /// The caller must ensure that the station's ports are those of its seats.
     ///
-    /// Errors: `NotPending`, which changes nothing; `Full`, `Memory`. After `Full` or `Memory`
-    /// nothing has changed, or the take is done and not all frames that were to be lost are.
+    /// Errors, in this order: `NotPending`; `Full` if there is room for fewer than 1,285 entries;
+    /// `Memory`; nothing has changed then. If the frames that are to be lost can't be, `Full` or
+    /// `Memory`: the take is done then, and not all of them are lost.
     pub fn take<S: Taker>(&mut self, stamp: u32, station: u16, taker: &mut S) -> Result<(), Error>
         requires { AreSeatsOf self.old.cabling.seats station (S.ports_of taker.old) }
         ensures plays { Plays self.old self.new }
@@ -197,15 +224,21 @@ impl LiveCables {
         ensures heard { OnOk result (IsTakenBy self.old self.new stamp station
             (λ h added. S.hears taker.old h added taker.new)) }
         ensures stopped { OnErr result (((self.new ≡ self.old) × (taker.new ≡ taker.old))
-            ⊎ IsTakenBy self.old self.new stamp station
-            (λ h added. S.hears taker.old h added taker.new)) }
+            ⊎ TakesIn stamp station (S.ports_of taker.old)
+            (λ h added. S.hears taker.old h added taker.new) self.old self.new) }
         ensures ports_stay { S.ports_of taker.new ≡ S.ports_of taker.old }
         ensures not_pending { (result ≡ Err Error.NotPending) ↔ (list_any (is_named stamp station)
             (pending_on self.old.cabling) ≡ false) }
         ensures full { (result ≡ Err Error.Full) → HasNoRoom 1285 self.new.cabling }
+        ensures no_room { list_any (is_named stamp station) (pending_on self.old.cabling) ≡ true
+            → HasNoRoom 1285 self.old.cabling → result ≡ Err Error.Full }
         ensures refused { IfErr result (λ e. (e ≡ Error.NotPending) ⊎ (e ≡ Error.Full)
             ⊎ (e ≡ Error.Memory)) }
     {
+        // Too little room is an error before too little memory to learn a response.
+        if self.is_full_for(stamp, station) {
+            return Err(Error::Full);
+        }
         let from = self.cables.transcript().len();
         self.near.face(station);
         match take(&mut self.cables, &mut self.near, stamp, station, taker) {
@@ -231,13 +264,17 @@ impl LiveCables {
     /// Returns the addresses for which ten requests had no response; the datagrams that were held
     /// for them are given up.
     ///
-    /// Errors: `Full`, `Memory`. After an error, what was done so far stays done.
+    /// Errors: `Full`, `Memory`. After an error the mappings have advanced, and what was sent and lost
+    /// before it stays so.
     pub fn pass(&mut self, seat: usize) -> Result<Addresses, Error>
         ensures plays { Plays self.old self.new }
         ensures passed { OnOk result (PassesFor seat self.old self.new) }
+        ensures part { OnErr result (PassesInPart seat self.old self.new) }
         ensures done { OnOk result (PlaysOn 0 self.old self.new) }
         ensures given_up { IfOk result (λ addrs. addrs ≡ mapping_spec.given_up (held_at self.old.maps seat)) }
         ensures full { (result ≡ Err Error.Full) → HasNoRoom 1 self.new.cabling }
+        ensures no_room { 1 ≤ length (to_ask (held_at self.old.maps seat))
+            → HasNoRoom 1 self.old.cabling → result ≡ Err Error.Full }
         ensures refused { IfErr result (λ e. (e ≡ Error.Full) ⊎ (e ≡ Error.Memory)) }
     {
         let from = self.cables.transcript().len();
@@ -246,6 +283,7 @@ impl LiveCables {
             self.alloc,
             &mut self.cables,
             &self.near,
+            self.limit,
             seat,
             asks.ask.as_slice(),
         ) {

@@ -1,7 +1,7 @@
 //! Frames that a seat's station puts on its cable.
 
 ghost use Rattle.std.specs.Prelude.{◌≡◌, ◌<◌, ◌≤◌, ◌+◌, ◌⊎◌, ◌↔◌, true, length};
-ghost use Rattle.std.specs.Prelude.{IfErr, OnErr, OnOk, slice_get};
+ghost use Rattle.std.specs.Prelude.{IfErr, IsSome, OnErr, OnOk, slice_get};
 ghost use Rattle.cable_model.specs.Outcomes.{is_seated};
 ghost use Rattle.cable_model.specs.Rooms.{held_rooms};
 ghost use Rattle.live_cables.specs.Holding.{KnowsSame};
@@ -73,17 +73,22 @@ pub fn send(
     }
 }
 
-/// Sends an AARP request for an address on the cable of a seat. Errors: `Full`, `Memory`.
+/// Sends an AARP request for an address on the cable of a seat; `limit` is the limit of the cables.
+/// Errors, in this order: `Full`, `Memory`.
 pub fn ask(
     alloc: Global,
     cables: &mut Cables,
     near: &Neighbours,
+    limit: u32,
     index: usize,
     addr: Addr,
 ) -> Result<(), Error>
+    requires { limit ≡ cables.old.limit }
     ensures asked { OnOk result (IsAsked (slice_get near.now.seats index)
         (slice_get near.now.own index) addr cables.old cables.new) }
     ensures full { (result ≡ Err Error.Full) → cables.old.limit < length cables.old.lines + 1 }
+    ensures no_room { IsSome (slice_get near.now.seats index) → HasNoRoom 1 cables.old
+        → result ≡ Err Error.Full }
     ensures rooms { cables.new.rooms ≡ cables.old.rooms }
     ensures kept { OnErr result (cables.new ≡ cables.old) }
     ensures puts { Puts cables.old cables.new }
@@ -95,6 +100,10 @@ pub fn ask(
     let Some(packet) = near.request(index, addr) else {
         return Ok(());
     };
+    // Too little room is an error before too little memory for the bytes.
+    if cables.transcript().len() >= limit as usize {
+        return Err(Error::Full);
+    }
     match Bytes::copy(alloc, &packet) {
         Ok(bytes) => put(cables, seat, Hw::ALL, Kind::Aarp, bytes),
         Err(_) => Err(Error::Memory),

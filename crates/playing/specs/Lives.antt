@@ -1,10 +1,11 @@
 -- The history of a world: it starts as its plan says, and its ticks follow one after the other.
 use Rattle.std.specs.Prelude.{◌≡◌, ◌+◌, ◌<◌, []}
+use Rattle.at_base.specs.declared.error.Error.TheVariants.{Full}
 use Rattle.internet_file.specs.Files.{Planned}
-use Rattle.live_cables.specs.Living.{Wires}
 use Rattle.live_cables.specs.Steps.{HasNoRoom}
 use Rattle.planned_stations.specs.Beginning.{AreBegun}
 use Rattle.world.specs.Scheduling.{IsSchedule}
+use Rattle.world.specs.Stopping.{IsStopped}
 use Rattle.world.specs.Ticking.{IsTick}
 use Rattle.world.specs.Worlds.{Ticks, TicksOn, Worldly, wires_begun}
 
@@ -17,14 +18,17 @@ pub data Lives : Worldly → Type 0 where
   Passed : (old new : Worldly) → Lives old → new.plan ≡ old.plan → new.now ≡ old.now + 1
       → TicksOn old.plan new.now old.wires new.wires → IsTick old new → Lives new
 
--- A plan for whose play the transcript has no room: the ticks before one of its ticks finished, and after some entries
--- of that tick, fewer than 1,285 of the 4,000,000 entries are free, as many as one take may need.
+-- A plan for whose play the transcript has no room: the ticks before one of its ticks finished, and that tick was stopped
+-- by Full, with the steps before the one that has no room done. Fewer than 1,285 of the 4,000,000 entries are free then, as
+-- many as one take may need.
 pub record Fills (plan : Planned) : Type 0 where
   pub before : Worldly
   pub of : before.plan ≡ plan
   pub lived : Lives before
   pub early : before.now < plan.ticks
-  pub wires : Wires
-  pub ticks : Ticks plan (before.now + 1) before.wires wires
-  pub limit : wires.cabling.limit ≡ 4000000
-  pub full : HasNoRoom 1285 wires.cabling
+  pub after : Worldly
+  pub next : after.now ≡ before.now + 1
+  pub stops : IsStopped Full before after
+  pub ticks : Ticks plan after.now before.wires after.wires
+  pub limit : after.wires.cabling.limit ≡ 4000000
+  pub full : HasNoRoom 1285 after.wires.cabling

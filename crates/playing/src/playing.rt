@@ -151,7 +151,7 @@ pub fn play_text<P: Progress>(alloc: Global, text: &[u8], progress: &mut P) -> R
     // has no error but `Full` and `Memory`.
     ensures refused { IfErr result (λ e. IsFileRefused text.now e
         ⊎ (((plan : Planned) × IsFile text.now plan) × ((e ≡ Error.Full) ⊎ (e ≡ Error.Memory)))) }
-    // The error is `Full` only if one of the plan's ticks has no room.
+    // The error is `Full` only if one of the plan's ticks was stopped for lack of room.
     ensures full { (result ≡ Err Error.Full)
         → ((plan : Planned) × IsFile text.now plan × Fills plan) }
     ensures others { IfErr result (λ e. (e ≢ Error.ReadFault) × (e ≢ Error.WriteFault)) }

@@ -1,6 +1,6 @@
 //! The lines of received datagrams.
 
-ghost use Rattle.std.specs.Prelude.{◌≡◌, ◌++◌, OnOk};
+ghost use Rattle.std.specs.Prelude.{◌≡◌, ◌++◌, OnErr, OnOk};
 ghost use Rattle.playing.specs.Lines.{data_text, received_line, received_lines};
 
 use end_node::Datagram;
@@ -37,10 +37,8 @@ fn put_line(text: &mut Vec<u8>, node: u16, datagram: &Datagram) -> Result<(), Al
     Ok(())
 }
 
-/// Appends a line for each datagram that a node received, the oldest first: `node K received SOURCE
-/// SOCKET TYPE DATA`. Nodes are counted from 1, SOCKET is the target socket, and DATA is in
-/// hexadecimal digits, or a dash if there is none.
-pub fn put_received(text: &mut Vec<u8>, node: u16, datagrams: &[Datagram]) -> Result<(), AllocError>
+/// Appends a line for each datagram, the oldest first.
+fn put_lines(text: &mut Vec<u8>, node: u16, datagrams: &[Datagram]) -> Result<(), AllocError>
     ensures { OnOk result
         (text.new.items ≡ text.old.items ++ received_lines node datagrams.now) }
 {
@@ -48,7 +46,21 @@ pub fn put_received(text: &mut Vec<u8>, node: u16, datagrams: &[Datagram]) -> Re
         [] => Ok(()),
         [first, rest @ ..] => {
             put_line(text, node, first)?;
-            put_received(text, node, rest)
+            put_lines(text, node, rest)
         }
     }
+}
+
+/// Appends a line for each datagram that a node received, the oldest first: `node K received SOURCE
+/// SOCKET TYPE DATA`. Nodes are counted from 1, SOCKET is the target socket, and DATA is in
+/// hexadecimal digits, or a dash if there is none. Error: `AllocError`; the text then stays as it
+/// was.
+pub fn put_received(text: &mut Vec<u8>, node: u16, datagrams: &[Datagram]) -> Result<(), AllocError>
+    ensures ok { OnOk result
+        (text.new.items ≡ text.old.items ++ received_lines node datagrams.now) }
+    ensures kept { OnErr result (text.new.items ≡ text.old.items) }
+{
+    let mut lines = Vec::new(*text.allocator());
+    put_lines(&mut lines, node, datagrams)?;
+    text.extend_from_slice(lines.as_slice())
 }

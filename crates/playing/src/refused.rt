@@ -1,6 +1,6 @@
 //! The lines of refused actions.
 
-ghost use Rattle.std.specs.Prelude.{◌≡◌, ◌++◌, OnOk};
+ghost use Rattle.std.specs.Prelude.{◌≡◌, ◌++◌, OnErr, OnOk};
 ghost use Rattle.playing.specs.Lines.{refused_line, refused_lines};
 
 use std::alloc::AllocError;
@@ -19,16 +19,27 @@ fn put_line(text: &mut Vec<u8>, refused: (u32, u8)) -> Result<(), AllocError>
     Ok(())
 }
 
-/// Appends a line for each action that had an error, in order: `action K refused N`, where actions
-/// are counted from 1, and N is the number of the error.
-pub fn put_refused(text: &mut Vec<u8>, refused: &[(u32, u8)]) -> Result<(), AllocError>
+/// Appends a line for each action that had an error, in order.
+fn put_lines(text: &mut Vec<u8>, refused: &[(u32, u8)]) -> Result<(), AllocError>
     ensures { OnOk result (text.new.items ≡ text.old.items ++ refused_lines refused.now) }
 {
     match refused {
         [] => Ok(()),
         [first, rest @ ..] => {
             put_line(text, *first)?;
-            put_refused(text, rest)
+            put_lines(text, rest)
         }
     }
+}
+
+/// Appends a line for each action that had an error, in order: `action K refused N`, where actions
+/// are counted from 1, and N is the number of the error. Error: `AllocError`; the text then stays
+/// as it was.
+pub fn put_refused(text: &mut Vec<u8>, refused: &[(u32, u8)]) -> Result<(), AllocError>
+    ensures ok { OnOk result (text.new.items ≡ text.old.items ++ refused_lines refused.now) }
+    ensures kept { OnErr result (text.new.items ≡ text.old.items) }
+{
+    let mut lines = Vec::new(*text.allocator());
+    put_lines(&mut lines, refused)?;
+    text.extend_from_slice(lines.as_slice())
 }

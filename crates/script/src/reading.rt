@@ -25,7 +25,8 @@ use text::cut::cut;
 /// digits, without a sign and without leading zeros; STAMP and MAX fit 32 bits.
 ///
 /// Errors: `BadScript` with the number of the first line that is none of these, counted from 1, at
-/// most 4,294,967,295; `Memory`.
+/// most 4,294,967,295; `Memory`. Lines are read one after the other, so `Memory` may come before a
+/// bad line is found.
 pub fn read(alloc: Global, text: &[u8]) -> Result<Vec<Step>, Error>
     ensures script { IfOk result (λ steps. IsScript text.now steps.items) }
     ensures refused { IfErr result (λ e.

@@ -3,6 +3,7 @@ use Rattle.std.proofs.Common.{◌≡◌, ℕ, ◌+◌, ◌*◌, ◌/◌, ◌%◌
 use Rattle.std.proofs.Common.{slice_index, slice_set, refl, ap, sym, ◌∙◌, arith}
 use Rattle.std.proofs.lemmas.List.{append_assoc, append-nil, drop_all, drop_more, take_all, take_more_set, length-set}
 use Rattle.std.proofs.lemmas.Fmt.{decimal_step}
+use Rattle.std.proofs.Math.Seq.{take-append_seam}
 use Rattle.std.specs.Fmt.{decimal, digit_glyph}
 use Rattle.text.specs.Digits.{hex_text}
 
@@ -13,6 +14,11 @@ decimal_more n old front new low high first last =
     last ∙ ap (λ f. f ++ (48 + n % 10) ∷ []) first
     ∙ append_assoc old (decimal (n / 10)) ((48 + n % 10) ∷ [])
     ∙ ap (λ d. old ++ d) (sym (decimal_step n low (omega arith)))
+
+-- what was appended is cut off again
+pub cut_back : (old mid new more : List ℕ) (start : ℕ) → start ≡ length old → mid ≡ old ++ more → new ≡ take start mid → new ≡ old
+cut_back old mid new more start begins grown cut =
+    cut ∙ ap (take start) grown ∙ ap (λ (n : ℕ). take n (old ++ more)) begins ∙ take-append_seam old more
 
 -- after two writes in a row, the front of the list
 pub take-two_writes : (xs : List ℕ) (o x y : ℕ) → o + 1 < length xs

@@ -1,6 +1,7 @@
 //! Writing numbers and bytes in digits.
 
-ghost use Rattle.std.specs.Prelude.{◌≡◌, ◌<◌, ◌+◌, ◌*◌, ◌++◌, ◌∷◌, [], true, length, OnOk};
+ghost use Rattle.std.specs.Prelude.{◌≡◌, ◌<◌, ◌+◌, ◌*◌, ◌++◌, ◌∷◌, [], true, codes, length, take};
+ghost use Rattle.std.specs.Prelude.{OnErr, OnOk};
 ghost use Rattle.std.specs.Fmt.{decimal, digit_glyph};
 ghost use Rattle.at_base.specs.Texts.{address_text};
 ghost use Rattle.text.specs.Digits.{hex_text};
@@ -8,35 +9,54 @@ ghost use Rattle.text.specs.Digits.{hex_text};
 use at_base::Addr;
 use std::alloc::AllocError;
 
-/// Appends a decimal digit. Error: `AllocError`.
+/// Appends a decimal digit. Error: `AllocError`; the text then stays as it was.
 fn put_digit(text: &mut Vec<u8>, digit: u8) -> Result<(), AllocError>
     requires { digit < 10 }
-    ensures { OnOk result (text.new.items ≡ text.old.items ++ (48 + digit) ∷ []) }
+    ensures ok { OnOk result (text.new.items ≡ text.old.items ++ (48 + digit) ∷ []) }
+    ensures kept { OnErr result (text.new.items ≡ text.old.items) }
 {
     text.push(b'0' + digit)?;
     Ok(())
 }
 
-/// Appends a number in decimal. Error: `AllocError`. Numbers below 1,000 don't recurse, since most
-/// numbers are short.
+/// Appends a further digit of a number that begins at `start`. Error: `AllocError`; the text then
+/// ends where the number began.
+fn put_next(text: &mut Vec<u8>, start: usize, digit: u8) -> Result<(), AllocError>
+    requires { digit < 10 }
+    ensures ok { OnOk result (text.new.items ≡ text.old.items ++ (48 + digit) ∷ []) }
+    ensures cut { OnErr result (text.new.items ≡ take start text.old.items) }
+{
+    match put_digit(text, digit) {
+        Ok(()) => Ok(()),
+        Err(error) => {
+            text.truncate(start);
+            Err(error)
+        }
+    }
+}
+
+/// Appends a number in decimal. Error: `AllocError`; the text then stays as it was. Numbers below
+/// 1,000 don't recurse, since most numbers are short.
 #[tactic(auto, using(std::proofs::lemmas::Fmt::decimal_digit))]
 pub fn put_decimal(text: &mut Vec<u8>, number: u32) -> Result<(), AllocError>
-    ensures { OnOk result (text.new.items ≡ text.old.items ++ decimal number) }
+    ensures ok { OnOk result (text.new.items ≡ text.old.items ++ decimal number) }
+    ensures kept { OnErr result (text.new.items ≡ text.old.items) }
 {
     if number < 10 {
         return put_digit(text, number as u8);
     }
+    let start = text.len();
     if number < 100 {
         put_digit(text, (number / 10) as u8)?;
-        return put_digit(text, (number % 10) as u8);
+        return put_next(text, start, (number % 10) as u8);
     }
     if number < 1000 {
         put_digit(text, (number / 100) as u8)?;
-        put_digit(text, (number / 10 % 10) as u8)?;
-        return put_digit(text, (number % 10) as u8);
+        put_next(text, start, (number / 10 % 10) as u8)?;
+        return put_next(text, start, (number % 10) as u8);
     }
     put_decimal(text, number / 10)?;
-    put_digit(text, (number % 10) as u8)
+    put_next(text, start, (number % 10) as u8)
 }
 
 /// A hexadecimal digit, in upper case.
@@ -63,10 +83,12 @@ fn write_hex(out: &mut [u8], bytes: &[u8])
     }
 }
 
-/// Appends bytes as pairs of hexadecimal digits, in upper case. Error: `AllocError`. Room is made
-/// first, so that the loop over the bytes has no branch for allocation.
+/// Appends bytes as pairs of hexadecimal digits, in upper case. Error: `AllocError`; the text then
+/// stays as it was. Room is made first, so that the loop over the bytes has no branch for
+/// allocation.
 pub fn put_hex(text: &mut Vec<u8>, bytes: &[u8]) -> Result<(), AllocError>
-    ensures { OnOk result (text.new.items ≡ text.old.items ++ hex_text bytes.now) }
+    ensures ok { OnOk result (text.new.items ≡ text.old.items ++ hex_text bytes.now) }
+    ensures kept { OnErr result (text.new.items ≡ text.old.items) }
 {
     let start = text.len();
     let Some(end) = bytes
@@ -81,11 +103,34 @@ pub fn put_hex(text: &mut Vec<u8>, bytes: &[u8]) -> Result<(), AllocError>
     Ok(())
 }
 
-/// Appends an address, as `10.7`. Error: `AllocError`.
-pub fn put_address(text: &mut Vec<u8>, address: Addr) -> Result<(), AllocError>
-    ensures { OnOk result (text.new.items ≡ text.old.items ++ address_text address) }
+/// Appends a dot and the number of a node. Error: `AllocError`; the text then stays as it was.
+fn put_node(text: &mut Vec<u8>, node: u8) -> Result<(), AllocError>
+    ensures ok { OnOk result (text.new.items ≡ text.old.items ++ codes "." ++ decimal node) }
+    ensures kept { OnErr result (text.new.items ≡ text.old.items) }
 {
+    let start = text.len();
+    text.push(b'.')?;
+    match put_decimal(text, u32::from(node)) {
+        Ok(()) => Ok(()),
+        Err(error) => {
+            text.truncate(start);
+            Err(error)
+        }
+    }
+}
+
+/// Appends an address, as `10.7`. Error: `AllocError`; the text then stays as it was.
+pub fn put_address(text: &mut Vec<u8>, address: Addr) -> Result<(), AllocError>
+    ensures ok { OnOk result (text.new.items ≡ text.old.items ++ address_text address) }
+    ensures kept { OnErr result (text.new.items ≡ text.old.items) }
+{
+    let start = text.len();
     put_decimal(text, u32::from(address.net))?;
-    text.extend_from_slice(b".")?;
-    put_decimal(text, u32::from(address.node))
+    match put_node(text, address.node) {
+        Ok(()) => Ok(()),
+        Err(error) => {
+            text.truncate(start);
+            Err(error)
+        }
+    }
 }

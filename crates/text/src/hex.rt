@@ -1,6 +1,6 @@
 //! Reading bytes from hexadecimal digits.
 
-ghost use Rattle.std.specs.Prelude.{◌≡◌, ◌<◌, ◌∷◌, None, Some, length};
+ghost use Rattle.std.specs.Prelude.{◌≡◌, ◌<◌, ◌∷◌, None, Some, is_some, length};
 ghost use Rattle.std.specs.Prelude.{IfNone, IfOk, IfSome, IsOkUnless};
 ghost use Rattle.text.specs.Words as spec;
 ghost use Rattle.text.specs.Words.{given};
@@ -36,12 +36,30 @@ fn first_pair(digits: &[u8]) -> Option<(u8, &[u8])>
     }
 }
 
+/// Whether the text is pairs of hexadecimal digits.
+fn are_pairs(digits: &[u8]) -> bool
+    ensures { result ≡ is_some (spec.pairs digits.now) }
+{
+    let mut rest = digits;
+    while rest.len() > 0 {
+        let Some((_byte, more)) = first_pair(rest) else {
+            return false;
+        };
+        rest = more;
+    }
+    true
+}
+
 /// The bytes that pairs of hexadecimal digits in either case spell; `None` if the text isn't such
-/// pairs. No digits give no bytes. Error: `Memory`.
+/// pairs, for which no memory is needed. No digits give no bytes. Error: `Memory`.
 pub fn pairs(alloc: Global, digits: &[u8]) -> Result<Option<Bytes>, Error>
     ensures read { IfOk result (λ x. x ≡ spec.pairs digits.now) }
+    ensures none { spec.pairs digits.now ≡ None → result ≡ Ok None }
     ensures refused { IsOkUnless result Error.Memory }
 {
+    if !are_pairs(digits) {
+        return Ok(None);
+    }
     let mut bytes = Vec::with_capacity(alloc, digits.len() / 2)?;
     let mut rest = digits;
     while rest.len() > 0 {

@@ -16,6 +16,7 @@ use Rattle.live_router.specs.Living.{Living}
 use Rattle.station.specs.declared.output.Output.{Output}
 use Rattle.station.specs.declared.way.Way.{Way}
 use Rattle.world.specs.Doing.{IsDone, IsDoneBy, acted_by, number_from, put_by, station_for}
+use Rattle.world.specs.Stopping.{StopsAction, StopsDoing}
 
 -- ---- The error of an action
 
@@ -51,3 +52,17 @@ pub done_for : (plan : Planned) (stations : List (Member Living LivingNode)) (in
 done_for plan stations index station action m old new at who there does =
     let there2 : slice_get stations (station_for plan action) ≡ Some m = ap (slice_get stations) (sym who) ∙ there in
     rw at (rw there2 (subst (λ s. IsDoneBy m s action.action index old new) who does))
+
+-- ---- An action that was stopped
+
+pub stops_for : (plan : Planned) (stations : List (Member Living LivingNode)) (index station : ℕ) (action : Action)
+    (m : Member Living LivingNode) (old new : Wires) → slice_get plan.actions index ≡ Some action
+    → station ≡ station_for plan action → slice_get stations station ≡ Some m
+    → StopsDoing m station action.action old new → StopsAction plan stations index old new
+stops_for plan stations index station action m old new at who there stops = record {
+  action = action;
+  m = m;
+  planned = at;
+  there = ap (slice_get stations) (sym who) ∙ there;
+  stops = subst (λ s. StopsDoing m s action.action old new) who stops;
+}

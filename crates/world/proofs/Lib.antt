@@ -4,6 +4,7 @@ pub mod Begun
 pub mod Stations
 pub mod Losses
 pub mod Ticked
+mod Acted
 mod Doing
 pub mod Kept
 pub mod Stopped

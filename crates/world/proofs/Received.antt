@@ -23,7 +23,8 @@ use Rattle.end_node.specs.declared.node.Datagram.{Datagram as Received}
 use Rattle.station.specs.Members.{EitherHears}
 use Rattle.station.specs.declared.member.Member.{Member}
 use Rattle.station.specs.declared.member.Member.TheVariants.{Router, Node}
-use Rattle.live_cables.specs.Living.{IsTakenBy, Wires, happened}
+use Rattle.live_cables.proofs.Heard.{heard_in}
+use Rattle.live_cables.specs.Living.{IsTakenBy, TakesIn, Wires, happened}
 use Rattle.live_node.specs.Living.{LivingNode, LiveHears as NodeHears, informed, is_waiting, routed, taught, told}
 use Rattle.rtmp.specs.Data.{routing_in, RoutingData}
 use Rattle.zip_zones.specs.Formats.{zones_in}
@@ -37,6 +38,7 @@ use Rattle.station.specs.declared.output.Output.{Output}
 use Rattle.zip_zones.specs.declared.packet.NetInfo.{NetInfo}
 use Rattle.zip_zones.specs.declared.packet.Packet.{Packet as ZipPacket}
 use Rattle.zip_zones.specs.declared.packet.Packet.TheVariants.{Query, Reply, GetNetInfo, NetInfoReply, ExtendedReply}
+use Rattle.planned_stations.specs.Planning.{ports_of}
 use Rattle.world.specs.Going.{Goes}
 use Rattle.world.specs.Received.{AreReceived, Hears, got}
 use Rattle.world.specs.Worlds.{IsReceived}
@@ -262,10 +264,10 @@ module _ (ms : List (Member Living LivingNode)) (k : ℕ) (old new : Wires) (sta
       (map got ms) (map_at got ms k before at) h)
 
   pub take_received : (r : Result (Unit {0}) Error) → At ms k before → OnOk r (IsTakenBy old new stamp k HearsIt)
-      → OnErr r (((new ≡ old) × (after ≡ before)) ⊎ IsTakenBy old new stamp k HearsIt) → AreReceived (happened old) (map got ms)
+      → OnErr r (((new ≡ old) × (after ≡ before)) ⊎ TakesIn stamp k (ports_of before) HearsIt old new) → AreReceived (happened old) (map got ms)
       → AreReceived (happened new) (map got (slice_set ms k after))
   take_received (Ok u) at ok err h = did at ok h
-  take_received (Err e) at ok (inr x) h = did at x h
+  take_received (Err e) at ok (inr x) h = did at (heard_in stamp k (ports_of before) HearsIt old new x) h
   take_received (Err e) at ok (inl same) h =
       subst (λ t. AreReceived t (map got (slice_set ms k after))) (ap happened (sym same.0))
       (subst (AreReceived (happened old)) (sym (got_stays ms k before after at (ap got same.1))) h)

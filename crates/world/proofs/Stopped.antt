@@ -1,14 +1,21 @@
 -- The stations after a step that was refused.
 use Rattle.std.proofs.Common.{◌≡◌, ◌⊎◌, inl, inr, ℕ, zero, suc, List, [], ◌∷◌, Option, Some, slice_get, slice_set, refl, ap, ◌∙◌}
-use Rattle.std.specs.Prelude.{Err, Ok, OnErr, Result}
+use Rattle.std.specs.Prelude.{Err, IfErr, Ok, OnErr, Result}
 use Rattle.std.proofs.lemmas.Result.{on_err_weaker}
 use Rattle.at_base.specs.declared.error.Error.{Error}
-use Rattle.live_cables.specs.Living.{IsTakenBy, Wires}
+use Rattle.at_base.specs.declared.error.Error.TheVariants.{Full}
+use Rattle.cable_model.specs.Logs.{pending_on}
+use Rattle.cable_model.specs.Outcomes.{IsLeast}
+use Rattle.live_cables.specs.Living.{TakesIn, Wires}
+use Rattle.live_cables.specs.Steps.{HasNoRoom}
 use Rattle.live_node.specs.Living.{LivingNode, LiveHears as NodeHears}
 use Rattle.live_router.specs.Living.{Living, LiveHears as RouterHears}
 use Rattle.station.specs.Members.{EitherHears}
 use Rattle.station.specs.declared.member.Member.{Member}
-use Rattle.world.specs.Stopping.{IsHearer, MayStop}
+use Rattle.planned_stations.specs.Planning.{ports_of}
+use Rattle.world.specs.Stopping.{MayStop, MayTake, StopsTick}
+use Rattle.world.specs.Taking.{IsTaker}
+use Rattle.world.specs.Ticking.{IsTick}
 use Rattle.world.specs.Worlds.{Worldly}
 
 -- An element is replaced by itself.
@@ -22,18 +29,18 @@ pub any_error : {T E : Type 0} {P : Type 0} (r : Result T E) → P → OnErr r P
 any_error (Ok x) p = tt
 any_error (Err e) p = p
 
--- A station that was to take a frame heard it, or it stays the same.
+-- A station took a frame, or it stays the same.
 module _ (ms : List (Member Living LivingNode)) (k stamp : ℕ) (old new : Wires) (before after : Member Living LivingNode)
     (at : slice_get ms k ≡ Some before) where
-  abbrev TakenBy : Type 0
-  TakenBy = IsTakenBy old new stamp k (λ heard added. EitherHears RouterHears NodeHears before heard added after)
+  abbrev TakesIt : Type 0
+  TakesIt = TakesIn stamp k (ports_of before) (λ heard added. EitherHears RouterHears NodeHears before heard added after) old new
 
-  abbrev MayHear : Type 0
-  MayHear = ((slice_set ms k after ≡ ms) × (new ≡ old)) ⊎ IsHearer stamp k ms (slice_set ms k after) old new
+  abbrev TakesOrStays : Type 0
+  TakesOrStays = ((slice_set ms k after ≡ ms) × (new ≡ old)) ⊎ IsTaker stamp k ms (slice_set ms k after) old new
 
-  may_hear : ((new ≡ old) × (after ≡ before)) ⊎ TakenBy → MayHear
-  may_hear (inl same) = inl (ap (slice_set ms k) same.1 ∙ set_itself ms k before at, same.0)
-  may_hear (inr x) = inr (record {
+  takes_or_stays : ((new ≡ old) × (after ≡ before)) ⊎ TakesIt → TakesOrStays
+  takes_or_stays (inl same) = inl (ap (slice_set ms k) same.1 ∙ set_itself ms k before at, same.0)
+  takes_or_stays (inr x) = inr (record {
     m = before;
     after = after;
     there = at;
@@ -41,14 +48,34 @@ module _ (ms : List (Member Living LivingNode)) (k stamp : ℕ) (old new : Wires
     set = refl;
   })
 
-  pub take_stopped : {U : Type 0} (r : Result U Error) → OnErr r (((new ≡ old) × (after ≡ before)) ⊎ TakenBy) → OnErr r MayHear
-  take_stopped r x = on_err_weaker r may_hear x
+  pub take_stopped : {U : Type 0} (r : Result U Error) → OnErr r (((new ≡ old) × (after ≡ before)) ⊎ TakesIt) → OnErr r TakesOrStays
+  take_stopped r x = on_err_weaker r takes_or_stays x
+
+-- The taking of the first frame was refused.
+pub first_stopped : (stamp station : ℕ) (ms now : List (Member Living LivingNode)) (old new : Wires) (e : Error)
+    → IsLeast (pending_on old.cabling) stamp station → (HasNoRoom 1285 old.cabling → e ≡ Full)
+    → ((now ≡ ms) × (new ≡ old)) ⊎ IsTaker stamp station ms now old new → MayTake e ms now old new
+first_stopped stamp station ms now old new e least room (inl same) = inl (same.0, same.1, room)
+first_stopped stamp station ms now old new e least room (inr taken) =
+    inr (record { stamp = stamp; station = station; least = least; by = taken })
+
+-- What holds of an error, with what holds where it is Full.
+pub of_error : {T P : Type 0} {Q R : Error → Type 0} (r : Result T Error) → ((e : Error) → Q e → (e ≡ Full → P) → R e)
+    → IfErr r Q → (r ≡ Err Full → P) → IfErr r R
+of_error (Ok x) f q full = tt
+of_error (Err e) f q full = f e q (λ same. full (ap Err same))
+
+-- A tick is counted before its phases.
+pub tick_counted : (old new : Worldly) (now : ℕ) → IsTick (record old { now = now }) new → IsTick old new
+tick_counted old new now x = record { losing = x.losing; loses = x.loses; plays = x.plays }
+
+pub stop_counted : (old new : Worldly) (now : ℕ) (e : Error) → StopsTick e (record old { now = now }) new → StopsTick e old new
+stop_counted old new now e (inl none) = inl none
+stop_counted old new now e (inr x) = inr (record { losing = x.losing; loses = x.loses; stops = x.stops })
 
 -- The error of a tick is recorded, and nothing else changes.
-pub may_stop_noted : (old new : Worldly) (e : Option Error) → MayStop old new → MayStop old (record new { stopped = e })
-may_stop_noted old new e (inl same) = inl same
-may_stop_noted old new e (inr x) = inr (record {
-  losing = x.losing;
-  loses = x.loses;
-  stops = x.stops;
-})
+pub may_stop_noted : (old new : Worldly) (e : Error) (noted : Option Error) → MayStop e old new
+    → MayStop e old (record new { stopped = noted })
+may_stop_noted old new e noted (inl none) = inl none
+may_stop_noted old new e noted (inr (inl none)) = inr (inl none)
+may_stop_noted old new e noted (inr (inr x)) = inr (inr (record { losing = x.losing; loses = x.loses; stops = x.stops }))

@@ -1,5 +1,5 @@
 -- What a tick leaves, whether or not it finished.
-use Rattle.std.specs.Prelude.{◌≡◌, ◌⊎◌, ◌≤◌, Result, Err, None, Some, IfErr, IfSome, OnErr, OnOk}
+use Rattle.std.specs.Prelude.{◌≡◌, ◌⊎◌, ◌≤◌, Result, Err, None, Some, IfErr, IfSome, OnOk}
 use Rattle.at_base.specs.declared.error.Error.{Error}
 use Rattle.at_base.specs.declared.error.Error.TheVariants.{Full}
 use Rattle.live_cables.specs.Steps.{HasNoRoom}
@@ -8,12 +8,12 @@ use Rattle.world.specs.Stopping.{MayStop}
 use Rattle.world.specs.Ticking.{IsTick}
 use Rattle.world.specs.Worlds.{Ticks, TicksOn, Worldly}
 
--- What was done: if the tick finished, a whole tick, and otherwise what came before the step that was refused.
+-- What was done: if the tick finished, a whole tick, and otherwise the steps before the one that was refused.
 pub record Ticked {A : Type 0} (old new : Worldly) (result : Result A Error) : Type 0 where
   pub ticks : Ticks old.plan new.now old.wires new.wires
   pub ticks_on : OnOk result (TicksOn old.plan new.now old.wires new.wires)
   pub plays : OnOk result (IsTick old new)
-  pub steps_stay : OnErr result (MayStop old new)
+  pub steps_stay : IfErr result (λ e. MayStop e old new)
   pub keeps : KeepsFirst old.refused new.refused
 
 -- A tick after the plan's last one is refused and changes only `stopped`; one within the plan is full only if the

@@ -1,33 +1,41 @@
--- The stations of a world after a tick that was refused: what was done before the refused step stays done.
-use Rattle.std.specs.Prelude.{◌≡◌, ◌⊎◌, ℕ, ◌<◌, List, Bool, length}
+-- What a tick that was refused leaves: the steps before the refused one are done, and of the refused one only what is
+-- stated here.
+use Rattle.std.specs.Prelude.{◌≡◌, ◌⊎◌, ℕ, zero, suc, ◌+◌, ◌<◌, ◌≤◌, List, [], ◌∷◌, ◌++◌, Bool, Ok, Some, length, slice_get}
+use Rattle.at_base.specs.declared.error.Error.{Error}
+use Rattle.at_base.specs.declared.error.Error.TheVariants.{Full, Memory}
 use Rattle.internet_file.specs.Files.{Planned}
-use Rattle.live_cables.specs.Living.{IsTakenBy, Wires}
-use Rattle.live_cables.specs.Steps.{loses_by}
-use Rattle.live_node.specs.Living.{LiveHears as NodeHears, LivingNode}
+use Rattle.internet_file.specs.declared.action.Action.{Action}
+use Rattle.internet_file.specs.declared.action.Do.{Do}
+use Rattle.live_cables.specs.Living.{GivesInPart, PassesInPart, Wires}
+use Rattle.live_cables.specs.Steps.{HasNoRoom, loses_by}
+use Rattle.live_node.specs.Living.{LivingNode}
 use Rattle.live_node.specs.Ticking.{LiveTicks as NodeTicks}
-use Rattle.live_router.specs.Living.{LiveHears as RouterHears, Living}
+use Rattle.live_router.specs.Living.{Living}
 use Rattle.live_router.specs.Ticking.{LiveTicks as RouterTicks}
 use Rattle.planned_stations.specs.Planning.{ports_of}
-use Rattle.station.specs.Members.{EitherHears, EitherTicks}
+use Rattle.station.specs.Members.{EitherTicks}
 use Rattle.station.specs.declared.member.Member.{Member}
 use Rattle.station.specs.declared.output.Output.{Output}
-use Rattle.world.specs.Doing.{settled_own}
-use Rattle.world.specs.Going.{Goes}
+use Rattle.world.specs.Acting.{tick_of}
+use Rattle.world.specs.Doing.{IsDone, acted_by, settled_own, station_for}
 use Rattle.world.specs.Losing.{loses_at}
 use Rattle.world.specs.Passing.{AreAged, HasTicked, HavePassed}
-use Rattle.world.specs.Taking.{AreTaken, IsOfFirst, IsOne}
+use Rattle.world.specs.Taking.{AreTaken, IsOne, IsTaken}
 use Rattle.world.specs.Ticking.{Begins}
 use Rattle.world.specs.Worlds.{Worldly}
 
--- The station with this first seat advanced by a tick, and its settled addresses were set.
-pub record HasAdvanced (seat : ℕ) (m now : Member Living LivingNode) (old new : Wires) : Type 0 where
+-- ---- The stations advance
+
+-- The station with this number and this first seat advanced by a tick, its settled addresses were set, and not all of its
+-- outputs were sent, or not all frames were lost that are to be.
+pub record HasAdvanced (number seat : ℕ) (m now : Member Living LivingNode) (old new : Wires) : Type 0 where
   pub outputs : List Output
   pub ticks : EitherTicks RouterTicks NodeTicks m outputs now
-  pub goes : Goes (record old { own = settled_own now seat (ports_of now) old.own }) new
+  pub gives : GivesInPart number outputs (record old { own = settled_own now seat (ports_of now) old.own }) new
 
--- The station with this first seat advanced by a tick, or nothing happened.
-abbrev pub MayTick : ℕ → Member Living LivingNode → Member Living LivingNode → Wires → Wires → Type 0
-MayTick seat m now old new = ((now ≡ m) × (new ≡ old)) ⊎ HasAdvanced seat m now old new
+-- The station with this number and this first seat advanced by a tick, or nothing happened.
+abbrev pub MayTick : ℕ → ℕ → Member Living LivingNode → Member Living LivingNode → Wires → Wires → Type 0
+MayTick number seat m now old new = ((now ≡ m) × (new ≡ old)) ⊎ HasAdvanced number seat m now old new
 
 -- The mappings of the first of `ports` seats of a station, from index `seat` on, advanced by a tick, and those of the
 -- next one were stopped.
@@ -36,7 +44,7 @@ pub record StopsAt (seat ports : ℕ) (m now : Member Living LivingNode) (old ne
   pub some : aged < ports
   pub last : Wires
   pub ages : AreAged seat aged m now old last
-  pub goes : Goes last new
+  pub passes : PassesInPart (seat + aged) last new
 
 -- The station with this number and this first seat advanced by a tick, and so did the mappings of its first ports, but
 -- not those of all.
@@ -49,7 +57,7 @@ pub record StopsAging (number seat : ℕ) (m now : Member Living LivingNode) (ol
 -- The station with this number and this first seat was stopped in its tick: as it advanced, or after that, as the
 -- mappings of its ports did.
 abbrev pub StopsPassing : ℕ → ℕ → Member Living LivingNode → Member Living LivingNode → Wires → Wires → Type 0
-StopsPassing number seat m now old new = MayTick seat m now old new ⊎ StopsAging number seat m now old new
+StopsPassing number seat m now old new = MayTick number seat m now old new ⊎ StopsAging number seat m now old new
 
 -- The first stations advanced by a tick, and the next one was stopped in its tick.
 pub record ArePassing (stations now : List (Member Living LivingNode)) (old new : Wires) : Type 0 where
@@ -60,63 +68,114 @@ pub record ArePassing (stations now : List (Member Living LivingNode)) (old new 
   pub passes : HavePassed number seat stations before old mid
   pub stops : IsOne number before now (λ m after. StopsPassing number seat m after mid new)
 
--- The station heard the frame with this stamp.
-abbrev pub IsHearer : ℕ → ℕ → List (Member Living LivingNode) → List (Member Living LivingNode) → Wires → Wires → Type 0
-IsHearer stamp station stations now old new =
-    IsOne station stations now
-    (λ m after. IsTakenBy old new stamp station (λ heard added. EitherHears RouterHears NodeHears m heard added after))
+-- ---- The actions are carried out
 
--- The lowest station for which the frame with the lowest pending stamp was pending heard it.
-abbrev pub IsHearing : List (Member Living LivingNode) → List (Member Living LivingNode) → Wires → Wires → Type 0
-IsHearing stations now old new = IsOfFirst old (λ stamp station. IsHearer stamp station stations now old new)
+-- An operation of a station was stopped: nothing changed, or not all of its outputs were sent, or not all frames were lost
+-- that are to be.
+abbrev pub StopsDoing : Member Living LivingNode → ℕ → Do → Wires → Wires → Type 0
+StopsDoing m station action old new =
+    (new ≡ old) ⊎ ((outputs : List Output) × (acted_by m action ≡ Ok outputs) × GivesInPart station outputs old new)
 
--- Nothing more happened, or the station that was to take the next frame heard it.
-abbrev pub MayHear : List (Member Living LivingNode) → List (Member Living LivingNode) → Wires → Wires → Type 0
-MayHear stations now old new = ((now ≡ stations) × (new ≡ old)) ⊎ IsHearing stations now old new
+-- The action with this index was stopped.
+pub record StopsAction (plan : Planned) (stations : List (Member Living LivingNode)) (index : ℕ) (old new : Wires) : Type 0 where
+  pub action : Action
+  pub m : Member Living LivingNode
+  pub planned : slice_get plan.actions index ≡ Some action
+  pub there : slice_get stations (station_for plan action) ≡ Some m
+  pub stops : StopsDoing m (station_for plan action) action.action old new
 
--- Frames were taken, fewer than `most`, and then the station that was to take the next one heard it, or nothing more
--- happened.
-pub record AreTaking (most : ℕ) (stations now : List (Member Living LivingNode)) (old new : Wires) : Type 0 where
+-- n actions at the end of the schedule, all of this tick, were carried out, the last one first.
+abbrev pub AreFirstDone : Planned → List (Member Living LivingNode) → ℕ → ℕ → List ℕ → List ℕ → Wires × List (ℕ × ℕ)
+    → Wires × List (ℕ × ℕ) → Type 0
+AreFirstDone plan stations now zero schedule left old new = (left ≡ schedule) × (new ≡ old)
+AreFirstDone plan stations now (suc n) schedule left old new =
+    (rest : List ℕ) × (index : ℕ) × (mid : Wires × List (ℕ × ℕ)) × (schedule ≡ rest ++ index ∷ [])
+    × (tick_of plan.actions index ≡ Some now) × IsDone plan stations index old mid
+    × AreFirstDone plan stations now n rest left mid new
+
+-- Actions of this tick were carried out, and the next one was stopped: it isn't in the schedule any more, and no error of
+-- it is recorded.
+pub record AreActing (plan : Planned) (stations : List (Member Living LivingNode)) (now : ℕ) (schedule left : List ℕ)
+    (old new : Wires × List (ℕ × ℕ)) : Type 0 where
+  pub done : ℕ
+  pub between : List ℕ
+  pub mid : Wires × List (ℕ × ℕ)
+  pub does : AreFirstDone plan stations now done schedule between old mid
+  pub index : ℕ
+  pub next : between ≡ left ++ index ∷ []
+  pub due : tick_of plan.actions index ≡ Some now
+  pub stops : StopsAction plan stations index mid.0 new.0
+  pub same : new.1 ≡ mid.1
+
+-- ---- Frames are taken
+
+-- The next frame wasn't taken and nothing changed, and the error is Full if there is no room to take it; or it was taken,
+-- and not all frames were lost that are to be.
+abbrev pub MayTake : Error → List (Member Living LivingNode) → List (Member Living LivingNode) → Wires → Wires → Type 0
+MayTake e stations now old new =
+    ((now ≡ stations) × (new ≡ old) × (HasNoRoom 1285 old.cabling → e ≡ Full)) ⊎ IsTaken stations now old new
+
+-- Frames were taken, fewer than `most`, and the taking of the next one was refused.
+pub record AreTaking (e : Error) (most : ℕ) (stations now : List (Member Living LivingNode)) (old new : Wires) : Type 0 where
   pub takings : ℕ
   pub few : takings < most
   pub before : List (Member Living LivingNode)
   pub mid : Wires
   pub takes : AreTaken takings stations before old mid
-  pub stops : MayHear before now mid new
+  pub stops : MayTake e before now mid new
+
+-- ---- The tick
 
 -- All stations advanced by a tick, and the tick was stopped in one of its actions.
-pub record HaveAllPassed (stations now : List (Member Living LivingNode)) (old new : Wires) : Type 0 where
+pub record HaveAllPassed (plan : Planned) (tick : ℕ) (stations now : List (Member Living LivingNode)) (old new : Wires)
+    (refused refused_now : List (ℕ × ℕ)) (schedule left : List ℕ) : Type 0 where
   pub seats : ℕ
   pub wires : Wires
   pub passes : HavePassed (length stations) seats stations now old wires
-  pub goes : Goes wires new
+  pub acting : AreActing plan now tick schedule left (wires, refused) (new, refused_now)
 
--- A tick was stopped as the stations advanced, or as its actions were carried out.
-abbrev pub StopsBefore : List (Member Living LivingNode) → List (Member Living LivingNode) → Wires → Wires → Type 0
-StopsBefore stations now old new = ArePassing stations now old new ⊎ HaveAllPassed stations now old new
+-- A tick was stopped as the stations advanced, before any of its actions, or as its actions were carried out.
+abbrev pub StopsBefore : Planned → ℕ → List (Member Living LivingNode) → List (Member Living LivingNode) → Wires → Wires
+    → List (ℕ × ℕ) → List (ℕ × ℕ) → List ℕ → List ℕ → Type 0
+StopsBefore plan tick stations now old new refused refused_now schedule left =
+    (ArePassing stations now old new × (refused_now ≡ refused) × (left ≡ schedule))
+    ⊎ HaveAllPassed plan tick stations now old new refused refused_now schedule left
 
 -- The stations advanced by a tick and its actions were carried out, and it was stopped as frames were taken.
-pub record StopsTaking (plan : Planned) (tick : ℕ) (stations now : List (Member Living LivingNode)) (old new : Wires)
+pub record StopsTaking (e : Error) (plan : Planned) (tick : ℕ) (stations now : List (Member Living LivingNode)) (old new : Wires)
     (refused refused_now : List (ℕ × ℕ)) (schedule left : List ℕ) : Type 0 where
   pub passed : List (Member Living LivingNode)
   pub acted : Wires
   pub begins : Begins plan tick stations passed old acted refused refused_now schedule left
-  pub taking : AreTaking 10000 passed now acted new
+  pub taking : AreTaking e 10000 passed now acted new
+  pub full : e ≡ Full → HasNoRoom 1285 new.cabling
 
--- A tick was stopped in one of its three phases.
-abbrev pub StopsIn : Planned → ℕ → List (Member Living LivingNode) → List (Member Living LivingNode) → Wires → Wires → List (ℕ × ℕ)
-    → List (ℕ × ℕ) → List ℕ → List ℕ → Type 0
-StopsIn plan tick stations now old new refused refused_now schedule left =
-    StopsBefore stations now old new ⊎ StopsTaking plan tick stations now old new refused refused_now schedule left
+-- A tick was stopped in one of its three phases; the error is Full only if there is no room for what the step may add: 5
+-- entries before frames are taken, and 1,285 then.
+abbrev pub StopsIn : Error → Planned → ℕ → List (Member Living LivingNode) → List (Member Living LivingNode) → Wires → Wires
+    → List (ℕ × ℕ) → List (ℕ × ℕ) → List ℕ → List ℕ → Type 0
+StopsIn e plan tick stations now old new refused refused_now schedule left =
+    (StopsBefore plan tick stations now old new refused refused_now schedule left × (e ≡ Full → HasNoRoom 5 new.cabling))
+    ⊎ StopsTaking e plan tick stations now old new refused refused_now schedule left
 
 -- A tick of the world was stopped in one of its phases, with the losses that the plan has for it.
-pub record IsStopped (old new : Worldly) : Type 0 where
+pub record IsStopped (e : Error) (old new : Worldly) : Type 0 where
   pub losing : List Bool
   pub loses : (cable : ℕ) → loses_by losing cable ≡ loses_at old.plan new.now cable
-  pub stops : StopsIn old.plan new.now old.stations new.stations (record old.wires { losing = losing }) new.wires
+  pub stops : StopsIn e old.plan new.now old.stations new.stations (record old.wires { losing = losing }) new.wires
       old.refused new.refused old.schedule new.schedule
 
--- A tick of the world was stopped before the first of its phases, and neither a station nor the cables changed; or in one
--- of them.
-abbrev pub MayStop : Worldly → Worldly → Type 0
-MayStop old new = ((new.stations ≡ old.stations) × (new.wires ≡ old.wires)) ⊎ IsStopped old new
+-- The stations, the cables, the recorded errors and the schedule stay the same.
+abbrev pub IsUntouched : Worldly → Worldly → Type 0
+IsUntouched old new =
+    (new.stations ≡ old.stations) × (new.wires ≡ old.wires) × (new.refused ≡ old.refused) × (new.schedule ≡ old.schedule)
+
+-- A tick was refused out of memory before the first of its phases, or stopped in one of them.
+abbrev pub StopsTick : Error → Worldly → Worldly → Type 0
+StopsTick e old new = ((e ≡ Memory) × IsUntouched old new) ⊎ IsStopped e old new
+
+-- There was no tick, as an earlier one was refused by this error or the plan has no more ticks; or it was refused out of
+-- memory before its phases; or it was stopped in one of them.
+abbrev pub MayStop : Error → Worldly → Worldly → Type 0
+MayStop e old new =
+    (((old.stopped ≡ Some e) ⊎ (old.plan.ticks ≤ old.now)) × IsUntouched old new) ⊎ StopsTick e old new

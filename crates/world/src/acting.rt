@@ -7,6 +7,7 @@ ghost use Rattle.station.specs.Lawful.{AreLawful};
 ghost use Rattle.world.specs.Acting.{AreDone, IsOver, KeepsFirst, tick_of};
 ghost use Rattle.world.specs.Doing.{IsDone, acted, acted_by, number_from, station_for};
 ghost use Rattle.world.specs.Going.{Did, GoesOn};
+ghost use Rattle.world.specs.Stopping.{AreActing, StopsAction};
 
 use at_base::Error;
 use internet_file::{Action, Do, Plan};
@@ -98,6 +99,8 @@ fn act_one<T: RouteTable>(
     ensures is_done { OnOk result (IsDone plan.now stations.now index
         (wires.old, refused.old.items) (wires.new, refused.new.items)) }
     ensures stays { OnErr result (refused.new.items ≡ refused.old.items) }
+    ensures stopped { OnErr result
+        (StopsAction plan.now stations.now index wires.old wires.new) }
     ensures keeps { KeepsFirst refused.old.items refused.new.items }
     ensures did { Did (GoesOn 0 wires.old wires.new) 5 wires.old wires.new result }
 {
@@ -147,17 +150,17 @@ pub fn act_all<T: RouteTable>(
     ensures are_done { OnOk result ((actions : ℕ) × AreDone plan.now stations.now now actions
         schedule.old.items schedule.new.items
         (wires.old, refused.old.items) (wires.new, refused.new.items)) }
+    ensures stopped { OnErr result (AreActing plan.now stations.now now
+        schedule.old.items schedule.new.items
+        (wires.old, refused.old.items) (wires.new, refused.new.items)) }
     ensures keeps { KeepsFirst refused.old.items refused.new.items }
     ensures did { Did (GoesOn 0 wires.old wires.new) 5 wires.old wires.new result }
 {
-    match next_due(schedule, plan.actions(), now) {
-        Some(index) => {
-            match act_one(plan, stations, wires, refused, index) {
-                Ok(()) => {}
-                Err(error) => return Err(error),
-            }
-            act_all(plan, stations, wires, refused, schedule, now)
+    while let Some(index) = next_due(schedule, plan.actions(), now) {
+        match act_one(plan, stations, wires, refused, index) {
+            Ok(()) => {}
+            Err(error) => return Err(error),
         }
-        None => Ok(()),
     }
+    Ok(())
 }

@@ -1,6 +1,6 @@
 //! The phases of a tick.
 
-ghost use Rattle.std.specs.Prelude.{◌≡◌, ◌≤◌, length, map, OnErr, OnOk};
+ghost use Rattle.std.specs.Prelude.{◌≡◌, ◌≤◌, length, map, IfErr, OnErr, OnOk};
 ghost use Rattle.live_cables.specs.Living.{happened};
 ghost use Rattle.planned_stations.specs.Planning.{AreSeated, ports_of};
 ghost use Rattle.world.specs.Acting.{KeepsFirst};
@@ -39,8 +39,9 @@ fn before_takings<T: RouteTable>(
     ensures begins { OnOk result (Begins plan.now now stations.old.items stations.new.items
         wires.old wires.new refused.old.items refused.new.items
         schedule.old.items schedule.new.items) }
-    ensures stopped { OnErr result
-        (StopsBefore stations.old.items stations.new.items wires.old wires.new) }
+    ensures stopped { OnErr result (StopsBefore plan.now now stations.old.items stations.new.items
+        wires.old wires.new refused.old.items refused.new.items
+        schedule.old.items schedule.new.items) }
 {
     match tick_all(*refused.allocator(), stations, wires) {
         Ok(()) => {}
@@ -67,9 +68,9 @@ pub fn run_phases<T: RouteTable>(
     ensures plays { OnOk result (Plays plan.now now stations.old.items stations.new.items
         wires.old wires.new refused.old.items refused.new.items
         schedule.old.items schedule.new.items) }
-    ensures stopped { OnErr result (StopsIn plan.now now stations.old.items stations.new.items
-        wires.old wires.new refused.old.items refused.new.items
-        schedule.old.items schedule.new.items) }
+    ensures stopped { IfErr result (λ e. StopsIn e plan.now now
+        stations.old.items stations.new.items wires.old wires.new
+        refused.old.items refused.new.items schedule.old.items schedule.new.items) }
     ensures received { AreReceived (happened wires.old) (map got stations.old.items)
         → AreReceived (happened wires.new) (map got stations.new.items) }
 {

@@ -3,6 +3,7 @@
 ghost use Rattle.std.specs.Prelude.{◌≡◌, ◌≤◌, ℕ, fold, length, map, slice_get};
 ghost use Rattle.std.specs.Prelude.{OnErr, OnOk, Some};
 ghost use Rattle.station.specs.declared.member.Member.{Member as MemberValue};
+ghost use Rattle.live_cables.specs.Living.{PassesInPart};
 ghost use Rattle.live_node.specs.Living.{LivingNode};
 ghost use Rattle.live_router.specs.Living.{Living};
 ghost use Rattle.planned_stations.specs.Planning.{ports_of};
@@ -83,6 +84,7 @@ fn age_mappings<T: RouteTable>(
     ensures got { got station.new ≡ got station.old }
     ensures aged { OnOk result (IsAged seat station.old station.new wires.old wires.new) }
     ensures stopped { OnErr result (station.new ≡ station.old) }
+    ensures part { OnErr result (PassesInPart seat wires.old wires.new) }
     ensures did { Did (GoesOn 0 wires.old wires.new) 5 wires.old wires.new result }
 {
     if wires.is_idle(seat) {
@@ -135,7 +137,7 @@ fn tick<T: RouteTable>(
     ensures got { got station.new ≡ got station.old }
     ensures ticked { OnOk result
         (HasTicked number seat station.old station.new wires.old wires.new) }
-    ensures stopped { OnErr result (MayTick seat station.old station.new wires.old wires.new) }
+    ensures stopped { OnErr result (MayTick number seat station.old station.new wires.old wires.new) }
     ensures did { Did (GoesOn 0 wires.old wires.new) 5 wires.old wires.new result }
 {
     let mut outputs = match Outputs::new(alloc) {

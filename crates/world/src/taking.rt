@@ -10,7 +10,7 @@ ghost use Rattle.live_cables.specs.Steps.{HasNoRoom};
 ghost use Rattle.planned_stations.specs.Planning.{AreSeated, ports_of};
 ghost use Rattle.world.specs.Going.{Did, Ends, Goes, GoesOn};
 ghost use Rattle.world.specs.Received.{AreReceived, got};
-ghost use Rattle.world.specs.Stopping.{AreTaking, IsHearer, MayHear};
+ghost use Rattle.world.specs.Stopping.{AreTaking, MayTake};
 ghost use Rattle.world.specs.Taking.{AreTaken, IsTaken, IsTaker};
 ghost use Rattle.cable_model.specs.Logs.{pending_on};
 
@@ -37,12 +37,14 @@ fn take<T: RouteTable>(
         wires.old wires.new) }
     ensures stopped { OnErr result (((stations.new.items ≡ stations.old.items)
         × (wires.new ≡ wires.old))
-        ⊎ IsHearer stamp station stations.old.items stations.new.items wires.old wires.new) }
+        ⊎ IsTaker stamp station stations.old.items stations.new.items wires.old wires.new) }
     ensures received { AreReceived (happened wires.old) (map got stations.old.items)
         → AreReceived (happened wires.new) (map got stations.new.items) }
     ensures not_pending { (result ≡ Err Error.NotPending) ↔ (list_any (is_named stamp station)
         (pending_on wires.old.cabling) ≡ false) }
     ensures full { (result ≡ Err Error.Full) → HasNoRoom 1285 wires.new.cabling }
+    ensures no_room { list_any (is_named stamp station) (pending_on wires.old.cabling) ≡ true
+        → HasNoRoom 1285 wires.old.cabling → result ≡ Err Error.Full }
     ensures refused { IfErr result (λ e. (e ≡ Error.NotPending) ⊎ (e ≡ Error.Full)
         ⊎ (e ≡ Error.Memory)) }
 {
@@ -62,8 +64,8 @@ fn take_first<T: RouteTable>(
     ensures took { IfOk result (λ was_one. GoesOn (one was_one) wires.old wires.new) }
     ensures taken { IfOk result (λ was_one. was_one ≡ true
         → IsTaken stations.old.items stations.new.items wires.old wires.new) }
-    ensures stopped { OnErr result
-        (MayHear stations.old.items stations.new.items wires.old wires.new) }
+    ensures stopped { IfErr result (λ e.
+        MayTake e stations.old.items stations.new.items wires.old wires.new) }
     ensures stay { IfOk result (λ was_one. was_one ≡ false
         → (stations.new.items ≡ stations.old.items) × (wires.new ≡ wires.old)) }
     ensures none { IfOk result (λ was_one. was_one ≡ false
@@ -93,7 +95,7 @@ pub fn take_all<T: RouteTable>(
     ensures did { Did (Ends most wires.old wires.new) 1285 wires.old wires.new result }
     ensures taken { OnOk result ((n : ℕ) × AreTaken n stations.old.items stations.new.items
         wires.old wires.new) }
-    ensures stopped { OnErr result (AreTaking most stations.old.items stations.new.items
+    ensures stopped { IfErr result (λ e. AreTaking e most stations.old.items stations.new.items
         wires.old wires.new) }
     ensures received { AreReceived (happened wires.old) (map got stations.old.items)
         → AreReceived (happened wires.new) (map got stations.new.items) }

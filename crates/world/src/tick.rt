@@ -1,11 +1,11 @@
 //! A tick of a world.
 
-ghost use Rattle.std.specs.Prelude.{◌≡◌, ◌<◌, ◌≤◌, ◌+◌, ◌⊎◌, IfErr, None, OnErr, OnOk, Some};
+ghost use Rattle.std.specs.Prelude.{◌≡◌, ◌<◌, ◌≤◌, ◌+◌, ◌⊎◌, IfErr, None, OnOk, Some};
 ghost use Rattle.cable_model.specs.Transcript.{ArePutOnce};
 ghost use Rattle.live_cables.specs.Living.{happened};
 ghost use Rattle.live_cables.specs.Steps.{HasNoRoom};
 ghost use Rattle.world.specs.Acting.{KeepsFirst};
-ghost use Rattle.world.specs.Stopping.{MayStop};
+ghost use Rattle.world.specs.Stopping.{StopsTick};
 ghost use Rattle.world.specs.Ticking.{IsTick};
 ghost use Rattle.world.specs.Worlds.{Ticks, TicksOn};
 ghost use Rattle.world.specs.Ended.{Over, Stops, Ticked};
@@ -34,7 +34,7 @@ impl<T: RouteTable> World<T> {
         ensures ticks_on { OnOk result
             (TicksOn self.old.plan self.old.now self.old.wires self.new.wires) }
         ensures plays { OnOk result (IsTick self.old self.new) }
-        ensures steps_stay { OnErr result (MayStop self.old self.new) }
+        ensures steps_stay { IfErr result (λ e. StopsTick e self.old self.new) }
         ensures keeps { KeepsFirst self.old.refused self.new.refused }
         ensures full { (result ≡ Err Error.Full) → HasNoRoom 1285 self.new.wires.cabling }
         ensures refused { IfErr result (λ e. (e ≡ Error.Full) ⊎ (e ≡ Error.Memory)) }

@@ -1,4 +1,4 @@
-use Rattle.std.proofs.Common.{◌≡◌, ◌⊎◌, ◌≤◌, List, [], ◌∷◌, Option, length, map, inl, inr, ap, ap₂, subst, ◌∙◌, rules}
+use Rattle.std.proofs.Common.{◌≡◌, ◌⊎◌, ◌≤◌, List, [], ◌∷◌, Option, length, map, inl, inr, ap, ap₂, subst, sym, ◌∙◌, rules}
 use Rattle.std.proofs.lemmas.List.{length-map}
 use Rattle.clap.specs.Words.{App, Row, Text, IsAmong, Kinds, is_simple, is_simple_and_free, subcommand_of, takes, fault_of}
 use Rattle.clap.specs.declared.error.ErrorKind.{ErrorKind}
@@ -150,3 +150,21 @@ returns-clause-version_short g c = λ name named.
     let fault = fault_is _ _ _ _ app named (version_short_asked name) in
     let none = c.in_ok-matches.ensures.kinds (ap is_simple_and_free app ∙ simple_and_free) in
     cc (fault, none)
+
+pub returns-in_err-matches-clause-kinds : goal.returns-in_err-matches-clause-kinds
+returns-in_err-matches-clause-kinds g c =
+    let app = c.in_ok-atalk_command.ensures in
+    let kinds = rw app at (c.in_err-matches.ensures.kinds (ap is_simple_and_free app ∙ simple_and_free)) in
+    search rules
+
+pub returns-clause-kinds : goal.returns-clause-kinds
+returns-clause-kinds g c =
+    let app = c.in_ok-atalk_command.ensures in
+    let texts = map g.S.AsStr.text c.args.arguments.now in
+    ap (λ (a : App). fault_of a texts) (sym app) ∙ c.in_ok-matches.ensures.kinds (ap is_simple_and_free app ∙ simple_and_free)
+
+pub returns-in_err-matches-clause-taken : goal.returns-in_err-matches-clause-taken
+returns-in_err-matches-clause-taken g c = λ passes.
+    let texts = map g.S.AsStr.text c.args.arguments.now in
+    let memory = c.in_err-matches.ensures.passes (ap (λ (a : App). takes a texts) c.in_ok-atalk_command.ensures ∙ passes) in
+    search rules

@@ -1,9 +1,12 @@
-use Rattle.std.proofs.Common.{◌≡◌, ◌∙◌, ◌⊎◌, ℕ, List, [], ◌++◌, Option, Some, None, Err, IfSome, take, inl, inr, refl, rules, sym, subst, append-nil}
-use Rattle.std.proofs.KnownBytes.{Consumes-all, Consumes-trans}
+use Rattle.std.proofs.Common.{◌≡◌, ◌⊎◌, ℕ, List, [], ◌++◌, Option, Some, None, IfSome, take, arith, inl, inr, refl, rules, sym, subst, append-nil}
+use Rattle.std.proofs.KnownBytes.{Consumes-all, Consumes-kept, Consumes-nil, Consumes-trans}
+use Rattle.std.proofs.lemmas.List.{length-take}
 use Rattle.std.specs.Io.KnownBytes.{Consumes, IsAtEnd}
 use Rattle.at_base.specs.declared.error.Error.{Error}
 use Rattle.at_base.specs.declared.error.Error.TheVariants.{Memory, ReadFault}
 use Rattle.image_feed.specs.Feeds.{Fed, HasRead, IsFlawed, IsRefused, Stands}
+use Rattle.commands.proofs.Known.{flaw_named}
+use Rattle.commands.proofs.Pieces.{no_read_fault, nothing_taken, reads_no_more, reads_unflawed, unflawed}
 use Rattle.commands.proofs.image_input.feed_input.Goals as goal
 
 -- What was fed of a reader that is at its end are all its bytes.
@@ -38,6 +41,14 @@ returns-then-count-eq0-clause-fed g c =
           ((c.in-Ok.ensures {u = tt}).end c.if-count-eq0.true (search rules)) fed.1,
     )
 
+pub returns-then-count-eq0-clause-has : goal.returns-then-count-eq0-clause-has
+returns-then-count-eq0-clause-has g c = (c.loop-turn.invariant.fed.0, c.loop-turn.invariant.fed.1)
+
+pub returns-in-Err-feed-clause-named : goal.returns-in-Err-feed-clause-named
+returns-in-Err-feed-clause-named g c =
+    let fed = c.loop-turn.invariant.fed in
+    flaw_named c.in-Err-feed.error _ ((c.in-Err-feed.ensures {u = tt}).first c.loop-turn.invariant.none fed.0 fed.1)
+
 pub returns-in-Err-feed-clause-flaw : goal.returns-in-Err-feed-clause-flaw
 returns-in-Err-feed-clause-flaw g c =
     let fed = c.loop-turn.invariant.fed in
@@ -60,3 +71,56 @@ loop-turn-preserved g c =
 
 pub returns-clause-flaw : goal.returns-clause-flaw
 returns-clause-flaw g c = any_some _ (g.R.Read.remaining c.args.input.now.reader) (λ bytes. inl refl)
+
+-- ---- how much was read
+
+-- The bytes that were fed have no flaw yet.
+pub returns-then-count-eq0-clause-whole : goal.returns-then-count-eq0-clause-whole
+returns-then-count-eq0-clause-whole g c =
+    let fed = c.loop-turn.invariant.fed in
+    let last = rw c.if-count-eq0.true at (c.in-Ok.ensures {u = tt}).ok in
+    reads_unflawed _ (g.R.Read.remaining c.read.new.self.reader) fed.0 (rw append-nil at (Consumes-trans _ _ _ _ _ fed.2 last))
+    (unflawed _ fed.0 c.loop-turn.invariant.none fed.1)
+
+pub returns-then-count-eq0-clause-no_more : goal.returns-then-count-eq0-clause-no_more
+returns-then-count-eq0-clause-no_more g c =
+    let fed = c.loop-turn.invariant.fed in
+    let last = rw c.if-count-eq0.true at (c.in-Ok.ensures {u = tt}).ok in
+    reads_no_more _ _ (g.R.Read.remaining c.read.new.self.reader) fed.0 [] fed.2 last (omega arith)
+    (unflawed _ fed.0 c.loop-turn.invariant.none fed.1)
+
+pub returns-in-Err-clause-unflawed : goal.returns-in-Err-clause-unflawed
+returns-in-Err-clause-unflawed g c = λ same.
+    (let fed = c.loop-turn.invariant.fed in
+    reads_unflawed _ (g.R.Read.remaining c.read.new.self.reader) fed.0 (Consumes-kept _ _ _ _ fed.2 (c.in-Err.ensures {u = tt}).held)
+    (unflawed _ fed.0 c.loop-turn.invariant.none fed.1))
+
+pub returns-in-Err-clause-no_more : goal.returns-in-Err-clause-no_more
+returns-in-Err-clause-no_more g c =
+    let fed = c.loop-turn.invariant.fed in
+    reads_no_more _ _ (g.R.Read.remaining c.read.new.self.reader) fed.0 [] fed.2 (nothing_taken _ _ (c.in-Err.ensures {u = tt}).held) (omega arith)
+    (unflawed _ fed.0 c.loop-turn.invariant.none fed.1)
+
+pub returns-in-Err-feed-clause-unflawed : goal.returns-in-Err-feed-clause-unflawed
+returns-in-Err-feed-clause-unflawed g c = λ same.
+    (let fed = c.loop-turn.invariant.fed in
+    let said = (c.in-Err-feed.ensures {u = tt}).first c.loop-turn.invariant.none fed.0 fed.1 in
+    absurd (no_read_fault c.in-Err-feed.error _ said cc))
+
+pub returns-in-Err-feed-clause-no_more : goal.returns-in-Err-feed-clause-no_more
+returns-in-Err-feed-clause-no_more g c =
+    let fed = c.loop-turn.invariant.fed in
+    reads_no_more _ _ (g.R.Read.remaining c.read.new.self.reader) fed.0 (take c.in-Ok.count c.read.new.buffer) fed.2 (c.in-Ok.ensures {u = tt}).ok
+    (omega (arith, length-take c.in-Ok.count c.read.new.buffer, (c.in-Ok.ensures {u = tt}).bound))
+    (unflawed _ fed.0 c.loop-turn.invariant.none fed.1)
+
+pub returns-clause-unflawed : goal.returns-clause-unflawed
+returns-clause-unflawed g c = λ same.
+    (let fed = c.loop-turn.invariant.fed in
+    reads_unflawed _ (g.R.Read.remaining c.loop-turn.input.reader) fed.0 fed.2 (unflawed _ fed.0 c.loop-turn.invariant.none fed.1))
+
+pub returns-clause-no_more : goal.returns-clause-no_more
+returns-clause-no_more g c =
+    let fed = c.loop-turn.invariant.fed in
+    reads_no_more _ _ (g.R.Read.remaining c.loop-turn.input.reader) fed.0 [] fed.2 (Consumes-nil _) (omega arith)
+    (unflawed _ fed.0 c.loop-turn.invariant.none fed.1)

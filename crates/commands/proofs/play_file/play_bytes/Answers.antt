@@ -1,7 +1,9 @@
 use Rattle.std.proofs.Common.{◌≡◌, ◌⊎◌, List, ℕ, Bool, Result, Ok, Err, IfErr, IsOkUnless, inl, inr}
+use Rattle.std.proofs.lemmas.Result.{IfErr-weaker}
 use Rattle.at_base.specs.declared.error.Error.{Error}
 use Rattle.at_base.specs.declared.error.Error.TheVariants.{Full, Memory, ReadFault, WriteFault}
 use Rattle.internet_file.specs.Files.{IsFile, IsFileRefused, Planned}
+use Rattle.commands.specs.Streams.{IsPlayRefused}
 use Rattle.commands.proofs.Known.{map_some}
 use Rattle.commands.proofs.play_file.play_bytes.Goals as goal
 
@@ -29,6 +31,14 @@ unplayed text e (inl unread) = inl unread
 unplayed text e (inr (inl first)) = inr (inl first)
 unplayed text e (inr (inr (file, inl full))) = inr (inr (file, inl full))
 unplayed text e (inr (inr (file, inr memory))) = inr (inr (file, inr (inl memory)))
+
+pub returns-in-Ok-clause-named : goal.returns-in-Ok-clause-named
+returns-in-Ok-clause-named g c =
+    IfErr-weaker c.hand_over.result (λ e. e ≡ WriteFault) (λ e. IsPlayRefused e ⊎ (e ≡ WriteFault)) (λ e write. inr write)
+    c.hand_over.ensures.hands.refused
+
+pub returns-in-Err-clause-named : goal.returns-in-Err-clause-named
+returns-in-Err-clause-named g c = inl c.in-Err.ensures.named
 
 pub returns-in-Ok-clause-refused : goal.returns-in-Ok-clause-refused
 returns-in-Ok-clause-refused g c =

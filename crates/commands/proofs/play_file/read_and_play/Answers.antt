@@ -2,7 +2,7 @@ use Rattle.std.proofs.Common.{rules, ◌≡◌, ◌⊎◌, List, ℕ, IfSome, in
 use Rattle.at_base.specs.declared.error.Error.{Error}
 use Rattle.at_base.specs.declared.error.Error.TheVariants.{Full, Memory}
 use Rattle.internet_file.specs.Files.{IsFile, IsFileRefused, Planned}
-use Rattle.commands.proofs.Known.{map_some}
+use Rattle.commands.proofs.Known.{map_some, play_named}
 use Rattle.commands.proofs.play_file.read_and_play.Goals as goal
 
 -- The error is one that a play of the text may have.
@@ -15,3 +15,6 @@ returns-in-Err-clause-refused g c =
     let given : c.as_slice.result.now ≡ c.in_ok-text.text.items = search rules in
     map_some _ _ (g.R.Read.remaining c.args.input.now.reader) read
     (λ text same. inr (subst (IsUnplayed c.in-Err.error) same (subst (IsUnplayed c.in-Err.error) given c.in-Err.ensures.refused)))
+
+pub returns-in-Err-clause-named : goal.returns-in-Err-clause-named
+returns-in-Err-clause-named g c = play_named c.in-Err.error c.as_slice.result.now c.in-Err.ensures.refused

@@ -1,9 +1,11 @@
 use Rattle.std.proofs.Common.{◌≡◌, ◌⊎◌, List, ℕ, IfErr}
+use Rattle.std.proofs.lemmas.Result.{IfErr-weaker}
 use Rattle.std.specs.Prelude.{IsErrAnd}
 use Rattle.at_base.specs.declared.error.Error.TheVariants.{BadScript, Memory, ReadFault}
 use Rattle.script.specs.Scripts.{IsBadAt, IsScript}
 use Rattle.script.specs.declared.step.Step.{Step}
-use Rattle.commands.proofs.Known.{bad_refused, good_read, of_read}
+use Rattle.commands.specs.Streams.{IsScriptRefused}
+use Rattle.commands.proofs.Known.{bad_refused, good_read, of_read, script_named}
 use Rattle.commands.proofs.sources.read_steps.Goals as goal
 
 pub returns-clause-bad_line : goal.returns-clause-bad_line
@@ -21,3 +23,7 @@ returns-clause-good g c =
     (rw c.as_slice.ensures.value c.in_ok-text.ensures.ok)
     (λ steps whole. good_read c.as_slice.result.now steps c.read.result c.scripts_have_no_bad_line.ensures.sound
     c.read.ensures.refused whole)
+
+pub returns-clause-named : goal.returns-clause-named
+returns-clause-named g c =
+    IfErr-weaker c.read.result _ IsScriptRefused (λ e refused. script_named e c.as_slice.result.now refused) c.read.ensures.refused

@@ -1,7 +1,20 @@
-use Rattle.std.proofs.Common.{inr, refl}
-use Rattle.std.proofs.lemmas.Result.{err_from_is_err_and}
-use Rattle.commands.proofs.Known.{any_some, image_refused, map_some, on_ok, printed_only, read_only, unread_line}
+use Rattle.std.proofs.Common.{inl, inr, refl}
+use Rattle.std.proofs.lemmas.Result.{err_from_is_err_and, IfErr-weaker}
+use Rattle.commands.proofs.Known.{any_some, image_refused, map_some, on_ok, printed_only, read_only, trace_named, unread_line}
+use Rattle.commands.proofs.Pieces.{fault_again}
 use Rattle.commands.proofs.tracing.run_frozen.Goals as goal
+
+pub returns-in_err-image-clause-named : goal.returns-in_err-image-clause-named
+returns-in_err-image-clause-named g c =
+    let stop = err_from_is_err_and c.from_residual.result c.from_residual.ensures.1 in
+    rw (stop.1, stop.2) (inl c.in_err-image.ensures.named)
+
+pub returns-in-Ok-clause-named : goal.returns-in-Ok-clause-named
+returns-in-Ok-clause-named g c =
+    IfErr-weaker c.trace_script.result _ _ (λ e refused. trace_named _ e refused) c.trace_script.ensures.prints.refused
+
+pub returns-in-Err-clause-named : goal.returns-in-Err-clause-named
+returns-in-Err-clause-named g c = inr (inl c.in-Err.ensures.named)
 
 pub returns-in_err-image-clause-refused : goal.returns-in_err-image-clause-refused
 returns-in_err-image-clause-refused g c =
@@ -64,3 +77,14 @@ returns-in-Err-clause-first g c = record {
   image_first =
       map_some _ _ (g.I.Read.remaining c.args.image.now.reader) c.in_ok-image.ensures.flaw (λ bytes none f flawed. absurd (none f flawed));
 }
+
+pub returns-in_err-image-clause-unflawed : goal.returns-in_err-image-clause-unflawed
+returns-in_err-image-clause-unflawed g c =
+    let stop = err_from_is_err_and c.from_residual.result c.from_residual.ensures.1 in
+    rw (stop.1, stop.2) (fault_again _ _ _ _ c.in_err-image.ensures.unflawed)
+
+pub returns-in-Ok-clause-unflawed : goal.returns-in-Ok-clause-unflawed
+returns-in-Ok-clause-unflawed g c = λ same. c.in_ok-image.ensures.whole
+
+pub returns-in-Err-clause-unflawed : goal.returns-in-Err-clause-unflawed
+returns-in-Err-clause-unflawed g c = λ same. c.in_ok-image.ensures.whole

@@ -1,13 +1,15 @@
-use Rattle.std.proofs.Common.{◌≡◌, ◌++◌, [], ◌∷◌, List, ℕ, inl, inr, refl, subst, sym, ◌∙◌}
+use Rattle.std.proofs.Common.{◌≡◌, ◌++◌, [], ◌∷◌, List, ℕ, Result, Err, ap, inl, inr, refl, subst, sym, ◌∙◌}
 use Rattle.std.proofs.lemmas.List.{append_assoc}
+use Rattle.std.proofs.lemmas.Result.{err_from_is_err_and}
 use Rattle.std.specs.Io.KnownBytes.{Appends}
 use Rattle.at_base.specs.declared.error.Error.{Error}
-use Rattle.at_base.specs.declared.error.Error.TheVariants.{NotAudited}
+use Rattle.at_base.specs.declared.error.Error.TheVariants.{NotAudited, WriteFault}
 use Rattle.at_base.specs.declared.error.Fault.{Fault}
 use Rattle.audit.specs.Verdicts.{IsFirst, verdict_line}
 use Rattle.audit.specs.declared.verdict.Verdict.TheVariants.{No}
 use Rattle.frozen.specs.Events.{IsUnstarted}
 use Rattle.text.proofs.Going.{appends_then}
+use Rattle.text.specs.Writing.{Prints}
 use Rattle.frozen_trace.specs.Traces.{pending_line}
 use Rattle.table_image.specs.Internet.{Internet}
 use Rattle.frozen_trace.proofs.trace.trace_image.Goals as goal
@@ -18,6 +20,22 @@ first_fault i fault e is (inl known) =
     let same : known.0 ≡ fault = (let both = sym known.1 ∙ is in cc) in
     subst (IsFirst i) same known.2
 first_fault i fault e is (inr memory) = let odd = sym is ∙ memory.0 in absurd cc
+
+abbrev stop : (A : Type 0) → Error → Result A Error
+stop A e = Err e
+
+-- What is said of the writes before an error holds whatever the call would have returned.
+stopped_again : (A B : Type 0) (before after : ℕ) (e : Error) → Prints before after (stop A e) → Prints before after (stop B e)
+stopped_again A B before after e p = record {
+  refused = p.refused;
+  stays = tt;
+  reported = λ failed. (let is : e ≡ WriteFault = cc (p.reported failed) in ap (stop B) is);
+}
+
+pub returns-in_err-trace_run-in-Ok-clause-prints : goal.returns-in_err-trace_run-in-Ok-clause-prints
+returns-in_err-trace_run-in-Ok-clause-prints g c =
+    let said = err_from_is_err_and c.from_residual.result c.from_residual.ensures.1 in
+    rw (said.1, said.2) (stopped_again _ _ _ _ _ c.in_err-trace_run-in-Ok.ensures.prints)
 
 pub returns-in_ok-trace_run-in-Ok-clause-printed : goal.returns-in_ok-trace_run-in-Ok-clause-printed
 returns-in_ok-trace_run-in-Ok-clause-printed g c =

@@ -1,14 +1,15 @@
-use Rattle.std.proofs.Common.{refl, slice_get, sym, ap, ◌∙◌, inr, Result, Ok, Err, rules}
+use Rattle.std.proofs.Common.{refl, slice_get, sym, ap, ◌∙◌, inl, inr, Result, Ok, Err, rules}
 use Rattle.std.specs.Prelude.{IsOkUnless}
 use Rattle.at_base.specs.declared.error.Error.{Error}
 use Rattle.at_base.specs.declared.error.Error.TheVariants.{Memory}
 use Rattle.std.proofs.lemmas.Bool.{ltb-true}
 use Rattle.std.proofs.lemmas.Option.{slice_get_read}
-use Rattle.std.proofs.lemmas.Result.{on_ok_weaker}
+use Rattle.std.proofs.lemmas.Result.{on_err_weaker, on_ok_weaker}
 use Rattle.live_cables.specs.Living.{Wires}
 use Rattle.world.proofs.Going.{did_play, goes_none, goes_nowhere}
 use Rattle.world.specs.Going.{Did, GoesOn}
-use Rattle.world.proofs.Doing.{done_for, done_noted, done_ok}
+use Rattle.world.proofs.Doing.{done_for, done_noted, done_ok, stops_for}
+use Rattle.world.proofs.Stopped.{any_error}
 use Rattle.world.proofs.acting.act_one.Goals as goal
 
 -- A call that leaves the cables alone is refused only for memory.
@@ -57,3 +58,37 @@ returns-clause-is_done g c =
     (done_ok c.in-Some-get.member.now c.station_of-station.result c.args.index c.in-Some.action.now.action c.act_by.new.outputs.items _ _
     c.in-Ok.ensures.acted given refl))
     c.give.ensures.given
+
+-- ---- What an action leaves that was stopped
+
+pub returns-in_err-outputs-clause-stopped : goal.returns-in_err-outputs-clause-stopped
+returns-in_err-outputs-clause-stopped g c =
+    any_error c.from_residual.result
+    (stops_for c.args.plan.now c.args.stations.now c.args.index c.station_of-station.result c.in-Some.action.now
+    c.in-Some-get.member.now c.args.wires.now c.args.wires.now
+    (ap (λ l. slice_get l c.args.index) (sym c.actions.ensures.value) ∙ slice_get_read c.actions.result.now _ c.args.index _ refl
+    (ltb-true _ _ (sym c.in-Some.ensures.lookup.0)) c.in-Some.ensures.lookup.1)
+    c.station_of-station.ensures (slice_get_read c.args.stations.now _ c.station_of-station.result _ refl
+    (ltb-true _ _ (sym c.in-Some-get.ensures.lookup.0)) c.in-Some-get.ensures.lookup.1) (inl refl))
+
+pub returns-in-Err-clause-stopped : goal.returns-in-Err-clause-stopped
+returns-in-Err-clause-stopped g c =
+    any_error c.note.result
+    (stops_for c.args.plan.now c.args.stations.now c.args.index c.station_of-station.result c.in-Some.action.now
+    c.in-Some-get.member.now c.args.wires.now c.args.wires.now
+    (ap (λ l. slice_get l c.args.index) (sym c.actions.ensures.value) ∙ slice_get_read c.actions.result.now _ c.args.index _ refl
+    (ltb-true _ _ (sym c.in-Some.ensures.lookup.0)) c.in-Some.ensures.lookup.1)
+    c.station_of-station.ensures (slice_get_read c.args.stations.now _ c.station_of-station.result _ refl
+    (ltb-true _ _ (sym c.in-Some-get.ensures.lookup.0)) c.in-Some-get.ensures.lookup.1) (inl refl))
+
+pub returns-clause-stopped : goal.returns-clause-stopped
+returns-clause-stopped g c =
+    on_err_weaker c.give.result
+    (λ part. stops_for c.args.plan.now c.args.stations.now c.args.index c.station_of-station.result c.in-Some.action.now
+    c.in-Some-get.member.now c.args.wires.now c.give.new.self
+    (ap (λ l. slice_get l c.args.index) (sym c.actions.ensures.value) ∙ slice_get_read c.actions.result.now _ c.args.index _ refl
+    (ltb-true _ _ (sym c.in-Some.ensures.lookup.0)) c.in-Some.ensures.lookup.1)
+    c.station_of-station.ensures (slice_get_read c.args.stations.now _ c.station_of-station.result _ refl
+    (ltb-true _ _ (sym c.in-Some-get.ensures.lookup.0)) c.in-Some-get.ensures.lookup.1)
+    (inr (c.act_by.new.outputs.items, c.in-Ok.ensures.acted, part)))
+    c.give.ensures.part

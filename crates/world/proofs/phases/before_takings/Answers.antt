@@ -1,7 +1,8 @@
-use Rattle.std.proofs.Common.{arith, inr, subst, Result, Ok, Err, OnErr}
-use Rattle.std.proofs.lemmas.Result.{on_ok_weaker}
+use Rattle.std.proofs.Common.{inl, inr, refl, subst}
+use Rattle.std.proofs.lemmas.Result.{on_err_weaker, on_ok_weaker}
 use Rattle.world.proofs.Going.{did_then}
 use Rattle.world.specs.Acting.{AreDone}
+use Rattle.world.specs.Stopping.{AreActing}
 use Rattle.world.proofs.phases.before_takings.Goals as goal
 
 pub returns-clause-did : goal.returns-clause-did
@@ -19,15 +20,16 @@ returns-clause-begins g c =
           (c.tick_all.new.wires, c.args.refused.now.items) (c.act_all.new.wires, c.act_all.new.refused.items)) c.as_slice.ensures.value d.1;
     }) c.act_all.ensures.are_done
 
+pub returns-in-Err-clause-stopped : goal.returns-in-Err-clause-stopped
+returns-in-Err-clause-stopped g c = inl (c.in-Err.ensures.stopped, refl, refl)
+
 pub returns-clause-stopped : goal.returns-clause-stopped
 returns-clause-stopped g c =
-    always c.act_all.result (inr (record {
+    on_err_weaker c.act_all.result
+    (λ a. inr (record {
       seats = c.in-Ok.ensures.passed.0;
       wires = c.tick_all.new.wires;
       passes = c.in-Ok.ensures.passed.1;
-      goes = c.act_all.ensures.did.goes;
-    }))
-  where
-    always : {T E P : Type 0} (r : Result T E) → P → OnErr r P
-    always (Ok x) p = tt
-    always (Err e) p = p
+      acting = subst (λ l. AreActing c.args.plan.now l c.args.now c.args.schedule.now.items c.act_all.new.schedule.items
+          (c.tick_all.new.wires, c.args.refused.now.items) (c.act_all.new.wires, c.act_all.new.refused.items)) c.as_slice.ensures.value a;
+    })) c.act_all.ensures.stopped

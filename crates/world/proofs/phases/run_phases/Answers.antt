@@ -1,8 +1,9 @@
-use Rattle.std.proofs.Common.{arith, map, subst, sym}
+use Rattle.std.proofs.Common.{Err, ap, arith, inl, inr, map, subst, sym}
 use Rattle.std.proofs.lemmas.Result.{on_ok_weaker}
 use Rattle.planned_stations.specs.Planning.{AreSeated, ports_of}
 use Rattle.world.proofs.Going.{did_end}
 use Rattle.world.proofs.Received.{received_goes}
+use Rattle.world.proofs.Stopped.{of_error}
 use Rattle.world.proofs.phases.run_phases.Goals as goal
 
 pub take_all-requires : goal.take_all-requires
@@ -38,3 +39,17 @@ returns-clause-plays g c =
       takings = t.0;
       takes = t.1;
     }) c.take_all.ensures.taken
+
+pub returns-in-Err-clause-stopped : goal.returns-in-Err-clause-stopped
+returns-in-Err-clause-stopped g c = inl (c.in-Err.ensures.stopped, λ same. c.in-Err.ensures.did.full (ap Err same))
+
+pub returns-clause-stopped : goal.returns-clause-stopped
+returns-clause-stopped g c =
+    of_error c.take_all.result
+    (λ e taking full. inr (record {
+      passed = c.before_takings.new.stations.items;
+      acted = c.before_takings.new.wires;
+      begins = c.in-Ok.ensures.begins;
+      taking = taking;
+      full = full;
+    })) c.take_all.ensures.stopped c.take_all.ensures.did.full

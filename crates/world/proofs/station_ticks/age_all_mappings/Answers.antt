@@ -1,4 +1,4 @@
-use Rattle.std.proofs.Common.{◌≡◌, ◌∙◌, ◌+◌, suc, arith, refl, subst}
+use Rattle.std.proofs.Common.{◌≡◌, ◌∙◌, ◌+◌, suc, arith, refl, subst, sym}
 use Rattle.world.proofs.Going.{goes_none, goes_on_then, goes_then}
 use Rattle.world.specs.Passing.{AreAged}
 use Rattle.world.proofs.station_ticks.age_all_mappings.Goals as goal
@@ -35,4 +35,14 @@ returns-clause-did g c = record {
   done = c.loop-port.invariant.2;
   full = λ e. cc;
   refused = tt;
+}
+
+pub returns-in-Err-clause-stopped : goal.returns-in-Err-clause-stopped
+returns-in-Err-clause-stopped g c = record {
+  aged = c.loop-port.port;
+  some = c.loop-port-test.true;
+  last = c.loop-port.wires;
+  ages = subst (λ m. AreAged c.args.seat c.loop-port.port c.args.station.now m c.args.wires.now c.loop-port.wires)
+      (sym c.in-Err.ensures.stopped) c.loop-port.invariant.3;
+  passes = c.in-Err.ensures.part;
 }

@@ -1,9 +1,8 @@
-use Rattle.std.proofs.Common.{inr, ap, ◌∙◌, subst}
-use Rattle.std.proofs.lemmas.Result.{on_ok_weaker}
-use Rattle.live_cables.specs.Living.{Wires}
-use Rattle.world.specs.Going.{Goes}
+use Rattle.std.proofs.Common.{List, ◌++◌, inr, ap, ◌∙◌, subst}
+use Rattle.std.proofs.lemmas.Result.{on_err_weaker, on_ok_weaker}
+use Rattle.live_cables.specs.Living.{GivesInPart, Wires}
+use Rattle.station.specs.declared.output.Output.{Output}
 use Rattle.world.proofs.Going.{goes_on_settled, goes_plays, goes_plays_on, goes_settled}
-use Rattle.world.proofs.Stopped.{any_error}
 use Rattle.world.proofs.station_ticks.tick.Goals as goal
 
 pub returns-clause-did : goal.returns-clause-did
@@ -20,8 +19,12 @@ pub returns-clause-stopped : goal.returns-clause-stopped
 returns-clause-stopped g c =
     let put = c.in-Ok-tick.ensures.ok in
     let set = c.settle.ensures.others ∙ ap (λ own. record c.args.wires.now { own = own }) c.settle.ensures.own in
-    any_error c.give.result (inr (record {
+    let all = put.grown ∙ ap (λ (os : List Output). os ++ put.added) c.in-Ok.ensures.ok in
+    on_err_weaker c.give.result
+    (λ part. inr (record {
       outputs = put.added;
       ticks = put.holds;
-      goes = subst (λ (w : Wires). Goes w c.give.new.self) set (goes_plays _ _ c.give.ensures.plays);
-    }))
+      gives =
+          subst (λ (w : Wires). GivesInPart c.args.number put.added w c.give.new.self) set
+          (subst (λ (os : List Output). GivesInPart c.args.number os c.settle.new.wires c.give.new.self) all part);
+    })) c.give.ensures.part

@@ -2,6 +2,7 @@ use Rattle.std.proofs.Common.{◌≡◌, ◌⊎◌, ◌<◌, IfErr, map, subst}
 use Rattle.at_base.specs.declared.error.Error.TheVariants.{Full, Memory}
 use Rattle.live_cables.specs.Living.{happened}
 use Rattle.world.proofs.Going.{goes_none}
+use Rattle.world.proofs.Stopped.{first_stopped}
 use Rattle.world.proofs.Stations.{least_named, least_within, length_ports, was_pending}
 use Rattle.planned_stations.specs.Planning.{ports_of}
 use Rattle.world.proofs.taking.take_first.Goals as goal
@@ -22,3 +23,11 @@ returns-in-Err-clause-refused g c =
 
 pub returns-in-None-clause-took : goal.returns-in-None-clause-took
 returns-in-None-clause-took g c = goes_none _
+
+pub returns-in-Err-clause-stopped : goal.returns-in-Err-clause-stopped
+returns-in-Err-clause-stopped g c =
+    let w = c.args.wires.now in
+    first_stopped c.in-Some.stamp c.in-Some.station c.args.stations.now.items _ w _ c.in-Err.error c.in-Some.ensures.some
+    (λ none. let full = c.in-Err.ensures.no_room
+    (least_named w.cabling.seats (happened w) c.in-Some.stamp c.in-Some.station c.in-Some.ensures.some) none in cc)
+    c.in-Err.ensures.stopped

@@ -8,5 +8,7 @@ invariant-loop-turn g l = record {
   sound : l.self.faults ≡ l.initial.self.faults;
   reason : l.self.fault ≡ l.initial.self.fault;
   held : l.self.kept ≡ l.initial.self.kept;
+  image : l.self.image ≡ l.initial.self.image;
+  flawed : l.self.flawed ≡ l.initial.self.flawed;
   kept : Keeps (g.R.Read.remaining l.initial.self.reader) (g.R.Read.remaining l.self.reader);
 }

@@ -8,6 +8,8 @@ invariant-loop-turn g l = record {
   sound : l.self.faults ≡ l.initial.self.faults;
   reason : l.self.fault ≡ l.initial.self.fault;
   held : l.self.kept ≡ l.initial.self.kept;
+  image : l.self.image ≡ l.initial.self.image;
+  flawed : l.self.flawed ≡ l.initial.self.flawed;
   counted : l.initial.self.reads ≤ l.self.reads;
   taken : Consumes (g.R.Read.remaining l.initial.self.reader) (g.R.Read.remaining l.self.reader)
       (vec_items l.bytes);

@@ -1,9 +1,10 @@
-use Rattle.std.proofs.Common.{refl, sym, ◌∙◌, length}
+use Rattle.std.proofs.Common.{inl, inr, refl, sym, ◌∙◌, length}
 use Rattle.std.proofs.lemmas.Bool.{eqb-true}
 use Rattle.std.proofs.lemmas.Result.{on_ok_weaker}
-use Rattle.live_cables.proofs.Calls.{midst_put, on_ok, plays_midst, plays_to, plays_done}
+use Rattle.live_cables.proofs.Calls.{midst_put, on_err, on_ok, plays_midst, plays_to, plays_done}
 use Rattle.live_cables.proofs.Exact.{gives_out}
 use Rattle.live_cables.proofs.Idle.{done_none, gives_none, plays_none}
+use Rattle.live_cables.proofs.Parts.{sends_now}
 use Rattle.live_cables.proofs.Whole.{faced, is_knowing, stays_known, whole_known, wires}
 use Rattle.live_cables.proofs.live.LiveCables.give.Goals as goal
 
@@ -20,9 +21,9 @@ returns-then-is_empty-clause-plays c = plays_none c.args.self.now
 
 pub invariant_of-self : goal.invariant_of-self
 invariant_of-self c =
-    whole_known c.self.inside.cables c.give_all.new.cables c.face.new.self c.give_all.new.near
-    (faced c.self.inside.cables c.self.inside.near c.face.new.self c.args.station c.face.ensures c.self.invariant)
-    c.give_all.ensures.near c.give_all.ensures.puts.seats c.give_all.ensures.rooms
+    whole_known c.self.inside.limit c.self.inside.cables c.give_all.new.cables c.face.new.self c.give_all.new.near
+    (faced c.self.inside.limit c.self.inside.cables c.self.inside.near c.face.new.self c.args.station c.face.ensures c.self.invariant)
+    c.give_all.ensures.near c.give_all.ensures.puts.seats c.give_all.ensures.puts.limit c.give_all.ensures.rooms
 
 pub returns-in-Err-clause-plays : goal.returns-in-Err-clause-plays
 returns-in-Err-clause-plays c =
@@ -34,9 +35,10 @@ returns-in-Err-clause-plays c =
 
 pub invariant_of-self-2 : goal.invariant_of-self-2
 invariant_of-self-2 c =
-    whole_known c.self.inside.cables c.lose_from.new.cables c.face.new.self c.give_all.new.near
-    (faced c.self.inside.cables c.self.inside.near c.face.new.self c.args.station c.face.ensures c.self.invariant)
+    whole_known c.self.inside.limit c.self.inside.cables c.lose_from.new.cables c.face.new.self c.give_all.new.near
+    (faced c.self.inside.limit c.self.inside.cables c.self.inside.near c.face.new.self c.args.station c.face.ensures c.self.invariant)
     c.give_all.ensures.near (c.lose_from.ensures.loses.seats ∙ c.give_all.ensures.puts.seats)
+    (c.lose_from.ensures.loses.limit ∙ c.give_all.ensures.puts.limit)
     (c.lose_from.ensures.rooms ∙ c.give_all.ensures.rooms)
 
 pub returns-clause-plays : goal.returns-clause-plays
@@ -70,3 +72,36 @@ returns-clause-given c =
     c.self.invariant.0) c.in-Ok.ensures.given c.lose_from.ensures.loses refl
     (stays_known c.self.inside.cables c.lose_from.new.cables c.self.inside.near c.face.new.self c.give_all.new.near
     c.self.inside.losing.items c.args.station c.face.ensures c.give_all.ensures.near)))
+
+-- ---- What was done before an error
+
+pub returns-in-Err-clause-part : goal.returns-in-Err-clause-part
+returns-in-Err-clause-part c =
+    let part = c.in-Err.ensures.part in
+    rw (← c.self.view_is)
+    (inl (
+      part.0,
+      sends_now (wires c.self.inside.cables c.self.inside.near c.self.inside.losing.items)
+          (wires c.give_all.new.cables c.give_all.new.near c.self.inside.losing.items) c.args.station _ c.face.new.self
+          (c.give_all.new.cables, c.give_all.new.near)
+          (is_knowing c.self.inside.cables c.self.inside.near c.face.new.self c.self.inside.losing.items c.args.station
+          c.face.ensures c.self.invariant.0) part.1 refl refl
+          (stays_known c.self.inside.cables c.give_all.new.cables c.self.inside.near c.face.new.self c.give_all.new.near
+          c.self.inside.losing.items c.args.station c.face.ensures c.give_all.ensures.near),
+    ))
+
+pub returns-clause-part : goal.returns-clause-part
+returns-clause-part c =
+    rw (← c.self.view_is)
+    (on_err c.lose_from.result _
+    (inr (gives_out (wires c.self.inside.cables c.self.inside.near c.self.inside.losing.items)
+    (wires c.lose_from.new.cables c.give_all.new.near c.self.inside.losing.items) c.transcript-from.result.now c.deref.result.now
+    (record { lines_are = c.transcript-from.ensures.value; losing_are = c.deref.ensures.value }) c.args.station _ c.face.new.self
+    (c.give_all.new.cables, c.give_all.new.near)
+    (is_knowing c.self.inside.cables c.self.inside.near c.face.new.self c.self.inside.losing.items c.args.station c.face.ensures
+    c.self.invariant.0) c.in-Ok.ensures.given c.lose_from.ensures.loses refl
+    (stays_known c.self.inside.cables c.lose_from.new.cables c.self.inside.near c.face.new.self c.give_all.new.near
+    c.self.inside.losing.items c.args.station c.face.ensures c.give_all.ensures.near))))
+
+pub returns-then-is_empty-clause-left : goal.returns-then-is_empty-clause-left
+returns-then-is_empty-clause-left c = (0, refl)

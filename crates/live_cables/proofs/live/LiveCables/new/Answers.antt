@@ -6,5 +6,6 @@ pub invariant_of-result : goal.invariant_of-result
 invariant_of-result c =
     let cables = c.in_ok-cables.ensures.ok in
     let near = c.in_ok-new.ensures.ok in
-    whole_first c.in_ok-cables.cables c.in_ok-new.field-0 c.args.seats.now (ap (λ k. k.seats) cables) (ap (λ k. k.rooms) cables)
+    whole_first c.args.limit c.in_ok-cables.cables c.in_ok-new.field-0 c.args.seats.now (ap (λ k. k.seats) cables)
+    (ap (λ k. k.limit) cables) (ap (λ k. k.rooms) cables)
     (ap (λ k. k.seats) near) (ap (λ k. k.own) near) (ap (λ k. k.maps) near)

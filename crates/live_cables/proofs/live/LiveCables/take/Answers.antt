@@ -1,10 +1,36 @@
-use Rattle.std.proofs.Common.{inr, refl, ◌∙◌}
+use Rattle.std.proofs.Common.{◌≡◌, ◌&&◌, ◌+◌, false, length, nat_lt, true≢false, inr, refl, subst, sym, ◌∙◌}
+use Rattle.std.specs.List.{list_any}
 use Rattle.std.proofs.lemmas.Result.{on_ok_weaker}
-use Rattle.live_cables.proofs.Calls.{midst_taken, never_says, on_err, on_ok, plays_kept, plays_to, plays_done, taken_by}
+use Rattle.cable_model.specs.Logs.{pending_on}
+use Rattle.cable_model.specs.Outcomes.{is_named}
+use Rattle.live_cables.proofs.Calls.{midst_taken, named_is, never_says, on_err, on_ok, plays_kept, plays_to, plays_done, taken_by}
 use Rattle.live_cables.proofs.Exact.{takes_in}
+use Rattle.live_cables.proofs.Idle.{plays_none}
 use Rattle.live_cables.proofs.Knows.{knows_is}
+use Rattle.live_cables.proofs.NoRoom.{crowded, not_crowded}
 use Rattle.live_cables.proofs.Whole.{faced, is_knowing, stays_known, stays_taken, whole_taken, wires}
+use Rattle.live_cables.specs.Living.{Wires}
 use Rattle.live_cables.proofs.live.LiveCables.take.Goals as goal
+
+-- ---- Too little room
+
+pub returns-then-is_full_for-clause-plays : goal.returns-then-is_full_for-clause-plays
+returns-then-is_full_for-clause-plays g c = plays_none c.args.self.now
+
+pub returns-then-is_full_for-clause-not_pending : goal.returns-then-is_full_for-clause-not_pending
+returns-then-is_full_for-clause-not_pending g c = (
+  λ e. absurd cc,
+  λ none. absurd (true≢false (sym (crowded _ _ _ (sym c.is_full_for.ensures ∙ c.if-is_full_for.true)).1 ∙ none)),
+)
+
+pub returns-then-is_full_for-clause-full : goal.returns-then-is_full_for-clause-full
+returns-then-is_full_for-clause-full g c = λ e. (crowded _ _ _ (sym c.is_full_for.ensures ∙ c.if-is_full_for.true)).0
+
+-- ---- A take that is refused
+
+pub returns-in-Err-clause-no_room : goal.returns-in-Err-clause-no_room
+returns-in-Err-clause-no_room g c =
+    λ named none. absurd (not_crowded _ _ _ (sym c.is_full_for.ensures ∙ c.if-is_full_for.false) named none)
 
 pub returns-in-Err-clause-plays : goal.returns-in-Err-clause-plays
 returns-in-Err-clause-plays g c =
@@ -16,12 +42,19 @@ returns-in-Err-clause-plays g c =
 pub returns-in-Err-clause-not_pending : goal.returns-in-Err-clause-not_pending
 returns-in-Err-clause-not_pending g c = rw (← c.self.view_is) c.in-Err.ensures.not_pending
 
+-- ---- A take
+
+pub returns-clause-no_room : goal.returns-clause-no_room
+returns-clause-no_room g c =
+    λ named none. absurd (not_crowded _ _ _ (sym c.is_full_for.ensures ∙ c.if-is_full_for.false) named none)
+
 pub invariant_of-self-2 : goal.invariant_of-self-2
 invariant_of-self-2 g c =
     whole_taken c.args.stamp c.args.station _ _ (c.self.inside.cables, c.face.new.self) (c.take.new.cables, c.take.new.near)
-    c.in-Ok.ensures.taken c.lose_from.new.cables
-    (faced c.self.inside.cables c.self.inside.near c.face.new.self c.args.station c.face.ensures c.self.invariant)
-    (c.lose_from.ensures.loses.seats ∙ c.in-Ok.ensures.takes.seats) c.lose_from.ensures.rooms c.take.ensures.few
+    c.in-Ok.ensures.taken c.self.inside.limit c.lose_from.new.cables
+    (faced c.self.inside.limit c.self.inside.cables c.self.inside.near c.face.new.self c.args.station c.face.ensures c.self.invariant)
+    (c.lose_from.ensures.loses.seats ∙ c.in-Ok.ensures.takes.seats) (c.lose_from.ensures.loses.limit ∙ c.in-Ok.ensures.takes.limit)
+    c.lose_from.ensures.rooms c.take.ensures.few
 
 pub returns-clause-plays : goal.returns-clause-plays
 returns-clause-plays g c =
@@ -50,9 +83,21 @@ returns-clause-heard g c =
 
 pub returns-clause-stopped : goal.returns-clause-stopped
 returns-clause-stopped g c =
+    let free = subst (λ (w : Wires). (nat_lt w.cabling.limit (length w.cabling.lines + 1285)
+    && list_any (is_named c.args.stamp c.args.station) (pending_on w.cabling)) ≡ false) (sym c.self.view_is)
+    (sym c.is_full_for.ensures ∙ c.if-is_full_for.false) in
     rw (← c.self.view_is)
     (on_err c.lose_from.result _
-    (inr (taken_by _ _ c.take.new.cables _ c.args.stamp c.args.station _ c.in-Ok.ensures.takes c.lose_from.ensures.loses)))
+    (inr (takes_in (wires c.self.inside.cables c.self.inside.near c.self.inside.losing.items)
+    (wires c.lose_from.new.cables c.take.new.near c.self.inside.losing.items) c.transcript-from.result.now c.deref.result.now
+    (record { lines_are = c.transcript-from.ensures.value; losing_are = c.deref.ensures.value }) c.args.stamp c.args.station _ _
+    c.face.new.self (c.take.new.cables, c.take.new.near)
+    (λ none. not_crowded _ _ _ free (named_is c.self.inside.cables c.args.stamp c.args.station _ c.take.new.cables c.in-Ok.ensures.takes)
+    none)
+    (is_knowing c.self.inside.cables c.self.inside.near c.face.new.self c.self.inside.losing.items c.args.station c.face.ensures
+    c.self.invariant.0) c.in-Ok.ensures.taken c.lose_from.ensures.loses refl
+    (stays_taken c.args.stamp c.args.station _ _ c.self.inside.cables c.take.new.cables c.lose_from.new.cables c.self.inside.near
+    c.face.new.self c.take.new.near c.self.inside.losing.items c.args.station c.face.ensures c.in-Ok.ensures.taken))))
 
 pub returns-clause-not_pending : goal.returns-clause-not_pending
 returns-clause-not_pending g c =
@@ -61,12 +106,17 @@ returns-clause-not_pending g c =
 
 pub returns-clause-taken : goal.returns-clause-taken
 returns-clause-taken g c =
+    let free = subst (λ (w : Wires). (nat_lt w.cabling.limit (length w.cabling.lines + 1285)
+    && list_any (is_named c.args.stamp c.args.station) (pending_on w.cabling)) ≡ false) (sym c.self.view_is)
+    (sym c.is_full_for.ensures ∙ c.if-is_full_for.false) in
     rw (← c.self.view_is)
     (on_ok c.lose_from.result _
     (takes_in (wires c.self.inside.cables c.self.inside.near c.self.inside.losing.items)
     (wires c.lose_from.new.cables c.take.new.near c.self.inside.losing.items) c.transcript-from.result.now c.deref.result.now
     (record { lines_are = c.transcript-from.ensures.value; losing_are = c.deref.ensures.value }) c.args.stamp c.args.station _ _
     c.face.new.self (c.take.new.cables, c.take.new.near)
+    (λ none. not_crowded _ _ _ free (named_is c.self.inside.cables c.args.stamp c.args.station _ c.take.new.cables c.in-Ok.ensures.takes)
+    none)
     (is_knowing c.self.inside.cables c.self.inside.near c.face.new.self c.self.inside.losing.items c.args.station c.face.ensures
     c.self.invariant.0) c.in-Ok.ensures.taken c.lose_from.ensures.loses refl
     (stays_taken c.args.stamp c.args.station _ _ c.self.inside.cables c.take.new.cables c.lose_from.new.cables c.self.inside.near

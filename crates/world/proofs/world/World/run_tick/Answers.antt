@@ -1,11 +1,13 @@
 use Rattle.std.proofs.Common.{◌∙◌, ap, map, refl, subst, sym}
-use Rattle.std.specs.Prelude.{OnOk}
-use Rattle.std.proofs.lemmas.Result.{on_ok_weaker}
+use Rattle.std.specs.Prelude.{IfErr, OnOk}
+use Rattle.std.proofs.Common.{inr}
+use Rattle.std.proofs.lemmas.Result.{IfErr-weaker, on_ok_weaker}
 use Rattle.live_cables.specs.Living.{Wires, happened}
 use Rattle.planned_stations.specs.Planning.{AreSeated, ports_of}
 use Rattle.world.proofs.Stations.{laid_after, laid_seated}
 use Rattle.world.proofs.Ticked.{due_ticks, ticks_ends, ticks_goes}
 use Rattle.world.specs.Acting.{KeepsFirst}
+use Rattle.world.specs.Stopping.{StopsIn, StopsTick}
 use Rattle.world.specs.Received.{AreReceived, got}
 use Rattle.world.specs.Ticking.{IsTick, Plays}
 use Rattle.world.specs.Worlds.{Ticks, TicksOn, Worldly}
@@ -72,3 +74,25 @@ returns-clause-plays g c =
 pub returns-clause-keeps : goal.returns-clause-keeps
 returns-clause-keeps g c =
     subst (λ (w : Worldly). KeepsFirst w.refused c.run_phases-played.new.refused.items) c.self.view_is c.run_phases-played.ensures.keeps
+
+pub returns-clause-steps_stay : goal.returns-clause-steps_stay
+returns-clause-steps_stay g c =
+    let old = c.self.inside in
+    let new : Worldly = record {
+      plan = old.plan;
+      stations = c.run_phases-played.new.stations.items;
+      wires = c.run_phases-played.new.wires;
+      now = old.passed;
+      stopped = old.stopped;
+      refused = c.run_phases-played.new.refused.items;
+      schedule = c.run_phases-played.new.schedule.items;
+    } in
+    subst (λ (w : Worldly). IfErr c.run_phases-played.result (λ e. StopsTick e w new)) c.self.view_is
+    (IfErr-weaker c.run_phases-played.result _ _
+    (λ e stops. inr (record {
+      losing = c.in-Ok.losing.items;
+      loses = c.in-Ok.ensures.losing;
+      stops =
+          subst (λ (w : Wires). StopsIn e old.plan old.passed old.stations.items new.stations w new.wires old.refused.items new.refused
+          old.schedule.items new.schedule) c.set_losing.ensures stops;
+    })) c.run_phases-played.ensures.stopped)
