@@ -19,8 +19,6 @@ use table_image::Image;
 pub struct Lines {
     stations: Stations,
     cables: Vec<u8>,
-    // Room for the next line: a text grows by whole lines.
-    line: Vec<u8>,
 }
 
 impl Model for Lines {
@@ -61,30 +59,6 @@ fn note_cable(cables: &mut Vec<u8>, entry: &Entry) -> Result<(), AllocError>
     }
 }
 
-/// Appends the line of an entry, and notes the cable on which it put a frame, if it did.
-fn add_line(
-    text: &mut Vec<u8>,
-    cables: &mut Vec<u8>,
-    line: &[u8],
-    entry: &Entry,
-) -> Result<(), AllocError>
-    ensures line { OnOk result (text.new.items ≡ text.old.items ++ line.now) }
-    ensures ok { OnOk result ((kept : List (List ℕ)) → cables.new.items
-        ≡ cables.old.items ++ cable_of (entry_at kept entry.now)) }
-    ensures stays { OnErr result (cables.new.items ≡ cables.old.items) }
-    ensures kept { OnErr result (text.new.items ≡ text.old.items) }
-{
-    let start = text.len();
-    text.extend_from_slice(line)?;
-    match note_cable(cables, entry) {
-        Ok(()) => Ok(()),
-        Err(error) => {
-            text.truncate(start);
-            Err(error)
-        }
-    }
-}
-
 impl Lines {
     /// A printer over this image that has printed nothing yet.
     pub fn new(alloc: Global, image: &Image) -> Result<Lines, AllocError>
@@ -94,7 +68,6 @@ impl Lines {
         Ok(Lines {
             stations,
             cables: Vec::new(alloc),
-            line: Vec::new(alloc),
         })
     }
 
@@ -114,7 +87,7 @@ impl Lines {
     /// Cables are counted from 1. HEX is in upper case. The hop count in HEX is 0 except in `put` and
     /// `hold`.
     ///
-    /// Error: out of memory; the text and the printer then stay as they were.
+    /// Error: out of memory; then the text may end with a part of the line.
     pub fn append(
         &mut self,
         text: &mut Vec<u8>,
@@ -129,16 +102,8 @@ impl Lines {
           cables = self.old.cables ++ cable_of (entry_at kept entry.now);
         }) }
         ensures stays { OnErr result (self.new ≡ self.old) }
-        ensures kept { OnErr result (text.new.items ≡ text.old.items) }
     {
-        self.line.clear();
-        put_line(
-            &mut self.line,
-            &self.stations,
-            self.cables.as_slice(),
-            entry,
-            bytes,
-        )?;
-        add_line(text, &mut self.cables, self.line.as_slice(), entry)
+        put_line(text, &self.stations, self.cables.as_slice(), entry, bytes)?;
+        note_cable(&mut self.cables, entry)
     }
 }

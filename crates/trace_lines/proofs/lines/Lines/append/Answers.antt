@@ -20,15 +20,15 @@ same p i old new now stayed = ap (printed i) stayed ∙ now
 
 pub returns-clause-further : goal.returns-clause-further
 returns-clause-further c =
-    on_ok_weaker c.add_line.result
+    on_ok_weaker c.note_cable.result
     (λ noted kept.
-    more c.args.self.now c.self.inside.stations c.self.inside.cables.items c.add_line.new.cables.items
+    more c.args.self.now c.self.inside.stations c.self.inside.cables.items c.note_cable.new.cables.items
     (cable_of (entry_at kept c.args.entry.now)) c.self.view_is (noted kept))
-    c.add_line.ensures.ok
+    c.note_cable.ensures.ok
 
 pub returns-clause-stays : goal.returns-clause-stays
 returns-clause-stays c =
-    on_err_weaker c.add_line.result
+    on_err_weaker c.note_cable.result
     (λ stayed.
-    same c.args.self.now c.self.inside.stations c.self.inside.cables.items c.add_line.new.cables.items c.self.view_is stayed)
-    c.add_line.ensures.stays
+    same c.args.self.now c.self.inside.stations c.self.inside.cables.items c.note_cable.new.cables.items c.self.view_is stayed)
+    c.note_cable.ensures.stays
