@@ -27,25 +27,40 @@ struct Outcomes {
     refused: [u32; 9],
 }
 
+/// Adds 1 to the counter with this index.
+fn add_one(counters: &mut [u32], index: usize) -> Answer {
+    match counters.get_mut(index) {
+        Some(counter) => {
+            *counter = counter.saturating_add(1);
+            Ok(())
+        }
+        None => Err(Stop::Unclear),
+    }
+}
+
+/// The index of a cause in `CAUSES`, or their number.
+fn index_of(cause: Cause) -> usize {
+    let mut index = 0usize;
+    for known in &CAUSES {
+        if *known == cause {
+            break;
+        }
+        index = index.saturating_add(1);
+    }
+    index
+}
+
 impl Outcomes {
     fn count(&mut self, answer: Result<Verdict, Error>) -> Answer {
-        let counter = match answer {
-            Ok(Verdict::Yes(_)) => Some(&mut self.yes),
-            Ok(Verdict::No(fault)) => self.no.get_mut(fault.rule as usize),
-            Err(Error::BadImage(_, cause)) => {
-                match CAUSES.iter().position(|known| *known == cause) {
-                    Some(index) => self.refused.get_mut(index),
-                    None => None,
-                }
+        match answer {
+            Ok(Verdict::Yes(_)) => {
+                self.yes = self.yes.saturating_add(1);
+                Ok(())
             }
-            Err(Error::Memory) => return Err(Stop::Refused(Error::Memory)),
-            Err(_) => None,
-        };
-        match counter {
-            Some(counter) => *counter = counter.saturating_add(1),
-            None => return Err(Stop::Unclear),
+            Ok(Verdict::No(fault)) => add_one(&mut self.no, fault.rule as usize),
+            Err(Error::BadImage(_, cause)) => add_one(&mut self.refused, index_of(cause)),
+            Err(error) => Err(Stop::Refused(error)),
         }
-        Ok(())
     }
 
     fn put(&self, text: &mut String) -> Answer {
