@@ -1,6 +1,6 @@
 -- The packets that a responder sends in reply to a packet, where the user's answer is known already. (Inside AppleTalk,
 -- the chapter on ATP; that a request is dropped where there is no room for it is this project's own)
-use Rattle.std.specs.Prelude.{List, [], if◌then◌else◌}
+use Rattle.std.specs.Prelude.{Bool, true, false, List, [], if◌then◌else◌}
 use Rattle.atp.specs.declared.ask.AnswerPart.{AnswerPart}
 use Rattle.atp.specs.declared.ask.Peer.{Peer}
 use Rattle.atp.specs.declared.request.Request.{Request}
@@ -24,6 +24,17 @@ done from p user requests (Ask, held) =
 done from p user requests (Again, held) = (kept_packets from p requests, held)
 done from p user requests (Wait, held) = ([], held)
 done from p user requests (Nothing, held) = ([], held)
+
+-- The packet is answered: it is a new request for which the responder has room, or it repeats a request whose answer is
+-- kept.
+abbrev pub is_answered : Peer → AtpPacket → List Request → Bool
+is_answered from p requests = by (heard from p requests).0
+  where
+    by : Todo → Bool
+    by Ask = has_room p requests
+    by Again = true
+    by Wait = false
+    by Nothing = false
 
 -- the packets that a responder with these requests sends in reply to a packet, and the requests that it holds then
 abbrev pub reply : Peer → AtpPacket → List AnswerPart → List Request → List AtpPacket × List Request

@@ -2,11 +2,11 @@
 //! already.
 
 ghost use Rattle.std.specs.Prelude.{◌≡◌, ◌⊎◌, ◌<◌, ◌≤◌, ◌↔◌, false, true, length, IfOk, IfErr};
-ghost use Rattle.std.specs.Prelude.{IsOkUnless, OnErr, OnOk};
+ghost use Rattle.std.specs.Prelude.{IsOk, IsOkUnless, OnErr, OnOk};
 ghost use Rattle.atp.specs.Answers.{AreShort, answer_packets, bytes_of_all, is_answer};
 ghost use Rattle.atp.specs.InPlace.{packet_value};
 ghost use Rattle.atp.specs.Replies as spec;
-ghost use Rattle.atp.specs.Responding.{answered, asked_by, request_of, waits, without};
+ghost use Rattle.atp.specs.Responding.{answered, asked_by, heard, request_of, waits, without};
 
 use crate::answer::is_short;
 use crate::ask::{AnswerPart, Peer};
@@ -21,6 +21,9 @@ fn kept_packets(responder: &Responder, from: Peer, packet: &Packet<'_>) -> Resul
         ≡ bytes_of_all (spec.kept_packets from (packet_value packet.now) responder.now)) }
     ensures few { IfOk result (λ packets. length packets.items ≤ 8) }
     ensures short { IfOk result (λ packets. AreShort packets.items) }
+    // Only a kept answer needs memory.
+    ensures again { OnErr result ((heard from (packet_value packet.now) responder.now).0
+        ≡ Todo.Again) }
     ensures err { IsOkUnless result Error.Memory }
 {
     if !packet.is_request() {
@@ -66,7 +69,8 @@ fn respond_or_forget(
 ///
 /// Inside AppleTalk, the chapter on ATP.
 ///
-/// Errors: `TooLong` above 8 parts, or 578 bytes in a part; `Memory`. A refusal changes nothing.
+/// Errors: `TooLong` above 8 parts, or 578 bytes in a part; `Memory`, which what gets no answer
+/// never needs. A refusal changes nothing.
 pub fn reply(
     responder: &mut Responder,
     from: Peer,
@@ -83,6 +87,9 @@ pub fn reply(
     ensures after { OnOk result (responder.new
         ≡ (spec.reply from (packet_value packet.now) user.now responder.old).1) }
     ensures long { (result ≡ Err Error.TooLong) ↔ (is_answer user.now ≡ false) }
+    // What gets no answer needs no memory.
+    ensures silent { is_answer user.now ≡ true
+        → spec.is_answered from (packet_value packet.now) responder.old ≡ false → IsOk result }
     ensures refused { IfErr result (λ e. (e ≡ Error.TooLong) ⊎ (e ≡ Error.Memory)) }
     ensures kept { OnErr result (responder.new ≡ responder.old) }
 {

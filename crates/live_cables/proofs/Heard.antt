@@ -1,5 +1,5 @@
 -- The first entry of a take.
-use Rattle.std.proofs.Common.{◌≡◌, ◌⊎◌, ℕ, List, [], ◌∷◌, ◌++◌, Option, Some, None, inl, inr, ap, ◌∙◌, append_assoc}
+use Rattle.std.proofs.Common.{◌≡◌, ℕ, List, [], ◌∷◌, ◌++◌, Option, Some, None, inl, inr, ap, ◌∙◌, append_assoc}
 use Rattle.aarp.specs.Mapping.{Mappings}
 use Rattle.at_base.specs.declared.address.Hw.{Hw}
 use Rattle.cable_model.specs.Holdings.{released_frame}

@@ -1,12 +1,13 @@
 -- Frames that are lost at the end of a call.
-use Rattle.std.proofs.Common.{◌≡◌, ℕ, zero, suc, Bool, true, false, not, ◌-◌, ◌<◌, ◌≤◌, ◌||◌, ◌&&◌, ◌==◌, cond, IsTrue}
+use Rattle.std.proofs.Common.{◌≡◌, ℕ, zero, suc, Bool, true, false, not, ◌+◌, ◌-◌, ◌<◌, ◌≤◌, ◌||◌, ◌&&◌, ◌==◌, cond, IsTrue}
 use Rattle.std.proofs.Common.{List, [], ◌∷◌, ◌++◌, refl, sym, ap, ◌∙◌, subst}
-use Rattle.std.proofs.Common.{append-nil, append_assoc, arith, inl, inr, drop, eq-eqb, get_or, length, take, eqb-true}
+use Rattle.std.proofs.Common.{append-nil, append_assoc, arith, inl, inr, drop, eq-eqb, length, take, eqb-true}
 use Rattle.std.proofs.Common.{map, slice_get, true≢false}
 use Rattle.std.specs.List.{list_all, list_any}
 use Rattle.std.specs.Option.{unwrap_or}
 use Rattle.std.proofs.lemmas.Bool.{and_parts, not-true}
-use Rattle.std.proofs.lemmas.List.{drop-map}
+use Rattle.std.proofs.lemmas.List.{drop-drop, drop-map, drop-take, drop_all, length-take, take-append-drop, take-append-le, take-take}
+use Rattle.std.proofs.lemmas.List.Folds.{list_any-append}
 use Rattle.cable_model.specs.Logs.{Adds, Cabling, entry_at, transcript}
 use Rattle.cable_model.specs.Pending.{Pair, pairs, pending}
 use Rattle.cable_model.specs.Transcript.{Entry, Sent, Put, Took, Reached, Dropped, Lost, Hold}
@@ -63,41 +64,25 @@ all_losses (s ∷ ss) (e ∷ es) (inl h) =
     (both (is_in (s ∷ ss) s) (list_all (is_loss (s ∷ ss)) es) here rest)
 all_losses (s ∷ ss) (e ∷ es) (inr h) = loss_of ss (s ∷ ss) (in_rest s ss) (e ∷ es) (all_losses ss (e ∷ es) h)
 
-losses_then : (s : ℕ) (ss : List ℕ) (xs ys : List Entry) → AreLossesOf (s ∷ []) xs → AreLossesOf ss ys → AreLossesOf (s ∷ ss) (xs ++ ys)
-losses_then s ss [] [] h g = tt
-losses_then s ss [] (y ∷ ys) h g = inr g
-losses_then s ss (x ∷ xs) ys (inl h) g = inl (h.0, after xs h.1)
+-- Losses of some frames, and then of others.
+losses_then : (xs ys : List ℕ) (es fs : List Entry) → AreLossesOf xs es → AreLossesOf ys fs → AreLossesOf (xs ++ ys) (es ++ fs)
+losses_then [] ys [] fs h g = g
+losses_then [] ys (e ∷ es) fs h g = absurd h
+losses_then (s ∷ ss) ys [] fs h g = later fs (losses_then ss ys [] fs tt g)
   where
-    after : (zs : List Entry) → AreLossesOf [] zs → AreLossesOf ss (zs ++ ys)
-    after [] none = g
-    after (z ∷ zs) none = absurd none
-losses_then s ss (x ∷ xs) ys (inr h) g = absurd h
+    later : (fs : List Entry) → AreLossesOf (ss ++ ys) fs → AreLossesOf (s ∷ (ss ++ ys)) fs
+    later [] h = tt
+    later (f ∷ fs) h = inr h
+losses_then (s ∷ ss) ys (e ∷ es) fs (inl h) g = inl (h.0, losses_then ss ys es fs h.1 g)
+losses_then (s ∷ ss) ys (e ∷ es) fs (inr h) g = inr (losses_then ss ys (e ∷ es) fs h g)
 
-losses_first : (s : ℕ) (ss : List ℕ) (xs : List Entry) → AreLossesOf (s ∷ []) xs → AreLossesOf (s ∷ ss) xs
-losses_first s ss [] h = tt
-losses_first s ss (x ∷ xs) (inl h) = inl (h.0, after xs h.1)
-  where
-    after : (zs : List Entry) → AreLossesOf [] zs → AreLossesOf ss zs
-    after [] none = tt
-    after (z ∷ zs) none = absurd none
-losses_first s ss (x ∷ xs) (inr h) = absurd h
-
-pub loses_then : (s : ℕ) (ss : List ℕ) (a b c : Cabling) → Loses (s ∷ []) a b → Loses ss b c → Loses (s ∷ ss) a c
-loses_then s ss a b c x y = record {
+pub loses_then : (xs ys : List ℕ) (a b c : Cabling) → Loses xs a b → Loses ys b c → Loses (xs ++ ys) a c
+loses_then xs ys a b c x y = record {
   added = x.added ++ y.added;
   grown = y.grown ∙ (ap (λ l. l ++ y.added) x.grown ∙ append_assoc (transcript a) x.added y.added);
-  losses = losses_then s ss x.added y.added x.losses y.losses;
+  losses = losses_then xs ys x.added y.added x.losses y.losses;
   seats = y.seats ∙ x.seats;
   limit = y.limit ∙ x.limit;
-}
-
-pub loses_first : (s : ℕ) (ss : List ℕ) (a b : Cabling) → Loses (s ∷ []) a b → Loses (s ∷ ss) a b
-loses_first s ss a b x = record {
-  added = x.added;
-  grown = x.grown;
-  losses = losses_first s ss x.added x.losses;
-  seats = x.seats;
-  limit = x.limit;
 }
 
 -- ---- Nothing of a frame is pending after its loss
@@ -142,49 +127,29 @@ gone_lost stamp old new x =
     lost_ends new.seats (transcript old) [] stamp p (sym (in_one stamp p.frame.stamp e))
     (subst (λ l. Has (pending new.seats l) p) (x.added ∙ sym (append-nil (transcript old ++ Lost stamp ∷ []))) g))
 
-pub gone_then : (s : ℕ) (ss : List ℕ) (b c : Cabling) → IsTrue (are_gone (s ∷ []) b) → Loses ss b c → IsTrue (are_gone ss c)
-    → IsTrue (are_gone (s ∷ ss) c)
-gone_then s ss b c first x rest =
-    gone_by (s ∷ ss) c (λ p g e. split p g (s == p.frame.stamp) refl e)
+-- A frame among some frames and others, that isn't among the first of them, is among the others.
+in_others : (xs ys : List ℕ) (n : ℕ) → is_in (xs ++ ys) n ≡ true → is_in xs n ≡ false → is_in ys n ≡ true
+in_others xs ys n here out =
+    let parts = sym (list_any-append (λ s. s == n) xs ys) ∙ here in by (is_in xs n) out parts
+  where
+    by : (b : Bool) → b ≡ false → (b || is_in ys n) ≡ true → is_in ys n ≡ true
+    by true f h = cc
+    by false f h = h
+
+pub gone_then : (xs ys : List ℕ) (b c : Cabling) → IsTrue (are_gone xs b) → Loses ys b c → IsTrue (are_gone ys c)
+    → IsTrue (are_gone (xs ++ ys) c)
+gone_then xs ys b c first x rest = gone_by (xs ++ ys) c (λ p g e. split p g (is_in xs p.frame.stamp) refl e)
   where
     before : (p : Pair) → Has (pending c.seats (transcript c)) p → Has (pending b.seats (transcript b)) p
     before p g =
         pending_since b.seats (transcript b) x.added p
-        (has_none (pairs b.seats x.added) p (pairs_none b.seats ss x.added (all_losses ss x.added x.losses)))
+        (has_none (pairs b.seats x.added) p (pairs_none b.seats ys x.added (all_losses ys x.added x.losses)))
         (subst (λ l. Has (pending b.seats l) p) x.grown (subst (λ l. Has (pending l (transcript c)) p) x.seats g))
 
-    split : (p : Pair) → Has (pending c.seats (transcript c)) p → (t : Bool) → (s == p.frame.stamp) ≡ t
-        → (t || is_in ss p.frame.stamp) ≡ true → ⊥
-    split p g true e h = not_there (s ∷ []) b first p (before p g) (ap (λ t. t || false) e)
-    split p g false e h = not_there ss c rest p g h
-
--- ---- The first of the frames, and the others
-
-others : (s : ℕ) (ss : List ℕ) → take (suc (length ss) - 1) ss ≡ ss
-others s ss = let e : suc (length ss) - 1 ≡ length ss = omega arith in subst (λ n. take n ss ≡ ss) (sym e) (whole ss)
-  where
-    whole : (xs : List ℕ) → take (length xs) xs ≡ xs
-    whole [] = refl
-    whole (x ∷ xs) = ap (λ l. x ∷ l) (whole xs)
-
-pub all_lost : (ss : List ℕ) (a b c : Cabling) → 1 ≤ length ss → Loses (get_or ss 0 0 ∷ []) a b
-    → Loses (take (length ss - 1) (drop 1 ss)) b c → Loses ss a c
-all_lost [] a b c l x y = absurd (omega (arith, l))
-all_lost (s ∷ ss) a b c l x y = loses_then s ss a b c x (subst (λ ls. Loses ls b c) (others s ss) y)
-
-pub first_lost : (ss : List ℕ) (a b : Cabling) → 1 ≤ length ss → Loses (get_or ss 0 0 ∷ []) a b → Loses ss a b
-first_lost [] a b l x = absurd (omega (arith, l))
-first_lost (s ∷ ss) a b l x = loses_first s ss a b x
-
-pub all_gone : (ss : List ℕ) (b c : Cabling) → 1 ≤ length ss → IsTrue (are_gone (get_or ss 0 0 ∷ []) b)
-    → Loses (take (length ss - 1) (drop 1 ss)) b c → IsTrue (are_gone (take (length ss - 1) (drop 1 ss)) c) → IsTrue (are_gone ss c)
-all_gone [] b c l x y z = absurd (omega (arith, l))
-all_gone (s ∷ ss) b c l x y z =
-    gone_then s ss b c x (subst (λ ls. Loses ls b c) (others s ss) y) (subst (λ ls. IsTrue (are_gone ls c)) (others s ss) z)
-
-pub none_gone : (ss : List ℕ) (c : Cabling) → length ss < 1 → IsTrue (are_gone ss c)
-none_gone [] c l = gone_none c
-none_gone (s ∷ ss) c l = absurd (omega (arith, l))
+    split : (p : Pair) → Has (pending c.seats (transcript c)) p → (t : Bool) → is_in xs p.frame.stamp ≡ t
+        → is_in (xs ++ ys) p.frame.stamp ≡ true → ⊥
+    split p g true e h = not_there xs b first p (before p g) e
+    split p g false e h = not_there ys c rest p g (in_others xs ys p.frame.stamp h e)
 
 -- ---- Which frames are lost
 
@@ -199,6 +164,71 @@ losses_of_lines losing kept (line.Lost p ∷ ls) = losses_of_lines losing kept l
 losses_of_lines losing kept (line.Hold stamp cable station next n ∷ ls) = losses_of_lines losing kept ls
 losses_of_lines losing kept (line.Put stamp cable sender to kind n ∷ ls) =
     ap (λ l. cond (losing cable) (stamp ∷ l) l) (losses_of_lines losing kept ls)
+
+lines_then : (losing : ℕ → Bool) (ls ms : List Line) → line_losses losing (ls ++ ms) ≡ line_losses losing ls ++ line_losses losing ms
+lines_then losing [] ms = refl
+lines_then losing (line.Sent s n ∷ ls) ms = lines_then losing ls ms
+lines_then losing (line.Took p s ∷ ls) ms = lines_then losing ls ms
+lines_then losing (line.Reached c s w n ∷ ls) ms = lines_then losing ls ms
+lines_then losing (line.Dropped r c n ∷ ls) ms = lines_then losing ls ms
+lines_then losing (line.Lost p ∷ ls) ms = lines_then losing ls ms
+lines_then losing (line.Hold stamp cable station next n ∷ ls) ms = lines_then losing ls ms
+lines_then losing (line.Put stamp cable sender to kind n ∷ ls) ms = by (losing cable) (lines_then losing ls ms)
+  where
+    by : (b : Bool) → line_losses losing (ls ++ ms) ≡ line_losses losing ls ++ line_losses losing ms
+        → cond b (stamp ∷ line_losses losing (ls ++ ms)) (line_losses losing (ls ++ ms))
+        ≡ cond b (stamp ∷ line_losses losing ls) (line_losses losing ls) ++ line_losses losing ms
+    by true rest = ap (λ l. stamp ∷ l) rest
+    by false rest = rest
+
+-- The entries from one index up to another are the first of them and those after it.
+one_between : (ls : List Line) (from end : ℕ) → from < end
+    → drop from (take end ls) ≡ take 1 (drop from ls) ++ drop (from + 1) (take end ls)
+one_between ls from end less =
+    let many : end ≡ from + (end - from) = omega (arith, less) in
+    let here : drop from (take end ls) ≡ take (end - from) (drop from ls) =
+    ap (λ n. drop from (take n ls)) many ∙ drop-take from (end - from) ls in
+    let one : take 1 (drop from (take end ls)) ≡ take 1 (drop from ls) =
+    ap (take 1) here ∙ take-take 1 (end - from) (drop from ls) (omega (arith, less)) in
+    sym (take-append-drop 1 (drop from (take end ls))) ∙ (ap (λ l. l ++ drop 1 (drop from (take end ls))) one
+    ∙ ap (λ l. take 1 (drop from ls) ++ l) (drop-drop 1 from (take end ls)))
+
+-- The stamps of the first entry and of the others.
+losses_between : (losing : ℕ → Bool) (ls more : List Line) (from end : ℕ) → from < end → end ≤ length ls
+    → line_losses losing (drop from (take end ls))
+    ≡ line_losses losing (take 1 (drop from ls)) ++ line_losses losing (drop (from + 1) (take end (ls ++ more)))
+losses_between losing ls more from end less inside =
+    ap (line_losses losing) (one_between ls from end less)
+    ∙ (lines_then losing (take 1 (drop from ls)) (drop (from + 1) (take end ls))
+    ∙ ap (λ l. line_losses losing (take 1 (drop from ls)) ++ line_losses losing (drop (from + 1) l)) (sym (take-append-le end ls more inside)))
+
+-- No entry is between indices of which the second isn't greater.
+pub none_between : (ls : List Line) (from end : ℕ) → end ≤ from → drop from (take end ls) ≡ []
+none_between ls from end less =
+    drop_all from (take end ls) (let most = length-take end ls in omega (arith, less, most))
+
+-- Losses by the first entry, and then by the others.
+module _ (losing : ℕ → Bool) (old mid : Cabling) (from end : ℕ) (less : from < end) (inside : end ≤ length old.lines)
+    (further : (more : List Line) × (mid.lines ≡ old.lines ++ more))
+    (first : Loses (line_losses losing (take 1 (drop from old.lines))) old mid) where
+  splits : line_losses losing (drop from (take end old.lines))
+      ≡ line_losses losing (take 1 (drop from old.lines)) ++ line_losses losing (drop (from + 1) (take end mid.lines))
+  splits =
+      losses_between losing old.lines further.0 from end less inside
+      ∙ ap (λ l. line_losses losing (take 1 (drop from old.lines)) ++ line_losses losing (drop (from + 1) (take end l))) (sym further.1)
+
+  pub first_between_lost : Loses (line_losses losing (drop from (take end old.lines))) old mid
+  first_between_lost = subst (λ ss. Loses ss old mid) (sym splits) (loses_then _ _ old mid mid first (loses_none _ mid))
+
+  pub all_between_lost : (new : Cabling) → Loses (line_losses losing (drop (from + 1) (take end mid.lines))) mid new
+      → Loses (line_losses losing (drop from (take end old.lines))) old new
+  all_between_lost new rest = subst (λ ss. Loses ss old new) (sym splits) (loses_then _ _ old mid new first rest)
+
+  pub all_between_gone : (new : Cabling) → IsTrue (are_gone (line_losses losing (take 1 (drop from old.lines))) mid)
+      → Loses (line_losses losing (drop (from + 1) (take end mid.lines))) mid new
+      → IsTrue (are_gone (line_losses losing (drop (from + 1) (take end mid.lines))) new)
+      → IsTrue (are_gone (line_losses losing (drop from (take end old.lines))) new)
+  all_between_gone new here rest gone = subst (λ ss. IsTrue (are_gone ss new)) (sym splits) (gone_then _ _ mid new here rest gone)
 
 -- No cable loses frames.
 none_loses : (losing : List Bool) (k : ℕ) → list_any (λ b. b) losing ≡ false → unwrap_or (slice_get losing k) false ≡ false

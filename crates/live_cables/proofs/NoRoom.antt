@@ -1,13 +1,20 @@
 -- Calls that have no room.
-use Rattle.std.proofs.Common.{◌≡◌, ℕ, zero, suc, ◌<◌, ◌≤◌, Bool, true, false, ◌&&◌, List, [], ◌∷◌, Option, Some, None, length}
-use Rattle.std.proofs.Common.{refl, sym, ◌∙◌, arith, slice_get, true≢false}
-use Rattle.std.specs.Prelude.{IsSome, nat_lt}
-use Rattle.std.proofs.lemmas.Bool.{and_from, and_parts, lt-ltb, ltb-true}
+use Rattle.std.proofs.Common.{◌≡◌, ◌↔◌, ℕ, zero, suc, ◌<◌, ◌≤◌, Bool, true, false, ◌&&◌, ◌==◌, List, [], ◌∷◌, Option, Some, None, length}
+use Rattle.std.proofs.Common.{Result, Err, inl, inr, refl, sym, ◌∙◌, arith, eq-eqb, slice_get, true≢false}
+use Rattle.std.specs.Prelude.{IsSome, nat_lt, option_and_then}
+use Rattle.std.proofs.lemmas.Bool.{and_from, and_parts, cases_lt, le-leb, lt-leb, lt-ltb, ltb-true}
 use Rattle.aarp.specs.Mapping.{Mappings, to_ask}
 use Rattle.at_base.specs.declared.address.Addr.{Addr}
+use Rattle.at_base.specs.declared.error.Error.{Error}
+use Rattle.at_base.specs.declared.error.Error.TheVariants.{Full}
+use Rattle.cable_model.specs.Logs.{Cabling}
+use Rattle.cable_model.specs.Outcomes.{is_seated}
 use Rattle.cable_model.specs.declared.seat.Seat.{Seat}
 use Rattle.live_cables.specs.Finding.{held_at}
 use Rattle.live_cables.specs.Holding.{IsRequest}
+use Rattle.live_cables.specs.Putting.{room_by}
+use Rattle.live_cables.specs.Steps.{HasNoRoom}
+use Rattle.live_cables.proofs.Pending.{both, has_any}
 
 -- ---- A take
 
@@ -47,3 +54,32 @@ seat_there seats maps k same some = by (slice_get maps k) refl
     by : (o : Option Mappings) → slice_get maps k ≡ o → IsSome (slice_get seats k)
     by None e = let none = rw e at some in absurd (omega (arith, none))
     by (Some m) e = same_there maps seats k m same e
+
+-- ---- A frame, or a datagram
+
+-- The station of a seat is on the seat's cable.
+pub seat_seated : (seats : List Seat) (place : Option ℕ) (s : Seat) → option_and_then (slice_get seats) place ≡ Some s
+    → is_seated seats s.cable s.station ≡ true
+seat_seated seats None s e = absurd cc
+seat_seated seats (Some k) s e =
+    has_any (λ (t : Seat). t.cable == s.cable && t.station == s.station) seats s (k, e)
+    (both (s.cable == s.cable) (s.station == s.station) (eq-eqb s.cable s.cable refl) (eq-eqb s.station s.station refl))
+
+-- Where the bytes fit a frame and there is too little room, the error is Full.
+pub full_by : {A : Type 0} (r : Result A Error) (seat : Option Seat) (s : Seat) (bytes : List ℕ) (more : ℕ) (c : Cabling) (seated : Bool)
+    → seat ≡ Some s → seated ≡ true → ((r ≡ Err Full) ↔ ((seated ≡ true) × (length bytes ≤ 599) × HasNoRoom more c))
+    → 1 ≤ room_by seat bytes more → HasNoRoom (room_by seat bytes more) c → r ≡ Err Full
+full_by r seat s bytes more c seated is there full some none =
+    elim (cases_lt 599 (length bytes)) [
+      | inl long ↦ absurd (let zero = rw (is, lt-leb (length bytes) 599 long) at some in omega (arith, zero))
+      | inr few ↦ full.1 (there, few, rw (is, le-leb (length bytes) 599 few) at none)
+    ]
+
+-- Where no room is needed, the bytes don't fit a frame.
+pub long_by : (seat : Option Seat) (s : Seat) (bytes : List ℕ) (more : ℕ) → seat ≡ Some s → 1 ≤ more
+    → room_by seat bytes more ≡ 0 → 599 < length bytes
+long_by seat s bytes more is some none =
+    elim (cases_lt 599 (length bytes)) [
+      | inl long ↦ long
+      | inr few ↦ absurd (let all = rw (is, le-leb (length bytes) 599 few) at none in omega (arith, all, some))
+    ]

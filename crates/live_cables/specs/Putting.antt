@@ -1,5 +1,6 @@
 -- The frames that a seat's station puts on its cable.
-use Rattle.std.specs.Prelude.{◌≡◌, ◌⊎◌, ◌<◌, ℕ, false, List, [], ◌∷◌, length, Option, Some, None, slice_get, option_and_then}
+use Rattle.std.specs.Prelude.{◌≡◌, ◌⊎◌, ◌<◌, ◌==◌, ℕ, cond, false, List, [], ◌∷◌, length, nat_le, Option, Some, None}
+use Rattle.std.specs.Prelude.{slice_get, option_and_then}
 use Rattle.std.specs.List.{list_any}
 use Rattle.aarp.specs.Packets.{packet, written}
 use Rattle.at_base.specs.Spelling.{Spells}
@@ -63,6 +64,23 @@ IsGiven station (Wire port to bytes) old new = by (option_and_then (slice_get ol
     by None = (new.0 ≡ old.0) × (new.1 ≡ old.1)
     by (Some s) = IsPut s to Aarp bytes old.0 new.0 × (new.1 ≡ old.1)
 IsGiven station _ old new = (new.0 ≡ old.0) × (new.1 ≡ old.1)
+
+-- The entries for which the cables need room before these bytes are sent by a seat: so many, but none without a seat, or for
+-- bytes that don't fit a frame.
+abbrev pub room_by : Option Seat → List ℕ → ℕ → ℕ
+room_by None bytes more = 0
+room_by (Some s) bytes more = cond (nat_le (length bytes) 599) more 0
+
+-- The entries for which the cables need room before an output of a station is sent: 5 for a datagram, 1 for an AARP frame.
+abbrev pub room_of : List Seat → ℕ → Output → ℕ
+room_of seats station (Made port next bytes) = room_by (option_and_then (slice_get seats) (seat_by seats station port)) bytes 5
+room_of seats station (Wire port to bytes) = room_by (option_and_then (slice_get seats) (seat_by seats station port)) bytes 1
+room_of seats station _ = 0
+
+-- The same of the first of these outputs that needs room, and 0 if none does.
+abbrev pub first_room : List Seat → ℕ → List Output → ℕ
+first_room seats station [] = 0
+first_room seats station (o ∷ os) = cond (room_of seats station o == 0) (first_room seats station os) (room_of seats station o)
 
 -- The outputs of a station were sent, in order.
 abbrev pub AreGiven : ℕ → List Output → Cabling × Knowing → Cabling × Knowing → Type 0

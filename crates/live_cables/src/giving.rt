@@ -1,11 +1,12 @@
 //! Sends a station's outputs of a tick.
 
-ghost use Rattle.std.specs.Prelude.{IfErr, OnErr, OnOk, [], ℕ, ◌≡◌, ◌⊎◌, drop, option_and_then, slice_get, take};
+ghost use Rattle.std.specs.Prelude.{IfErr, IsOk, OnErr, OnOk, [], ℕ, ◌≡◌, ◌≤◌, ◌⊎◌, drop, option_and_then};
+ghost use Rattle.std.specs.Prelude.{slice_get, take};
 ghost use Rattle.std.specs.List.{AllByRecursion};
 ghost use Rattle.cable_model.specs.Rooms.{held_rooms};
 ghost use Rattle.live_cables.specs.Finding.{seat_by};
 ghost use Rattle.live_cables.specs.Holding.{KnowsSame};
-ghost use Rattle.live_cables.specs.Putting.{AreGiven, IsGiven};
+ghost use Rattle.live_cables.specs.Putting.{AreGiven, IsGiven, first_room, room_of};
 ghost use Rattle.live_cables.specs.Steps.{HasNoRoom, IsSendable, Puts};
 
 use crate::neighbours::Neighbours;
@@ -24,8 +25,8 @@ fn seat_of(near: &Neighbours, station: u16, port: u8) -> Option<Seat>
     }
 }
 
-/// Sends an output of a station. Outputs that a station doesn't make in a tick are ignored. Errors:
-/// `Full`, `Memory`; nothing changes then.
+/// Sends an output of a station. Outputs that a station doesn't make in a tick are ignored. Errors,
+/// in this order: `Full`, `Memory`; nothing changes then.
 fn give(
     cables: &mut Cables,
     near: &mut Neighbours,
@@ -33,12 +34,18 @@ fn give(
     output: Output,
 ) -> Result<(), Error>
     requires sendable { IsSendable output }
+    requires seats { near.old.seats ≡ cables.old.seats }
     requires rooms { cables.old.rooms ≡ held_rooms }
     ensures given { OnOk result (IsGiven station output (cables.old, near.old) (cables.new, near.new)) }
     ensures puts { Puts cables.old cables.new }
     ensures near { KnowsSame near.old near.new }
     ensures rooms { cables.new.rooms ≡ held_rooms }
     ensures full { (result ≡ Err Error.Full) → HasNoRoom 5 cables.new }
+    ensures no_room { 1 ≤ room_of near.old.seats station output
+        → HasNoRoom (room_of near.old.seats station output) cables.old → result ≡ Err Error.Full }
+    ensures ignored { room_of near.old.seats station output ≡ 0
+        → IsOk result × (cables.new ≡ cables.old) }
+    ensures memory { result ≡ Err Error.Memory → HasNoRoom 1 cables.new → ⊥ }
     ensures kept { OnErr result (cables.new ≡ cables.old) }
     ensures near_stays { OnErr result (near.new ≡ near.old) }
     ensures refused { IfErr result (λ e. (e ≡ Error.Full) ⊎ (e ≡ Error.Memory)) }
@@ -56,8 +63,8 @@ fn give(
     }
 }
 
-/// Sends the outputs of a station, the oldest first. Errors: `Full`, `Memory`; the first of them are
-/// sent then.
+/// Sends the outputs of a station, the oldest first. Errors, output by output: `Full`, `Memory`; the
+/// first of them are sent then.
 pub fn give_all(
     cables: &mut Cables,
     near: &mut Neighbours,
@@ -65,6 +72,7 @@ pub fn give_all(
     outputs: &mut Outputs,
 ) -> Result<(), Error>
     requires sendable { AllByRecursion IsSendable outputs.old.items }
+    requires seats { near.old.seats ≡ cables.old.seats }
     requires rooms { cables.old.rooms ≡ held_rooms }
     ensures given { OnOk result (AreGiven station outputs.old.items (cables.old, near.old) (cables.new, near.new)) }
     ensures part { OnErr result ((n : ℕ)
@@ -73,6 +81,10 @@ pub fn give_all(
     ensures near { KnowsSame near.old near.new }
     ensures rooms { cables.new.rooms ≡ held_rooms }
     ensures full { (result ≡ Err Error.Full) → HasNoRoom 5 cables.new }
+    ensures no_room { 1 ≤ first_room near.old.seats station outputs.old.items
+        → HasNoRoom (first_room near.old.seats station outputs.old.items) cables.old
+        → result ≡ Err Error.Full }
+    ensures memory { result ≡ Err Error.Memory → HasNoRoom 1 cables.new → ⊥ }
     ensures refused { IfErr result (λ e. (e ≡ Error.Full) ⊎ (e ≡ Error.Memory)) }
     ensures emptied { OnOk result (outputs.new.items ≡ []) }
     ensures left { (n : ℕ) × (outputs.new.items ≡ drop n outputs.old.items) }

@@ -42,11 +42,12 @@ fn put_one(cables: &mut Cables, stamp: Option<u32>, hw: Hw)
     }
 }
 
-/// Gives up the datagram that is held with this stamp, if there is one. Errors: `Full`, `Memory`;
-/// nothing changes then.
+/// Gives up the datagram that is held with this stamp, if there is one. Errors, in this order:
+/// `Full`, `Memory`; nothing changes then.
 fn shed_one(cables: &mut Cables, stamp: u32) -> Result<(), Error>
     ensures shed { OnOk result (Adds cables.old cables.new (let_go (transcript cables.old) (Some stamp))) }
     ensures full { (result ≡ Err Error.Full) → HasNoRoom 1 cables.new }
+    ensures memory { result ≡ Err Error.Memory → HasNoRoom 1 cables.new → ⊥ }
     ensures kept { OnErr result (cables.new ≡ cables.old) }
     ensures refused { IfErr result (λ e. (e ≡ Error.Full) ⊎ (e ≡ Error.Memory)) }
 {
@@ -58,12 +59,13 @@ fn shed_one(cables: &mut Cables, stamp: u32) -> Result<(), Error>
     Ok(())
 }
 
-/// Gives up the datagrams that are held with these stamps, in order. Errors: `Full`, `Memory`; the
-/// first of them are given up then.
+/// Gives up the datagrams that are held with these stamps, in order. Errors, one by one: `Full`,
+/// `Memory`; the first of them are given up then.
 pub fn shed_all(cables: &mut Cables, stamps: &[u32]) -> Result<(), Error>
     ensures shed { OnOk result (AreShed stamps.now cables.old cables.new) }
     ensures part { (n : ℕ) × AreShed (take n stamps.now) cables.old cables.new }
     ensures full { (result ≡ Err Error.Full) → HasNoRoom 1 cables.new }
+    ensures memory { result ≡ Err Error.Memory → HasNoRoom 1 cables.new → ⊥ }
     ensures refused { IfErr result (λ e. (e ≡ Error.Full) ⊎ (e ≡ Error.Memory)) }
 {
     match stamps {

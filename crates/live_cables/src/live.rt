@@ -15,6 +15,7 @@ ghost use Rattle.cable_model.specs.Transcript.{ArePutOnce};
 ghost use Rattle.live_cables.specs.Finding.{held_at};
 ghost use Rattle.live_cables.specs.Living.{GivesInPart, GivesOut, IsTakenBy, PassesFor, PassesInPart};
 ghost use Rattle.live_cables.specs.Living.{Plays, PlaysOn, TakesIn, happened};
+ghost use Rattle.live_cables.specs.Putting.{first_room};
 ghost use Rattle.live_cables.specs.Steps.{HasNoRoom};
 ghost use Rattle.station.specs.Lawful.{AreLawful};
 
@@ -163,8 +164,8 @@ impl LiveCables {
     /// hardware address isn't known is held, and an AARP request is sent for the address. Outputs
     /// of other kinds are ignored.
     ///
-    /// Errors: `Full`, `Memory`. After an error, the first outputs are sent, or all of them are and
-    /// not all frames that were to be lost are lost.
+    /// Errors, output by output and frame by frame: `Full`, `Memory`. After an error, the first
+    /// outputs are sent, or all of them are and not all frames that were to be lost are lost.
     pub fn give(&mut self, station: u16, outputs: &mut Outputs) -> Result<(), Error>
         requires lawful { (n : ℕ) × AreLawful n outputs.old.items }
         ensures plays { Plays self.old self.new }
@@ -176,6 +177,10 @@ impl LiveCables {
         ensures emptied { OnOk result (outputs.new.items ≡ []) }
         ensures left { (n : ℕ) × (outputs.new.items ≡ drop n outputs.old.items) }
         ensures full { (result ≡ Err Error.Full) → HasNoRoom 5 self.new.cabling }
+        ensures no_room { 1 ≤ first_room self.old.cabling.seats station outputs.old.items
+            → HasNoRoom (first_room self.old.cabling.seats station outputs.old.items)
+            self.old.cabling → result ≡ Err Error.Full }
+        ensures memory { result ≡ Err Error.Memory → HasNoRoom 1 self.new.cabling → ⊥ }
         ensures refused { IfErr result (λ e. (e ≡ Error.Full) ⊎ (e ≡ Error.Memory)) }
     {
         if outputs.is_empty() {
@@ -187,7 +192,7 @@ impl LiveCables {
             Ok(()) => {}
             Err(error) => return Err(error),
         }
-        lose_from(self.alloc, &mut self.cables, &self.losing, from)
+        lose_from(&mut self.cables, &self.losing, from)
     }
 
     /// Whether the limit leaves no room for so many further entries. Allocates nothing.
@@ -232,6 +237,7 @@ impl LiveCables {
         ensures full { (result ≡ Err Error.Full) → HasNoRoom 1285 self.new.cabling }
         ensures no_room { list_any (is_named stamp station) (pending_on self.old.cabling) ≡ true
             → HasNoRoom 1285 self.old.cabling → result ≡ Err Error.Full }
+        ensures memory { result ≡ Err Error.Memory → HasNoRoom 1 self.new.cabling → ⊥ }
         ensures refused { IfErr result (λ e. (e ≡ Error.NotPending) ⊎ (e ≡ Error.Full)
             ⊎ (e ≡ Error.Memory)) }
     {
@@ -246,7 +252,7 @@ impl LiveCables {
             Err(error) => return Err(error),
         }
         recall_once(&self.cables);
-        lose_from(self.alloc, &mut self.cables, &self.losing, from)
+        lose_from(&mut self.cables, &self.losing, from)
     }
 
     /// Whether no datagram is held at a seat, so that a tick of its mappings changes nothing.
@@ -264,8 +270,8 @@ impl LiveCables {
     /// Returns the addresses for which ten requests had no response; the datagrams that were held
     /// for them are given up.
     ///
-    /// Errors: `Full`, `Memory`. After an error the mappings have advanced, and what was sent and lost
-    /// before it stays so.
+    /// Errors, frame by frame: `Full`, `Memory`. After an error the mappings have advanced, and what
+    /// was sent and lost before it stays so.
     pub fn pass(&mut self, seat: usize) -> Result<Addresses, Error>
         ensures plays { Plays self.old self.new }
         ensures passed { OnOk result (PassesFor seat self.old self.new) }
@@ -275,6 +281,7 @@ impl LiveCables {
         ensures full { (result ≡ Err Error.Full) → HasNoRoom 1 self.new.cabling }
         ensures no_room { 1 ≤ length (to_ask (held_at self.old.maps seat))
             → HasNoRoom 1 self.old.cabling → result ≡ Err Error.Full }
+        ensures memory { result ≡ Err Error.Memory → HasNoRoom 1 self.new.cabling → ⊥ }
         ensures refused { IfErr result (λ e. (e ≡ Error.Full) ⊎ (e ≡ Error.Memory)) }
     {
         let from = self.cables.transcript().len();
@@ -290,7 +297,7 @@ impl LiveCables {
             Ok(()) => {}
             Err(error) => return Err(error),
         }
-        match lose_from(self.alloc, &mut self.cables, &self.losing, from) {
+        match lose_from(&mut self.cables, &self.losing, from) {
             Ok(()) => {}
             Err(error) => return Err(error),
         }

@@ -11,7 +11,7 @@ use cable_model::Cables;
 use std::alloc::Global;
 
 /// Sends an AARP request for each of the addresses on the cable of a seat; `limit` is the limit of
-/// the cables. Errors: `Full`, `Memory`; the first of them are sent then.
+/// the cables. Errors, one by one: `Full`, `Memory`; the first of them are sent then.
 pub fn ask_all(
     alloc: Global,
     cables: &mut Cables,
@@ -28,6 +28,7 @@ pub fn ask_all(
     ensures rooms { cables.new.rooms ≡ cables.old.rooms }
     ensures puts { Puts cables.old cables.new }
     ensures full { (result ≡ Err Error.Full) → HasNoRoom 1 cables.new }
+    ensures memory { result ≡ Err Error.Memory → HasNoRoom 1 cables.new → ⊥ }
     ensures no_room { IsSome (slice_get near.now.seats seat) → 1 ≤ length addrs.now
         → HasNoRoom 1 cables.old → result ≡ Err Error.Full }
     ensures refused { IfErr result (λ e. (e ≡ Error.Full) ⊎ (e ≡ Error.Memory)) }

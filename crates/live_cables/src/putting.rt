@@ -1,7 +1,7 @@
 //! Frames that a seat's station puts on its cable.
 
 ghost use Rattle.std.specs.Prelude.{◌≡◌, ◌<◌, ◌≤◌, ◌+◌, ◌⊎◌, ◌↔◌, true, length};
-ghost use Rattle.std.specs.Prelude.{IfErr, IsSome, OnErr, OnOk, slice_get};
+ghost use Rattle.std.specs.Prelude.{IfErr, IsOk, IsSome, OnErr, OnOk, slice_get};
 ghost use Rattle.cable_model.specs.Outcomes.{is_seated};
 ghost use Rattle.cable_model.specs.Rooms.{held_rooms};
 ghost use Rattle.live_cables.specs.Holding.{KnowsSame};
@@ -21,6 +21,7 @@ pub fn stop(error: Error) -> Result<(), Error>
     ensures refused { IfErr result (λ e. (e ≡ Error.Full) ⊎ (e ≡ Error.Memory)) }
     ensures full { (result ≡ Err Error.Full) ↔ (error ≡ Error.Full) }
     ensures memory { (result ≡ Err Error.Memory) ↔ (error ≡ Error.Memory) }
+    ensures long { error ≡ Error.TooLong → IsOk result }
 {
     match error {
         Error::Full => Err(Error::Full),
@@ -29,14 +30,17 @@ pub fn stop(error: Error) -> Result<(), Error>
     }
 }
 
-/// Puts a frame on the cable of a seat, unless it is too long for a frame. Errors: `Full`,
-/// `Memory`.
+/// Puts a frame on the cable of a seat, unless it is too long for a frame. Errors, in this order:
+/// `Full`, `Memory`.
 pub fn put(cables: &mut Cables, seat: Seat, to: Hw, kind: Kind, bytes: Bytes) -> Result<(), Error>
     ensures put { OnOk result (IsPut seat to kind bytes cables.old cables.new) }
     ensures rooms { cables.new.rooms ≡ cables.old.rooms }
     ensures full { (result ≡ Err Error.Full)
         ↔ ((is_seated cables.old.seats seat.cable seat.station ≡ true) × (length bytes ≤ 599)
-        × (cables.old.limit < length cables.old.lines + 1)) }
+        × HasNoRoom 1 cables.old) }
+    ensures long { is_seated cables.old.seats seat.cable seat.station ≡ true → 599 < length bytes
+        → IsOk result × (cables.new ≡ cables.old) }
+    ensures memory { result ≡ Err Error.Memory → HasNoRoom 1 cables.new → ⊥ }
     ensures kept { OnErr result (cables.new ≡ cables.old) }
     ensures puts { Puts cables.old cables.new }
     ensures refused { IfErr result (λ e. (e ≡ Error.Full) ⊎ (e ≡ Error.Memory)) }
@@ -48,7 +52,7 @@ pub fn put(cables: &mut Cables, seat: Seat, to: Hw, kind: Kind, bytes: Bytes) ->
 }
 
 /// Sends a datagram that a seat's station made. It is held if the hardware address of its next
-/// station isn't known. Errors: `Full`, `Memory`; nothing changes then.
+/// station isn't known. Errors, in this order: `Full`, `Memory`; nothing changes then.
 pub fn send(
     cables: &mut Cables,
     near: &mut Neighbours,
@@ -59,7 +63,12 @@ pub fn send(
     requires next { IsNext next }
     requires rooms { cables.old.rooms ≡ held_rooms }
     ensures made { OnOk result (IsMade seat next bytes (cables.old, near.old) (cables.new, near.new)) }
-    ensures full { (result ≡ Err Error.Full) → HasNoRoom 5 cables.old }
+    ensures full { (result ≡ Err Error.Full)
+        ↔ ((is_seated cables.old.seats seat.cable seat.station ≡ true) × (length bytes ≤ 599)
+        × HasNoRoom 5 cables.old) }
+    ensures long { is_seated cables.old.seats seat.cable seat.station ≡ true → 599 < length bytes
+        → IsOk result × (cables.new ≡ cables.old) }
+    ensures memory { result ≡ Err Error.Memory → HasNoRoom 5 cables.new → ⊥ }
     ensures kept { OnErr result (cables.new ≡ cables.old) }
     ensures near { KnowsSame near.old near.new }
     ensures near_stays { OnErr result (near.new ≡ near.old) }
@@ -86,7 +95,8 @@ pub fn ask(
     requires { limit ≡ cables.old.limit }
     ensures asked { OnOk result (IsAsked (slice_get near.now.seats index)
         (slice_get near.now.own index) addr cables.old cables.new) }
-    ensures full { (result ≡ Err Error.Full) → cables.old.limit < length cables.old.lines + 1 }
+    ensures full { (result ≡ Err Error.Full) → HasNoRoom 1 cables.old }
+    ensures memory { result ≡ Err Error.Memory → HasNoRoom 1 cables.new → ⊥ }
     ensures no_room { IsSome (slice_get near.now.seats index) → HasNoRoom 1 cables.old
         → result ≡ Err Error.Full }
     ensures rooms { cables.new.rooms ≡ cables.old.rooms }

@@ -3,16 +3,17 @@ use Rattle.std.proofs.Common.{◌≡◌, ℕ, List, [], ◌∷◌, ◌++◌, ref
 use Rattle.at_base.specs.declared.address.Addr.{Addr}
 use Rattle.rtmp.specs.declared.row.Row.{Row}
 use Rattle.rtmp.specs.declared.tuple.Tuple.{Tuple}
-use Rattle.rtmp.specs.Routes.{IsHeardInPart, heard_packet, heard_within}
+use Rattle.rtmp.specs.Routes.{IsHeardInPart, IsToAdd, heard_packet, heard_within}
 
 -- some of the tuples were handled, and these are left
 abbrev pub InPart : Addr → ℕ → List Tuple → List Tuple → List Row → List Row → Type 0
 InPart s port tuples left rows now =
     (heard : List Tuple) × (tuples ≡ heard ++ left) × (now ≡ heard_packet s port heard rows)
 
-pub in_part : (s : Addr) (port : ℕ) (tuples left : List Tuple) (rows now : List Row) → InPart s port tuples left rows now
-    → IsHeardInPart s port tuples rows now
-in_part s port tuples left rows now x = record { heard = x.0; left = left; whole = x.1; is = x.2 }
+pub in_part : (s : Addr) (port : ℕ) (tuples : List Tuple) (t : Tuple) (left : List Tuple) (rows now : List Row)
+    → InPart s port tuples (t ∷ left) rows now → IsToAdd s port t now → IsHeardInPart s port tuples rows now
+in_part s port tuples t left rows now x due =
+    record { first = x.0; next = t; left = left; whole = x.1; is = x.2; due = due }
 
 heard_last : (s : Addr) (port : ℕ) (heard : List Tuple) (t : Tuple) (rows : List Row)
     → heard_packet s port (heard ++ t ∷ []) rows ≡ heard_within t.range t.distance s port (heard_packet s port heard rows)

@@ -1,9 +1,9 @@
 -- The rows after a router was lost, where only rows that the index names are looked at.
 use Rattle.std.proofs.Common.{◌≡◌, ℕ, ◌+◌, ◌*◌, ◌%◌, ◌<◌, ◌≤◌, Bool, true, false, cond, not, ◌&&◌, ◌||◌, ◌==◌, List, [], ◌∷◌, map}
-use Rattle.std.proofs.Common.{zero, suc, slice_get, slice_set, filter, find, Some, None, refl, ap, sym, subst, ◌∙◌, arith, nat_le, nat_lt}
+use Rattle.std.proofs.Common.{zero, suc, slice_get, slice_set, filter, Some, None, refl, ap, sym, subst, ◌∙◌, arith, nat_le, nat_lt}
 use Rattle.std.specs.List.{list_all, list_any}
 use Rattle.std.proofs.Math.Bool.{and-false}
-use Rattle.std.proofs.lemmas.Bool.{and_parts, eqb-true, le-leb, lt-leb, lt-ltb, le-ltb}
+use Rattle.std.proofs.lemmas.Bool.{and_parts, eqb-true, le-leb, lt-leb, lt-ltb}
 use Rattle.std.proofs.lemmas.Bool.Decides.{nat_tests}
 use Rattle.std.proofs.lemmas.Nat.{mod-mul-add}
 use Rattle.at_base.specs.Address.{is_none, same_address}

@@ -2,14 +2,15 @@
 
 ghost use Rattle.std.specs.Prelude.{◌≡◌, OnErr, OnOk, IsOkUnless};
 ghost use Rattle.rtmp.specs.Data.{tuples_of};
-ghost use Rattle.rtmp.specs.Routes.{IsHeardInPart, heard_packet, heard_within};
+ghost use Rattle.rtmp.specs.Routes.{IsHeardInPart, IsToAdd, heard_packet, heard_within};
 
 use crate::data::DataPacket;
 use crate::table::RouteTable;
 use crate::tuple::Tuple;
 use at_base::{Addr, Error};
 
-/// Handles a tuple; a new range for which the table has no room is left out. Error: `Memory`.
+/// Handles a tuple; a new range for which the table has no room is left out. Error: `Memory`, if a
+/// row is to be added; nothing changes then.
 fn hear_tuple<T: RouteTable>(
     table: &mut T,
     tuple: &Tuple,
@@ -19,6 +20,7 @@ fn hear_tuple<T: RouteTable>(
     ensures ok { OnOk result (T.rows table.new
         ≡ heard_within tuple.now.range tuple.now.distance source port (T.rows table.old)) }
     ensures stays { OnErr result (T.rows table.new ≡ T.rows table.old) }
+    ensures due { OnErr result (IsToAdd source port tuple.now (T.rows table.old)) }
     ensures refused { IsOkUnless result Error.Memory }
 {
     match table.hear(tuple.range, tuple.distance, source, port) {
@@ -28,7 +30,8 @@ fn hear_tuple<T: RouteTable>(
 }
 
 /// Handles each tuple of a packet that was received on a port, in order. New ranges for which the
-/// table has no room are left out. Error: `Memory`; only the tuples before it were handled then.
+/// table has no room are left out. Error: `Memory`, if a row is to be added; only the tuples before
+/// it were handled then.
 ///
 /// Inside AppleTalk, the chapter on RTMP.
 pub fn hear_packet<T: RouteTable>(

@@ -1,6 +1,6 @@
 -- Scripts: one step in each line.
-use Rattle.std.specs.Prelude.{◌≡◌, ℕ, ◌+◌, Bool, not, ◌&&◌, ◌==◌, List, Some, filter, map, min, is_none, position}
-use Rattle.std.specs.List.{slice_split}
+use Rattle.std.specs.Prelude.{◌≡◌, ℕ, ◌+◌, Bool, false, not, ◌&&◌, ◌==◌, List, ◌∷◌, ◌++◌, Some, IsSome, filter, map, min, is_none, position}
+use Rattle.std.specs.List.{All, slice_split}
 use Rattle.script.specs.Lines.{is_skipped, step}
 use Rattle.script.specs.declared.step.Step.{Step}
 
@@ -23,3 +23,13 @@ IsScript text steps = map step (telling text) ≡ map Some steps
 -- n is the number of the first bad line, from 1, at most 2^32 - 1.
 abbrev pub IsBadAt : List ℕ → ℕ → Type 0
 IsBadAt text n = (k : ℕ) × (position is_bad (lines text) ≡ Some k) × (n ≡ min (k + 1) 4294967295)
+
+-- One of the lines has a step, and no line before it is bad.
+pub record ReachesStep (text : List ℕ) : Type 0 where
+  pub before : List (List ℕ)
+  pub line : List ℕ
+  pub after : List (List ℕ)
+  pub whole : lines text ≡ before ++ line ∷ after
+  pub good : All (λ l. is_bad l ≡ false) before
+  pub told : is_skipped line ≡ false
+  pub has : IsSome (step line)

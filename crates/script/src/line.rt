@@ -1,6 +1,6 @@
 //! Reads the step in a line.
 
-ghost use Rattle.std.specs.Prelude.{◌≡◌, IfOk, IsOkUnless};
+ghost use Rattle.std.specs.Prelude.{◌≡◌, IfOk, IsOkUnless, IsSome, OnErr};
 ghost use Rattle.at_base.specs.Text.{same_bytes};
 ghost use Rattle.script.specs.Lines as spec;
 ghost use Rattle.script.specs.Lines.{draining, taking};
@@ -53,9 +53,10 @@ fn drain(mut words: Words<'_>) -> Option<Step>
     Some(Step::Drain(number(u32::MAX, most)?))
 }
 
-/// The step in the line, or `None` if the line has no valid step. Error: `Memory`.
+/// The step in the line, or `None` if the line has no valid step. Error: `Memory`, only for a step.
 pub(crate) fn step(alloc: Global, line: &[u8]) -> Result<Option<Step>, Error>
     ensures read { IfOk result (λ x. x ≡ spec.step line.now) }
+    ensures needed { OnErr result (IsSome (spec.step line.now)) }
     ensures refused { IsOkUnless result Error.Memory }
 {
     let mut words = Words::of(line);

@@ -1,7 +1,7 @@
 //! Reads the steps from the text of a script.
 
 ghost use Rattle.std.specs.Prelude.{◌≡◌, ◌⊎◌, ℕ, IfErr, IfOk};
-ghost use Rattle.script.specs.Scripts.{IsBadAt, IsScript};
+ghost use Rattle.script.specs.Scripts.{IsBadAt, IsScript, ReachesStep};
 
 use crate::line::{is_skipped, step};
 use crate::step::Step;
@@ -25,12 +25,13 @@ use text::cut::cut;
 /// digits, without a sign and without leading zeros; STAMP and MAX fit 32 bits.
 ///
 /// Errors: `BadScript` with the number of the first line that is none of these, counted from 1, at
-/// most 4,294,967,295; `Memory`. Lines are read one after the other, so `Memory` may come before a
-/// bad line is found.
+/// most 4,294,967,295; `Memory`, only for a step before which no line is bad.
 pub fn read(alloc: Global, text: &[u8]) -> Result<Vec<Step>, Error>
     ensures script { IfOk result (λ steps. IsScript text.now steps.items) }
     ensures refused { IfErr result (λ e.
         ((n : ℕ) × (e ≡ Error.BadScript n) × IsBadAt text.now n) ⊎ (e ≡ Error.Memory)) }
+    // Only a step needs memory, and it is read only where no line before it is bad.
+    ensures needed { result ≡ Err Error.Memory → ReachesStep text.now }
 {
     let mut steps = Vec::new(alloc);
     let mut number = 0u32;

@@ -1,6 +1,6 @@
 //! Reads words other than numbers and addresses.
 
-ghost use Rattle.std.specs.Prelude.{◌≡◌, IfOk, IsOkUnless};
+ghost use Rattle.std.specs.Prelude.{◌≡◌, IfOk, IsOkUnless, IsSome, OnErr};
 ghost use Rattle.at_base.specs.Text as text_spec;
 ghost use Rattle.script.specs.Words as spec;
 
@@ -49,9 +49,11 @@ pub(crate) fn flag(word: &[u8]) -> Option<bool>
     }
 }
 
-/// The bytes of at least one pair of hexadecimal digits, or no bytes for a dash. Error: `Memory`.
+/// The bytes of at least one pair of hexadecimal digits, or no bytes for a dash; `None` for any
+/// other word, which needs no memory. Error: `Memory`.
 pub(crate) fn bytes(alloc: Global, word: &[u8]) -> Result<Option<Bytes>, Error>
     ensures read { IfOk result (λ x. x ≡ spec.bytes word.now) }
+    ensures needed { OnErr result (IsSome (spec.bytes word.now)) }
     ensures refused { IsOkUnless result Error.Memory }
 {
     if word.is_empty() {

@@ -1,4 +1,3 @@
-use Rattle.std.proofs.Common.{◌≡◌, sym, ◌∙◌}
 use Rattle.rtmp.proofs.Maps.{rows_apart}
 use Rattle.rtmp.proofs.Numbering.{numbers_rise}
 use Rattle.rtmp.proofs.Spoiled.{spoiled_is}
