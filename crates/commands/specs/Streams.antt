@@ -1,5 +1,5 @@
 -- What a call used of its inputs, and wrote to its outputs.
-use Rattle.std.specs.Prelude.{◌≡◌, ◌≢◌, ◌⊎◌, ℕ, List, Option, Result, Err, IfErr, IfSome, IsErrAnd, IsOkUnless, IsSome, OnErr, OnOk}
+use Rattle.std.specs.Prelude.{◌≡◌, ◌≢◌, ◌⊎◌, ℕ, List, Option, None, Result, Err, IfErr, IfSome, IsErrAnd, IsOkUnless, IsSome, OnErr, OnOk}
 use Rattle.std.specs.Io.KnownBytes.{IsAtEnd}
 use Rattle.at_base.specs.Spelling.{Spells}
 use Rattle.at_base.specs.declared.error.Error.{Error}
@@ -13,21 +13,33 @@ use Rattle.table_image.specs.Spelling.{image_spelling}
 use Rattle.table_image.specs.declared.flaw.Flaw.{Flaw}
 use Rattle.commands.specs.declared.input.TheConstants.{READS}
 
--- ---- Inputs: what is left of one, its failed reads before and after the call, and the reason of the last
+-- ---- Inputs: what is left of one, its failed reads before and after the call, the reason of the last, the number of its
+-- reads, and which of them was the first that gave nothing, before and after the call
 
--- After Ok the input was read to its end, and no read failed. The reason of a failed read is kept, and it is reported.
-pub record Reads {A X : Type 0} (left : Option (List ℕ)) (before after : ℕ) (why : Option X) (result : Result A Error) : Type 0 where
+-- If no read had given nothing before, and one did in the call, it was the last read.
+abbrev pub EndsReading : Option ℕ → Option ℕ → ℕ → Type 0
+EndsReading end_before end_after reads = end_before ≡ None → IfSome end_after (λ n. n ≡ reads)
+
+-- After Ok the input was read to its end, and no read failed. The reason of a failed read is kept, and it is reported. No
+-- read follows the one that found the end.
+pub record Reads {A X : Type 0} (left : Option (List ℕ)) (before after : ℕ) (why : Option X) (reads : ℕ) (end_before end_after : Option ℕ)
+    (result : Result A Error) : Type 0 where
   pub end : OnOk result (IsAtEnd left)
   pub stays : OnOk result (after ≡ before)
   pub reason : after ≢ before → IsSome why
   pub reported : after ≢ before → result ≡ Err ReadFault
+  pub found : OnOk result (IsSome end_after)
+  pub last : EndsReading end_before end_after reads
 
 -- So it is, and the call reads nothing else: ReadFault comes of a failed read, or after the greatest number of reads.
-pub record Uses {A X : Type 0} (left : Option (List ℕ)) (before after reads : ℕ) (why : Option X) (result : Result A Error) : Type 0 where
+pub record Uses {A X : Type 0} (left : Option (List ℕ)) (before after : ℕ) (why : Option X) (reads : ℕ) (end_before end_after : Option ℕ)
+    (result : Result A Error) : Type 0 where
   pub end : OnOk result (IsAtEnd left)
   pub stays : OnOk result (after ≡ before)
   pub reason : after ≢ before → IsSome why
   pub reported : after ≢ before → result ≡ Err ReadFault
+  pub found : OnOk result (IsSome end_after)
+  pub last : EndsReading end_before end_after reads
   pub read_fault : result ≡ Err ReadFault → (after ≢ before) ⊎ (reads ≡ READS)
   pub limit : result ≡ Err ReadFault → after ≡ before → reads ≡ READS
 

@@ -43,7 +43,7 @@ pub fn audit_file<R: Read, W: Write>(
     // No more is read than the piece that has the first flaw.
     ensures no_more { ReadsNoMore (R.remaining input.old.reader) (R.remaining input.new.reader) }
     ensures uses { Uses (R.remaining input.new.reader) input.old.faults input.new.faults
-        input.new.reads input.new.fault result }
+        input.new.fault input.new.reads input.old.ended input.new.ended result }
     ensures wrote { Wrote output.old.faults output.new.faults result }
     // After an error other than `WriteFault`, nothing was written.
     ensures nothing_written { IfErr result (λ e. e ≢ Error.WriteFault → output.new ≡ output.old) }

@@ -34,7 +34,7 @@ fn feed_input<R: Read>(alloc: Global, input: &mut Input<R>) -> Result<Feed, Erro
     ensures refused { IfErr result (λ e. e ≢ Error.WriteFault) }
     ensures no_script { IfErr result (λ e. (n : ℕ) → e ≢ Error.BadScript n) }
     ensures uses { Uses (R.remaining input.new.reader) input.old.faults input.new.faults
-        input.new.reads input.new.fault result }
+        input.new.fault input.new.reads input.old.ended input.new.ended result }
 {
     let mut feed = Feed::new(alloc)?;
     let mut buffer = [0; MAX_PIECE];
@@ -77,7 +77,7 @@ pub fn read_from<R: Read>(alloc: Global, input: &mut Input<R>) -> Result<Image, 
     ensures no_more { ReadsNoMore (R.remaining input.old.reader) (R.remaining input.new.reader) }
     ensures refused { IfErr result (λ e. e ≢ Error.WriteFault) }
     ensures uses { Uses (R.remaining input.new.reader) input.old.faults input.new.faults
-        input.new.reads input.new.fault result }
+        input.new.fault input.new.reads input.old.ended input.new.ended result }
 {
     match feed_input(alloc, input) {
         Ok(feed) => feed.finish(),
@@ -109,7 +109,7 @@ pub fn read_image<R: Read>(alloc: Global, input: &mut Input<R>) -> Result<Image,
     ensures refused { IfErr result (λ e. e ≢ Error.WriteFault) }
     ensures no_script { IfErr result (λ e. (n : ℕ) → e ≢ Error.BadScript n) }
     ensures uses { Uses (R.remaining input.new.reader) input.old.faults input.new.faults
-        input.new.reads input.new.fault result }
+        input.new.fault input.new.reads input.old.ended input.new.ended result }
     ensures kept { OnOk result (IsSomeAnd input.new.image (λ i.
         IfSome (R.remaining input.old.reader) (λ bytes. Spells image_spelling bytes i))) }
 {

@@ -4,6 +4,7 @@ ghost use Rattle.std.specs.Prelude.{None, length, take, ◌++◌, ◌<◌, ◌�
 ghost use Rattle.std.specs.Prelude.{IfOk, IfErr, IfSome, IsSome, OnOk, OnErr, IsOkUnless};
 ghost use Rattle.std.specs.Io.{ReadsAtMost};
 ghost use Rattle.std.specs.Io.KnownBytes.{Consumes, IsAtEnd, Keeps};
+ghost use Rattle.commands.specs.Streams.{EndsReading};
 ghost use Rattle.commands.specs.declared.input.TheConstants.{READS};
 
 use at_base::Error;
@@ -28,6 +29,9 @@ pub struct Input<R> {
     pub faults: u32,
     /// The reason of the last read that failed.
     pub fault: Option<ErrorKind>,
+    /// The number of reads when one first gave nothing, though the buffer had room: the reader was
+    /// at its end.
+    pub ended: Option<u32>,
     /// The bytes that explain the result: the text of a play, or its image.
     pub kept: Option<Vec<u8>>,
     /// The image that explains the result: the one that was read.
@@ -44,6 +48,7 @@ impl<R: Read> Input<R> {
         ensures unread { result.reads ≡ 0 }
         ensures sound { result.faults ≡ 0 }
         ensures reason { result.fault ≡ None }
+        ensures fresh { result.ended ≡ None }
         ensures empty { result.kept ≡ None }
         ensures no_image { result.image ≡ None }
         ensures flawless { result.flawed ≡ None }
@@ -53,6 +58,7 @@ impl<R: Read> Input<R> {
             reads: 0,
             faults: 0,
             fault: None,
+            ended: None,
             kept: None,
             image: None,
             flawed: None,
@@ -78,6 +84,9 @@ impl<R: Read> Input<R> {
         ensures reason_stays { result ≢ Err Error.ReadFault → self.new.fault ≡ self.old.fault }
         // An input that is given up has no reason, because none of its reads failed.
         ensures no_reason { self.new.faults ≡ self.old.faults → self.new.fault ≡ self.old.fault }
+        // No read follows the one that found the end.
+        ensures found { OnOk result (IsSome self.new.ended) }
+        ensures last { EndsReading self.old.ended self.new.ended self.new.reads }
         ensures kept { self.new.kept ≡ self.old.kept }
         ensures image { self.new.image ≡ self.old.image }
         ensures flawed { self.new.flawed ≡ self.old.flawed }
@@ -112,15 +121,26 @@ impl<R: Read> Input<R> {
         ensures reason { self.new.faults ≢ self.old.faults → IsSome self.new.fault }
         ensures reason_stays { OnOk result (self.new.fault ≡ self.old.fault) }
         ensures no_reason { self.new.faults ≡ self.old.faults → self.new.fault ≡ self.old.fault }
+        // Only a read that gives nothing, though there is room, is noted as the end.
+        ensures found { IfOk result (λ n. n ≡ 0 → 0 < length buffer.old → IsSome self.new.ended) }
+        ensures last { EndsReading self.old.ended self.new.ended self.new.reads }
+        ensures goes_on { IfOk result (λ n. 0 < n → self.new.ended ≡ self.old.ended) }
+        ensures stays_so { OnErr result (self.new.ended ≡ self.old.ended) }
         ensures kept { self.new.kept ≡ self.old.kept }
         ensures image { self.new.image ≡ self.old.image }
         ensures flawed { self.new.flawed ≡ self.old.flawed }
         ensures counted { self.old.reads ≤ self.new.reads }
     {
+        let room = buffer.len();
         for _turn in self.reads..READS {
             self.reads += 1;
             match self.reader.read(buffer) {
-                Ok(count) => return Ok(count),
+                Ok(count) => {
+                    if count == 0 && room > 0 && self.ended.is_none() {
+                        self.ended = Some(self.reads);
+                    }
+                    return Ok(count);
+                }
                 Err(e) => {
                     if e.kind() != ErrorKind::Interrupted {
                         self.fault = Some(e.kind());

@@ -52,6 +52,7 @@ fn keep_text<R>(input: &mut Input<R>, text: Vec<u8>)
     ensures kept { input.new.kept ≡ Some text }
     ensures reader { input.new.reader ≡ input.old.reader }
     ensures reads { input.new.reads ≡ input.old.reads }
+    ensures ended { input.new.ended ≡ input.old.ended }
     ensures stays { input.new.faults ≡ input.old.faults }
     ensures reason_stays { input.new.fault ≡ input.old.fault }
 {
@@ -76,7 +77,7 @@ fn read_and_play<R: Read, P: Progress>(
     ensures full { result ≡ Err Error.Full → IfSome (R.remaining input.old.reader) (λ text.
         (plan : Planned) × IsFile text plan × Fills plan) }
     ensures uses { Uses (R.remaining input.new.reader) input.old.faults input.new.faults
-        input.new.reads input.new.fault result }
+        input.new.fault input.new.reads input.old.ended input.new.ended result }
     ensures not_written { IfErr result (λ e. e ≢ Error.WriteFault) }
     // A text that was read to its end is kept if its play has an error.
     ensures kept { IfErr result (λ e. e ≢ Error.ReadFault → e ≢ Error.Memory
@@ -120,6 +121,7 @@ fn keep<R>(input: &mut Input<R>, played: Played) -> bool
     ensures kept { input.new.kept ≡ Some played.image }
     ensures reader { input.new.reader ≡ input.old.reader }
     ensures reads { input.new.reads ≡ input.old.reads }
+    ensures ended { input.new.ended ≡ input.old.ended }
     ensures stays { input.new.faults ≡ input.old.faults }
     ensures reason_stays { input.new.fault ≡ input.old.fault }
 {
@@ -146,6 +148,8 @@ fn hand_over<R, W: Write, I: Write>(
         (output.old.text.items ++ played.lines.items))
         output.old.faults output.new.faults image.old.faults image.new.faults result }
     ensures reader { input.new.reader ≡ input.old.reader }
+    ensures reads { input.new.reads ≡ input.old.reads }
+    ensures ended { input.new.ended ≡ input.old.ended }
     ensures reads_stay { input.new.faults ≡ input.old.faults }
     ensures reason_stays { input.new.fault ≡ input.old.fault }
     ensures kept { OnOk result (input.new.kept ≡ Some played.image) }
@@ -192,7 +196,7 @@ pub fn play_bytes<R: Read, W: Write, I: Write, P: Progress>(
     ensures full { result ≡ Err Error.Full → IfSome (R.remaining input.old.reader) (λ text.
         (plan : Planned) × IsFile text plan × Fills plan) }
     ensures uses { Uses (R.remaining input.new.reader) input.old.faults input.new.faults
-        input.new.reads input.new.fault result }
+        input.new.fault input.new.reads input.old.ended input.new.ended result }
     ensures wrote { WroteImage (output.new ≡ output.old) (image.new ≡ image.old) output.old.faults
         output.new.faults image.old.faults image.new.faults result }
     // The image isn't written before all lines of the play are.

@@ -27,7 +27,7 @@ pub fn read_steps<R: Read>(alloc: Global, input: &mut Input<R>) -> Result<Vec<St
         (e ≡ Error.Memory) ⊎ (e ≡ Error.ReadFault))) }
     ensures refused { IfErr result (λ e. e ≢ Error.WriteFault) }
     ensures uses { Uses (R.remaining input.new.reader) input.old.faults input.new.faults
-        input.new.reads input.new.fault result }
+        input.new.fault input.new.reads input.old.ended input.new.ended result }
 {
     // Only the prover needs this call: a script has no bad line.
     scripts_have_no_bad_line();

@@ -55,9 +55,9 @@ pub fn run_frozen<I: Read, S: Read, W: Write>(
         → ReadsUnflawed (I.remaining image.old.reader) (I.remaining image.new.reader) }
     ensures no_more { ReadsNoMore (I.remaining image.old.reader) (I.remaining image.new.reader) }
     ensures image { Reads (I.remaining image.new.reader) image.old.faults image.new.faults
-        image.new.fault result }
+        image.new.fault image.new.reads image.old.ended image.new.ended result }
     ensures script { Reads (S.remaining script.new.reader) script.old.faults script.new.faults
-        script.new.fault result }
+        script.new.fault script.new.reads script.old.ended script.new.ended result }
     ensures wrote { Wrote output.old.faults output.new.faults result }
     // After an error other than `WriteFault` and `Memory`, nothing was written.
     ensures nothing_written { IfErr result (λ e. e ≢ Error.WriteFault → e ≢ Error.Memory

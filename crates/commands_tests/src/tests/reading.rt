@@ -46,6 +46,7 @@ pub fn nearly_given_up<R>(reader: R, left: u32) -> Input<R>
         reads: READS - left,
         faults: 0,
         fault: None,
+        ended: None,
         kept: None,
         image: None,
         flawed: None,

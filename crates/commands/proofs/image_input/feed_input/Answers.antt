@@ -64,6 +64,7 @@ loop-turn-preserved g c =
       turns = search rules;
       sound = search rules;
       reason = search rules;
+      ended = search rules;
       counted = search rules;
       none = search rules;
       fed = (_, c.feed-in-loop-turn.ensures.read fed.0 fed.1, Consumes-trans _ _ _ _ _ fed.2 (c.in-Ok.ensures {u = tt}).ok);

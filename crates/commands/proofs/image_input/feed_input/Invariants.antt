@@ -8,6 +8,7 @@ invariant-loop-turn g l = record {
   turns : l._turn ≤ l.input.reads;
   sound : l.input.faults ≡ l.initial.input.faults;
   reason : l.input.fault ≡ l.initial.input.fault;
+  ended : l.input.ended ≡ l.initial.input.ended;
   counted : l.initial.input.reads ≤ l.input.reads;
   none : l.feed.refused ≡ None;
   fed : (all : List ℕ) × HasRead l.feed all × Consumes (g.R.Read.remaining l.initial.input.reader) (g.R.Read.remaining l.input.reader) all;
