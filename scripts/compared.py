@@ -4,7 +4,7 @@ import os
 import random
 import subprocess
 
-from internets import changed
+from internets import InVersion2, changed
 from made_faults import faulted
 from made_plays import Plan
 from made_scripts import Crowded, Script, Spoiled, Staffed, filling
@@ -74,6 +74,14 @@ class Runs:
         raise NotImplementedError
 
 
+class StaffedInVersion2(InVersion2, Staffed):
+    """A staffed internet whose image is of version 2."""
+
+
+class SpoiledInVersion2(InVersion2, Spoiled):
+    """A spoiled internet whose image is of version 2."""
+
+
 class Traces(Runs):
     """Traces of scripts over images."""
 
@@ -87,7 +95,8 @@ class Traces(Runs):
             image = internet.image()
             return image, filling(internet)
         kind = chance.random()
-        internet = (Spoiled if kind < 0.12 else Staffed)(chance)
+        staffed, spoiled = (StaffedInVersion2, SpoiledInVersion2) if self.words.v2 else (Staffed, Spoiled)
+        internet = (spoiled if kind < 0.12 else staffed)(chance)
         image = internet.image()
         if kind > 0.95:
             image = changed(chance, image)
@@ -126,7 +135,8 @@ class Plays(Runs):
     def played(self, command, files, seconds):
         """What a command answers, and the bytes of its image. A file that wasn't made, or in which nothing is, is no image."""
         image = files[0] + ".image"
-        answered = answer([*command.split(), "play", *files, "--image", image], seconds)
+        version = ["--v2"] if self.words.v2 else []
+        answered = answer([*command.split(), "play", *version, *files, "--image", image], seconds)
         if not os.path.exists(image):
             return answered, b""
         with open(image, "rb") as file:

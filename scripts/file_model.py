@@ -79,7 +79,7 @@ class Reader:
         value = table(value, {"range", "zones"})
         first, last = many(value["range"], 2, 2, lambda net: number(net, 1, LAST_NETWORK))
         need(first <= last)
-        many(value["zones"], 1, 64, zone)
+        many(value["zones"], 1, 255, zone)
         self.cables.append((first, last))
 
     def seat(self, value):

@@ -4,13 +4,13 @@
 usage: scripts/image_cases.py > crates/image_cases/data/model.case
 
 First the three-cable internet with each byte changed to a few other values, then internets made by chance, each whole and
-with changes. All depends on a fixed seed.
+with changes; and then the same in version 2. All depends on a fixed seed.
 """
 import os
 import random
 
 from image_model import verdict
-from internets import Made
+from internets import Made, MadeInVersion2
 
 TOP = os.path.dirname(os.path.dirname(os.path.abspath(__file__)))
 INTERNETS = 60
@@ -36,8 +36,10 @@ def answers(data, edits):
     print(">", verdict(bytes(changed)))
 
 
-def each_byte(data):
-    print("# Each byte of the three-cable internet is one more, one less, 0, 255, and another letter or a far number.")
+def each_byte(title, example):
+    print("#", title)
+    with open(os.path.join(TOP, "examples", example), "rb") as file:
+        data = file.read()
     base(data)
     for at, byte in enumerate(data):
         for other in sorted({(byte + 1) % 256, (byte - 1) % 256, 0, 255, byte ^ 0x20, byte ^ 0x80} - {byte}):
@@ -45,12 +47,11 @@ def each_byte(data):
     print()
 
 
-def by_chance(number):
-    chance = random.Random(f"image cases {number}")
-    data = Made(chance).image()
+def by_chance(title, made, chance):
+    data = made(chance).image()
     while len(data) > 3000:
-        data = Made(chance).image()
-    print(f"# Internet {number} made by chance, and changes of it.")
+        data = made(chance).image()
+    print("#", title)
     base(data)
     print("audit")
     print(">", verdict(data))
@@ -65,10 +66,14 @@ def by_chance(number):
 
 def main():
     print("# Verdicts that a model says, written from docs/FORMATS.md and docs/RULES.md.\n")
-    with open(os.path.join(TOP, "examples", "three-cables.image"), "rb") as file:
-        each_byte(file.read())
+    each_byte("Each byte of the three-cable internet is one more, one less, 0, 255, and another letter or a far number.",
+              "three-cables.image")
     for number in range(1, INTERNETS + 1):
-        by_chance(number)
+        by_chance(f"Internet {number} made by chance, and changes of it.", Made, random.Random(f"image cases {number}"))
+    each_byte("The same of the three-cable internet in version 2, where each station knows one neighbour.", "three-cables-2.image")
+    for number in range(1, INTERNETS + 1):
+        by_chance(f"Internet {number} of version 2 made by chance, and changes of it.", MadeInVersion2,
+                  random.Random(f"image cases of version 2 {number}"))
 
 
 if __name__ == "__main__":

@@ -4,6 +4,8 @@ import struct
 
 LAST_NETWORK = 0xFEFF
 MOST_DISTANCE = 14
+MOST_ZONES = {1: 64, 2: 255}
+MOST_MAPPINGS = 512
 
 
 class Fault(Exception):
@@ -15,7 +17,7 @@ class Fault(Exception):
 
 @dataclasses.dataclass
 class Router:
-    ports: list  # (cable, (network, node), hardware address)
+    ports: list  # (cable, (network, node), hardware address, mappings)
     rows: list  # (first, last, distance, port, (network, node), state)
     lists: list  # (first, last, complete, zones)
 
@@ -28,10 +30,12 @@ class Node:
     zone: bytes
     router: tuple | None
     names: list
+    mappings: list  # ((network, node), hardware address)
 
 
 @dataclasses.dataclass
 class Image:
+    version: int
     cables: list  # (first, last, zones)
     routers: list
     nodes: list
@@ -41,7 +45,7 @@ class Reader:
     """Reads an image from left to right."""
 
     def __init__(self, data):
-        self.data, self.at = data, 0
+        self.data, self.at, self.version = data, 0, 1
 
     def take(self, count):
         """The place of a field, and its bytes, all of which must be there."""
@@ -92,14 +96,32 @@ class Reader:
         return self.text(lambda text: text != b"=" and 0xC5 not in text)
 
     def address(self):
-        return self.number(2), self.number()
+        return struct.unpack(">HB", self.take(3)[1])
 
     def station(self, cables):
         cable = self.within(0, cables - 1, "Index")
         return cable, self.address(), self.take(6)[1]
 
+    def mappings(self):
+        """What a port or a node of version 2 knows, rising strictly by address."""
+        known = []
+        if self.version == 1:
+            return known
+        place, count = self.at, self.number(2)
+        if count > MOST_MAPPINGS:
+            raise Fault(place, "Count")
+        for _ in range(count):
+            place, address = self.at, self.address()
+            if known and address <= known[-1][0]:
+                raise Fault(place, "Order")
+            known.append((address, self.take(6)[1]))
+        return known
+
+    def zones(self):
+        return self.many(MOST_ZONES[self.version], self.zone)
+
     def cable(self):
-        return self.number(2), self.number(2), self.many(64, self.zone)
+        return self.number(2), self.number(2), self.zones()
 
     def row(self, first, ports):
         last, distance = self.number(2), self.within(0, 31, "Value")
@@ -107,10 +129,10 @@ class Reader:
         return first, last, distance, port, following, self.within(0, 3, "Value")
 
     def zone_list(self, first):
-        return first, self.number(2), self.within(0, 1, "Value"), self.many(64, self.zone)
+        return first, self.number(2), self.within(0, 1, "Value"), self.zones()
 
     def router(self, cables):
-        ports = self.many(16, lambda: self.station(cables))
+        ports = self.many(16, lambda: (*self.station(cables), self.mappings()))
         rows = self.rising(200, lambda first: self.row(first, len(ports)))
         return Router(ports, rows, self.rising(200, self.zone_list))
 
@@ -130,18 +152,18 @@ class Reader:
     def node(self, cables):
         station, zone = self.station(cables), self.zone()
         router = self.address() if self.within(0, 1, "Value") else None
-        return Node(*station, zone, router, self.names())
+        return Node(*station, zone, router, self.names(), self.mappings())
 
     def image(self):
         if self.take(4)[1] != b"ATIM":
             raise Fault(0, "Magic")
-        self.within(1, 1, "Version")
+        self.version = self.within(1, 2, "Version")
         cables = self.many(200, self.cable)
         routers = self.many(200, lambda: self.router(len(cables)))
         nodes = self.many(200, lambda: self.node(len(cables)))
         if self.at < len(self.data):
             raise Fault(self.at, "Trailing")
-        return Image(cables, routers, nodes)
+        return Image(self.version, cables, routers, nodes)
 
 
 def folded(zones):
@@ -176,7 +198,7 @@ class Audit:
     def stations(self):
         for r, router in enumerate(self.image.routers, 1):
             cables = set()
-            for p, (cable, address, hardware) in enumerate(router.ports, 1):
+            for p, (cable, address, hardware, _) in enumerate(router.ports, 1):
                 yield f"router {r} port {p}", cable, address, hardware, r, cable in cables
                 cables.add(cable)
         for k, node in enumerate(self.image.nodes, 1):

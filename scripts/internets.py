@@ -27,6 +27,8 @@ class Made:
     """
 
     spoiled = True
+    version = 1
+    most_zones = 64
 
     def __init__(self, chance):
         self.chance = chance
@@ -42,7 +44,8 @@ class Made:
         names, known = [], set()
         pool, most = ZONES, 4
         if self.chance.random() < 0.05:
-            pool, most = [b"Zone %d" % k for k in range(70)] + [b"zONE %d" % k for k in range(0, 70, 9)], 64
+            count = self.most_zones + 6
+            pool, most = [b"Zone %d" % k for k in range(count)] + [b"zONE %d" % k for k in range(0, count, 9)], self.most_zones
         for name in self.chance.sample(pool, self.chance.randint(1, most)):
             if name.upper() not in known:
                 known.add(name.upper())
@@ -120,12 +123,12 @@ class Made:
             names[chance.randrange(len(names))] = chance.choice(names).swapcase()
         elif kind == 6 and names:
             names[chance.randrange(len(names))] = chance.choice(ZONES)
-        elif len(names) < 64:
+        elif len(names) < self.most_zones:
             names.insert(chance.randint(0, len(names)), chance.choice([*ZONES, *names]).swapcase())
         known[3] = names
 
     def router(self, r, rows, lists):
-        ports = [addressed(k, net, node, 16 * r + p) for p, (k, net, node) in enumerate(self.routers[r])]
+        ports = [addressed(k, net, node, 16 * r + p) + self.mappings(k) for p, (k, net, node) in enumerate(self.routers[r])]
         lists = [struct.pack(">HHB", *known[:3]) + zone_list(known[3]) for known in sorted(lists, key=lambda known: known[0])]
         rows = [struct.pack(">HHBBHBB", *row) for row in rows]
         return b"".join(bytes([len(part)]) + b"".join(part) for part in (ports, rows, lists))
@@ -142,7 +145,12 @@ class Made:
         self.nodes.append((k, address, zone, router, names))
         out = addressed(k, *address, 60000 + number) + texts(zone)
         out += struct.pack(">BHB", 1, *router) if router else b"\0"
-        return out + bytes([len(names)]) + b"".join(bytes([128 + e, e]) + texts(*name) for e, name in enumerate(names, 1))
+        named = b"".join(bytes([128 + e, e]) + texts(*name) for e, name in enumerate(names, 1))
+        return out + bytes([len(names)]) + named + self.mappings(k)
+
+    def mappings(self, cable):
+        """What a port or a node on the cable knows, as an image of this version has it."""
+        return b""
 
     def within(self, k):
         """A network of a cable."""
@@ -206,12 +214,39 @@ class Made:
         lists = [self.lists() for _ in self.routers]
         for _ in range(self.chance.choice([0, 1, 1, 2]) if lists and self.spoiled else 0):
             self.spoil_lists(self.chance.choice(lists))
-        out = [b"ATIM\x01", bytes([len(self.cables)])]
+        out = [b"ATIM", bytes([self.version, len(self.cables)])]
         out += [struct.pack(">HH", *ends) + zone_list(names) for ends, names in zip(self.cables, self.zones)]
         out.append(bytes([len(self.routers)]))
         out += [self.router(r, rows[r], lists[r]) for r in range(len(self.routers))]
         nodes = [self.node(number) for number in range(self.node_count())]
         return b"".join(out) + bytes([len(nodes)]) + b"".join(nodes)
+
+
+class InVersion2:
+    """What makes the image of an internet one of version 2: ports and nodes know some of the routers' ports near them."""
+
+    version = 2
+    most_zones = 255
+
+    def mappings(self, cable):
+        chance = self.chance
+        known = {}
+        for r, ports in enumerate(self.routers):
+            for p, (k, *address) in enumerate(ports):
+                if k == cable and chance.random() < 0.5:
+                    known[tuple(address)] = 16 * r + p
+        for _ in range(chance.choice([0, 0, 0, 1, 2])):
+            known[self.within(cable), chance.randint(1, 253)] = chance.randrange(65536)
+        order = sorted(known)
+        if chance.random() < 0.01:
+            chance.shuffle(order)
+        return struct.pack(">H", len(order)) + b"".join(
+            struct.pack(">HB", *address) + b"\x02\0\0\0" + struct.pack(">H", known[address]) for address in order
+        )
+
+
+class MadeInVersion2(InVersion2, Made):
+    """An internet made by chance, whose image is of version 2."""
 
 
 def changed(chance, image):

@@ -100,7 +100,7 @@ class Tables:
                 [1, 65537], [Raw("1.0"), 2]]
 
     def zones(self):
-        return [[], [f"Zone {k}" for k in range(64)], [f"Zone {k}" for k in range(65)], ["Red", 1], [["Red"]],
+        return [[], *([f"Zone {k}" for k in range(count)] for count in (64, 65, 255, 256)), ["Red", 1], [["Red"]],
                 *([zone] for zone in ZONES), *(["Red", zone] for zone in ZONES)]
 
     def ports(self, router):

@@ -67,7 +67,7 @@ class Plan:
         """Names of which no two are alike, but seldom two are."""
         chance = self.chance
         if chance.random() < 0.04:
-            return [f"Zone {number}" for number in range(chance.choice([17, 63, 64]))]
+            return [f"Zone {number}" for number in range(chance.choice([17, 64, 65, chance.randint(66, 254), 255]))]
         names = {}
         for name in chance.sample(ZONES, chance.randint(1, 4)):
             if chance.random() < 0.02 or name.upper() not in map(str.upper, names):

@@ -24,7 +24,8 @@ class Staffed(Made):
         chance = self.chance
         if chance.random() < 0.85:
             return super().some_zones()
-        return [(b"%d " % number).ljust(chance.randint(3, 32), b".") for number in range(chance.choice([17, 30, 64]))]
+        counts = [17, 30, 64] if self.version == 1 else [17, 65, chance.randint(66, 254), 255]
+        return [(b"%d " % number).ljust(chance.randint(3, 32), b".") for number in range(chance.choice(counts))]
 
     def node_count(self):
         return self.chance.choice([0, 1, 2, 3, 4, 6, 8, 10])

@@ -197,7 +197,7 @@ def receiving(chance):
     """A node receives about as many datagrams as it keeps; nodes have many names; zone lists take several packets."""
     world = Timed(chance, chance.choice([1, 2, 3]))
     if chance.random() < 0.5:
-        world.cables[-1]["zones"] = [f"{number:02} ".ljust(chance.choice([5, 32]), ".") for number in range(chance.choice([17, 64]))]
+        world.cables[-1]["zones"] = [f"{number:03} ".ljust(chance.choice([5, 32]), ".") for number in range(chance.choice([17, 64, 65, 255]))]
     node = world.node(1, names=[f"name {k}" for k in range(chance.choice([0, 1, 15, 32]))])
     far = world.node(len(world.cables), zone=world.cables[-1]["zones"][-1], names=[f"far {k}" for k in range(chance.choice([1, 32]))])
     at = chance.choice([60, 110, 160])
@@ -227,8 +227,8 @@ def reaching(chance):
 
 
 def mapping(chance):
-    """One cable with so many stations that a node can't know all of their hardware addresses, and more frames in a tick than are
-    taken in one. What the stations say to one another before is lost, for it would be too much."""
+    """One cable with so many stations that their numbers need two bytes, of all of which a node learns the hardware addresses, and
+    more frames in a tick than are taken in one. What the stations say to one another before is lost, for it would be too much."""
     world = Timed(chance, 1)
     world.cables[0]["range"] = [10, 19]
     nodes = [world.node(1, [f"{10 + number % 4}.{100 + number // 4}"]) for number in range(200)]
@@ -237,7 +237,7 @@ def mapping(chance):
     world.lose(1, 1, PERIOD - chance.choice([0, 1]))
     world.send(PERIOD + 1, nodes[1], "0.255", b"", socket=200, source=200, kind=200)
     count = chance.choice([257, 258, 259])
-    again = count - 256 - chance.choice([0, 1])  # the first one that is known still, or the last one that isn't
+    again = chance.choice([0, 1, count - 1])  # each of them is known still
     for number, to in enumerate(stations[:count]):
         world.send(PERIOD + 3 + number // 15, nodes[0], to, b"", socket=200, source=200, kind=200)
     world.send(PERIOD + 23, nodes[0], stations[again], b"", socket=200, source=200, kind=200)

@@ -24,7 +24,7 @@ class Mapper:
     def learn(self, addr: Addr, hardware: str) -> None:
         self.known[addr] = hardware
         self.known.move_to_end(addr)
-        if len(self.known) > 256:
+        if len(self.known) > 512:
             self.known.popitem(last=False)
 
     def out(self, place: int) -> str:
@@ -93,6 +93,11 @@ class MapperCases:
         addr = self.chance.choice([self.addr(), (self.chance.randrange(1, 260), 1)])
         self.sheet.say(f"look {shown(addr)}", self.mapper.known.get(addr, "none"))
 
+    def all(self) -> None:
+        """All mappings, by rising address."""
+        known = [f"{shown(addr)} {hardware}" for addr, hardware in sorted(self.mapper.known.items())]
+        self.sheet.say("all", *(known or ["none"]))
+
     def hold(self) -> None:
         addr, size = self.addr(), self.chance.choice([0, 1, 1, 2, 13, 16, 43])
         payload = self.chance.randbytes(size) if size != 16 else b"\x5a" * 16
@@ -121,6 +126,7 @@ def mappers(seed: int) -> str:
             cases.call()
         for _ in range(11):
             cases.tick()
+        cases.all()
     return sheet.text()
 
 

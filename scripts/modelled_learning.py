@@ -55,7 +55,7 @@ class LearningCases:
     def extended_reply(self) -> None:
         net = self.chance.choice(self.nets())
         entries = self.entries([net])
-        total = self.chance.choice([0, 1, 2, 2, 3, 3, 64, 65])
+        total = self.chance.choice([0, 1, 2, 2, 3, 3, 65, 255])
         words = " ".join(entry(*each).hex().upper() for each in entries)
         self.sheet.say(f"learn zones 08{total:02X} {words}")
         span = self.range_of(net)

@@ -8,6 +8,8 @@ from modelled_routes import TITLE, Routes, Span, overlap
 
 ZONES = [b"Red", b"RED", b"Blue", b"blue", b"Green", b"Machine Room", b"A", b"a", b"Zone ~"]
 ZONES += [b'Q"\\', b"x" * 32]
+# a list has at most so many zones
+MOST_ZONES = 255
 
 
 def group(zone: bytes) -> int:
@@ -66,7 +68,7 @@ class Zones:
     def refusal(self, span: Span, count: int) -> list[str]:
         if any(overlap(span, other) and span != other for other in self.lists):
             return ["bad range"]
-        if count > 64 or (span not in self.lists and len(self.lists) >= 200):
+        if count > MOST_ZONES or (span not in self.lists and len(self.lists) >= 200):
             return ["full"]
         return []
 
@@ -91,7 +93,7 @@ class Zones:
         """A list above all others, with a least number of zones."""
         if span[0] <= max((other[1] for other in self.lists), default=0):
             return ["bad range"]
-        if least > 64 or len(names) > 64 or len(self.lists) >= 200:
+        if least > MOST_ZONES or len(names) > MOST_ZONES or len(self.lists) >= 200:
             return ["full"]
         once = each_once(names)
         self.lists[span] = List(max(least, len(once)), once)
@@ -221,7 +223,7 @@ class ZoneCases:
         self.sheet.say(command, *self.table.set(span, names))
 
     def add(self) -> None:
-        span, total = self.known_span(), self.chance.choice([0, 1, 2, 2, 3, 3, 4, 64, 65])
+        span, total = self.known_span(), self.chance.choice([0, 1, 2, 2, 3, 3, 4, 65, 255])
         if span in self.table.lists and self.chance.random() < 0.7:
             total = self.table.lists[span].total
         name = self.chance.choice(self.zones)
@@ -230,7 +232,7 @@ class ZoneCases:
 
     def append(self) -> None:
         span, names = self.span(), self.names(3)
-        least = self.chance.choice([0, 0, 1, 3, 64, 65])
+        least = self.chance.choice([0, 0, 1, 3, 65, 255])
         command = f"zone append {shown(span)} least {least} {listed_words(names)}"
         self.sheet.say(command, *self.table.append(span, least, names))
 
@@ -308,21 +310,21 @@ class ZoneCases:
 
 def long_names(count: int) -> list[bytes]:
     """Names of 2 to 32 bytes."""
-    return [b"%02d" % k + b"abcdefghijklmnopqrstuvwxyz0123"[: k * 7 % 31] for k in range(count)]
+    return [(b"%02d" % k + b"abcdefghijklmnopqrstuvwxyz0123"[: k * 7 % 31])[:32] for k in range(count)]
 
 
 def long_lists(sheet: Sheet) -> None:
-    """Lists of up to 64 names, in as many replies and pages as they need."""
-    zones = long_names(90)
+    """Lists of up to 255 names, in as many replies and pages as they need."""
+    zones = long_names(260)
     for number in range(6):
         sheet.case(f"A list of many names of all lengths, number {number + 1}.", "tables")
         cases = ZoneCases(sheet, zones)
-        names = sheet.chance.sample(zones, sheet.chance.choice([40, 50, 60, 64]))
+        names = sheet.chance.sample(zones, sheet.chance.choice([40, 64, 65, 255]))
         for name in names:
             sheet.say(f"zone add 20-29 of {len(names)} {quoted(name)}")
             cases.table.add((20, 29), len(names), name)
         sheet.say("zone query 01 01 0017", *cases.table.replies([23]))
-        for start in [0, 1, *sheet.chance.sample(range(2, 66), 4)]:
+        for start in [0, 1, *sheet.chance.sample(range(2, 258), 4)]:
             sheet.say(f"zone answer 0800{start:04X} of", answer(cases.table, 8, start, []))
 
 

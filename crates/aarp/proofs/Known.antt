@@ -1,5 +1,5 @@
 -- The mappings that are known: the effect of `put` and `peek` of `lru`, in terms of this crate's definitions.
-use Rattle.std.proofs.Common.{◌≡◌, ℕ, zero, suc, ◌<◌, ◌≤◌, ◌-◌, Bool, true, false, cond, not, List, [], ◌∷◌, filter, length, take, Option}
+use Rattle.std.proofs.Common.{◌≡◌, ℕ, zero, suc, ◌+◌, ◌<◌, ◌≤◌, ◌-◌, Bool, true, false, cond, not, List, [], ◌∷◌, filter, length, take, Option}
 use Rattle.std.proofs.Common.{Some, None, refl, sym, ap, subst, ◌∙◌, arith}
 use Rattle.std.specs.List.{IsDistinct, AllByRecursion}
 use Rattle.std.specs.Option.{option_map_or}
@@ -110,6 +110,6 @@ cut_again (suc m) zero xs h = absurd (omega arith)
 cut_again (suc m) (suc n) [] h = refl
 cut_again (suc m) (suc n) (x ∷ xs) h = ap (λ l. x ∷ l) (cut_again m n xs (omega arith))
 
--- one of 257 elements is left out, or none of fewer
-pub above_cut : {X : Type 0} (xs : List X) → 256 < length xs → length xs ≤ 257 → take (length xs - 1) xs ≡ take 256 xs
-above_cut xs h few = let is : length xs - 1 ≡ 256 = omega (arith, h, few) in rw is refl
+-- one of n + 1 elements is left out, or none of fewer
+pub above_cut : {X : Type 0} (n : ℕ) (xs : List X) → n < length xs → length xs ≤ n + 1 → take (length xs - 1) xs ≡ take n xs
+above_cut n xs h few = let is : length xs - 1 ≡ n = omega (arith, h, few) in rw is refl

@@ -2,6 +2,7 @@ mod Numbers
 pub mod Shape
 mod Written
 mod Known
+mod Ordered
 mod Turns
 mod Ticks
 mod Counts

@@ -1,7 +1,7 @@
 -- The mapping of addresses to hardware addresses, and the datagrams that wait for one.
 -- (Inside AppleTalk, the chapter on AARP; the counts and limits are this project's own)
-use Rattle.std.specs.Prelude.{ℕ, ◌+◌, ◌≤◌, Bool, ◌&&◌, not, IsTrue, List, [], ◌∷◌, ◌++◌, length, map, filter, take, find, position, remove}
-use Rattle.std.specs.Prelude.{slice_get, Option, Some, None, option_and_then, option_to_list, nat_lt, nat_le, if◌then◌else◌}
+use Rattle.std.specs.Prelude.{◌≡◌, ℕ, ◌+◌, ◌*◌, ◌^◌, ◌<◌, ◌≤◌, Bool, ◌&&◌, not, IsTrue, List, [], ◌∷◌, ◌++◌, length, map, filter, take, find}
+use Rattle.std.specs.Prelude.{position, remove, slice_get, Option, Some, None, option_and_then, option_to_list, nat_lt, nat_le, if◌then◌else◌}
 use Rattle.std.specs.List.{flat_map, list_any, list_all, IsDistinct}
 use Rattle.std.specs.Option.{option_map_or}
 use Rattle.at_base.specs.declared.address.Addr.{Addr}
@@ -10,7 +10,7 @@ use Rattle.at_base.specs.Address.{same_address}
 use Rattle.at_base.specs.Limits.{max_held, max_mappings}
 use Rattle.aarp.specs.declared.held.Held.{Held}
 
--- The mappings that a port knows, the one learnt last first: at most 256, or one more while a frame is taken that tells
+-- The mappings that a port knows, the one learnt last first: at most 512, or one more while a frame is taken that tells
 -- it; and the datagrams that it holds, oldest first, at most 16.
 pub record Mappings : Type 0 where
   pub known : List (Addr × Hw)
@@ -20,11 +20,11 @@ pub record Mappings : Type 0 where
 abbrev pub is_counted : Held → Bool
 is_counted h = nat_le 1 h.asked && nat_le h.asked 10
 
--- The invariants of a mapper: each address has at most one mapping, at most 257 are known, at most 16 datagrams wait,
+-- The invariants of a mapper: each address has at most one mapping, at most 513 are known, at most 16 datagrams wait,
 -- and the address of each was requested from one to ten times.
 pub record IsMappings (m : Mappings) : Type 0 where
   pub distinct : IsDistinct same_address (map (λ p. p.0) m.known)
-  pub few : length m.known ≤ 257
+  pub few : length m.known ≤ max_mappings + 1
   pub counted : IsTrue (list_all is_counted m.held)
   pub waiting : length m.held ≤ max_held
 
@@ -33,7 +33,7 @@ abbrev pub mapping_of : Addr → List (Addr × Hw) → Option Hw
 mapping_of a [] = None
 mapping_of a (m ∷ known) = if same_address a m.0 then Some m.1 else mapping_of a known
 
--- the mappings after one was learnt: it comes first, and above 256 the oldest is discarded
+-- the mappings after one was learnt: it comes first, and above 512 the oldest is discarded
 abbrev pub learnt : Addr → Hw → List (Addr × Hw) → List (Addr × Hw)
 learnt a hw known = take max_mappings ((a, hw) ∷ filter (λ m. not (same_address a m.0)) known)
 
@@ -44,6 +44,31 @@ met a hw known = (a, hw) ∷ known
 -- the mappings without that of an address
 abbrev pub forgotten : Addr → List (Addr × Hw) → List (Addr × Hw)
 forgotten a known = filter (λ m. not (same_address a m.0)) known
+
+-- the number of an address: a lower network comes first, and on one network a lower node
+abbrev pub address_number : Addr → ℕ
+address_number a = a.net * 256 + a.node
+
+-- the mappings with one more, before the first whose address isn't lower
+abbrev pub placed : Addr × Hw → List (Addr × Hw) → List (Addr × Hw)
+placed m [] = m ∷ []
+placed m (n ∷ known) = if nat_lt (address_number n.0) (address_number m.0) then n ∷ placed m known else m ∷ n ∷ known
+
+-- the mappings by rising address
+abbrev pub by_address : List (Addr × Hw) → List (Addr × Hw)
+by_address [] = []
+by_address (m ∷ known) = placed m (by_address known)
+
+-- each address has a greater number than the one before it, and the first one's number is at least low
+abbrev pub AddressesRise : ℕ → List (Addr × Hw) → Type 0
+AddressesRise low [] = Unit {0}
+AddressesRise low (m ∷ known) = (low ≤ address_number m.0) × AddressesRise (address_number m.0 + 1) known
+
+-- A mapping's numbers fit: its network is below 2^16, its node below 2^8, and its hardware address has six bytes.
+pub record FitsMapping (m : Addr × Hw) : Type 0 where
+  pub net : m.0.net < 2 ^ 16
+  pub node : m.0.node < 2 ^ 8
+  pub hardware : length m.1.0 ≡ 6
 
 -- the datagram is held for the address
 abbrev pub is_for : Addr → Held → Bool

@@ -1,15 +1,17 @@
 //! The address mappings that a port knows, and the datagrams that it holds.
 
-ghost use Rattle.std.specs.Prelude.{◌≡◌, ◌≤◌, [], IfOk, OnOk, OnErr, IsOk, IsSome, IsOkUnless, None};
+ghost use Rattle.std.specs.Prelude.{◌≡◌, ◌+◌, ◌≤◌, [], IfOk, OnOk, OnErr, IsOk, IsSome, IsOkUnless, None};
 ghost use Rattle.std.specs.Prelude.{◌==◌, length, take};
-ghost use Rattle.std.specs.List.{list_any};
+ghost use Rattle.std.specs.List.{All, list_any};
 ghost use Rattle.lru.specs.LruCache.{lru_cache};
 ghost use Rattle.aarp.specs.Mapping as spec;
-ghost use Rattle.aarp.specs.Mapping.{IsMappings, forgotten, mapping_of, met, learnt, is_for, holding};
+ghost use Rattle.aarp.specs.Mapping.{AddressesRise, FitsMapping, IsMappings, forgotten, mapping_of, met, learnt};
+ghost use Rattle.aarp.specs.Mapping.{by_address, is_for, holding};
 ghost use Rattle.aarp.specs.Mapping.{pushed_out, released, without_oldest, to_ask, given_up, waited};
 ghost use Rattle.at_base.specs.Limits.{max_held, max_mappings};
 
 use crate::held::Held;
+use crate::listing;
 use crate::waiting::{self, Asks};
 use at_base::limits::{MAX_HELD, MAX_MAPPINGS};
 use at_base::{Addr, Error, Hw};
@@ -33,23 +35,23 @@ pub struct Mapper {
 }
 
 impl Model for Mapper {
-    ghost use Rattle.std.specs.Prelude.{◌≡◌, IsTrue};
+    ghost use Rattle.std.specs.Prelude.{◌≡◌, ◌+◌, IsTrue};
     ghost use Rattle.std.specs.List.{list_all};
     ghost use Rattle.aarp.specs.Mapping.{Mappings, is_counted};
-    ghost use Rattle.at_base.specs.Limits.{max_held};
+    ghost use Rattle.at_base.specs.Limits.{max_held, max_mappings};
 
     ghost Value = { Mappings };
 
     ghost view = { λ m. record { known = m.known.entries; held = m.held.items } };
 
-    ghost invariant = { λ m. (m.known.cap ≡ 257)
+    ghost invariant = { λ m. (m.known.cap ≡ max_mappings + 1)
         × (m.held.capacity ≡ max_held)
         × IsTrue (list_all is_counted m.held.items) };
 }
 
-/// Discards the mapping learnt longest ago where 257 are known.
+/// Discards the mapping learnt longest ago where one more is known than are kept.
 fn discard(known: &mut LruCache<Addr, Hw>)
-    requires { known.old.cap ≡ 257 }
+    requires { known.old.cap ≡ max_mappings + 1 }
     ensures { known.new ≡ lru_cache (take max_mappings known.old.entries) known.old.cap }
 {
     if known.len() > MAX_MAPPINGS {
@@ -64,7 +66,7 @@ impl Mapper {
         ensures refused { IsOkUnless result Error.Memory }
     {
         let cap = NonZeroUsize::new(ROOM).unwrap();
-        let known = LruCache::new(alloc, cap)?;
+        let known = LruCache::sparse(alloc, cap)?;
         let held = HeapCircularBuffer::with_capacity(alloc, MAX_HELD)?;
         Ok(Mapper { known, held })
     }
@@ -81,13 +83,28 @@ impl Mapper {
         self.known.peek(&addr).copied()
     }
 
-    /// Learns a mapping; if 256 other addresses are known, the mapping learnt longest ago is
+    /// The mappings, by rising address: at most `MAX_MAPPINGS`, or one more between `meet` and the
+    /// call that follows it. Error: `Memory`, which no mappings never need.
+    pub fn all(&self) -> Result<Vec<(Addr, Hw)>, Error>
+        ensures ok { IfOk result (λ all. all.items ≡ by_address self.now.known) }
+        ensures rises { IfOk result (λ all. AddressesRise 0 all.items) }
+        ensures fits { IfOk result (λ all. All FitsMapping all.items) }
+        ensures number { IfOk result (λ all. length all.items ≡ length self.now.known) }
+        ensures few { length self.now.known ≤ max_mappings + 1 }
+        ensures none { self.now.known ≡ [] → IsOk result }
+        ensures refused { IsOkUnless result Error.Memory }
+    {
+        listing::all_of(&self.known)
+    }
+
+    /// Learns a mapping; if 512 other addresses are known, the mapping learnt longest ago is
     /// discarded.
     ///
     /// Error: `Memory`, only for an address that isn't known yet; nothing changes then.
     pub fn learn(&mut self, addr: Addr, hw: Hw) -> Result<(), Error>
         ensures ok { OnOk result
             (self.new ≡ record self.old { known = learnt addr hw self.old.known }) }
+        ensures few { OnOk result (length self.new.known ≤ max_mappings) }
         ensures known { IsSome (mapping_of addr self.old.known) → IsOk result }
         ensures refused { IsOkUnless result Error.Memory }
         ensures unchanged { OnErr result (self.new ≡ self.old) }

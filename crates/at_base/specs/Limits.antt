@@ -15,7 +15,7 @@ max_nodes = 200
 
 -- the greatest number of zones of a range
 abbrev pub max_zones : ℕ
-max_zones = 64
+max_zones = 255
 
 -- the greatest number of rows of a routing table
 abbrev pub max_rows : ℕ
@@ -39,7 +39,7 @@ max_data = 586
 
 -- the greatest number of mappings that a port keeps
 abbrev pub max_mappings : ℕ
-max_mappings = 256
+max_mappings = 512
 
 -- the greatest number of datagrams that a port holds until a hardware address is known
 abbrev pub max_held : ℕ

@@ -10,7 +10,7 @@ pub const MAX_ROUTERS: usize = 200;
 pub const MAX_NODES: usize = 200;
 
 /// The greatest number of zones of a range.
-pub const MAX_ZONES: usize = 64;
+pub const MAX_ZONES: usize = 255;
 
 /// The greatest number of rows of a routing table.
 pub const MAX_ROWS: usize = 200;
@@ -30,7 +30,7 @@ pub const MAX_NAMES: usize = 32;
 pub const MAX_DATA: usize = 586;
 
 /// The greatest number of mappings that a port keeps.
-pub const MAX_MAPPINGS: usize = 256;
+pub const MAX_MAPPINGS: usize = 512;
 
 /// The greatest number of datagrams that a port holds until a hardware address is known.
 pub const MAX_HELD: usize = 16;

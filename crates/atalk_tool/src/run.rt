@@ -235,8 +235,13 @@ fn run_arguments<R: Files + Input + Print + Eprint + AllocGlobal>(
             let performed = trace_sources(rt, Sources { image, script });
             answer(rt, &performed, terminals)
         }
-        Ok(Job::Play(source, image)) => {
-            let performed = play_source(rt, PlayJob { source, image }, terminals);
+        Ok(Job::Play(source, image, version)) => {
+            let job = PlayJob {
+                source,
+                image,
+                version,
+            };
+            let performed = play_source(rt, job, terminals);
             answer(rt, &performed, terminals)
         }
         Err(error) => answer(rt, &print_answer(rt, &error), terminals),

@@ -12,13 +12,16 @@ use std::fs::File;
 use std::io;
 use std::io::{Read, Write, writer};
 use std::rt::Files;
+use table_image::Version;
 use text::Output;
 
-/// The source of a play, and the file for the image, if one is wanted.
+/// The source of a play, the file for the image, if one is wanted, and the version of the image, if
+/// one is asked for.
 #[derive(Clone, Copy)]
 pub struct PlayJob<'a> {
     pub source: Source<'a>,
     pub image: Option<&'a str>,
+    pub version: Option<Version>,
 }
 
 /// The file for the image, if a write to it failed.
@@ -47,6 +50,7 @@ fn play_reader<'a, R: Print + Eprint + AllocGlobal, S: Read + Drop, I: Write + D
         &mut output,
         &mut image,
         &mut watching,
+        job.version,
     );
     watching.end();
     let commands::Input { fault, kept, .. } = input;

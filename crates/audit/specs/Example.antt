@@ -9,6 +9,7 @@ use Rattle.table_image.specs.declared.port.Port.{Port}
 use Rattle.table_image.specs.declared.row.Row.{Row}
 use Rattle.table_image.specs.declared.zone_list.ZoneList.{ZoneList}
 use Rattle.table_image.specs.declared.router.Router.{Router}
+use Rattle.table_image.specs.declared.version.Version.TheVariants.{V1}
 
 -- the address with this network and node number
 abbrev pub addr : ℕ → ℕ → Addr
@@ -20,7 +21,7 @@ hardware byte = record { 0 = 2 ∷ 0 ∷ 0 ∷ 0 ∷ 0 ∷ byte ∷ [] }
 
 -- a port on the cable with this address, and with the hardware address that ends in this byte
 abbrev pub port : ℕ → Addr → ℕ → Port
-port cable address byte = record { cable = cable; address = address; hardware = hardware byte }
+port cable address byte = record { cable = cable; address = address; hardware = hardware byte; mappings = [] }
 
 -- the direct row for the networks from start to end, on this port
 abbrev pub direct : ℕ → ℕ → ℕ → Row
@@ -63,10 +64,11 @@ second_router = record {
 -- Three cables in a line: two routers join them, with a node on the first cable, and a printer on the last.
 abbrev pub three_cables : Internet
 three_cables = record {
+  version = V1;
   cables = example_cables;
   routers = first_router ∷ second_router ∷ [];
   nodes =
-      record { cable = 0; address = addr 10 7; hardware = hardware 5; zone = codes "Red"; router = Some (addr 10 1); names = [] }
+      record { cable = 0; address = addr 10 7; hardware = hardware 5; zone = codes "Red"; router = Some (addr 10 1); names = []; mappings = [] }
       ∷ record {
         cable = 2;
         address = addr 30 5;
@@ -74,6 +76,7 @@ three_cables = record {
         zone = codes "Blue";
         router = Some (addr 30 1);
         names = record { socket = 129; enumerator = 1; object = codes "lab"; kind = codes "LaserWriter" } ∷ [];
+        mappings = [];
       } ∷ [];
 }
 
@@ -88,11 +91,11 @@ turned_router = record {
 -- An internet with the example's cables, where neither router is on the last cable, and each has the other as its next
 -- router for it.
 abbrev pub pointing_at_each_other : Internet
-pointing_at_each_other = record { cables = example_cables; routers = first_router ∷ turned_router ∷ []; nodes = [] }
+pointing_at_each_other = record { version = V1; cables = example_cables; routers = first_router ∷ turned_router ∷ []; nodes = [] }
 
 -- an internet with the first router of the example, and a router with only this port
 abbrev pub beside : Port → Internet
-beside p = record { cables = example_cables; routers = first_router ∷ record turned_router { ports = p ∷ [] } ∷ []; nodes = [] }
+beside p = record { version = V1; cables = example_cables; routers = first_router ∷ record turned_router { ports = p ∷ [] } ∷ []; nodes = [] }
 
 -- an internet with two routers that have the same address
 abbrev pub same_addresses : Internet

@@ -1,7 +1,10 @@
 //! Finding zones of cables by name. A hint is an index that is probably the right one. It is
 //! verified before it is used, so a wrong hint costs a search, and doesn't change the result.
+//!
+//! Names are found by their hashes. Where more than a few zones of a cable share one hash, as in an
+//! image that was made to be slow, they are found by the order of their names.
 
-ghost use Rattle.std.specs.Prelude.{◌≡◌, ◌<◌, ◌*◌, false, Some, IfSome, position};
+ghost use Rattle.std.specs.Prelude.{◌≡◌, ◌<◌, ◌≤◌, ◌+◌, ◌*◌, false, Some, IfSome, position};
 ghost use Rattle.at_base.specs.Text.{same_name};
 ghost use Rattle.at_base.specs.Limits.{max_zones};
 ghost use Rattle.audit.specs.Places.{index_of};
@@ -15,17 +18,23 @@ use table_image::Image;
 const ZONES: usize = MAX_ZONES;
 
 /// The number of hashes of names.
-const HASHES: usize = 128;
+const HASHES: usize = 512;
+
+/// The greatest number of zones of a cable with one hash that are compared with a name.
+const FEW: usize = 4;
 
 /// The index that means no zone.
 const NONE: u8 = 255;
 
 /// For each cable and each hash of a name, the index of a zone of the cable whose name may have
-/// this hash; and for each zone of a cable, the index of another such zone.
+/// this hash; and for each zone of a cable, the index of another such zone. For each cable of which
+/// more than `FEW` zones have one hash, its zones in the order of their names.
 #[derive(Drop)]
 pub(crate) struct ZoneHints {
     first: [u8; 256 * HASHES],
     next: [u8; 256 * ZONES],
+    crowded: [bool; 256],
+    order: [u8; 256 * ZONES],
 }
 
 /// A factor for each byte of a name, for the hash.
@@ -45,11 +54,11 @@ fn hash(name: &Name) -> usize {
         .fold(0u16, |sum, (byte, factor)| {
             sum.wrapping_add(u16::from(*byte | 0x20).wrapping_mul(*factor))
         });
-    (sum >> 8) as usize
+    (sum >> 7) as usize
 }
 
 fn first_slot(cable: usize, name: &Name) -> usize
-    ensures { result < 256 * 128 }
+    ensures { result < 256 * 512 }
 {
     cable % 256 * HASHES + hash(name) % HASHES
 }
@@ -66,12 +75,85 @@ fn search(zones: &[Name], name: &Name) -> Option<usize>
     zones.iter().position(|zone| name.same(zone))
 }
 
+// Whether a name comes before another one, ignoring case.
+fn comes_before(name: &Name, other: &Name) -> bool {
+    let mut others = other.as_slice().iter();
+    for byte in name.as_slice() {
+        let Some(next) = others.next() else {
+            return false;
+        };
+        let (here, there) = (byte.to_ascii_lowercase(), next.to_ascii_lowercase());
+        if here != there {
+            return here < there;
+        }
+    }
+    others.next().is_some()
+}
+
+// The number of zones, of those with these indices, whose names come before the name, if the
+// indices are in the order of the names.
+fn place_in(order: &[u8], zones: &[Name], name: &Name) -> usize {
+    let mut low = 0;
+    let mut high = order.len();
+    // At most 255 zones are halved eight times.
+    for _ in 0..8 {
+        if low >= high {
+            return low;
+        }
+        let middle = low + (high - low) / 2;
+        let zone = order.get(middle).and_then(|k| zones.get(*k as usize));
+        match zone {
+            Some(zone) if comes_before(zone, name) => low = middle + 1,
+            _ => high = middle,
+        }
+    }
+    low
+}
+
+// The slot of the first zone of a cable in the order of names.
+fn order_slot(cable: usize) -> usize
+    ensures { result + max_zones ≤ 256 * max_zones }
+{
+    cable % 256 * ZONES
+}
+
 impl ZoneHints {
-    fn add_zones(&mut self, cable: usize, zones: &[Name]) {
+    // Adds the zones of a cable. Returns whether more than `FEW` have one hash.
+    fn add_hashes(&mut self, cable: usize, zones: &[Name]) -> bool {
+        let mut depths = [0u8; 256];
+        let mut is_crowded = false;
         for (k, zone) in zones.iter().enumerate() {
             let slot = first_slot(cable, zone);
-            self.next[next_slot(cable, k)] = self.first[slot];
+            let other = self.first[slot];
+            let depth = if other == NONE {
+                1
+            } else {
+                depths[other as usize].saturating_add(1)
+            };
+            depths[k % 256] = depth;
+            is_crowded |= depth as usize > FEW;
+            self.next[next_slot(cable, k)] = other;
             self.first[slot] = (k % 256) as u8;
+        }
+        is_crowded
+    }
+
+    // Puts the zones of a cable in the order of their names.
+    fn add_order(&mut self, cable: usize, zones: &[Name]) {
+        let start = order_slot(cable);
+        for (k, zone) in zones.iter().take(ZONES).enumerate() {
+            let place = place_in(&self.order[start..start + k], zones, zone);
+            for j in (place..k).rev() {
+                self.order[start + j + 1] = self.order[start + j];
+            }
+            self.order[start + place.min(k)] = (k % 256) as u8;
+        }
+    }
+
+    fn add_zones(&mut self, cable: usize, zones: &[Name]) {
+        if self.add_hashes(cable, zones) {
+            self.crowded[cable % 256] = true;
+            self.add_order(cable, zones);
         }
     }
 
@@ -80,6 +162,8 @@ impl ZoneHints {
         let mut hints = ZoneHints {
             first: [NONE; 256 * HASHES],
             next: [NONE; 256 * ZONES],
+            crowded: [false; 256],
+            order: [NONE; 256 * ZONES],
         };
         for (c, cable) in image.cables().iter().enumerate() {
             hints.add_zones(c, cable.zones.as_slice());
@@ -87,13 +171,13 @@ impl ZoneHints {
         hints
     }
 
-    // Goes through the zones of the cable whose names have the hash of this one.
+    // Goes through the first zones of the cable whose names have the hash of this one.
     fn hinted(&self, cable: usize, zones: &[Name], name: &Name) -> Option<usize>
         requires { has_double zones.now ≡ false }
         ensures { IfSome result (λ k. Some k ≡ index_of (same_name name.now) zones.now) }
     {
         let mut hint = self.first[first_slot(cable, name)] as usize;
-        for _ in 0..zones.len() {
+        for _ in 0..FEW {
             let zone = zones.get(hint)?;
             if name.same(zone) {
                 return Some(hint);
@@ -103,12 +187,33 @@ impl ZoneHints {
         None
     }
 
+    // Looks where the name stands among those of the cable's zones.
+    fn ordered(&self, cable: usize, zones: &[Name], name: &Name) -> Option<usize>
+        requires { has_double zones.now ≡ false }
+        ensures { IfSome result (λ k. Some k ≡ index_of (same_name name.now) zones.now) }
+    {
+        if !self.crowded[cable % 256] {
+            return None;
+        }
+        let start = order_slot(cable);
+        let order = &self.order[start..start + zones.len().min(ZONES)];
+        let hint = *order.get(place_in(order, zones, name))? as usize;
+        let zone = zones.get(hint)?;
+        if name.same(zone) {
+            return Some(hint);
+        }
+        None
+    }
+
     /// The 0-based index of the zone of a cable that has the name, ignoring case, if any.
     pub(crate) fn find(&self, cable: usize, zones: &[Name], name: &Name) -> Option<usize>
         requires { has_double zones.now ≡ false }
         ensures { result ≡ index_of (same_name name.now) zones.now }
     {
-        match self.hinted(cable, zones, name) {
+        if let Some(k) = self.hinted(cable, zones, name) {
+            return Some(k);
+        }
+        match self.ordered(cable, zones, name) {
             Some(k) => Some(k),
             None => search(zones, name),
         }

@@ -45,19 +45,27 @@ fn cable_of(image: &Image, hint: usize, list: &ZoneList) -> Option<usize>
 }
 
 // Whether a complete list for cable c is bad.
-fn is_bad_for(image: &Image, hints: &ZoneHints, c: usize, list: &ZoneList) -> bool
+fn is_bad_for(image: &Image, hints: &mut Option<ZoneHints>, c: usize, list: &ZoneList) -> bool
     requires cables { FirstPlace (c1 image.now) None }
     requires cable { index_of (spec.is_list_for list.now) image.now.cables ≡ Some c }
     requires complete { list.now.complete ≡ true }
     ensures { result ≡ bad_list image.now list.now }
 {
     match image.cables().get(c) {
-        Some(cable) => !are_zones_of(hints, c, cable.zones.as_slice(), list.zones.as_slice()),
+        Some(cable) => {
+            !are_zones_of(
+                image,
+                hints,
+                c,
+                cable.zones.as_slice(),
+                list.zones.as_slice(),
+            )
+        }
         None => true,
     }
 }
 
-fn is_bad(image: &Image, hints: &ZoneHints, k: usize, list: &ZoneList) -> bool
+fn is_bad(image: &Image, hints: &mut Option<ZoneHints>, k: usize, list: &ZoneList) -> bool
     requires { FirstPlace (c1 image.now) None }
     ensures { result ≡ bad_list image.now list.now }
 {
@@ -83,7 +91,7 @@ fn are_equal(a: &ZoneList, b: &ZoneList) -> bool
 // Whether list k is bad, where no list of the router before is.
 fn is_bad_after(
     image: &Image,
-    hints: &ZoneHints,
+    hints: &mut Option<ZoneHints>,
     before: &[ZoneList],
     k: usize,
     list: &ZoneList,
@@ -102,7 +110,7 @@ fn is_bad_after(
 
 fn first_list(
     image: &Image,
-    hints: &ZoneHints,
+    hints: &mut Option<ZoneHints>,
     before: &[ZoneList],
     r: usize,
     router: &Router,
@@ -169,10 +177,11 @@ pub(crate) fn bad_zone_list(image: &Image) -> Option<Place>
     requires { FirstPlace (c1 image.now) None }
     ensures { FirstPlace (c8 image.now) result }
 {
-    let hints = ZoneHints::of(image);
+    // Made only where a list isn't spelled as its cable.
+    let mut hints = None;
     for (r, router) in image.routers().iter().enumerate() {
         let before = lists_before(image, r);
-        if let Some(k) = first_list(image, &hints, before, r, router) {
+        if let Some(k) = first_list(image, &mut hints, before, r, router) {
             return Some(Place::List(from_one(r), from_one(k)));
         }
         if let Some(k) = first_missing(image, r, router) {

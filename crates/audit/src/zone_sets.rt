@@ -10,6 +10,7 @@ ghost use Rattle.audit.specs.ZoneLists.{has_double, are_among};
 use crate::zone_hints::ZoneHints;
 use at_base::Name;
 use at_base::limits::MAX_ZONES;
+use table_image::Image;
 
 // Goes on to the end after a false mark, so that many marks can be handled at once.
 fn fold_all(marks: &[bool]) -> bool
@@ -79,8 +80,15 @@ pub(crate) fn are_spelled_alike(names: &[Name], others: &[Name]) -> bool
     true
 }
 
-/// Whether the names are those of a cable's zones, each once, in any order and case.
-pub(crate) fn are_zones_of(hints: &ZoneHints, cable: usize, zones: &[Name], names: &[Name]) -> bool
+/// Whether the names are those of a cable's zones, each once, in any order and case. The hints are
+/// made if there are none yet and the spelling alone doesn't tell.
+pub(crate) fn are_zones_of(
+    image: &Image,
+    hints: &mut Option<ZoneHints>,
+    cable: usize,
+    zones: &[Name],
+    names: &[Name],
+) -> bool
     requires once { has_double zones.now ≡ false }
     requires few { length zones.now ≤ max_zones }
     ensures { result
@@ -90,6 +98,25 @@ pub(crate) fn are_zones_of(hints: &ZoneHints, cable: usize, zones: &[Name], name
     if are_spelled_alike(names, zones) {
         return true;
     }
+    have_all(ready(hints, image), cable, zones, names)
+}
+
+/// The hints, which are made now if there are none yet.
+fn ready<'a>(hints: &'a mut Option<ZoneHints>, image: &Image) -> &'a ZoneHints {
+    match hints {
+        Some(hints) => hints,
+        None => hints.insert(ZoneHints::of(image)),
+    }
+}
+
+// Whether the names are those of a cable's zones, each once.
+fn have_all(hints: &ZoneHints, cable: usize, zones: &[Name], names: &[Name]) -> bool
+    requires once { has_double zones.now ≡ false }
+    requires few { length zones.now ≤ max_zones }
+    ensures { result
+        ≡ (not (has_double names.now)
+        && (are_among names.now zones.now && are_among zones.now names.now)) }
+{
     let mut found = Found::none();
     for name in names {
         match hints.find(cable, zones, name) {

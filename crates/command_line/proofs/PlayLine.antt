@@ -1,177 +1,239 @@
 -- The parse of the arguments of a play.
-use Rattle.std.proofs.Common.{◌≡◌, ◌&&◌, ℕ, Bool, false, Option, Some, List, [], ◌∷◌, None, true, codes, slice_index_or}
-use Rattle.std.proofs.Common.{refl, ap, ap₂, subst, ◌∙◌}
+use Rattle.std.proofs.Common.{◌≡◌, ◌&&◌, ◌∙◌, Bool, false, Option, Some, List, [], ◌∷◌, None, true, codes, slice_index_or}
+use Rattle.std.proofs.Common.{refl, ap, subst}
 use Rattle.clap.specs.Words.{Row, Shape, Text, built, first_of, subcommand_of, takes}
-use Rattle.clap.specs.Walk.{Held, Step, Walk, value, option, plain_word, word_met, walked, walk_from, nothing_held}
-use Rattle.clap.specs.Takes.{step_passes, walk_passes, word_passes}
+use Rattle.clap.specs.Walk.{Walk, value, walked, walk_from, nothing_held, rows_after}
+use Rattle.clap.specs.Takes.{level_passes}
 use Rattle.clap.proofs.OnLiterals.{clap_on_literals}
-use Rattle.command_line.specs.Arguments.{IsMeant, Plays, atalk_app, is_operand, play_app}
+use Rattle.command_line.specs.Arguments.{IsMeant, Place, Plays, atalk_app, is_operand, play_app, play_to_words, play_words}
+use Rattle.command_line.specs.Arguments.{version_at, version_by}
+use Rattle.command_line.specs.Arguments.Place.{Nowhere, BeforeFile, AfterFile, AtEnd}
 use Rattle.command_line.specs.declared.arguments.Job.{Job}
-use Rattle.command_line.proofs.Operands.{ends_well, met_in, met_value, no_flag, passes_in, passes_value, rows_at_end, walk_by}
+use Rattle.command_line.proofs.Operands.{Leads, as_value, ends_well, leads_nowhere, leads_on, leads_operand, leads_value, rows_at_end}
+use Rattle.command_line.proofs.Operands.{walk_by, whole_line}
+use Rattle.table_image.specs.declared.version.Version.{Version}
 
--- The command `play`, as a parse has it.
+-- The command `play`, as a parse has it, and its walk before the first argument.
 abbrev play_shape : Shape
 play_shape = slice_index_or (built atalk_app).subs 2 play_app.top
 
-abbrev play_end : Text → Held × Step → Walk
-play_end = walk_by play_shape (walk_from nothing_held)
+abbrev start : Walk
+start = walk_from nothing_held
 
-play_by_met : (name file : Text) → subcommand_of atalk_app (name ∷ codes "play" ∷ file ∷ [])
-    ≡ Some (codes "play", rows_at_end play_shape (play_end file (met_in play_shape 1 nothing_held file)))
-unfolding clap_on_literals
-play_by_met name file = refl
+-- ---- The walk after each argument
 
-played_of_value : (file : Text) → first_of (codes "FILE") (rows_at_end play_shape (play_end file (nothing_held, value))) ≡ Some file
-unfolding clap_on_literals
-played_of_value file = refl
+abbrev after_file : Text → Walk → Walk
+after_file file w = walk_by play_shape w file (w.held, value)
 
-no_out_of_value : (file : Text) → first_of (codes "OUT") (rows_at_end play_shape (play_end file (nothing_held, value))) ≡ None
+abbrev after_flag : Walk → Walk
+after_flag w = walked play_shape.rules [] w (codes "--v2")
+
+abbrev after_image : Walk → Walk
+after_image w = walked play_shape.rules [] w (codes "--image")
+
+abbrev after_out : Text → Walk → Walk
+after_out out w = walk_by play_shape w out (as_value play_shape (codes "OUT") out w.held)
+
+-- ---- Plays whose image isn't written
+
+abbrev play_end : Place → Text → Walk
+play_end Nowhere file = after_file file start
+play_end BeforeFile file = after_file file (after_flag start)
+play_end AfterFile file = after_flag (after_file file start)
+play_end AtEnd file = after_flag (after_file file start)
+
+flag_at_end : (file : Text) → is_operand file ≡ true
+    → Leads play_shape start (file ∷ codes "--v2" ∷ []) (after_flag (after_file file start))
 unfolding clap_on_literals
-no_out_of_value file = refl
+flag_at_end file operand =
+    leads_operand play_shape nothing_held 1 _ file (codes "--v2" ∷ []) operand refl
+    (leads_on play_shape (after_file file start) (after_flag (after_file file start)) _ (codes "--v2") [] refl refl
+    (leads_nowhere play_shape _))
+
+play_leads : (place : Place) (file : Text) → is_operand file ≡ true
+    → Leads play_shape start (play_words place file) (play_end place file)
+unfolding clap_on_literals
+play_leads Nowhere file operand = leads_operand play_shape nothing_held 1 _ file [] operand refl (leads_nowhere play_shape _)
+play_leads BeforeFile file operand =
+    leads_on play_shape start (after_flag start) _ (codes "--v2") (file ∷ []) refl refl
+    (leads_operand play_shape (after_flag start).held 1 _ file [] operand refl (leads_nowhere play_shape _))
+play_leads AfterFile file operand = flag_at_end file operand
+play_leads AtEnd file operand = flag_at_end file operand
+
+play_ends_well : (place : Place) (file : Text) → ends_well play_shape (play_end place file) ≡ true
+unfolding clap_on_literals
+play_ends_well Nowhere file = refl
+play_ends_well BeforeFile file = refl
+play_ends_well AfterFile file = refl
+play_ends_well AtEnd file = refl
+
+play_entered : (place : Place) (name file : Text) → subcommand_of atalk_app (name ∷ codes "play" ∷ play_words place file)
+    ≡ Some (codes "play", rows_after play_shape.rules [] (play_words place file))
+unfolding clap_on_literals
+play_entered Nowhere name file = refl
+play_entered BeforeFile name file = refl
+play_entered AfterFile name file = refl
+play_entered AtEnd name file = refl
+
+play_takes : (place : Place) (name file : Text) → takes atalk_app (name ∷ codes "play" ∷ play_words place file)
+    ≡ (level_passes play_shape [] nothing_held (play_words place file) false && true)
+unfolding clap_on_literals
+play_takes Nowhere name file = refl
+play_takes BeforeFile name file = refl
+play_takes AfterFile name file = refl
+play_takes AtEnd name file = refl
+
+played_file : (place : Place) (file : Text) → first_of (codes "FILE") (rows_at_end play_shape (play_end place file)) ≡ Some file
+unfolding clap_on_literals
+played_file Nowhere file = refl
+played_file BeforeFile file = refl
+played_file AfterFile file = refl
+played_file AtEnd file = refl
+
+played_out : (place : Place) (file : Text) → first_of (codes "OUT") (rows_at_end play_shape (play_end place file)) ≡ None
+unfolding clap_on_literals
+played_out Nowhere file = refl
+played_out BeforeFile file = refl
+played_out AfterFile file = refl
+played_out AtEnd file = refl
+
+played_version : (place : Place) (file : Text)
+    → version_by (first_of (codes "V2") (rows_at_end play_shape (play_end place file))) ≡ version_at place
+unfolding clap_on_literals
+played_version Nowhere file = refl
+played_version BeforeFile file = refl
+played_version AfterFile file = refl
+played_version AtEnd file = refl
 
 -- The job of the command `play` with these matches.
-play_of_rows : (rows : List Row) (file out : Option Text) (job : Job) → first_of (codes "FILE") rows ≡ file
-    → first_of (codes "OUT") rows ≡ out → IsMeant (Some (codes "play", rows)) job → Plays file out job
-play_of_rows rows file out job is_file is_out meant =
-    subst (λ (text : Option Text). Plays file text job) is_out
-    (subst (λ (text : Option Text). Plays text (first_of (codes "OUT") rows) job) is_file meant)
+play_of_rows : (rows : List Row) (file out : Option Text) (version : Option Version) (job : Job) → first_of (codes "FILE") rows ≡ file
+    → first_of (codes "OUT") rows ≡ out → version_by (first_of (codes "V2") rows) ≡ version
+    → IsMeant (Some (codes "play", rows)) job → Plays file out version job
+play_of_rows rows file out version job is_file is_out is_version meant =
+    subst (λ (v : Option Version). Plays file out v job) is_version
+    (subst (λ (text : Option Text). Plays file text (version_by (first_of (codes "V2") rows)) job) is_out
+    (subst (λ (text : Option Text). Plays text (first_of (codes "OUT") rows) (version_by (first_of (codes "V2") rows)) job) is_file meant))
 
 -- `play FILE` is a play of FILE whose image isn't written.
-pub play_meant : (name file : Text) (job : Job) → is_operand file ≡ true
-    → IsMeant (subcommand_of atalk_app (name ∷ codes "play" ∷ file ∷ [])) job → Plays (Some file) None job
-play_meant name file job operand meant =
-    let rows = play_by_met name file
-    ∙ ap (λ (met : Held × Step). Some (codes "play", rows_at_end play_shape (play_end file met)))
-    (met_value play_shape 1 nothing_held file operand) in
-    play_of_rows (rows_at_end play_shape (play_end file (nothing_held, value))) (Some file) None job
-    (played_of_value file) (no_out_of_value file)
+pub play_meant : (place : Place) (name file : Text) (job : Job) → is_operand file ≡ true
+    → IsMeant (subcommand_of atalk_app (name ∷ codes "play" ∷ play_words place file)) job
+    → Plays (Some file) None (version_at place) job
+play_meant place name file job operand meant =
+    let line = whole_line play_shape (play_words place file) (play_end place file) (play_leads place file operand) (play_ends_well place file) in
+    let rows = play_entered place name file ∙ ap (λ (rows : List Row). Some (codes "play", rows)) line.1 in
+    play_of_rows (rows_at_end play_shape (play_end place file)) (Some file) None (version_at place) job (played_file place file)
+    (played_out place file) (played_version place file)
     (subst (λ (met : Option (Text × List Row)). IsMeant met job) rows meant)
 
--- The arguments pass, by what `play` does with the last one and by whether that passes.
-abbrev play_passes : Text → Bool → Held × Step → Bool
-play_passes file passes met =
-    ((passes && step_passes play_shape 1 met.0 met.1) && true) && ends_well play_shape (play_end file met)
-
-play_taken_by_met : (name file : Text) → takes atalk_app (name ∷ codes "play" ∷ file ∷ [])
-    ≡ (play_passes file (passes_in play_shape nothing_held file) (met_in play_shape 1 nothing_held file) && true)
-unfolding clap_on_literals
-play_taken_by_met name file = refl
-
-played_passes : (file : Text) → (play_passes file true (nothing_held, value) && true) ≡ true
-unfolding clap_on_literals
-played_passes file = refl
-
 -- `play FILE` has no fault.
-pub play_taken : (name file : Text) → is_operand file ≡ true → takes atalk_app (name ∷ codes "play" ∷ file ∷ []) ≡ true
-play_taken name file operand =
-    play_taken_by_met name file
-    ∙ ap₂ (λ (passes : Bool) (met : Held × Step). play_passes file passes met && true)
-    (passes_value play_shape nothing_held file operand) (met_value play_shape 1 nothing_held file operand)
-    ∙ played_passes file
+pub play_taken : (place : Place) (name file : Text) → is_operand file ≡ true
+    → takes atalk_app (name ∷ codes "play" ∷ play_words place file) ≡ true
+play_taken place name file operand =
+    let line = whole_line play_shape (play_words place file) (play_end place file) (play_leads place file operand) (play_ends_well place file) in
+    play_takes place name file ∙ ap (λ (b : Bool). b && true) line.0
 
--- The walk after FILE and `--image`, if FILE is no flag.
-abbrev flag_walk : Text → Walk
-flag_walk file = walked play_shape.rules [] (play_end file (nothing_held, value)) (codes "--image")
+-- ---- Plays whose image is written
 
--- The effect of OUT on the command after that, and the walk after it.
-abbrev out_met : Text → Text → Held × Step
-out_met file out = word_met play_shape.rules [] false (option (codes "OUT")) 2 out (flag_walk file).held
+abbrev play_to_end : Place → Text → Text → Walk
+play_to_end Nowhere file out = after_out out (after_image (after_file file start))
+play_to_end BeforeFile file out = after_out out (after_image (after_file file (after_flag start)))
+play_to_end AfterFile file out = after_out out (after_image (after_flag (after_file file start)))
+play_to_end AtEnd file out = after_flag (after_out out (after_image (after_file file start)))
 
-abbrev out_end : Text → Text → Held × Step → Walk
-out_end file out = walk_by play_shape (flag_walk file) out
-
--- The effect of OUT on the command if OUT is no flag: it is the value of the option.
-abbrev out_value : Text → Text → Held × Step
-out_value file out = plain_word play_shape.rules (option (codes "OUT")) out (flag_walk file).held
-
-met_option : (shape : Shape) (id : Text) (position : ℕ) (held : Held) (word : Text) → is_operand word ≡ true
-    → word_met shape.rules [] false (option id) position word held ≡ plain_word shape.rules (option id) word held
-met_option shape id position held word operand = let tests = no_flag word operand in rw (tests.0, tests.1, tests.2) refl
-
-passes_option : (shape : Shape) (id : Text) (held : Held) (word : Text) → is_operand word ≡ true
-    → word_passes shape [] false (option id) word held ≡ true
-passes_option shape id held word operand = let tests = no_flag word operand in rw (tests.0, tests.1, tests.2) refl
-
-play_to_by_file : (name file out : Text) → subcommand_of atalk_app (name ∷ codes "play" ∷ file ∷ codes "--image" ∷ out ∷ [])
-    ≡ Some (
-      codes "play",
-      rows_at_end play_shape (walked play_shape.rules []
-          (walked play_shape.rules [] (play_end file (met_in play_shape 1 nothing_held file)) (codes "--image")) out),
-    )
+play_to_leads : (place : Place) (file out : Text) → is_operand file ≡ true → is_operand out ≡ true
+    → Leads play_shape start (play_to_words place file out) (play_to_end place file out)
 unfolding clap_on_literals
-play_to_by_file name file out = refl
+play_to_leads Nowhere file out first second =
+    let a = after_file file start in
+    leads_operand play_shape nothing_held 1 _ file (codes "--image" ∷ out ∷ []) first refl
+    (leads_on play_shape a (after_image a) _ (codes "--image") (out ∷ []) refl refl
+    (leads_value play_shape (codes "OUT") (after_image a).held 2 _ out [] second (leads_nowhere play_shape _)))
+play_to_leads BeforeFile file out first second =
+    let a = after_file file (after_flag start) in
+    leads_on play_shape start (after_flag start) _ (codes "--v2") (file ∷ codes "--image" ∷ out ∷ []) refl refl
+    (leads_operand play_shape (after_flag start).held 1 _ file (codes "--image" ∷ out ∷ []) first refl
+    (leads_on play_shape a (after_image a) _ (codes "--image") (out ∷ []) refl refl
+    (leads_value play_shape (codes "OUT") (after_image a).held 2 _ out [] second (leads_nowhere play_shape _))))
+play_to_leads AfterFile file out first second =
+    let a = after_file file start in
+    let b = after_flag a in
+    leads_operand play_shape nothing_held 1 _ file (codes "--v2" ∷ codes "--image" ∷ out ∷ []) first refl
+    (leads_on play_shape a b _ (codes "--v2") (codes "--image" ∷ out ∷ []) refl refl
+    (leads_on play_shape b (after_image b) _ (codes "--image") (out ∷ []) refl refl
+    (leads_value play_shape (codes "OUT") (after_image b).held 2 _ out [] second (leads_nowhere play_shape _))))
+play_to_leads AtEnd file out first second =
+    let a = after_file file start in
+    let b = after_out out (after_image a) in
+    leads_operand play_shape nothing_held 1 _ file (codes "--image" ∷ out ∷ codes "--v2" ∷ []) first refl
+    (leads_on play_shape a (after_image a) _ (codes "--image") (out ∷ codes "--v2" ∷ []) refl refl
+    (leads_value play_shape (codes "OUT") (after_image a).held 2 _ out (codes "--v2" ∷ []) second
+    (leads_on play_shape b (after_flag b) _ (codes "--v2") [] refl refl (leads_nowhere play_shape _))))
 
-play_to_by_out : (file out : Text) → walked play_shape.rules [] (flag_walk file) out ≡ out_end file out (out_met file out)
+play_to_ends_well : (place : Place) (file out : Text) → ends_well play_shape (play_to_end place file out) ≡ true
 unfolding clap_on_literals
-play_to_by_out file out = refl
+play_to_ends_well Nowhere file out = refl
+play_to_ends_well BeforeFile file out = refl
+play_to_ends_well AfterFile file out = refl
+play_to_ends_well AtEnd file out = refl
 
--- The matches of `play`, if its operands are no flags.
-abbrev play_rows : Text → Text → List Row
-play_rows file out = rows_at_end play_shape (out_end file out (out_value file out))
-
-play_to_entered : (name file out : Text) → is_operand file ≡ true → is_operand out ≡ true
-    → subcommand_of atalk_app (name ∷ codes "play" ∷ file ∷ codes "--image" ∷ out ∷ []) ≡ Some (codes "play", play_rows file out)
-play_to_entered name file out first second =
-    let entered = λ (end : Walk). Some (codes "play", rows_at_end play_shape end) in
-    play_to_by_file name file out
-    ∙ ap (λ (met : Held × Step). entered (walked play_shape.rules []
-    (walked play_shape.rules [] (play_end file met) (codes "--image")) out)) (met_value play_shape 1 nothing_held file first)
-    ∙ ap entered (play_to_by_out file out)
-    ∙ ap (λ (met : Held × Step). entered (out_end file out met))
-    (met_option play_shape (codes "OUT") 2 (flag_walk file).held out second)
-
-played_of_values : (file out : Text) → first_of (codes "FILE") (play_rows file out) ≡ Some file
+play_to_entered : (place : Place) (name file out : Text)
+    → subcommand_of atalk_app (name ∷ codes "play" ∷ play_to_words place file out)
+    ≡ Some (codes "play", rows_after play_shape.rules [] (play_to_words place file out))
 unfolding clap_on_literals
-played_of_values file out = refl
+play_to_entered Nowhere name file out = refl
+play_to_entered BeforeFile name file out = refl
+play_to_entered AfterFile name file out = refl
+play_to_entered AtEnd name file out = refl
 
-out_of_values : (file out : Text) → first_of (codes "OUT") (play_rows file out) ≡ Some out
+play_to_takes : (place : Place) (name file out : Text) → takes atalk_app (name ∷ codes "play" ∷ play_to_words place file out)
+    ≡ (level_passes play_shape [] nothing_held (play_to_words place file out) false && true)
 unfolding clap_on_literals
-out_of_values file out = refl
+play_to_takes Nowhere name file out = refl
+play_to_takes BeforeFile name file out = refl
+play_to_takes AfterFile name file out = refl
+play_to_takes AtEnd name file out = refl
+
+played_to_file : (place : Place) (file out : Text)
+    → first_of (codes "FILE") (rows_at_end play_shape (play_to_end place file out)) ≡ Some file
+unfolding clap_on_literals
+played_to_file Nowhere file out = refl
+played_to_file BeforeFile file out = refl
+played_to_file AfterFile file out = refl
+played_to_file AtEnd file out = refl
+
+played_to_out : (place : Place) (file out : Text)
+    → first_of (codes "OUT") (rows_at_end play_shape (play_to_end place file out)) ≡ Some out
+unfolding clap_on_literals
+played_to_out Nowhere file out = refl
+played_to_out BeforeFile file out = refl
+played_to_out AfterFile file out = refl
+played_to_out AtEnd file out = refl
+
+played_to_version : (place : Place) (file out : Text)
+    → version_by (first_of (codes "V2") (rows_at_end play_shape (play_to_end place file out))) ≡ version_at place
+unfolding clap_on_literals
+played_to_version Nowhere file out = refl
+played_to_version BeforeFile file out = refl
+played_to_version AfterFile file out = refl
+played_to_version AtEnd file out = refl
 
 -- `play FILE --image OUT` is a play of FILE whose image is written to OUT.
-pub play_to_meant : (name file out : Text) (job : Job) → is_operand file ≡ true → is_operand out ≡ true
-    → IsMeant (subcommand_of atalk_app (name ∷ codes "play" ∷ file ∷ codes "--image" ∷ out ∷ [])) job
-    → Plays (Some file) (Some out) job
-play_to_meant name file out job first second meant =
-    play_of_rows (play_rows file out) (Some file) (Some out) job (played_of_values file out) (out_of_values file out)
-    (subst (λ (met : Option (Text × List Row)). IsMeant met job) (play_to_entered name file out first second) meant)
-
--- The arguments pass, by what `play` does with FILE and by whether that passes.
-abbrev to_passes : Text → Text → Bool → Held × Step → Bool
-to_passes file out passes met =
-    let walk = play_end file met in
-    ((passes && step_passes play_shape 1 met.0 met.1) && walk_passes play_shape [] walk (codes "--image" ∷ out ∷ []))
-    && ends_well play_shape (walked play_shape.rules [] (walked play_shape.rules [] walk (codes "--image")) out)
-
-play_to_taken_by_file : (name file out : Text)
-    → takes atalk_app (name ∷ codes "play" ∷ file ∷ codes "--image" ∷ out ∷ [])
-    ≡ (to_passes file out (passes_in play_shape nothing_held file) (met_in play_shape 1 nothing_held file) && true)
-unfolding clap_on_literals
-play_to_taken_by_file name file out = refl
-
--- The arguments pass, by what `play` does with OUT and by whether that passes.
-abbrev out_passes : Text → Text → Bool → Held × Step → Bool
-out_passes file out passes met =
-    ((passes && step_passes play_shape 2 met.0 met.1) && true) && ends_well play_shape (out_end file out met)
-
-play_to_taken_by_out : (file out : Text) → to_passes file out true (nothing_held, value)
-    ≡ out_passes file out (word_passes play_shape [] false (option (codes "OUT")) out (flag_walk file).held) (out_met file out)
-unfolding clap_on_literals
-play_to_taken_by_out file out = refl
-
-out_taken : (file out : Text) → (out_passes file out true (out_value file out) && true) ≡ true
-unfolding clap_on_literals
-out_taken file out = refl
+pub play_to_meant : (place : Place) (name file out : Text) (job : Job) → is_operand file ≡ true → is_operand out ≡ true
+    → IsMeant (subcommand_of atalk_app (name ∷ codes "play" ∷ play_to_words place file out)) job
+    → Plays (Some file) (Some out) (version_at place) job
+play_to_meant place name file out job first second meant =
+    let end = play_to_end place file out in
+    let line = whole_line play_shape (play_to_words place file out) end (play_to_leads place file out first second)
+    (play_to_ends_well place file out) in
+    let rows = play_to_entered place name file out ∙ ap (λ (rows : List Row). Some (codes "play", rows)) line.1 in
+    play_of_rows (rows_at_end play_shape end) (Some file) (Some out) (version_at place) job (played_to_file place file out)
+    (played_to_out place file out) (played_to_version place file out)
+    (subst (λ (met : Option (Text × List Row)). IsMeant met job) rows meant)
 
 -- `play FILE --image OUT` has no fault.
-pub play_to_taken : (name file out : Text) → is_operand file ≡ true → is_operand out ≡ true
-    → takes atalk_app (name ∷ codes "play" ∷ file ∷ codes "--image" ∷ out ∷ []) ≡ true
-play_to_taken name file out first second =
-    let held = (flag_walk file).held in
-    play_to_taken_by_file name file out
-    ∙ ap₂ (λ (passes : Bool) (met : Held × Step). to_passes file out passes met && true)
-    (passes_value play_shape nothing_held file first) (met_value play_shape 1 nothing_held file first)
-    ∙ ap (λ (all : Bool). all && true) (play_to_taken_by_out file out)
-    ∙ ap₂ (λ (passes : Bool) (met : Held × Step). out_passes file out passes met && true)
-    (passes_option play_shape (codes "OUT") held out second) (met_option play_shape (codes "OUT") 2 held out second)
-    ∙ out_taken file out
+pub play_to_taken : (place : Place) (name file out : Text) → is_operand file ≡ true → is_operand out ≡ true
+    → takes atalk_app (name ∷ codes "play" ∷ play_to_words place file out) ≡ true
+play_to_taken place name file out first second =
+    let line = whole_line play_shape (play_to_words place file out) (play_to_end place file out)
+    (play_to_leads place file out first second) (play_to_ends_well place file out) in
+    play_to_takes place name file out ∙ ap (λ (b : Bool). b && true) line.0

@@ -1,13 +1,16 @@
 -- The command line, as a parse sees it.
 use Rattle.std.specs.Prelude.{◌≡◌, ◌≢◌, ◌⊎◌, ◌==◌, Bool, true, false, not, List, [], ◌∷◌, Option, Some, None, codes, option_map}
+use Rattle.std.specs.Prelude.{if◌then◌else◌}
 use Rattle.std.specs.Str.{bytes_eq}
 use Rattle.clap.specs.Walk.{Rule}
 use Rattle.clap.specs.Words.{App, Row, Text, first_of, new_app, new_rule, with_rule, with_subcommand}
-use Rattle.clap.specs.declared.builder.ArgAction.TheVariants.{Set}
+use Rattle.clap.specs.declared.builder.ArgAction.TheVariants.{Set, SetTrue}
 use Rattle.command_line.specs.declared.arguments.Job.{Job}
 use Rattle.command_line.specs.declared.arguments.Job.TheVariants.{Audit, Trace, Play}
 use Rattle.command_line.specs.declared.arguments.Source.{Source}
 use Rattle.command_line.specs.declared.arguments.Source.TheVariants.{StandardInput, File}
+use Rattle.table_image.specs.declared.version.Version.{Version}
+use Rattle.table_image.specs.declared.version.Version.TheVariants.{V2}
 
 -- A required operand.
 abbrev pub operand : Text → Rule
@@ -29,9 +32,13 @@ trace_app = with_rule (with_rule (new_app (codes "trace")) (operand (codes "IMAG
 abbrev pub out_option : Rule
 out_option = record (new_rule (codes "OUT")) { long = Some (codes "image"); action = Some Set }
 
--- The command `play FILE`, with `--image OUT`.
+-- The option `--v2`.
+abbrev pub v2_flag : Rule
+v2_flag = record (new_rule (codes "V2")) { long = Some (codes "v2"); action = Some SetTrue }
+
+-- The command `play FILE`, with `--image OUT` and `--v2`.
 abbrev pub play_app : App
-play_app = with_rule (with_rule (new_app (codes "play")) (operand (codes "FILE"))) out_option
+play_app = with_rule (with_rule (with_rule (new_app (codes "play")) (operand (codes "FILE"))) out_option) v2_flag
 
 -- The program `atalk`, with its commands for images.
 abbrev pub images_app : App
@@ -56,16 +63,23 @@ abbrev pub Traces : Option Text → Option Text → Job → Type 0
 Traces image script (Trace i s) = Names image i × Names script s
 Traces image script _ = ⊥
 
+-- The version that is asked for by this value of `--v2`: version 2 if it is given.
+abbrev pub version_by : Option Text → Option Version
+version_by None = None
+version_by (Some text) = if bytes_eq text (codes "true") then Some V2 else None
+
 -- The job is a play of the source in the first text, whose image is written to the file in the second text, if there is
--- one.
-abbrev pub Plays : Option Text → Option Text → Job → Type 0
-Plays file out (Play source image) = Names file source × (option_map (λ path. path.now) image ≡ out)
-Plays file out _ = ⊥
+-- one, and has this version, if one is asked for.
+abbrev pub Plays : Option Text → Option Text → Option Version → Job → Type 0
+Plays file out version (Play source image asked) =
+    Names file source × (option_map (λ path. path.now) image ≡ out) × (asked ≡ version)
+Plays file out version _ = ⊥
 
 -- The job of a command with these operands: of `trace` or `play` if it is that command, and otherwise of `audit`.
 abbrev pub IsMeantBy : Bool → Bool → List Row → Job → Type 0
 IsMeantBy true _ rows job = Traces (first_of (codes "IMAGE") rows) (first_of (codes "SCRIPT") rows) job
-IsMeantBy false true rows job = Plays (first_of (codes "FILE") rows) (first_of (codes "OUT") rows) job
+IsMeantBy false true rows job =
+    Plays (first_of (codes "FILE") rows) (first_of (codes "OUT") rows) (version_by (first_of (codes "V2") rows)) job
 IsMeantBy false false rows job = Audits (first_of (codes "FILE") rows) job
 
 -- The job of the command that was matched, with its operands; without a command, an audit of standard input.
@@ -78,3 +92,31 @@ abbrev pub is_operand : Text → Bool
 is_operand [] = true
 is_operand (b ∷ []) = true
 is_operand (b ∷ c ∷ text) = not (b == 45)
+
+-- Where `--v2` stands in a play: nowhere, before FILE, right after it, or at the end.
+pub data Place : Type 0 where
+  Nowhere : Place
+  BeforeFile : Place
+  AfterFile : Place
+  AtEnd : Place
+
+-- The version that is asked for by `--v2` in this place.
+abbrev pub version_at : Place → Option Version
+version_at Nowhere = None
+version_at BeforeFile = Some V2
+version_at AfterFile = Some V2
+version_at AtEnd = Some V2
+
+-- The words of a play of a file whose image isn't written: FILE, and `--v2` in its place.
+abbrev pub play_words : Place → Text → List Text
+play_words Nowhere file = file ∷ []
+play_words BeforeFile file = codes "--v2" ∷ file ∷ []
+play_words AfterFile file = file ∷ codes "--v2" ∷ []
+play_words AtEnd file = file ∷ codes "--v2" ∷ []
+
+-- The words of a play of a file whose image is written to a file: FILE, `--image OUT`, and `--v2` in its place.
+abbrev pub play_to_words : Place → Text → Text → List Text
+play_to_words Nowhere file out = file ∷ codes "--image" ∷ out ∷ []
+play_to_words BeforeFile file out = codes "--v2" ∷ file ∷ codes "--image" ∷ out ∷ []
+play_to_words AfterFile file out = file ∷ codes "--v2" ∷ codes "--image" ∷ out ∷ []
+play_to_words AtEnd file out = file ∷ codes "--image" ∷ out ∷ codes "--v2" ∷ []

@@ -9,14 +9,17 @@ ghost use Rattle.clap.specs.Words.{rule_of, subcommand_of, subcommand_rows_of, t
 ghost use Rattle.clap.specs.declared.Command.TheViews.{out-Command as fields_of};
 ghost use Rattle.clap.specs.declared.error.ErrorKind.TheVariants.{DisplayHelp, DisplayVersion};
 ghost use Rattle.clap.specs.declared.error.ErrorKind.TheVariants.{OutOfMemory};
-ghost use Rattle.command_line.specs.Arguments.{Audits, IsMeant, IsMeantBy, Names, Plays, Traces};
-ghost use Rattle.command_line.specs.Arguments.{atalk_app, audit_app, images_app, is_operand};
-ghost use Rattle.command_line.specs.Arguments.{out_option, play_app, trace_app};
+ghost use Rattle.command_line.specs.Arguments.{Audits, IsMeant, IsMeantBy, Names, Place, Plays};
+ghost use Rattle.command_line.specs.Arguments.{Traces, atalk_app, audit_app, images_app};
+ghost use Rattle.command_line.specs.Arguments.{is_operand, out_option, play_app, play_to_words};
+ghost use Rattle.command_line.specs.Arguments.{play_words, trace_app, v2_flag, version_at};
+ghost use Rattle.command_line.specs.Arguments.{version_by};
 ghost use Rattle.command_line.specs.Arguments as spec;
 
 use clap::{Arg, ArgAction, ArgMatches, Command, Error};
 use std::alloc::{AllocError, Global};
 use std::convert::AsStr;
+use table_image::Version;
 
 /// The source from which an image, a script or an internet file is read.
 #[derive(Clone, Copy, Debug, PartialEq, Eq)]
@@ -32,8 +35,9 @@ pub enum Job<'a> {
     Audit(Source<'a>),
     /// The run of a script over an image: the image, then the script.
     Trace(Source<'a>, Source<'a>),
-    /// The play of an internet file, and the file for its image, if one is wanted.
-    Play(Source<'a>, Option<&'a str>),
+    /// The play of an internet file, the file for its image, if one is wanted, and the version of
+    /// the image, if one is asked for.
+    Play(Source<'a>, Option<&'a str>, Option<Version>),
 }
 
 const ABOUT: &str =
@@ -82,6 +86,10 @@ const INTERNET: &str = "The internet file; - is standard input";
 
 const OUT: &str = "Where the image of the tables goes";
 
+const VERSION_2: &str =
+    "Writes the image in version 2, with each station's mappings; without it the image is of \
+    version 1 where that can hold the tables, else of version 2";
+
 /// A required operand.
 fn operand<'a>(alloc: Global, name: &'a str, help: &'a str) -> Arg<'a>
     ensures rule { rule_of result ≡ spec.operand name.entry.now }
@@ -127,7 +135,18 @@ fn image_option<'a>(alloc: Global) -> Arg<'a>
         .action(ArgAction::Set)
 }
 
-/// `atalk play FILE`, with `--image OUT`.
+/// `--v2`.
+fn version_option<'a>(alloc: Global) -> Arg<'a>
+    ensures rule { rule_of result ≡ v2_flag }
+    ensures local { result.global ≡ false }
+{
+    Arg::new(alloc, "V2")
+        .long("v2")
+        .help(VERSION_2)
+        .action(ArgAction::SetTrue)
+}
+
+/// `atalk play FILE`, with `--image OUT` and `--v2`.
 fn play_command<'a>(alloc: Global) -> Result<Command<'a>, AllocError>
     ensures app { IfOk result (λ command. app_of command ≡ play_app) }
     ensures local { IfOk result (λ command. (fields_of command).has_globals ≡ false) }
@@ -136,7 +155,8 @@ fn play_command<'a>(alloc: Global) -> Result<Command<'a>, AllocError>
         .about(PLAY)
         .after_help(AFTER_HELP)
         .arg(operand(alloc, "FILE", INTERNET))?
-        .arg(image_option(alloc))
+        .arg(image_option(alloc))?
+        .arg(version_option(alloc))
 }
 
 /// `atalk`, with its commands for images.
@@ -192,21 +212,20 @@ pub fn read_arguments<'a, S: AsStr>(alloc: Global, arguments: &'a [S]) -> Result
         → IsTrue (is_operand image) → IsTrue (is_operand script)
         → IfErr result (λ e. kind_of e ≡ OutOfMemory) }
     // `play FILE` is a play of FILE whose image isn't written, and `play FILE --image OUT` is one
-    // whose image is written to OUT; the only error is out of memory.
-    ensures play { (name file : List ℕ)
-        → map S.text arguments.entry.now ≡ name ∷ codes "play" ∷ file ∷ []
-        → IsTrue (is_operand file) → IfOk result (Plays (Some file) None) }
-    ensures play_err { (name file : List ℕ)
-        → map S.text arguments.entry.now ≡ name ∷ codes "play" ∷ file ∷ []
+    // whose image is written to OUT. With `--v2`, before FILE, right after it or at the end, the
+    // image is asked for in version 2. The only error is out of memory.
+    ensures play { (name file : List ℕ) (place : Place)
+        → map S.text arguments.entry.now ≡ name ∷ codes "play" ∷ play_words place file
+        → IsTrue (is_operand file) → IfOk result (Plays (Some file) None (version_at place)) }
+    ensures play_err { (name file : List ℕ) (place : Place)
+        → map S.text arguments.entry.now ≡ name ∷ codes "play" ∷ play_words place file
         → IsTrue (is_operand file) → IfErr result (λ e. kind_of e ≡ OutOfMemory) }
-    ensures play_to { (name file out : List ℕ)
-        → map S.text arguments.entry.now
-        ≡ name ∷ codes "play" ∷ file ∷ codes "--image" ∷ out ∷ []
+    ensures play_to { (name file out : List ℕ) (place : Place)
+        → map S.text arguments.entry.now ≡ name ∷ codes "play" ∷ play_to_words place file out
         → IsTrue (is_operand file) → IsTrue (is_operand out)
-        → IfOk result (Plays (Some file) (Some out)) }
-    ensures play_to_err { (name file out : List ℕ)
-        → map S.text arguments.entry.now
-        ≡ name ∷ codes "play" ∷ file ∷ codes "--image" ∷ out ∷ []
+        → IfOk result (Plays (Some file) (Some out) (version_at place)) }
+    ensures play_to_err { (name file out : List ℕ) (place : Place)
+        → map S.text arguments.entry.now ≡ name ∷ codes "play" ∷ play_to_words place file out
         → IsTrue (is_operand file) → IsTrue (is_operand out)
         → IfErr result (λ e. kind_of e ≡ OutOfMemory) }
     // `--help`, `-h`, `--version` and `-V` return the errors `DisplayHelp` and `DisplayVersion`.
@@ -244,7 +263,11 @@ fn job_named<'a>(name: &str, operands: &ArgMatches<'a>) -> Job<'a>
     if name == "trace" {
         Job::Trace(source_in(operands, "IMAGE"), source_in(operands, "SCRIPT"))
     } else if name == "play" {
-        Job::Play(source_in(operands, "FILE"), path_in(operands, "OUT"))
+        Job::Play(
+            source_in(operands, "FILE"),
+            path_in(operands, "OUT"),
+            version_in(operands, "V2"),
+        )
     } else {
         Job::Audit(source_in(operands, "FILE"))
     }
@@ -263,6 +286,27 @@ fn path_in<'a>(operands: &ArgMatches<'a>, name: &str) -> Option<&'a str>
         ≡ first_of name.now (rows_of (found_of operands.now)) }
 {
     operands.get_str(name)
+}
+
+/// The version that the flag with this name asks for, if it is given.
+fn version_in(operands: &ArgMatches<'_>, name: &str) -> Option<Version>
+    ensures { result ≡ version_by (first_of name.now (rows_of (found_of operands.now))) }
+{
+    match operands.get_str(name) {
+        Some(given) => version_of(given),
+        None => None,
+    }
+}
+
+/// The version that is asked for by this value of `--v2`: version 2 if it is given.
+fn version_of(given: &str) -> Option<Version>
+    ensures { result ≡ version_by (Some given.now) }
+{
+    if given == "true" {
+        Some(Version::V2)
+    } else {
+        None
+    }
 }
 
 /// The source with this name.

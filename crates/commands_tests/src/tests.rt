@@ -274,7 +274,8 @@ fn an_input_keeps_its_image_or_the_byte_at_its_flaw(rt: HostRuntime) {
         (EMPTY, (true, None)),
         (BACKWARD, (true, None)),
         (b"ATIN".as_slice(), (false, Some(0x41))),
-        (b"ATIM\x02".as_slice(), (false, Some(2))),
+        (b"ATIM\x02".as_slice(), (false, None)),
+        (b"ATIM\x03".as_slice(), (false, Some(3))),
         (b"ATIM".as_slice(), (false, None)),
     ];
     for (bytes, wanted) in cases {

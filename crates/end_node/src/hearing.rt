@@ -2,7 +2,7 @@
 
 ghost use Rattle.std.specs.Prelude.{IfOk, IsOk, IsOkUnless, None, OnErr, OnOk, Some, ◌≡◌};
 ghost use Rattle.aarp.specs.Choosing.{answer};
-ghost use Rattle.end_node.specs.Answers.{Hears, heard_packet};
+ghost use Rattle.end_node.specs.Answers.{Hears, Ticks, heard_packet};
 ghost use Rattle.end_node.specs.Taking as spec;
 ghost use Rattle.station.specs.Hearing.{hearing};
 ghost use Rattle.station.specs.Lawful.{PutsOut};
@@ -106,7 +106,15 @@ impl Station for EndNode {
         }
     }
 
-    fn tick(&mut self, _outputs: &mut Outputs) -> Result<(), Error> {
+    /// Does nothing: time changes no tables that are frozen.
+    fn tick(&mut self, outputs: &mut Outputs) -> Result<(), Error>
+        ensures ok { OnOk result (PutsOut 1 outputs.old.items outputs.new.items
+            (λ added. Ticks self.old added self.new)) }
+        ensures never { IsOk result }
+        ensures refused { IsOkUnless result Error.Memory }
+        ensures station_stays { OnErr result (self.new ≡ self.old) }
+        ensures outputs_stay { OnErr result (outputs.new.items ≡ outputs.old.items) }
+    {
         Ok(())
     }
 }

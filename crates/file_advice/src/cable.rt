@@ -27,9 +27,9 @@ pub(crate) fn check_zone(table: &Table, key: Key) -> Result<(), Fault> {
     }
 }
 
-/// Checks that the value at the key is a list of 1 to 64 names of zones.
+/// Checks that the value at the key is a list of 1 to 255 names of zones.
 fn check_zones(table: &Table, key: Key) -> Result<(), Fault> {
-    let zones = list_at(table, key, 1, 64, Must::Zones)?;
+    let zones = list_at(table, key, 1, 255, Must::Zones)?;
     for (index, zone) in zones.iter().enumerate() {
         if !is_zone(zone) {
             return Err(Fault::WrongValue {

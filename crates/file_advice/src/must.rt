@@ -29,7 +29,7 @@ impl Must {
             Must::Range => {
                 "a list of the first and the last network, 1 to 65279, the first not above the last"
             }
-            Must::Zones => "a list of 1 to 64 names of zones",
+            Must::Zones => "a list of 1 to 255 names of zones",
             Must::Zone => "the name of a zone: 1 to 32 printable ASCII characters, not * alone",
             Must::Ports => "a list of 1 to 16 tables",
             Must::Hardware => "a text of 12 hexadecimal digits",

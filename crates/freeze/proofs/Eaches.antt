@@ -3,7 +3,7 @@ use Rattle.std.proofs.Common.{◌≡◌, ◌-◌, ◌≤◌, List, [], ◌∷◌
 use Rattle.std.specs.List.{AllByRecursion as Each}
 use Rattle.std.proofs.lemmas.List.{take_all}
 
-others : {X : Type 0} (x : X) (xs : List X) → take (length (x ∷ xs) - 1) (drop 1 (x ∷ xs)) ≡ xs
+pub others : {X : Type 0} (x : X) (xs : List X) → take (length (x ∷ xs) - 1) (drop 1 (x ∷ xs)) ≡ xs
 others x xs = ap (λ n. take n xs) (omega arith) ∙ take_all (length xs) xs (omega arith)
 
 pub each_from : {X : Type 0} (P : X → Type 0) (xs : List X) (d : X) → 1 ≤ length xs → P (slice_index_or xs 0 d)

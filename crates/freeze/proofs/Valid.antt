@@ -1,14 +1,16 @@
 -- The contents of the stations of a sound plan are a valid image.
-use Rattle.std.proofs.Common.{◌≡◌, ℕ, suc, ◌+◌, ◌-◌, ◌≤◌, true, ◌&&◌, IsTrue, List, [], ◌∷◌, ◌++◌, length, map, nat_le, nat_lt}
-use Rattle.std.proofs.Common.{refl, ap, arith, lt-ltb, Ok}
-use Rattle.std.specs.List.{list_all, AllByRecursion as Each}
+use Rattle.std.proofs.Common.{◌≡◌, ℕ, zero, suc, ◌+◌, ◌-◌, ◌≤◌, Bool, true, false, ◌&&◌, ◌||◌, IsTrue, List, [], ◌∷◌, ◌++◌, length, map}
+use Rattle.std.proofs.Common.{nat_le, nat_lt, refl, ap, arith, subst, lt-ltb, true≢false, drop, slice_get, slice_index_or, take, IfSome, Ok}
+use Rattle.std.specs.List.{list_all, list_any, AllByRecursion as Each}
 use Rattle.std.proofs.lemmas.Bool.{and_parts, and_from, leb-true}
+use Rattle.aarp.specs.Mapping.{Mappings}
 use Rattle.at_base.specs.Range.{is_between}
 use Rattle.at_base.specs.Grammar.{Grammar, one}
 use Rattle.at_base.specs.Spelling.{IsValue, ListPasses, bytes_of}
+use Rattle.freeze.proofs.Eaches.{others}
 use Rattle.freeze.proofs.Values.{counted_value}
-use Rattle.freeze.specs.Frozen.{cables_by, frozen_nodes, frozen_routers}
-use Rattle.freeze.specs.Valid.{AreNodes, AreRouters, HavePorts, is_node_on, is_on}
+use Rattle.freeze.specs.Frozen.{cables_by, frozen_nodes, frozen_routers, has_long_list}
+use Rattle.freeze.specs.Valid.{AreFew, AreNodes, AreRouters, HavePorts, IsNotInV1, is_node_on, is_on}
 use Rattle.station.specs.declared.member.Member.{Member}
 use Rattle.station.specs.declared.member.Member.TheVariants as member
 use Rattle.internet_file.specs.Sound.{is_node, is_port, is_router, is_seated, may_try_on}
@@ -21,11 +23,14 @@ use Rattle.at_base.specs.declared.address.Addr.{Addr}
 use Rattle.live_node.specs.Living.{LivingNode}
 use Rattle.live_router.specs.Living.{Living}
 use Rattle.planned_stations.specs.Planning.{ports_of}
-use Rattle.table_image.proofs.CheckedParts.{image_checks}
+use Rattle.table_image.proofs.CheckedImages.{image_checks}
 use Rattle.table_image.specs.Flaws.{Wrong}
 use Rattle.table_image.specs.Internet.{Internet}
-use Rattle.at_base.specs.Limits.{max_cables, max_nodes, max_routers}
+use Rattle.at_base.specs.Limits.{max_cables, max_mappings, max_nodes, max_routers}
 use Rattle.table_image.specs.Spelling.{cable_spelling, counted, image_spelling, node_spelling, router_spelling}
+use Rattle.table_image.specs.declared.router.Router.{Router as ImageRouter}
+use Rattle.table_image.specs.declared.version.Version.{Version}
+use Rattle.table_image.specs.declared.version.Version.TheVariants.{V1, V2}
 
 -- ---- Ports and cables
 
@@ -92,17 +97,68 @@ have_ports [] more ms e = tt
 have_ports (r ∷ rs) more [] e = tt
 have_ports (r ∷ rs) more (m ∷ ms) e = (cc, have_ports rs more ms cc)
 
-pub few_routers : (rs : List Router) (ms : List (Member Living LivingNode)) → length (frozen_routers rs ms) ≤ length rs
-few_routers [] ms = omega arith
-few_routers (r ∷ rs) [] = omega arith
-few_routers (r ∷ rs) (member.Router l ∷ ms) = let rest = few_routers rs ms in omega (arith, rest)
-few_routers (r ∷ rs) (member.Node n ∷ ms) = let rest = few_routers rs ms in omega (arith, rest)
+pub few_routers : (v : Version) (rs : List Router) (ms : List (Member Living LivingNode)) (seats : List Mappings)
+    → length (frozen_routers v rs ms seats) ≤ length rs
+few_routers v [] ms seats = omega arith
+few_routers v (r ∷ rs) [] seats = omega arith
+few_routers v (r ∷ rs) (member.Router l ∷ ms) seats =
+    let rest = few_routers v rs ms (drop (length r.port) seats) in omega (arith, rest)
+few_routers v (r ∷ rs) (member.Node n ∷ ms) seats =
+    let rest = few_routers v rs ms (drop (length r.port) seats) in omega (arith, rest)
 
-pub few_nodes : (ns : List Node) (ms : List (Member Living LivingNode)) → length (frozen_nodes ns ms) ≤ length ns
-few_nodes [] ms = omega arith
-few_nodes (n ∷ ns) [] = omega arith
-few_nodes (n ∷ ns) (member.Node l ∷ ms) = let rest = few_nodes ns ms in omega (arith, rest)
-few_nodes (n ∷ ns) (member.Router r ∷ ms) = let rest = few_nodes ns ms in omega (arith, rest)
+pub few_nodes : (v : Version) (ns : List Node) (ms : List (Member Living LivingNode)) (seats : List Mappings)
+    → length (frozen_nodes v ns ms seats) ≤ length ns
+few_nodes v [] ms seats = omega arith
+few_nodes v (n ∷ ns) [] seats = omega arith
+few_nodes v (n ∷ ns) (member.Node l ∷ ms) seats = let rest = few_nodes v ns ms (drop 1 seats) in omega (arith, rest)
+few_nodes v (n ∷ ns) (member.Router r ∷ ms) seats = let rest = few_nodes v ns ms (drop 1 seats) in omega (arith, rest)
+
+-- ---- Seats
+
+pub few_after : (n : ℕ) (seats : List Mappings) → AreFew seats → AreFew (drop n seats)
+few_after zero seats few = few
+few_after (suc n) [] few = tt
+few_after (suc n) (m ∷ seats) few = few_after n seats few.1
+
+pub few_at_first : (seats : List Mappings) → AreFew seats → IfSome (slice_get seats 0) (λ m. length m.known ≤ max_mappings)
+few_at_first [] few = tt
+few_at_first (m ∷ seats) few = few.0
+
+-- ---- Versions
+
+-- What isn't so of two things in version 1 isn't so of either.
+pub neither_in : (v : Version) (a b : Bool) → IsNotInV1 v (a || b) → IsNotInV1 v a × IsNotInV1 v b
+neither_in V1 true b not_so = absurd (true≢false not_so)
+neither_in V1 false b not_so = (refl, not_so)
+neither_in V2 a b not_so = (tt, tt)
+
+-- ---- Routers, one after the other
+
+-- If the routers before were valid, those after are, for stations that have the ports of the plan and that the version
+-- can hold.
+abbrev pub StayValid : Version → List Router → List (Member Living LivingNode) → List Mappings → List ImageRouter
+    → List ImageRouter → Type 0
+StayValid v rs ms seats old new = (count : ℕ) → IsTrue (list_all (is_on count) rs) → HavePorts rs ms
+    → IsNotInV1 v (list_any has_long_list ms) → AreFew seats → AreRouters v count old → AreRouters v count new
+
+-- The same of one router.
+abbrev pub StaysValid : Version → Router → Member Living LivingNode → List Mappings → List ImageRouter → List ImageRouter → Type 0
+StaysValid v r m seats old new = (count : ℕ) → IsTrue (is_on count r) → ports_of m ≡ length r.port
+    → IsNotInV1 v (has_long_list m) → AreFew seats → AreRouters v count old → AreRouters v count new
+
+pub one_by_one : (v : Version) (rs : List Router) (r : Router) (ms : List (Member Living LivingNode)) (m : Member Living LivingNode)
+    (seats more : List Mappings) (old mid new : List ImageRouter) → 1 ≤ length rs → r ≡ slice_index_or rs 0 r → 1 ≤ length ms
+    → m ≡ slice_index_or ms 0 m → (AreFew seats → AreFew more) → StaysValid v r m seats old mid
+    → StayValid v (take (length rs - 1) (drop 1 rs)) (take (length ms - 1) (drop 1 ms)) more mid new → StayValid v rs ms seats old new
+one_by_one v [] r ms m seats more old mid new some is any is_m few first rest = absurd (omega (arith, some))
+one_by_one v (x ∷ xs) r [] m seats more old mid new some is any is_m few first rest = absurd (omega (arith, any))
+one_by_one v (x ∷ xs) r (y ∷ ys) m seats more old mid new some is any is_m few first rest = λ count on ports short full values.
+    let here = subst (λ q. StaysValid v q y seats old mid) is (subst (λ q. StaysValid v r q seats old mid) is_m first) in
+    let there = subst (λ q. StayValid v q ys more mid new) (others x xs)
+    (subst (λ q. StayValid v (take (length (x ∷ xs) - 1) (drop 1 (x ∷ xs))) q more mid new) (others y ys) rest) in
+    let each = and_parts (is_on count x) (list_all (is_on count) xs) on in
+    let neither = neither_in v (has_long_list y) (list_any has_long_list ys) short in
+    there count each.1 ports.1 neither.1 (few full) (here count each.0 ports.0 neither.0 full values)
 
 -- ---- The image
 
@@ -113,27 +169,28 @@ passes g low (x ∷ xs) h = (h.0, passes g 0 xs h.1)
 
 -- Valid parts are a valid image if there are at most 200 of each.
 pub image_value : (i : Internet) → length i.cables ≤ 200 → length i.routers ≤ 200 → length i.nodes ≤ 200
-    → Each (λ c. IsValue cable_spelling c) i.cables → AreRouters (length i.cables) i.routers → AreNodes (length i.cables) i.nodes
-    → IsValue image_spelling i
+    → Each (λ c. IsValue (cable_spelling i.version) c) i.cables → AreRouters i.version (length i.cables) i.routers
+    → AreNodes i.version (length i.cables) i.nodes → IsValue image_spelling i
 image_value i few_c few_r few_n cables routers nodes =
+    let v = i.version in
     let count = length i.cables in
-    let gc = counted one max_cables (λ low. cable_spelling) (λ c. 0) in
-    let gr = counted one max_routers (λ low. router_spelling count) (λ r. 0) in
-    let gn = counted one max_nodes (λ low. node_spelling count) (λ n. 0) in
+    let gc = counted one max_cables (λ low. cable_spelling v) (λ c. 0) in
+    let gr = counted one max_routers (λ low. router_spelling v count) (λ r. 0) in
+    let gn = counted one max_nodes (λ low. node_spelling v count) (λ n. 0) in
     let a = 5 + length (bytes_of gc i.cables) in
     let b = a + length (bytes_of gr i.routers) in
     let c = b + length (bytes_of gn i.nodes) in
     (image_checks i a b (Ok c) (
-      counted_value max_cables (λ low. cable_spelling) (λ c. 0) i.cables few_c (omega arith)
-          (passes cable_spelling 0 i.cables cables),
+      counted_value one max_cables (λ low. cable_spelling v) (λ c. 0) i.cables few_c (omega arith)
+          (passes (cable_spelling v) 0 i.cables cables),
       refl,
     ) (
-      counted_value max_routers (λ low. router_spelling count) (λ r. 0) i.routers few_r (omega arith)
-          (passes (router_spelling count) 0 i.routers routers),
+      counted_value one max_routers (λ low. router_spelling v count) (λ r. 0) i.routers few_r (omega arith)
+          (passes (router_spelling v count) 0 i.routers routers),
       refl,
     ) (
-      counted_value max_nodes (λ low. node_spelling count) (λ n. 0) i.nodes few_n (omega arith)
-          (passes (node_spelling count) 0 i.nodes nodes),
+      counted_value one max_nodes (λ low. node_spelling v count) (λ n. 0) i.nodes few_n (omega arith)
+          (passes (node_spelling v count) 0 i.nodes nodes),
       refl,
     )).0
 

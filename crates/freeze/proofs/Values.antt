@@ -1,32 +1,46 @@
 -- The parts for the contents of routers and nodes are valid parts of an image.
-use Rattle.std.proofs.Common.{◌≡◌, ℕ, suc, ◌+◌, ◌<◌, ◌≤◌, true, ◌&&◌, List, [], ◌∷◌, length, map, Ok}
-use Rattle.std.proofs.Common.{refl, sym, ap, subst, arith, nat_lt, nat_le, leb-true, ltb-true, IsTrue}
+use Rattle.std.proofs.Common.{◌≡◌, ℕ, suc, ◌+◌, ◌*◌, ◌^◌, ◌<◌, ◌≤◌, false, true, ◌&&◌, List, [], ◌∷◌, length, map, Ok}
+use Rattle.std.proofs.Common.{refl, sym, ap, subst, arith, nat_lt, nat_le, leb-true, ltb-true, IsTrue, Option, slice_get, drop}
 use Rattle.std.specs.List.{list_all, All, AllByRecursion as Each}
 use Rattle.std.proofs.lemmas.Bool.{and_parts}
+use Rattle.std.proofs.lemmas.Bool.Decides.{nat_tests}
+use Rattle.std.proofs.Math.Nat.{le-max_left, le-max_right}
 use Rattle.aarp.specs.Choosing.{Choice}
-use Rattle.at_base.specs.Grammar.{Grammar, one}
+use Rattle.aarp.specs.Mapping.{AddressesRise, FitsMapping as FitsKnown, Mappings}
+use Rattle.at_base.specs.Address.{address_number}
+use Rattle.at_base.specs.Grammar.{Grammar, Size, one, two}
 use Rattle.at_base.specs.Spelling.{IsValue, ListPasses, bytes_of, list_bytes}
 use Rattle.at_base.specs.Text.{IsName, is_name}
+use Rattle.at_base.specs.declared.address.Addr.{Addr}
+use Rattle.at_base.specs.declared.address.Hw.{Hw}
 use Rattle.end_node.specs.Holding.{NodeHolding}
 use Rattle.freeze.specs.Fits.{FitsCable, FitsList}
-use Rattle.freeze.specs.Freezing.{frozen_list, frozen_name, frozen_node, frozen_port, frozen_ports, frozen_router, frozen_row}
+use Rattle.freeze.specs.Freezing.{frozen_list, frozen_mapping, frozen_mappings, frozen_name, frozen_node, frozen_port, frozen_ports}
+use Rattle.freeze.specs.Freezing.{frozen_router, frozen_row}
+use Rattle.freeze.specs.Frozen.{is_long}
+use Rattle.freeze.specs.Valid.{HaveMappings, IsNotInV1}
 use Rattle.nbp.specs.Registered.{IsNamed, IsNames, are_above as names_above}
 use Rattle.nbp.specs.declared.names.Named.{Named}
 use Rattle.router.specs.Holding.{Holding}
 use Rattle.rtmp.specs.Routes.{IsRouteMap, are_above as rows_above, is_row}
 use Rattle.rtmp.specs.declared.row.Row.{Row}
-use Rattle.table_image.proofs.Checked.{FitsPort, FitsRow, counted_checks, entity_passes, name_length, port_passes, row_passes, text_value}
-use Rattle.table_image.proofs.CheckedParts.{FitsName, FitsNode, cable_checks, list_checks, name_kind, node_checks}
+use Rattle.table_image.proofs.Checked.{FitsMapping, FitsPort, FitsRow, counted_checks, entity_passes, mapping_passes, name_length}
+use Rattle.table_image.proofs.Checked.{row_passes, text_value}
+use Rattle.table_image.proofs.CheckedParts.{FitsName, FitsNode, cable_checks, list_checks, name_kind, node_checks, port_checks}
 use Rattle.table_image.proofs.CheckedParts.{router_checks}
 use Rattle.table_image.specs.Checking.{Checks}
+use Rattle.table_image.specs.Counts.{count_len}
 use Rattle.table_image.specs.Flaws.{Wrong}
-use Rattle.at_base.specs.Limits.{max_names, max_ports, max_rows, max_lists, max_zones}
-use Rattle.table_image.specs.Spelling.{cable_spelling, counted, name_spelling, node_spelling, own_router_spelling}
-use Rattle.table_image.specs.Spelling.{port_spelling, router_spelling}
+use Rattle.at_base.specs.Limits.{max_mappings, max_names, max_ports, max_rows, max_lists, max_zones}
+use Rattle.table_image.specs.Spelling.{cable_spelling, counted, mapping_spelling, mappings_spelling, name_spelling, node_spelling}
+use Rattle.table_image.specs.Spelling.{own_router_spelling, port_spelling, router_spelling}
 use Rattle.table_image.specs.Spelling.{row_spelling, zone_list_spelling, zone_spelling, zones_spelling}
+use Rattle.table_image.specs.Versions.{zone_limit}
 use Rattle.table_image.specs.declared.cable.Cable.{Cable}
+use Rattle.table_image.specs.declared.version.Version.{Version}
+use Rattle.table_image.specs.declared.version.Version.TheVariants.{V1, V2}
 use Rattle.zip_zones.proofs.Tables.{known_ends}
-use Rattle.zip_zones.specs.Zones.{IsZoneMap, Known, are_above as lists_above, are_distinct, is_known}
+use Rattle.zip_zones.specs.Zones.{IsZoneMap, Known, are_above as lists_above, are_distinct, is_known, most_names}
 use Rattle.at_base.specs.Range.{is_range}
 
 -- ---- Values, checked
@@ -40,11 +54,12 @@ checked : {A : Type 0} (g : Grammar Wrong true A) (y : A) (at : ℕ) → IsValue
 checked g y at h = (h, refl)
 
 -- Items that pass are a valid list with a count.
-pub counted_value : {B : Type 0} (limit : ℕ) (item : ℕ → Grammar Wrong true B) (next : B → ℕ) (xs : List B)
-    → length xs ≤ limit → limit < 256
-    → ListPasses (λ low. IsValue (item low)) next 0 xs → IsValue (counted one limit item next) xs
-counted_value limit item next xs few small h =
-    (counted_checks one limit item next xs 0 (Ok (1 + length (list_bytes (λ low. bytes_of (item low)) next 0 xs))) few small (h, refl)).0
+pub counted_value : {B : Type 0} (size : Size) (limit : ℕ) (item : ℕ → Grammar Wrong true B) (next : B → ℕ) (xs : List B)
+    → length xs ≤ limit → limit < 2 ^ (8 * count_len size)
+    → ListPasses (λ low. IsValue (item low)) next 0 xs → IsValue (counted size limit item next) xs
+counted_value size limit item next xs few small h =
+    (counted_checks size limit item next xs 0 (Ok (0 + count_len size + length (list_bytes (λ low. bytes_of (item low)) next 0 xs))) few small
+    (h, refl)).0
 
 -- ---- Zones
 
@@ -53,38 +68,75 @@ zones_pass low [] h = tt
 zones_pass low (z ∷ zs) h =
     let len = name_length z h.0 in (text_value is_name z h.0 len.0 len.1, zones_pass 0 zs h.1)
 
-pub zones_value : (zones : List (List ℕ)) → length zones ≤ max_zones → Each IsName zones → IsValue zones_spelling zones
+limit_fits : (v : Version) → zone_limit v < 2 ^ (8 * count_len one)
+limit_fits V1 = omega arith
+limit_fits V2 = omega arith
+
+pub zones_value : (v : Version) (zones : List (List ℕ)) → length zones ≤ zone_limit v → Each IsName zones
+    → IsValue (zones_spelling v) zones
 unfolding zones_spelling
-zones_value zones few h =
-    counted_value max_zones (λ low. zone_spelling) (λ name. 0) zones few (omega arith) (zones_pass 0 zones h)
+zones_value v zones few h =
+    counted_value one (zone_limit v) (λ low. zone_spelling) (λ name. 0) zones few (limit_fits v) (zones_pass 0 zones h)
 
 -- ---- Cables
 
-pub cable_value : (c : Cable) → length c.zones ≤ 64 → FitsCable c → IsValue cable_spelling c
-cable_value c few fits =
-    (cable_checks c 0 (Ok (ends zones_spelling c.zones (0 + 4))) fits.start fits.end
-    (checked zones_spelling c.zones (0 + 4) (zones_value c.zones few fits.zones))).0
+pub cable_value : (v : Version) (c : Cable) → length c.zones ≤ zone_limit v → FitsCable c → IsValue (cable_spelling v) c
+cable_value v c few fits =
+    (cable_checks v c 0 (Ok (ends (zones_spelling v) c.zones (0 + 4))) fits.start fits.end
+    (checked (zones_spelling v) c.zones (0 + 4) (zones_value v c.zones few fits.zones))).0
+
+-- ---- Mappings
+
+mappings_pass : (low : ℕ) (known : List (Addr × Hw)) → AddressesRise low known → Each FitsKnown known
+    → ListPasses (λ low. IsValue (mapping_spelling low)) (λ m. address_number m.address + 1) low (map frozen_mapping known)
+mappings_pass low [] rise fits = tt
+mappings_pass low (m ∷ ms) rise fits =
+    let fit : FitsMapping (frozen_mapping m) = record { net = fits.0.net; node = fits.0.node; hardware = fits.0.hardware } in (
+      (mapping_passes low (frozen_mapping m) 0 fit rise.0).0,
+      mappings_pass (address_number m.0 + 1) ms rise.1 fits.1,
+    )
+
+-- Rising mappings are valid mappings of an image of version 2.
+pub mappings_value : (known : List (Addr × Hw)) → length known ≤ max_mappings → AddressesRise 0 known → Each FitsKnown known
+    → IsValue (mappings_spelling V2) (map frozen_mapping known)
+unfolding mappings_spelling
+mappings_value known few rise fits =
+    counted_value two max_mappings mapping_spelling (λ m. address_number m.address + 1) (map frozen_mapping known)
+    (subst (λ n. n ≤ max_mappings) (sym (length-map known)) few) (omega arith) (mappings_pass 0 known rise fits)
+  where
+    length-map : (xs : List (Addr × Hw)) → length (map frozen_mapping xs) ≡ length xs
+    length-map [] = refl
+    length-map (x ∷ xs) = ap suc (length-map xs)
+
+-- No mappings are valid mappings of an image.
+pub no_mappings_value : (v : Version) → IsValue (mappings_spelling v) []
+unfolding mappings_spelling
+no_mappings_value V1 = refl
+no_mappings_value V2 = counted_value two max_mappings mapping_spelling (λ m. address_number m.address + 1) [] (omega arith) (omega arith) tt
 
 -- ---- Ports
 
-ports_pass : (count low : ℕ) (cables : List ℕ) (choices : List Choice) → IsTrue (list_all (λ c. nat_lt c count) cables)
-    → Each FitsPort (frozen_ports cables choices)
-    → ListPasses (λ low. IsValue (port_spelling count)) (λ p. 0) low (frozen_ports cables choices)
-ports_pass count low [] choices below fits = tt
-ports_pass count low (c ∷ cs) [] below fits = tt
-ports_pass count low (c ∷ cs) (x ∷ xs) below fits =
-    let parts = and_parts (nat_lt c count) (list_all (λ c. nat_lt c count) cs) below in (
-      (port_passes count (frozen_port c x) 0 fits.0 (ltb-true c count parts.0)).0,
-      ports_pass count 0 cs xs parts.1 fits.1,
+ports_pass : (v : Version) (count low : ℕ) (cables : List ℕ) (choices : List Choice) (seats : List Mappings)
+    → IsTrue (list_all (λ c. nat_lt c count) cables) → Each FitsPort (frozen_ports v cables choices seats)
+    → HaveMappings v (frozen_ports v cables choices seats)
+    → ListPasses (λ low. IsValue (port_spelling v count)) (λ p. 0) low (frozen_ports v cables choices seats)
+ports_pass v count low [] choices seats below fits known = tt
+ports_pass v count low (c ∷ cs) [] seats below fits known = tt
+ports_pass v count low (c ∷ cs) (x ∷ xs) seats below fits known =
+    let parts = and_parts (nat_lt c count) (list_all (λ c. nat_lt c count) cs) below in
+    let port = frozen_port v c x (slice_get seats 0) in (
+      (port_checks v count port 0 (Ok (ends (mappings_spelling v) port.mappings (0 + 10))) fits.0 (ltb-true c count parts.0)
+          (checked (mappings_spelling v) port.mappings (0 + 10) known.0)).0,
+      ports_pass v count 0 cs xs (drop 1 seats) parts.1 fits.1 known.1,
     )
 
 -- There are as many ports as cables, if each port has a cable.
-ports_length : (cables : List ℕ) (choices : List Choice) → length cables ≡ length choices
-    → length (frozen_ports cables choices) ≡ length choices
-ports_length [] [] e = refl
-ports_length [] (x ∷ xs) e = absurd cc
-ports_length (c ∷ cs) [] e = refl
-ports_length (c ∷ cs) (x ∷ xs) e = ap suc (ports_length cs xs cc)
+ports_length : (v : Version) (cables : List ℕ) (choices : List Choice) (seats : List Mappings) → length cables ≡ length choices
+    → length (frozen_ports v cables choices seats) ≡ length choices
+ports_length v [] [] seats e = refl
+ports_length v [] (x ∷ xs) seats e = absurd cc
+ports_length v (c ∷ cs) [] seats e = refl
+ports_length v (c ∷ cs) (x ∷ xs) seats e = ap suc (ports_length v cs xs (drop 1 seats) cc)
 
 -- ---- Rows
 
@@ -111,55 +163,76 @@ rows_pass ports low above (r ∷ rs) le rise each there fits =
 
 -- ---- Zone lists
 
-few_names : (k : Known) → is_known k ≡ true → length k.names ≤ 64
+few_names : (k : Known) → is_known k ≡ true → length k.names ≤ max_zones
 few_names k h =
-    let a = and_parts (is_range k.range.start k.range.end && nat_le k.total 64 && nat_le (length k.names) k.total)
+    let a = and_parts (is_range k.range.start k.range.end && nat_le k.total max_zones && nat_le (length k.names) k.total)
     (are_distinct k.names) h in
-    let b = and_parts (is_range k.range.start k.range.end && nat_le k.total 64) (nat_le (length k.names) k.total) a.0 in
-    let c = and_parts (is_range k.range.start k.range.end) (nat_le k.total 64) b.0 in
-    let total = leb-true k.total 64 c.1 in
+    let b = and_parts (is_range k.range.start k.range.end && nat_le k.total max_zones) (nat_le (length k.names) k.total) a.0 in
+    let c = and_parts (is_range k.range.start k.range.end) (nat_le k.total max_zones) b.0 in
+    let total = leb-true k.total max_zones c.1 in
     let names = leb-true (length k.names) k.total b.1 in
     omega (arith, total, names)
 
-lists_pass : (low above : ℕ) (lists : List Known) → low ≤ above + 1 → lists_above above lists ≡ true → list_all is_known lists ≡ true
-    → Each FitsList (map frozen_list lists)
-    → ListPasses (λ low. IsValue (zone_list_spelling low)) (λ l. l.start + 1) low (map frozen_list lists)
-lists_pass low above [] le rise each fits = tt
-lists_pass low above (k ∷ ks) le rise each fits =
+at_most : (a b : ℕ) → nat_lt a b ≡ false → b ≤ a
+at_most a b not_less = grind (arith, nat_tests)
+
+-- Each list has at most as many names as the longest.
+short_by : (most : ℕ) (lists : List Known) → most_names lists ≤ most → Each (λ k. length k.names ≤ most) lists
+short_by most [] few = tt
+short_by most (k ∷ ks) few =
+    let first = le-max_left (length k.names) (most_names ks) in
+    let others = le-max_right (length k.names) (most_names ks) in
+    (omega (arith, few, first), short_by most ks (omega (arith, few, others)))
+
+-- The lists of a table have at most as many names as an image of the version allows.
+short_lists : (v : Version) (lists : List Known) → list_all is_known lists ≡ true → IsNotInV1 v (is_long (most_names lists))
+    → Each (λ k. length k.names ≤ zone_limit v) lists
+short_lists V1 lists each short = short_by (zone_limit V1) lists (at_most (zone_limit V1) (most_names lists) short)
+short_lists V2 [] each short = tt
+short_lists V2 (k ∷ ks) each short =
+    let good = and_parts (is_known k) (list_all is_known ks) each in
+    (few_names k good.0, short_lists V2 ks good.1 tt)
+
+lists_pass : (v : Version) (low above : ℕ) (lists : List Known) → low ≤ above + 1 → lists_above above lists ≡ true
+    → list_all is_known lists ≡ true → Each (λ k. length k.names ≤ zone_limit v) lists → Each FitsList (map frozen_list lists)
+    → ListPasses (λ low. IsValue (zone_list_spelling v low)) (λ l. l.start + 1) low (map frozen_list lists)
+lists_pass v low above [] le rise each few fits = tt
+lists_pass v low above (k ∷ ks) le rise each few fits =
     let order = and_parts (nat_lt above k.range.start) (lists_above k.range.end ks) rise in
     let first = ltb-true above k.range.start order.0 in
     let good = and_parts (is_known k) (list_all is_known ks) each in
     let bounds = known_ends k good.0 in
-    let zones = zones_value k.names (few_names k good.0) fits.0.zones in (
-      (list_checks low (frozen_list k) 0 (Ok (ends zones_spelling k.names (0 + 5))) fits.0.start fits.0.end (omega (arith, le, first))
-          (checked zones_spelling k.names (0 + 5) zones)).0,
-      lists_pass (k.range.start + 1) k.range.end ks (omega (arith, bounds.1)) order.1 good.1 fits.1,
+    let zones = zones_value v k.names few.0 fits.0.zones in (
+      (list_checks v low (frozen_list k) 0 (Ok (ends (zones_spelling v) k.names (0 + 5))) fits.0.start fits.0.end (omega (arith, le, first))
+          (checked (zones_spelling v) k.names (0 + 5) zones)).0,
+      lists_pass v (k.range.start + 1) k.range.end ks (omega (arith, bounds.1)) order.1 good.1 few.1 fits.1,
     )
 
 -- ---- Routers
 
 -- A router's contents are a valid router of an image, if its ports are on cables that exist.
-pub router_value : (count : ℕ) (cables : List ℕ) (h : Holding) → length h.ports ≤ 16
+pub router_value : (v : Version) (count : ℕ) (cables : List ℕ) (h : Holding) (seats : List Mappings) → length h.ports ≤ 16
     → IsTrue (list_all (λ r. nat_lt r.port (length h.ports)) h.routes) → IsRouteMap h.routes → IsZoneMap h.zones
-    → Each FitsPort (frozen_ports cables h.ports) → Each FitsRow (map frozen_row h.routes) → Each FitsList (map frozen_list h.zones)
-    → IsTrue (list_all (λ c. nat_lt c count) cables) → length cables ≡ length h.ports
-    → IsValue (router_spelling count) (frozen_router cables h)
-router_value count cables h few seated routes zones fits_ports fits_rows fits_lists below same =
-    let many = ports_length cables h.ports same in
-    let x = frozen_router cables h in
+    → IsNotInV1 v (is_long (most_names h.zones)) → Each FitsPort (frozen_ports v cables h.ports seats)
+    → HaveMappings v (frozen_ports v cables h.ports seats) → Each FitsRow (map frozen_row h.routes)
+    → Each FitsList (map frozen_list h.zones) → IsTrue (list_all (λ c. nat_lt c count) cables) → length cables ≡ length h.ports
+    → IsValue (router_spelling v count) (frozen_router v cables h seats)
+router_value v count cables h seats few seated routes zones short fits_ports known fits_rows fits_lists below same =
+    let many = ports_length v cables h.ports seats same in
+    let x = frozen_router v cables h seats in
     let there = subst (λ n. IsTrue (list_all (λ r. nat_lt r.port n) h.routes)) (sym many) seated in
-    let ports = counted_value max_ports (λ low. port_spelling count) (λ p. 0) x.ports (subst (λ n. n ≤ 16) (sym many) few) (omega arith)
-    (ports_pass count 0 cables h.ports below fits_ports) in
-    let rows = counted_value max_rows (row_spelling (length x.ports)) (λ r. r.start + 1) x.rows
+    let ports = counted_value one max_ports (λ low. port_spelling v count) (λ p. 0) x.ports (subst (λ n. n ≤ 16) (sym many) few) (omega arith)
+    (ports_pass v count 0 cables h.ports seats below fits_ports known) in
+    let rows = counted_value one max_rows (row_spelling (length x.ports)) (λ r. r.start + 1) x.rows
     (subst (λ n. n ≤ 200) (sym (length-map frozen_row h.routes)) routes.few) (omega arith)
     (rows_pass (length x.ports) 0 0 h.routes (omega arith) routes.apart routes.each there fits_rows) in
-    let lists = counted_value max_lists zone_list_spelling (λ l. l.start + 1) x.lists
+    let lists = counted_value one max_lists (zone_list_spelling v) (λ l. l.start + 1) x.lists
     (subst (λ n. n ≤ 200) (sym (length-map frozen_list h.zones)) zones.few) (omega arith)
-    (lists_pass 0 0 h.zones (omega arith) zones.apart zones.each fits_lists) in
-    let a = ends (counted one max_ports (λ low. port_spelling count) (λ p. 0)) x.ports 0 in
+    (lists_pass v 0 0 h.zones (omega arith) zones.apart zones.each (short_lists v h.zones zones.each short) fits_lists) in
+    let a = ends (counted one max_ports (λ low. port_spelling v count) (λ p. 0)) x.ports 0 in
     let b = ends (counted one max_rows (row_spelling (length x.ports)) (λ r. r.start + 1)) x.rows a in
-    let c = ends (counted one max_lists zone_list_spelling (λ l. l.start + 1)) x.lists b in
-    (router_checks count x 0 a b (Ok c) (ports, refl) (rows, refl) (lists, refl)).0
+    let c = ends (counted one max_lists (zone_list_spelling v) (λ l. l.start + 1)) x.lists b in
+    (router_checks v count x 0 a b (Ok c) (ports, refl) (rows, refl) (lists, refl)).0
   where
     length-map : {X Y : Type 0} (f : X → Y) (xs : List X) → length (map f xs) ≡ length xs
     length-map f [] = refl
@@ -194,19 +267,22 @@ names_pass low above (n ∷ ns) le rise each small =
     )
 
 -- A node's contents are a valid node of an image, if its port is on a cable that exists.
-pub node_value : (count cable : ℕ) (h : NodeHolding) → cable < count → FitsNode (frozen_node cable h) → IsName h.zone
-    → IsValue own_router_spelling h.router → IsNames h.names → Each FitsName (map frozen_name h.names)
-    → IsValue (node_spelling count) (frozen_node cable h)
-node_value count cable h there fits zone router names small =
-    let x = frozen_node cable h in
+pub node_value : (v : Version) (count cable : ℕ) (h : NodeHolding) (seat : Option Mappings) → cable < count
+    → FitsNode (frozen_node v cable h seat) → IsName h.zone → IsValue own_router_spelling h.router → IsNames h.names
+    → Each FitsName (map frozen_name h.names) → IsValue (mappings_spelling v) (frozen_mappings v seat)
+    → IsValue (node_spelling v count) (frozen_node v cable h seat)
+node_value v count cable h seat there fits zone router names small known =
+    let x = frozen_node v cable h seat in
     let len = name_length h.zone zone in
-    let named = counted_value max_names name_spelling (λ n. n.enumerator + 1) x.names
+    let named = counted_value one max_names name_spelling (λ n. n.enumerator + 1) x.names
     (subst (λ n. n ≤ 32) (sym (length-map h.names)) names.few) (omega arith)
     (names_pass 0 0 h.names (omega arith) names.rising names.each small) in
     let a = ends zone_spelling x.zone (0 + 10) in
     let b = ends own_router_spelling x.router a in
     let c = ends (counted one max_names name_spelling (λ n. n.enumerator + 1)) x.names b in
-    (node_checks count x 0 a b (Ok c) fits there (text_value is_name h.zone zone len.0 len.1, refl) (router, refl) (named, refl)).0
+    let d = ends (mappings_spelling v) x.mappings c in
+    (node_checks v count x 0 a b c (Ok d) fits there (text_value is_name h.zone zone len.0 len.1, refl) (router, refl) (named, refl)
+    (known, refl)).0
   where
     length-map : (xs : List Named) → length (map frozen_name xs) ≡ length xs
     length-map [] = refl

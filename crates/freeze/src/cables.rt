@@ -4,7 +4,8 @@ ghost use Rattle.std.specs.Prelude.{◌≡◌, ◌≤◌, length, IfOk, IsOkUnle
 ghost use Rattle.at_base.specs.Spelling.{IsValue};
 ghost use Rattle.freeze.specs.Freezing.{frozen_cable};
 ghost use Rattle.table_image.specs.Spelling.{cable_spelling};
-ghost use Rattle.at_base.specs.Limits.{max_zones};
+ghost use Rattle.table_image.specs.Versions.{zone_limit};
+ghost use Rattle.table_image.specs.declared.version.Version.{Version};
 
 use crate::fits::fit_cable;
 use at_base::{Error, Name, Range};
@@ -15,8 +16,9 @@ use table_image::{Cable, Listed};
 /// `Memory`.
 pub fn freeze_cable(alloc: Global, range: Range, zones: &[Name]) -> Result<Cable, Error>
     ensures ok { IfOk result (λ frozen. frozen ≡ frozen_cable range zones.now) }
-    // With at most 64 zones it is a valid cable of an image.
-    ensures valid { length zones.now ≤ max_zones → IfOk result (λ frozen. IsValue cable_spelling frozen) }
+    // With at most as many zones as an image of a version allows, it is a valid cable of one.
+    ensures valid { (v : Version) → length zones.now ≤ zone_limit v
+        → IfOk result (λ frozen. IsValue (cable_spelling v) frozen) }
     ensures refused { IsOkUnless result Error.Memory }
 {
     let frozen = Cable {

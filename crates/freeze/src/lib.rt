@@ -4,11 +4,15 @@
 
 mod cables;
 mod fits;
+mod image;
+mod mappings;
+mod needs;
 mod nodes;
 mod routers;
 mod tables;
 
 pub use cables::freeze_cable;
+pub use image::image_of;
+pub use needs::needs_version_2;
 pub use nodes::freeze_node;
 pub use routers::freeze_router;
-pub use tables::image_of;

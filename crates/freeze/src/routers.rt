@@ -1,20 +1,26 @@
 //! The routers of an image.
 
-ghost use Rattle.std.specs.Prelude.{◌≡◌, ◌++◌, ℕ, length, map, nat_lt, option_to_list, slice_get};
-ghost use Rattle.std.specs.Prelude.{IfOk, IsOkUnless, IsTrue, OnOk};
+ghost use Rattle.std.specs.Prelude.{◌≡◌, ◌≤◌, ◌++◌, ℕ, length, map, nat_lt, option_copied};
+ghost use Rattle.std.specs.Prelude.{option_to_list, slice_get};
+ghost use Rattle.std.specs.Prelude.{IfOk, IfSome, IsOkUnless, IsTrue, OnOk};
 ghost use Rattle.std.specs.List.{list_all};
+ghost use Rattle.at_base.specs.Limits.{max_mappings};
 ghost use Rattle.at_base.specs.Spelling.{IsValue};
-ghost use Rattle.freeze.specs.Freezing.{address_of, frozen_list, frozen_ports};
+ghost use Rattle.freeze.specs.Freezing.{address_of, frozen_list, frozen_port, frozen_ports};
 ghost use Rattle.freeze.specs.Freezing.{frozen_router, frozen_row};
-ghost use Rattle.table_image.specs.Spelling.{router_spelling};
+ghost use Rattle.freeze.specs.Frozen.{is_long};
+ghost use Rattle.freeze.specs.Valid.{AreFew, HaveMappings, IsNotInV1};
+ghost use Rattle.table_image.specs.Spelling.{mappings_spelling, router_spelling};
+ghost use Rattle.zip_zones.specs.Zones.{most_names};
 
 use crate::fits::fit_router;
-use aarp::Chooser;
+use crate::mappings::{after, first_of, mappings_of};
+use aarp::{Chooser, Mapper};
 use at_base::{Addr, Error};
 use router::Router;
 use rtmp::RouteTable;
 use std::alloc::Global;
-use table_image::{Listed, Port, Row, ZoneList};
+use table_image::{Listed, Port, Row, Version, ZoneList};
 use zip_zones::ZoneTable;
 
 /// The address of a port, and 0.0 if it isn't settled.
@@ -27,10 +33,41 @@ pub(crate) fn address(port: &Chooser) -> Addr
     }
 }
 
-/// Appends the ports, which are on these cables.
-fn put_ports(ports: &mut Vec<Port>, cables: &[u8], choices: &[Chooser]) -> Result<(), Error>
-    ensures put { OnOk result
-        (ports.new.items ≡ ports.old.items ++ frozen_ports cables.now choices.now) }
+/// The image's entry for a port on a cable.
+fn port_of(
+    alloc: Global,
+    version: Version,
+    cable: u8,
+    choice: &Chooser,
+    mapper: Option<&Mapper>,
+) -> Result<Port, Error>
+    ensures ok { IfOk result
+        (λ port. port ≡ frozen_port version cable choice.now (option_copied mapper.entry)) }
+    ensures known { IfSome (option_copied mapper.entry) (λ m. length m.known ≤ max_mappings)
+        → IfOk result (λ port. IsValue (mappings_spelling version) port.mappings) }
+    ensures refused { IsOkUnless result Error.Memory }
+{
+    let mappings = mappings_of(alloc, version, mapper)?;
+    Ok(Port {
+        cable,
+        address: address(choice),
+        hardware: choice.hw(),
+        mappings,
+    })
+}
+
+/// Appends the ports, which are on these cables, with the mappings of their seats' mappers.
+fn put_ports(
+    ports: &mut Vec<Port>,
+    version: Version,
+    cables: &[u8],
+    choices: &[Chooser],
+    mappers: &[Mapper],
+) -> Result<(), Error>
+    ensures put { OnOk result (ports.new.items
+        ≡ ports.old.items ++ frozen_ports version cables.now choices.now mappers.now) }
+    ensures known { OnOk result (AreFew mappers.now
+        → HaveMappings version ports.old.items → HaveMappings version ports.new.items) }
     ensures refused { IsOkUnless result Error.Memory }
 {
     match cables {
@@ -38,12 +75,10 @@ fn put_ports(ports: &mut Vec<Port>, cables: &[u8], choices: &[Chooser]) -> Resul
         [cable, cables @ ..] => match choices {
             [] => Ok(()),
             [choice, choices @ ..] => {
-                ports.push(Port {
-                    cable: *cable,
-                    address: address(choice),
-                    hardware: choice.hw(),
-                })?;
-                put_ports(ports, cables, choices)
+                let alloc = *ports.allocator();
+                let port = port_of(alloc, version, *cable, choice, first_of(mappers))?;
+                ports.push(port)?;
+                put_ports(ports, version, cables, choices, after(mappers, 1))
             }
         },
     }
@@ -116,14 +151,19 @@ fn lists_of(alloc: Global, zones: &ZoneTable) -> Result<Vec<ZoneList>, Error>
 /// The image's entry for a router.
 fn router_of<T: RouteTable>(
     alloc: Global,
+    version: Version,
     router: &Router<T>,
     cables: &[u8],
+    mappers: &[Mapper],
 ) -> Result<table_image::Router, Error>
-    ensures ok { IfOk result (λ frozen. frozen ≡ frozen_router cables.now router.now) }
+    ensures ok { IfOk result
+        (λ frozen. frozen ≡ frozen_router version cables.now router.now mappers.now) }
+    ensures known { AreFew mappers.now
+        → IfOk result (λ frozen. HaveMappings version frozen.ports) }
     ensures refused { IsOkUnless result Error.Memory }
 {
     let mut ports = Vec::with_capacity(alloc, cables.len())?;
-    put_ports(&mut ports, cables, router.ports_now())?;
+    put_ports(&mut ports, version, cables, router.ports_now(), mappers)?;
     let rows = rows_of(alloc, router.routes())?;
     let lists = lists_of(alloc, router.zones())?;
     Ok(table_image::Router {
@@ -135,20 +175,28 @@ fn router_of<T: RouteTable>(
 
 /// The image's entry for a router whose ports are on the cables with these indexes from 0: its
 /// ports with their addresses (0.0 for one that isn't settled), its rows and its zone lists,
-/// unchanged. Error: `Memory`.
+/// unchanged; in version 2 each port also has the mappings that its seat's mapper knows, by rising
+/// address. The mappers are those of the ports' seats, in order. Error: `Memory`.
 pub fn freeze_router<T: RouteTable>(
     alloc: Global,
+    version: Version,
     router: &Router<T>,
     cables: &[u8],
+    mappers: &[Mapper],
 ) -> Result<table_image::Router, Error>
-    ensures ok { IfOk result (λ frozen. frozen ≡ frozen_router cables.now router.now) }
-    // If each port has one of `count` cables, it is a valid router of an image with `count` cables.
+    ensures ok { IfOk result
+        (λ frozen. frozen ≡ frozen_router version cables.now router.now mappers.now) }
+    // If each port has one of `count` cables, each mapper knows at most 512 mappings, and in
+    // version 1 no list has more than 64 names, it is a valid router of an image of this version
+    // with `count` cables.
     ensures valid { (count : ℕ) → IsTrue (list_all (λ c. nat_lt c count) cables.now)
         → length cables.now ≡ length router.now.ports
-        → IfOk result (λ frozen. IsValue (router_spelling count) frozen) }
+        → IsNotInV1 version (is_long (most_names router.now.zones))
+        → AreFew mappers.now
+        → IfOk result (λ frozen. IsValue (router_spelling version count) frozen) }
     ensures refused { IsOkUnless result Error.Memory }
 {
-    let frozen = router_of(alloc, router, cables)?;
+    let frozen = router_of(alloc, version, router, cables, mappers)?;
     // Only the prover needs these reads: the tables are valid, and their numbers fit.
     let _ports = router.ports_now();
     let _rows = router.routes().len();

@@ -1,37 +1,42 @@
-//! The image of the contents of a plan's stations.
+//! The cables, routers and nodes of an image, for those of a plan.
 
-ghost use Rattle.std.specs.Prelude.{◌≡◌, ◌∷◌, ◌++◌, ◌-◌, ℕ, [], drop, length, map};
+ghost use Rattle.std.specs.Prelude.{◌≡◌, ◌∷◌, ◌++◌, ◌-◌, ℕ, [], length, map};
 ghost use Rattle.std.specs.Prelude.{IfOk, IsOkUnless, IsTrue, OnOk};
-ghost use Rattle.std.specs.List.{AllByRecursion as Each, list_all};
+ghost use Rattle.std.specs.List.{AllByRecursion as Each, list_all, list_any};
 ghost use Rattle.at_base.specs.Spelling.{IsValue};
 ghost use Rattle.freeze.specs.Frozen as spec;
-ghost use Rattle.freeze.specs.Frozen.{frozen_in, frozen_nodes, frozen_of, frozen_routers};
-ghost use Rattle.freeze.specs.Valid.{AreNodes, AreRouters, HavePorts, is_node_on, is_on};
-ghost use Rattle.internet_file.specs.Sound.{IsSound, is_cable};
+ghost use Rattle.freeze.specs.Frozen.{frozen_nodes, frozen_of, frozen_routers};
+ghost use Rattle.freeze.specs.Frozen.{has_long_list, is_long};
+ghost use Rattle.freeze.specs.Valid.{AreFew, AreNodes, AreRouters, HavePorts, IsNotInV1};
+ghost use Rattle.freeze.specs.Valid.{is_node_on, is_on};
+ghost use Rattle.internet_file.specs.Sound.{is_cable};
 ghost use Rattle.planned_stations.specs.Planning.{is_low_node, is_low_port, is_low_router};
-ghost use Rattle.planned_stations.specs.Planning.{planned_ports, ports_of};
+ghost use Rattle.planned_stations.specs.Planning.{ports_of};
 ghost use Rattle.table_image.specs.Spelling.{cable_spelling};
+ghost use Rattle.table_image.specs.declared.version.Version.{Version as VersionValue};
 
 use crate::cables::freeze_cable;
+use crate::mappings::{after, first_of};
 use crate::nodes::freeze_node;
 use crate::routers::freeze_router;
+use aarp::Mapper;
 use at_base::Error;
-use internet_file::{Cable, Node, Plan, Port, Router};
+use internet_file::{Cable, Node, Port, Router};
 use live_node::LiveNode;
 use live_router::LiveRouter;
-use planned_stations::{nodes_in, routers_in};
 use rtmp::RouteTable;
 use station::Member;
 use std::alloc::Global;
-use table_image::Image;
+use table_image::Version;
 
 /// Appends cables, as in the plan.
 fn put_cables(frozen: &mut Vec<table_image::Cable>, cables: &[Cable]) -> Result<(), Error>
     ensures put { OnOk result
         (frozen.new.items ≡ frozen.old.items ++ map frozen_of cables.now) }
-    ensures valid { OnOk result (IsTrue (list_all is_cable cables.now)
-        → Each (λ c. IsValue cable_spelling c) frozen.old.items
-        → Each (λ c. IsValue cable_spelling c) frozen.new.items) }
+    ensures valid { OnOk result ((v : VersionValue) → IsTrue (list_all is_cable cables.now)
+        → IsNotInV1 v (list_any (λ c. is_long (length c.zones)) cables.now)
+        → Each (λ c. IsValue (cable_spelling v) c) frozen.old.items
+        → Each (λ c. IsValue (cable_spelling v) c) frozen.new.items) }
     ensures refused { IsOkUnless result Error.Memory }
 {
     match cables {
@@ -45,10 +50,11 @@ fn put_cables(frozen: &mut Vec<table_image::Cable>, cables: &[Cable]) -> Result<
 }
 
 /// The cables of a plan. Error: `Memory`.
-fn cables_of(alloc: Global, cables: &[Cable]) -> Result<Vec<table_image::Cable>, Error>
+pub(crate) fn cables_of(alloc: Global, cables: &[Cable]) -> Result<Vec<table_image::Cable>, Error>
     ensures ok { IfOk result (λ frozen. frozen.items ≡ map frozen_of cables.now) }
-    ensures valid { IsTrue (list_all is_cable cables.now) → IfOk result (λ frozen.
-        Each (λ c. IsValue cable_spelling c) frozen.items) }
+    ensures valid { (v : VersionValue) → IsTrue (list_all is_cable cables.now)
+        → IsNotInV1 v (list_any (λ c. is_long (length c.zones)) cables.now)
+        → IfOk result (λ frozen. Each (λ c. IsValue (cable_spelling v) c) frozen.items) }
     ensures refused { IsOkUnless result Error.Memory }
 {
     let mut frozen = Vec::with_capacity(alloc, cables.len())?;
@@ -83,25 +89,31 @@ fn indexes_of(alloc: Global, router: &Router) -> Result<Vec<u8>, Error>
     Ok(indexes)
 }
 
-/// Appends the router of a station, if it is a router, on the cables of the plan.
+/// Appends the router of a station, if it is a router, on the cables of the plan, with the mappers
+/// of its seats.
 fn put_router<T: RouteTable>(
     frozen: &mut Vec<table_image::Router>,
+    version: Version,
     planned: &Router,
     station: &Member<LiveRouter<T>, LiveNode>,
+    mappers: &[Mapper],
 ) -> Result<(), Error>
     requires { IsTrue (is_low_router planned.now) }
-    ensures put { OnOk result (frozen.new.items
-        ≡ frozen.old.items ++ frozen_routers (planned.now ∷ []) (station.now ∷ [])) }
+    ensures put { OnOk result (frozen.new.items ≡ frozen.old.items
+        ++ frozen_routers version (planned.now ∷ []) (station.now ∷ []) mappers.now) }
     ensures valid { OnOk result ((count : ℕ) → IsTrue (is_on count planned.now)
         → ports_of station.now ≡ length planned.now.port
-        → AreRouters count frozen.old.items → AreRouters count frozen.new.items) }
+        → IsNotInV1 version (has_long_list station.now) → AreFew mappers.now
+        → AreRouters version count frozen.old.items
+        → AreRouters version count frozen.new.items) }
     ensures refused { IsOkUnless result Error.Memory }
 {
     match station {
         Member::Router(router) => {
             let alloc = *frozen.allocator();
             let cables = indexes_of(alloc, planned)?;
-            let router = freeze_router(alloc, router.router(), cables.as_slice())?;
+            let cables = cables.as_slice();
+            let router = freeze_router(alloc, version, router.router(), cables, mappers)?;
             frozen.push(router)?;
             Ok(())
         }
@@ -109,18 +121,23 @@ fn put_router<T: RouteTable>(
     }
 }
 
-/// Appends the routers among stations. The n-th planned router has the cables of the n-th station.
+/// Appends the routers among stations. The n-th planned router has the cables of the n-th station,
+/// and each of its ports has one of the seats, in order.
 fn put_routers<T: RouteTable>(
     frozen: &mut Vec<table_image::Router>,
+    version: Version,
     planned: &[Router],
     stations: &[Member<LiveRouter<T>, LiveNode>],
+    mappers: &[Mapper],
 ) -> Result<(), Error>
     requires { IsTrue (list_all is_low_router planned.now) }
-    ensures put { OnOk result (frozen.new.items
-        ≡ frozen.old.items ++ frozen_routers planned.now stations.now) }
+    ensures put { OnOk result (frozen.new.items ≡ frozen.old.items
+        ++ frozen_routers version planned.now stations.now mappers.now) }
     ensures valid { OnOk result ((count : ℕ) → IsTrue (list_all (is_on count) planned.now)
         → HavePorts planned.now stations.now
-        → AreRouters count frozen.old.items → AreRouters count frozen.new.items) }
+        → IsNotInV1 version (list_any has_long_list stations.now) → AreFew mappers.now
+        → AreRouters version count frozen.old.items
+        → AreRouters version count frozen.new.items) }
     ensures refused { IsOkUnless result Error.Memory }
 {
     match planned {
@@ -128,48 +145,58 @@ fn put_routers<T: RouteTable>(
         [router, rest @ ..] => match stations {
             [] => Ok(()),
             [station, others @ ..] => {
-                put_router(frozen, router, station)?;
-                put_routers(frozen, rest, others)
+                put_router(frozen, version, router, station, mappers)?;
+                let mappers = after(mappers, router.port.len());
+                put_routers(frozen, version, rest, others, mappers)
             }
         },
     }
 }
 
 /// The routers among stations. Error: `Memory`.
-fn routers_of<T: RouteTable>(
+pub(crate) fn routers_of<T: RouteTable>(
     alloc: Global,
+    version: Version,
     planned: &[Router],
     stations: &[Member<LiveRouter<T>, LiveNode>],
+    mappers: &[Mapper],
 ) -> Result<Vec<table_image::Router>, Error>
     requires { IsTrue (list_all is_low_router planned.now) }
-    ensures ok { IfOk result (λ frozen. frozen.items ≡ frozen_routers planned.now stations.now) }
+    ensures ok { IfOk result (λ frozen. frozen.items
+        ≡ frozen_routers version planned.now stations.now mappers.now) }
     ensures valid { (count : ℕ) → IsTrue (list_all (is_on count) planned.now)
         → HavePorts planned.now stations.now
-        → IfOk result (λ frozen. AreRouters count frozen.items) }
+        → IsNotInV1 version (list_any has_long_list stations.now) → AreFew mappers.now
+        → IfOk result (λ frozen. AreRouters version count frozen.items) }
     ensures refused { IsOkUnless result Error.Memory }
 {
     let mut frozen = Vec::with_capacity(alloc, planned.len())?;
-    put_routers(&mut frozen, planned, stations)?;
+    put_routers(&mut frozen, version, planned, stations, mappers)?;
     Ok(frozen)
 }
 
-/// Appends the node of a station, if it is a node, on the cable of the plan.
+/// Appends the node of a station, if it is a node, on the cable of the plan, with the mapper of the
+/// first seat.
 fn put_node<T: RouteTable>(
     frozen: &mut Vec<table_image::Node>,
+    version: Version,
     planned: &Node,
     station: &Member<LiveRouter<T>, LiveNode>,
+    mappers: &[Mapper],
 ) -> Result<(), Error>
     requires { IsTrue (is_low_node planned.now) }
-    ensures put { OnOk result (frozen.new.items
-        ≡ frozen.old.items ++ frozen_nodes (planned.now ∷ []) (station.now ∷ [])) }
+    ensures put { OnOk result (frozen.new.items ≡ frozen.old.items
+        ++ frozen_nodes version (planned.now ∷ []) (station.now ∷ []) mappers.now) }
     ensures valid { OnOk result ((count : ℕ) → IsTrue (is_node_on count planned.now)
-        → AreNodes count frozen.old.items → AreNodes count frozen.new.items) }
+        → AreFew mappers.now
+        → AreNodes version count frozen.old.items → AreNodes version count frozen.new.items) }
     ensures refused { IsOkUnless result Error.Memory }
 {
     match station {
         Member::Node(node) => {
             let cable = planned.cable.saturating_sub(1) as u8;
-            let node = freeze_node(*frozen.allocator(), node.node(), cable)?;
+            let alloc = *frozen.allocator();
+            let node = freeze_node(alloc, version, node.node(), cable, first_of(mappers))?;
             frozen.push(node)?;
             Ok(())
         }
@@ -177,17 +204,21 @@ fn put_node<T: RouteTable>(
     }
 }
 
-/// Appends the nodes among stations. The n-th planned node has the cable of the n-th station.
+/// Appends the nodes among stations. The n-th planned node has the cable of the n-th station, and
+/// the n-th of the seats.
 fn put_nodes<T: RouteTable>(
     frozen: &mut Vec<table_image::Node>,
+    version: Version,
     planned: &[Node],
     stations: &[Member<LiveRouter<T>, LiveNode>],
+    mappers: &[Mapper],
 ) -> Result<(), Error>
     requires { IsTrue (list_all is_low_node planned.now) }
-    ensures put { OnOk result (frozen.new.items
-        ≡ frozen.old.items ++ frozen_nodes planned.now stations.now) }
+    ensures put { OnOk result (frozen.new.items ≡ frozen.old.items
+        ++ frozen_nodes version planned.now stations.now mappers.now) }
     ensures valid { OnOk result ((count : ℕ) → IsTrue (list_all (is_node_on count) planned.now)
-        → AreNodes count frozen.old.items → AreNodes count frozen.new.items) }
+        → AreFew mappers.now
+        → AreNodes version count frozen.old.items → AreNodes version count frozen.new.items) }
     ensures refused { IsOkUnless result Error.Memory }
 {
     match planned {
@@ -195,104 +226,29 @@ fn put_nodes<T: RouteTable>(
         [node, rest @ ..] => match stations {
             [] => Ok(()),
             [station, others @ ..] => {
-                put_node(frozen, node, station)?;
-                put_nodes(frozen, rest, others)
+                put_node(frozen, version, node, station, mappers)?;
+                put_nodes(frozen, version, rest, others, after(mappers, 1))
             }
         },
     }
 }
 
 /// The nodes among stations. Error: `Memory`.
-fn nodes_of<T: RouteTable>(
+pub(crate) fn nodes_of<T: RouteTable>(
     alloc: Global,
+    version: Version,
     planned: &[Node],
     stations: &[Member<LiveRouter<T>, LiveNode>],
+    mappers: &[Mapper],
 ) -> Result<Vec<table_image::Node>, Error>
     requires { IsTrue (list_all is_low_node planned.now) }
-    ensures ok { IfOk result (λ frozen. frozen.items ≡ frozen_nodes planned.now stations.now) }
+    ensures ok { IfOk result (λ frozen. frozen.items
+        ≡ frozen_nodes version planned.now stations.now mappers.now) }
     ensures valid { (count : ℕ) → IsTrue (list_all (is_node_on count) planned.now)
-        → IfOk result (λ frozen. AreNodes count frozen.items) }
+        → AreFew mappers.now → IfOk result (λ frozen. AreNodes version count frozen.items) }
     ensures refused { IsOkUnless result Error.Memory }
 {
     let mut frozen = Vec::with_capacity(alloc, planned.len())?;
-    put_nodes(&mut frozen, planned, stations)?;
+    put_nodes(&mut frozen, version, planned, stations, mappers)?;
     Ok(frozen)
-}
-
-/// A fact for the prover: every plan is sound. Does nothing.
-fn recall_sound(plan: &Plan)
-    ensures { IsSound plan.now }
-{
-    let _cables = plan.cables();
-}
-
-/// The routers of a plan, with the contents of its stations. Error: `Memory`.
-fn routers_by<T: RouteTable>(
-    alloc: Global,
-    plan: &Plan,
-    stations: &[Member<LiveRouter<T>, LiveNode>],
-) -> Result<Vec<table_image::Router>, Error>
-    requires { map ports_of stations.now ≡ planned_ports plan.now }
-    ensures ok { IfOk result
-        (λ frozen. frozen.items ≡ frozen_routers plan.now.routers stations.now) }
-    ensures valid { IfOk result (λ frozen. AreRouters (length plan.now.cables) frozen.items) }
-    ensures refused { IsOkUnless result Error.Memory }
-{
-    recall_sound(plan);
-    routers_of(alloc, routers_in(plan), stations)
-}
-
-/// The stations of a plan's nodes.
-fn node_stations<'a, T: RouteTable>(
-    plan: &Plan,
-    stations: &'a [Member<LiveRouter<T>, LiveNode>],
-) -> &'a [Member<LiveRouter<T>, LiveNode>]
-    requires { map ports_of stations.now ≡ planned_ports plan.now }
-    ensures { result.now ≡ drop (length plan.now.routers) stations.now }
-{
-    &stations[plan.routers().len()..]
-}
-
-/// The nodes of a plan, with the contents of its stations. Error: `Memory`.
-fn nodes_by<T: RouteTable>(
-    alloc: Global,
-    plan: &Plan,
-    stations: &[Member<LiveRouter<T>, LiveNode>],
-) -> Result<Vec<table_image::Node>, Error>
-    requires { map ports_of stations.now ≡ planned_ports plan.now }
-    ensures ok { IfOk result (λ frozen. frozen.items
-        ≡ frozen_nodes plan.now.nodes (drop (length plan.now.routers) stations.now)) }
-    ensures valid { IfOk result (λ frozen. AreNodes (length plan.now.cables) frozen.items) }
-    ensures refused { IsOkUnless result Error.Memory }
-{
-    recall_sound(plan);
-    nodes_of(alloc, nodes_in(plan), node_stations(plan, stations))
-}
-
-/// The cables of a plan. Error: `Memory`.
-fn cables_by(alloc: Global, plan: &Plan) -> Result<Vec<table_image::Cable>, Error>
-    ensures ok { IfOk result (λ frozen. frozen.items ≡ map frozen_of plan.now.cables) }
-    ensures valid { IfOk result (λ frozen. Each (λ c. IsValue cable_spelling c) frozen.items) }
-    ensures refused { IsOkUnless result Error.Memory }
-{
-    recall_sound(plan);
-    cables_of(alloc, plan.cables())
-}
-
-/// The image of the contents of a plan's stations. An address that isn't settled is 0.0. Error:
-/// `Memory`.
-pub fn image_of<T: RouteTable>(
-    alloc: Global,
-    plan: &Plan,
-    stations: &[Member<LiveRouter<T>, LiveNode>],
-) -> Result<Image, Error>
-    requires { map ports_of stations.now ≡ planned_ports plan.now }
-    ensures ok { IfOk result (λ image. image ≡ frozen_in plan.now stations.now) }
-    ensures refused { IsOkUnless result Error.Memory }
-{
-    recall_sound(plan);
-    let cables = cables_by(alloc, plan)?;
-    let routers = routers_by(alloc, plan, stations)?;
-    let nodes = nodes_by(alloc, plan, stations)?;
-    Image::make(cables, routers, nodes)
 }

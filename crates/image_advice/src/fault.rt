@@ -23,12 +23,12 @@ fn explain_cause(cause: Cause) -> &'static str {
     match cause {
         Cause::Cut => "it ends within a field; was it cut short?",
         Cause::Magic => "it does not begin with ATIM; is it another kind of file?",
-        Cause::Version => "its version is another than 1; this atalk reads version 1 alone",
+        Cause::Version => "its version is neither 1 nor 2, and this atalk reads no other",
         Cause::Count => "this count is above its limit",
         Cause::Index => "there is no cable or port of this index",
         Cause::Value => "this distance, state, flag, socket or enumerator is outside its range",
         Cause::Name => "this length or text is that of no zone, object or type",
-        Cause::Order => "this first network or enumerator is not above the one before it",
+        Cause::Order => "this first network, address or enumerator is not above the one before it",
         Cause::Trailing => "bytes follow the last node",
     }
 }

@@ -5,7 +5,8 @@ use crate::parts::{put_parts, put_routes, put_zone_table};
 use crate::pieces::another;
 use crate::{making, reading};
 use at_base::limits::{
-    MAX_CABLES, MAX_LISTS, MAX_NAMES, MAX_NODES, MAX_PORTS, MAX_ROUTERS, MAX_ROWS, MAX_ZONES,
+    MAX_CABLES, MAX_LISTS, MAX_MAPPINGS, MAX_NAMES, MAX_NODES, MAX_PORTS, MAX_ROUTERS, MAX_ROWS,
+    MAX_ZONES,
 };
 use audit::audit;
 use case_words::{Answer, Stop, Words, put_line, yes_or_no};
@@ -128,6 +129,7 @@ pub(crate) fn limits(text: &mut String) -> Answer {
         text,
         "{MAX_PORTS} ports, {MAX_ROWS} rows, {MAX_LISTS} zone lists of a router"
     )?;
+    writeln!(text, "{MAX_MAPPINGS} mappings of a port or a node")?;
     Ok(())
 }
 

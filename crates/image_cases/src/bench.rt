@@ -44,7 +44,8 @@ impl Bench for Images {
         let (bytes, parts) = (&self.bytes, self.parts.as_str());
         match rest.word() {
             "bytes" => self.add_bytes(rest),
-            "cable" | "router" | "port" | "row" | "list" | "node" | "name" => self.add_part(words),
+            "version" | "cable" | "router" | "port" | "row" | "list" | "node" | "name" | "knows" =>
+                { self.add_part(words) }
             "read" => answers::image(self.alloc, bytes, rest, text),
             "made" => answers::made(self.alloc, parts, rest, text),
             "each-byte" => changes::changed(self.alloc, bytes, text),

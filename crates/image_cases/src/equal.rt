@@ -25,7 +25,7 @@ pub(crate) fn answer(
     mut words: Words<'_>,
     text: &mut String,
 ) -> Answer {
-    let (cables, routers, nodes) = all(alloc, parts)?;
+    let (_, cables, routers, nodes) = all(alloc, parts)?;
     match words.word() {
         "cables" => put_equal(text, cables.as_slice())?,
         "routers" => put_equal(text, routers.as_slice())?,

@@ -4,27 +4,38 @@ use at_base::{Addr, Name};
 use case_words::{Answer, Stop, Words};
 use rtmp::State;
 use std::alloc::Global;
-use table_image::{Cable, Image, Listed, Node, NodeName, Port, Router, Row, ZoneList};
+use table_image::{
+    Cable, Image, Listed, Mapping, Node, NodeName, Port, Router, Row, Version, ZoneList,
+};
+
+/// A port without its mappings, and the mappings that were read.
+#[derive(Drop)]
+struct PortDraft {
+    port: Port,
+    mappings: Vec<Mapping>,
+}
 
 /// A router whose parts are still being read.
 #[derive(Drop)]
 struct RouterDraft {
-    ports: Vec<Port>,
+    ports: Vec<PortDraft>,
     rows: Vec<Row>,
     lists: Vec<ZoneList>,
 }
 
-/// A node without its names, and the names that were read.
+/// A node without its names and mappings, and those that were read.
 #[derive(Drop)]
 struct NodeDraft {
     node: Node,
     names: Vec<NodeName>,
+    mappings: Vec<Mapping>,
 }
 
 /// All parts that were read.
 #[derive(Drop)]
 struct Draft {
     alloc: Global,
+    version: Version,
     cables: Vec<Cable>,
     routers: Vec<RouterDraft>,
     nodes: Vec<NodeDraft>,
@@ -40,12 +51,32 @@ fn cable(alloc: Global, words: &mut Words<'_>) -> Result<Cable, Stop> {
     Ok(Cable { start, end, zones })
 }
 
-fn port(words: &mut Words<'_>) -> Result<Port, Stop> {
-    Ok(Port {
+fn port(alloc: Global, words: &mut Words<'_>) -> Result<PortDraft, Stop> {
+    let port = Port {
         cable: words.named("cable")?,
         address: words.addr()?,
         hardware: words.hw()?,
+        mappings: Listed::from_vec(Vec::new(alloc)),
+    };
+    Ok(PortDraft {
+        port,
+        mappings: Vec::new(alloc),
     })
+}
+
+fn mapping(words: &mut Words<'_>) -> Result<Mapping, Stop> {
+    Ok(Mapping {
+        address: words.addr()?,
+        hardware: words.hw()?,
+    })
+}
+
+fn version(words: &mut Words<'_>) -> Result<Version, Stop> {
+    match words.word() {
+        "1" => Ok(Version::V1),
+        "2" => Ok(Version::V2),
+        _ => Err(Stop::Unclear),
+    }
 }
 
 fn state(words: &mut Words<'_>) -> Result<State, Stop> {
@@ -115,6 +146,7 @@ fn node(alloc: Global, words: &mut Words<'_>) -> Result<Node, Stop> {
         zone,
         router,
         names: Listed::from_vec(Vec::new(alloc)),
+        mappings: Listed::from_vec(Vec::new(alloc)),
     })
 }
 
@@ -152,7 +184,26 @@ impl Draft {
     fn begin_node(&mut self, words: &mut Words<'_>) -> Answer {
         let node = node(self.alloc, words)?;
         let names = Vec::new(self.alloc);
-        self.nodes.push(NodeDraft { node, names })?;
+        let mappings = Vec::new(self.alloc);
+        self.nodes.push(NodeDraft {
+            node,
+            names,
+            mappings,
+        })?;
+        Ok(())
+    }
+
+    /// Adds a mapping of the last node, or else of the last port.
+    fn add_mapping(&mut self, words: &mut Words<'_>) -> Answer {
+        let mapping = mapping(words)?;
+        if let Some(node) = self.nodes.last_mut() {
+            node.mappings.push(mapping)?;
+            return Ok(());
+        }
+        match self.last_router()?.ports.last_mut() {
+            Some(port) => port.mappings.push(mapping)?,
+            None => return Err(Stop::Unclear),
+        }
         Ok(())
     }
 
@@ -167,9 +218,14 @@ impl Draft {
 
     fn add(&mut self, words: &mut Words<'_>) -> Answer {
         match words.word() {
+            "version" => self.version = version(words)?,
             "cable" => self.cables.push(cable(self.alloc, words)?)?,
             "router" => self.begin_router()?,
-            "port" => self.last_router()?.ports.push(port(words)?)?,
+            "port" => {
+                let port = port(self.alloc, words)?;
+                self.last_router()?.ports.push(port)?;
+            }
+            "knows" => self.add_mapping(words)?,
             "row" => self.last_router()?.rows.push(row(words)?)?,
             "list" => {
                 let list = zone_list(self.alloc, words)?;
@@ -186,6 +242,7 @@ impl Draft {
 fn drafted(alloc: Global, lines: &str) -> Result<Draft, Stop> {
     let mut draft = Draft {
         alloc,
+        version: Version::V1,
         cables: Vec::new(alloc),
         routers: Vec::new(alloc),
         nodes: Vec::new(alloc),
@@ -196,12 +253,23 @@ fn drafted(alloc: Global, lines: &str) -> Result<Draft, Stop> {
     Ok(draft)
 }
 
+/// The ports, with their mappings.
+fn ports(alloc: Global, drafts: Vec<PortDraft>) -> Result<Vec<Port>, Stop> {
+    let mut ports = Vec::with_capacity(alloc, drafts.len())?;
+    for draft in drafts {
+        let mut port = draft.port;
+        port.mappings = Listed::from_vec(draft.mappings);
+        ports.push(port)?;
+    }
+    Ok(ports)
+}
+
 /// The routers, with their parts.
 fn routers(alloc: Global, drafts: Vec<RouterDraft>) -> Result<Vec<Router>, Stop> {
     let mut routers = Vec::with_capacity(alloc, drafts.len())?;
     for draft in drafts {
         routers.push(Router {
-            ports: Listed::from_vec(draft.ports),
+            ports: Listed::from_vec(ports(alloc, draft.ports)?),
             rows: Listed::from_vec(draft.rows),
             lists: Listed::from_vec(draft.lists),
         })?;
@@ -215,22 +283,24 @@ fn nodes(alloc: Global, drafts: Vec<NodeDraft>) -> Result<Vec<Node>, Stop> {
     for draft in drafts {
         let mut node = draft.node;
         node.names = Listed::from_vec(draft.names);
+        node.mappings = Listed::from_vec(draft.mappings);
         nodes.push(node)?;
     }
     Ok(nodes)
 }
 
-/// The cables, routers and nodes of the lines.
-pub(crate) type All = (Vec<Cable>, Vec<Router>, Vec<Node>);
+/// The version, the cables, the routers and the nodes of the lines.
+pub(crate) type All = (Version, Vec<Cable>, Vec<Router>, Vec<Node>);
 
 pub(crate) fn all(alloc: Global, lines: &str) -> Result<All, Stop> {
     let draft = drafted(alloc, lines)?;
     let routers = routers(alloc, draft.routers)?;
-    Ok((draft.cables, routers, nodes(alloc, draft.nodes)?))
+    let nodes = nodes(alloc, draft.nodes)?;
+    Ok((draft.version, draft.cables, routers, nodes))
 }
 
 /// The image with the parts of the lines.
 pub(crate) fn image(alloc: Global, lines: &str) -> Result<Image, Stop> {
-    let (cables, routers, nodes) = all(alloc, lines)?;
-    Ok(Image::make(cables, routers, nodes)?)
+    let (version, cables, routers, nodes) = all(alloc, lines)?;
+    Ok(Image::make(version, cables, routers, nodes)?)
 }

@@ -4,7 +4,7 @@ use at_base::{Name, Range};
 use case_words::{put_hw, put_text};
 use rtmp::State;
 use std::alloc::AllocError;
-use table_image::{Cable, Image, Node, Port, Router, Row, ZoneList};
+use table_image::{Cable, Image, Mapping, Node, Port, Router, Row, Version, ZoneList};
 use zip_zones::ZoneTable;
 
 fn put_zones(text: &mut String, zones: &[Name]) -> Result<(), AllocError> {
@@ -21,11 +21,22 @@ fn put_cable(text: &mut String, cable: &Cable) -> Result<(), AllocError> {
     put_zones(text, cable.zones.as_slice())
 }
 
+fn put_mappings(text: &mut String, mappings: &[Mapping]) -> Result<(), AllocError> {
+    for mapping in mappings {
+        let address = mapping.address;
+        write!(text, "knows {address} ")?;
+        put_hw(text, mapping.hardware)?;
+        writeln!(text)?;
+    }
+    Ok(())
+}
+
 fn put_port(text: &mut String, port: &Port) -> Result<(), AllocError> {
     let (cable, address) = (port.cable, port.address);
     write!(text, "port cable {cable} {address} ")?;
     put_hw(text, port.hardware)?;
-    writeln!(text)
+    writeln!(text)?;
+    put_mappings(text, &port.mappings)
 }
 
 fn state_word(state: State) -> &'static str {
@@ -90,11 +101,15 @@ fn put_node(text: &mut String, node: &Node) -> Result<(), AllocError> {
         Some(router) => writeln!(text, " router {router}")?,
         None => writeln!(text, " router none")?,
     }
-    put_names(text, node)
+    put_names(text, node)?;
+    put_mappings(text, &node.mappings)
 }
 
 /// Appends the parts of an image, one on each line, in the form of commands.
 pub(crate) fn put_parts(text: &mut String, image: &Image) -> Result<(), AllocError> {
+    if let Version::V2 = image.version() {
+        writeln!(text, "version 2")?;
+    }
     for cable in image.cables() {
         put_cable(text, cable)?;
     }

@@ -20,6 +20,7 @@ use Rattle.table_image.specs.declared.flaw.Stop.{Stop}
 use Rattle.table_image.specs.declared.flaw.Stop.TheVariants as stops
 use Rattle.table_image.proofs.Extents.{image_reaches}
 use Rattle.table_image.proofs.Whole.{all_takes, no_fault, one_flaw, one_reading, place_fits, read_no_flaw, refuses_first, reported_early, same_flaw}
+use Rattle.image_feed.specs.declared.tables.ImageHead.{ImageHead}
 use Rattle.image_feed.specs.declared.tables.Tables.{Tables}
 use Rattle.image_feed.specs.Feeds.{Fed, GoesOn, HasRead, IsRefused, Stands, Waits, cut_at, IsFlawed}
 use Rattle.image_feed.specs.Growing.{Denies, Leads, StopsAt, later, none_left}
@@ -44,6 +45,14 @@ read_within bytes x fits e =
     let nothing : length a.0.1 ≡ 0 = eqb-true _ _ p.0 in
     omega (arith, taken, nothing)
 
+-- the head was read
+headed_on : (t : Tables) (bytes : List ℕ) (head : ImageHead) → t.head ≡ Some head → tables_on t bytes ≡ cables_part head.version t bytes
+headed_on t bytes head e = rw e refl
+
+headed_as : (t : Tables) (head : ImageHead) → t.head ≡ Some head
+    → internet head.version t.cables.items.items t.routers.items.items t.nodes.items.items ≡ internet_of t
+headed_as t head e = rw e refl
+
 -- all tables were read
 pub whole_on : (t : Tables) (bytes : List ℕ) → is_whole t ≡ true → tables_on t bytes ≡ end_part (internet_of t) bytes
 whole_on t bytes whole =
@@ -51,17 +60,20 @@ whole_on t bytes whole =
     let q = and_parts (is_some t.head && none_left t.cables.left) (none_left t.routers.left) r.0 in
     let p = and_parts (is_some t.head) (none_left t.cables.left) q.0 in
     let cables = t.cables.items.items in
+    let n = length cables in
     let h = some_of t.head p.0 in
-    let first : tables_on t bytes ≡ cables_part t bytes = rw h.1 refl in
+    let v = h.0.version in
+    let first : tables_on t bytes ≡ cables_part v t bytes = headed_on t bytes h.0 h.1 in
+    let named : internet v cables t.routers.items.items t.nodes.items.items ≡ internet_of t = headed_as t h.0 h.1 in
     first
-    ∙ (ap (λ (m : Result (List Cable × List ℕ) Fault). m >>= λ c. routers_part t c.0 c.1)
-    (growth_whole max_cables cable_spelling (λ like c. cable_on like c) t.cables.left cables t.cables.hint t.cables.next p.1 bytes)
-    ∙ (ap (λ (m : Result (List Router × List ℕ) Fault). m >>= λ r. nodes_part t cables r.0 r.1)
-    (growth_whole max_routers (router_spelling (length cables)) (λ like r. router_on (length cables) like r) t.routers.left t.routers.items.items
-    t.routers.hint t.routers.next q.1 bytes)
-    ∙ ap (λ (m : Result (List Node × List ℕ) Fault). m >>= λ n. end_part (internet cables t.routers.items.items n.0) n.1)
-    (growth_whole max_nodes (node_spelling (length cables)) (λ like n. node_on (length cables) n) t.nodes.left t.nodes.items.items t.nodes.hint
-    t.nodes.next r.1 bytes)))
+    ∙ (ap (λ (m : Result (List Cable × List ℕ) Fault). m >>= λ c. routers_part v t c.0 c.1)
+    (growth_whole max_cables (cable_spelling v) (λ like c. cable_on v like c) t.cables.left cables t.cables.hint t.cables.next p.1 bytes)
+    ∙ (ap (λ (m : Result (List Router × List ℕ) Fault). m >>= λ r. nodes_part v t cables r.0 r.1)
+    (growth_whole max_routers (router_spelling v n) (λ like r. router_on v n like r) t.routers.left t.routers.items.items t.routers.hint
+    t.routers.next q.1 bytes)
+    ∙ (ap (λ (m : Result (List Node × List ℕ) Fault). m >>= λ x. end_part (internet v cables t.routers.items.items x.0) x.1)
+    (growth_whole max_nodes (node_spelling v n) (λ like x. node_on v n x) t.nodes.left t.nodes.items.items t.nodes.hint t.nodes.next r.1 bytes)
+    ∙ ap (λ (i : Internet). end_part i bytes) named)))
 
 -- what a feed that goes on has read of the bytes alone
 pub all_on : (feed : Fed) (all : List ℕ) → GoesOn feed all → image_at all ≡ tables_on feed.tables feed.kept

@@ -3,7 +3,7 @@ use Rattle.std.proofs.Common.{◌≡◌, ◌∙◌, ℕ, zero, suc, ◌+◌, Boo
 use Rattle.std.proofs.Common.{IfOk, IfErr, IfSome, IsSome, OnOk, is_some, false, refl, sym, ap, subst, inl, inr, ◌⊎◌, arith}
 use Rattle.std.specs.Prelude.{◌≢◌}
 use Rattle.std.proofs.lemmas.Bool.{eqb-true}
-use Rattle.at_base.specs.Grammar.{Field, Grammar}
+use Rattle.at_base.specs.Grammar.{Field, Grammar, Size, one}
 use Rattle.at_base.specs.Reading.{◌>>=◌, field_at, list_at, read}
 use Rattle.at_base.proofs.Prefixes.{Stays, field_more, field_stays, read_more, read_stays}
 use Rattle.table_image.specs.Flaws.{Wrong, Here, Before, fault_of, faults}
@@ -55,8 +55,8 @@ module _ {A B : Type 0} (k : A → Result B Fault) where
 
 later_is : (n left : ℕ) (w : Wrong) → later n (fault_of left w) ≡ fault_of (left + n) w
 later_is n left (Here cause) = refl
-later_is n left (Before cause) =
-    let sum : (1 + left) + n ≡ 1 + (left + n) = omega arith in
+later_is n left (Before k cause) =
+    let sum : (k + left) + n ≡ k + (left + n) = omega arith in
     ap (λ (m : ℕ). record { left = m; cause = cause }) sum
 
 denies_of : {A : Type 0} (a : List ℕ → Result A Fault) (bytes : List ℕ) (f : Fault) → f ≢ faults.cut
@@ -149,33 +149,33 @@ some_of (Some x) h = (x, refl)
 
 module _ {B : Type 0} (item : ℕ → Grammar Wrong true B) (next : B → ℕ) where
   -- once the count was read, its limit doesn't matter
-  pub counted_any : (limit other : ℕ) (left : Option ℕ) (front : List B) (low : ℕ) (bytes : List ℕ) → IsSome left
-      → counted_on limit item next left front low bytes ≡ counted_on other item next left front low bytes
-  counted_any limit other (Some n) front low bytes some = refl
-  counted_any limit other None front low bytes some = cc
+  pub counted_any : (size other_size : Size) (limit other : ℕ) (left : Option ℕ) (front : List B) (low : ℕ) (bytes : List ℕ) → IsSome left
+      → counted_on size limit item next left front low bytes ≡ counted_on other_size other item next left front low bytes
+  counted_any size other_size limit other (Some n) front low bytes some = refl
+  counted_any size other_size limit other None front low bytes some = cc
 
   -- the count was read, and then parts
-  pub counted_then : {X : Type 0} (view : X → List ℕ) (limit : ℕ) (left read_left after_left : Option ℕ) (front after : List B) (low after_low : ℕ)
+  pub counted_then : {X : Type 0} (view : X → List ℕ) (size : Size) (limit : ℕ) (left read_left after_left : Option ℕ) (front after : List B) (low after_low : ℕ)
       (bytes rest : List ℕ) (result : Result X Stop)
-      → Leads (count_on limit left) bytes (count_on limit read_left) rest → IsSome read_left
+      → Leads (count_on size limit left) bytes (count_on size limit read_left) rest → IsSome read_left
       → OnOk result (IsSome after_left)
-      → Advances view (counted_on 0 item next read_left front low) rest (counted_on 0 item next after_left after after_low) (none_left after_left) result
-      → Advances view (counted_on limit item next left front low) bytes (counted_on limit item next after_left after after_low) (none_left after_left) result
-  counted_then view limit left read_left after_left front after low after_low bytes rest (Ok x) first some stays second =
+      → Advances view (counted_on one 0 item next read_left front low) rest (counted_on one 0 item next after_left after after_low) (none_left after_left) result
+      → Advances view (counted_on size limit item next left front low) bytes (counted_on size limit item next after_left after after_low) (none_left after_left) result
+  counted_then view size limit left read_left after_left front after low after_low bytes rest (Ok x) first some stays second =
       let k : ℕ × List ℕ → Result (List B × List ℕ) Fault = λ x. items_on item next front low x.0 x.1 in (
-        λ more. leads_bind k (count_on limit left) (count_on limit read_left) bytes rest first more
-            ∙ (counted_any limit 0 read_left front low (rest ++ more) some
-            ∙ (second.0 more ∙ counted_any 0 limit after_left after after_low (view x ++ more) stays)),
-        elim second.1 as (λ _. (none_left after_left ≡ true) ⊎ IsCut (counted_on limit item next after_left after after_low) (view x)) [
+        λ more. leads_bind k (count_on size limit left) (count_on size limit read_left) bytes rest first more
+            ∙ (counted_any size one limit 0 read_left front low (rest ++ more) some
+            ∙ (second.0 more ∙ counted_any one size 0 limit after_left after after_low (view x ++ more) stays)),
+        elim second.1 as (λ _. (none_left after_left ≡ true) ⊎ IsCut (counted_on size limit item next after_left after after_low) (view x)) [
           | inl whole ↦ inl whole
-          | inr cut ↦ inr (counted_any limit 0 after_left after after_low (view x) stays ∙ cut)
+          | inr cut ↦ inr (counted_any size one limit 0 after_left after after_low (view x) stays ∙ cut)
         ],
       )
-  counted_then view limit left read_left after_left front after low after_low bytes rest (Err e) first some stays second =
+  counted_then view size limit left read_left after_left front after low after_low bytes rest (Err e) first some stays second =
       let k : ℕ × List ℕ → Result (List B × List ℕ) Fault = λ x. items_on item next front low x.0 x.1 in
-      stops_then (counted_on limit item next left front low) (counted_on 0 item next read_left front low) bytes rest e
-      (λ more. leads_bind k (count_on limit left) (count_on limit read_left) bytes rest first more
-      ∙ counted_any limit 0 read_left front low (rest ++ more) some) second
+      stops_then (counted_on size limit item next left front low) (counted_on one 0 item next read_left front low) bytes rest e
+      (λ more. leads_bind k (count_on size limit left) (count_on size limit read_left) bytes rest first more
+      ∙ counted_any size one limit 0 read_left front low (rest ++ more) some) second
 
 pub on_ok : {X E : Type 0} {P : Type 0} (result : Result X E) → P → OnOk result P
 on_ok (Ok x) p = p
@@ -244,9 +244,9 @@ module _ {A B X : Type 0} (view : X → List ℕ) (a b : List ℕ → Result (A 
       ∙ ap (λ (m : Result (A × List ℕ) Fault). m >>= λ p. k p.0 p.1) (is (rest ++ more))) second
 
 -- all of a counted list was read
-pub counted_whole : {B : Type 0} (limit : ℕ) (item : ℕ → Grammar Wrong true B) (next : B → ℕ) (left : Option ℕ) (front : List B) (low : ℕ)
-    → none_left left ≡ true → (bytes : List ℕ) → counted_on limit item next left front low bytes ≡ Ok (front, bytes)
-counted_whole limit item next left front low whole bytes = rw (none_left_is left whole) (items_none item next front low bytes)
+pub counted_whole : {B : Type 0} (size : Size) (limit : ℕ) (item : ℕ → Grammar Wrong true B) (next : B → ℕ) (left : Option ℕ) (front : List B) (low : ℕ)
+    → none_left left ≡ true → (bytes : List ℕ) → counted_on size limit item next left front low bytes ≡ Ok (front, bytes)
+counted_whole size limit item next left front low whole bytes = rw (none_left_is left whole) (items_none item next front low bytes)
 
 -- ---- lists of large parts
 
@@ -270,16 +270,16 @@ module _ {B S : Type 0} (limit : ℕ) (item : Grammar Wrong true B) (goes_on : O
       → ((like : Option B) (bytes : List ℕ) → goes_on like next bytes ≡ read faults item bytes) → (bytes : List ℕ)
       → growth_on limit item goes_on left items hint next bytes ≡ growth_on limit item goes_on left items other next bytes
   growth_hint left items hint other next new bytes =
-      bind_same (count_on limit left bytes) _ _ (λ x.
+      bind_same (count_on one limit left bytes) _ _ (λ x.
       begun_same (λ low. item) (λ y. 0) (goes_on (like_of items hint) next) (goes_on (like_of items other) next) items x.0 x.1
       (new (like_of items hint) x.1 ∙ sym (new (like_of items other) x.1)))
 
   -- nothing was read of a list
   pub growth_new : (left : Option ℕ) (items : List B) (hint : Option B) (next : S) (bytes : List ℕ) → left ≡ None → items ≡ []
       → ((like : Option B) (bytes : List ℕ) → goes_on like next bytes ≡ read faults item bytes)
-      → growth_on limit item goes_on left items hint next bytes ≡ counted_on limit (λ low. item) (λ y. 0) None [] 0 bytes
+      → growth_on limit item goes_on left items hint next bytes ≡ counted_on one limit (λ low. item) (λ y. 0) None [] 0 bytes
   growth_new left items hint next bytes none nil new =
       ap (λ (l : Option ℕ). growth_on limit item goes_on l items hint next bytes) none
       ∙ (ap (λ (l : List B). growth_on limit item goes_on None l hint next bytes) nil
-      ∙ bind_same (count_on limit None bytes) _ _ (λ x.
+      ∙ bind_same (count_on one limit None bytes) _ _ (λ x.
       begun_fresh (λ low. item) (λ y. 0) (goes_on hint next) [] 0 x.0 x.1 (new hint x.1)))

@@ -24,7 +24,7 @@ wants_bind {A = A} k reads bytes n h = λ more few. ap (λ (m : Result A Fault).
 
 -- the text of a name
 abbrev text_at : ℕ × List ℕ → Result (List ℕ × List ℕ) Fault
-text_at len = field_at faults (run len.0 (λ s. if is_name s then None else Some (Before Name))) len.1 >>= λ s. Ok (s.0, s.1)
+text_at len = field_at faults (run len.0 (λ s. if is_name s then None else Some (Before 1 Name))) len.1 >>= λ s. Ok (s.0, s.1)
 
 name_read : (n : ℕ) (rest : List ℕ)
     → read faults zone_spelling (n ∷ rest) ≡ (checked faults (n ∷ rest) (within 1 max_text Name n) (n, rest) >>= text_at)
@@ -38,8 +38,8 @@ name_read n rest =
 placed : (rest : List ℕ) (n : ℕ) (w : Wrong) → err {A = List ℕ × List ℕ} (fault_of (length (n ∷ rest)) w) ≡ Err faults.cut → ⊥
 placed rest n (Here cause) e =
     let left : suc (length rest) ≡ 0 = ap (λ (f : Fault). f.left) (err_is _ _ e) in omega (arith, left)
-placed rest n (Before cause) e =
-    let left : 1 + suc (length rest) ≡ 0 = ap (λ (f : Fault). f.left) (err_is _ _ e) in omega (arith, left)
+placed rest n (Before k cause) e =
+    let left : k + suc (length rest) ≡ 0 = ap (λ (f : Fault). f.left) (err_is _ _ e) in omega (arith, left)
 
 -- a name's first byte says how many more it has
 pub wants_name : (n : ℕ) (rest : List ℕ) → IsCut (read faults zone_spelling) (n ∷ rest) → Wants (read faults zone_spelling) (n ∷ rest) (n + 1)

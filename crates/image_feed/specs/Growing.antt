@@ -1,7 +1,7 @@
 -- Reading in pieces: what a reader that stopped within a part reads of the bytes that follow.
 use Rattle.std.specs.Prelude.{◌≡◌, ◌≢◌, ◌⊎◌, ℕ, zero, suc, ◌+◌, ◌<◌, Bool, true, false, ◌==◌, List, [], ◌∷◌, ◌++◌, length, Option, Some, None, Result, Ok, Err}
 use Rattle.at_base.specs.declared.error.Cause.TheVariants.{Count}
-use Rattle.at_base.specs.Grammar.{Grammar, number, one}
+use Rattle.at_base.specs.Grammar.{Grammar, Size, number, one}
 use Rattle.at_base.specs.Reading.{◌>>=◌, field_at, list_at, read}
 use Rattle.table_image.specs.Flaws.{Wrong, faults}
 use Rattle.table_image.specs.Tests.{within}
@@ -50,10 +50,10 @@ Steps view first bytes second (Err e) = StopsAt first bytes e
 
 -- ---- lists of which a part was read
 
--- the count, if it wasn't read before
-abbrev pub count_on : ℕ → Option ℕ → List ℕ → Result (ℕ × List ℕ) Fault
-count_on limit None bytes = field_at faults (number one (within 0 limit Count)) bytes
-count_on limit (Some left) bytes = Ok (left, bytes)
+-- the count of this size, if it wasn't read before
+abbrev pub count_on : Size → ℕ → Option ℕ → List ℕ → Result (ℕ × List ℕ) Fault
+count_on size limit None bytes = field_at faults (number size (within 0 limit Count)) bytes
+count_on size limit (Some left) bytes = Ok (left, bytes)
 
 -- whether all parts were read
 abbrev pub none_left : Option ℕ → Bool
@@ -65,8 +65,9 @@ abbrev pub items_on : {B : Type 0} → (ℕ → Grammar Wrong true B) → (B →
 items_on item next front low left bytes = list_at (λ low. read faults (item low)) next low left bytes >>= λ x. Ok (front ++ x.0, x.1)
 
 -- a counted list: the count, if it wasn't read before, and the parts after those in front
-abbrev pub counted_on : {B : Type 0} → ℕ → (ℕ → Grammar Wrong true B) → (B → ℕ) → Option ℕ → List B → ℕ → List ℕ → Result (List B × List ℕ) Fault
-counted_on limit item next left front low bytes = count_on limit left bytes >>= λ x. items_on item next front low x.0 x.1
+abbrev pub counted_on : {B : Type 0} → Size → ℕ → (ℕ → Grammar Wrong true B) → (B → ℕ) → Option ℕ → List B → ℕ → List ℕ
+    → Result (List B × List ℕ) Fault
+counted_on size limit item next left front low bytes = count_on size limit left bytes >>= λ x. items_on item next front low x.0 x.1
 
 -- So many more parts, after those in front; the first of them was begun.
 abbrev pub begun_on : {B : Type 0} → (ℕ → Grammar Wrong true B) → (B → ℕ) → (List ℕ → Result (B × List ℕ) Fault) → List B → ℕ → List ℕ
@@ -77,7 +78,7 @@ begun_on item next begun front (suc left) bytes = begun bytes >>= λ x. items_on
 -- a counted list, of which the part after those in front was begun
 abbrev pub grown_on : {B : Type 0} → ℕ → (ℕ → Grammar Wrong true B) → (B → ℕ) → (List ℕ → Result (B × List ℕ) Fault) → Option ℕ → List B → List ℕ
     → Result (List B × List ℕ) Fault
-grown_on limit item next begun left front bytes = count_on limit left bytes >>= λ x. begun_on item next begun front x.0 x.1
+grown_on limit item next begun left front bytes = count_on one limit left bytes >>= λ x. begun_on item next begun front x.0 x.1
 
 -- ---- parts that begin with a head
 

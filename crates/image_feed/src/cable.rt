@@ -84,9 +84,9 @@ impl Growing for GrowingCable {
 
     type Whole = Cable;
 
-    ghost spelling = { λ context. cable_spelling };
+    ghost spelling = { λ context. cable_spelling context.version };
 
-    ghost goes_on = { λ context like c. cable_on like c };
+    ghost goes_on = { λ context like c. cable_on context.version like c };
 
     ghost whole = { λ c. is_some c.head && none_left c.names.left };
 
@@ -105,7 +105,8 @@ impl Growing for GrowingCable {
         let Some(_) = self.head else {
             return Ok(rest);
         };
-        self.names.advance(alloc, zones_of(like), rest)
+        self.names
+            .advance(alloc, context.version, zones_of(like), rest)
     }
 
     fn wants(&self, bytes: &[u8]) -> usize {

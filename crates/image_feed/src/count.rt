@@ -1,24 +1,26 @@
 //! How many parts of a list are still to be read.
 
 ghost use Rattle.std.specs.Prelude.{◌≡◌, ◌⊎◌, suc, true, is_some, IfNone, IfSome, None, Some};
+ghost use Rattle.table_image.specs.Counts.{size_of};
 ghost use Rattle.image_feed.specs.Growing.{Advances, count_on, none_left};
 
 use crate::cut::unless_cut;
 use table_image::parts::{CountSize, Stop, count_within};
 
-/// Reads the count of a list, if it wasn't read before.
+/// Reads the count of a list, of this size, if it wasn't read before.
 pub(crate) fn read_count<'a>(
     left: &mut Option<u16>,
+    size: CountSize,
     limit: usize,
     bytes: &'a [u8],
 ) -> Result<&'a [u8], Stop>
-    ensures { Advances (λ rest. rest.now) (count_on limit left.old) bytes.now
-        (count_on limit left.new) (is_some left.new) result }
+    ensures { Advances (λ rest. rest.now) (count_on (size_of size) limit left.old) bytes.now
+        (count_on (size_of size) limit left.new) (is_some left.new) result }
 {
     if left.is_some() {
         return Ok(bytes);
     }
-    match count_within(bytes, CountSize::One, limit) {
+    match count_within(bytes, size, limit) {
         Ok((count, rest)) => {
             *left = Some(count);
             Ok(rest)

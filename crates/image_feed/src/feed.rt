@@ -5,7 +5,7 @@ ghost use Rattle.std.specs.Prelude.{IfErr, IfOk, IsOk, IsOkAnd, IsOkUnless, Matc
 ghost use Rattle.std.specs.Result.{result_err};
 ghost use Rattle.at_base.specs.Spelling.{IsValue, Spells};
 ghost use Rattle.table_image.specs.Flaws.{flaw_after};
-ghost use Rattle.table_image.specs.Internet.{Internet, internet};
+ghost use Rattle.table_image.specs.Internet.{Internet};
 ghost use Rattle.table_image.specs.Reading.{IsFirstFlaw, refusal, RefusesFirst};
 ghost use Rattle.table_image.specs.Spelling.{image_spelling};
 ghost use Rattle.table_image.specs.declared.flaw.Fault.{Fault as FaultValue};
@@ -13,14 +13,14 @@ ghost use Rattle.table_image.specs.declared.flaw.Flaw.{Flaw};
 ghost use Rattle.table_image.specs.declared.flaw.Stop.TheVariants.{Memory as MemoryStop, Refused};
 ghost use Rattle.image_feed.specs.Feeds.{HasRead, Waits, cut_at};
 ghost use Rattle.image_feed.specs.Growing.{Leads, StopsAt, Wants};
-ghost use Rattle.image_feed.specs.Tables.{tables_on};
+ghost use Rattle.image_feed.specs.Tables.{parts_internet, tables_on};
 
-use crate::tables::Tables;
+use crate::tables::{TableParts, Tables};
 use at_base::{Cause, Error};
 use std::alloc::{AllocError, Global};
 use std::marker::Model;
 use table_image::parts::{Fault, Stop};
-use table_image::{Cable, Image, Listed, Node, Router};
+use table_image::{Image, Listed};
 
 /// The greatest number of bytes that a reader's image is fed at once.
 pub const MAX_PIECE: usize = 4_096;
@@ -141,23 +141,26 @@ fn twice<T: Drop>(alloc: Global, parts: Listed<T>) -> Result<(Listed<T>, Listed<
     }
 }
 
+/// The image of these parts.
+fn image_of(parts: TableParts) -> Image
+    requires { IsValue image_spelling (parts_internet parts) }
+    ensures { result ≡ parts_internet parts }
+{
+    Image::of(parts.version, parts.cables, parts.routers, parts.nodes)
+}
+
 /// The image of these parts, twice. Error: `Memory`.
-fn images_of(
-    alloc: Global,
-    cables: Listed<Cable>,
-    routers: Listed<Router>,
-    nodes: Listed<Node>,
-) -> Result<(Image, Image), Error>
-    requires { IsValue image_spelling (internet cables routers nodes) }
-    ensures image { IfOk result (λ images. images.0 ≡ internet cables routers nodes) }
-    ensures again { IfOk result (λ images. images.1 ≡ internet cables routers nodes) }
+fn images_of(alloc: Global, parts: TableParts) -> Result<(Image, Image), Error>
+    requires { IsValue image_spelling (parts_internet parts) }
+    ensures image { IfOk result (λ images. images.0 ≡ parts_internet parts) }
+    ensures again { IfOk result (λ images. images.1 ≡ parts_internet parts) }
     ensures refused { IsOkUnless result Error.Memory }
 {
-    let (cables, cables_again) = twice(alloc, cables)?;
-    let (routers, routers_again) = twice(alloc, routers)?;
-    let (nodes, nodes_again) = twice(alloc, nodes)?;
-    let image = Image::of(cables, routers, nodes);
-    let again = Image::of(cables_again, routers_again, nodes_again);
+    let (cables, cables_again) = twice(alloc, parts.cables)?;
+    let (routers, routers_again) = twice(alloc, parts.routers)?;
+    let (nodes, nodes_again) = twice(alloc, parts.nodes)?;
+    let image = Image::of(parts.version, cables, routers, nodes);
+    let again = Image::of(parts.version, cables_again, routers_again, nodes_again);
     Ok((image, again))
 }
 
@@ -239,15 +242,14 @@ impl Feed {
 
     // The parts of the image that was fed. Errors: the refusal of a piece; else `BadImage`, if the
     // bytes that were fed end too early.
-    fn into_parts(self) -> Result<(Listed<Cable>, Listed<Router>, Listed<Node>), Error>
-        ensures value { IfOk result
-            (λ p. IsValue image_spelling (internet p.0 p.1 p.2)) }
+    fn into_parts(self) -> Result<TableParts, Error>
+        ensures value { IfOk result (λ p. IsValue image_spelling (parts_internet p)) }
         ensures found { IfOk result (λ p. (all : List ℕ) → HasRead self all
-            → Spells image_spelling all (internet p.0 p.1 p.2)) }
+            → Spells image_spelling all (parts_internet p)) }
         ensures again { (e : Error) → self.refused ≡ Some e → result ≡ Err e }
         ensures only { self.refused ≡ None → (all : List ℕ) → HasRead self all
             → (i : Internet) → Spells image_spelling all i
-            → IsOkAnd result (λ p. internet p.0 p.1 p.2 ≡ i) }
+            → IsOkAnd result (λ p. parts_internet p ≡ i) }
         ensures first { self.refused ≡ None → (all : List ℕ) → HasRead self all
             → (f : Flaw) → IsFirstFlaw all f → result ≡ Err (refusal f) }
         ensures refused { IfErr result (λ e. self.refused ≡ None → (all : List ℕ)
@@ -276,7 +278,7 @@ impl Feed {
             → HasRead self all → RefusesFirst all e) }
     {
         match self.into_parts() {
-            Ok((cables, routers, nodes)) => Ok(Image::of(cables, routers, nodes)),
+            Ok(parts) => Ok(image_of(parts)),
             Err(error) => Err(error),
         }
     }
@@ -299,7 +301,7 @@ impl Feed {
     {
         let alloc = *self.kept.allocator();
         match self.into_parts() {
-            Ok((cables, routers, nodes)) => images_of(alloc, cables, routers, nodes),
+            Ok(parts) => images_of(alloc, parts),
             Err(error) => Err(error),
         }
     }

@@ -11,7 +11,7 @@ use crate::count::{after_next, is_none_left, read_count};
 use crate::several::make_room;
 use std::alloc::Global;
 use table_image::Listed;
-use table_image::parts::{Context, Stop};
+use table_image::parts::{Context, CountSize, Stop};
 
 /// A part of which the first fields may have been read. A part that was read before, which this one
 /// may be like, is given to each call.
@@ -195,7 +195,7 @@ impl<S: Growing> Growth<S> {
             (growth_on limit (S.spelling context) (S.goes_on context) self.new.left
             self.new.items.items self.new.hint self.new.next) (none_left self.new.left) result }
     {
-        let rest = read_count(&mut self.left, limit, bytes)?;
+        let rest = read_count(&mut self.left, CountSize::One, limit, bytes)?;
         let Some(left) = self.left else {
             return Ok(rest);
         };

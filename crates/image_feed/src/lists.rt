@@ -6,32 +6,23 @@ ghost use Rattle.std.specs.Option.{option_copied};
 ghost use Rattle.at_base.specs.Reading.{read};
 ghost use Rattle.table_image.specs.Flaws.{faults};
 ghost use Rattle.table_image.specs.declared.flaw.Stop.TheVariants.{Memory};
+ghost use Rattle.table_image.specs.declared.version.Version.{Version as VersionValue};
 ghost use Rattle.table_image.specs.declared.zone_list.ZoneList.{ZoneList as ListValue};
 ghost use Rattle.image_feed.specs.Growing.{Advances, Leads, Wants, items_on, none_left};
 ghost use Rattle.image_feed.specs.Fronts.{front_of};
 ghost use Rattle.table_image.specs.Spelling.{zone_list_spelling};
-ghost use Rattle.image_feed.specs.Zones.{IsFresh, head_of, is_next_whole, list_head, lists_on};
-ghost use Rattle.image_feed.specs.Zones.{next_on, with_head, zones_in};
+ghost use Rattle.image_feed.specs.Zones.{IsFresh, is_next_whole, lists_on, next_on, zones_in};
 
 use crate::count::{after_next, is_none_left, read_count};
 use crate::front::{Again, Front, after_first, part_at, parts_of};
 use crate::head::read_head;
+use crate::heading::ListHead;
 use crate::names::Names;
+use at_base::Name;
 use at_base::limits::MAX_LISTS;
-use at_base::{Cause, Name};
 use std::alloc::Global;
-use table_image::parts::{
-    Context, Fault, FlatItem, Item, Stop, after_list, byte_within, rising_at, u16_at,
-};
-use table_image::{Listed, ZoneList};
-
-/// A zone list without its zones.
-#[derive(Clone, Copy, Debug)]
-pub(crate) struct ListHead {
-    pub start: u16,
-    pub end: u16,
-    pub complete: bool,
-}
+use table_image::parts::{Context, CountSize, Item, Stop, after_list};
+use table_image::{Listed, Version, ZoneList};
 
 impl Again for ZoneList {
     fn once_more(&self, alloc: Global) -> Result<ZoneList, Stop> {
@@ -64,36 +55,6 @@ pub(crate) struct Lists {
     pub names: Names,
 }
 
-impl Item for ListHead {
-    ghost spelling = { λ context low. list_head low };
-
-    ghost next = { λ _. 0 };
-
-    fn next_low(&self) -> u32 {
-        0
-    }
-
-    #[tactic(auto, unfolding(crate::specs::Zones::list_head))]
-    fn written_alike() {}
-}
-
-impl FlatItem for ListHead {
-    #[tactic(auto, unfolding(crate::specs::Zones::list_head))]
-    fn flat_at(_context: Context, low: u32, bytes: &[u8]) -> Result<(ListHead, &[u8]), Fault> {
-        let (start, rest) = rising_at(bytes, low)?;
-        let (end, rest) = u16_at(rest)?;
-        let (complete, rest) = byte_within(rest, 0, 1, Cause::Value)?;
-        Ok((
-            ListHead {
-                start,
-                end,
-                complete: complete == 1,
-            },
-            rest,
-        ))
-    }
-}
-
 /// The zones of the list, if there is one.
 fn zones_of(list: Option<&ZoneList>) -> Option<&Listed<Name>>
     ensures { unwrap_or (option_copied result) [] ≡ zones_in (option_copied list.entry) }
@@ -112,26 +73,32 @@ fn room_of(zones: usize) -> usize {
 /// The bytes after the zone list, if they begin with it. Bytes that may end within it aren't looked
 /// at, since they are read name by name then.
 #[inline(always)]
-fn after_whole<'a>(list: &ZoneList, low: u32, bytes: &'a [u8]) -> Option<&'a [u8]>
-    ensures { IfSome result (λ rest. read faults (zone_list_spelling low) bytes.now
+fn after_whole<'a>(list: &ZoneList, version: Version, low: u32, bytes: &'a [u8]) -> Option<&'a [u8]>
+    ensures { IfSome result (λ rest. read faults (zone_list_spelling version low) bytes.now
         ≡ Ok (list.now, rest.now)) }
 {
     if bytes.len() < room_of(list.zones.len()) {
         return None;
     }
-    after_list(list, low, bytes)
+    after_list(list, version, low, bytes)
 }
 
 /// How many of the zone lists the bytes begin with, at most so many, the number that the last of
 /// them passes on, and the bytes after them. A list within which the bytes may end isn't looked at.
 #[inline(never)]
-fn after_same<'a>(lists: &[ZoneList], most: u16, low: u32, bytes: &'a [u8]) -> (u16, u32, &'a [u8])
+fn after_same<'a>(
+    lists: &[ZoneList],
+    version: Version,
+    most: u16,
+    low: u32,
+    bytes: &'a [u8],
+) -> (u16, u32, &'a [u8])
     ensures most { result.0 ≤ most }
     ensures fits { result.0 ≤ length lists.now }
     ensures leads { (front : List ListValue) (n : ℕ)
-        → Leads (items_on zone_list_spelling (λ l. l.start + 1) front low (result.0 + n)) bytes.now
-        (items_on zone_list_spelling (λ l. l.start + 1) (front ++ take result.0 lists.now) result.1 n)
-        result.2.now }
+        → Leads (items_on (zone_list_spelling version) (λ l. l.start + 1) front low (result.0 + n))
+        bytes.now (items_on (zone_list_spelling version) (λ l. l.start + 1)
+        (front ++ take result.0 lists.now) result.1 n) result.2.now }
 {
     let mut rest = bytes;
     let mut last = low;
@@ -140,7 +107,7 @@ fn after_same<'a>(lists: &[ZoneList], most: u16, low: u32, bytes: &'a [u8]) -> (
         if count == most {
             return (count, last, rest);
         }
-        match after_whole(list, last, rest) {
+        match after_whole(list, version, last, rest) {
             Some(after) => rest = after,
             None => return (count, last, rest),
         }
@@ -148,27 +115,6 @@ fn after_same<'a>(lists: &[ZoneList], most: u16, low: u32, bytes: &'a [u8]) -> (
         count += 1;
     }
     (count, last, rest)
-}
-
-impl ListHead {
-    // Whether the list has this head.
-    fn is_of(self, list: &ZoneList) -> bool
-        ensures { result ≡ true → head_of list.now ≡ self }
-    {
-        self.start == list.start && self.end == list.end && self.complete == list.complete
-    }
-
-    // The list with this head and these zones.
-    fn with(self, zones: Listed<Name>) -> ZoneList
-        ensures { result ≡ with_head self zones }
-    {
-        ZoneList {
-            start: self.start,
-            end: self.end,
-            complete: self.complete,
-            zones,
-        }
-    }
 }
 
 impl Lists {
@@ -211,9 +157,9 @@ impl Lists {
     // Goes past the lists that are the other router's, if all before them are, and the bytes surely
     // go on past them.
     #[inline(always)]
-    fn pass_all<'a>(&mut self, like: &[ZoneList], bytes: &'a [u8]) -> &'a [u8]
-        ensures leads { Leads (lists_on like.now self.old) bytes.now (lists_on like.now self.new)
-            result.now }
+    fn pass_all<'a>(&mut self, version: Version, like: &[ZoneList], bytes: &'a [u8]) -> &'a [u8]
+        ensures leads { Leads (lists_on version like.now self.old) bytes.now
+            (lists_on version like.now self.new) result.now }
         ensures some { IsSome self.old.left → IsSome self.new.left }
         ensures fewer { unwrap_or self.new.left 0 ≤ unwrap_or self.old.left 0 }
     {
@@ -226,7 +172,8 @@ impl Lists {
         if count > like.len() || self.head.is_some() || !self.names.is_fresh() {
             return bytes;
         }
-        let (more, low, rest) = after_same(after_first(like, count), left, self.low, bytes);
+        let expected = after_first(like, count);
+        let (more, low, rest) = after_same(expected, version, left, self.low, bytes);
         self.left = Some(left - more);
         self.front = Front::Same(count + more as usize);
         self.low = low;
@@ -239,13 +186,15 @@ impl Lists {
     fn pass_same<'a>(
         &mut self,
         alloc: Global,
+        version: Version,
         like: &[ZoneList],
         after: u16,
         bytes: &'a [u8],
     ) -> Result<Option<&'a [u8]>, Stop>
         requires { self.old.left ≡ Some (suc after) }
         ensures passed { IfOk result (λ o. IfSome o (λ rest.
-            Leads (lists_on like.now self.old) bytes.now (lists_on like.now self.new) rest.now)) }
+            Leads (lists_on version like.now self.old) bytes.now (lists_on version like.now self.new)
+            rest.now)) }
         ensures stays { IfOk result (λ o. IfNone o (self.new ≡ self.old)) }
         ensures left { IfOk result (λ o. IfSome o (λ _. self.new.left ≡ Some after)) }
         ensures refused { IsOkUnless result Memory }
@@ -256,7 +205,7 @@ impl Lists {
         let Some(list) = part_at(like, self.front.place()) else {
             return Ok(None);
         };
-        let Some(rest) = after_whole(list, self.low, bytes) else {
+        let Some(rest) = after_whole(list, version, self.low, bytes) else {
             return Ok(None);
         };
         self.front.push_same(alloc, like, list)?;
@@ -270,20 +219,22 @@ impl Lists {
     fn advance_next<'a>(
         &mut self,
         alloc: Global,
+        version: Version,
         like: &[ZoneList],
         bytes: &'a [u8],
     ) -> Result<&'a [u8], Stop>
-        ensures next { Advances (λ rest. rest.now) (next_on like.now self.old) bytes.now
-            (next_on like.now self.new) (is_next_whole self.new) result }
+        ensures next { Advances (λ rest. rest.now) (next_on version like.now self.old) bytes.now
+            (next_on version like.now self.new) (is_next_whole self.new) result }
         ensures others { (self.new.low ≡ self.old.low) × (self.new.left ≡ self.old.left)
             × (self.new.front ≡ self.old.front) }
     {
-        let rest = read_head(&mut self.head, Context::nothing(), self.low, bytes)?;
+        let context = Context::nothing(version);
+        let rest = read_head(&mut self.head, context, self.low, bytes)?;
         let Some(_) = self.head else {
             return Ok(rest);
         };
         let expected = part_at(like, self.front.place());
-        self.names.advance(alloc, zones_of(expected), rest)
+        self.names.advance(alloc, version, zones_of(expected), rest)
     }
 
     // Ends the next list, whose head and zones were read, where so many come after it.
@@ -298,8 +249,8 @@ impl Lists {
         requires left { self.old.left ≡ Some (suc after) }
         requires head { self.old.head ≡ Some head }
         requires whole { none_left self.old.names.left ≡ true }
-        ensures ended { OnOk result ((bytes : List ℕ)
-            → lists_on like.now self.old bytes ≡ lists_on like.now self.new bytes) }
+        ensures ended { OnOk result ((version : VersionValue) (bytes : List ℕ)
+            → lists_on version like.now self.old bytes ≡ lists_on version like.now self.new bytes) }
         ensures left { OnOk result (self.new.left ≡ Some after) }
         ensures refused { IsOkUnless result Memory }
     {
@@ -321,21 +272,22 @@ impl Lists {
     fn advance_lists<'a>(
         &mut self,
         alloc: Global,
+        version: Version,
         like: &[ZoneList],
         bytes: &'a [u8],
     ) -> Result<&'a [u8], Stop>
         requires { IsSome self.old.left }
         ensures some { OnOk result (IsSome self.new.left) }
-        ensures next { Advances (λ rest. rest.now) (lists_on like.now self.old) bytes.now
-            (lists_on like.now self.new) (none_left self.new.left) result }
+        ensures next { Advances (λ rest. rest.now) (lists_on version like.now self.old) bytes.now
+            (lists_on version like.now self.new) (none_left self.new.left) result }
     {
-        let mut rest = self.pass_all(like, bytes);
+        let mut rest = self.pass_all(version, like, bytes);
         while let Some(after) = after_next(self.left) {
-            if let Some(more) = self.pass_same(alloc, like, after, rest)? {
+            if let Some(more) = self.pass_same(alloc, version, like, after, rest)? {
                 rest = more;
                 continue;
             }
-            rest = self.advance_next(alloc, like, rest)?;
+            rest = self.advance_next(alloc, version, like, rest)?;
             let Some(head) = self.head else {
                 return Ok(rest);
             };
@@ -343,7 +295,7 @@ impl Lists {
                 return Ok(rest);
             }
             self.end(alloc, like, head, after)?;
-            rest = self.pass_all(like, rest);
+            rest = self.pass_all(version, like, rest);
         }
         Ok(rest)
     }
@@ -353,24 +305,26 @@ impl Lists {
     pub(crate) fn advance<'a>(
         &mut self,
         alloc: Global,
+        version: Version,
         like: Option<&Listed<ZoneList>>,
         bytes: &'a [u8],
     ) -> Result<&'a [u8], Stop>
         ensures { Advances (λ rest. rest.now)
-            (lists_on (unwrap_or (option_copied like.entry) []) self.old) bytes.now
-            (lists_on (unwrap_or (option_copied like.entry) []) self.new) (none_left self.new.left)
-            result }
+            (lists_on version (unwrap_or (option_copied like.entry) []) self.old) bytes.now
+            (lists_on version (unwrap_or (option_copied like.entry) []) self.new)
+            (none_left self.new.left) result }
     {
-        let rest = read_count(&mut self.left, MAX_LISTS, bytes)?;
+        let rest = read_count(&mut self.left, CountSize::One, MAX_LISTS, bytes)?;
         if self.left.is_none() {
             return Ok(rest);
         }
-        self.advance_lists(alloc, parts_of(like), rest)
+        self.advance_lists(alloc, version, parts_of(like), rest)
     }
 
     /// The bytes end within a name as long as they are fewer than this.
     pub(crate) fn wants(&self, bytes: &[u8]) -> usize
-        ensures { (like : List ListValue) → Wants (lists_on like self.now) bytes.now result }
+        ensures { (version : VersionValue) (like : List ListValue)
+            → Wants (lists_on version like self.now) bytes.now result }
     {
         match after_next(self.left) {
             Some(_) if self.head.is_some() => self.names.wants(bytes),

@@ -7,6 +7,7 @@ ghost use Rattle.at_base.specs.Reading.{list_at, read};
 ghost use Rattle.table_image.specs.Flaws.{faults};
 ghost use Rattle.table_image.specs.Spelling.{zone_spelling};
 ghost use Rattle.table_image.specs.declared.flaw.Stop.TheVariants.{Memory};
+ghost use Rattle.table_image.specs.declared.version.Version.{Version as VersionValue};
 ghost use Rattle.image_feed.specs.declared.front.Front.TheVariants.{Same};
 ghost use Rattle.image_feed.specs.Growing.{Advances, Leads, Steps, Wants, none_left};
 ghost use Rattle.image_feed.specs.Fronts.{front_of};
@@ -16,10 +17,9 @@ use crate::count::{after_next, is_none_left, read_count};
 use crate::cut::{is_cut, none_if_cut};
 use crate::front::{Again, Front, after_first, first, parts_of};
 use at_base::Name;
-use at_base::limits::MAX_ZONES;
 use std::alloc::Global;
-use table_image::Listed;
-use table_image::parts::{Stop, after_name, name_at};
+use table_image::parts::{CountSize, Stop, after_name, name_at};
+use table_image::{Listed, Version};
 
 impl Again for Name {
     fn once_more(&self, _alloc: Global) -> Result<Name, Stop> {
@@ -103,8 +103,8 @@ impl Names {
 
     // Goes past the names that are the other list's.
     fn pass_same<'a>(&mut self, like: &[Name], bytes: &'a [u8]) -> &'a [u8]
-        ensures leads { Leads (names_on like.now self.old) bytes.now (names_on like.now self.new)
-            result.now }
+        ensures leads { (version : VersionValue) → Leads (names_on version like.now self.old)
+            bytes.now (names_on version like.now self.new) result.now }
         ensures some { IsSome self.old.left → IsSome self.new.left }
     {
         let Front::Same(count) = self.front else {
@@ -133,8 +133,9 @@ impl Names {
         bytes: &'a [u8],
     ) -> Result<Option<&'a [u8]>, Stop>
         requires { self.old.left ≡ Some (suc after) }
-        ensures steps { Steps (λ rest. rest.now) (names_on like.now self.old) bytes.now
-            (names_on like.now self.new) result }
+        ensures steps { (version : VersionValue) → Steps (λ rest. rest.now)
+            (names_on version like.now self.old) bytes.now (names_on version like.now self.new)
+            result }
         ensures left { IfOk result (λ o. IfSome o (λ _. self.new.left ≡ Some after)) }
         ensures some { OnOk result (IsSome self.new.left) }
     {
@@ -156,8 +157,9 @@ impl Names {
     ) -> Result<&'a [u8], Stop>
         requires { IsSome self.old.left }
         ensures some { OnOk result (IsSome self.new.left) }
-        ensures next { Advances (λ rest. rest.now) (names_on like.now self.old) bytes.now
-            (names_on like.now self.new) (none_left self.new.left) result }
+        ensures next { (version : VersionValue) → Advances (λ rest. rest.now)
+            (names_on version like.now self.old) bytes.now (names_on version like.now self.new)
+            (none_left self.new.left) result }
     {
         let mut rest = self.pass_same(like, bytes);
         while let Some(after) = after_next(self.left) {
@@ -174,15 +176,17 @@ impl Names {
     pub(crate) fn advance<'a>(
         &mut self,
         alloc: Global,
+        version: Version,
         like: Option<&Listed<Name>>,
         bytes: &'a [u8],
     ) -> Result<&'a [u8], Stop>
         ensures { Advances (λ rest. rest.now)
-            (names_on (unwrap_or (option_copied like.entry) []) self.old) bytes.now
-            (names_on (unwrap_or (option_copied like.entry) []) self.new) (none_left self.new.left)
-            result }
+            (names_on version (unwrap_or (option_copied like.entry) []) self.old) bytes.now
+            (names_on version (unwrap_or (option_copied like.entry) []) self.new)
+            (none_left self.new.left) result }
     {
-        let rest = read_count(&mut self.left, MAX_ZONES, bytes)?;
+        let limit = version.zone_limit();
+        let rest = read_count(&mut self.left, CountSize::One, limit, bytes)?;
         if self.left.is_none() {
             return Ok(rest);
         }
@@ -191,7 +195,8 @@ impl Names {
 
     /// The bytes end within a name as long as they are fewer than this.
     pub(crate) fn wants(&self, bytes: &[u8]) -> usize
-        ensures { (like : List (List ℕ)) → Wants (names_on like self.now) bytes.now result }
+        ensures { (version : VersionValue) (like : List (List ℕ))
+            → Wants (names_on version like self.now) bytes.now result }
     {
         match after_next(self.left) {
             Some(_) => name_wants(bytes),

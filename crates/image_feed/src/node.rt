@@ -1,20 +1,24 @@
 //! Nodes that come in pieces.
 
-ghost use Rattle.std.specs.Prelude.{◌≡◌, [], None};
-ghost use Rattle.image_feed.specs.Parts.{node_head};
+ghost use Rattle.std.specs.Prelude.{◌≡◌, ◌&&◌};
+ghost use Rattle.image_feed.specs.Growing.{Advances, none_left};
+ghost use Rattle.image_feed.specs.Parts.{IsNewNode, node_head, names_part};
+ghost use Rattle.image_feed.specs.declared.node.NodeHead.{NodeHead as HeadValue};
 
 use crate::growth::Growing;
 use crate::head::read_head;
+use crate::mappings::advance_mappings;
 use crate::several::Several;
 use at_base::limits::MAX_NAMES;
 use at_base::{Addr, Hw, Name};
 use std::alloc::Global;
 use table_image::parts::{
-    Context, Fault, FlatItem, Item, Stop, address_at, hardware_at, index_at, name_at, own_router_at,
+    Context, CountSize, Fault, FlatItem, Item, Stop, address_at, hardware_at, index_at, name_at,
+    own_router_at,
 };
-use table_image::{Node, NodeName};
+use table_image::{Mapping, Node, NodeName};
 
-/// A node without its names.
+/// A node without its names and mappings.
 #[derive(Clone, Copy, Debug)]
 pub(crate) struct NodeHead {
     pub cable: u8,
@@ -31,6 +35,8 @@ pub(crate) struct GrowingNode {
     pub head: Option<NodeHead>,
     /// Its names.
     pub names: Several<NodeName>,
+    /// Its mappings.
+    pub mappings: Several<Mapping>,
 }
 
 impl Item for NodeHead {
@@ -73,15 +79,34 @@ impl FlatItem for NodeHead {
 impl GrowingNode {
     /// A node of which nothing was read.
     pub(crate) fn new(alloc: Global) -> GrowingNode
-        ensures head { result.head ≡ None }
-        ensures left { result.names.left ≡ None }
-        ensures items { result.names.items.items ≡ [] }
-        ensures low { result.names.low ≡ 0 }
+        ensures { IsNewNode result }
     {
         GrowingNode {
             head: None,
             names: Several::new(alloc),
+            mappings: Several::new(alloc),
         }
+    }
+
+    // Reads what the bytes have of the names and the mappings.
+    fn advance_lists<'a>(&mut self, context: Context, bytes: &'a [u8]) -> Result<&'a [u8], Stop>
+        ensures head { self.new.head ≡ self.old.head }
+        ensures next { (h : HeadValue) → Advances (λ rest. rest.now)
+            (names_part context.version self.old h) bytes.now
+            (names_part context.version self.new h)
+            (none_left self.new.names.left && none_left self.new.mappings.left) result }
+    {
+        let rest = match self
+            .names
+            .advance(context, CountSize::One, MAX_NAMES, bytes)
+        {
+            Ok(rest) => rest,
+            Err(stop) => return Err(stop),
+        };
+        if !self.names.is_whole() {
+            return Ok(rest);
+        }
+        advance_mappings(&mut self.mappings, context.version, rest)
     }
 }
 
@@ -93,14 +118,14 @@ impl Growing for GrowingNode {
 
     type Whole = Node;
 
-    ghost spelling = { λ context. node_spelling context.cables };
+    ghost spelling = { λ context. node_spelling context.version context.cables };
 
-    ghost goes_on = { λ context like n. node_on context.cables n };
+    ghost goes_on = { λ context like n. node_on context.version context.cables n };
 
-    ghost whole = { λ n. is_some n.head && none_left n.names.left };
+    ghost whole = { λ n. is_some n.head && (none_left n.names.left && none_left n.mappings.left) };
 
     fn is_whole(&self) -> bool {
-        self.head.is_some() && self.names.is_whole()
+        self.head.is_some() && (self.names.is_whole() && self.mappings.is_whole())
     }
 
     fn advance<'a>(
@@ -114,7 +139,7 @@ impl Growing for GrowingNode {
         let Some(_) = self.head else {
             return Ok(rest);
         };
-        self.names.advance(context, MAX_NAMES, rest)
+        self.advance_lists(context, rest)
     }
 
     // Nodes are a small part of an image.
@@ -134,6 +159,7 @@ impl Growing for GrowingNode {
             zone: head.zone,
             router: head.router,
             names: self.names.take(alloc),
+            mappings: self.mappings.take(alloc),
         })
     }
 }

@@ -1,23 +1,24 @@
 //! Routers that come in pieces.
 
-ghost use Rattle.std.specs.Prelude.{◌≡◌, ◌&&◌, [], true, unwrap_or};
+ghost use Rattle.std.specs.Prelude.{◌≡◌, ◌&&◌, [], None, true, unwrap_or};
 ghost use Rattle.std.specs.Option.{option_copied};
 ghost use Rattle.image_feed.specs.Parts as spec;
 ghost use Rattle.image_feed.specs.Growing.{Advances, none_left};
-ghost use Rattle.image_feed.specs.Parts.{IsNewRouter, rows_on};
+ghost use Rattle.image_feed.specs.Parts.{IsNewPort, IsNewRouter, rows_on};
 
-use crate::growth::Growing;
+use crate::growth::{Growing, Growth};
 use crate::lists::Lists;
+use crate::port::GrowingPort;
 use crate::several::Several;
 use at_base::limits::{MAX_PORTS, MAX_ROWS};
 use std::alloc::Global;
-use table_image::parts::{Context, Stop};
-use table_image::{Listed, Port, Router, Row, ZoneList};
+use table_image::parts::{Context, CountSize, Stop};
+use table_image::{Listed, Router, Row, ZoneList};
 
 /// A router of which the first parts may have been read.
 #[derive(Drop)]
 pub(crate) struct GrowingRouter {
-    pub ports: Several<Port>,
+    pub ports: Growth<GrowingPort>,
     pub rows: Several<Row>,
     pub lists: Lists,
 }
@@ -38,17 +39,28 @@ impl GrowingRouter {
         ensures { IsNewRouter result }
     {
         GrowingRouter {
-            ports: Several::new(alloc),
+            ports: Growth::new(alloc, GrowingPort::new(alloc)),
             rows: Several::new(alloc),
             lists: Lists::new(),
         }
+    }
+
+    // Whether nothing of its ports was read.
+    fn has_no_ports(&self) -> bool
+        ensures left { result ≡ true → self.now.ports.left ≡ None }
+        ensures items { result ≡ true → self.now.ports.items.items ≡ [] }
+        ensures next { result ≡ true → IsNewPort self.now.ports.next }
+    {
+        self.ports.left.is_none()
+            && self.ports.items.as_slice().is_empty()
+            && self.ports.next.is_new()
     }
 
     /// Whether nothing of it was read.
     pub(crate) fn is_new(&self) -> bool
         ensures { result ≡ true → IsNewRouter self.now }
     {
-        self.ports.is_new() && self.rows.is_new() && self.lists.is_new()
+        self.has_no_ports() && self.rows.is_new() && self.lists.is_new()
     }
 
     // Reads what the bytes have of the rows and the zone lists.
@@ -61,19 +73,21 @@ impl GrowingRouter {
     ) -> Result<&'a [u8], Stop>
         ensures ports { self.new.ports ≡ self.old.ports }
         ensures next { Advances (λ rest. rest.now)
-            (rows_on (option_copied like.entry) self.old self.old.ports.items.items) bytes.now
-            (rows_on (option_copied like.entry) self.new self.old.ports.items.items)
+            (rows_on context.version (option_copied like.entry) self.old self.old.ports.items.items)
+            bytes.now
+            (rows_on context.version (option_copied like.entry) self.new self.old.ports.items.items)
             (none_left self.new.rows.left && none_left self.new.lists.left) result }
     {
         let of_ports = context.with_ports(self.ports.items.as_slice().len());
-        let rest = match self.rows.advance(of_ports, MAX_ROWS, bytes) {
+        let rest = match self.rows.advance(of_ports, CountSize::One, MAX_ROWS, bytes) {
             Ok(rest) => rest,
             Err(stop) => return Err(stop),
         };
         if !self.rows.is_whole() {
             return Ok(rest);
         }
-        self.lists.advance(alloc, lists_of(like), rest)
+        self.lists
+            .advance(alloc, context.version, lists_of(like), rest)
     }
 }
 
@@ -85,9 +99,9 @@ impl Growing for GrowingRouter {
 
     type Whole = Router;
 
-    ghost spelling = { λ context. router_spelling context.cables };
+    ghost spelling = { λ context. router_spelling context.version context.cables };
 
-    ghost goes_on = { λ context like r. router_on context.cables like r };
+    ghost goes_on = { λ context like r. router_on context.version context.cables like r };
 
     ghost whole = { λ r. none_left r.ports.left && none_left r.rows.left && none_left r.lists.left };
 
@@ -102,7 +116,7 @@ impl Growing for GrowingRouter {
         like: Option<&Router>,
         bytes: &'a [u8],
     ) -> Result<&'a [u8], Stop> {
-        let rest = match self.ports.advance(context, MAX_PORTS, bytes) {
+        let rest = match self.ports.advance(alloc, context, MAX_PORTS, bytes) {
             Ok(rest) => rest,
             Err(stop) => return Err(stop),
         };
@@ -122,8 +136,10 @@ impl Growing for GrowingRouter {
 
     fn take(&mut self, alloc: Global, like: Option<&Router>) -> Result<Router, Stop> {
         let lists = self.lists.take(alloc, lists_of(like))?;
+        let anew = Growth::new(alloc, GrowingPort::new(alloc));
+        let ports = std::mem::replace(&mut self.ports, anew);
         Ok(Router {
-            ports: self.ports.take(alloc),
+            ports: ports.into_listed(),
             rows: self.rows.take(alloc),
             lists,
         })

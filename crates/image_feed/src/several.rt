@@ -2,13 +2,16 @@
 
 ghost use Rattle.std.specs.Prelude.{◌≡◌, [], None, Some, suc, true, IfOk, IfSome, IsOkUnless, IsSome, OnOk};
 ghost use Rattle.table_image.specs.declared.flaw.Stop.TheVariants.{Memory};
+ghost use Rattle.at_base.specs.Grammar.{one};
+ghost use Rattle.table_image.specs.Counts.{size_of};
 ghost use Rattle.image_feed.specs.Growing.{Advances, Steps, counted_on, none_left};
+ghost use Rattle.image_feed.specs.Parts.{AreUnread};
 
 use crate::count::{after_next, is_none_left, read_count};
 use crate::cut::none_if_cut;
 use std::alloc::Global;
 use table_image::Listed;
-use table_image::parts::{Context, FlatItem, Stop};
+use table_image::parts::{Context, CountSize, FlatItem, Stop};
 
 /// A counted list of which the first parts were read.
 #[derive(Drop)]
@@ -49,9 +52,7 @@ pub(crate) fn make_room<T: Drop>(items: &mut Vec<T>, count: u16) -> Result<(), S
 impl<T: FlatItem> Several<T> {
     /// A list of which nothing was read.
     pub(crate) fn new(alloc: Global) -> Several<T>
-        ensures left { result.left ≡ None }
-        ensures items { result.items.items ≡ [] }
-        ensures low { result.low ≡ 0 }
+        ensures { AreUnread result }
     {
         Several {
             left: None,
@@ -62,9 +63,7 @@ impl<T: FlatItem> Several<T> {
 
     /// Whether nothing of it was read.
     pub(crate) fn is_new(&self) -> bool
-        ensures left { result ≡ true → self.now.left ≡ None }
-        ensures items { result ≡ true → self.now.items.items ≡ [] }
-        ensures low { result ≡ true → self.now.low ≡ 0 }
+        ensures { result ≡ true → AreUnread self.now }
     {
         self.left.is_none() && self.items.as_slice().is_empty() && self.low == 0
     }
@@ -79,9 +78,7 @@ impl<T: FlatItem> Several<T> {
     /// The list, which begins anew.
     pub(crate) fn take(&mut self, alloc: Global) -> Listed<T>
         ensures taken { result ≡ self.old.items.items }
-        ensures left { self.new.left ≡ None }
-        ensures items { self.new.items.items ≡ [] }
-        ensures low { self.new.low ≡ 0 }
+        ensures anew { AreUnread self.new }
     {
         let taken = std::mem::replace(&mut self.items, Vec::new(alloc));
         self.left = None;
@@ -99,9 +96,9 @@ impl<T: FlatItem> Several<T> {
     ) -> Result<Option<&'a [u8]>, Stop>
         requires { self.old.left ≡ Some (suc after) }
         ensures steps { Steps (λ rest. rest.now)
-            (counted_on 0 (T.spelling context) T.next self.old.left self.old.items.items
+            (counted_on one 0 (T.spelling context) T.next self.old.left self.old.items.items
             self.old.low) bytes.now
-            (counted_on 0 (T.spelling context) T.next self.new.left self.new.items.items
+            (counted_on one 0 (T.spelling context) T.next self.new.left self.new.items.items
             self.new.low) result }
         ensures left { IfOk result (λ o. IfSome o (λ _. self.new.left ≡ Some after)) }
         ensures some { OnOk result (IsSome self.new.left) }
@@ -122,9 +119,9 @@ impl<T: FlatItem> Several<T> {
         requires { IsSome self.old.left }
         ensures some { OnOk result (IsSome self.new.left) }
         ensures next { Advances (λ rest. rest.now)
-            (counted_on 0 (T.spelling context) T.next self.old.left self.old.items.items
+            (counted_on one 0 (T.spelling context) T.next self.old.left self.old.items.items
             self.old.low) bytes.now
-            (counted_on 0 (T.spelling context) T.next self.new.left self.new.items.items
+            (counted_on one 0 (T.spelling context) T.next self.new.left self.new.items.items
             self.new.low) (none_left self.new.left) result }
     {
         let mut rest = bytes;
@@ -142,16 +139,17 @@ impl<T: FlatItem> Several<T> {
     pub(crate) fn advance<'a>(
         &mut self,
         context: Context,
+        size: CountSize,
         limit: usize,
         bytes: &'a [u8],
     ) -> Result<&'a [u8], Stop>
         ensures { Advances (λ rest. rest.now)
-            (counted_on limit (T.spelling context) T.next self.old.left self.old.items.items
+            (counted_on (size_of size) limit (T.spelling context) T.next self.old.left self.old.items.items
             self.old.low) bytes.now
-            (counted_on limit (T.spelling context) T.next self.new.left self.new.items.items
+            (counted_on (size_of size) limit (T.spelling context) T.next self.new.left self.new.items.items
             self.new.low) (none_left self.new.left) result }
     {
-        let rest = read_count(&mut self.left, limit, bytes)?;
+        let rest = read_count(&mut self.left, size, limit, bytes)?;
         let Some(left) = self.left else {
             return Ok(rest);
         };

@@ -1,12 +1,13 @@
 //! The tables of an internet of which a part was read.
 
 ghost use Rattle.std.specs.Prelude.{◌≡◌, ◌&&◌, [], ℕ, List, IfOk, true};
-ghost use Rattle.table_image.specs.Internet.{internet};
 ghost use Rattle.table_image.specs.declared.cable.Cable.{Cable as CableValue};
 ghost use Rattle.table_image.specs.declared.router.Router.{Router as RouterValue};
+ghost use Rattle.table_image.specs.declared.version.Version.{Version as VersionValue};
 ghost use Rattle.image_feed.specs.Growing.{Advances, Wants, none_left};
 ghost use Rattle.image_feed.specs.Tables.{IsNew, cables_part, context_of, image_head, internet_of};
-ghost use Rattle.image_feed.specs.Tables.{is_whole, nodes_part, routers_part, tables_on};
+ghost use Rattle.image_feed.specs.Tables.{is_whole, nodes_part, parts_internet, routers_part};
+ghost use Rattle.image_feed.specs.Tables.{tables_on, version_in};
 
 use crate::cable::GrowingCable;
 use crate::growth::Growth;
@@ -19,12 +20,12 @@ use std::alloc::Global;
 use table_image::parts::{
     Context, Fault, FlatItem, Item, Stop, byte_within, magic_at, router_like, wrong,
 };
-use table_image::{Cable, Listed, Node, Router};
+use table_image::{Cable, Listed, Node, Router, Version};
 
 /// The first fields of an image.
 #[derive(Clone, Copy, Debug)]
 pub(crate) struct ImageHead {
-    pub version: u8,
+    pub version: Version,
 }
 
 impl Item for ImageHead {
@@ -44,9 +45,19 @@ impl FlatItem for ImageHead {
     #[tactic(auto, unfolding(crate::specs::Tables::image_head))]
     fn flat_at(_context: Context, _low: u32, bytes: &[u8]) -> Result<(ImageHead, &[u8]), Fault> {
         let (_magic, rest) = magic_at(bytes)?;
-        let (version, rest) = byte_within(rest, 1, 1, Cause::Version)?;
+        let (number, rest) = byte_within(rest, 1, 2, Cause::Version)?;
+        let version = Version::of(number);
         Ok((ImageHead { version }, rest))
     }
+}
+
+/// The tables of an internet, all of which were read.
+#[derive(Drop)]
+pub(crate) struct TableParts {
+    pub version: Version,
+    pub cables: Listed<Cable>,
+    pub routers: Listed<Router>,
+    pub nodes: Listed<Node>,
 }
 
 /// The tables of an internet of which the first parts were read.
@@ -83,24 +94,29 @@ impl Tables {
     }
 
     // The context of routers and nodes.
-    fn context(&self) -> Context
-        ensures { result ≡ context_of self.now.cables.items.items }
+    fn context(&self, version: Version) -> Context
+        ensures { result ≡ context_of version self.now.cables.items.items }
     {
-        Context::nothing().with_cables(self.cables.items.as_slice().len())
+        Context::nothing(version).with_cables(self.cables.items.as_slice().len())
     }
 
     // Reads what the bytes have of the nodes. Nothing follows them.
-    fn advance_nodes<'a>(&mut self, alloc: Global, bytes: &'a [u8]) -> Result<&'a [u8], Stop>
+    fn advance_nodes<'a>(
+        &mut self,
+        alloc: Global,
+        version: Version,
+        bytes: &'a [u8],
+    ) -> Result<&'a [u8], Stop>
         ensures others { (self.new.head ≡ self.old.head) × (self.new.cables ≡ self.old.cables)
             × (self.new.routers ≡ self.old.routers) }
         ensures next { (routers : List RouterValue) → Advances (λ rest. rest.now)
-            (nodes_part self.old self.old.cables.items.items routers) bytes.now
-            (nodes_part self.new self.old.cables.items.items routers)
+            (nodes_part version self.old self.old.cables.items.items routers) bytes.now
+            (nodes_part version self.new self.old.cables.items.items routers)
             (none_left self.new.nodes.left) result }
         ensures end { IfOk result (λ rest. none_left self.new.nodes.left ≡ true
             → rest.now ≡ []) }
     {
-        let context = self.context();
+        let context = self.context(version);
         let rest = match self.nodes.advance(alloc, context, MAX_NODES, bytes) {
             Ok(rest) => rest,
             Err(stop) => return Err(stop),
@@ -115,17 +131,22 @@ impl Tables {
     }
 
     // Reads what the bytes have of the routers and of what follows them.
-    fn advance_routers<'a>(&mut self, alloc: Global, bytes: &'a [u8]) -> Result<&'a [u8], Stop>
+    fn advance_routers<'a>(
+        &mut self,
+        alloc: Global,
+        version: Version,
+        bytes: &'a [u8],
+    ) -> Result<&'a [u8], Stop>
         ensures others { (self.new.head ≡ self.old.head) × (self.new.cables ≡ self.old.cables) }
         ensures next { Advances (λ rest. rest.now)
-            (routers_part self.old self.old.cables.items.items) bytes.now
-            (routers_part self.new self.old.cables.items.items)
+            (routers_part version self.old self.old.cables.items.items) bytes.now
+            (routers_part version self.new self.old.cables.items.items)
             (none_left self.new.routers.left && none_left self.new.nodes.left) result }
         ensures end { IfOk result (λ rest.
             (none_left self.new.routers.left && none_left self.new.nodes.left) ≡ true
             → rest.now ≡ []) }
     {
-        let context = self.context();
+        let context = self.context(version);
         let rest = match self.routers.advance(alloc, context, MAX_ROUTERS, bytes) {
             Ok(rest) => rest,
             Err(stop) => return Err(stop),
@@ -133,15 +154,15 @@ impl Tables {
         if !self.routers.is_whole() {
             return Ok(rest);
         }
-        self.advance_nodes(alloc, rest)
+        self.advance_nodes(alloc, version, rest)
     }
 
     // The routers' zone lists are usually those of the cables.
     fn expect_lists(&mut self, alloc: Global)
         ensures others { (self.new.head ≡ self.old.head) × (self.new.cables ≡ self.old.cables)
             × (self.new.nodes ≡ self.old.nodes) }
-        ensures same { (cables : List CableValue) (bytes : List ℕ)
-            → routers_part self.old cables bytes ≡ routers_part self.new cables bytes }
+        ensures same { (version : VersionValue) (cables : List CableValue) (bytes : List ℕ)
+            → routers_part version self.old cables bytes ≡ routers_part version self.new cables bytes }
     {
         if self.routers.hint.is_none()
             && self.routers.left.is_none()
@@ -152,19 +173,22 @@ impl Tables {
     }
 
     // Reads what the bytes have of the cables and of what follows them.
-    fn advance_cables<'a>(&mut self, alloc: Global, bytes: &'a [u8]) -> Result<&'a [u8], Stop>
+    fn advance_cables<'a>(
+        &mut self,
+        alloc: Global,
+        version: Version,
+        bytes: &'a [u8],
+    ) -> Result<&'a [u8], Stop>
         ensures head { self.new.head ≡ self.old.head }
-        ensures next { Advances (λ rest. rest.now) (cables_part self.old) bytes.now
-            (cables_part self.new) (none_left self.new.cables.left
+        ensures next { Advances (λ rest. rest.now) (cables_part version self.old) bytes.now
+            (cables_part version self.new) (none_left self.new.cables.left
             && none_left self.new.routers.left && none_left self.new.nodes.left) result }
         ensures end { IfOk result (λ rest. (none_left self.new.cables.left
             && none_left self.new.routers.left && none_left self.new.nodes.left) ≡ true
             → rest.now ≡ []) }
     {
-        let rest = match self
-            .cables
-            .advance(alloc, Context::nothing(), MAX_CABLES, bytes)
-        {
+        let context = Context::nothing(version);
+        let rest = match self.cables.advance(alloc, context, MAX_CABLES, bytes) {
             Ok(rest) => rest,
             Err(stop) => return Err(stop),
         };
@@ -172,7 +196,7 @@ impl Tables {
             return Ok(rest);
         }
         self.expect_lists(alloc);
-        self.advance_routers(alloc, rest)
+        self.advance_routers(alloc, version, rest)
     }
 
     /// Reads what the bytes have of the tables. Returns the bytes after it.
@@ -181,14 +205,15 @@ impl Tables {
             (tables_on self.new) (is_whole self.new) result }
         ensures end { IfOk result (λ rest. is_whole self.new ≡ true → rest.now ≡ []) }
     {
-        let rest = match read_head(&mut self.head, Context::nothing(), 0, bytes) {
+        let context = Context::nothing(Version::V1);
+        let rest = match read_head(&mut self.head, context, 0, bytes) {
             Ok(rest) => rest,
             Err(stop) => return Err(stop),
         };
-        let Some(_) = self.head else {
+        let Some(head) = self.head else {
             return Ok(rest);
         };
-        self.advance_cables(alloc, rest)
+        self.advance_cables(alloc, head.version, rest)
     }
 
     /// The bytes end within a name as long as they are fewer than this.
@@ -207,20 +232,32 @@ impl Tables {
         0
     }
 
-    /// The cables, routers and nodes that were read.
-    pub(crate) fn into_parts(self) -> (Listed<Cable>, Listed<Router>, Listed<Node>)
-        ensures { internet result.0 result.1 result.2 ≡ internet_of self }
+    /// The version that was read; version 1 where none was.
+    pub(crate) fn version(&self) -> Version
+        ensures { result ≡ version_in self.now.head }
     {
+        match self.head {
+            Some(head) => head.version,
+            None => Version::V1,
+        }
+    }
+
+    /// The version, the cables, the routers and the nodes that were read.
+    pub(crate) fn into_parts(self) -> TableParts
+        ensures { parts_internet result ≡ internet_of self }
+    {
+        let version = self.version();
         let Tables {
             cables,
             routers,
             nodes,
             ..
         } = self;
-        (
-            cables.into_listed(),
-            routers.into_listed(),
-            nodes.into_listed(),
-        )
+        TableParts {
+            version,
+            cables: cables.into_listed(),
+            routers: routers.into_listed(),
+            nodes: nodes.into_listed(),
+        }
     }
 }

@@ -2,6 +2,7 @@
 use Rattle.std.proofs.Common.{◌≡◌, ℕ, suc, ◌<◌, true, ◌&&◌, ◌||◌, not, List, [], ◌∷◌, Some, refl, sym, ap, ◌∙◌, arith, length}
 use Rattle.std.proofs.Common.{nat_lt, option_map, ◌==◌}
 use Rattle.std.proofs.lemmas.Bool.{lt-ltb}
+use Rattle.at_base.specs.Limits.{max_zones}
 use Rattle.at_base.specs.Range.{is_range}
 use Rattle.audit.specs.Rules.{Passes}
 use Rattle.audit.specs.ZoneLists.{IsListOf}
@@ -85,8 +86,8 @@ module _ (i : Internet) (ok : Passes i) (bounded : IsBounded i) (r : ℕ) (route
   pub few_zones : have_few_zones router.lists ≡ true
   few_zones =
       sym (all_few router.lists (λ k l at. ((bounded.each r router known).each_list k l at).few))
-      ∙ all_when (λ (l : ZoneList). l.complete || nat_lt (length l.zones) 64) router.lists
-      (λ k l at. ap (λ b. b || nat_lt (length l.zones) 64) (complete k l at))
+      ∙ all_when (λ (l : ZoneList). l.complete || nat_lt (length l.zones) max_zones) router.lists
+      (λ k l at. ap (λ b. b || nat_lt (length l.zones) max_zones) (complete k l at))
 
 -- The lists of a router by its index have the ranges of a zone table, which has room for them.
 module _ (i : Internet) (r : ℕ) (ok : Passes i) (bounded : IsBounded i) (there : r < length i.routers) where

@@ -4,6 +4,7 @@ use Rattle.std.specs.Prelude.{Some, Ok, codes, nat_le, ℤ, pos, negsuc}
 use Rattle.std.specs.List.{list_all}
 use Rattle.std.proofs.lemmas.Bool.{and_parts}
 use Rattle.toml.specs.Data.{Data, Members, as_integer, as_str, as_table, get_member}
+use Rattle.at_base.specs.Limits.{max_zones}
 use Rattle.at_base.specs.Range.{Span, is_between, is_range}
 use Rattle.at_base.specs.declared.address.Addr.{Addr}
 use Rattle.at_base.specs.declared.error.Part.TheVariants.{Cable as CablePart, Router as RouterPart, Node as NodePart}
@@ -60,11 +61,11 @@ span_is (a ∷ b ∷ []) s e =
     subst (λ (x : Span). is_range x.start x.end ≡ true) c.1 c.0
 span_is (a ∷ b ∷ c ∷ ds) s e = absurd cc
 
-zones_are : (d : Data) (names : List (List ℕ)) → zones d ≡ Some names → is_between 1 64 (length names) ≡ true
+zones_are : (d : Data) (names : List (List ℕ)) → zones d ≡ Some names → is_between 1 max_zones (length names) ≡ true
 zones_are d names e =
-    let items = given_is (list_within 1 64 d) (all zone) names e in
+    let items = given_is (list_within 1 max_zones d) (all zone) names e in
     let read = each_all zone (λ name. true) (λ d name e. refl) items.0 names (all_is zone items.0 names items.2) in
-    subst (λ n. is_between 1 64 n ≡ true) (sym read.1) (within_is 1 64 d items.0 items.1)
+    subst (λ n. is_between 1 max_zones n ≡ true) (sym read.1) (within_is 1 max_zones d items.0 items.1)
 
 cable_is : (d : Data) (c : Cable) → cable_of d ≡ Some c → is_cable c ≡ true
 cable_is d c e =
@@ -75,7 +76,7 @@ cable_is d c e =
     let items = given_is (list value.0) span_of networks.0 value.2 in
     let listed = given_is (get_member (codes "zones") ms.0) zones names.0 names.1 in
     subst (λ (x : Cable). is_cable x ≡ true) (some_is names.2)
-    (joined (is_range networks.0.start networks.0.end) (is_between 1 64 (length names.0))
+    (joined (is_range networks.0.start networks.0.end) (is_between 1 max_zones (length names.0))
     (span_is items.0 networks.0 items.2) (zones_are listed.0 names.0 listed.2))
 
 -- ---- Ports

@@ -7,7 +7,7 @@ use Rattle.internet_file.specs.Values.{list_within, range, zone}
 use Rattle.internet_file.specs.declared.cable.Cable.{Cable}
 use Rattle.at_base.specs.Limits.{max_zones}
 
--- A list of 1 to 64 names of zones.
+-- A list of 1 to 255 names of zones.
 abbrev pub zones : Data → Option (List (List ℕ))
 zones d = given (list_within 1 max_zones d) (all zone)
 

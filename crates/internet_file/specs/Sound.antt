@@ -13,7 +13,7 @@ use Rattle.internet_file.specs.declared.port.Port.{Port}
 use Rattle.internet_file.specs.declared.router.Router.{Router}
 use Rattle.at_base.specs.Limits.{max_cables, max_nodes, max_ports, max_routers, max_zones}
 
--- The range is valid, and there are 1 to 64 zones.
+-- The range is valid, and there are 1 to 255 zones.
 abbrev pub is_cable : Cable → Bool
 is_cable c = is_range c.range.start c.range.end && is_between 1 max_zones (length c.zones)
 

@@ -21,7 +21,7 @@ use toml::{Table, Value};
 pub struct Cable {
     /// The networks of the cable.
     pub range: Range,
-    /// The names of its zones, 1 to 64; the first is the default zone.
+    /// The names of its zones, 1 to 255; the first is the default zone.
     pub zones: Listed<Name>,
 }
 
@@ -39,7 +39,7 @@ impl Reader for Zones {
     }
 }
 
-/// The 1 to 64 names of zones at the key. Error: `Memory`.
+/// The 1 to 255 names of zones at the key. Error: `Memory`.
 fn zones_at(alloc: Global, table: &Table, key: &str) -> Result<Option<Listed<Name>>, Error>
     ensures read { IfOk result (λ x. x ≡ at key.now cables_spec.zones (table_view table.now)) }
     ensures refused { IsOkUnless result Error.Memory }

@@ -2,6 +2,7 @@
 use Rattle.std.proofs.Common.{◌≡◌, ℕ, zero, suc, List, [], ◌∷◌, ◌++◌, map, Option, Some, None, refl, sym, ap, ◌∙◌, slice_get, subst}
 use Rattle.std.specs.Prelude.{length, slice_set, ◌≤◌}
 use Rattle.aarp.specs.Mapping.{Mappings, holding}
+use Rattle.at_base.specs.Limits.{max_mappings}
 use Rattle.at_base.specs.declared.address.Addr.{Addr}
 use Rattle.cable_model.specs.Logs.{Cabling, transcript}
 use Rattle.cable_model.specs.Outcomes.{Held as Waiter, entries_of, held_next, held_of, sent_entries}
@@ -79,7 +80,7 @@ few_known (m ∷ ms) [] e few = absurd cc
 few_known (m ∷ ms) (n ∷ ns) e few =
     let head : m.known ≡ n.known = cc in
     let tail : map (λ (m : Mappings). m.known) ms ≡ map (λ (m : Mappings). m.known) ns = cc in
-    (subst (λ l. length l ≤ 256) (sym head) few.0, few_known ms ns tail few.1)
+    (subst (λ l. length l ≤ max_mappings) (sym head) few.0, few_known ms ns tail few.1)
 
 pub few_same : (k l : Knowing) → KnowsSame k l → AreFew k.maps → AreFew l.maps
 few_same k l x few = few_known l.maps k.maps x.known few

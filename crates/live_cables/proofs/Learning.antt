@@ -5,6 +5,7 @@ use Rattle.std.specs.Prelude.{IsSome, cond, not, slice_set}
 use Rattle.std.specs.List.{AllByRecursion as Each}
 use Rattle.aarp.specs.Mapping.{Mappings, forgotten, is_for, learnt, mapping_of, met}
 use Rattle.at_base.specs.Address.{same_address}
+use Rattle.at_base.specs.Limits.{max_mappings}
 use Rattle.at_base.specs.declared.address.Addr.{Addr}
 use Rattle.at_base.specs.declared.address.Hw.{Hw}
 use Rattle.live_cables.specs.Holding.{AreFew, IsKnownAt, IsMet, stamps_for, with_known, with_learnt, without_held}
@@ -44,7 +45,7 @@ forgotten_met a hw known =
     (same_self a)
 
 learnt_met : (a : Addr) (hw : Hw) (known : List (Addr × Hw)) → learnt a hw (met a hw known) ≡ learnt a hw known
-learnt_met a hw known = ap (λ l. take 256 ((a, hw) ∷ l)) (forgotten_met a hw known)
+learnt_met a hw known = ap (λ l. take max_mappings ((a, hw) ∷ l)) (forgotten_met a hw known)
 
 none_forgotten : (a : Addr) (known : List (Addr × Hw)) → mapping_of a known ≡ None → forgotten a known ≡ known
 none_forgotten a [] e = refl
@@ -105,8 +106,8 @@ module _ (maps : List Mappings) (i : ℕ) (a : Addr) (hw : Hw) where
       by : (o : Option Mappings) → slice_get maps i ≡ o → AreFew (with_known maps i (learnt a hw))
       by None e = rw e few
       by (Some m) e =
-          rw e (each_set (λ (m : Mappings). length m.known ≤ 256) maps i (record m { known = learnt a hw m.known }) few
-          (few_taken 256 ((a, hw) ∷ filter (λ m. not (same_address a m.0)) m.known)))
+          rw e (each_set (λ (m : Mappings). length m.known ≤ max_mappings) maps i (record m { known = learnt a hw m.known }) few
+          (few_taken max_mappings ((a, hw) ∷ filter (λ m. not (same_address a m.0)) m.known)))
 
   few_left : AreFew maps → AreFew (without_held maps i a)
   few_left few = by (slice_get maps i) refl

@@ -125,7 +125,7 @@ IsMet i answer maps true new =
     IsUnknownAt maps i answer.source × (new ≡ with_known maps i (met answer.source answer.source_hw))
 IsMet i answer maps false new = IsKnownAt maps i answer.source × (new ≡ maps)
 
--- Each seat knows at most 256 mappings.
+-- Each seat knows at most 512 mappings.
 abbrev pub AreFew : List Mappings → Type 0
 AreFew maps = Each (λ (m : Mappings). length m.known ≤ max_mappings) maps
 

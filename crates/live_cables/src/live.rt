@@ -13,6 +13,7 @@ ghost use Rattle.cable_model.specs.Outcomes.{AreSeatsOf, IsLeast, is_named};
 ghost use Rattle.cable_model.specs.Rooms.{held_rooms};
 ghost use Rattle.cable_model.specs.Transcript.{ArePutOnce};
 ghost use Rattle.live_cables.specs.Finding.{held_at};
+ghost use Rattle.live_cables.specs.Holding.{AreFew};
 ghost use Rattle.live_cables.specs.Living.{GivesInPart, GivesOut, IsTakenBy, PassesFor, PassesInPart};
 ghost use Rattle.live_cables.specs.Living.{Plays, PlaysOn, TakesIn, happened};
 ghost use Rattle.live_cables.specs.Putting.{first_room};
@@ -25,7 +26,7 @@ use crate::losing::lose_from;
 use crate::neighbours::Neighbours;
 use crate::passing::ask_all;
 use crate::taking::take;
-use aarp::Addresses;
+use aarp::{Addresses, Mapper};
 use at_base::{Addr, Error, Range};
 use cable_model::{Cables, Entry, Rooms, Seat};
 use station::{Outputs, Station as Taker};
@@ -142,6 +143,15 @@ impl LiveCables {
         ensures { result ≡ length (pending_on self.now.cabling) }
     {
         self.cables.pending_count()
+    }
+
+    /// The mappers of the seats, in the order of the seats. Allocates nothing.
+    pub fn mappers(&self) -> &[Mapper]
+        ensures value { result.now ≡ self.now.maps }
+        ensures few { AreFew self.now.maps }
+        ensures each { length self.now.maps ≡ length self.now.cabling.seats }
+    {
+        self.near.mappers()
     }
 
     /// Sets for each cable whether it loses the frames that are put on it from now on. Cables past

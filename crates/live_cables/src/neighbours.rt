@@ -253,6 +253,13 @@ impl Neighbours {
         }
     }
 
+    /// The mappers of the seats, in order. Allocates nothing.
+    pub fn mappers(&self) -> &[Mapper]
+        ensures { result.now ≡ self.now.maps }
+    {
+        self.mappers.as_slice()
+    }
+
     /// Advances the mappings of a seat by a tick. Does nothing if there is no such seat.
     pub fn tick(&mut self, seat: usize) -> Asks
         ensures ask { result.ask ≡ to_ask (held_at self.old.maps seat) }

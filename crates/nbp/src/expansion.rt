@@ -1,7 +1,7 @@
 //! The expansion of a request for names in a zone: the lookups and forwarded requests that a router
 //! sends.
 
-ghost use Rattle.std.specs.Prelude.{◌≡◌, ◌≤◌, length, map, position, IfOk, IsOkUnless};
+ghost use Rattle.std.specs.Prelude.{◌≡◌, ◌≤◌, [], length, map, position, IfOk, IsOk, IsOkUnless};
 ghost use Rattle.std.specs.List.{All};
 ghost use Rattle.at_base.specs.Range.{same_range};
 ghost use Rattle.nbp.specs.Expansion as spec;
@@ -22,10 +22,11 @@ pub enum Ask {
 }
 
 /// The ranges of the cables that have the zone, in rising order; none if the text isn't a zone
-/// name. Error: `Memory`.
+/// name. Error: `Memory`, which no cables never need.
 fn listing(alloc: Global, zone: &[u8], table: &ZoneTable) -> Result<Vec<Range>, Error>
     ensures ok { IfOk result (λ ranges. ranges.items ≡ spec.listing zone.now table.now) }
     ensures few { IfOk result (λ ranges. length ranges.items ≤ max_lists) }
+    ensures none { spec.listing zone.now table.now ≡ [] → IsOk result }
     ensures err { IsOkUnless result Error.Memory }
 {
     if !is_zone_name(zone) {
@@ -52,12 +53,17 @@ fn ask_of(range: Range, ports: &[Range]) -> Ask
     }
 }
 
-/// The lookup or forwarded request for each of the ranges. Error: `Memory`.
+/// The lookup or forwarded request for each of the ranges. Error: `Memory`, which no ranges never
+/// need.
 fn asks_of(alloc: Global, ranges: &[Range], ports: &[Range]) -> Result<Vec<Ask>, Error>
     ensures ok { IfOk result (λ made. made.items ≡ map (spec.ask ports.now) ranges.now) }
     ensures inside { IfOk result (λ made. All (IsAskIn (length ports.now)) made.items) }
+    ensures none { ranges.now ≡ [] → IsOk result }
     ensures err { IsOkUnless result Error.Memory }
 {
+    if ranges.is_empty() {
+        return Ok(Vec::new(alloc));
+    }
     let mut asked = Vec::with_capacity(alloc, ranges.len())?;
     for range in ranges {
         asked.push(ask_of(*range, ports))?;
@@ -71,7 +77,8 @@ fn asks_of(alloc: Global, ranges: &[Range], ports: &[Range]) -> Result<Vec<Ask>,
 /// port, else a request forwarded to the range's first network. `*` and texts that aren't zone
 /// names give none.
 ///
-/// Inside AppleTalk, the chapter on NBP. Error: `Memory`.
+/// Inside AppleTalk, the chapter on NBP. Error: `Memory`, which a request for a zone of no cable
+/// never needs.
 pub fn expand(
     alloc: Global,
     zone: &[u8],
@@ -82,6 +89,8 @@ pub fn expand(
     // At most one for each list of the table.
     ensures few { IfOk result (λ made. length made.items ≤ max_lists) }
     ensures inside { IfOk result (λ made. All (IsAskIn (length ports.now)) made.items) }
+    // Where the zone has no cable, no memory is needed.
+    ensures none { asks ports.now zone.now table.now ≡ [] → IsOk result }
     ensures refused { IsOkUnless result Error.Memory }
 {
     let ranges = listing(alloc, zone, table)?;

@@ -7,6 +7,7 @@ use Rattle.std.specs.Prelude.{is_some}
 use Rattle.std.proofs.lemmas.Bool.{and_parts, and_from}
 use Rattle.std.proofs.lemmas.List.{take_all}
 use Rattle.std.specs.List.{list_all, list_any}
+use Rattle.at_base.specs.Limits.{max_zones}
 use Rattle.at_base.specs.Range.{Span, is_between, is_range, overlaps}
 use Rattle.at_base.specs.declared.error.Error.{Error}
 use Rattle.at_base.specs.declared.error.Error.TheVariants.{BadRange, Full, Memory}
@@ -134,16 +135,16 @@ port_there cables p h =
     let high = leb-true p.cable (length cables) bounds.1 in
     omega (arith, low, high)
 
-few_zones : (c : Cable) → IsTrue (is_cable c) → length c.zones ≤ 64
+few_zones : (c : Cable) → IsTrue (is_cable c) → length c.zones ≤ max_zones
 few_zones c h =
-    let parts = and_parts (is_range c.range.start c.range.end) (is_between 1 64 (length c.zones)) h in
-    leb-true (length c.zones) 64 (and_parts (nat_le 1 (length c.zones)) (nat_le (length c.zones) 64) parts.1).1
+    let parts = and_parts (is_range c.range.start c.range.end) (is_between 1 max_zones (length c.zones)) h in
+    leb-true (length c.zones) max_zones (and_parts (nat_le 1 (length c.zones)) (nat_le (length c.zones) max_zones) parts.1).1
 
 -- Setting the list of a cable, of which the table has no network, can only fail because of memory.
 pub set_for_memory : (r : Result (Unit {0}) Error) (c : Cable) (names : List (List ℕ)) (table : List Known)
     → IfErr r (λ e. (e ≡ BadRange) ⊎ (e ≡ Full) ⊎ (e ≡ Memory))
     → (r ≡ Err BadRange) ↔ (overlaps_another c.range table ≡ true)
-    → (r ≡ Err Full) ↔ ((overlaps_another c.range table ≡ false) × ((64 < length names) ⊎ (is_full_for c.range table ≡ true)))
+    → (r ≡ Err Full) ↔ ((overlaps_another c.range table ≡ false) × ((max_zones < length names) ⊎ (is_full_for c.range table ≡ true)))
     → names ≡ c.zones → IsTrue (is_cable c) → IsTrue (is_free table (Some c)) → length table < 200 → IsOkUnless r Memory
 set_for_memory (Ok u) c names table which range full same valid free room = tt
 set_for_memory (Err e) c names table which range full same valid free room =

@@ -4,6 +4,7 @@ use Rattle.std.proofs.Common.{List, [], ◌∷◌, ◌++◌, Option, Some, None,
 use Rattle.std.proofs.Common.{refl, sym, ap, ◌∙◌, subst, arith, append_assoc, eqb-true, eq-eqb}
 use Rattle.std.specs.List.{list_all, AllByRecursion as Each}
 use Rattle.std.proofs.lemmas.Bool.{and_parts, and_from, and_right, not-true, false_from_ne_true}
+use Rattle.at_base.specs.Limits.{max_zones}
 use Rattle.at_base.specs.Range.{is_between, is_range, overlaps}
 use Rattle.cable_model.proofs.Counting.{At, contained_at, count-append, count_le, count_none, each_at, each-append, each_more}
 use Rattle.cable_model.proofs.Finds.{contains_at}
@@ -188,7 +189,7 @@ module _ (cables : List Cable) (valid : IsTrue (list_all is_cable cables)) where
   -- A cable's range has a network in common with itself.
   with_itself : (c : Cable) → IsTrue (is_cable c) → overlaps c.range c.range ≡ true
   with_itself c h =
-      let valid = and_parts (is_range c.range.start c.range.end) (is_between 1 64 (length c.zones)) h in
+      let valid = and_parts (is_range c.range.start c.range.end) (is_between 1 max_zones (length c.zones)) h in
       let low = and_parts (nat_le 1 c.range.start && nat_le c.range.start c.range.end) (nat_le c.range.end 65279) valid.0 in
       let mid = (and_parts (nat_le 1 c.range.start) (nat_le c.range.start c.range.end) low.0).1 in
       and_from (nat_le c.range.start c.range.end) (nat_le c.range.start c.range.end) mid mid

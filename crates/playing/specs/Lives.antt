@@ -1,9 +1,12 @@
 -- The history of a world: it starts as its plan says, and its ticks follow one after the other.
-use Rattle.std.specs.Prelude.{◌≡◌, ◌+◌, ◌<◌, []}
+use Rattle.std.specs.Prelude.{◌≡◌, ◌+◌, ◌<◌, true, [], Option, Some, None}
 use Rattle.at_base.specs.declared.error.Error.TheVariants.{Full}
 use Rattle.internet_file.specs.Files.{Planned}
 use Rattle.live_cables.specs.Steps.{HasNoRoom}
 use Rattle.planned_stations.specs.Beginning.{AreBegun}
+use Rattle.table_image.specs.declared.version.Version.{Version}
+use Rattle.table_image.specs.declared.version.Version.TheVariants.{V1}
+use Rattle.world.specs.Frozen.{needs_version_2}
 use Rattle.world.specs.Scheduling.{IsSchedule}
 use Rattle.world.specs.Stopping.{IsStopped}
 use Rattle.world.specs.Ticking.{IsTick}
@@ -32,3 +35,13 @@ pub record Fills (plan : Planned) : Type 0 where
   pub ticks : Ticks plan after.now before.wires after.wires
   pub limit : after.wires.cabling.limit ≡ 4000000
   pub full : HasNoRoom 1285 after.wires.cabling
+
+-- A plan whose play ends with tables that an image of version 1 can't hold, though that version was asked for.
+pub record Outgrows (version : Option Version) (plan : Planned) : Type 0 where
+  pub asked : version ≡ Some V1
+  pub world : Worldly
+  pub of : world.plan ≡ plan
+  pub lived : Lives world
+  pub whole : world.now ≡ plan.ticks
+  pub going : world.stopped ≡ None
+  pub needs : needs_version_2 world ≡ true

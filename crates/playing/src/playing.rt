@@ -1,15 +1,15 @@
 //! A play, from the text of its file to its end.
 
 ghost use Rattle.std.specs.Prelude.{◌≡◌, ◌≢◌, ◌<◌, ◌⊎◌, ◌+◌, ◌++◌, None, IfErr, IfOk, OnOk};
-ghost use Rattle.std.specs.Prelude.{IsOkUnless, length};
+ghost use Rattle.std.specs.Prelude.{IsOkUnless, Some, length, true};
 ghost use Rattle.at_base.specs.Spelling.{Spells};
 ghost use Rattle.internet_file.specs.Files.{IsFile, IsFileRefused, Planned};
 ghost use Rattle.playing.specs.Lines.{refused_lines};
-ghost use Rattle.playing.specs.Lives.{Fills, Lives};
-ghost use Rattle.playing.specs.Plays.{IsPlay, all_received};
+ghost use Rattle.playing.specs.Lives.{Fills, Lives, Outgrows};
+ghost use Rattle.playing.specs.Plays.{IsPlay, all_received, frozen_for};
 ghost use Rattle.table_image.specs.Internet.{Internet};
 ghost use Rattle.table_image.specs.Spelling.{image_spelling};
-ghost use Rattle.world.specs.Frozen.{frozen};
+ghost use Rattle.world.specs.Frozen.{needs_version_2};
 ghost use Rattle.world.specs.Worlds.{IsWorld};
 
 use crate::judging::judge;
@@ -20,7 +20,7 @@ use at_base::Error;
 use internet_file::Plan;
 use rtmp::Routes;
 use std::alloc::Global;
-use table_image::Image;
+use table_image::{Image, Version};
 use world::World;
 
 /// The result of a play.
@@ -121,14 +121,30 @@ fn play_plan<P: Progress>(
     }
 }
 
-/// The lines of a world before its verdict, and the image of its tables. Error: `Memory`.
-fn end(alloc: Global, world: World<Routes>) -> Result<Ended, Error>
+/// The image of a world's tables, in the version that is asked for if one is. Errors: `Full` for
+/// version 1 where the tables need version 2; `Memory`.
+fn freeze(world: &World<Routes>, version: Option<Version>) -> Result<Image, Error>
+    ensures frozen { IfOk result (λ image. image ≡ frozen_for version world.now) }
+    ensures full { (result ≡ Err Error.Full)
+        → ((version ≡ Some Version.V1) × (needs_version_2 world.now ≡ true)) }
+    ensures refused { IfErr result (λ e. (e ≡ Error.Full) ⊎ (e ≡ Error.Memory)) }
+{
+    match version {
+        Some(version) => world.freeze_as(version),
+        None => world.freeze(),
+    }
+}
+
+/// The lines of a world before its verdict, and the image of its tables. Errors: those of `freeze`.
+fn end(alloc: Global, world: World<Routes>, version: Option<Version>) -> Result<Ended, Error>
     ensures lines { IfOk result (λ e. e.lines.items ≡ refused_lines world.refused
         ++ all_received world 1 (length world.plan.nodes)) }
-    ensures frozen { IfOk result (λ e. e.image ≡ frozen world) }
-    ensures refused { IsOkUnless result Error.Memory }
+    ensures frozen { IfOk result (λ e. e.image ≡ frozen_for version world) }
+    ensures full { (result ≡ Err Error.Full)
+        → ((version ≡ Some Version.V1) × (needs_version_2 world ≡ true)) }
+    ensures refused { IfErr result (λ e. (e ≡ Error.Full) ⊎ (e ≡ Error.Memory)) }
 {
-    let image = match world.freeze() {
+    let image = match freeze(&world, version) {
         Ok(image) => image,
         Err(error) => return Err(error),
     };
@@ -140,20 +156,27 @@ fn end(alloc: Global, world: World<Routes>) -> Result<Ended, Error>
 }
 
 /// Reads an internet file, carries out its plan to the last tick, freezes the tables into an image,
-/// and audits it.
+/// and audits it. The image has the version that is asked for; if none is, it has version 1 unless
+/// the tables need version 2.
 ///
 /// Errors: `BadFile` as in `internet_file::read`; `Full` if the transcript has no room for all
-/// entries; `Memory`.
-pub fn play_text<P: Progress>(alloc: Global, text: &[u8], progress: &mut P) -> Result<Played, Error>
+/// entries, and if version 1 is asked for though the tables need version 2; `Memory`.
+pub fn play_text<P: Progress>(
+    alloc: Global,
+    text: &[u8],
+    progress: &mut P,
+    version: Option<Version>,
+) -> Result<Played, Error>
     ensures played { IfOk result (λ p. (i : Internet)
-        × IsPlay text.now p.lines.items p.yes i × Spells image_spelling p.image.items i) }
+        × IsPlay version text.now p.lines.items p.yes i × Spells image_spelling p.image.items i) }
     // A text that is no file has the error of its first fault, or `Memory`; a text that is a file
     // has no error but `Full` and `Memory`.
     ensures refused { IfErr result (λ e. IsFileRefused text.now e
         ⊎ (((plan : Planned) × IsFile text.now plan) × ((e ≡ Error.Full) ⊎ (e ≡ Error.Memory)))) }
-    // The error is `Full` only if one of the plan's ticks was stopped for lack of room.
+    // The error is `Full` only if one of the plan's ticks was stopped for lack of room, or if
+    // version 1 was asked for and the tables after the last tick need version 2.
     ensures full { (result ≡ Err Error.Full)
-        → ((plan : Planned) × IsFile text.now plan × Fills plan) }
+        → ((plan : Planned) × IsFile text.now plan × (Fills plan ⊎ Outgrows version plan)) }
     ensures others { IfErr result (λ e. (e ≢ Error.ReadFault) × (e ≢ Error.WriteFault)) }
 {
     let plan = match read_plan(alloc, text) {
@@ -166,7 +189,7 @@ pub fn play_text<P: Progress>(alloc: Global, text: &[u8], progress: &mut P) -> R
     };
     // Only the prover needs this call: it shows the properties of the world.
     recall_lived(&world);
-    match end(alloc, world) {
+    match end(alloc, world, version) {
         Ok(Ended { lines, image }) => judge(alloc, lines, &image),
         Err(error) => Err(error),
     }

@@ -27,12 +27,16 @@ fn put_job(text: &mut String, job: Job<'_>) -> Result<(), AllocError> {
             put_source(text, image)?;
             put_source(text, script)?;
         }
-        Job::Play(file, to) => {
+        Job::Play(file, to, version) => {
             write!(text, "play")?;
             put_source(text, file)?;
             if let Some(to) = to {
                 write!(text, " image to ")?;
                 put_text(text, to.as_bytes())?;
+            }
+            if let Some(version) = version {
+                let number = version.number();
+                write!(text, " version {number}")?;
             }
         }
     }

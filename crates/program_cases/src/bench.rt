@@ -6,6 +6,7 @@ use crate::{arguments, commands_run as run, exits, plans};
 use case_words::{Answer, Bench, Stop, Words};
 use rtmp::RouteTable;
 use std::alloc::Global;
+use table_image::Version;
 
 /// The text of an internet file, the bytes of an image, and a world after a command that begins it. The world's routers have routing tables of type `T`.
 #[derive(Drop)]
@@ -56,8 +57,11 @@ impl<T: RouteTable> Program<T> {
         match question {
             "read" => plans::read_it(self.alloc, bytes, text),
             "plan" => plans::plan(self.alloc, bytes, text),
-            "frozen" => run::frozen(self.alloc, bytes, text),
-            _ => run::play_files(self.alloc, bytes, text),
+            "frozen" => run::frozen(self.alloc, bytes, None, text),
+            "frozen-v1" => run::frozen(self.alloc, bytes, Some(Version::V1), text),
+            "frozen-v2" => run::frozen(self.alloc, bytes, Some(Version::V2), text),
+            "files-v2" => run::play_files(self.alloc, bytes, Some(Version::V2), text),
+            _ => run::play_files(self.alloc, bytes, None, text),
         }
     }
 
@@ -112,7 +116,9 @@ impl<T: RouteTable> Bench for Program<T> {
             "|" => self.add_line(words),
             "text" => self.add_text(words),
             "bytes" => self.add_bytes(words),
-            "read" | "plan" | "frozen" | "files" => self.ask_text(first, words, text),
+            "read" | "plan" => self.ask_text(first, words, text),
+            "frozen" | "frozen-v1" | "frozen-v2" => self.ask_text(first, words, text),
+            "files" | "files-v2" => self.ask_text(first, words, text),
             "play" => self.play(words, text),
             "audit" => run::audit(self.alloc, self.image.as_slice(), text),
             "trace" => run::trace(self.alloc, self.image.as_slice(), words, text),

@@ -6,6 +6,7 @@ use command_line::status;
 use commands::{Input, audit_file, play_bytes, run_frozen};
 use playing::{Silent, play_text};
 use std::alloc::{AllocError, Global};
+use table_image::Version;
 use text::Output;
 
 /// Room for the output of a command in a case.
@@ -31,14 +32,19 @@ fn put_status(text: &mut String, answer: &Result<bool, Error>) -> Answer {
 
 /// Appends the lines of the play of a file, and returns the resulting image.
 pub(crate) fn play(alloc: Global, bytes: &[u8], text: &mut String) -> Result<Vec<u8>, Stop> {
-    let played = play_text(alloc, bytes, &mut Silent)?;
+    let played = play_text(alloc, bytes, &mut Silent, None)?;
     put_ascii(text, played.lines.as_slice())?;
     Ok(played.image)
 }
 
-/// Appends the image that results from the play of a file.
-pub(crate) fn frozen(alloc: Global, bytes: &[u8], text: &mut String) -> Answer {
-    let played = play_text(alloc, bytes, &mut Silent)?;
+/// Appends the image that results from the play of a file, in a version if one is asked for.
+pub(crate) fn frozen(
+    alloc: Global,
+    bytes: &[u8],
+    version: Option<Version>,
+    text: &mut String,
+) -> Answer {
+    let played = play_text(alloc, bytes, &mut Silent, version)?;
     put_line(text, played.image.as_slice())?;
     Ok(())
 }
@@ -121,12 +127,25 @@ pub(crate) fn trace_lines(
     put_status(text, &answer)
 }
 
-/// Appends the output of `atalk play --image` for the file, its image, and its status.
-pub(crate) fn play_files(alloc: Global, bytes: &[u8], text: &mut String) -> Answer {
+/// Appends the output of `atalk play --image` for the file, its image, in a version if one is asked
+/// for, and its status.
+pub(crate) fn play_files(
+    alloc: Global,
+    bytes: &[u8],
+    version: Option<Version>,
+    text: &mut String,
+) -> Answer {
     let mut input = Input::new(bytes);
     let mut output = Output::new(alloc, Vec::with_capacity(alloc, ROOM)?);
     let mut image = Output::new(alloc, Vec::with_capacity(alloc, ROOM)?);
-    let answer = play_bytes(alloc, &mut input, &mut output, &mut image, &mut Silent);
+    let answer = play_bytes(
+        alloc,
+        &mut input,
+        &mut output,
+        &mut image,
+        &mut Silent,
+        version,
+    );
     if answer == Err(Error::Memory) {
         return Err(Error::Memory.into());
     }

@@ -119,7 +119,14 @@ impl Course {
         let mut input = self.reader(text, Stream::Input);
         let mut output = self.writer(alloc, Stream::Lines)?;
         let mut image = self.writer(alloc, Stream::Image)?;
-        let answer = play_bytes(alloc, &mut input, &mut output, &mut image, &mut Silent);
+        let answer = play_bytes(
+            alloc,
+            &mut input,
+            &mut output,
+            &mut image,
+            &mut Silent,
+            None,
+        );
         Ok(Ran {
             answer,
             calls: self.calls(

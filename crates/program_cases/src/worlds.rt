@@ -7,7 +7,7 @@ use end_node::{Datagram, EndNode};
 use internet_file::read;
 use rtmp::RouteTable;
 use std::alloc::{AllocError, Global};
-use table_image::write;
+use table_image::{Version, write};
 use world::World;
 
 /// A world and the file that it was begun from. A tick that ran out of memory can't be repeated, since the world counts
@@ -226,6 +226,22 @@ fn put_refused<T: RouteTable>(text: &mut String, world: &World<T>) -> Answer {
     Ok(())
 }
 
+/// Appends the image of a world's tables, in the version whose number follows, if one does.
+fn put_frozen<T: RouteTable>(
+    alloc: Global,
+    world: &World<T>,
+    mut words: Words<'_>,
+    text: &mut String,
+) -> Answer {
+    let image = if words.is_empty() {
+        world.freeze()?
+    } else {
+        world.freeze_as(Version::of(words.number()?))?
+    };
+    put_line(text, write(alloc, &image)?.as_slice())?;
+    Ok(())
+}
+
 /// Answers a question about a world.
 fn answer<T: RouteTable>(
     alloc: Global,
@@ -240,10 +256,7 @@ fn answer<T: RouteTable>(
         "node" => put_node(text, world.node(words.number()?)),
         "received" => put_received(text, world.node(words.number()?)),
         "refused" => put_refused(text, world),
-        "frozen" => {
-            put_line(text, write(alloc, &world.freeze()?)?.as_slice())?;
-            Ok(())
-        }
+        "frozen" => put_frozen(alloc, world, words, text),
         _ => Err(Stop::Unclear),
     }
 }

@@ -1,7 +1,6 @@
 -- A router's replies about zones. (Inside AppleTalk, the chapters on ZIP and ATP)
 use Rattle.std.specs.Prelude.{ℕ, cond, List, [], ◌∷◌, map, Option, Some, None, slice_get, option_to_list}
 use Rattle.aarp.specs.Choosing.{Choice}
-use Rattle.at_base.specs.Packets.{packets}
 use Rattle.at_base.specs.Range.{Span, is_between}
 use Rattle.at_base.specs.Spelling.{bytes_of}
 use Rattle.atp.specs.Packets.{AtpPacket, is_request}

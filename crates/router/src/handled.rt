@@ -14,7 +14,6 @@ ghost use Rattle.atp.specs.Answers.{bytes_of_all};
 ghost use Rattle.station.specs.Made.{Adds, AreMade, AreShort, Makes};
 ghost use Rattle.router.specs.Ways as ways_spec;
 ghost use Rattle.station.specs.Ways.{replying};
-ghost use Rattle.at_base.specs.Limits.{max_lists};
 
 use crate::course::Ending;
 use crate::lists::Transacted;
@@ -77,7 +76,7 @@ impl<T: RouteTable> Router<T> {
     /// Error: `Memory`.
     fn serve(&self, made: &mut Vec<Output>, ending: Ending, view: &View<'_>) -> Result<(), Error>
         requires { ending.port < length self.now.ports }
-        ensures made { Adds (length self.now.ports) max_lists (served self.now ending view.now)
+        ensures made { Adds (length self.now.ports) 256 (served self.now ending view.now)
             made.old.items made.new.items result }
         // Without a reply, no memory is needed, except for a request for names.
         ensures silent { may_ask view.now ≡ false → served self.now ending view.now ≡ []

@@ -1,5 +1,9 @@
 //! Routers as stations.
 
+ghost use Rattle.std.specs.Prelude.{length, IsOk, IsOkUnless, OnErr, OnOk, ◌≡◌};
+ghost use Rattle.router.specs.Answers.{Ticks};
+ghost use Rattle.station.specs.Lawful.{PutsOut};
+
 use crate::router::Router;
 use at_base::Error;
 use rtmp::RouteTable;
@@ -30,7 +34,16 @@ impl<T: RouteTable> Station for Router<T> {
         }
     }
 
-    fn tick(&mut self, _outputs: &mut Outputs) -> Result<(), Error> {
+    /// Does nothing: time changes no tables that are frozen.
+    fn tick(&mut self, outputs: &mut Outputs) -> Result<(), Error>
+        ensures ok { OnOk result (PutsOut (length self.old.ports) outputs.old.items outputs.new.items
+            (λ added. Ticks self.old added self.new)) }
+        ensures never { IsOk result }
+        ensures ports_stay { length self.new.ports ≡ length self.old.ports }
+        ensures refused { IsOkUnless result Error.Memory }
+        ensures station_stays { OnErr result (self.new ≡ self.old) }
+        ensures outputs_stay { OnErr result (outputs.new.items ≡ outputs.old.items) }
+    {
         Ok(())
     }
 }

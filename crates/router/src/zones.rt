@@ -96,7 +96,7 @@ impl<T: RouteTable> Router<T> {
         view: &View<'_>,
         networks: Networks<'_>,
     ) -> Result<(), Error>
-        ensures { Makes (length self.now.ports) 64
+        ensures { Makes (length self.now.ports) 256
             (replying (ways_spec.way_back self.now port view.now)
             (map (bytes_of formats_spec.packet) (replies self.now.zones networks.entry)))
             made.old.items made.new.items result }
@@ -118,7 +118,7 @@ impl<T: RouteTable> Router<T> {
         view: &View<'_>,
     ) -> Result<(), Error>
         requires { port < length self.now.ports }
-        ensures { Makes (length self.now.ports) 64
+        ensures { Makes (length self.now.ports) 256
             (zones_told self.now port view.now (zones_in view.now.payload))
             made.old.items made.new.items result }
     {
@@ -138,7 +138,7 @@ impl<T: RouteTable> Router<T> {
         packet: Packet<'_>,
     ) -> Result<(), Error>
         requires { port < length self.now.ports }
-        ensures { Makes (length self.now.ports) 64
+        ensures { Makes (length self.now.ports) 256
             (zones_told self.now port view.now (Some packet.entry))
             made.old.items made.new.items result }
     {

@@ -21,6 +21,20 @@ fn put_mapping(text: &mut String, hw: Option<Hw>) -> Result<(), AllocError> {
     writeln!(text)
 }
 
+/// Appends all mappings, each in a line of its own, or that there is none.
+fn put_all(text: &mut String, all: &[(Addr, Hw)]) -> Result<(), AllocError> {
+    if all.is_empty() {
+        return writeln!(text, "none");
+    }
+    for mapping in all {
+        let (addr, hw) = *mapping;
+        write!(text, "{addr} ")?;
+        put_hw(text, hw)?;
+        writeln!(text)?;
+    }
+    Ok(())
+}
+
 /// Appends a datagram that is released, or that there is none.
 fn put_out(text: &mut String, held: &Option<Held>) -> Result<(), AllocError> {
     match held {
@@ -132,6 +146,7 @@ impl Mapping {
             "learn" => learn(&mut self.mapper, words)?,
             "learn-each" => learn_each(&mut self.mapper, words)?,
             "look" => put_mapping(text, self.mapper.look(words.addr()?))?,
+            "all" => put_all(text, self.mapper.all()?.as_slice())?,
             "meet" => meet(&mut self.mapper, words)?,
             "forget" => self.mapper.forget(words.addr()?),
             "hold" => put_out(text, &self.mapper.hold(held(self.alloc, None, words)?))?,

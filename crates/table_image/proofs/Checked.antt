@@ -6,6 +6,7 @@ use Rattle.std.proofs.lemmas.Bool.{le-ltb, lt-ltb, and_parts, leb-true}
 use Rattle.std.proofs.lemmas.List.{length-append}
 use Rattle.at_base.specs.declared.error.Cause.{Cause}
 use Rattle.at_base.specs.declared.error.Cause.TheVariants.{Count, Index, Name, Order, Value}
+use Rattle.at_base.specs.Address.{address_number}
 use Rattle.at_base.specs.declared.address.Addr.{Addr}
 use Rattle.rtmp.specs.declared.state.State.{State}
 use Rattle.rtmp.specs.declared.state.State.TheVariants.{Good, Suspect, Bad, Last}
@@ -17,13 +18,16 @@ use Rattle.at_base.specs.Spelling.{field_bytes, list_bytes, bytes_of, IsValue, P
 use Rattle.table_image.specs.Counts.{count_len}
 use Rattle.table_image.specs.Limits.{max_distance, max_text}
 use Rattle.table_image.specs.Flaws.{Wrong, Here, Before}
-use Rattle.table_image.specs.Tests.{within, below, rising}
-use Rattle.table_image.specs.Spelling.{counted, text_spelling, zone_spelling, address_spelling, port_spelling, row_spelling, state_number}
+use Rattle.table_image.specs.Tests.{address_rising, within, below, rising}
+use Rattle.table_image.specs.Spelling.{counted, text_spelling, zone_spelling, address_spelling, mapping_spelling, port_spelling}
+use Rattle.table_image.specs.Spelling.{row_spelling, state_number}
 use Rattle.table_image.specs.Spelling.{state_of}
 use Rattle.table_image.specs.Checking.{FlawAt, Checks, ChecksList}
 use Rattle.table_image.specs.declared.flaw.Flaw.{Flaw}
+use Rattle.table_image.specs.declared.mapping.Mapping.{Mapping}
 use Rattle.table_image.specs.declared.port.Port.{Port}
 use Rattle.table_image.specs.declared.row.Row.{Row}
+use Rattle.table_image.specs.declared.version.Version.{Version}
 
 pub is_within : (least most : ℕ) (c : Cause) (n : ℕ) → least ≤ n → n ≤ most → within least most c n ≡ None
 is_within least most c n low high =
@@ -67,18 +71,42 @@ pub record FitsPort (p : Port) : Type 0 where
   pub node : p.address.node < 2 ^ 8
   pub hardware : length p.hardware.0 ≡ 6
 
-pub port_passes : (cables : ℕ) (p : Port) (at : ℕ) → FitsPort p → p.cable < cables → Checks (port_spelling cables) p at (Ok (at + 10))
-unfolding port_spelling address_spelling
-port_passes cables p at f lt =
+pub port_misses : (version : Version) (cables : ℕ) (p : Port) (at : ℕ) → FitsPort p → cables ≤ p.cable
+    → Checks (port_spelling version cables) p at (Err (record { place = at; cause = Index }))
+unfolding port_spelling
+port_misses version cables p at f le = (at, Here Index, inl (f.cable, not_below cables p.cable le, refl), refl)
+
+-- the numbers of a mapping fit its fields
+pub record FitsMapping (m : Mapping) : Type 0 where
+  pub net : m.address.net < 2 ^ 16
+  pub node : m.address.node < 2 ^ 8
+  pub hardware : length m.hardware.0 ≡ 6
+
+address_rises : (low : ℕ) (a : Addr) → low ≤ address_number a → address_rising low a.net a.node ≡ None
+address_rises low a h = let e : ltb (address_number a) low ≡ false = le-ltb _ _ h in rw e refl
+
+address_falls : (low : ℕ) (a : Addr) → address_number a < low → address_rising low a.net a.node ≡ Some (Before 2 Order)
+address_falls low a h = let e : ltb (address_number a) low ≡ true = lt-ltb _ _ h in rw e refl
+
+pub mapping_passes : (low : ℕ) (m : Mapping) (at : ℕ) → FitsMapping m → low ≤ address_number m.address
+    → Checks (mapping_spelling low) m at (Ok (at + 9))
+unfolding mapping_spelling
+mapping_passes low m at f rise =
     let hw = f.hardware in (
-      (((f.cable, is_below cables p.cable lt), (address_value p.address f.net f.node, ((f.hardware, refl), refl)))),
-      (let len = length-append p.hardware.0 [] in omega arith),
+      ((f.net, refl), ((f.node, address_rises low m.address rise), ((f.hardware, refl), refl))),
+      (let len = length-append m.hardware.0 [] in omega arith),
     )
 
-pub port_misses : (cables : ℕ) (p : Port) (at : ℕ) → FitsPort p → cables ≤ p.cable → Checks (port_spelling cables) p at (Err
-    (record { place = at; cause = Index }))
-unfolding port_spelling
-port_misses cables p at f le = (at, Here Index, inl (f.cable, not_below cables p.cable le, refl), refl)
+pub mapping_falls : (low : ℕ) (m : Mapping) (at : ℕ) → FitsMapping m → address_number m.address < low
+    → Checks (mapping_spelling low) m at (Err (record { place = at; cause = Order }))
+unfolding mapping_spelling
+mapping_falls low m at f lt =
+    let back : at + 2 - 2 ≡ at = omega arith in (
+      at + 2,
+      Before 2 Order,
+      inr ((f.net, refl), inl (f.node, address_falls low m.address lt, refl)),
+      ap (λ (n : ℕ). record { place = n; cause = Order }) (sym back),
+    )
 
 state_back : (s : State) → state_of (state_number s) ≡ s
 state_back Good = refl
@@ -227,7 +255,7 @@ entity_wrong s at bad some few =
     let fits : length s < 256 = omega arith in
     let back : at + 1 - 1 ≡ at = omega arith in (
       at + 1,
-      Before Name,
+      Before 1 Name,
       inr ((fits, is_within 1 max_text Name (length s) some few), inl (refl, rw bad refl, refl)),
       ap
           (λ (n : ℕ). record { place = n; cause = Name }) (sym back),

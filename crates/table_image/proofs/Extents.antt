@@ -3,7 +3,7 @@
 use Rattle.std.proofs.Common.{◌≡◌, ℕ, zero, suc, ◌+◌, ◌*◌, ◌≤◌, Bool, true, List, [], ◌∷◌, length, Some, None, Result, Ok, Err, ap, subst}
 use Rattle.std.proofs.Common.{arith, cond, inl, inr}
 use Rattle.std.proofs.lemmas.List.{length-append}
-use Rattle.at_base.specs.Grammar.{Grammar, Size, done, field, part, list, Field, number, run, one}
+use Rattle.at_base.specs.Grammar.{Grammar, Size, done, field, part, list, Field, number, run, one, two}
 use Rattle.at_base.specs.Spelling.{Passes}
 use Rattle.at_base.specs.FirstFault.{field_len}
 use Rattle.at_base.specs.Reading.{read, field_at, list_at, ◌>>=◌}
@@ -13,17 +13,21 @@ use Rattle.at_base.specs.Text.{is_name, is_entity}
 use Rattle.at_base.specs.declared.error.Cause.TheVariants.{Count, Name}
 use Rattle.table_image.specs.Tests.{within}
 use Rattle.table_image.proofs.Shape.{within_bounds}
-use Rattle.at_base.specs.Limits.{max_ports, max_rows, max_lists, max_zones, max_names, max_cables, max_routers, max_nodes}
+use Rattle.at_base.specs.Limits.{max_ports, max_rows, max_lists, max_zones, max_names, max_cables, max_routers, max_nodes, max_mappings}
 use Rattle.table_image.specs.Limits.{max_text}
 use Rattle.table_image.specs.Counts.{count_len}
 use Rattle.table_image.specs.Sizes.{byte_size, counted_size, text_size, zones_size, network_size, address_size, hardware_size}
+use Rattle.table_image.specs.Sizes.{mapping_size, mappings_size}
 use Rattle.table_image.specs.Sizes.{cable_size, port_size, row_size, zone_list_size, router_size, own_router_size, name_size, node_size}
 use Rattle.table_image.specs.Sizes.{head_size, image_size}
 use Rattle.table_image.specs.Flaws.{Wrong, Here, Before, fault_of, faults}
 use Rattle.table_image.specs.Spelling.{counted, text_spelling, zone_spelling, zones_spelling, address_spelling, cable_spelling}
-use Rattle.table_image.specs.Spelling.{port_spelling, row_spelling, zone_list_spelling, router_spelling, own_router_spelling, after_flag}
+use Rattle.table_image.specs.Spelling.{mapping_spelling, mappings_spelling, port_spelling, row_spelling, zone_list_spelling, router_spelling, own_router_spelling, after_flag}
 use Rattle.table_image.specs.Spelling.{name_spelling, node_spelling, front_spelling, image_spelling}
+use Rattle.table_image.specs.Versions.{version_of, zone_limit}
 use Rattle.table_image.specs.declared.flaw.Fault.{Fault}
+use Rattle.table_image.specs.declared.version.Version.{Version}
+use Rattle.table_image.specs.declared.version.Version.TheVariants.{V1, V2}
 
 -- reading takes at most n bytes, and reports a fault at most n bytes from the start
 pub record Within {A : Type 0} (reading : List ℕ → Result (A × List ℕ) Fault) (n : ℕ) : Type 0 where
@@ -38,7 +42,7 @@ weaken reading n m le w = record {
 
 placed_left : (left : ℕ) (w : Wrong) → left ≤ (fault_of left w).left
 placed_left left (Here cause) = omega arith
-placed_left left (Before cause) = omega arith
+placed_left left (Before n cause) = omega arith
 
 field_at_within : {V : Type 0} (fd : Field Wrong V) → Within (field_at faults fd) (field_len fd)
 field_at_within {V} fd = record {
@@ -148,27 +152,46 @@ unfolding text_spelling
 text_reaches good =
     field_reaches (number one (within 1 max_text Name)) (λ s. length s) _ max_text (λ len p.
     less_reaches _ (len + 0) max_text (let few = (within_bounds 1 max_text Name len p.1).1 in omega (arith, few))
-    (field_reaches (run len (λ s. cond (good s) None (Some (Before Name)))) (λ s. s) (λ s. done s) 0 (λ s q. done_reaches s)))
+    (field_reaches (run len (λ s. cond (good s) None (Some (Before 1 Name)))) (λ s. s) (λ s. done s) 0 (λ s q. done_reaches s)))
 
-zones_reaches : Reaches zones_spelling zones_size
+few_zones : (version : Version) → zone_limit version ≤ max_zones
+few_zones V1 = omega arith
+few_zones V2 = omega arith
+
+zones_reaches : (version : Version) → Reaches (zones_spelling version) zones_size
 unfolding zones_spelling
-zones_reaches = counted_reaches one max_zones text_size (λ low. zone_spelling) (λ name. 0) (λ low. text_reaches is_name)
+zones_reaches version =
+    less_reaches _ (count_len one + (zone_limit version * text_size + 0)) zones_size
+    (let few = mul-le-mul_right text_size (few_zones version) in omega (arith, few))
+    (counted_reaches one (zone_limit version) text_size (λ low. zone_spelling) (λ name. 0) (λ low. text_reaches is_name))
 
 address_reaches : Reaches address_spelling address_size
 unfolding address_spelling
 address_reaches = field_reaches _ _ _ byte_size (λ net p. field_reaches _ _ _ 0 (λ node q. done_reaches _))
 
-cable_reaches : Reaches cable_spelling cable_size
+cable_reaches : (version : Version) → Reaches (cable_spelling version) cable_size
 unfolding cable_spelling
-cable_reaches =
+cable_reaches version =
     field_reaches _ _ _ (network_size + zones_size) (λ start p. field_reaches _ _ _ zones_size (λ end q.
-    part_reaches _ _ _ zones_size 0 zones_reaches (λ names. done_reaches _)))
+    part_reaches _ _ _ zones_size 0 (zones_reaches version) (λ names. done_reaches _)))
 
-port_reaches : (cables : ℕ) → Reaches (port_spelling cables) port_size
+mapping_reaches : (low : ℕ) → Reaches (mapping_spelling low) mapping_size
+unfolding mapping_spelling
+mapping_reaches low =
+    field_reaches _ _ _ (byte_size + hardware_size) (λ net p. field_reaches _ _ _ hardware_size (λ node q.
+    field_reaches _ _ _ 0 (λ h r. done_reaches _)))
+
+mappings_reaches : (version : Version) → Reaches (mappings_spelling version) mappings_size
+unfolding mappings_spelling
+mappings_reaches V1 = less_reaches _ 0 mappings_size (omega arith) (done_reaches [])
+mappings_reaches V2 = counted_reaches two max_mappings mapping_size _ _ (λ low. mapping_reaches low)
+
+port_reaches : (version : Version) (cables : ℕ) → Reaches (port_spelling version cables) port_size
 unfolding port_spelling
-port_reaches cables =
-    field_reaches _ _ _ (address_size + hardware_size) (λ cable p. part_reaches _ _ _ address_size hardware_size address_reaches (λ a.
-    field_reaches _ _ _ 0 (λ h q. done_reaches _)))
+port_reaches version cables =
+    field_reaches _ _ _ (address_size + hardware_size + mappings_size) (λ cable p.
+    part_reaches _ _ _ address_size (hardware_size + mappings_size) address_reaches (λ a.
+    field_reaches _ _ _ mappings_size (λ h q. part_reaches _ _ _ mappings_size 0 (mappings_reaches version) (λ m. done_reaches _))))
 
 row_reaches : (ports low : ℕ) → Reaches (row_spelling ports low) row_size
 unfolding row_spelling
@@ -178,21 +201,21 @@ row_reaches ports low =
     field_reaches _ _ _ (byte_size + address_size + byte_size) (λ distance r. field_reaches _ _ _ (address_size + byte_size) (λ port s.
     part_reaches _ _ _ address_size byte_size address_reaches (λ next. field_reaches _ _ _ 0 (λ state t. done_reaches _))))))
 
-zone_list_reaches : (low : ℕ) → Reaches (zone_list_spelling low) zone_list_size
+zone_list_reaches : (version : Version) (low : ℕ) → Reaches (zone_list_spelling version low) zone_list_size
 unfolding zone_list_spelling
-zone_list_reaches low =
+zone_list_reaches version low =
     field_reaches _ _ _ (network_size + byte_size + zones_size) (λ start p. field_reaches _ _ _ (byte_size + zones_size) (λ end q.
-    field_reaches _ _ _ zones_size (λ complete r. part_reaches _ _ _ zones_size 0 zones_reaches (λ names. done_reaches _))))
+    field_reaches _ _ _ zones_size (λ complete r. part_reaches _ _ _ zones_size 0 (zones_reaches version) (λ names. done_reaches _))))
 
-router_reaches : (cables : ℕ) → Reaches (router_spelling cables) router_size
+router_reaches : (version : Version) (cables : ℕ) → Reaches (router_spelling version cables) router_size
 unfolding router_spelling
-router_reaches cables =
+router_reaches version cables =
     let rows = counted_size one max_rows row_size in
     let lists = counted_size one max_lists zone_list_size in
     part_reaches _ _ _ (counted_size one max_ports port_size) (rows + lists) (counted_reaches one max_ports port_size _ _
-    (λ low. port_reaches cables)) (λ ports.
+    (λ low. port_reaches version cables)) (λ ports.
     part_reaches _ _ _ rows lists (counted_reaches one max_rows row_size _ _ (λ low. row_reaches (length ports) low)) (λ rows.
-    part_reaches _ _ _ lists 0 (counted_reaches one max_lists zone_list_size _ _ (λ low. zone_list_reaches low))
+    part_reaches _ _ _ lists 0 (counted_reaches one max_lists zone_list_size _ _ (λ low. zone_list_reaches version low))
     (λ lists. done_reaches _)))
 
 after_flag_reaches : (flag : ℕ) → Reaches (after_flag flag) address_size
@@ -210,29 +233,33 @@ name_reaches low =
     part_reaches _ _ _ text_size text_size (text_reaches is_entity) (λ object. part_reaches _ _ _ text_size 0 (text_reaches is_entity)
     (λ kind. done_reaches _))))
 
-node_reaches : (cables : ℕ) → Reaches (node_spelling cables) node_size
+node_reaches : (version : Version) (cables : ℕ) → Reaches (node_spelling version cables) node_size
 unfolding node_spelling
-node_reaches cables =
+node_reaches version cables =
     let names = counted_size one max_names name_size in
-    field_reaches _ _ _ (address_size + hardware_size + text_size + own_router_size + names) (λ cable p.
-    part_reaches _ _ _ address_size (hardware_size + text_size + own_router_size + names) address_reaches (λ a.
-    field_reaches _ _ _ (text_size + own_router_size + names) (λ h q.
-    part_reaches _ _ _ text_size (own_router_size + names) (text_reaches is_name) (λ zone.
-    part_reaches _ _ _ own_router_size names own_router_reaches (λ r.
-    part_reaches _ _ _ names 0 (counted_reaches one max_names name_size _ _ (λ low. name_reaches low)) (λ names. done_reaches _))))))
+    field_reaches _ _ _ (address_size + hardware_size + text_size + own_router_size + names + mappings_size) (λ cable p.
+    part_reaches _ _ _ address_size (hardware_size + text_size + own_router_size + names + mappings_size) address_reaches (λ a.
+    field_reaches _ _ _ (text_size + own_router_size + names + mappings_size) (λ h q.
+    part_reaches _ _ _ text_size (own_router_size + names + mappings_size) (text_reaches is_name) (λ zone.
+    part_reaches _ _ _ own_router_size (names + mappings_size) own_router_reaches (λ r.
+    part_reaches _ _ _ names mappings_size (counted_reaches one max_names name_size _ _ (λ low. name_reaches low)) (λ names.
+    part_reaches _ _ _ mappings_size 0 (mappings_reaches version) (λ m. done_reaches _)))))))
 
 front_reaches : Reaches front_spelling (head_size + counted_size one max_cables cable_size)
 unfolding front_spelling
 front_reaches =
     let cables = counted_size one max_cables cable_size in
     field_reaches _ _ _ (byte_size + cables) (λ s p. field_reaches _ _ _ cables (λ v q.
-    part_reaches _ _ _ cables 0 (counted_reaches one max_cables cable_size _ _ (λ low. cable_reaches)) (λ cables. done_reaches _)))
+    part_reaches _ _ _ cables 0 (counted_reaches one max_cables cable_size _ _ (λ low. cable_reaches (version_of v)))
+    (λ cables. done_reaches _)))
 
 pub image_reaches : Reaches image_spelling image_size
 unfolding image_spelling
 image_reaches =
     let routers = counted_size one max_routers router_size in
     let nodes = counted_size one max_nodes node_size in
-    part_reaches _ _ _ (head_size + counted_size one max_cables cable_size) (routers + nodes) front_reaches (λ cables.
-    part_reaches _ _ _ routers nodes (counted_reaches one max_routers router_size _ _ (λ low. router_reaches (length cables))) (λ routers.
-    part_reaches _ _ _ nodes 0 (counted_reaches one max_nodes node_size _ _ (λ low. node_reaches (length cables))) (λ nodes. done_reaches _)))
+    part_reaches _ _ _ (head_size + counted_size one max_cables cable_size) (routers + nodes) front_reaches (λ front.
+    part_reaches _ _ _ routers nodes (counted_reaches one max_routers router_size _ _ (λ low. router_reaches front.0 (length front.1)))
+    (λ routers.
+    part_reaches _ _ _ nodes 0 (counted_reaches one max_nodes node_size _ _ (λ low. node_reaches front.0 (length front.1)))
+    (λ nodes. done_reaches _)))

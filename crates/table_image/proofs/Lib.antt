@@ -8,6 +8,7 @@ pub mod Flawed
 pub mod CheckLoop
 pub mod Checked
 pub mod CheckedParts
+pub mod CheckedImages
 pub mod Made
 pub mod ZoneTables
 pub mod Places

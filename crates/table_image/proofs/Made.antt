@@ -3,22 +3,29 @@ use Rattle.std.proofs.Common.{◌≡◌, ℕ, ◌+◌, ◌-◌, Bool, true, ◌&
 use Rattle.std.specs.List.{list_all}
 use Rattle.std.proofs.lemmas.Bool.{le-leb}
 use Rattle.std.proofs.lemmas.List.{append-nil}
-use Rattle.at_base.specs.Grammar.{one}
+use Rattle.at_base.specs.Address.{address_number}
+use Rattle.at_base.specs.Grammar.{one, two}
 use Rattle.at_base.specs.Spelling.{bytes_of, ListPasses, IsValue}
 use Rattle.at_base.specs.FirstFault.{FirstFault}
 use Rattle.table_image.specs.Internet.{Internet}
-use Rattle.at_base.specs.Limits.{max_ports, max_rows, max_lists, max_zones, max_names, max_cables, max_routers, max_nodes}
+use Rattle.at_base.specs.Limits.{max_ports, max_rows, max_lists, max_names, max_cables, max_routers, max_nodes, max_mappings}
 use Rattle.table_image.specs.Flaws.{Wrong, Here, Before, fault_of, faults, flaw_after}
-use Rattle.table_image.specs.Short.{short_cable, short_list, short_router, short_node, is_short}
-use Rattle.table_image.specs.Spelling.{zone_spelling, zones_spelling, cable_spelling, port_spelling, row_spelling}
+use Rattle.table_image.specs.Short.{short_cable, short_list, short_port, short_router, short_node, is_short}
+use Rattle.table_image.specs.Versions.{mapping_limit, zone_limit}
+use Rattle.table_image.specs.Spelling.{zone_spelling, zones_spelling, cable_spelling, mapping_spelling, mappings_spelling, port_spelling}
+use Rattle.table_image.specs.Spelling.{row_spelling}
 use Rattle.table_image.specs.Spelling.{zone_list_spelling, router_spelling, name_spelling, node_spelling, image_spelling}
 use Rattle.table_image.specs.Reading.{IsFirstFlaw}
 use Rattle.table_image.specs.Checking.{Checks, reported}
 use Rattle.table_image.specs.declared.flaw.Flaw.{Flaw}
 use Rattle.table_image.specs.declared.cable.Cable.{Cable}
+use Rattle.table_image.specs.declared.mapping.Mapping.{Mapping}
+use Rattle.table_image.specs.declared.port.Port.{Port}
 use Rattle.table_image.specs.declared.zone_list.ZoneList.{ZoneList}
 use Rattle.table_image.specs.declared.router.Router.{Router}
 use Rattle.table_image.specs.declared.node.Node.{Node}
+use Rattle.table_image.specs.declared.version.Version.{Version}
+use Rattle.table_image.specs.declared.version.Version.TheVariants.{V1, V2}
 use Rattle.table_image.proofs.Bounds.{counted_few, counted_each, front_cables}
 use Rattle.table_image.proofs.Flawed.{flawed_first}
 use Rattle.table_image.proofs.Whole.{no_flaw}
@@ -31,55 +38,73 @@ all_short passes next short each_one low [] h = refl
 all_short passes next short each_one low (x ∷ xs) h =
     ap (λ b. b && list_all short xs) (each_one low x h.0) ∙ all_short passes next short each_one (next x) xs h.1
 
-zones_few : (zs : List (List ℕ)) → IsValue zones_spelling zs → nat_le (length zs) max_zones ≡ true
+zones_few : (version : Version) (zs : List (List ℕ)) → IsValue (zones_spelling version) zs → nat_le (length zs) (zone_limit version) ≡ true
 unfolding zones_spelling
-zones_few zs h = le-leb _ _ (counted_few one max_zones (λ low. zone_spelling) (λ name. 0) zs h)
+zones_few version zs h = le-leb _ _ (counted_few one (zone_limit version) (λ low. zone_spelling) (λ name. 0) zs h)
 
-cable_few : (c : Cable) → IsValue cable_spelling c → short_cable c ≡ true
+cable_few : (version : Version) (c : Cable) → IsValue (cable_spelling version) c → short_cable version c ≡ true
 unfolding cable_spelling
-cable_few c h = zones_few c.zones h.1.1.0
+cable_few version c h = zones_few version c.zones h.1.1.0
 
-list_few : (low : ℕ) (l : ZoneList) → IsValue (zone_list_spelling low) l → short_list l ≡ true
+mappings_few : (version : Version) (ms : List Mapping) → IsValue (mappings_spelling version) ms
+    → nat_le (length ms) (mapping_limit version) ≡ true
+unfolding mappings_spelling
+mappings_few V1 ms h = subst (λ (ms : List Mapping). nat_le (length ms) 0 ≡ true) h refl
+mappings_few V2 ms h = le-leb _ _ (counted_few two max_mappings mapping_spelling (λ m. address_number m.address + 1) ms h)
+
+port_few : (version : Version) (cables low : ℕ) (p : Port) → IsValue (port_spelling version cables) p → short_port version p ≡ true
+unfolding port_spelling
+port_few version cables low p h = mappings_few version p.mappings h.1.1.1.0
+
+list_few : (version : Version) (low : ℕ) (l : ZoneList) → IsValue (zone_list_spelling version low) l → short_list version l ≡ true
 unfolding zone_list_spelling
-list_few low l h = zones_few l.zones h.1.1.1.0
+list_few version low l h = zones_few version l.zones h.1.1.1.0
 
-router_few : (cables : ℕ) (x : Router) → IsValue (router_spelling cables) x → short_router x ≡ true
+router_few : (version : Version) (cables : ℕ) (x : Router) → IsValue (router_spelling version cables) x → short_router version x ≡ true
 unfolding router_spelling
-router_few cables x h =
+router_few version cables x h =
     let a : nat_le (length x.ports) max_ports ≡ true =
-    le-leb _ _ (counted_few one max_ports (λ low. port_spelling cables) (λ p. 0) x.ports h.0) in
+    le-leb _ _ (counted_few one max_ports (λ low. port_spelling version cables) (λ p. 0) x.ports h.0) in
     let b : nat_le (length x.rows) max_rows ≡ true =
     le-leb _ _ (counted_few one max_rows (row_spelling (length x.ports)) (λ r. r.start + 1) x.rows h.1.0) in
     let d : nat_le (length x.lists) max_lists ≡ true =
-    le-leb _ _ (counted_few one max_lists zone_list_spelling (λ l. l.start + 1) x.lists h.1.1.0) in
-    let e : list_all short_list x.lists ≡ true =
-    all_short (λ low. IsValue (zone_list_spelling low)) (λ l. l.start + 1) short_list list_few 0 x.lists
-    (counted_each one max_lists zone_list_spelling (λ l. l.start + 1) x.lists h.1.1.0) in
-    rw (a, b, d, e) refl
+    le-leb _ _ (counted_few one max_lists (zone_list_spelling version) (λ l. l.start + 1) x.lists h.1.1.0) in
+    let e : list_all (short_port version) x.ports ≡ true =
+    all_short (λ low. IsValue (port_spelling version cables)) (λ p. 0) (short_port version) (port_few version cables) 0 x.ports
+    (counted_each one max_ports (λ low. port_spelling version cables) (λ p. 0) x.ports h.0) in
+    let f : list_all (short_list version) x.lists ≡ true =
+    all_short (λ low. IsValue (zone_list_spelling version low)) (λ l. l.start + 1) (short_list version) (list_few version) 0 x.lists
+    (counted_each one max_lists (zone_list_spelling version) (λ l. l.start + 1) x.lists h.1.1.0) in
+    rw (a, b, d, e, f) refl
 
-node_few : (cables : ℕ) (n : Node) → IsValue (node_spelling cables) n → short_node n ≡ true
+node_few : (version : Version) (cables : ℕ) (n : Node) → IsValue (node_spelling version cables) n → short_node version n ≡ true
 unfolding node_spelling
-node_few cables n h = le-leb _ _ (counted_few one max_names name_spelling (λ n. n.enumerator + 1) n.names h.1.1.1.1.1.0)
+node_few version cables n h =
+    let a : nat_le (length n.names) max_names ≡ true =
+    le-leb _ _ (counted_few one max_names name_spelling (λ n. n.enumerator + 1) n.names h.1.1.1.1.1.0) in
+    rw (a, mappings_few version n.mappings h.1.1.1.1.1.1.0) refl
 
 pub value_short : (i : Internet) → IsValue image_spelling i → is_short i ≡ true
 unfolding image_spelling
 value_short i h =
-    let cs = front_cables i.cables h.0 in
+    let v = i.version in
+    let cs = front_cables v i.cables h.0 in
     let n = length i.cables in
-    let a : nat_le (length i.cables) max_cables ≡ true = le-leb _ _ (counted_few one max_cables (λ low. cable_spelling) (λ c. 0) i.cables cs) in
+    let a : nat_le (length i.cables) max_cables ≡ true =
+    le-leb _ _ (counted_few one max_cables (λ low. cable_spelling v) (λ c. 0) i.cables cs) in
     let b : nat_le (length i.routers) max_routers ≡ true =
-    le-leb _ _ (counted_few one max_routers (λ low. router_spelling n) (λ r. 0) i.routers h.1.0) in
+    le-leb _ _ (counted_few one max_routers (λ low. router_spelling v n) (λ r. 0) i.routers h.1.0) in
     let d : nat_le (length i.nodes) max_nodes ≡ true =
-    le-leb _ _ (counted_few one max_nodes (λ low. node_spelling n) (λ n. 0) i.nodes h.1.1.0) in
-    let e : list_all short_cable i.cables ≡ true =
-    all_short (λ low. IsValue cable_spelling) (λ c. 0) short_cable (λ low. cable_few) 0 i.cables (counted_each one max_cables
-    (λ low. cable_spelling) (λ c. 0) i.cables cs) in
-    let f : list_all short_router i.routers ≡ true =
-    all_short (λ low. IsValue (router_spelling n)) (λ r. 0) short_router (λ low. router_few n) 0 i.routers (counted_each one max_routers
-    (λ low. router_spelling n) (λ r. 0) i.routers h.1.0) in
-    let g : list_all short_node i.nodes ≡ true =
-    all_short (λ low. IsValue (node_spelling n)) (λ n. 0) short_node (λ low. node_few n) 0 i.nodes (counted_each one max_nodes
-    (λ low. node_spelling n) (λ n. 0) i.nodes h.1.1.0) in
+    le-leb _ _ (counted_few one max_nodes (λ low. node_spelling v n) (λ n. 0) i.nodes h.1.1.0) in
+    let e : list_all (short_cable v) i.cables ≡ true =
+    all_short (λ low. IsValue (cable_spelling v)) (λ c. 0) (short_cable v) (λ low. cable_few v) 0 i.cables (counted_each one max_cables
+    (λ low. cable_spelling v) (λ c. 0) i.cables cs) in
+    let f : list_all (short_router v) i.routers ≡ true =
+    all_short (λ low. IsValue (router_spelling v n)) (λ r. 0) (short_router v) (λ low. router_few v n) 0 i.routers (counted_each one max_routers
+    (λ low. router_spelling v n) (λ r. 0) i.routers h.1.0) in
+    let g : list_all (short_node v) i.nodes ≡ true =
+    all_short (λ low. IsValue (node_spelling v n)) (λ n. 0) (short_node v) (λ low. node_few v n) 0 i.nodes (counted_each one max_nodes
+    (λ low. node_spelling v n) (λ n. 0) i.nodes h.1.1.0) in
     rw (a, b, d, e, f, g) refl
 
 -- ---- parts that don't fit have the flaw of their bytes
@@ -88,8 +113,8 @@ reported_there : (left gone : ℕ) (bytes : List ℕ) (w : Wrong) → length byt
     → reported gone w ≡ flaw_after (length bytes) (fault_of left w)
 reported_there left gone bytes (Here cause) e =
     let same : gone ≡ length bytes - left = omega arith in ap (λ (n : ℕ). record { place = n; cause = cause }) same
-reported_there left gone bytes (Before cause) e =
-    let same : gone - 1 ≡ length bytes - (1 + left) = omega arith in ap (λ (n : ℕ). record { place = n; cause = cause }) same
+reported_there left gone bytes (Before n cause) e =
+    let same : gone - n ≡ length bytes - (n + left) = omega arith in ap (λ (n : ℕ). record { place = n; cause = cause }) same
 
 -- the flaw of a check is the first flaw of the bytes
 pub checked_first : (i : Internet) (f : Flaw) → Checks image_spelling i 0 (Err f) → IsFirstFlaw (bytes_of image_spelling i) f

@@ -3,16 +3,20 @@ use Rattle.std.proofs.Common.{◌≡◌, ℕ, zero, suc, ◌≤◌, Bool, true, 
 use Rattle.std.proofs.lemmas.Bool.{ltb-false}
 use Rattle.at_base.specs.Text.{is_name, same_bytes, is_entity}
 use Rattle.at_base.specs.declared.error.Cause.{Cause}
-use Rattle.at_base.specs.declared.error.Cause.TheVariants.{Magic, Value, Version}
-use Rattle.at_base.specs.Grammar.{Grammar, Size, one}
+use Rattle.at_base.specs.declared.error.Cause.TheVariants as causes
+use Rattle.at_base.specs.declared.error.Cause.TheVariants.{Magic, Value}
+use Rattle.at_base.specs.Grammar.{Grammar, Size, one, two}
 use Rattle.at_base.specs.Lawful.{Has, IsLawful}
 use Rattle.at_base.proofs.Fields.{is_right, not_wrong}
 use Rattle.at_base.proofs.Texts.{same_bytes_is}
-use Rattle.at_base.specs.Limits.{max_ports, max_rows, max_lists, max_zones, max_names, max_cables, max_routers, max_nodes}
+use Rattle.at_base.specs.Limits.{max_ports, max_rows, max_lists, max_names, max_cables, max_routers, max_nodes, max_mappings}
+use Rattle.table_image.specs.Versions.{version_number, version_of, zone_limit}
+use Rattle.table_image.specs.declared.version.Version.{Version}
+use Rattle.table_image.specs.declared.version.Version.TheVariants.{V1, V2}
 use Rattle.table_image.specs.Flaws.{Wrong, Here}
 use Rattle.table_image.specs.Tests.{within, magic, is_magic}
 use Rattle.table_image.specs.Spelling.{counted, text_spelling, zone_spelling, zones_spelling, address_spelling, cable_spelling}
-use Rattle.table_image.specs.Spelling.{port_spelling, row_spelling, state_number, state_of, zone_list_spelling, flag_number, flag_of}
+use Rattle.table_image.specs.Spelling.{mapping_spelling, mappings_spelling, port_spelling, row_spelling, state_number, state_of, zone_list_spelling, flag_number, flag_of}
 use Rattle.table_image.specs.Spelling.{router_spelling, own_router_number, after_flag, own_router_spelling, name_spelling, node_spelling}
 use Rattle.table_image.specs.Spelling.{front_spelling, image_spelling}
 
@@ -37,22 +41,40 @@ text_lawful good = λ len p. (λ s q. q.0, λ s q. (refl, tt))
 zone_lawful : IsLawful zone_spelling
 zone_lawful = text_lawful is_name
 
-zones_lawful : IsLawful zones_spelling
+zones_lawful : (version : Version) → IsLawful (zones_spelling version)
 unfolding zones_spelling
-zones_lawful = counted_lawful one max_zones (λ low. zone_spelling) (λ name. 0) (λ low. zone_lawful)
+zones_lawful version = counted_lawful one (zone_limit version) (λ low. zone_spelling) (λ name. 0) (λ low. zone_lawful)
 
 address_lawful : IsLawful address_spelling
 unfolding address_spelling
 address_lawful = λ net p. (λ node q. refl, λ node q. (refl, tt))
 
-cable_lawful : IsLawful cable_spelling
+cable_lawful : (version : Version) → IsLawful (cable_spelling version)
 unfolding cable_spelling
-cable_lawful = λ start p. (λ end q. λ names r. refl, λ end q. (λ names r. refl, (zones_lawful, λ names r. (refl, tt))))
+cable_lawful version = λ start p. (λ end q. λ names r. refl, λ end q. (λ names r. refl, (zones_lawful version, λ names r. (refl, tt))))
 
-port_lawful : (cables : ℕ) → IsLawful (port_spelling cables)
+mapping_lawful : (low : ℕ) → IsLawful (mapping_spelling low)
+unfolding mapping_spelling
+mapping_lawful low = λ net p. (λ node q hardware r. refl, λ node q. (λ hardware r. refl, λ hardware r. (refl, tt)))
+
+pub mappings_lawful : (version : Version) → IsLawful (mappings_spelling version)
+unfolding mappings_spelling
+mappings_lawful V1 = tt
+mappings_lawful V2 = counted_lawful two max_mappings mapping_spelling _ mapping_lawful
+
+port_lawful : (version : Version) (cables : ℕ) → IsLawful (port_spelling version cables)
 unfolding port_spelling
-port_lawful cables =
-    λ cable p. (λ address r. λ hardware q. refl, (address_lawful, λ address r. (λ hardware q. refl, λ hardware q. (refl, tt))))
+port_lawful version cables =
+    λ cable p. (
+      λ address r hardware q mappings s. refl,
+      (
+        address_lawful,
+        λ address r. (
+          λ hardware q mappings s. refl,
+          λ hardware q. (λ mappings s. refl, (mappings_lawful version, λ mappings s. (refl, tt))),
+        ),
+      ),
+    )
 
 state_is : (n : ℕ) → n ≤ 3 → state_number (state_of n) ≡ n
 state_is zero h = refl
@@ -83,26 +105,26 @@ row_lawful ports low =
       ),
     )
 
-zone_list_lawful : (low : ℕ) → IsLawful (zone_list_spelling low)
+zone_list_lawful : (version : Version) (low : ℕ) → IsLawful (zone_list_spelling version low)
 unfolding zone_list_spelling
-zone_list_lawful low =
+zone_list_lawful version low =
     λ start p. (
       λ end q complete r names u. refl,
       λ end q. (
         λ complete r names u. refl,
-        λ complete r. (λ names u. flag_is complete (within_bounds 0 1 Value complete r.1).1, (zones_lawful, λ names u. (refl, tt))),
+        λ complete r. (λ names u. flag_is complete (within_bounds 0 1 Value complete r.1).1, (zones_lawful version, λ names u. (refl, tt))),
       ),
     )
 
-router_lawful : (cables : ℕ) → IsLawful (router_spelling cables)
+router_lawful : (version : Version) (cables : ℕ) → IsLawful (router_spelling version cables)
 unfolding router_spelling
-router_lawful cables = (
-  counted_lawful one max_ports (λ low. port_spelling cables) (λ p. 0) (λ low. port_lawful cables),
+router_lawful version cables = (
+  counted_lawful one max_ports (λ low. port_spelling version cables) (λ p. 0) (λ low. port_lawful version cables),
   λ ports p. (
     λ rows q lists r. refl,
     (
       counted_lawful one max_rows (row_spelling (length ports)) _ (row_lawful (length ports)),
-      λ rows q. (λ lists r. refl, (counted_lawful one max_lists zone_list_spelling _ zone_list_lawful, λ lists r. (refl, tt))),
+      λ rows q. (λ lists r. refl, (counted_lawful one max_lists (zone_list_spelling version) _ (zone_list_lawful version), λ lists r. (refl, tt))),
     ),
   ),
 )
@@ -127,29 +149,28 @@ name_lawful low =
       ),
     )
 
-node_lawful : (cables : ℕ) → IsLawful (node_spelling cables)
+node_lawful : (version : Version) (cables : ℕ) → IsLawful (node_spelling version cables)
 unfolding node_spelling
-node_lawful cables =
+node_lawful version cables =
     λ cable p. (
-      λ address p1 hardware q zone p2 router p3 names p4. refl,
+      λ address p1 hardware q zone p2 router p3 names p4 mappings p5. refl,
       (
         address_lawful,
         λ address p1. (
-          λ hardware q zone p2 router p3 names p4. refl,
+          λ hardware q zone p2 router p3 names p4 mappings p5. refl,
           λ hardware q. (
-            λ zone p2 router p3 names p4. refl,
+            λ zone p2 router p3 names p4 mappings p5. refl,
             (
               zone_lawful,
               λ zone p2. (
-                λ router p3 names p4. refl,
+                λ router p3 names p4 mappings p5. refl,
                 (
                   own_router_lawful,
                   λ router p3. (
-                    λ names p4. refl,
+                    λ names p4 mappings p5. refl,
                     (
                       counted_lawful one max_names name_spelling _ name_lawful,
-                      λ names p4.
-                          (refl, tt),
+                      λ names p4. (λ mappings p5. refl, (mappings_lawful version, λ mappings p5. (refl, tt))),
                     ),
                   ),
                 ),
@@ -160,14 +181,24 @@ node_lawful cables =
       ),
     )
 
+-- a number that is 1 or 2 is that of its version
+number_is : (n : ℕ) → 1 ≤ n → n ≤ 2 → version_number (version_of n) ≡ n
+number_is zero low high = absurd (omega arith)
+number_is (suc zero) low high = refl
+number_is (suc (suc zero)) low high = refl
+number_is (suc (suc (suc n))) low high = absurd (omega arith)
+
 front_lawful : IsLawful front_spelling
 unfolding front_spelling
 front_lawful =
     λ s p. (
       λ version q cables r. magic_is s p.1,
       λ version q. (
-        λ cables r. (let h = within_bounds 1 1 Version version q.1 in omega arith),
-        (counted_lawful one max_cables (λ low. cable_spelling) (λ c. 0) (λ low. cable_lawful), λ cables r. (refl, tt)),
+        λ cables r. (let h = within_bounds 1 2 causes.Version version q.1 in number_is version h.0 h.1),
+        (
+          counted_lawful one max_cables (λ low. cable_spelling (version_of version)) (λ c. 0) (λ low. cable_lawful (version_of version)),
+          λ cables r. (refl, tt),
+        ),
       ),
     )
 
@@ -175,14 +206,16 @@ pub image_lawful : IsLawful image_spelling
 unfolding image_spelling
 image_lawful = (
   front_lawful,
-  λ cables p. (
+  λ front p. (
     λ routers q nodes r. refl,
     (
-      counted_lawful one max_routers (λ low. router_spelling (length cables)) (λ r. 0) (λ low. router_lawful (length cables)),
+      counted_lawful one max_routers (λ low. router_spelling front.0 (length front.1)) (λ r. 0)
+          (λ low. router_lawful front.0 (length front.1)),
       λ routers q. (
         λ nodes r. refl,
         (
-          counted_lawful one max_nodes (λ low. node_spelling (length cables)) (λ n. 0) (λ low. node_lawful (length cables)),
+          counted_lawful one max_nodes (λ low. node_spelling front.0 (length front.1)) (λ n. 0)
+              (λ low. node_lawful front.0 (length front.1)),
           λ nodes r.
               (refl, tt),
         ),

@@ -91,6 +91,21 @@ pub all_few : (lists : List ZoneList) → AreShort lists → list_all is_few lis
 all_few [] h = refl
 all_few (l ∷ lists) h = few_step l lists (h 0 l refl) (all_few lists (short_rest l lists h)) (is_told l) refl
 
+-- the least number of zones of a list that is appended to a table is within the limit
+pub least_fits : (table : List Known) (l : ZoneList) → IsZoneMap (table ++ zone_map (l ∷ [])) → is_told l ≡ true → least_for l ≤ max_zones
+least_fits table l h t =
+    let last : IsZoneMap (table ++ known_of_list l ∷ []) = subst (λ one. IsZoneMap (table ++ one)) (one_told l [] t) h in
+    let parts = last_parts table (known_of_list l) last in
+    least_few l.complete (known_parts (known_of_list l) parts.1).1
+  where
+    part : Known
+    part = record { range = range_of l; total = length l.zones + 1; names = each_once l.zones }
+
+    least_few : (b : Bool) → (if b then set_list (range_of l) l.zones else part).total ≤ max_zones
+        → (if b then 0 else length l.zones + 1) ≤ max_zones
+    least_few true h = omega arith
+    least_few false h = h
+
 -- a table to which one more list is appended
 pub room_for : (table : List Known) (l : ZoneList) → IsZoneMap (table ++ zone_map (l ∷ [])) → is_told l ≡ true → length l.zones ≤ max_zones
     → (is_past (range_of l) table ≡ true) × (has_room (least_for l) l.zones table ≡ true)
@@ -98,7 +113,7 @@ room_for table l h t few =
     let last : IsZoneMap (table ++ known_of_list l ∷ []) = subst (λ one. IsZoneMap (table ++ one)) (one_told l [] t) h in
     let parts = last_parts table (known_of_list l) last in
     let past : nat_lt (end_of 0 table) l.start ≡ true = starts l.complete parts.0 in
-    let least = le_test (least_for l) max_zones (least_few l.complete (known_parts (known_of_list l) parts.1).1) in
+    let least = le_test (least_for l) max_zones (least_fits table l h t) in
     (past, rw (least, le_test (length l.zones) max_zones few, lt-ltb (length table) max_lists parts.2) refl)
   where
     part : Known
@@ -108,11 +123,6 @@ room_for table l h t few =
         → nat_lt (end_of 0 table) l.start ≡ true
     starts true h = h
     starts false h = h
-
-    least_few : (b : Bool) → (if b then set_list (range_of l) l.zones else part).total ≤ max_zones
-        → (if b then 0 else length l.zones + 1) ≤ max_zones
-    least_few true h = omega arith
-    least_few false h = h
 
 -- ---- the whole table
 

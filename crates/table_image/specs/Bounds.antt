@@ -1,9 +1,11 @@
 -- The limits of each part of an internet.
 use Rattle.std.specs.Prelude.{◌≡◌, ◌<◌, ◌≤◌, ℕ, List, length, Some, slice_get}
+use Rattle.at_base.specs.Address.{address_number}
 use Rattle.at_base.specs.Text.{IsEntity, IsName}
-use Rattle.at_base.specs.Limits.{max_ports, max_rows, max_lists, max_zones, max_names, max_cables, max_routers, max_nodes}
+use Rattle.at_base.specs.Limits.{max_ports, max_rows, max_lists, max_zones, max_names, max_cables, max_routers, max_nodes, max_mappings}
 use Rattle.table_image.specs.Limits.{max_distance}
 use Rattle.table_image.specs.declared.cable.Cable.{Cable}
+use Rattle.table_image.specs.declared.mapping.Mapping.{Mapping}
 use Rattle.table_image.specs.declared.port.Port.{Port}
 use Rattle.table_image.specs.declared.row.Row.{Row}
 use Rattle.table_image.specs.declared.zone_list.ZoneList.{ZoneList}
@@ -30,6 +32,13 @@ pub record AreZones (zones : List (List ℕ)) : Type 0 where
   pub few : length zones ≤ max_zones
   -- valid zone names
   pub each : Every (λ zone. IsName zone) zones
+
+-- the mappings of a port or a node: at most as many as the limit, each of another address
+pub record AreMappings (mappings : List Mapping) : Type 0 where
+  -- at most as many as the limit
+  pub few : length mappings ≤ max_mappings
+  -- they rise strictly by their addresses
+  pub rising : Rises (λ m. address_number m.address) mappings
 
 -- a row of a router with this many ports: its distance and port are within their limits
 pub record IsRow (ports : ℕ) (row : Row) : Type 0 where
@@ -65,6 +74,8 @@ pub record IsWithinLimits (cables : ℕ) (router : Router) : Type 0 where
   pub lists_rising : Rises (λ list. list.start) router.lists
   -- each port has the index of a cable
   pub each_port : Every (λ (port : Port). port.cable < cables) router.ports
+  -- each port has valid mappings
+  pub each_known : Every (λ (port : Port). AreMappings port.mappings) router.ports
   -- each row has a valid distance and port
   pub each_row : Every (IsRow (length router.ports)) router.rows
   -- each zone list has valid zones
@@ -82,6 +93,8 @@ pub record IsNodeWithinLimits (cables : ℕ) (node : Node) : Type 0 where
   pub rising : Rises (λ name. name.enumerator) node.names
   -- valid names
   pub each_name : Every IsNodeName node.names
+  -- valid mappings
+  pub known : AreMappings node.mappings
 
 -- an internet within the limits of an image
 pub record IsBounded (i : Internet) : Type 0 where

@@ -28,10 +28,10 @@ FlawAt (list item next n get after) y at q w =
     (item low)) next 0 (get y))) q w))
 FlawAt (room n g) y at q w = (n ≤ length (bytes_of g y)) × FlawAt g y at q w
 
--- the offset at which a flaw is reported: that of its field, or of the byte before the field
+-- the offset at which a flaw is reported: that of its field, or so many bytes before it
 abbrev pub reported : ℕ → Wrong → Flaw
 reported q (Here cause) = record { place = q; cause = cause }
-reported q (Before cause) = record { place = q - 1; cause = cause }
+reported q (Before n cause) = record { place = q - n; cause = cause }
 
 -- the result of checking a value at the offset `at`: the offset of its end, or its first flaw
 abbrev pub Checks : {A : Type 0} → Grammar Wrong true A → A → ℕ → Result ℕ Flaw → Type 0

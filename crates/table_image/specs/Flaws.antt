@@ -9,15 +9,16 @@ use Rattle.table_image.specs.declared.flaw.Flaw.{Flaw}
 use Rattle.table_image.specs.declared.flaw.Stop.{Stop}
 use Rattle.table_image.specs.declared.flaw.Stop.TheVariants as stops
 
--- what is wrong with a field, reported at its first byte, or at the byte before it (the length byte of a text)
+-- what is wrong with a field, reported at its first byte, or so many bytes before it: a text at its length byte, an
+-- address that is tested at its node at its network
 pub data Wrong : Type 0 where
   Here : Cause → Wrong
-  Before : Cause → Wrong
+  Before : ℕ → Cause → Wrong
 
 -- the fault of a field with this many input bytes left from its first byte on
 abbrev pub fault_of : ℕ → Wrong → Fault
 fault_of left (Here cause) = record { left = left; cause = cause }
-fault_of left (Before cause) = record { left = 1 + left; cause = cause }
+fault_of left (Before n cause) = record { left = n + left; cause = cause }
 
 -- the faults of readers; if the input ends within a field, no bytes are left
 abbrev pub faults : Refusals Wrong Fault
@@ -37,7 +38,7 @@ abbrev pub GivesOrStops : {X Y : Type 0} → (X → Y) → Result X Stop → Res
 GivesOrStops view (Ok x) reading = reading ≡ Ok (view x)
 GivesOrStops view (Err e) reading = StopsAs e reading
 
--- a function read past a value without storing it: it returned a number of that value, and the bytes after it
-abbrev pub GoesPast : {A X : Type 0} → (A → ℕ) → (X → ℕ × List ℕ) → Result X Fault → Result (A × List ℕ) Fault → Type 0
-GoesPast {A = A} number_of view (Ok x) reading = (y : A) × (reading ≡ Ok (y, (view x).1)) × (number_of y ≡ (view x).0)
-GoesPast number_of view (Err f) reading = reading ≡ Err f
+-- a function read past a value without storing it: it returned what is needed of that value, and the bytes after it
+abbrev pub GoesPast : {A B X : Type 0} → (A → B) → (X → B × List ℕ) → Result X Fault → Result (A × List ℕ) Fault → Type 0
+GoesPast {A = A} needed_of view (Ok x) reading = (y : A) × (reading ≡ Ok (y, (view x).1)) × (needed_of y ≡ (view x).0)
+GoesPast needed_of view (Err f) reading = reading ≡ Err f

@@ -1,6 +1,7 @@
 pub mod Internet
 pub mod Bounds
 pub mod Limits
+pub mod Versions
 pub mod Contexts
 pub mod Counts
 pub mod Sizes

@@ -1,7 +1,7 @@
--- The greatest size, in bytes, of each part of an image, as a sum over its fields.
+-- The greatest size, in bytes, of each part of an image of any version, as a sum over its fields.
 use Rattle.std.specs.Prelude.{ℕ, ◌+◌, ◌*◌}
-use Rattle.at_base.specs.Grammar.{Size, one}
-use Rattle.at_base.specs.Limits.{max_ports, max_rows, max_lists, max_zones, max_names, max_cables, max_routers, max_nodes}
+use Rattle.at_base.specs.Grammar.{Size, one, two}
+use Rattle.at_base.specs.Limits.{max_ports, max_rows, max_lists, max_zones, max_names, max_cables, max_routers, max_nodes, max_mappings}
 use Rattle.table_image.specs.Counts.{count_len}
 use Rattle.table_image.specs.Limits.{max_text}
 
@@ -41,9 +41,21 @@ hardware_size = 6
 abbrev pub cable_size : ℕ
 cable_size = range_size + zones_size
 
+-- the size of a mapping: an address and its hardware address
+abbrev pub mapping_size : ℕ
+mapping_size = address_size + hardware_size
+
+-- the greatest size of the mappings of a port or a node
+abbrev pub mappings_size : ℕ
+mappings_size = counted_size two max_mappings mapping_size
+
 -- the size of the index of a cable, an address and a hardware address, which ports and nodes have
+abbrev pub seat_size : ℕ
+seat_size = byte_size + address_size + hardware_size
+
+-- the greatest size of a port: cable and addresses, mappings
 abbrev pub port_size : ℕ
-port_size = byte_size + address_size + hardware_size
+port_size = seat_size + mappings_size
 
 -- the size of a row: range, distance, port, next router, state
 abbrev pub row_size : ℕ
@@ -65,9 +77,9 @@ own_router_size = byte_size + address_size
 abbrev pub name_size : ℕ
 name_size = byte_size + byte_size + text_size + text_size
 
--- the greatest size of a node: cable and addresses, zone, router, names
+-- the greatest size of a node: cable and addresses, zone, router, names, mappings
 abbrev pub node_size : ℕ
-node_size = port_size + text_size + own_router_size + counted_size one max_names name_size
+node_size = seat_size + text_size + own_router_size + counted_size one max_names name_size + mappings_size
 
 -- the size of the head: the four bytes of the magic number, and the version
 abbrev pub head_size : ℕ

@@ -1,9 +1,9 @@
 -- The tests of an image's fields.
-use Rattle.std.specs.Prelude.{ℕ, List, [], ◌∷◌, Option, Some, None, nat_lt, if◌then◌else◌}
+use Rattle.std.specs.Prelude.{ℕ, ◌+◌, ◌*◌, List, [], ◌∷◌, Option, Some, None, nat_lt, if◌then◌else◌}
 use Rattle.at_base.specs.declared.error.Cause.{Cause}
 use Rattle.at_base.specs.declared.error.Cause.TheVariants.{Index, Magic, Order, Value}
 use Rattle.at_base.specs.Text.{same_bytes}
-use Rattle.table_image.specs.Flaws.{Wrong, Here}
+use Rattle.table_image.specs.Flaws.{Wrong, Here, Before}
 
 -- the test that any value passes
 abbrev pub any : {V : Type 0} → V → Option Wrong
@@ -20,6 +20,11 @@ below count n = if nat_lt n count then None else Some (Here Index)
 -- the test that a number is above the one before it, which passes low on as one more than itself
 abbrev pub rising : ℕ → ℕ → Option Wrong
 rising low n = if nat_lt n low then Some (Here Order) else None
+
+-- the test, made at the node, that an address is above the one before it, which passes low on as one more than its own
+-- number; what is wrong is reported at the network
+abbrev pub address_rising : ℕ → ℕ → ℕ → Option Wrong
+address_rising low net node = if nat_lt (net * 256 + node) low then Some (Before 2 Order) else None
 
 -- the test that a number is at least 1, and above the one before it
 abbrev pub enumerator : ℕ → ℕ → Option Wrong

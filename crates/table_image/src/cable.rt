@@ -10,6 +10,7 @@ use crate::item::{Item, ReadItem, WriteItem};
 use crate::listed::Listed;
 use crate::output::put_u16;
 use crate::sizes::RANGE_SIZE;
+use crate::version::Version;
 use crate::zones::{check_zones, pass_zones, put_zones, zones_at};
 use at_base::Name;
 use std::alloc::{AllocError, Global};
@@ -23,12 +24,12 @@ pub struct Cable {
     pub start: u16,
     /// The last network number of its range.
     pub end: u16,
-    /// The names of its zones, at most `MAX_ZONES`; the first is the default zone.
+    /// The names of its zones, at most as many as the version allows; the first is the default zone.
     pub zones: Listed<Name>,
 }
 
 impl Item for Cable {
-    ghost spelling = { λ context low. cable_spelling };
+    ghost spelling = { λ context low. cable_spelling context.version };
 
     ghost next = { λ _. 0 };
 
@@ -43,32 +44,33 @@ impl ReadItem for Cable {
     #[tactic(auto, unfolding(crate::specs::Spelling::cable_spelling))]
     fn read_one<'a>(
         alloc: Global,
-        _context: Context,
+        context: Context,
         _low: u32,
         like: Option<&Cable>,
         bytes: &'a [u8],
     ) -> Result<(Cable, &'a [u8]), Stop> {
         let (start, rest) = u16_at(bytes)?;
         let (end, rest) = u16_at(rest)?;
-        let (zones, rest) = zones_at(alloc, like.map(|cable| &cable.zones), rest)?;
+        let like = like.map(|cable| &cable.zones);
+        let (zones, rest) = zones_at(alloc, context.version, like, rest)?;
         Ok((Cable { start, end, zones }, rest))
     }
 
     #[tactic(auto, unfolding(crate::specs::Spelling::cable_spelling))]
-    fn pass_one(_context: Context, _low: u32, bytes: &[u8]) -> Result<(u32, &[u8]), Fault> {
+    fn pass_one(context: Context, _low: u32, bytes: &[u8]) -> Result<(u32, &[u8]), Fault> {
         let (_start, rest) = u16_at(bytes)?;
         let (_end, rest) = u16_at(rest)?;
-        let (_zones, rest) = pass_zones(rest)?;
+        let (_zones, rest) = pass_zones(context.version, rest)?;
         Ok((0, rest))
     }
 }
 
 impl WriteItem for Cable {
     #[tactic(auto, unfolding(crate::specs::Spelling::cable_spelling))]
-    fn write_one(&self, out: &mut Vec<u8>) -> Result<(), AllocError> {
+    fn write_one(&self, version: Version, out: &mut Vec<u8>) -> Result<(), AllocError> {
         put_u16(out, self.start)?;
         put_u16(out, self.end)?;
-        put_zones(out, &self.zones)
+        put_zones(out, version, &self.zones)
     }
 }
 
@@ -80,9 +82,9 @@ impl CheckItem for Cable {
 
     ghost max_size = { cable_size };
 
-    fn check_one(&self, _context: Context, _low: u32, at: usize) -> Result<usize, Flaw> {
+    fn check_one(&self, context: Context, _low: u32, at: usize) -> Result<usize, Flaw> {
         // Read only for the prover: a field that is read is known to fit its type.
         let (_start, _end) = (self.start, self.end);
-        check_zones(at + RANGE_SIZE, &self.zones)
+        check_zones(context.version, at + RANGE_SIZE, &self.zones)
     }
 }

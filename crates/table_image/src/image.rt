@@ -11,7 +11,7 @@ ghost use Rattle.at_base.specs.Spelling.{bytes_of, IsValue, Spells};
 ghost use Rattle.at_base.specs.Reading as spec;
 ghost use Rattle.table_image.specs.Internet.{Internet, internet};
 ghost use Rattle.table_image.specs.Bounds.{IsBounded};
-ghost use Rattle.table_image.specs.Flaws.{faults, flaw_after, GivesOrStops, GoesPast};
+ghost use Rattle.table_image.specs.Flaws.{faults, flaw_after, GivesOrStops};
 ghost use Rattle.at_base.specs.Limits.{max_routers, max_nodes};
 ghost use Rattle.table_image.specs.Spelling.{counted, front_spelling, router_spelling};
 ghost use Rattle.table_image.specs.Spelling.{node_spelling, image_spelling};
@@ -23,22 +23,26 @@ use crate::context::Context;
 use crate::count::CountSize;
 use crate::flaw::{Fault, Stop};
 use crate::input::{byte_within, magic_at, wrong};
-use crate::item::{counted_of, pass_counted, put_counted};
+use crate::item::{counted_of, put_counted};
 use crate::listed::Listed;
 use crate::making::{are_short, check_parts};
 use crate::node::Node;
 use crate::output::put_byte;
+use crate::passing::look_through;
 use crate::route_rows::{all_have_ranges, route_rows};
 use crate::router::Router;
+use crate::version::Version;
 use crate::zone_list::ZoneList;
 use at_base::limits::{MAX_CABLES, MAX_NODES, MAX_ROUTERS};
 use at_base::{Bytes, Cause, Error, What};
 use std::alloc::{AllocError, Global};
 use std::marker::Model;
 
-/// The tables of an internet: a value of the format, with valid indices, orders, texts and limits.
+/// The tables of an internet: a value of the format, in one of its versions, with valid indices,
+/// orders, texts and limits.
 #[derive(Debug, Drop)]
 pub struct Image {
+    version: Version,
     cables: Listed<Cable>,
     routers: Listed<Router>,
     nodes: Listed<Node>,
@@ -51,38 +55,46 @@ impl Model for Image {
 
     ghost Value = { Internet };
 
-    ghost view = { λ i. internet i.cables i.routers i.nodes };
+    ghost view = { λ i. internet i.version i.cables i.routers i.nodes };
 
-    ghost invariant = { λ i. IsValue image_spelling (internet i.cables i.routers i.nodes) };
+    ghost invariant = { λ i. IsValue image_spelling
+        (internet i.version i.cables i.routers i.nodes) };
 }
 
 impl Image {
-    /// The image made of these parts, without an allocation. Errors: `Full` where a list is longer
-    /// than its limit; else `BadImage`, the first flaw that reading would find if the parts were
-    /// written in order, with its offset from the first byte.
-    pub fn make(cables: Vec<Cable>, routers: Vec<Router>, nodes: Vec<Node>) -> Result<Image, Error>
+    /// The image made of these parts, in a version of the format, without an allocation. Errors:
+    /// `Full` where a list is longer than its limit in that version; else `BadImage`, the first flaw
+    /// that reading would find if the parts were written in order, with its offset from the first
+    /// byte.
+    pub fn make(
+        version: Version,
+        cables: Vec<Cable>,
+        routers: Vec<Router>,
+        nodes: Vec<Node>,
+    ) -> Result<Image, Error>
         ensures made { OkIff result
-            (IsValue image_spelling (internet cables.items routers.items nodes.items))
-            (internet cables.items routers.items nodes.items) }
-        ensures full { is_short (internet cables.items routers.items nodes.items) ≡ false
+            (IsValue image_spelling (internet version cables.items routers.items nodes.items))
+            (internet version cables.items routers.items nodes.items) }
+        ensures full { is_short (internet version cables.items routers.items nodes.items) ≡ false
             → result ≡ Err Error.Full }
         // Parts within the limits are checked as reading checks their bytes.
-        ensures first { IsTrue (is_short (internet cables.items routers.items nodes.items))
+        ensures first { IsTrue (is_short (internet version cables.items routers.items nodes.items))
             → (f : Flaw) → IsFirstFlaw
-            (bytes_of image_spelling (internet cables.items routers.items nodes.items)) f
+            (bytes_of image_spelling (internet version cables.items routers.items nodes.items)) f
             → result ≡ Err (refusal f) }
-        ensures flaw { IsTrue (is_short (internet cables.items routers.items nodes.items))
+        ensures flaw { IsTrue (is_short (internet version cables.items routers.items nodes.items))
             → IfErr result (RefusesFirst
-            (bytes_of image_spelling (internet cables.items routers.items nodes.items))) }
+            (bytes_of image_spelling (internet version cables.items routers.items nodes.items))) }
     {
         let cables = Listed::from_vec(cables);
         let routers = Listed::from_vec(routers);
         let nodes = Listed::from_vec(nodes);
-        if !are_short(&cables, &routers, &nodes) {
+        if !are_short(version, &cables, &routers, &nodes) {
             return Err(Error::Full);
         }
-        match check_parts(&cables, &routers, &nodes) {
+        match check_parts(version, &cables, &routers, &nodes) {
             Ok(_) => Ok(Image {
+                version,
                 cables,
                 routers,
                 nodes,
@@ -92,15 +104,28 @@ impl Image {
     }
 
     /// The image of parts that were read one by one. The caller ensures that they are an image's.
-    pub fn of(cables: Listed<Cable>, routers: Listed<Router>, nodes: Listed<Node>) -> Image
-        requires { IsValue image_spelling (internet cables routers nodes) }
-        ensures { result ≡ internet cables routers nodes }
+    pub fn of(
+        version: Version,
+        cables: Listed<Cable>,
+        routers: Listed<Router>,
+        nodes: Listed<Node>,
+    ) -> Image
+        requires { IsValue image_spelling (internet version cables routers nodes) }
+        ensures { result ≡ internet version cables routers nodes }
     {
         Image {
+            version,
             cables,
             routers,
             nodes,
         }
+    }
+
+    /// The version of the format in which the image is written.
+    pub fn version(&self) -> Version
+        ensures { result ≡ self.now.version }
+    {
+        self.version
     }
 
     /// The cables, at most `MAX_CABLES`. Ports and nodes refer to them by index, from 0.
@@ -155,28 +180,38 @@ impl Image {
     }
 }
 
+// The version and the cables.
+#[derive(Drop)]
+struct Front {
+    version: Version,
+    cables: Listed<Cable>,
+}
+
 #[derive(Drop)]
 struct Parts {
+    version: Version,
     cables: Listed<Cable>,
     routers: Listed<Router>,
     nodes: Listed<Node>,
 }
 
 #[tactic(auto, unfolding(crate::specs::Spelling::front_spelling))]
-fn front_of(alloc: Global, bytes: &[u8]) -> Result<(Listed<Cable>, &[u8]), Stop>
-    ensures { GivesOrStops (λ x. (x.0, x.1.now)) result
+fn front_of(alloc: Global, bytes: &[u8]) -> Result<(Front, &[u8]), Stop>
+    ensures { GivesOrStops (λ x. ((x.0.version, x.0.cables), x.1.now)) result
         (spec.read faults front_spelling bytes.now) }
 {
     let (_, rest) = magic_at(bytes)?;
-    let (_, rest) = byte_within(rest, 1, 1, Cause::Version)?;
-    counted_of::<Cable>(
+    let (number, rest) = byte_within(rest, 1, 2, Cause::Version)?;
+    let version = Version::of(number);
+    let (cables, rest) = counted_of::<Cable>(
         alloc,
         CountSize::One,
         MAX_CABLES,
-        Context::nothing(),
+        Context::nothing(version),
         &[],
         rest,
-    )
+    )?;
+    Ok((Front { version, cables }, rest))
 }
 
 /// A router whose zone lists are those of the cables, in order: a hint for reading the first
@@ -201,16 +236,16 @@ pub fn router_like(alloc: Global, cables: &[Cable]) -> Option<Router> {
 
 fn routers_of<'a>(
     alloc: Global,
-    cables: &Listed<Cable>,
+    front: &Front,
     bytes: &'a [u8],
 ) -> Result<(Listed<Router>, &'a [u8]), Stop>
     ensures { GivesOrStops (λ x. (x.0, x.1.now)) result
         (spec.read faults
-        (counted one max_routers (λ low. router_spelling (length cables.now)) (λ r. 0))
+        (counted one max_routers (λ low. router_spelling front.now.version (length front.now.cables)) (λ r. 0))
         bytes.now) }
 {
-    let context = Context::nothing().with_cables(cables.len());
-    match router_like(alloc, cables.as_slice()) {
+    let context = Context::nothing(front.version).with_cables(front.cables.len());
+    match router_like(alloc, front.cables.as_slice()) {
         Some(like) => {
             let likes = [like];
             let likes = likes.as_slice();
@@ -222,29 +257,31 @@ fn routers_of<'a>(
 
 fn nodes_of<'a>(
     alloc: Global,
-    cables: &Listed<Cable>,
+    front: &Front,
     bytes: &'a [u8],
 ) -> Result<(Listed<Node>, &'a [u8]), Stop>
     ensures { GivesOrStops (λ x. (x.0, x.1.now)) result
         (spec.read faults
-        (counted one max_nodes (λ low. node_spelling (length cables.now)) (λ n. 0))
+        (counted one max_nodes (λ low. node_spelling front.now.version (length front.now.cables)) (λ n. 0))
         bytes.now) }
 {
-    let context = Context::nothing().with_cables(cables.len());
+    let context = Context::nothing(front.version).with_cables(front.cables.len());
     counted_of::<Node>(alloc, CountSize::One, MAX_NODES, context, &[], bytes)
 }
 
 #[tactic(auto, unfolding(crate::specs::Spelling::image_spelling))]
 fn parts_of(alloc: Global, bytes: &[u8]) -> Result<(Parts, &[u8]), Stop>
-    ensures { GivesOrStops (λ x. (internet x.0.cables x.0.routers x.0.nodes, x.1.now)) result
+    ensures { GivesOrStops
+        (λ x. (internet x.0.version x.0.cables x.0.routers x.0.nodes, x.1.now)) result
         (spec.read faults image_spelling bytes.now) }
 {
-    let (cables, rest) = front_of(alloc, bytes)?;
-    let (routers, rest) = routers_of(alloc, &cables, rest)?;
-    let (nodes, rest) = nodes_of(alloc, &cables, rest)?;
+    let (front, rest) = front_of(alloc, bytes)?;
+    let (routers, rest) = routers_of(alloc, &front, rest)?;
+    let (nodes, rest) = nodes_of(alloc, &front, rest)?;
     Ok((
         Parts {
-            cables,
+            version: front.version,
+            cables: front.cables,
             routers,
             nodes,
         },
@@ -254,48 +291,14 @@ fn parts_of(alloc: Global, bytes: &[u8]) -> Result<(Parts, &[u8]), Stop>
 
 #[tactic(auto, unfolding(crate::specs::Reading::image_at))]
 fn whole(alloc: Global, bytes: &[u8]) -> Result<Parts, Stop>
-    ensures { GivesOrStops (λ x. internet x.cables x.routers x.nodes) result (image_at bytes.now) }
+    ensures { GivesOrStops (λ x. internet x.version x.cables x.routers x.nodes) result
+        (image_at bytes.now) }
 {
     let (parts, rest) = parts_of(alloc, bytes)?;
     if !rest.is_empty() {
         return Err(Stop::Refused(wrong(rest, Cause::Trailing)));
     }
     Ok(parts)
-}
-
-// Reads past the head and the cables without an allocation.
-#[tactic(auto, unfolding(crate::specs::Spelling::front_spelling))]
-fn pass_front(bytes: &[u8]) -> Result<(usize, &[u8]), Fault>
-    ensures { GoesPast (λ cables. length cables) (λ x. (x.0, x.1.now)) result
-        (spec.read faults front_spelling bytes.now) }
-{
-    let (_magic, rest) = magic_at(bytes)?;
-    let (_version, rest) = byte_within(rest, 1, 1, Cause::Version)?;
-    pass_counted::<Cable>(CountSize::One, MAX_CABLES, Context::nothing(), rest)
-}
-
-#[tactic(auto, unfolding(crate::specs::Spelling::image_spelling))]
-fn pass_image(bytes: &[u8]) -> Result<(usize, &[u8]), Fault>
-    ensures { GoesPast (λ i. length i.cables) (λ x. (x.0, x.1.now)) result
-        (spec.read faults image_spelling bytes.now) }
-{
-    let (cables, rest) = pass_front(bytes)?;
-    let context = Context::nothing().with_cables(cables);
-    let (_routers, rest) = pass_counted::<Router>(CountSize::One, MAX_ROUTERS, context, rest)?;
-    let (_nodes, rest) = pass_counted::<Node>(CountSize::One, MAX_NODES, context, rest)?;
-    Ok((cables, rest))
-}
-
-#[tactic(auto, unfolding(crate::specs::Reading::image_at))]
-fn look_through(bytes: &[u8]) -> Result<(), Fault>
-    ensures spells { OnOk result ((i : Internet) × (image_at bytes.now ≡ Ok i)) }
-    ensures flawed { IfErr result (λ f. image_at bytes.now ≡ Err f) }
-{
-    let (_, rest) = pass_image(bytes)?;
-    if !rest.is_empty() {
-        return Err(wrong(rest, Cause::Trailing));
-    }
-    Ok(())
 }
 
 // The limits of an image keep the offset of a flaw below 2 ^ 32.
@@ -336,11 +339,13 @@ pub fn read(alloc: Global, bytes: &[u8]) -> Result<Image, Error>
     match whole(alloc, bytes) {
         Ok(parts) => {
             let Parts {
+                version,
                 cables,
                 routers,
                 nodes,
             } = parts;
             Ok(Image {
+                version,
                 cables,
                 routers,
                 nodes,
@@ -351,15 +356,22 @@ pub fn read(alloc: Global, bytes: &[u8]) -> Result<Image, Error>
     }
 }
 
-#[tactic(auto, unfolding(crate::specs::Spelling::image_spelling, crate::specs::Spelling::front_spelling))]
+#[tactic(auto, unfolding(crate::specs::Spelling::front_spelling))]
+fn put_front(out: &mut Vec<u8>, version: Version, cables: &Listed<Cable>) -> Result<(), AllocError>
+    ensures { OnOk result (out.new.items ≡ out.old.items ++ bytes_of front_spelling (version, cables.now)) }
+{
+    out.extend_from_slice(&[0x41, 0x54, 0x49, 0x4D])?;
+    put_byte(out, version.number())?;
+    let context = Context::nothing(version);
+    put_counted(out, CountSize::One, MAX_CABLES, context, cables)
+}
+
+#[tactic(auto, unfolding(crate::specs::Spelling::image_spelling))]
 fn put_image(out: &mut Vec<u8>, image: &Image) -> Result<(), AllocError>
     ensures { OnOk result (out.new.items ≡ out.old.items ++ bytes_of image_spelling image.now) }
 {
-    out.extend_from_slice(&[0x41, 0x54, 0x49, 0x4D])?;
-    put_byte(out, 1)?;
-    let context = Context::nothing();
-    put_counted(out, CountSize::One, MAX_CABLES, context, &image.cables)?;
-    let context = context.with_cables(image.cables.len());
+    put_front(out, image.version, &image.cables)?;
+    let context = Context::nothing(image.version).with_cables(image.cables.len());
     put_counted(out, CountSize::One, MAX_ROUTERS, context, &image.routers)?;
     put_counted(out, CountSize::One, MAX_NODES, context, &image.nodes)
 }
@@ -369,7 +381,7 @@ fn written_len(image: &Image) -> usize
     ensures len { result ≡ length (bytes_of image_spelling image.now) }
     ensures valid { IsValue image_spelling image.now }
 {
-    match check_parts(&image.cables, &image.routers, &image.nodes) {
+    match check_parts(image.version, &image.cables, &image.routers, &image.nodes) {
         Ok(end) => end,
         Err(_) => 0,
     }

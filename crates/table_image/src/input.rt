@@ -8,7 +8,8 @@ ghost use Rattle.at_base.specs.Text as spec;
 ghost use Rattle.at_base.specs.Text.{is_name};
 ghost use Rattle.table_image.specs.Counts.{size_of};
 ghost use Rattle.table_image.specs.Flaws.{faults};
-ghost use Rattle.table_image.specs.Tests.{any, below, enumerator, is_magic, rising, within};
+ghost use Rattle.table_image.specs.Tests.{address_rising, any, below, enumerator, is_magic};
+ghost use Rattle.table_image.specs.Tests.{rising, within};
 ghost use Rattle.table_image.specs.Spelling.{address_spelling, text_spelling};
 
 use crate::count::CountSize;
@@ -138,6 +139,22 @@ pub fn rising_at(bytes: &[u8], low: u32) -> Result<(u16, &[u8]), Fault>
         return Err(wrong(bytes, Cause::Order));
     }
     Ok((number, rest))
+}
+
+/// The node of an address whose network was read before it, where the address is not below `low`.
+/// An address below it is reported at its network.
+pub fn address_node_at(bytes: &[u8], low: u32, net: u16) -> Result<(u8, &[u8]), Fault>
+    ensures { Gives (λ x. (x.0, x.1.now)) result
+        (field_at faults (number one (address_rising low net)) bytes.now) }
+{
+    let (node, rest) = byte_at(bytes)?;
+    if u32::from(net) * 256 + u32::from(node) < low {
+        return Err(Fault {
+            left: NETWORK_SIZE + bytes.len(),
+            cause: Cause::Order,
+        });
+    }
+    Ok((node, rest))
 }
 
 /// The four bytes at the front of an image.

@@ -17,6 +17,7 @@ use crate::flaw::{Fault, Stop};
 use crate::input::count_within;
 use crate::listed::Listed;
 use crate::output::put_count;
+use crate::version::Version;
 use std::alloc::{AllocError, Global};
 
 /// A part of an image that lists consist of.
@@ -32,10 +33,12 @@ pub trait Item: Drop {
     fn next_low(&self) -> u32
         ensures { result ≡ next self.now };
 
-    /// A law, without run time: the bytes of a part don't depend on the parts around it.
+    /// A law, without run time: the bytes of a part don't depend on the parts around it, only on the
+    /// version.
     fn written_alike()
         ensures { (context : ContextValue) (low : ℕ) (x : Self)
-            → bytes_of (spelling context low) x ≡ bytes_of (spelling nothing 0) x };
+            → bytes_of (spelling context low) x
+            ≡ bytes_of (spelling (nothing context.version) 0) x };
 }
 
 /// A part that can be read.
@@ -92,10 +95,10 @@ impl<T: FlatItem> ReadItem for T {
 
 /// A part that can be written.
 pub trait WriteItem: Item {
-    /// Appends the bytes of the part.
-    fn write_one(&self, out: &mut Vec<u8>) -> Result<(), AllocError>
-        ensures { OnOk result
-            (out.new.items ≡ out.old.items ++ bytes_of (Self.spelling nothing 0) self.now) };
+    /// Appends the bytes of the part in a version's image.
+    fn write_one(&self, version: Version, out: &mut Vec<u8>) -> Result<(), AllocError>
+        ensures { OnOk result (out.new.items
+            ≡ out.old.items ++ bytes_of (Self.spelling (nothing version) 0) self.now) };
 }
 
 // A list of one part needs no allocation of its own.
@@ -191,31 +194,35 @@ pub(crate) fn pass_counted<T: ReadItem>(
     pass_list::<T>(context, count, rest)
 }
 
-fn put_list<T: WriteItem>(out: &mut Vec<u8>, items: &[T]) -> Result<(), AllocError>
-    ensures { OnOk result
-        (out.new.items ≡ out.old.items ++ flat_map (bytes_of (T.spelling nothing 0)) items.now) }
+fn put_list<T: WriteItem>(
+    out: &mut Vec<u8>,
+    version: Version,
+    items: &[T],
+) -> Result<(), AllocError>
+    ensures { OnOk result (out.new.items
+        ≡ out.old.items ++ flat_map (bytes_of (T.spelling (nothing version) 0)) items.now) }
 {
     for item in items {
-        item.write_one(out)?;
+        item.write_one(version, out)?;
     }
     Ok(())
 }
 
-/// Appends a count and the parts. The limit and the context don't affect the bytes; they say which
-/// format is meant.
+/// Appends a count and the parts. The limit doesn't affect the bytes, nor does the context but for
+/// its version; they say which format is meant.
 pub(crate) fn put_counted<T: WriteItem>(
     out: &mut Vec<u8>,
     size: CountSize,
     _limit: usize,
-    _context: Context,
+    context: Context,
     items: &Listed<T>,
 ) -> Result<(), AllocError>
     ensures { OnOk result
         (out.new.items ≡ out.old.items
-        ++ bytes_of (counted (size_of size) _limit (T.spelling _context) T.next) items.now) }
+        ++ bytes_of (counted (size_of size) _limit (T.spelling context) T.next) items.now) }
 {
     T::written_alike();
     put_count(out, size, items.len())?;
-    put_list(out, items.as_slice())?;
+    put_list(out, context.version, items.as_slice())?;
     Ok(())
 }

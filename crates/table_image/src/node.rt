@@ -20,8 +20,10 @@ use crate::input::{
 };
 use crate::item::{FlatItem, Item, ReadItem, WriteItem, counted_of, pass_counted, put_counted};
 use crate::listed::Listed;
+use crate::mapping::{Mapping, check_mappings, mappings_at, pass_mappings, put_mappings};
 use crate::output::{put_address, put_byte, put_text};
-use crate::sizes::{BYTE_SIZE, OWN_ROUTER_SIZE, PORT_SIZE};
+use crate::sizes::{BYTE_SIZE, OWN_ROUTER_SIZE, SEAT_SIZE};
+use crate::version::Version;
 use at_base::limits::MAX_NAMES;
 use at_base::{Addr, Cause, Hw, Name, Text32, is_entity};
 use std::alloc::{AllocError, Global};
@@ -58,6 +60,8 @@ pub struct Node {
     pub router: Option<Addr>,
     /// The names registered on it, at most `MAX_NAMES`, strictly rising by enumerator.
     pub names: Listed<NodeName>,
+    /// The mappings that it knows, strictly rising by their addresses; none in version 1.
+    pub mappings: Listed<Mapping>,
 }
 
 impl Item for NodeName {
@@ -100,7 +104,7 @@ impl FlatItem for NodeName {
 
 impl WriteItem for NodeName {
     #[tactic(auto, unfolding(crate::specs::Spelling::name_spelling, crate::specs::Spelling::text_spelling))]
-    fn write_one(&self, out: &mut Vec<u8>) -> Result<(), AllocError> {
+    fn write_one(&self, _version: Version, out: &mut Vec<u8>) -> Result<(), AllocError> {
         put_byte(out, self.socket)?;
         put_byte(out, self.enumerator)?;
         put_text(out, self.object.as_slice())?;
@@ -135,7 +139,7 @@ fn put_own_router(out: &mut Vec<u8>, router: Option<Addr>) -> Result<(), AllocEr
 }
 
 impl Item for Node {
-    ghost spelling = { λ context low. node_spelling context.cables };
+    ghost spelling = { λ context low. node_spelling context.version context.cables };
 
     ghost next = { λ _. 0 };
 
@@ -172,6 +176,7 @@ impl ReadItem for Node {
             &[],
             rest,
         )?;
+        let (mappings, rest) = mappings_at(alloc, context.version, rest)?;
         Ok((
             Node {
                 cable,
@@ -180,6 +185,7 @@ impl ReadItem for Node {
                 zone,
                 router,
                 names,
+                mappings,
             },
             rest,
         ))
@@ -196,25 +202,22 @@ impl ReadItem for Node {
         };
         let (_router, rest) = own_router_at(rest)?;
         let (_names, rest) = pass_counted::<NodeName>(CountSize::One, MAX_NAMES, context, rest)?;
+        let (_mappings, rest) = pass_mappings(context.version, rest)?;
         Ok((0, rest))
     }
 }
 
 impl WriteItem for Node {
     #[tactic(auto, unfolding(crate::specs::Spelling::node_spelling, crate::specs::Spelling::text_spelling))]
-    fn write_one(&self, out: &mut Vec<u8>) -> Result<(), AllocError> {
+    fn write_one(&self, version: Version, out: &mut Vec<u8>) -> Result<(), AllocError> {
         put_byte(out, self.cable)?;
         put_address(out, self.address)?;
         out.extend_from_slice(&self.hardware.0)?;
         put_text(out, self.zone.as_slice())?;
         put_own_router(out, self.router)?;
-        put_counted(
-            out,
-            CountSize::One,
-            MAX_NAMES,
-            Context::nothing(),
-            &self.names,
-        )
+        let context = Context::nothing(version);
+        put_counted(out, CountSize::One, MAX_NAMES, context, &self.names)?;
+        put_mappings(out, version, &self.mappings)
     }
 }
 
@@ -247,7 +250,7 @@ impl CheckItem for NodeName {
     ghost use Rattle.std.specs.Prelude.{true};
     ghost use Rattle.table_image.specs.Sizes.{name_size};
 
-    ghost short = { λ name. true };
+    ghost short = { λ version name. true };
 
     ghost max_size = { name_size };
 
@@ -297,7 +300,7 @@ fn own_router_size(router: Option<Addr>) -> usize
 }
 
 // The offset of the text of a node's zone from the node's first byte. The length byte is before it.
-const ZONE_TEXT_AT: usize = PORT_SIZE + BYTE_SIZE;
+const ZONE_TEXT_AT: usize = SEAT_SIZE + BYTE_SIZE;
 
 impl CheckItem for Node {
     ghost use Rattle.table_image.specs.Short.{short_node};
@@ -319,6 +322,9 @@ impl CheckItem for Node {
         }
         let zone = self.zone.as_slice();
         let end = at + ZONE_TEXT_AT + zone.len() + own_router_size(self.router);
-        check_counted(CountSize::One, MAX_NAMES, context, end, &self.names)
+        match check_counted(CountSize::One, MAX_NAMES, context, end, &self.names) {
+            Ok(end) => check_mappings(context.version, end, &self.mappings),
+            Err(flaw) => Err(flaw),
+        }
     }
 }

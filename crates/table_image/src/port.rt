@@ -5,18 +5,21 @@ ghost use Rattle.table_image.specs.Spelling.{port_spelling};
 
 use crate::checking::CheckItem;
 use crate::context::Context;
-use crate::flaw::{Fault, Flaw};
+use crate::flaw::{Fault, Flaw, Stop};
 use crate::input::{address_at, hardware_at, index_at};
-use crate::item::{FlatItem, Item, WriteItem};
+use crate::item::{Item, ReadItem, WriteItem};
+use crate::listed::Listed;
+use crate::mapping::{Mapping, check_mappings, mappings_at, pass_mappings, put_mappings};
 use crate::output::{put_address, put_byte};
-use crate::sizes::PORT_SIZE;
+use crate::sizes::SEAT_SIZE;
+use crate::version::Version;
 use at_base::{Addr, Cause, Hw};
-use std::alloc::AllocError;
+use std::alloc::{AllocError, Global};
 
 /// A port of a router, which attaches it to a cable.
 ///
 /// Inside AppleTalk, the chapter on RTMP.
-#[derive(Clone, Copy, Debug, PartialEq, Eq)]
+#[derive(Debug, PartialEq, Eq, Drop)]
 pub struct Port {
     /// The 0-based index of its cable in the image's cables.
     pub cable: u8,
@@ -24,10 +27,12 @@ pub struct Port {
     pub address: Addr,
     /// The router's hardware address on that cable, 6 bytes.
     pub hardware: Hw,
+    /// The mappings that it knows, strictly rising by their addresses; none in version 1.
+    pub mappings: Listed<Mapping>,
 }
 
 impl Item for Port {
-    ghost spelling = { λ context low. port_spelling context.cables };
+    ghost spelling = { λ context low. port_spelling context.version context.cables };
 
     ghost next = { λ _. 0 };
 
@@ -39,37 +44,55 @@ impl Item for Port {
     fn written_alike() {}
 }
 
-impl FlatItem for Port {
+impl ReadItem for Port {
     #[tactic(auto, unfolding(crate::specs::Spelling::port_spelling))]
-    fn flat_at(context: Context, _low: u32, bytes: &[u8]) -> Result<(Port, &[u8]), Fault> {
+    fn read_one<'a>(
+        alloc: Global,
+        context: Context,
+        _low: u32,
+        _like: Option<&Port>,
+        bytes: &'a [u8],
+    ) -> Result<(Port, &'a [u8]), Stop> {
         let (cable, rest) = index_at(bytes, context.cables)?;
         let (address, rest) = address_at(rest)?;
         let (hardware, rest) = hardware_at(rest)?;
+        let (mappings, rest) = mappings_at(alloc, context.version, rest)?;
         Ok((
             Port {
                 cable,
                 address,
                 hardware,
+                mappings,
             },
             rest,
         ))
+    }
+
+    #[tactic(auto, unfolding(crate::specs::Spelling::port_spelling))]
+    fn pass_one(context: Context, _low: u32, bytes: &[u8]) -> Result<(u32, &[u8]), Fault> {
+        let (_cable, rest) = index_at(bytes, context.cables)?;
+        let (_address, rest) = address_at(rest)?;
+        let (_hardware, rest) = hardware_at(rest)?;
+        let (_mappings, rest) = pass_mappings(context.version, rest)?;
+        Ok((0, rest))
     }
 }
 
 impl WriteItem for Port {
     #[tactic(auto, unfolding(crate::specs::Spelling::port_spelling))]
-    fn write_one(&self, out: &mut Vec<u8>) -> Result<(), AllocError> {
+    fn write_one(&self, version: Version, out: &mut Vec<u8>) -> Result<(), AllocError> {
         put_byte(out, self.cable)?;
         put_address(out, self.address)?;
-        out.extend_from_slice(&self.hardware.0)
+        out.extend_from_slice(&self.hardware.0)?;
+        put_mappings(out, version, &self.mappings)
     }
 }
 
 impl CheckItem for Port {
-    ghost use Rattle.std.specs.Prelude.{true};
+    ghost use Rattle.table_image.specs.Short.{short_port};
     ghost use Rattle.table_image.specs.Sizes.{port_size};
 
-    ghost short = { λ port. true };
+    ghost short = { short_port };
 
     ghost max_size = { port_size };
 
@@ -83,6 +106,6 @@ impl CheckItem for Port {
                 cause: Cause::Index,
             });
         }
-        Ok(at + PORT_SIZE)
+        check_mappings(context.version, at + SEAT_SIZE, &self.mappings)
     }
 }

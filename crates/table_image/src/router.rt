@@ -10,6 +10,7 @@ use crate::item::{Item, ReadItem, WriteItem, counted_of, pass_counted, put_count
 use crate::listed::Listed;
 use crate::port::Port;
 use crate::row::Row;
+use crate::version::Version;
 use crate::zone_list::{ZoneList, lists_at};
 use at_base::limits::{MAX_LISTS, MAX_PORTS, MAX_ROWS};
 use std::alloc::{AllocError, Global};
@@ -28,7 +29,7 @@ pub struct Router {
 }
 
 impl Item for Router {
-    ghost spelling = { λ context low. router_spelling context.cables };
+    ghost spelling = { λ context low. router_spelling context.version context.cables };
 
     ghost next = { λ _. 0 };
 
@@ -60,7 +61,8 @@ impl ReadItem for Router {
         )?;
         let of_ports = context.with_ports(ports.len());
         let (rows, rest) = counted_of::<Row>(alloc, CountSize::One, MAX_ROWS, of_ports, &[], rest)?;
-        let (lists, rest) = lists_at(alloc, like.map(|router| &router.lists), rest)?;
+        let like = like.map(|router| &router.lists);
+        let (lists, rest) = lists_at(alloc, context.version, like, rest)?;
         Ok((Router { ports, rows, lists }, rest))
     }
 
@@ -76,8 +78,8 @@ impl ReadItem for Router {
 
 impl WriteItem for Router {
     #[tactic(auto, unfolding(crate::specs::Spelling::router_spelling))]
-    fn write_one(&self, out: &mut Vec<u8>) -> Result<(), AllocError> {
-        let context = Context::nothing();
+    fn write_one(&self, version: Version, out: &mut Vec<u8>) -> Result<(), AllocError> {
+        let context = Context::nothing(version);
         let of_ports = context.with_ports(self.ports.len());
         put_counted(out, CountSize::One, MAX_PORTS, context, &self.ports)?;
         put_counted(out, CountSize::One, MAX_ROWS, of_ports, &self.rows)?;

@@ -11,6 +11,7 @@ use crate::item::{FlatItem, Item, WriteItem};
 use crate::limits::MAX_DISTANCE;
 use crate::output::{put_address, put_byte, put_u16};
 use crate::sizes::{BYTE_SIZE, RANGE_SIZE, ROW_SIZE};
+use crate::version::Version;
 use at_base::{Addr, Cause};
 use rtmp::State;
 use std::alloc::AllocError;
@@ -106,7 +107,7 @@ impl FlatItem for Row {
 
 impl WriteItem for Row {
     #[tactic(auto, unfolding(crate::specs::Spelling::row_spelling))]
-    fn write_one(&self, out: &mut Vec<u8>) -> Result<(), AllocError> {
+    fn write_one(&self, _version: Version, out: &mut Vec<u8>) -> Result<(), AllocError> {
         put_u16(out, self.start)?;
         put_u16(out, self.end)?;
         put_byte(out, self.distance)?;
@@ -125,7 +126,7 @@ impl CheckItem for Row {
     ghost use Rattle.std.specs.Prelude.{true};
     ghost use Rattle.table_image.specs.Sizes.{row_size};
 
-    ghost short = { λ row. true };
+    ghost short = { λ version row. true };
 
     ghost max_size = { row_size };
 

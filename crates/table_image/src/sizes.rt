@@ -15,8 +15,11 @@ pub(crate) const ADDRESS_SIZE: usize = NETWORK_SIZE + BYTE_SIZE;
 /// A hardware address.
 pub(crate) const HARDWARE_SIZE: usize = 6;
 
+/// A mapping: an address and its hardware address.
+pub(crate) const MAPPING_SIZE: usize = ADDRESS_SIZE + HARDWARE_SIZE;
+
 /// The index of a cable, a network address and a hardware address.
-pub(crate) const PORT_SIZE: usize = BYTE_SIZE + ADDRESS_SIZE + HARDWARE_SIZE;
+pub(crate) const SEAT_SIZE: usize = BYTE_SIZE + ADDRESS_SIZE + HARDWARE_SIZE;
 
 /// A row: its range, distance, port, next router and state.
 pub(crate) const ROW_SIZE: usize = RANGE_SIZE + BYTE_SIZE + BYTE_SIZE + ADDRESS_SIZE + BYTE_SIZE;

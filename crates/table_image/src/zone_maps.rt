@@ -90,7 +90,7 @@ fn are_short(lists: &[ZoneList]) -> bool
 
 /// The least number of zones of the list: one more than its names if it isn't complete, else 0.
 fn least_of(list: &ZoneList) -> u8
-    requires { length list.now.zones ≤ max_zones }
+    requires { (if list.now.complete then 0 else length list.now.zones + 1) ≤ max_zones }
     ensures { result ≡ (if list.now.complete then 0 else length list.now.zones + 1) }
 {
     if list.complete {

@@ -6,7 +6,7 @@ ghost use Rattle.at_base.specs.Spelling.{bytes_of};
 ghost use Rattle.at_base.specs.Reading.{read, list_at};
 ghost use Rattle.table_image.specs.Checking.{Checks};
 ghost use Rattle.table_image.specs.Flaws.{faults, GivesOrStops, GoesPast};
-ghost use Rattle.at_base.specs.Limits.{max_zones};
+ghost use Rattle.table_image.specs.Versions.{zone_limit};
 ghost use Rattle.table_image.specs.Sizes.{zones_size};
 ghost use Rattle.table_image.specs.Spelling.{zone_spelling, zones_spelling};
 
@@ -19,8 +19,8 @@ use crate::item::{FlatItem, Item, WriteItem, counted_of, pass_counted, put_count
 use crate::listed::Listed;
 use crate::output::put_text;
 use crate::sizes::BYTE_SIZE;
+use crate::version::Version;
 use at_base::Name;
-use at_base::limits::MAX_ZONES;
 use std::alloc::{AllocError, Global};
 
 impl Item for Name {
@@ -43,7 +43,7 @@ impl FlatItem for Name {
 
 impl WriteItem for Name {
     #[tactic(auto, unfolding(crate::specs::Spelling::text_spelling))]
-    fn write_one(&self, out: &mut Vec<u8>) -> Result<(), AllocError> {
+    fn write_one(&self, _version: Version, out: &mut Vec<u8>) -> Result<(), AllocError> {
         put_text(out, self.as_slice())
     }
 }
@@ -51,14 +51,19 @@ impl WriteItem for Name {
 // Zones that no other list has.
 #[inline(never)]
 #[tactic(auto, unfolding(crate::specs::Spelling::zones_spelling))]
-fn new_zones_at(alloc: Global, bytes: &[u8]) -> Result<(Listed<Name>, &[u8]), Stop>
-    ensures { GivesOrStops (λ x. (x.0, x.1.now)) result (read faults zones_spelling bytes.now) }
+fn new_zones_at(
+    alloc: Global,
+    version: Version,
+    bytes: &[u8],
+) -> Result<(Listed<Name>, &[u8]), Stop>
+    ensures { GivesOrStops (λ x. (x.0, x.1.now)) result
+        (read faults (zones_spelling version) bytes.now) }
 {
     let (zones, rest) = counted_of(
         alloc,
         CountSize::One,
-        MAX_ZONES,
-        Context::nothing(),
+        version.zone_limit(),
+        Context::nothing(version),
         &[],
         bytes,
     )?;
@@ -98,12 +103,16 @@ fn after_names<'a>(names: &[Name], bytes: &'a [u8]) -> Option<&'a [u8]>
 /// The bytes after a count and the zones, if they begin with them.
 #[inline(always)]
 #[tactic(auto, unfolding(crate::specs::Spelling::zones_spelling, crate::specs::Spelling::counted))]
-pub(crate) fn after_zones<'a>(zones: &Listed<Name>, bytes: &'a [u8]) -> Option<&'a [u8]>
+pub(crate) fn after_zones<'a>(
+    zones: &Listed<Name>,
+    version: Version,
+    bytes: &'a [u8],
+) -> Option<&'a [u8]>
     ensures { IfSome result
-        (λ rest. read faults zones_spelling bytes.now ≡ Ok (zones.now, rest.now)) }
+        (λ rest. read faults (zones_spelling version) bytes.now ≡ Ok (zones.now, rest.now)) }
 {
     let (count, after) = bytes.split_first()?;
-    if *count as usize > MAX_ZONES || *count as usize != zones.len() {
+    if *count as usize > version.zone_limit() || *count as usize != zones.len() {
         return None;
     }
     let rest = after_names(zones.as_slice(), after)?;
@@ -112,11 +121,15 @@ pub(crate) fn after_zones<'a>(zones: &Listed<Name>, bytes: &'a [u8]) -> Option<&
 
 // The same zones again, if the bytes begin with them and no memory is needed.
 #[inline(always)]
-fn zones_again<'a>(zones: &Listed<Name>, bytes: &'a [u8]) -> Option<(Listed<Name>, &'a [u8])>
+fn zones_again<'a>(
+    zones: &Listed<Name>,
+    version: Version,
+    bytes: &'a [u8],
+) -> Option<(Listed<Name>, &'a [u8])>
     ensures { IfSome result
-        (λ x. read faults zones_spelling bytes.now ≡ Ok (x.0, x.1.now)) }
+        (λ x. read faults (zones_spelling version) bytes.now ≡ Ok (x.0, x.1.now)) }
 {
-    let rest = after_zones(zones, bytes)?;
+    let rest = after_zones(zones, version, bytes)?;
     Some((zones.again()?, rest))
 }
 
@@ -124,42 +137,51 @@ fn zones_again<'a>(zones: &Listed<Name>, bytes: &'a [u8]) -> Option<(Listed<Name
 #[inline(always)]
 pub(crate) fn zones_at<'a>(
     alloc: Global,
+    version: Version,
     like: Option<&Listed<Name>>,
     bytes: &'a [u8],
 ) -> Result<(Listed<Name>, &'a [u8]), Stop>
-    ensures { GivesOrStops (λ x. (x.0, x.1.now)) result (read faults zones_spelling bytes.now) }
+    ensures { GivesOrStops (λ x. (x.0, x.1.now)) result
+        (read faults (zones_spelling version) bytes.now) }
 {
     let Some(zones) = like else {
-        return new_zones_at(alloc, bytes);
+        return new_zones_at(alloc, version, bytes);
     };
-    match zones_again(zones, bytes) {
+    match zones_again(zones, version, bytes) {
         Some(found) => Ok(found),
-        None => new_zones_at(alloc, bytes),
+        None => new_zones_at(alloc, version, bytes),
     }
 }
 
 /// Reads past a count and zones, and returns the number of zones.
 #[tactic(auto, unfolding(crate::specs::Spelling::zones_spelling))]
-pub(crate) fn pass_zones(bytes: &[u8]) -> Result<(usize, &[u8]), Fault>
+pub(crate) fn pass_zones(version: Version, bytes: &[u8]) -> Result<(usize, &[u8]), Fault>
     ensures { GoesPast (λ xs. length xs) (λ x. (x.0, x.1.now)) result
-        (read faults zones_spelling bytes.now) }
+        (read faults (zones_spelling version) bytes.now) }
 {
-    pass_counted::<Name>(CountSize::One, MAX_ZONES, Context::nothing(), bytes)
+    let context = Context::nothing(version);
+    pass_counted::<Name>(CountSize::One, version.zone_limit(), context, bytes)
 }
 
 /// Appends a count and zones.
 #[tactic(auto, unfolding(crate::specs::Spelling::zones_spelling))]
-pub(crate) fn put_zones(out: &mut Vec<u8>, names: &Listed<Name>) -> Result<(), AllocError>
-    ensures { OnOk result (out.new.items ≡ out.old.items ++ bytes_of zones_spelling names.now) }
+pub(crate) fn put_zones(
+    out: &mut Vec<u8>,
+    version: Version,
+    names: &Listed<Name>,
+) -> Result<(), AllocError>
+    ensures { OnOk result
+        (out.new.items ≡ out.old.items ++ bytes_of (zones_spelling version) names.now) }
 {
-    put_counted(out, CountSize::One, MAX_ZONES, Context::nothing(), names)
+    let context = Context::nothing(version);
+    put_counted(out, CountSize::One, version.zone_limit(), context, names)
 }
 
 impl CheckItem for Name {
     ghost use Rattle.std.specs.Prelude.{true};
     ghost use Rattle.table_image.specs.Sizes.{text_size};
 
-    ghost short = { λ name. true };
+    ghost short = { λ version name. true };
 
     ghost max_size = { text_size };
 
@@ -170,12 +192,13 @@ impl CheckItem for Name {
 
 /// Checks a count and zones.
 #[tactic(auto, unfolding(crate::specs::Spelling::zones_spelling))]
-pub(crate) fn check_zones(at: usize, names: &Listed<Name>) -> Result<usize, Flaw>
-    requires few { length names.now ≤ max_zones }
+pub(crate) fn check_zones(version: Version, at: usize, names: &Listed<Name>) -> Result<usize, Flaw>
+    requires few { length names.now ≤ zone_limit version }
     requires room { at + zones_size < 2 ^ 40 }
-    ensures checked { Checks zones_spelling names.now at result }
+    ensures checked { Checks (zones_spelling version) names.now at result }
     ensures near { MatchResult result (λ end. end ≤ at + zones_size)
         (λ m. m.place ≤ at + zones_size) }
 {
-    check_counted(CountSize::One, MAX_ZONES, Context::nothing(), at, names)
+    let context = Context::nothing(version);
+    check_counted(CountSize::One, version.zone_limit(), context, at, names)
 }

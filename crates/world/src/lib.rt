@@ -13,5 +13,5 @@ mod taking;
 mod tick;
 mod world;
 
-pub use laws::frozen_is_read_back;
+pub use laws::{frozen_as_is_read_back, frozen_is_read_back};
 pub use world::{MAX_ENTRIES, MAX_TAKES, World};

@@ -1,6 +1,6 @@
 //! Worlds, and what can be read from them.
 
-ghost use Rattle.std.specs.Prelude.{◌≡◌, [], None, IfOk, IsOkUnless};
+ghost use Rattle.std.specs.Prelude.{◌≡◌, ◌⊎◌, ◌↔◌, [], true, None, IfErr, IfOk, IsOkUnless};
 ghost use Rattle.std.specs.Prelude.{map, option_copied};
 ghost use Rattle.cable_model.specs.Logs.{bytes_at};
 ghost use Rattle.internet_file.specs.Sound.{IsSound};
@@ -19,7 +19,7 @@ use crate::seen::node_by;
 use at_base::{Error, Range};
 use cable_model::{Entry, Seat};
 use end_node::EndNode;
-use freeze::image_of;
+use freeze::{image_of, needs_version_2};
 use internet_file::Plan;
 use live_cables::LiveCables;
 use live_node::LiveNode;
@@ -29,7 +29,7 @@ use rtmp::RouteTable;
 use station::Member;
 use std::alloc::Global;
 use std::marker::Model;
-use table_image::Image;
+use table_image::{Image, Version};
 
 /// The greatest number of entries in a world's transcript.
 pub const MAX_ENTRIES: u32 = 4_000_000;
@@ -192,11 +192,44 @@ impl<T: RouteTable> World<T> {
         self.refused.as_slice()
     }
 
-    /// The image of the current tables. An address that isn't settled is 0.0. Error: `Memory`.
+    /// The image of the current tables, in a version of the format. An address that isn't settled
+    /// is 0.0.
+    ///
+    /// Errors: `Full` for version 1 where a cable or a zone list has more than 64 names, whether or
+    /// not there is memory; `Memory`.
+    pub fn freeze_as(&self, version: Version) -> Result<Image, Error>
+        ensures ok { IfOk result (λ image. image ≡ frozen_spec.frozen_as version self.now) }
+        ensures full { (result ≡ Err Error.Full)
+            ↔ ((version ≡ Version.V1) × (frozen_spec.needs_version_2 self.now ≡ true)) }
+        ensures refused { IfErr result (λ e. (e ≡ Error.Full) ⊎ (e ≡ Error.Memory)) }
+    {
+        let stations = self.stations.as_slice();
+        image_of(
+            self.alloc,
+            version,
+            &self.plan,
+            stations,
+            self.wires.mappers(),
+        )
+    }
+
+    /// The first version whose images can hold the current tables.
+    fn least_version(&self) -> Version
+        ensures { result ≡ frozen_spec.least_version self.now }
+    {
+        if needs_version_2(&self.plan, self.stations.as_slice()) {
+            Version::V2
+        } else {
+            Version::V1
+        }
+    }
+
+    /// The image of the current tables, in version 1 unless they need version 2. An address that
+    /// isn't settled is 0.0. Error: `Memory`.
     pub fn freeze(&self) -> Result<Image, Error>
         ensures ok { IfOk result (λ image. image ≡ frozen_spec.frozen self.now) }
         ensures refused { IsOkUnless result Error.Memory }
     {
-        image_of(self.alloc, &self.plan, self.stations.as_slice())
+        self.freeze_as(self.least_version())
     }
 }

@@ -23,7 +23,7 @@ first_made f g old mid new net most nets rest some begins one others =
 
 -- ---- without replies
 
-append_none : {A : Type 0} (xs ys : List A) → xs ++ ys ≡ [] → (xs ≡ []) × (ys ≡ [])
+pub append_none : {A : Type 0} (xs ys : List A) → xs ++ ys ≡ [] → (xs ≡ []) × (ys ≡ [])
 append_none [] ys h = (refl, h)
 append_none (x ∷ xs) ys h = absurd cc
 

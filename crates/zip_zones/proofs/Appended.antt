@@ -9,6 +9,7 @@ use Rattle.std.proofs.lemmas.List.Folds.{list_all-append}
 use Rattle.std.proofs.Math.Bool.{and_assoc}
 use Rattle.std.proofs.Math.Nat.{le-max_right, max-le}
 use Rattle.at_base.specs.Range.{Span, is_range}
+use Rattle.at_base.specs.Limits.{max_zones}
 use Rattle.zip_zones.specs.Zones.{Known, IsZoneMap, are_above, each_once, end_of, has_room, is_known, list_of_least}
 use Rattle.zip_zones.proofs.Names.{distinct_fold, not_more}
 use Rattle.zip_zones.proofs.Tables.{known_of_parts}
@@ -46,18 +47,18 @@ append_map table k h new past few = record {
 }
 
 -- the list with these names is a valid list of a table
-pub least_known : (range : Span) (least : ℕ) (names : List (List ℕ)) → is_range range.start range.end ≡ true → least ≤ 64
-    → length names ≤ 64 → is_known (list_of_least range least names) ≡ true
+pub least_known : (range : Span) (least : ℕ) (names : List (List ℕ)) → is_range range.start range.end ≡ true → least ≤ max_zones
+    → length names ≤ max_zones → is_known (list_of_least range least names) ≡ true
 least_known range least names valid few within =
     known_of_parts (list_of_least range least names) valid (max-le few (omega (arith, not_more names, within))) (le-max_right least (length
     (each_once names))) (distinct_fold [] names refl)
 
 -- the facts of room for a list
 pub room_parts : (least : ℕ) (names : List (List ℕ)) (table : List Known) → has_room least names table ≡ true
-    → (least ≤ 64) × (length names ≤ 64) × (length table < 200)
+    → (least ≤ max_zones) × (length names ≤ max_zones) × (length table < 200)
 room_parts least names table h =
-    let a = and_parts (nat_le least 64 && nat_le (length names) 64) (nat_lt (length table) 200) h in
-    let b = and_parts (nat_le least 64) (nat_le (length names) 64) a.0 in
+    let a = and_parts (nat_le least max_zones && nat_le (length names) max_zones) (nat_lt (length table) 200) h in
+    let b = and_parts (nat_le least max_zones) (nat_le (length names) max_zones) a.0 in
     (le_of _ _ b.0, le_of _ _ b.1, ltb-true _ _ a.1)
   where
     le_of : (a b : ℕ) → nat_le a b ≡ true → a ≤ b

@@ -3,6 +3,7 @@ use Rattle.std.proofs.Common.{◌≡◌, ℕ, true, false, not, ◌&&◌, List, 
 use Rattle.rtmp.specs.declared.row.Row.{Row}
 use Rattle.rtmp.specs.States.{is_usable}
 use Rattle.zip_zones.specs.Zones.{Known, due, is_answered}
+use Rattle.zip_zones.proofs.Answering.{append_none}
 
 one_due : (row : Row) (rows : List Row) (zones : List Known) → due (row ∷ []) zones ++ due rows zones ≡ due (row ∷ rows) zones
 one_due row rows zones =
@@ -21,3 +22,10 @@ due_next starts row rows zones =
     let grouped : (starts ++ due (row ∷ []) zones) ++ due rows zones
     ≡ starts ++ (due (row ∷ []) zones ++ due rows zones) = simp append_assoc in
     grouped ∙ ap (λ (l : List ℕ). starts ++ l) (one_due row rows zones)
+
+-- if the router asks for no zones, it doesn't ask for those of a row
+pub none_due : (starts : List ℕ) (row : Row) (rows : List Row) (zones : List Known) → starts ++ due (row ∷ rows) zones ≡ []
+    → due (row ∷ []) zones ≡ []
+none_due starts row rows zones none =
+    (append_none (due (row ∷ []) zones) (due rows zones)
+    (one_due row rows zones ∙ (append_none starts (due (row ∷ rows) zones) none).1)).0

@@ -6,6 +6,7 @@ use Rattle.std.specs.List.{list_all}
 use Rattle.std.proofs.lemmas.Bool.{leb-true}
 use Rattle.std.proofs.lemmas.Bool.Decides.{nat_tests}
 use Rattle.at_base.proofs.Lists.{found_all}
+use Rattle.at_base.specs.Limits.{max_zones}
 use Rattle.std.proofs.lemmas.List.{take_all}
 use Rattle.zip_zones.specs.Answers.{first_group, going_on, grouped, onto_first}
 use Rattle.zip_zones.specs.Written.{entries_size}
@@ -48,12 +49,12 @@ on_and_on room name (m ∷ names) =
 
 -- ---- lists
 
-known_few : (k : Known) → is_known k ≡ true → length k.names ≤ 64
+known_few : (k : Known) → is_known k ≡ true → length k.names ≤ max_zones
 known_few k h = grind (arith, nat_tests)
 
--- a list has at most 64 names
+-- a list has at most 255 names
 pub found_few : (net : ℕ) (table : List Known) (k : Known) → list_all is_known table ≡ true → known_of net table ≡ Some k
-    → length k.names ≤ 64
+    → length k.names ≤ max_zones
 found_few net table k h found = known_few k (found_all is_known _ table k h found)
 
 -- ---- replies, one by one

@@ -10,6 +10,7 @@ use Rattle.at_base.specs.Spans.{AreApart}
 use Rattle.at_base.specs.Text.{same_name}
 use Rattle.at_base.specs.Numbers.{in_order, with_number}
 use Rattle.at_base.proofs.Numbers.{filter_in_order, with_cases}
+use Rattle.at_base.specs.Limits.{max_zones}
 use Rattle.zip_zones.specs.Zones.{Known, IsZoneMap, has_zone, is_known}
 use Rattle.zip_zones.specs.Indexing.{IsIndexed, any_named, index_of, is_named, key_of, number_of, numbers_from, numbers_in, with_start}
 use Rattle.zip_zones.proofs.Tables.{lists_apart}
@@ -60,22 +61,22 @@ none_later z s high (k ∷ table) few le h each =
 -- the index's numbers of a list are the list's
 list_numbers : (p : Known → Bool) (z low : ℕ) (table : List Known) (k : Known) → AreApart (λ k. k.range) low table
     → list_all is_known table ≡ true → find p table ≡ Some k
-    → (low < k.range.start) × (k.range.start < 65536) × (length k.names ≤ 64)
+    → (low < k.range.start) × (k.range.start < 65536) × (length k.names ≤ max_zones)
     × (filter (of_list z k.range.start) (flat_map numbers_in table) ≡ filter (of_list z k.range.start) (numbers_in k))
 list_numbers p z low [] k h each found = cc
 list_numbers p z low (a ∷ table) k h each found =
     let e = and_parts (is_known a) (list_all is_known table) each in
     by (p a) found (small a e.0) (list_numbers p z a.range.end table k h.2 e.1) e.1
   where
-    by : (b : Bool) → (if b then Some a else find p table) ≡ Some k → (a.range.start < 65536) × (length a.names ≤ 64)
-        → (find p table ≡ Some k → (a.range.end < k.range.start) × (k.range.start < 65536) × (length k.names ≤ 64)
+    by : (b : Bool) → (if b then Some a else find p table) ≡ Some k → (a.range.start < 65536) × (length a.names ≤ max_zones)
+        → (find p table ≡ Some k → (a.range.end < k.range.start) × (k.range.start < 65536) × (length k.names ≤ max_zones)
         × (filter (of_list z k.range.start) (flat_map numbers_in table) ≡ filter (of_list z k.range.start) (numbers_in k)))
         → list_all is_known table ≡ true
-        → (low < k.range.start) × (k.range.start < 65536) × (length k.names ≤ 64)
+        → (low < k.range.start) × (k.range.start < 65536) × (length k.names ≤ max_zones)
         × (filter (of_list z k.range.start) (numbers_in a ++ flat_map numbers_in table) ≡ filter (of_list z k.range.start) (numbers_in k))
     by true f s rest others =
         let same : a ≡ k = cc in
-        subst (λ (k : Known). (low < k.range.start) × (k.range.start < 65536) × (length k.names ≤ 64)
+        subst (λ (k : Known). (low < k.range.start) × (k.range.start < 65536) × (length k.names ≤ max_zones)
         × (filter (of_list z k.range.start) (numbers_in a ++ flat_map numbers_in table) ≡ filter (of_list z k.range.start) (numbers_in k)))
         same (
           h.0,
@@ -140,7 +141,7 @@ any_from f zone start nth (name ∷ names) s few agrees =
     by false false e u is rest = rest
 
 -- the names of a list that its numbers give are the list's
-pub named_found : (zone : List ℕ) (start : ℕ) (names : List (List ℕ)) → start < 65536 → length names ≤ 64
+pub named_found : (zone : List ℕ) (start : ℕ) (names : List (List ℕ)) → start < 65536 → length names ≤ max_zones
     → any_named zone names (filter (of_list (key_of zone) start) (numbers_from start 0 names)) ≡ list_any (same_name zone) names
 named_found zone start names s few =
     any_from (λ n. is_named zone (n % 256) names) zone start 0 names s (omega (arith, few)) (λ i name e.
@@ -152,7 +153,7 @@ named_found zone start names s few =
     one i name e n = rw (nth_in (key_of name) start i n, e) refl
 
 -- a list alone has a zone exactly if the numbers of its names give it
-pub alone_has : (zone : List ℕ) (start : ℕ) (names : List (List ℕ)) → start < 65536 → length names ≤ 64
+pub alone_has : (zone : List ℕ) (start : ℕ) (names : List (List ℕ)) → start < 65536 → length names ≤ max_zones
     → any_named zone names (with_start (key_of zone) start (in_order (numbers_from start 0 names))) ≡ list_any (same_name zone) names
 alone_has zone start names s few =
     let numbers = numbers_from start 0 names in

@@ -1,12 +1,13 @@
 pub mod Names
 pub mod Tables
+pub mod Answering
 pub mod Asked
 pub mod Shape
 pub mod Written
 pub mod Appended
 pub mod ReadBack
-pub mod Answering
 pub mod Grouping
+pub mod Nothing
 pub mod Queries
 pub mod Having
 pub mod Indexed

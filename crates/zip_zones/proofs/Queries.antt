@@ -13,8 +13,9 @@ use Rattle.at_base.specs.Numbers.{AreRising}
 use Rattle.at_base.proofs.Numbers.{filter_in_order, in_order_of, rising_lower}
 use Rattle.at_base.proofs.Ranges.{between_when, ends_of}
 use Rattle.at_base.proofs.Texts.{same_name_congr, same_name_is}
+use Rattle.at_base.specs.Limits.{max_zones}
 use Rattle.zip_zones.specs.Zones.{Known, IsZoneMap, are_distinct, has_zone, is_known, known_of, ranges_of}
-use Rattle.zip_zones.specs.Indexing.{hit, index_of, key_of, key_step, number_of, numbers_from, numbers_in, with_key}
+use Rattle.zip_zones.specs.Indexing.{IsIndexed, hit, index_of, key_of, key_step, number_of, numbers_from, numbers_in, with_key}
 use Rattle.zip_zones.proofs.Tables.{known_parts, lists_apart}
 
 -- ---- numbers of names
@@ -66,7 +67,7 @@ rising_on z start nth low (name ∷ names) rest s few le r =
     by false t more = more low (omega (arith, le))
 
 -- a list starts below 2^16, and has fewer than 2^8 names
-pub small : (k : Known) → is_known k ≡ true → (k.range.start < 65536) × (length k.names ≤ 64)
+pub small : (k : Known) → is_known k ≡ true → (k.range.start < 65536) × (length k.names ≤ max_zones)
 small k h =
     let p = known_parts k h in
     let e = ends_of k.range.start k.range.end p.0 in
@@ -229,3 +230,11 @@ pub cables_found : (zone : List ℕ) (table : List Known) → IsZoneMap table
 cables_found zone table h =
     ap (filter_map (hit zone table)) (key_found (key_of zone) table h)
     ∙ ranges_found zone table table h.each (each_found 0 table (lists_apart table h))
+
+-- the same with what was read of the table
+pub given_cables : (zone : List ℕ) (lists items : List Known) (index numbers : List ℕ) → IsIndexed lists index → items ≡ lists
+    → numbers ≡ with_key (key_of zone) index → filter_map (hit zone items) numbers ≡ ranges_of zone lists
+given_cables zone lists items index numbers h are found =
+    ap (λ (l : List Known). filter_map (hit zone l) numbers) are
+    ∙ ap (filter_map (hit zone lists)) (found ∙ ap (with_key (key_of zone)) h.index)
+    ∙ cables_found zone lists h.map

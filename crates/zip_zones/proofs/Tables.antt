@@ -9,13 +9,14 @@ use Rattle.at_base.specs.Spans.{AreApart, IsAt}
 use Rattle.at_base.proofs.Ranges.{ends_of, one_range}
 use Rattle.at_base.proofs.Lists.{all_filter, few_filter, found_all, found_is}
 use Rattle.at_base.proofs.Spans.{above_of, all_with, apart_filter, apart_of, apart_with, few_with}
+use Rattle.at_base.specs.Limits.{max_zones}
 use Rattle.zip_zones.specs.Zones.{Known, IsZoneMap, are_distinct, heard, is_complete, is_full_for, is_known, known_for, list_of}
 use Rattle.zip_zones.specs.Zones.{overlaps_another, set_list, with_known, with_name, with_zone, without}
 use Rattle.zip_zones.proofs.Names.{distinct_fold, distinct_with, not_more, one_longer}
 
 -- ---- a valid list
 
-pub known_of_parts : (k : Known) → is_range k.range.start k.range.end ≡ true → k.total ≤ 64 → length k.names ≤ k.total
+pub known_of_parts : (k : Known) → is_range k.range.start k.range.end ≡ true → k.total ≤ max_zones → length k.names ≤ k.total
     → are_distinct k.names ≡ true → is_known k ≡ true
 known_of_parts k valid few within distinct = rw (valid, distinct, le_test _ _ few, le_test _ _ within) refl
   where
@@ -23,23 +24,23 @@ known_of_parts k valid few within distinct = rw (valid, distinct, le_test _ _ fe
     le_test a b le = grind (arith, nat_tests)
 
 pub known_parts : (k : Known) → is_known k ≡ true
-    → (is_range k.range.start k.range.end ≡ true) × (k.total ≤ 64) × (length k.names ≤ k.total) × (are_distinct k.names ≡ true)
+    → (is_range k.range.start k.range.end ≡ true) × (k.total ≤ max_zones) × (length k.names ≤ k.total) × (are_distinct k.names ≡ true)
 known_parts k h =
-    let a = and_parts (is_range k.range.start k.range.end && nat_le k.total 64 && nat_le (length k.names) k.total)
+    let a = and_parts (is_range k.range.start k.range.end && nat_le k.total max_zones && nat_le (length k.names) k.total)
     (are_distinct k.names) h in
-    let b = and_parts (is_range k.range.start k.range.end && nat_le k.total 64) (nat_le (length k.names) k.total) a.0 in
-    let c = and_parts (is_range k.range.start k.range.end) (nat_le k.total 64) b.0 in
+    let b = and_parts (is_range k.range.start k.range.end && nat_le k.total max_zones) (nat_le (length k.names) k.total) a.0 in
+    let c = and_parts (is_range k.range.start k.range.end) (nat_le k.total max_zones) b.0 in
     (c.0, le_of _ _ c.1, le_of _ _ b.1, a.1)
   where
     le_of : (a b : ℕ) → nat_le a b ≡ true → a ≤ b
     le_of a b t = grind (arith, nat_tests)
 
-pub set_known : (range : Span) (names : List (List ℕ)) → is_range range.start range.end ≡ true → length names ≤ 64
+pub set_known : (range : Span) (names : List (List ℕ)) → is_range range.start range.end ≡ true → length names ≤ max_zones
     → is_known (set_list range names) ≡ true
 set_known range names valid few =
     known_of_parts (set_list range names) valid (omega (arith, not_more names)) (omega arith) (distinct_fold [] names refl)
 
-pub fresh_known : (range : Span) (total : ℕ) → is_range range.start range.end ≡ true → total ≤ 64
+pub fresh_known : (range : Span) (total : ℕ) → is_range range.start range.end ≡ true → total ≤ max_zones
     → is_known (record { range = range; total = total; names = [] }) ≡ true
 fresh_known range total valid few = known_of_parts (record { range = range; total = total; names = [] }) valid few (omega arith) refl
 
@@ -98,7 +99,7 @@ with_map known table new none room h =
 -- ---- a name that is added
 
 -- the list before a name is added is a valid list of the range
-pub list_known : (range : Span) (total : ℕ) (table : List Known) → is_range range.start range.end ≡ true → total ≤ 64
+pub list_known : (range : Span) (total : ℕ) (table : List Known) → is_range range.start range.end ≡ true → total ≤ max_zones
     → list_all is_known table ≡ true
     → (is_known (list_of range total (known_for range table)) ≡ true) × ((list_of range total (known_for range table)).range ≡ range)
 list_known range total table valid few each = by_list (known_for range table) refl
@@ -121,7 +122,7 @@ same_after name k = elim (is_complete k) as (λ b. (if b then k else record k { 
     ≡ k.range) [ true ↦ refl | false ↦ refl ]
 
 -- adding a name keeps the map
-pub heard_map : (range : Span) (total : ℕ) (name : List ℕ) (table : List Known) → is_range range.start range.end ≡ true → total ≤ 64
+pub heard_map : (range : Span) (total : ℕ) (name : List ℕ) (table : List Known) → is_range range.start range.end ≡ true → total ≤ max_zones
     → overlaps_another range table ≡ false → is_full_for range table ≡ false → IsZoneMap table → IsZoneMap (heard range total name table)
 heard_map range total name table valid few none room h =
     let l = list_known range total table valid few h.each in

@@ -90,6 +90,12 @@ abbrev pub my_zone : List (List ℕ) → Page
 my_zone [] = record { last = true; count = 0; bytes = [] }
 my_zone (name ∷ names) = record { last = false; count = 1; bytes = name_bytes name }
 
+-- the zones that a request is about: all zones, or those of the node's cable
+abbrev pub asked_zones : ZoneFunction → List (List ℕ) → List Known → List (List ℕ)
+asked_zones GetMyZone local table = local
+asked_zones GetZoneList local table = all_zones table
+asked_zones GetLocalZones local table = local
+
 -- the page, from an index on, that answers a node whose cable has these zones
 abbrev pub zone_page : ZoneFunction → ℕ → List (List ℕ) → List Known → Page
 zone_page GetMyZone start local table = my_zone local
@@ -115,7 +121,7 @@ range_heard rows net = by_row (row_for net rows)
     by_row None = None
     by_row (Some row) = if is_direct row then None else Some row.range
 
--- a list of a range with this many zones is accepted: no other range overlaps it, it has at most 64 zones, and the
+-- a list of a range with this many zones is accepted: no other range overlaps it, it has at most 255 zones, and the
 -- table has room
 abbrev pub is_taken : Span → ℕ → List Known → Bool
 is_taken range zones table = not (overlaps_another range table) && nat_le zones max_zones && not (is_full_for range table)

@@ -46,7 +46,7 @@ has_zone zone k = list_any (same_name zone) k.names
 abbrev pub are_above : ℕ → List Known → Bool
 are_above low table = spans.are_above (λ k. k.range) low table
 
--- the range is valid, and the list has at most 64 zones, no more names than zones, and no name twice
+-- the range is valid, and the list has at most 255 zones, no more names than zones, and no name twice
 abbrev pub is_known : Known → Bool
 is_known k = is_range k.range.start k.range.end && nat_le k.total max_zones && nat_le (length k.names) k.total && are_distinct k.names
 
@@ -166,3 +166,8 @@ is_answered table range = by_list (known_for range table)
 -- the first networks of the usable rows whose ranges have no complete list
 abbrev pub due : List Row → List Known → List ℕ
 due rows table = map (λ r. r.range.start) (filter (λ r. is_usable r.state && not (is_answered table r.range)) rows)
+
+-- the greatest number of names that a list has, or 0 without lists
+abbrev pub most_names : List Known → ℕ
+most_names [] = 0
+most_names (k ∷ table) = max (length k.names) (most_names table)

@@ -40,7 +40,7 @@ impl ZoneTable {
     /// once, ignoring case. The list is complete if it has as many names as zones. Its place needs
     /// no search.
     ///
-    /// Errors: `BadRange` where the range isn't above all others; `Full` above 64 zones or names,
+    /// Errors: `BadRange` where the range isn't above all others; `Full` above 255 names,
     /// duplicates counted too, and where the table has 200 lists; `Memory`. A refusal changes
     /// nothing.
     pub fn append(&mut self, range: Range, least: u8, names: &[Name]) -> Result<(), Error>

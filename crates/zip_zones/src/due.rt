@@ -1,6 +1,6 @@
 //! The networks whose zones a router asks for.
 
-ghost use Rattle.std.specs.Prelude.{◌≡◌, ◌&&◌, ◌++◌, ◌∷◌, [], not, IfOk, IsOkUnless, OnOk};
+ghost use Rattle.std.specs.Prelude.{◌≡◌, ◌&&◌, ◌++◌, ◌∷◌, [], not, IfOk, IsOk, IsOkUnless, OnOk};
 ghost use Rattle.rtmp.specs.States.{is_usable};
 ghost use Rattle.zip_zones.specs.Zones.{due, is_answered};
 
@@ -16,10 +16,12 @@ fn is_due(zones: &ZoneTable, row: &Row) -> bool
     row.state.is_usable() && !zones.is_answered(row.range)
 }
 
-/// Appends the first network of the row, if the router asks for its zones. Error: `Memory`.
+/// Appends the first network of the row, if the router asks for its zones. Error: `Memory`, only
+/// then.
 fn put_due(starts: &mut Vec<u16>, zones: &ZoneTable, row: &Row) -> Result<(), Error>
     ensures put { OnOk result
         (starts.new.items ≡ starts.old.items ++ due (row.now ∷ []) zones.now) }
+    ensures none { due (row.now ∷ []) zones.now ≡ [] → IsOk result }
     ensures err { IsOkUnless result Error.Memory }
 {
     if is_due(zones, row) {
@@ -30,9 +32,10 @@ fn put_due(starts: &mut Vec<u16>, zones: &ZoneTable, row: &Row) -> Result<(), Er
 
 impl ZoneTable {
     /// The first networks of the usable rows whose ranges have no complete list, in rising order.
-    /// Error: `Memory`.
+    /// Error: `Memory`, which no networks never need.
     pub fn queries_due<T: RouteTable>(&self, routes: &T) -> Result<Vec<u16>, Error>
         ensures ok { IfOk result (λ starts. starts.items ≡ due (T.rows routes.now) self.now) }
+        ensures none { due (T.rows routes.now) self.now ≡ [] → IsOk result }
         ensures refused { IsOkUnless result Error.Memory }
     {
         let mut starts = Vec::new(self.allocator());

@@ -63,8 +63,14 @@ pub fn the_examples_of_replies()
     ensures seventeenth { replies three_lists (replicate 16 5 ++ 30 ∷ []) ≡ [] }
     ensures incomplete { replies (known 10 19 2 (red ∷ []) ∷ []) (10 ∷ []) ≡ [] }
     ensures empty { replies (known 10 19 0 [] ∷ []) (10 ∷ []) ≡ [] }
-    ensures split { replies (known 1 9 64 (replicate 64 long) ∷ []) (5 ∷ [])
-        ≡ replicate 4 (extended_reply 5 64 (replicate 16 long)) }
+    ensures split { replies (known 1 9 255 (replicate 255 long) ∷ []) (5 ∷ [])
+        ≡ replicate 15 (extended_reply 5 255 (replicate 16 long))
+        ++ extended_reply 5 255 (replicate 15 long) ∷ [] }
+    ensures short { replies (known 50 59 255 (replicate 255 blue) ∷ []) (50 ∷ [])
+        ≡ replicate 3 (extended_reply 50 255 (replicate 83 blue))
+        ++ extended_reply 50 255 (replicate 6 blue) ∷ [] }
+    ensures sizes { (length (bytes_of packet (extended_reply 50 255 (replicate 83 blue))) ≡ 583)
+        × (length (bytes_of packet (extended_reply 50 255 (replicate 6 blue))) ≡ 44) }
     ensures full { replies (known 1 9 17 (replicate 16 long ++ replicate 21 66 ∷ []) ∷ []) (5 ∷ [])
         ≡ extended_reply 5 17 (replicate 16 long ++ replicate 21 66 ∷ []) ∷ [] }
     ensures over { replies (known 1 9 17 (replicate 16 long ++ replicate 22 66 ∷ []) ∷ []) (5 ∷ [])
@@ -93,6 +99,8 @@ pub fn the_examples_of_zone_pages()
         (zone_page GetLocalZones 0 (red ∷ blue ∷ []) []) }
     ensures from_2 { IsShown (1 ∷ 0 ∷ 0 ∷ 1 ∷ []) (4 ∷ blue)
         (zone_page GetLocalZones 2 (red ∷ blue ∷ []) []) }
+    ensures from_256 { IsShown (1 ∷ 0 ∷ 0 ∷ 1 ∷ []) (4 ∷ blue)
+        (zone_page GetLocalZones 256 (replicate 255 red ++ blue ∷ []) []) }
     ensures past { IsShown (1 ∷ 0 ∷ 0 ∷ 0 ∷ []) [] (zone_page GetZoneList 3 [] three_lists) }
     ensures default { IsShown (0 ∷ 0 ∷ 0 ∷ 1 ∷ []) (3 ∷ red)
         (zone_page GetMyZone 9 (red ∷ blue ∷ []) []) }
@@ -122,7 +130,8 @@ pub fn the_examples_of_replies_heard()
     ensures unknown { after_reply four_rows (ExtendedReply 1 (named 50 blue ∷ [])) [] ≡ [] }
     ensures overlaps { after_reply four_rows (Reply 1 (named 20 blue ∷ []))
         (known 29 35 1 (red ∷ []) ∷ []) ≡ known 29 35 1 (red ∷ []) ∷ [] }
-    ensures total { after_reply four_rows (ExtendedReply 65 (named 20 blue ∷ [])) [] ≡ [] }
-    ensures doubled { after_reply four_rows (Reply 65 (replicate 65 (named 20 blue))) [] ≡ [] }
+    ensures total { after_reply four_rows (ExtendedReply 255 (named 20 blue ∷ [])) []
+        ≡ known 20 29 255 (blue ∷ []) ∷ [] }
+    ensures doubled { after_reply four_rows (Reply 1 (replicate 256 (named 20 blue))) [] ≡ [] }
     ensures others { after_reply four_rows (Query (20 ∷ [])) three_lists ≡ three_lists }
 {}

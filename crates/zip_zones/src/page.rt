@@ -1,6 +1,6 @@
 //! Pages of a zone list.
 
-ghost use Rattle.std.specs.Prelude.{◌≡◌, ◌≤◌, ◌+◌, ◌++◌, length, IfOk, IsOkUnless, OnOk};
+ghost use Rattle.std.specs.Prelude.{◌≡◌, ◌≤◌, ◌+◌, ◌++◌, [], length, IfOk, IsOk, IsOkUnless, OnOk};
 ghost use Rattle.zip_zones.specs.Answers.{page_user};
 ghost use Rattle.zip_zones.specs.Pages.{fitting, from_index, name_bytes, names_bytes, page};
 
@@ -46,13 +46,15 @@ pub(crate) fn put_name(bytes: &mut Vec<u8>, name: &Name) -> Result<(), Error>
     Ok(())
 }
 
-/// Appends as many names as fit into `room` bytes, and returns their number.
+/// Appends as many names as fit into `room` bytes, and returns their number. Error: `Memory`, which
+/// no names never need.
 fn put_names(bytes: &mut Vec<u8>, room: usize, names: &[Name]) -> Result<usize, Error>
     ensures count { IfOk result (λ count. count ≡ length (fitting room names.now)) }
     ensures few { IfOk result (λ count. count ≤ room) }
     ensures short { OnOk result (length bytes.new.items ≤ length bytes.old.items + room) }
     ensures put { OnOk result
         (bytes.new.items ≡ bytes.old.items ++ names_bytes (fitting room names.now)) }
+    ensures none { names.now ≡ [] → IsOk result }
     ensures err { IsOkUnless result Error.Memory }
 {
     match names {
@@ -83,10 +85,11 @@ fn names_after(start: u16, names: &[Name]) -> &[Name]
 /// The page that begins with the name at an index, from 1: as many names as fit into 578 bytes.
 /// Index 0 counts as 1. Past the end the page has no names, and is the last.
 ///
-/// Inside AppleTalk, the chapter on ZIP. Error: `Memory`.
+/// Inside AppleTalk, the chapter on ZIP. Error: `Memory`, which a page past the end never needs.
 pub fn zone_list_page(alloc: Global, start: u16, names: &[Name]) -> Result<Page, Error>
     ensures ok { IfOk result (λ made. made ≡ page start names.now) }
     ensures short { IfOk result (λ made. length made.bytes ≤ 578) }
+    ensures none { from_index start names.now ≡ [] → IsOk result }
     ensures refused { IsOkUnless result Error.Memory }
 {
     let rest = names_after(start, names);

@@ -80,8 +80,8 @@ fn put_groups(made: &mut Vec<Bytes>, net: u16, total: u8, names: &[Name]) -> Res
 fn put_replies(made: &mut Vec<Bytes>, table: &ZoneTable, net: u16) -> Result<(), Error>
     ensures put { OnOk result (made.new.items ≡ made.old.items
         ++ map (bytes_of spec.packet) (replies_for table.now net)) }
-    // A list has at most 64 names, and each reply but the last has 16 of them or more.
-    ensures few { OnOk result (length made.new.items ≤ length made.old.items + 4) }
+    // A list has at most 255 names, and each reply but the last has 16 of them or more.
+    ensures few { OnOk result (length made.new.items ≤ length made.old.items + 16) }
     ensures short { OnOk result (AreShort made.old.items → AreShort made.new.items) }
     ensures silent { replies_for table.now net ≡ [] → IsOk result }
     ensures refused { IsOkUnless result Error.Memory }
@@ -102,7 +102,7 @@ fn put_first(
 ) -> Result<(), Error>
     ensures put { OnOk result (made.new.items ≡ made.old.items ++ map (bytes_of spec.packet)
         (flat_map (replies_for table.now) (take most networks.entry))) }
-    ensures few { OnOk result (length made.new.items ≤ length made.old.items + 4 * most) }
+    ensures few { OnOk result (length made.new.items ≤ length made.old.items + 16 * most) }
     ensures short { OnOk result (AreShort made.old.items → AreShort made.new.items) }
     ensures silent { flat_map (replies_for table.now) (take most networks.entry) ≡ []
         → IsOk result }
@@ -133,8 +133,8 @@ pub fn answer_query(
 ) -> Result<Vec<Bytes>, Error>
     ensures ok { IfOk result (λ made. made.items
         ≡ map (bytes_of spec.packet) (replies table.now networks.entry)) }
-    // At most four for each of 16 networks.
-    ensures few { IfOk result (λ made. length made.items ≤ 64) }
+    // At most 16 for each of 16 networks.
+    ensures few { IfOk result (λ made. length made.items ≤ 256) }
     // Each is the data of a datagram.
     ensures short { IfOk result (λ made. AreShort made.items) }
     // Without a reply, no memory is needed.

@@ -102,11 +102,25 @@ fn copy_names(alloc: Global, names: &[Name]) -> Result<Vec<Name>, Error>
     Ok(Vec::from_slice(alloc, names)?)
 }
 
-/// The names of zones. Error: `Memory`.
+/// The greatest number of names that a list has, or 0 without lists.
+fn most_in(lists: &[KnownZones]) -> usize
+    ensures { result ≡ spec.most_names lists.now }
+{
+    match lists {
+        [] => 0,
+        [known, rest @ ..] => known.names().len().max(most_in(rest)),
+    }
+}
+
+/// The names of zones. Error: `Memory`, which no zones never need.
 fn names_from(alloc: Global, zones: &[Zone]) -> Result<Vec<Name>, Error>
     ensures ok { IfOk result (λ names. names.items ≡ zones.now) }
+    ensures none { zones.now ≡ [] → IsOk result }
     ensures err { IsOkUnless result Error.Memory }
 {
+    if zones.is_empty() {
+        return Ok(Vec::new(alloc));
+    }
     let mut names = Vec::with_capacity(alloc, zones.len())?;
     for zone in zones {
         names.push(*zone.name())?;
@@ -114,9 +128,10 @@ fn names_from(alloc: Global, zones: &[Zone]) -> Result<Vec<Name>, Error>
     Ok(names)
 }
 
-/// Adds each name that isn't in the set, ignoring case. Error: `Memory`.
+/// Adds each name that isn't in the set, ignoring case. Error: `Memory`, which no names never need.
 fn insert_all(zones: &mut IndexSet<Zone>, others: &[Name]) -> Result<(), Error>
     ensures ok { OnOk result (zones.new.keys ≡ fold with_name zones.old.keys others.now) }
+    ensures none { others.now ≡ [] → IsOk result }
     ensures err { IsOkUnless result Error.Memory }
 {
     for name in others {
@@ -126,7 +141,7 @@ fn insert_all(zones: &mut IndexSet<Zone>, others: &[Name]) -> Result<(), Error>
 }
 
 /// The ranges of the lists that numbers of the index are of, where their names are the zone. Error:
-/// `Memory`.
+/// `Memory`, which no ranges never need.
 fn hits(
     alloc: Global,
     lists: &[KnownZones],
@@ -136,6 +151,7 @@ fn hits(
     requires { AreApart (λ k. k.range) 0 lists.now }
     ensures ok { IfOk result
         (λ ranges. ranges.items ≡ filter_map (spec_hit zone.now lists.now) numbers.now) }
+    ensures none { filter_map (spec_hit zone.now lists.now) numbers.now ≡ [] → IsOk result }
     ensures refused { IsOkUnless result Error.Memory }
 {
     let mut ranges = Vec::new(alloc);
@@ -204,7 +220,7 @@ impl ZoneTable {
 
     /// Sets the complete list of a range: the names, each once, ignoring case.
     ///
-    /// Errors: `BadRange` where another range overlaps it; `Full` above 64 names, duplicates
+    /// Errors: `BadRange` where another range overlaps it; `Full` above 255 names, duplicates
     /// counted too, and where 200 other ranges have lists; `Memory`. A refusal changes nothing.
     pub fn set(&mut self, range: Range, names: &[Name]) -> Result<(), Error>
         ensures ok { OnOk result (self.new ≡ with_known (set_list range names.now) self.old) }
@@ -225,8 +241,8 @@ impl ZoneTable {
     /// Adds a name of a range that has `total` zones. If the range's list has another total, it is
     /// started again. A list that is complete, or has the name in any case, is unchanged.
     ///
-    /// Errors: `BadRange` where another range overlaps it; `Full` above 64 zones, and where 200
-    /// other ranges have lists; `Memory`. A refusal changes nothing.
+    /// Errors: `BadRange` where another range overlaps it; `Full` where 200 other ranges have lists;
+    /// `Memory`. A refusal changes nothing. No total is too great: a range may have 255 zones.
     pub fn add(&mut self, range: Range, total: u8, name: &Name) -> Result<(), Error>
         ensures ok { OnOk result (self.new ≡ heard range total name.now self.old) }
         ensures range { (result ≡ Err Error.BadRange) ↔ (overlaps_another range self.old ≡ true) }
@@ -293,6 +309,13 @@ impl ZoneTable {
         self.lists.len()
     }
 
+    /// The greatest number of names that a list has, or 0 without lists. Allocates nothing.
+    pub fn most_names(&self) -> usize
+        ensures { result ≡ spec.most_names self.now }
+    {
+        most_in(self.lists.as_slice())
+    }
+
     /// The range at an index, by rising range. Allocates nothing.
     pub fn range_at(&self, index: usize) -> Option<Range>
         ensures { result ≡ option_map (λ k. k.range) (slice_get self.now index) }
@@ -300,10 +323,12 @@ impl ZoneTable {
         self.lists.get(index).map(|known| known.range())
     }
 
-    /// The ranges whose lists have the zone, ignoring case, in rising order. Error: `Memory`.
+    /// The ranges whose lists have the zone, ignoring case, in rising order. Error: `Memory`, which
+    /// no ranges never need.
     pub fn cables_of(&self, zone: &Name) -> Result<Vec<Range>, Error>
         ensures ok { IfOk result (λ ranges. ranges.items ≡ ranges_of zone.now self.now) }
         ensures few { IfOk result (λ ranges. length ranges.items ≤ max_lists) }
+        ensures none { ranges_of zone.now self.now ≡ [] → IsOk result }
         ensures refused { IsOkUnless result Error.Memory }
     {
         let numbers = numbers_of(self.index.as_slice(), zone);
@@ -333,9 +358,10 @@ impl ZoneTable {
     }
 
     /// The zones of all complete lists, by rising range, each once, ignoring case, in its first
-    /// spelling. Error: `Memory`.
+    /// spelling. Error: `Memory`, which no zones never need.
     pub fn all(&self) -> Result<Vec<Name>, Error>
         ensures ok { IfOk result (λ names. names.items ≡ all_zones self.now) }
+        ensures none { all_zones self.now ≡ [] → IsOk result }
         ensures refused { IsOkUnless result Error.Memory }
     {
         let alloc = *self.lists.allocator();

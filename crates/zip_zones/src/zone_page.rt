@@ -1,7 +1,7 @@
 //! The pages sent in reply to requests for zone lists.
 
-ghost use Rattle.std.specs.Prelude.{◌≡◌, ◌≤◌, length, IfOk, IsOkUnless};
-ghost use Rattle.zip_zones.specs.Answers.{my_zone, zone_page};
+ghost use Rattle.std.specs.Prelude.{◌≡◌, ◌≤◌, [], length, IfOk, IsOk, IsOkUnless};
+ghost use Rattle.zip_zones.specs.Answers.{asked_zones, my_zone, zone_page};
 
 use crate::page::{Page, put_name, zone_list_page};
 use crate::table::ZoneTable;
@@ -10,10 +10,11 @@ use at_base::{Bytes, Error, Name};
 use std::alloc::Global;
 
 /// The page with the default zone of a cable with these zones, or an empty page if it has none.
-/// Error: `Memory`.
+/// Error: `Memory`, which an empty page never needs.
 fn my_page(alloc: Global, local: &[Name]) -> Result<Page, Error>
     ensures ok { IfOk result (λ made. made ≡ my_zone local.now) }
     ensures short { IfOk result (λ made. length made.bytes ≤ 578) }
+    ensures none { local.now ≡ [] → IsOk result }
     ensures refused { IsOkUnless result Error.Memory }
 {
     let mut bytes = Vec::new(alloc);
@@ -39,7 +40,7 @@ fn my_page(alloc: Global, local: &[Name]) -> Result<Page, Error>
 /// zones, from an index on.
 ///
 /// Inside AppleTalk, the chapter on ZIP; the default zone's page is this project's own. Error:
-/// `Memory`.
+/// `Memory`, which a request about no zones never needs.
 pub fn page_for(
     alloc: Global,
     function: ZoneFunction,
@@ -50,6 +51,7 @@ pub fn page_for(
     ensures ok { IfOk result
         (λ made. made ≡ zone_page function start local.now table.now) }
     ensures short { IfOk result (λ made. length made.bytes ≤ 578) }
+    ensures none { asked_zones function local.now table.now ≡ [] → IsOk result }
     ensures refused { IsOkUnless result Error.Memory }
 {
     match function {

@@ -50,7 +50,14 @@ fn play_once<W: Write + Drop, I: Write + Drop>(
     let mut input = Input::new(text);
     let mut output = Output::new(alloc, lines);
     let mut image = Output::new(alloc, image);
-    play_bytes(alloc, &mut input, &mut output, &mut image, &mut Silent)
+    play_bytes(
+        alloc,
+        &mut input,
+        &mut output,
+        &mut image,
+        &mut Silent,
+        None,
+    )
 }
 
 /// As `play_once`, into buffers, with another call if an allocation failed.
@@ -76,7 +83,14 @@ fn flushes(alloc: Global) -> Result<bool, Error> {
     let mut input = Input::new(pieces(EARLY));
     let mut output = Output::new(alloc, Holding::new());
     let mut image = Output::new(alloc, Holding::new());
-    let answer = play_bytes(alloc, &mut input, &mut output, &mut image, &mut Silent);
+    let answer = play_bytes(
+        alloc,
+        &mut input,
+        &mut output,
+        &mut image,
+        &mut Silent,
+        None,
+    );
     let flushed = output.writer.flushed() == NO && image.writer.flushed().len() == IMAGE_LEN;
     match answer {
         Ok(yes) => Ok(!yes && flushed),
@@ -154,7 +168,14 @@ fn play_unwritten(alloc: Global) -> (Result<bool, Error>, u32) {
     };
     let mut output = Output::new(alloc, lines);
     let mut image = Output::new(alloc, whole);
-    let answer = play_bytes(alloc, &mut input, &mut output, &mut image, &mut Silent);
+    let answer = play_bytes(
+        alloc,
+        &mut input,
+        &mut output,
+        &mut image,
+        &mut Silent,
+        None,
+    );
     (answer, image.writer.calls)
 }
 

@@ -28,7 +28,7 @@ fn ticks_of(alloc: Global, text: &[u8]) -> Option<u32> {
         ticks: 0,
         agrees: true,
     };
-    let played = play_text(alloc, text, &mut counting);
+    let played = play_text(alloc, text, &mut counting, None);
     if played.is_ok() && counting.agrees {
         Some(counting.ticks)
     } else {

@@ -99,28 +99,28 @@ returns-clause-trace g c = λ name image script named first second.
     (subst (λ (rows : Option (Text × List Row)). IsMeant rows c.job_of.result) met c.job_of.ensures.meant)
 
 pub returns-in_err-matches-clause-play_err : goal.returns-in_err-matches-clause-play_err
-returns-in_err-matches-clause-play_err g c = λ name file named operand.
-    let memory = c.in_err-matches.ensures.passes (ap₂ takes c.in_ok-atalk_command.ensures named ∙ play_taken name file operand) in
+returns-in_err-matches-clause-play_err g c = λ name file place named operand.
+    let memory = c.in_err-matches.ensures.passes (ap₂ takes c.in_ok-atalk_command.ensures named ∙ play_taken place name file operand) in
     search rules
 
 pub returns-clause-play : goal.returns-clause-play
-returns-clause-play g c = λ name file named operand.
+returns-clause-play g c = λ name file place named operand.
     let app = c.in_ok-atalk_command.ensures in
     let met = (c.in_ok-matches.ensures.matches (ap is_simple app ∙ simple)).1 ∙ ap₂ subcommand_of app named in
-    play_meant name file c.job_of.result operand
+    play_meant place name file c.job_of.result operand
     (subst (λ (rows : Option (Text × List Row)). IsMeant rows c.job_of.result) met c.job_of.ensures.meant)
 
 pub returns-in_err-matches-clause-play_to_err : goal.returns-in_err-matches-clause-play_to_err
-returns-in_err-matches-clause-play_to_err g c = λ name file out named first second.
+returns-in_err-matches-clause-play_to_err g c = λ name file out place named first second.
     let memory =
-    c.in_err-matches.ensures.passes (ap₂ takes c.in_ok-atalk_command.ensures named ∙ play_to_taken name file out first second) in
+    c.in_err-matches.ensures.passes (ap₂ takes c.in_ok-atalk_command.ensures named ∙ play_to_taken place name file out first second) in
     search rules
 
 pub returns-clause-play_to : goal.returns-clause-play_to
-returns-clause-play_to g c = λ name file out named first second.
+returns-clause-play_to g c = λ name file out place named first second.
     let app = c.in_ok-atalk_command.ensures in
     let met = (c.in_ok-matches.ensures.matches (ap is_simple app ∙ simple)).1 ∙ ap₂ subcommand_of app named in
-    play_to_meant name file out c.job_of.result first second
+    play_to_meant place name file out c.job_of.result first second
     (subst (λ (rows : Option (Text × List Row)). IsMeant rows c.job_of.result) met c.job_of.ensures.meant)
 
 pub returns-in_err-matches-clause-help_short : goal.returns-in_err-matches-clause-help_short

@@ -1,4 +1,4 @@
-use Rattle.std.proofs.Common.{◌≡◌, ◌⊎◌, ℕ, List, [], ◌++◌, Option, Some, None, IfSome, take, arith, inl, inr, refl, rules, sym, subst, append-nil}
+use Rattle.std.proofs.Common.{◌≡◌, ◌∙◌, ◌⊎◌, ℕ, List, [], ◌++◌, Option, Some, None, IfSome, take, arith, inl, inr, refl, rules, sym, subst, append-nil}
 use Rattle.std.proofs.KnownBytes.{Consumes-all, Consumes-kept, Consumes-nil, Consumes-trans}
 use Rattle.std.proofs.lemmas.List.{length-take}
 use Rattle.std.specs.Io.KnownBytes.{Consumes, IsAtEnd}
@@ -56,6 +56,26 @@ returns-in-Err-feed-clause-flaw g c =
     let told = (c.in-Err-feed.ensures {u = tt}).told in
     all_refused _ (g.R.Read.remaining c.read.new.self.reader) _ c.in-Err-feed.error taken
     (refused_is _ _ c.in-Err-feed.error told (c.feed-in-loop-turn.ensures.read fed.0 fed.1))
+
+pub returns-in-Err-clause-flaw : goal.returns-in-Err-clause-flaw
+returns-in-Err-clause-flaw g c =
+    any_some _ (g.R.Read.remaining c.args.input.now.reader) (λ bytes. inl (c.in-Err.ensures {u = tt}).refused)
+
+pub returns-in-Err-feed-clause-uses : goal.returns-in-Err-feed-clause-uses
+returns-in-Err-feed-clause-uses g c =
+    let fed = c.loop-turn.invariant.fed in
+    let same = (c.in-Ok.ensures {u = tt}).stays ∙ c.loop-turn.invariant.sound in
+    let said = (c.in-Err-feed.ensures {u = tt}).first c.loop-turn.invariant.none fed.0 fed.1 in
+    record {
+      end = tt;
+      stays = tt;
+      reason = λ apart. absurd (apart same);
+      reported = λ apart. absurd (apart same);
+      found = tt;
+      last = λ none. (c.in-Ok.ensures {u = tt}).last (c.loop-turn.invariant.ended ∙ none);
+      read_fault = λ fault. absurd (no_read_fault c.in-Err-feed.error _ said cc);
+      limit = λ fault still. absurd (no_read_fault c.in-Err-feed.error _ said cc);
+    }
 
 pub loop-turn-preserved : goal.loop-turn-preserved
 loop-turn-preserved g c =

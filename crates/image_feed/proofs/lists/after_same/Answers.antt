@@ -22,8 +22,8 @@ loop-list-preserved c =
       λ front n more.
           (let shift : i + 1 + n ≡ i + suc n = omega arith in
           rw (shift, c.next_low-last.ensures) (c.loop-list.invariant.2 front (suc n) more
-          ∙ (items_step zone_list_spelling (λ l. l.start + 1) (front ++ take i lists) c.loop-list.last n c.loop-list.rest.now list c.in-Some.after.now
+          ∙ (items_step (zone_list_spelling c.args.version) (λ l. l.start + 1) (front ++ take i lists) c.loop-list.last n c.loop-list.rest.now list c.in-Some.after.now
           (c.in-Some.ensures {u = tt}) more
-          ∙ ap (λ (l : List ZoneList). items_on zone_list_spelling (λ l. l.start + 1) l (list.start + 1) n (c.in-Some.after.now ++ more))
+          ∙ ap (λ (l : List ZoneList). items_on (zone_list_spelling c.args.version) (λ l. l.start + 1) l (list.start + 1) n (c.in-Some.after.now ++ more))
           (append_assoc front (take i lists) (list ∷ []) ∙ ap (λ (l : List ZoneList). front ++ l) longer)))),
     )

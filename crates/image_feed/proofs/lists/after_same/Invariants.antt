@@ -7,5 +7,5 @@ use Rattle.image_feed.proofs.lists.after_same.Given as goal
 abbrev pub invariant-loop-list : goal.invariant-loop-list
 invariant-loop-list l =
     (l.count ≡ l.list-index) × (l.count ≤ l.most)
-    × ((front : List ZoneList) (n : ℕ) → Leads (items_on zone_list_spelling (λ l. l.start + 1) front l.low (l.count + n)) l.bytes
-    (items_on zone_list_spelling (λ l. l.start + 1) (front ++ take l.count l.lists) l.last n) l.rest)
+    × ((front : List ZoneList) (n : ℕ) → Leads (items_on (zone_list_spelling l.version) (λ l. l.start + 1) front l.low (l.count + n)) l.bytes
+    (items_on (zone_list_spelling l.version) (λ l. l.start + 1) (front ++ take l.count l.lists) l.last n) l.rest)

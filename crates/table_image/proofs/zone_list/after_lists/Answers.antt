@@ -8,7 +8,7 @@ use Rattle.table_image.proofs.zone_list.after_lists.Goals as goal
 
 pub loop-list-preserved : goal.loop-list-preserved
 loop-list-preserved c =
-    let item = λ (low : ℕ). read faults (zone_list_spelling low) in
+    let item = λ (low : ℕ). read faults (zone_list_spelling c.args.version low) in
     let next : ZoneList → ℕ = λ l. l.start + 1 in
     let lists = c.args.lists.now in
     let i = c.loop-list.list-index in

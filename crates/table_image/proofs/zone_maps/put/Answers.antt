@@ -5,7 +5,7 @@ use Rattle.at_base.specs.declared.error.Error.{Error}
 use Rattle.at_base.specs.declared.error.Error.TheVariants.{BadRange, Full, Memory}
 use Rattle.zip_zones.specs.Zones.{has_room, is_past}
 use Rattle.table_image.specs.ZoneMaps.{is_told, range_of}
-use Rattle.table_image.proofs.ZoneTables.{least_for, room_for}
+use Rattle.table_image.proofs.ZoneTables.{least_fits, least_for, room_for}
 use Rattle.table_image.proofs.zone_maps.put.Goals as goal
 
 -- of three errors, two of which don't occur, the third is left
@@ -15,6 +15,11 @@ only_memory (Ok x) h range full = h
 only_memory (Err e) (inl p) range full = absurd (range (ap (λ (x : Error). Err x) p))
 only_memory (Err e) (inr (inl p)) range full = absurd (full (ap (λ (x : Error). Err x) p))
 only_memory (Err e) (inr (inr p)) range full = p
+
+pub least_of-requires : goal.least_of-requires
+least_of-requires c =
+    let told : is_told c.args.list.now ≡ true = sym c.is_told.ensures ∙ c.if-not-is_told.false in
+    least_fits c.args.table.now c.args.list.now c.requires.map told
 
 pub returns-clause-err : goal.returns-clause-err
 returns-clause-err c =

@@ -14,6 +14,8 @@ returns c = record {
   incomplete = refl;
   empty = refl;
   split = refl;
+  short = refl;
+  sizes = (refl, refl);
   full = refl;
   over = refl;
 }

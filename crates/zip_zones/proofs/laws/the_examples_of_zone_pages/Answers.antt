@@ -10,6 +10,7 @@ returns c = record {
   all = (refl, refl);
   from_0 = (refl, refl);
   from_2 = (refl, refl);
+  from_256 = (refl, refl);
   past = (refl, refl);
   default = (refl, refl);
   no_zone = (refl, refl);

@@ -5,6 +5,7 @@ use Rattle.std.proofs.lemmas.List.{take_more}
 use Rattle.std.proofs.lemmas.List.Elements.{filter_map-append}
 use Rattle.at_base.specs.Range.{Span}
 use Rattle.zip_zones.specs.Indexing.{hit}
+use Rattle.zip_zones.proofs.Nothing.{none_found}
 use Rattle.zip_zones.proofs.table.hits.Goals as goal
 use Rattle.zip_zones.proofs.table.hits.Goals.{in-Some+in_ok-push, in_default}
 
@@ -28,3 +29,11 @@ loop-number-preserved c =
           rw (w.ranges-is, c.loop-number.invariant)
           (sym (next_is h numbers i None c.loop-number-test.true (sym c.hit.ensures ∙ w.in_default.is) ∙ append-nil (filter_map h (take i numbers))))
     ]
+
+pub returns-in_err-push-clause-none : goal.returns-in_err-push-clause-none
+returns-in_err-push-clause-none c none =
+    let h = hit c.args.zone.now c.args.lists.now in
+    let found : h (get_or c.args.numbers.now c.loop-number.number-index 0) ≡ Some c.in-Some.range = sym c.hit.ensures ∙ c.in-Some.is in
+    let nothing = none_found h c.args.numbers.now c.loop-number.number-index 0 none c.loop-number-test.true in
+    let never = sym found ∙ nothing in
+    cc

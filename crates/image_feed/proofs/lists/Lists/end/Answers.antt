@@ -20,8 +20,8 @@ returns-then-are_same-clause-ended c =
     let names : front_of list.zones was.names.front ≡ list.zones = rw c.as_slice.ensures at (c.are_same.ensures c.if-are_same.true) in
     let same : with_head c.args.head (front_of (zones_in (slice_get like (place_in was.front))) was.names.front) ≡ list =
     rw at (list_same like list (place_in was.front) c.args.head (front_of list.zones was.names.front) at head names) in
-    ok_then c.push_same.result c.push_same.ensures.pushed (λ pushed.
-    list_ends like was new c.args.after c.args.head c.requires.left c.requires.head c.requires.whole refl
+    ok_then c.push_same.result c.push_same.ensures.pushed (λ pushed version.
+    list_ends version like was new c.args.after c.args.head c.requires.left c.requires.head c.requires.whole refl
     (record { head = refl; left = c.new.ensures.left; front = c.new.ensures.front }) (ap (λ n. n + 1) c.from.ensures)
     (pushed ∙ ap (λ (l : ZoneList). front_of like was.front ++ l ∷ []) (sym same)))
 
@@ -36,7 +36,7 @@ returns-clause-ended c =
     let zones : c.in_ok-zones.zones ≡ front_of (zones_in (slice_get like (place_in was.front))) was.names.front = rw likes at took.taken in
     let list : c.with.result ≡ with_head c.args.head (front_of (zones_in (slice_get like (place_in was.front))) was.names.front) =
     c.with.ensures ∙ ap (with_head c.args.head) zones in
-    ok_then c.push.result c.push.ensures.pushed (λ pushed.
-    list_ends like was new c.args.after c.args.head c.requires.left c.requires.head c.requires.whole refl
+    ok_then c.push.result c.push.ensures.pushed (λ pushed version.
+    list_ends version like was new c.args.after c.args.head c.requires.left c.requires.head c.requires.whole refl
     (record { head = refl; left = took.left; front = took.front }) (ap (λ n. n + 1) c.from.ensures)
     (pushed ∙ ap (λ (l : ZoneList). front_of like was.front ++ l ∷ []) list))

@@ -24,12 +24,12 @@ returns-clause-leads c =
     let between : IsBetween was = record { head = head; left = fresh.left refl; front = fresh.front refl } in
     let anew : IsBetween new = record { head = head; left = fresh.left refl; front = fresh.front refl } in
     let parts : n ≡ m + (n - m) = omega (arith, c.after_same-more.ensures.most) in
-    let said = rw c.after_first.ensures at c.after_same-more.ensures.leads in
+    let said = rw c.after_first-expected.ensures at c.after_same-more.ensures.leads in
     λ more.
-    between_on like was n (c.args.bytes.now ++ more) c.in-Some.is between
-    ∙ (ap (λ (f : List ZoneList). items_on zone_list_spelling (λ l. l.start + 1) f was.low n (c.args.bytes.now ++ more))
+    between_on c.args.version like was n (c.args.bytes.now ++ more) c.in-Some.is between
+    ∙ (ap (λ (f : List ZoneList). items_on (zone_list_spelling c.args.version) (λ l. l.start + 1) f was.low n (c.args.bytes.now ++ more))
     (ap (front_of like) c.in-Same.is)
-    ∙ (ap (λ (j : ℕ). items_on zone_list_spelling (λ l. l.start + 1) (take k like) was.low j (c.args.bytes.now ++ more)) parts
+    ∙ (ap (λ (j : ℕ). items_on (zone_list_spelling c.args.version) (λ l. l.start + 1) (take k like) was.low j (c.args.bytes.now ++ more)) parts
     ∙ (said (take k like) (n - m) more
-    ∙ (ap (λ (f : List ZoneList). items_on zone_list_spelling (λ l. l.start + 1) f new.low (n - m) (rest ++ more)) (sym (take-add k m like))
-    ∙ sym (between_on like new (n - m) (rest ++ more) refl anew)))))
+    ∙ (ap (λ (f : List ZoneList). items_on (zone_list_spelling c.args.version) (λ l. l.start + 1) f new.low (n - m) (rest ++ more)) (sym (take-add k m like))
+    ∙ sym (between_on c.args.version like new (n - m) (rest ++ more) refl anew)))))

@@ -13,5 +13,5 @@ returns-clause-leads c =
     omega (arith, fits)) in
     let passed : names_at more c.args.bytes.now ≡ Ok (take more others, c.after_same-more.result.1.now) =
     rw (c.first-expected.ensures, c.after_first.ensures, take-take more left others few) at c.after_same-more.ensures.names in
-    rw (c.in-Some.is, c.in-Same.is)
+    λ version. rw (c.in-Some.is, c.in-Same.is)
     (names_passed c.args.like.now c.in-Same.count more left c.args.bytes.now c.after_same-more.result.1.now few passed)

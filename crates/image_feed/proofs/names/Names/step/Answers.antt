@@ -9,7 +9,7 @@ use Rattle.image_feed.proofs.names.Names.step.Goals as goal
 pub returns-in-Err-clause-steps : goal.returns-in-Err-clause-steps
 returns-in-Err-clause-steps c =
     let front = front_of c.args.like.now c.args.self.now.front in
-    rw c.requires
+    λ version. rw c.requires
     (steps_stop {X = Bor (List ℕ)} (λ rest. rest.now) (items_on (λ low. zone_spelling) (λ name. 0) front 0 (suc c.args.after)) c.args.bytes.now
     c.in-Err.fault c.none_if_cut.result c.none_if_cut.ensures.waits c.none_if_cut.ensures.refused
     (λ cut. items_cut (λ low. zone_spelling) (λ name. 0) front 0 c.args.after c.args.bytes.now (c.in-Err.ensures {u = tt} ∙ ap (λ (f : Fault). Err f) cut))
@@ -23,6 +23,6 @@ returns-in-Err-clause-some c = on_ok c.none_if_cut.result (rw c.requires refl)
 
 pub returns-clause-steps : goal.returns-clause-steps
 returns-clause-steps c =
-    rw (c.requires, (c.in_ok-push.ensures {u = tt}).pushed)
+    λ version. rw (c.requires, (c.in_ok-push.ensures {u = tt}).pushed)
     (items_step (λ low. zone_spelling) (λ name. 0) (front_of c.args.like.now c.args.self.now.front) 0 c.args.after c.args.bytes.now c.in-Ok.found.0
     c.in-Ok.found.1.now (c.in-Ok.ensures {u = tt}))

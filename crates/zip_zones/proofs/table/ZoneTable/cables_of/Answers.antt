@@ -3,9 +3,9 @@ use Rattle.std.proofs.lemmas.List.{length-map}
 use Rattle.std.proofs.lemmas.Result.{IfOk-weaker}
 use Rattle.at_base.proofs.Lists.{few_filter}
 use Rattle.zip_zones.specs.Zones.{Known, has_zone, ranges_of}
-use Rattle.zip_zones.specs.Indexing.{hit, index_of, key_of, with_key}
+use Rattle.zip_zones.specs.Indexing.{hit, key_of, with_key}
 use Rattle.zip_zones.proofs.Indexed.{index_rises, indexed_apart}
-use Rattle.zip_zones.proofs.Queries.{cables_found}
+use Rattle.zip_zones.proofs.Queries.{given_cables}
 use Rattle.zip_zones.proofs.table.ZoneTable.cables_of.Goals as goal
 
 pub numbers_of-numbers-requires : goal.numbers_of-numbers-requires
@@ -20,12 +20,9 @@ pub returns-clause-ok : goal.returns-clause-ok
 returns-clause-ok c =
     let lists = c.self.inside.lists.items in
     let zone = c.args.zone.now in
-    let numbers : c.numbers_of-numbers.result.now ≡ with_key (key_of zone) (index_of lists) =
-    c.numbers_of-numbers.ensures ∙ ap (with_key (key_of zone)) (c.as_slice.ensures.value ∙ c.self.invariant.index) in
-    let all : filter_map (hit zone c.as_slice-2.result.now) c.numbers_of-numbers.result.now ≡ ranges_of zone c.args.self.now =
-    ap (λ (l : List Known). filter_map (hit zone l) c.numbers_of-numbers.result.now) c.as_slice-2.ensures.value
-    ∙ ap (filter_map (hit zone lists)) numbers ∙ cables_found zone lists c.self.invariant.map
-    ∙ ap (λ (t : List Known). ranges_of zone t) c.self.view_is in
+    let found = c.numbers_of-numbers.ensures ∙ ap (with_key (key_of zone)) c.as_slice.ensures.value in
+    let all = given_cables zone lists c.as_slice-2.result.now c.self.inside.index.items c.numbers_of-numbers.result.now c.self.invariant
+    c.as_slice-2.ensures.value found ∙ ap (λ (t : List Known). ranges_of zone t) c.self.view_is in
     IfOk-weaker c.hits.result (λ ranges. ranges.items ≡ filter_map (hit zone c.as_slice-2.result.now) c.numbers_of-numbers.result.now)
     (λ ranges. ranges.items ≡ ranges_of zone c.args.self.now) (λ ranges is. is ∙ all) c.hits.ensures.ok
 
@@ -33,11 +30,9 @@ pub returns-clause-few : goal.returns-clause-few
 returns-clause-few c =
     let lists = c.self.inside.lists.items in
     let zone = c.args.zone.now in
-    let numbers : c.numbers_of-numbers.result.now ≡ with_key (key_of zone) (index_of lists) =
-    c.numbers_of-numbers.ensures ∙ ap (with_key (key_of zone)) (c.as_slice.ensures.value ∙ c.self.invariant.index) in
-    let all : filter_map (hit zone c.as_slice-2.result.now) c.numbers_of-numbers.result.now ≡ ranges_of zone lists =
-    ap (λ (l : List Known). filter_map (hit zone l) c.numbers_of-numbers.result.now) c.as_slice-2.ensures.value
-    ∙ ap (filter_map (hit zone lists)) numbers ∙ cables_found zone lists c.self.invariant.map in
+    let found = c.numbers_of-numbers.ensures ∙ ap (with_key (key_of zone)) c.as_slice.ensures.value in
+    let all = given_cables zone lists c.as_slice-2.result.now c.self.inside.index.items c.numbers_of-numbers.result.now c.self.invariant
+    c.as_slice-2.ensures.value found in
     IfOk-weaker c.hits.result (λ ranges. ranges.items ≡ filter_map (hit zone c.as_slice-2.result.now) c.numbers_of-numbers.result.now)
     (λ ranges. length ranges.items ≤ 200) (λ ranges is. rw (is ∙ all) (omega (
       arith,
@@ -46,3 +41,12 @@ returns-clause-few c =
       few_filter (has_zone zone) lists,
       c.self.invariant.map.few,
     ))) c.hits.ensures.ok
+
+pub returns-clause-none : goal.returns-clause-none
+returns-clause-none c none =
+    let lists = c.self.inside.lists.items in
+    let zone = c.args.zone.now in
+    let found = c.numbers_of-numbers.ensures ∙ ap (with_key (key_of zone)) c.as_slice.ensures.value in
+    let all = given_cables zone lists c.as_slice-2.result.now c.self.inside.index.items c.numbers_of-numbers.result.now c.self.invariant
+    c.as_slice-2.ensures.value found ∙ ap (λ (t : List Known). ranges_of zone t) c.self.view_is in
+    c.hits.ensures.none (all ∙ none)
