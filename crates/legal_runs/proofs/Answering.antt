@@ -18,8 +18,8 @@ use Rattle.audit.proofs.WalkSteps.{nowhere}
 use Rattle.cable_model.specs.Pending.{Pair, pairs}
 use Rattle.cable_model.specs.Transcript.{Entry, count, one}
 use Rattle.legal_runs.specs.Answers.{Answers, Expanded, IsMade, LookedUp, Others, ends_at, keeps_by}
-use Rattle.legal_runs.specs.Legal.{said}
 use Rattle.legal_runs.specs.Legs.{Leg, is_copy, is_unicast}
+use Rattle.legal_runs.specs.Losses.{Said}
 use Rattle.legal_runs.specs.Lookups.{asks, ends_so, forwarded, is_home, is_request, is_routers, seeks, waits}
 use Rattle.legal_runs.specs.Requests.{is_among, is_broadcast, is_forward, key_in, listing, request, zone_of}
 use Rattle.legal_runs.specs.Stations.{cable_seats, has_address, is_router}
@@ -102,10 +102,10 @@ module _ (i : Internet) (ok : Passes i) where
         (is_among c (listing i (zone_of k)) && ends_so i k p))
     pub good : Each (PairOk i) (pairs (cable_seats i) gs)
 
-  pub answers_do : (stamp : ℕ) (p : Pair) (ls : List Leg) → HasPlace i p → Framed p.frame.bytes → PairOk i p
-      → ((k : List ℕ) (c : ℕ) → forwarded i k c p ≡ true → is_name (zone_of k) ≡ true) → Each (IsMade i) ls → Answers i p ls
-      → AnswersDo p (said i stamp ls)
-  answers_do stamp p ls place f good named made (Expanded here exp) =
+  pub answers_do : (stamp : ℕ) (p : Pair) (ls : List Leg) (gs : List Entry) → Said i stamp ls gs → HasPlace i p → Framed p.frame.bytes
+      → PairOk i p → ((k : List ℕ) (c : ℕ) → forwarded i k c p ≡ true → is_name (zone_of k) ≡ true) → Each (IsMade i) ls
+      → Answers i p ls → AnswersDo p gs
+  answers_do stamp p ls gs said place f good named made (Expanded here exp) =
       let h = and_parts (is_broadcast (request (body p.frame.bytes))) (ends_at i p) here in
       let key = key_in (request (body p.frame.bytes)) in
       let parts = ends_parts i p h.1 in
@@ -126,10 +126,10 @@ module _ (i : Internet) (ok : Passes i) where
             let v = ap one (same_listing k key c ends) in (
               n,
               expanded i ok k c stamp key p.seat.station
-                  (listing i (zone_of key)) ls made parts.1 exp,
+                  (listing i (zone_of key)) ls gs said made parts.1 exp,
               omega (arith, e1, e2, m, v),
             );
-        good = expanded_good i ok stamp key p.seat.station (listing i (zone_of key)) ls made exp;
+        good = expanded_good i ok stamp key p.seat.station (listing i (zone_of key)) ls gs said made exp;
       }
     where
       same_listing : (k key : List ℕ) (c : ℕ) → ends_so i k p ≡ same_bytes k key
@@ -143,7 +143,7 @@ module _ (i : Internet) (ok : Passes i) where
               ∙ ap (λ x. is_among c (listing i (zone_of k)) && x) (sym ends)
           by false g =
               and_right (is_among c (listing i (zone_of key))) _ g ∙ sym (and_right (is_among c (listing i (zone_of k))) _ (ends ∙ g))
-  answers_do stamp p ls place f good named made (LookedUp d l here home_is only look) = record { tally = tally_is; good = good_is }
+  answers_do stamp p ls gs said place f good named made (LookedUp d l here home_is only look) = record { tally = tally_is; good = good_is }
     where
       key : List ℕ
       key = key_in (request (body p.frame.bytes))
@@ -178,7 +178,10 @@ module _ (i : Internet) (ok : Passes i) where
       made_one : Each (IsMade i) (l ∷ [])
       made_one = subst (Each (IsMade i)) only made
 
-      tally_is : (k : List ℕ) (c : ℕ) → (n : ℕ) × Tally i k c n (said i stamp ls)
+      said_one : Said i stamp (l ∷ []) gs
+      said_one = subst (λ x. Said i stamp x gs) only said
+
+      tally_is : (k : List ℕ) (c : ℕ) → (n : ℕ) × Tally i k c n gs
           × (one (forwarded i k c p && not (ends_at i p)) + n ≡ one (forwarded i k c p) + one
           (is_among c (listing i (zone_of k)) && ends_so i k p))
       tally_is k c =
@@ -196,19 +199,17 @@ module _ (i : Internet) (ok : Passes i) where
           and_left (waits i k p) _ (and_right (is_unicast p.frame.to) _
           (and_left (is_request i (body p.frame.bytes)) _ (no_request i (body p.frame.bytes) alone.0))) in
           let e3 = ap one (and_right (is_among c (listing i (zone_of k))) (ends_so i k p) none) in
-          let t = looked_up i ok k c stamp key p.seat.station d l made_one.0 ends.1 look in
-          (n + 0, subst (λ x. Tally i k c (n + 0) (said i stamp x)) (sym only) t, omega (arith, e1, e2, e3))
+          let t = looked_up i ok k c stamp key p.seat.station d l gs said_one made_one.0 ends.1 look in
+          (n + 0, t, omega (arith, e1, e2, e3))
 
-      good_is : Each (PairOk i) (pairs (cable_seats i) (said i stamp ls))
-      good_is =
-          subst (λ x. Each (PairOk i) (pairs (cable_seats i) (said i stamp x))) (sym only)
-          (looked_good i ok stamp key p.seat.station d l made_one.0 look)
-  answers_do stamp p ls place f good named made (Others first second others) = record {
+      good_is : Each (PairOk i) (pairs (cable_seats i) gs)
+      good_is = looked_good i ok stamp key p.seat.station d l gs said_one made_one.0 look
+  answers_do stamp p ls gs said place f good named made (Others first second others) = record {
     tally = tally_is;
-    good = others_good i ok stamp ls made others;
+    good = others_good i ok stamp ls gs said made others;
   }
     where
-      tally_is : (k : List ℕ) (c : ℕ) → (n : ℕ) × Tally i k c n (said i stamp ls)
+      tally_is : (k : List ℕ) (c : ℕ) → (n : ℕ) × Tally i k c n gs
           × (one (forwarded i k c p && not (ends_at i p)) + n ≡ one (forwarded i k c p) + one
           (is_among c (listing i (zone_of k)) && ends_so i k p))
       tally_is k c =
@@ -221,7 +222,7 @@ module _ (i : Internet) (ok : Passes i) where
           true≢false (sym (ap (λ b. b && ends_at i p) w.0 ∙ x.1) ∙ first)) in
           let e3 = ap one (and_right (is_among c (listing i (zone_of k))) (ends_so i k p) none) in
           let e1 = ap one (goes_on (forwarded i k c p) refl) in
-          (0, others_said i ok k c stamp ls made others, omega (arith, e1, e3))
+          (0, others_said i ok k c stamp ls gs said made others, omega (arith, e1, e3))
         where
           goes_on : (b : Bool) → forwarded i k c p ≡ b → (forwarded i k c p && not (ends_at i p)) ≡ forwarded i k c p
           goes_on false e = and_left (forwarded i k c p) _ e ∙ sym e

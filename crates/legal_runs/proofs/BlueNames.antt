@@ -107,7 +107,7 @@ asked =
       handed = inr (addr 10 1, 0, refl, refl);
     }))
 
-expanded : IsLegal three_cables (take 8 blue_names)
+pub expanded : IsLegal three_cables (take 8 blue_names)
 unfolding request zone_of datagram packet tuple address text
 expanded =
     Goes (take 3 blue_names) (take 5 (drop 3 blue_names)) asked

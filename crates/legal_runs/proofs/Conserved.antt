@@ -1,6 +1,6 @@
 -- Conservation and hops left, from the invariant of a run.
 use Rattle.std.proofs.Common.{◌≡◌, ◌≢◌, ℕ, ◌+◌, Bool, true, false, ◌&&◌, ◌==◌, List, Option, Some, None, refl, sym, ap, ◌∙◌, arith}
-use Rattle.std.proofs.Common.{eq-eqb, eqb-true, not}
+use Rattle.std.proofs.Common.{eq-eqb, eqb-true}
 use Rattle.std.specs.List.{AllByRecursion as Each}
 use Rattle.std.proofs.lemmas.Bool.{and_parts, false_from_ne_true}
 use Rattle.at_base.specs.Text.{same_bytes}
@@ -10,14 +10,15 @@ use Rattle.table_image.specs.Internet.{Internet}
 use Rattle.audit.specs.Routing.{home}
 use Rattle.audit.specs.Rules.{Passes}
 use Rattle.station.specs.declared.output.DropCause.TheVariants.{NoRoute, HopLimit}
-use Rattle.cable_model.specs.Pending.{pairs, pending, was_ended}
+use Rattle.cable_model.specs.Pending.{pending}
 use Rattle.cable_model.specs.Transcript.{Entry, Sent, Put, Took, Reached, Dropped, Lost, Hold}
-use Rattle.cable_model.proofs.Counting.{contained_at, count_agree, count_none, each_at, each_more, filter_at}
+use Rattle.cable_model.proofs.Counting.{contained_at, count_agree, count_none, each_more}
 use Rattle.legal_runs.specs.Counts.{HasHopsLeft, IsConserved, is_dropped, is_hop_limit, is_reached, under_way}
 use Rattle.legal_runs.specs.Legal.{IsLegal}
 use Rattle.legal_runs.specs.Stations.{cable_seats}
-use Rattle.legal_runs.proofs.Does.{HopsFine, IsRight, is_ended}
-use Rattle.legal_runs.proofs.Runs.{Run, run_is}
+use Rattle.legal_runs.proofs.Does.{IsRight, is_ended}
+use Rattle.legal_runs.proofs.Rising.{IsRising, legal_rises}
+use Rattle.legal_runs.proofs.Runs.{Run, known, rising_run}
 use Rattle.legal_runs.proofs.Seated.{listed_some}
 
 module _ (i : Internet) where
@@ -107,9 +108,9 @@ module _ (i : Internet) where
   all_of : (ok : Passes i) (t : List Entry) → Run i ok t → (P : Entry → Type 0) → ((e : Entry) → IsRight i e → P e) → Each P t
   all_of ok t r P f = each_more (IsRight i) P t f r.right
 
-pub conserved : (i : Internet) (t : List Entry) → Passes i → IsLegal i t → IsConserved i t
-conserved i t ok legal =
-    let r = run_is i ok t legal in
+pub rising_conserved : (i : Internet) (t : List Entry) → Passes i → IsRising i t → IsConserved i t
+rising_conserved i t ok rising =
+    let r = rising_run i ok t rising in
     record {
       listed = λ b c h. record {
         counted =
@@ -132,9 +133,13 @@ conserved i t ok legal =
       no_hop_limit = count_none is_hop_limit t (all_of i ok t r (λ e. is_hop_limit e ≡ false) (no_limit i));
     }
 
-pub hops_are_left : (i : Internet) (t : List Entry) → Passes i → IsLegal i t → HasHopsLeft i t
-hops_are_left i t ok legal p c there copy h =
-    let r = run_is i ok t legal in
+pub rising_hops : (i : Internet) (t : List Entry) → Passes i → IsRising i t → HasHopsLeft i t
+rising_hops i t ok rising p c there copy h =
     let at = contained_at (pending (cable_seats i) t) p there in
-    let w = filter_at (λ q. not (was_ended t q)) (pairs (cable_seats i) t) at.0 p at.1 in
-    each_at (HopsFine i) (pairs (cable_seats i) t) w.0 p w.1 r.hops_left c copy h
+    (known i ok t p at.0 (rising_run i ok t rising) at.1).fine c copy h
+
+pub conserved : (i : Internet) (t : List Entry) → Passes i → IsLegal i t → IsConserved i t
+conserved i t ok legal = rising_conserved i t ok (legal_rises i t legal)
+
+pub hops_are_left : (i : Internet) (t : List Entry) → Passes i → IsLegal i t → HasHopsLeft i t
+hops_are_left i t ok legal = rising_hops i t ok (legal_rises i t legal)

@@ -16,9 +16,8 @@ use Rattle.cable_model.specs.declared.entry.How.{How}
 use Rattle.station.specs.declared.heard.Kind.TheVariants.{Ddp}
 use Rattle.cable_model.specs.declared.seat.Seat.{Seat}
 use Rattle.cable_model.specs.Pending.{Pair, is_heard, pairs, pairs_of}
-use Rattle.cable_model.specs.Transcript.{Entry, Frame, Put, Reached, Dropped, AreNumbered, count, one}
+use Rattle.cable_model.specs.Transcript.{Entry, Frame, Put, Reached, Dropped, count, one}
 use Rattle.cable_model.proofs.Counting.{At, count_none, each_all, each_map, each_more}
-use Rattle.cable_model.proofs.Pairs.{EndsNone}
 use Rattle.legal_runs.specs.Counts.{carries, sent}
 use Rattle.legal_runs.specs.Legs.{Leg, is_copy, is_datagram, is_unicast, leg_bytes}
 use Rattle.legal_runs.specs.Stations.{cable_seat, cable_seats, has_address, is_on, is_router}
@@ -61,7 +60,7 @@ abbrev pub IsNext : Internet → (ℕ → Type 0) → List ℕ → Pair → Type
 IsNext i N d p = is_copy i p ≡ true → N p.seat.station × (target p.frame.bytes ≡ target d)
 
 -- The entries are those of one datagram: its body ends once, or is under way once to a router of which N holds.
-pub record Does (i : Internet) (N A : ℕ → Type 0) (stamp : ℕ) (d : List ℕ) (hop : ℕ) (es : List Entry) : Type 0 where
+pub record Does (i : Internet) (N A : ℕ → Type 0) (d : List ℕ) (hop : ℕ) (es : List Entry) : Type 0 where
   pub adds : (b : List ℕ) → (target b).net ≢ 0 → count (is_ended b) es + copies i b es ≡ one (same_bytes b d)
   pub unsent : (b : List ℕ) → sent b es ≡ 0
   pub right : Each (IsRight i) es
@@ -69,8 +68,6 @@ pub record Does (i : Internet) (N A : ℕ → Type 0) (stamp : ℕ) (d : List �
   pub framed : Each (λ p. Framed p.frame.bytes) (pairs (cable_seats i) es)
   pub goes_to : Each (IsNext i N d) (pairs (cable_seats i) es)
   pub of : Each (IsOf i A d hop) es
-  pub ends_none : Each EndsNone es
-  pub numbered : AreNumbered stamp es
 
 -- Equal bytes have the same target.
 same_target : (b d : List ℕ) → (target b).net ≢ 0 → (target d).net ≡ 0 → same_bytes b d ≡ false
@@ -121,10 +118,10 @@ module _ (i : Internet) (ok : Passes i) (N A : ℕ → Type 0) where
 
   -- ---- Datagrams that reached a cable or were dropped
 
-  pub does_reach : (stamp cable station : ℕ) (how : How) (d : List ℕ) (hop : ℕ) → home i (target d).net ≡ Some cable → A cable
-      → Does i N A stamp d hop (Reached cable station how d ∷ [])
+  pub does_reach : (cable station : ℕ) (how : How) (d : List ℕ) (hop : ℕ) → home i (target d).net ≡ Some cable → A cable
+      → Does i N A d hop (Reached cable station how d ∷ [])
   unfolding copies
-  does_reach stamp cable station how d hop home_is there = record {
+  does_reach cable station how d hop home_is there = record {
     adds = λ b some. omega arith;
     unsent = λ b. refl;
     right = (home_is, tt);
@@ -132,14 +129,12 @@ module _ (i : Internet) (ok : Passes i) (N A : ℕ → Type 0) where
     framed = tt;
     goes_to = tt;
     of = ((refl, there), tt);
-    ends_none = (tt, tt);
-    numbered = (tt, tt);
   }
 
-  pub does_drop : (stamp router : ℕ) (d : List ℕ) (hop : ℕ) → home i (target d).net ≡ None → Does i N A stamp d hop
+  pub does_drop : (router : ℕ) (d : List ℕ) (hop : ℕ) → home i (target d).net ≡ None → Does i N A d hop
       (Dropped router NoRoute d ∷ [])
   unfolding copies
-  does_drop stamp router d hop no_home = record {
+  does_drop router d hop no_home = record {
     adds = λ b some. omega arith;
     unsent = λ b. refl;
     right = (no_home, tt);
@@ -147,8 +142,6 @@ module _ (i : Internet) (ok : Passes i) (N A : ℕ → Type 0) where
     framed = tt;
     goes_to = tt;
     of = (tt, tt);
-    ends_none = (tt, tt);
-    numbered = (tt, tt);
   }
 
   -- ---- Frames that are put
@@ -180,18 +173,18 @@ module _ (i : Internet) (ok : Passes i) (N A : ℕ → Type 0) where
 
     -- No frame, and the datagram reached the cable.
     pub does_end : (how : How) → home i (target l.body).net ≡ Some l.cable → A l.cable
-        → Does i N A stamp l.body l.hops (Reached l.cable l.station how (body (leg_bytes l)) ∷ [])
+        → Does i N A l.body l.hops (Reached l.cable l.station how (body (leg_bytes l)) ∷ [])
     does_end how home_is there =
-        subst (λ b. Does i N A stamp l.body l.hops (Reached l.cable l.station how b ∷ [])) (sym frame_body)
-        (does_reach stamp l.cable l.station how l.body l.hops home_is there)
+        subst (λ b. Does i N A l.body l.hops (Reached l.cable l.station how b ∷ [])) (sym frame_body)
+        (does_reach l.cable l.station how l.body l.hops home_is there)
 
     -- A frame without copies, after the datagram reached the cable.
     pub does_arrive : (how : How) (to : Hw) → home i (target l.body).net ≡ Some l.cable → A l.cable
         → IsNoCopy (frame_to to)
-        → Does i N A stamp l.body l.hops (Reached l.cable l.station how (body (leg_bytes l)) ∷ Put (frame_to to) ∷ [])
+        → Does i N A l.body l.hops (Reached l.cable l.station how (body (leg_bytes l)) ∷ Put (frame_to to) ∷ [])
     unfolding copies
     does_arrive how to home_is there none =
-        subst (λ b. Does i N A stamp l.body l.hops (Reached l.cable l.station how b ∷ Put (frame_to to) ∷ []))
+        subst (λ b. Does i N A l.body l.hops (Reached l.cable l.station how b ∷ Put (frame_to to) ∷ []))
         (sym frame_body) (record {
           adds = λ b some. let rest = no_copies (frame_to to) none b in omega (arith, rest);
           unsent = λ b. refl;
@@ -200,12 +193,10 @@ module _ (i : Internet) (ok : Passes i) (N A : ℕ → Type 0) where
           framed = is_framed to;
           goes_to = no_next (frame_to to) l.body none;
           of = ((refl, there), ((seated, frame_body, refl, hops_are l.hops few l.body whole.long), tt));
-          ends_none = (tt, (tt, tt));
-          numbered = (tt, ((omega arith), tt));
         })
 
     -- A frame whose datagram is for this cable only.
-    pub does_stay : (to : Hw) → (target l.body).net ≡ 0 → Does i N A stamp l.body l.hops (Put (frame_to to) ∷ [])
+    pub does_stay : (to : Hw) → (target l.body).net ≡ 0 → Does i N A l.body l.hops (Put (frame_to to) ∷ [])
     unfolding copies
     does_stay to zero_net = record {
       adds = λ b some.
@@ -218,8 +209,6 @@ module _ (i : Internet) (ok : Passes i) (N A : ℕ → Type 0) where
       framed = is_framed to;
       goes_to = no_next (frame_to to) l.body none;
       of = ((seated, frame_body, refl, hops_are l.hops few l.body whole.long), tt);
-      ends_none = (tt, tt);
-      numbered = (refl, tt);
     }
       where
         last : (a b : Bool) → (a && false && b) ≡ false
@@ -238,7 +227,7 @@ module _ (i : Internet) (ok : Passes i) (N A : ℕ → Type 0) where
     pub does_go : (k : ℕ) (s : PlaceOf) → At (seats i) k s → s.cable ≡ l.cable
         → is_copy i (record { frame = frame_to s.hardware; seat = cable_seat i s }) ≡ true
         → ((c : ℕ) → home i (target l.body).net ≡ Some c → l.hops + distance i s.station (target l.body).net ≤ 14) → N s.station
-        → Does i N A stamp l.body l.hops (Put (frame_to s.hardware) ∷ [])
+        → Does i N A l.body l.hops (Put (frame_to s.hardware) ∷ [])
     unfolding copies
     does_go k s at cable copy near next = record {
       adds = λ b some.
@@ -252,8 +241,6 @@ module _ (i : Internet) (ok : Passes i) (N A : ℕ → Type 0) where
       framed = is_framed s.hardware;
       goes_to = subst (Each (IsNext i N l.body)) (sym alone) ((λ is. (next, target_stays l.hops few l.body)), tt);
       of = ((seated, frame_body, refl, hops_are l.hops few l.body whole.long), tt);
-      ends_none = (tt, tt);
-      numbered = (refl, tt);
     }
       where
         only : Pair

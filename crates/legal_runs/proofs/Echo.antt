@@ -38,14 +38,14 @@ reply_is_body =
 -- ---- The blocks
 
 -- The node sends the request to its router.
-abbrev request_leg : Leg
+abbrev pub request_leg : Leg
 request_leg = record { station = 2; cable = 0; next = next.Station (addr 10 1); body = echo_request 0; hops = 0 }
 
 -- The printer sends its reply to its router.
 abbrev reply_leg : Leg
 reply_leg = record { station = 3; cable = 2; next = next.Station (addr 30 1); body = echo_reply 0; hops = 0 }
 
-request_is_made : IsMade three_cables request_leg
+pub request_is_made : IsMade three_cables request_leg
 request_is_made =
     record { seated = refl; whole = request_is_body; fresh = refl; goes = ByRouter (addr 10 1) 0 refl refl (not_zero 30 (omega arith)) }
 
@@ -53,7 +53,7 @@ reply_is_made : IsMade three_cables reply_leg
 reply_is_made =
     record { seated = refl; whole = reply_is_body; fresh = refl; goes = ByRouter (addr 30 1) 1 refl refl (not_zero 10 (omega arith)) }
 
-asked : IsLegal three_cables (take 2 echo)
+pub asked : IsLegal three_cables (take 2 echo)
 unfolding request datagram
 asked =
     Goes [] (take 2 echo) Begins
@@ -62,7 +62,7 @@ asked =
       handed = inr (addr 10 1, 0, refl, refl);
     }))
 
-passed_on : IsLegal three_cables (take 4 echo)
+pub passed_on : IsLegal three_cables (take 4 echo)
 unfolding request datagram
 passed_on =
     Goes (take 2 echo) (take 2 (drop 2 echo)) asked

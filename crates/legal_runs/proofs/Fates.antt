@@ -54,25 +54,25 @@ module _ (i : Internet) (ok : Passes i) (N A : ℕ → Type 0) (stamp : ℕ) (p 
       → home i (target (body p.frame.bytes)).net ≡ Some d → (hops p.frame.bytes + 1) + distance i s (target (body p.frame.bytes)).net ≤ 14)
       → (home i (target (body p.frame.bytes)).net ≡ Some c → A c)
       → ((a : Addr) (s : ℕ) → whom ≡ next.Station a → owner i c a ≡ Some s → same_address (target (body p.frame.bytes)) a ≡ false → N s)
-      → Does i N A stamp (body p.frame.bytes) (hops p.frame.bytes + 1)
+      → Does i N A (body p.frame.bytes) (hops p.frame.bytes + 1)
       (cond (hops p.frame.bytes == 15) (Dropped r HopLimit (body p.frame.bytes) ∷ []) (leg i stamp (passed r p c whom)))
   passed_on r c whom few seated goes near there to =
-      subst (λ b. Does i N A stamp (body p.frame.bytes) (hops p.frame.bytes + 1) (cond b (Dropped r HopLimit (body p.frame.bytes) ∷ [])
+      subst (λ b. Does i N A (body p.frame.bytes) (hops p.frame.bytes + 1) (cond b (Dropped r HopLimit (body p.frame.bytes) ∷ [])
       (leg i stamp (passed r p c whom))))
       (sym (ne_eqb (hops p.frame.bytes) 15 (λ e. absurd (omega (arith, e, few)))))
       (leg_does i ok N A stamp (passed r p c whom) (whole_inside p.frame.bytes f) (omega (arith, few)) seated goes near there to)
 
   -- A copy that is put on its target's cable.
   arrived : (r c : ℕ) → hops p.frame.bytes ≤ 14 → is_on i r c ≡ true → A c → home i (target p.frame.bytes).net ≡ Some c
-      → Does i N A stamp (body p.frame.bytes) (hops p.frame.bytes + 1) (fate_by i stamp r p (Here c))
+      → Does i N A (body p.frame.bytes) (hops p.frame.bytes + 1) (fate_by i stamp r p (Here c))
   arrived r c few seated at home_is =
       (elim ((target p.frame.bytes).node == 0 || has_address i r c (target p.frame.bytes)) as
       (λ b. ((target p.frame.bytes).node == 0 || has_address i r c (target p.frame.bytes)) ≡ b
-      → Does i N A stamp (body p.frame.bytes) (hops p.frame.bytes + 1)
+      → Does i N A (body p.frame.bytes) (hops p.frame.bytes + 1)
       (cond b (Reached c r how.Own (body p.frame.bytes) ∷ [])
       (cond (hops p.frame.bytes == 15) (Dropped r HopLimit (body p.frame.bytes) ∷ [])
       (leg i stamp (passed r p c (final (target p.frame.bytes))))))) [
-        | true ↦ λ e. does_reach i ok N A stamp c r how.Own (body p.frame.bytes) (hops p.frame.bytes + 1) (home_same (Some c) home_is) at
+        | true ↦ λ e. does_reach i ok N A c r how.Own (body p.frame.bytes) (hops p.frame.bytes + 1) (home_same (Some c) home_is) at
         | false ↦ λ e. by (or_parts ((target p.frame.bytes).node == 0) _ e).0 ((target p.frame.bytes).node == 255) refl
       ]) refl
     where
@@ -83,7 +83,7 @@ module _ (i : Internet) (ok : Passes i) (N A : ℕ → Type 0) (stamp : ℕ) (p 
       there = home_holds i (target (body p.frame.bytes)).net c (home_same (Some c) home_is)
 
       by : ((target p.frame.bytes).node == 0) ≡ false → (b : Bool) → ((target p.frame.bytes).node == 255) ≡ b
-          → Does i N A stamp (body p.frame.bytes) (hops p.frame.bytes + 1)
+          → Does i N A (body p.frame.bytes) (hops p.frame.bytes + 1)
           (cond (hops p.frame.bytes == 15) (Dropped r HopLimit (body p.frame.bytes) ∷ [])
           (leg i stamp (passed r p c (cond b next.All (next.Station (target p.frame.bytes))))))
       by single true e =
@@ -111,19 +111,19 @@ module _ (i : Internet) (ok : Passes i) (N A : ℕ → Type 0) (stamp : ℕ) (p 
   listed : (c : ℕ) → is_copy i p ≡ true → home i (target p.frame.bytes).net ≡ Some c → HopsFine i p
       → (hand i p.seat.station (target p.frame.bytes).net ≡ Here c → A c)
       → ((s d : ℕ) (a : Addr) → hand i p.seat.station (target p.frame.bytes).net ≡ On s d a → N s)
-      → Does i N A stamp (body p.frame.bytes) (hops p.frame.bytes + 1)
+      → Does i N A (body p.frame.bytes) (hops p.frame.bytes + 1)
       (fate_by i stamp p.seat.station p (hand i p.seat.station (target p.frame.bytes).net))
   listed c copy home_is fine at to =
       elim (steps i ok p.seat.station (target p.frame.bytes).net c (copy_router i p copy).0 home_is) as
-      (λ _. Does i N A stamp (body p.frame.bytes) (hops p.frame.bytes + 1)
+      (λ _. Does i N A (body p.frame.bytes) (hops p.frame.bytes + 1)
       (fate_by i stamp p.seat.station p (hand i p.seat.station (target p.frame.bytes).net))) [
         | Stops here none port ↦
             let far = fine c copy home_is in
-            subst (λ h. Does i N A stamp (body p.frame.bytes) (hops p.frame.bytes + 1) (fate_by i stamp p.seat.station p h)) (sym here)
+            subst (λ h. Does i N A (body p.frame.bytes) (hops p.frame.bytes + 1) (fate_by i stamp p.seat.station p h)) (sym here)
             (arrived p.seat.station c (omega (arith, far, none)) (port_seated i p.seat.station c port) (at here) home_is)
         | GoesBy s d a on own less nearer mine its other ↦
             let far = fine c copy home_is in
-            subst (λ h. Does i N A stamp (body p.frame.bytes) (hops p.frame.bytes + 1) (fate_by i stamp p.seat.station p h)) (sym on)
+            subst (λ h. Does i N A (body p.frame.bytes) (hops p.frame.bytes + 1) (fate_by i stamp p.seat.station p h)) (sym on)
             (passed_on p.seat.station d (next.Station a) (omega (arith, far, nearer)) (port_seated i p.seat.station d mine)
             (ByRouter a s refl own (λ z. (copy_router i p copy).1 (ap (λ (x : Addr). x.net) (sym same) ∙ z)))
             (λ b t e n own_b apart h.
@@ -145,24 +145,24 @@ module _ (i : Internet) (ok : Passes i) (N A : ℕ → Type 0) (stamp : ℕ) (p 
       some_one o c d e f = cc
 
   unlisted : is_copy i p ≡ true → home i (target p.frame.bytes).net ≡ None
-      → Does i N A stamp (body p.frame.bytes) (hops p.frame.bytes + 1)
+      → Does i N A (body p.frame.bytes) (hops p.frame.bytes + 1)
       (fate_by i stamp p.seat.station p (hand i p.seat.station (target p.frame.bytes).net))
   unlisted copy none =
-      subst (λ h. Does i N A stamp (body p.frame.bytes) (hops p.frame.bytes + 1) (fate_by i stamp p.seat.station p h))
+      subst (λ h. Does i N A (body p.frame.bytes) (hops p.frame.bytes + 1) (fate_by i stamp p.seat.station p h))
       (sym (nowhere i ok p.seat.station (target p.frame.bytes).net (copy_router i p copy).0 none))
-      (does_drop i ok N A stamp p.seat.station (body p.frame.bytes) (hops p.frame.bytes + 1) (home_same None none))
+      (does_drop i ok N A p.seat.station (body p.frame.bytes) (hops p.frame.bytes + 1) (home_same None none))
 
   -- The entries of a copy's fate are the entries of one datagram, that of its body.
   pub fate_does : is_copy i p ≡ true → HopsFine i p
       → ((c : ℕ) → home i (target p.frame.bytes).net ≡ Some c → hand i p.seat.station (target p.frame.bytes).net ≡ Here c → A c)
       → ((s d : ℕ) (a : Addr) → hand i p.seat.station (target p.frame.bytes).net ≡ On s d a → N s)
-      → Does i N A stamp (body p.frame.bytes) (hops p.frame.bytes + 1) (fate i stamp p)
+      → Does i N A (body p.frame.bytes) (hops p.frame.bytes + 1) (fate i stamp p)
   fate_does copy fine at to =
-      subst (λ b. Does i N A stamp (body p.frame.bytes) (hops p.frame.bytes + 1)
+      subst (λ b. Does i N A (body p.frame.bytes) (hops p.frame.bytes + 1)
       (cond b (fate_by i stamp p.seat.station p (hand i p.seat.station (target p.frame.bytes).net)) [])) (sym copy)
       (by (home i (target p.frame.bytes).net) refl)
     where
-      by : (o : Option ℕ) → home i (target p.frame.bytes).net ≡ o → Does i N A stamp (body p.frame.bytes) (hops p.frame.bytes + 1)
+      by : (o : Option ℕ) → home i (target p.frame.bytes).net ≡ o → Does i N A (body p.frame.bytes) (hops p.frame.bytes + 1)
           (fate_by i stamp p.seat.station p (hand i p.seat.station (target p.frame.bytes).net))
       by (Some c) h = listed c copy h fine (at c h) to
       by None h = unlisted copy h

@@ -1,5 +1,5 @@
 -- The pairs of legs and fates satisfy what every pair of a run does.
-use Rattle.std.proofs.Common.{◌≡◌, ℕ, ◌+◌, ◌<◌, Bool, true, false, not, ◌&&◌, cond, List, [], ◌∷◌}
+use Rattle.std.proofs.Common.{◌≡◌, ℕ, ◌+◌, ◌<◌, Bool, true, false, not, ◌&&◌, cond, List, [], ◌∷◌, ◌++◌}
 use Rattle.std.proofs.Common.{inl, inr, refl, sym, ap, ◌∙◌, subst, arith, true≢false, lt-ltb}
 use Rattle.std.specs.List.{AllByRecursion as Each}
 use Rattle.std.proofs.lemmas.Bool.{and_left}
@@ -13,12 +13,12 @@ use Rattle.cable_model.specs.declared.seat.Seat.{Seat}
 use Rattle.cable_model.specs.Outcomes.{framed as framed_by}
 use Rattle.cable_model.specs.Pending.{Pair, pairs, pairs_of}
 use Rattle.at_base.specs.Multicast.{group_hw, group_of, is_all}
-use Rattle.cable_model.specs.Transcript.{Entry, count, one, stamps}
+use Rattle.cable_model.specs.Transcript.{Entry, Sent, count, one, stamps}
 use Rattle.cable_model.proofs.Counting.{each-append, each_all, each_map, each_more}
 use Rattle.cable_model.proofs.Pairs.{pairs-append}
 use Rattle.legal_runs.specs.Answers.{Expands, IsLookup, IsMade, IsOwn, ends_at, is_other}
-use Rattle.legal_runs.specs.Legal.{said}
 use Rattle.legal_runs.specs.Legs.{Leg, fate, fate_by, is_copy, is_datagram, is_unicast, leg, leg_bytes, sender}
+use Rattle.legal_runs.specs.Losses.{Another, Nothing, Said}
 use Rattle.legal_runs.specs.Lookups.{asks, is_request, waits}
 use Rattle.legal_runs.specs.Requests.{is_forward, is_lookup, request, zone_of}
 use Rattle.legal_runs.specs.Stations.{cable_seats}
@@ -30,6 +30,7 @@ use Rattle.legal_runs.proofs.Legs.{to_group}
 use Rattle.legal_runs.proofs.Listing.{forward_alone, lookup_alone, other_alone}
 use Rattle.legal_runs.proofs.Passing.{PairOk, end_none, fate_of, goes_on, not_unicast, request_some}
 use Rattle.legal_runs.proofs.Requested.{OnePair, of_bodies, of_kinds, via_one}
+use Rattle.legal_runs.proofs.Rising.{said_one}
 use Rattle.legal_runs.proofs.Runs.{any, made_does}
 use Rattle.legal_runs.proofs.Tallies.{leg_of, no_request, waits_none}
 
@@ -81,7 +82,7 @@ module _ (i : Internet) (ok : Passes i) where
 
   -- ---- Legs
 
-  leg_does_any : (stamp : ℕ) (l : Leg) → IsMade i l → Does i any any stamp l.body l.hops (leg i stamp l)
+  leg_does_any : (stamp : ℕ) (l : Leg) → IsMade i l → Does i any any l.body l.hops (leg i stamp l)
   leg_does_any stamp l made = made_does i ok any any stamp l made (λ s. tt) (λ c. tt)
 
   leg_good : (stamp : ℕ) (l : Leg) → IsMade i l → is_request i l.body ≡ false
@@ -157,41 +158,41 @@ module _ (i : Internet) (ok : Passes i) where
         seat = s;
       }) _ (each_all _ _ (λ s. refl))) tt)))
 
-  said_one : (stamp : ℕ) (l : Leg) (ls : List Leg) → Each (PairOk i) (pairs (cable_seats i) (leg i stamp l))
-      → Each (PairOk i) (pairs (cable_seats i) (said i (stamp + stamps (leg i stamp l)) ls)) → Each (PairOk i)
-      (pairs (cable_seats i) (said i stamp (l ∷ ls)))
-  said_one stamp l ls a b =
-      subst (Each (PairOk i)) (sym (pairs-append (cable_seats i) (leg i stamp l) (said i (stamp + stamps (leg i stamp l)) ls)))
-      (each-append (PairOk i) (pairs (cable_seats i) (leg i stamp l)) (pairs (cable_seats i)
-      (said i (stamp + stamps (leg i stamp l)) ls)) a b)
+  both_good : (l : Leg) (es fs : List Entry) → Each (PairOk i) (pairs (cable_seats i) es) → Each (PairOk i) (pairs (cable_seats i) fs)
+      → Each (PairOk i) (pairs (cable_seats i) (Sent l.station l.body ∷ (es ++ fs)))
+  both_good l es fs a b =
+      subst (Each (PairOk i)) (sym (pairs-append (cable_seats i) es fs))
+      (each-append (PairOk i) (pairs (cable_seats i) es) (pairs (cable_seats i) fs) a b)
 
-  pub expanded_good : (stamp : ℕ) (key : List ℕ) (r : ℕ) (cs : List ℕ) (ls : List Leg) → Each (IsMade i) ls → Expands i key r cs ls
-      → Each (PairOk i) (pairs (cable_seats i) (said i stamp ls))
-  expanded_good stamp key r [] [] made h = tt
-  expanded_good stamp key r [] (l ∷ ls) made h = absurd h
-  expanded_good stamp key r (d ∷ cs) [] made h = absurd h
-  expanded_good stamp key r (d ∷ cs) (l ∷ ls) made h =
-      let rest = expanded_good (stamp + stamps (leg i stamp l)) key r cs ls made.1 h.1 in
+  pub expanded_good : (n : ℕ) (key : List ℕ) (r : ℕ) (cs : List ℕ) (ls : List Leg) (es : List Entry) → Said i n ls es → Each (IsMade i) ls
+      → Expands i key r cs ls → Each (PairOk i) (pairs (cable_seats i) es)
+  expanded_good n key r [] ls es (Nothing m) made h = tt
+  expanded_good n key r [] ls es (Another m stamp l more fs le said) made h = absurd h
+  expanded_good n key r (d ∷ cs) ls es (Nothing m) made h = absurd h
+  expanded_good n key r (d ∷ cs) ls es (Another m stamp l more fs le said) made h =
+      let rest = expanded_good (stamp + stamps (leg i stamp l)) key r cs more fs said made.1 h.1 in
       let first = elim h.0 as (λ _. Each (PairOk i) (pairs (cable_seats i) (leg i stamp l))) [
         | inl a ↦ lookup_good stamp key r d l made.0 a
         | inr b ↦
             let alone = forward_alone (request l.body) b.kind in
             leg_good stamp l made.0 (no_request i l.body alone.0) (λ q. b.node) alone.1
       ] in
-      said_one stamp l ls first rest
+      both_good l (leg i stamp l) fs first rest
 
-  pub looked_good : (stamp : ℕ) (key : List ℕ) (r d : ℕ) (l : Leg) → IsMade i l → IsLookup i key r d l
-      → Each (PairOk i) (pairs (cable_seats i) (said i stamp (l ∷ [])))
-  looked_good stamp key r d l made h = said_one stamp l [] (lookup_good stamp key r d l made h) tt
+  pub looked_good : (n : ℕ) (key : List ℕ) (r d : ℕ) (l : Leg) (es : List Entry) → Said i n (l ∷ []) es → IsMade i l
+      → IsLookup i key r d l → Each (PairOk i) (pairs (cable_seats i) es)
+  looked_good n key r d l es said made h =
+      let w = said_one i n l es said in
+      subst (λ x. Each (PairOk i) (pairs (cable_seats i) x)) (sym w.all) (lookup_good w.stamp key r d l made h)
 
-  pub others_good : (stamp : ℕ) (ls : List Leg) → Each (IsMade i) ls → Each (λ l. is_other l.body ≡ true) ls
-      → Each (PairOk i) (pairs (cable_seats i) (said i stamp ls))
-  others_good stamp [] made h = tt
-  others_good stamp (l ∷ ls) made h =
+  pub others_good : (n : ℕ) (ls : List Leg) (es : List Entry) → Said i n ls es → Each (IsMade i) ls → Each (λ l. is_other l.body ≡ true) ls
+      → Each (PairOk i) (pairs (cable_seats i) es)
+  others_good n ls es (Nothing m) made h = tt
+  others_good n ls es (Another m stamp l more fs le said) made h =
       let e = other_alone l.body h.0 in
-      said_one stamp l ls
+      both_good l (leg i stamp l) fs
       (leg_good stamp l made.0 (no_request i l.body e.0) (λ q. absurd (true≢false (sym q ∙ e.1))) e.2)
-      (others_good (stamp + stamps (leg i stamp l)) ls made.1 h.1)
+      (others_good (stamp + stamps (leg i stamp l)) more fs said made.1 h.1)
 
   -- ---- Fates
 

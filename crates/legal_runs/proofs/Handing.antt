@@ -1,6 +1,6 @@
 -- A router that carries a datagram on puts it on the cable onto which it hands datagrams for its network.
-use Rattle.std.proofs.Common.{◌≡◌, ℕ, ◌+◌, Bool, true, false, not, cond, List, [], ◌∷◌, ◌++◌, Some, refl}
-use Rattle.std.proofs.Common.{ap, ◌∙◌}
+use Rattle.std.proofs.Common.{◌≡◌, ℕ, ◌+◌, Bool, true, false, cond, List, [], ◌∷◌, ◌++◌, Some, refl}
+use Rattle.std.proofs.Common.{ap, subst, sym, ◌∙◌}
 use Rattle.std.specs.Prelude.{◌==◌, ◌||◌}
 use Rattle.std.specs.List.{AllByRecursion as Each}
 use Rattle.at_base.specs.Address.{same_address}
@@ -12,16 +12,18 @@ use Rattle.audit.specs.Rules.{Passes}
 use Rattle.cable_model.specs.Outcomes.{Places, Sender, leg as leg_on, to_other, to_target}
 use Rattle.cable_model.specs.declared.resolve.Found.{Found}
 use Rattle.cable_model.specs.declared.resolve.Found.TheVariants.{At, Nobody, Later}
-use Rattle.cable_model.specs.Pending.{Pair, pairs, pending, was_ended}
-use Rattle.cable_model.specs.Transcript.{Entry, Sent, Put, Took, Reached, Dropped, Lost, Hold, stamps}
-use Rattle.cable_model.proofs.Counting.{contained_at, each_at, filter_at}
+use Rattle.cable_model.specs.Pending.{Pair, pending}
+use Rattle.cable_model.specs.Transcript.{Entry, Sent, Put, Took, Reached, Dropped, Lost, Hold, next_stamp, stamps}
+use Rattle.cable_model.proofs.Counting.{contained_at}
+use Rattle.cable_model.proofs.Pairs.{EndsNone}
 use Rattle.legal_runs.specs.Carriage.{AreByHand, cable_of_hand}
-use Rattle.legal_runs.specs.Legal.{Block, IsLegal, Sends, Takes, Begins, Goes, said}
+use Rattle.legal_runs.specs.Legal.{IsLegal}
 use Rattle.legal_runs.specs.Legs.{Leg, fate, fate_by, final, is_copy, leg, leg_bytes, passed, places_of, sender}
+use Rattle.legal_runs.specs.Losses.{Another, Nothing, Said}
 use Rattle.legal_runs.specs.Stations.{cable_seats, has_address}
 use Rattle.legal_runs.proofs.Frames.{Framed, target_inside}
-use Rattle.legal_runs.proofs.Runs.{run_is}
-use Rattle.legal_runs.proofs.Takers.{IsNoTook, quiet_said}
+use Rattle.legal_runs.proofs.Rising.{GoesOn, IsRising, RisingBlock, SendsOne, Starts, TakesOne, legal_rises, said_ends_none}
+use Rattle.legal_runs.proofs.Runs.{known, rising_run}
 use Rattle.station.specs.declared.output.Next.{Next}
 use Rattle.station.specs.declared.output.Next.TheVariants as next
 
@@ -52,7 +54,7 @@ module _ (i : Internet) where
   by_hand_more (Hold held ∷ es) fs on h g = by_hand_more es fs on h g
 
   -- What stations make is put anew.
-  anew : (es : List Entry) → Each IsNoTook es → AreByHand i false es
+  anew : (es : List Entry) → Each EndsNone es → AreByHand i false es
   anew [] h = tt
   anew (Put f ∷ es) h = (tt, anew es h.1)
   anew (Took stamp station ∷ es) h = absurd h.0
@@ -62,10 +64,11 @@ module _ (i : Internet) where
   anew (Lost stamp ∷ es) h = anew es h.1
   anew (Hold held ∷ es) h = anew es h.1
 
-  said_anew : (on : Bool) (stamp : ℕ) (ls : List Leg) → AreByHand i on (said i stamp ls)
-  said_anew on stamp [] = tt
-  said_anew on stamp (l ∷ ls) =
-      anew (leg i stamp l ++ said i (stamp + stamps (leg i stamp l)) ls) (quiet_said i stamp (l ∷ ls)).1
+  said_anew : (on : Bool) (n : ℕ) (ls : List Leg) (es : List Entry) → Said i n ls es → AreByHand i on es
+  said_anew on n ls es (Nothing m) = tt
+  said_anew on n ls es (Another m stamp l more fs le said) =
+      anew (leg i stamp l ++ fs) (said_ends_none i m (l ∷ more) (Sent l.station l.body ∷ (leg i stamp l ++ fs))
+      (Another m stamp l more fs le said)).1
 
   either : (b : Bool) (es fs : List Entry) → AreByHand i true es → AreByHand i true fs → AreByHand i true (cond b es fs)
   either true es fs h g = h
@@ -114,17 +117,20 @@ module _ (i : Internet) where
 -- ---- Transcripts
 
 module _ (i : Internet) (ok : Passes i) where
-  block_by_hand : (t block : List Entry) (on : Bool) → IsLegal i t → Block i t block → AreByHand i on block
-  block_by_hand t block on legal (Sends l made own) = said_anew i on (stamps t) (l ∷ [])
-  block_by_hand t block on legal (Takes p ls there made its answers) =
+  block_by_hand : (t block : List Entry) (on : Bool) → IsRising i t → RisingBlock i t block → AreByHand i on block
+  block_by_hand t block on rising (SendsOne l es made own said) = said_anew i on (next_stamp t) (l ∷ []) es said
+  block_by_hand t block on rising (TakesOne p ls es there made its answers h) =
       let k = contained_at (pending (cable_seats i) t) p there in
-      let j = filter_at (λ q. not (was_ended t q)) (pairs (cable_seats i) t) k.0 p k.1 in
-      let framed = each_at (λ q. Framed q.frame.bytes) (pairs (cable_seats i) t) j.0 p j.1 (run_is i ok t legal).framed in
-      let fs = fate i (stamps t) p in
-      by_hand_more i fs (said i (stamps t + stamps fs) ls) true (fate_by_hand i (stamps t) p framed)
-      (said_anew i (carried_after fs true) (stamps t + stamps fs) ls)
+      let q = known i ok t p k.0 (rising_run i ok t rising) k.1 in
+      let fs = fate i h.stamp p in
+      subst (AreByHand i true) (sym h.whole)
+      (by_hand_more i fs h.rest true (fate_by_hand i h.stamp p q.framed)
+      (said_anew i (carried_after fs true) (h.stamp + stamps fs) ls h.rest h.said))
+
+  pub handed_by : (t : List Entry) → IsRising i t → AreByHand i false t
+  handed_by t Starts = tt
+  handed_by t (GoesOn front block rising b) =
+      by_hand_more i front block false (handed_by front rising) (block_by_hand front block (carried_after front false) rising b)
 
   pub are_by_hand : (t : List Entry) → IsLegal i t → AreByHand i false t
-  are_by_hand t Begins = tt
-  are_by_hand t (Goes front block legal b) =
-      by_hand_more i front block false (are_by_hand front legal) (block_by_hand front block (carried_after front false) legal b)
+  are_by_hand t legal = handed_by t (legal_rises i t legal)

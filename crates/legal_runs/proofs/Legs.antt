@@ -124,7 +124,7 @@ module _ (i : Internet) (ok : Passes i) (N A : ℕ → Type 0) where
   -- A leg to its target, at a seat that exists.
   to_there : (stamp : ℕ) (l : Leg) (whole : Whole l.body) (few : l.hops ≤ 15) (seated : is_on i l.station l.cable ≡ true) (s : PlaceOf)
       → SeatThere i l.cable (target l.body) s → A l.cable
-      → Does i N A stamp l.body l.hops (to_target (sender stamp l) (leg_bytes l) (found_at (Some s)))
+      → Does i N A l.body l.hops (to_target (sender stamp l) (leg_bytes l) (found_at (Some s)))
   to_there stamp l whole few seated s w there =
       does_arrive i ok N A stamp l whole few seated how.Station s.hardware (seat_home i ok l.cable (target l.body) s w) there
       (none_alone i ok N A (frame_to i ok N A stamp l whole few seated s.hardware) w.place s w.at w.cable_is refl
@@ -145,7 +145,7 @@ module _ (i : Internet) (ok : Passes i) (N A : ℕ → Type 0) where
   straight : (stamp : ℕ) (l : Leg) (whole : Whole l.body) (few : l.hops ≤ 15) (seated : is_on i l.station l.cable ≡ true) → home i
       (target l.body).net ≡ Some l.cable → A l.cable
       → (o : Option PlaceOf) → seat_at i l.cable (target l.body) ≡ o
-      → Does i N A stamp l.body l.hops (to_target (sender stamp l) (leg_bytes l) (found_at o))
+      → Does i N A l.body l.hops (to_target (sender stamp l) (leg_bytes l) (found_at o))
   straight stamp l whole few seated home_is there None e =
       does_end i ok N A stamp l whole few seated how.Absent home_is there
   straight stamp l whole few seated home_is there (Some s) e =
@@ -156,7 +156,7 @@ module _ (i : Internet) (ok : Passes i) (N A : ℕ → Type 0) where
       (s : PlaceOf) → SeatThere i l.cable a s
       → s.station < length i.routers → same_address (target l.body) a ≡ false
       → ((c : ℕ) → home i (target l.body).net ≡ Some c → l.hops + distance i s.station (target l.body).net ≤ 14) → N s.station
-      → Does i N A stamp l.body l.hops (to_other (sender stamp l) (leg_bytes l) (found_at (Some s)))
+      → Does i N A l.body l.hops (to_other (sender stamp l) (leg_bytes l) (found_at (Some s)))
   onward stamp l whole few seated a s w router apart near next =
       elim (cases_eq (target l.body).net 0) [
         | inl none ↦ does_stay i ok N A stamp l whole few seated s.hardware none
@@ -185,11 +185,11 @@ module _ (i : Internet) (ok : Passes i) (N A : ℕ → Type 0) where
       → home i (target l.body).net ≡ Some c → l.hops + distance i r (target l.body).net ≤ 14)
       → (home i (target l.body).net ≡ Some l.cable → A l.cable)
       → ((a : Addr) (r : ℕ) → l.next ≡ next.Station a → owner i l.cable a ≡ Some r → same_address (target l.body) a ≡ false → N r)
-      → Does i N A stamp l.body l.hops (leg i stamp l)
+      → Does i N A l.body l.hops (leg i stamp l)
   leg_does stamp l whole few seated (Straight e on single one) near there next =
       let found = found_at (seat_at i l.cable (target l.body)) in
-      subst (Does i N A stamp l.body l.hops) (sym (to_station i stamp l few (target l.body) e))
-      (subst (λ b. Does i N A stamp l.body l.hops
+      subst (Does i N A l.body l.hops) (sym (to_station i stamp l few (target l.body) e))
+      (subst (λ b. Does i N A l.body l.hops
       (cond b (to_target (sender stamp l) (leg_bytes l) found) (to_other (sender stamp l) (leg_bytes l) found)))
       (sym (same_address_self (target l.body)))
       (straight stamp l whole few seated (home_is i ok (target l.body).net l.cable on)
@@ -198,12 +198,12 @@ module _ (i : Internet) (ok : Passes i) (N A : ℕ → Type 0) where
       let w = owner_is i l.cable a r own in
       let s = w.0.0 in
       let place = seat_there i l.cable a s w.0.1 in
-      subst (Does i N A stamp l.body l.hops) (sym (to_station i stamp l few a e))
-      (subst (λ o. Does i N A stamp l.body l.hops (cond (same_address (target l.body) a)
+      subst (Does i N A l.body l.hops) (sym (to_station i stamp l few a e))
+      (subst (λ o. Does i N A l.body l.hops (cond (same_address (target l.body) a)
       (to_target (sender stamp l) (leg_bytes l) (found_at o)) (to_other (sender stamp l) (leg_bytes l) (found_at o))))
       (sym w.0.1)
       ((elim (same_address (target l.body) a) as (λ b. same_address (target l.body) a ≡ b
-      → Does i N A stamp l.body l.hops (cond b (to_target (sender stamp l) (leg_bytes l) (found_at (Some s)))
+      → Does i N A l.body l.hops (cond b (to_target (sender stamp l) (leg_bytes l) (found_at (Some s)))
       (to_other (sender stamp l) (leg_bytes l) (found_at (Some s))))) [
         | true ↦ λ same. (let mine = at_target (same_address_is (target l.body) a same) place in
             to_there stamp l whole few seated s mine (there (seat_home i ok l.cable (target l.body) s mine)))
@@ -219,24 +219,24 @@ module _ (i : Internet) (ok : Passes i) (N A : ℕ → Type 0) where
       at_target {s} {a} e w = subst (λ x. SeatThere i l.cable x s) (sym e) w
   leg_does stamp l whole few seated (ToThem e on all) near there next =
       let home_is_there = home_is i ok (target l.body).net l.cable on in
-      subst (Does i N A stamp l.body l.hops) (sym (to_everybody i stamp l few e))
-      (subst (λ o. Does i N A stamp l.body l.hops (cond (is_some o)
+      subst (Does i N A l.body l.hops) (sym (to_everybody i stamp l few e))
+      (subst (λ o. Does i N A l.body l.hops (cond (is_some o)
       (Reached l.cable l.station how.All (body (leg_bytes l)) ∷ framed (sender stamp l) all_hw Ddp (leg_bytes l) ∷ [])
       (framed (sender stamp l) all_hw Ddp (leg_bytes l) ∷ [])))
       (sym home_is_there)
       (does_arrive i ok N A stamp l whole few seated how.All all_hw home_is_there (there home_is_there)
       (none_at_all i ok N A (frame_to i ok N A stamp l whole few seated all_hw) (λ s. refl))))
   leg_does stamp l whole few seated (OnCable e none all) near there next =
-      subst (Does i N A stamp l.body l.hops) (sym (to_everybody i stamp l few e))
+      subst (Does i N A l.body l.hops) (sym (to_everybody i stamp l few e))
       (by (home i (target l.body).net) refl)
     where
       by : (o : Option ℕ) → home i (target l.body).net ≡ o
-          → Does i N A stamp l.body l.hops (cond (is_some o)
+          → Does i N A l.body l.hops (cond (is_some o)
           (Reached l.cable l.station how.All (body (leg_bytes l))
           ∷ framed (sender stamp l) all_hw Ddp (leg_bytes l) ∷ [])
           (framed (sender stamp l) all_hw Ddp (leg_bytes l) ∷ []))
       by None h = does_stay i ok N A stamp l whole few seated all_hw none
       by (Some c) h = let low = listed_some i ok (target l.body).net c h in absurd (omega (arith, low, none))
   leg_does stamp l whole few seated (ToThese g lt e none all) near there next =
-      subst (Does i N A stamp l.body l.hops) (sym (to_group i stamp l g e))
+      subst (Does i N A l.body l.hops) (sym (to_group i stamp l g e))
       (does_stay i ok N A stamp l whole few seated (group_hw g) none)

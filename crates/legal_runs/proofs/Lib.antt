@@ -5,6 +5,11 @@ pub mod Ends
 pub mod Frames
 pub mod Seated
 pub mod Does
+pub mod Shapes
+pub mod Rises
+pub mod Rising
+pub mod StampedLists
+pub mod Ended
 pub mod Legs
 pub mod Fates
 pub mod Runs
@@ -21,5 +26,12 @@ pub mod FateCounts
 pub mod Goods
 pub mod Answering
 pub mod LookedUp
+pub mod Lossy
+pub mod InOrder
+pub mod Alone
+pub mod Apart
 pub mod BlueNames
+pub mod LossyLaws
 pub mod Refused
+pub mod LossExamples
+pub mod RefusedLosses

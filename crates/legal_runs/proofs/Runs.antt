@@ -1,5 +1,5 @@
 -- The invariant of a run: each time that a body was sent, it ended once or is under way once.
-use Rattle.std.proofs.Common.{◌≡◌, ◌≢◌, ℕ, ◌+◌, ◌<◌, Bool, true, false, not, ◌&&◌, cond, List, [], ◌∷◌, ◌++◌}
+use Rattle.std.proofs.Common.{◌≡◌, ◌≢◌, ℕ, ◌+◌, Bool, true, false, not, ◌&&◌, cond, List, [], ◌∷◌, ◌++◌, Contains}
 use Rattle.std.proofs.Common.{refl, sym, ap, ◌∙◌, subst, arith, append_assoc}
 use Rattle.std.specs.List.{AllByRecursion as Each}
 use Rattle.at_base.specs.Text.{same_bytes}
@@ -8,20 +8,25 @@ use Rattle.table_image.specs.Internet.{Internet}
 use Rattle.audit.specs.Routing.{hand}
 use Rattle.audit.specs.Rules.{Passes}
 use Rattle.cable_model.specs.Pending.{Pair, pairs, pending, was_ended}
-use Rattle.cable_model.specs.Transcript.{Entry, Took, AreNumbered, count, is_put, one, stamps}
-use Rattle.cable_model.proofs.Counting.{At, contained_at, count-append, each-append, each_at, each_more, filter_at}
-use Rattle.cable_model.proofs.Pairs.{EndsBelow, EndsNone, below_more, none_below, numbered-append, pairs-append, pending_less, pending_more}
-use Rattle.cable_model.proofs.Pairs.{stamps_below}
-use Rattle.cable_model.proofs.Stamps.{numbered_once}
+use Rattle.cable_model.specs.Transcript.{Entry, Sent, Took, count, next_stamp, one, stamps}
+use Rattle.cable_model.proofs.Counting.{At, contained_at, count-append, each-append, each_at, filter_at}
+use Rattle.cable_model.proofs.Pairs.{EndsBelow, EndsNone, pairs-append, pending_less}
+use Rattle.cable_model.proofs.Stamps.{next_after}
 use Rattle.legal_runs.specs.Answers.{IsMade}
 use Rattle.legal_runs.specs.Counts.{carries, is_sent, sent, under_way}
-use Rattle.legal_runs.specs.Legal.{Block, IsLegal, Sends, Takes, Begins, Goes, handled, said}
+use Rattle.legal_runs.specs.Legal.{IsLegal}
 use Rattle.legal_runs.specs.Legs.{Leg, fate, fate_by, is_copy, leg}
+use Rattle.legal_runs.specs.Losses.{Another, Handled, Nothing, Said}
 use Rattle.legal_runs.specs.Stations.{cable_seats}
 use Rattle.legal_runs.proofs.Does.{Does, HopsFine, IsRight, copies, is_ended}
 use Rattle.legal_runs.proofs.Fates.{fate_does}
 use Rattle.legal_runs.proofs.Frames.{Framed, whole}
 use Rattle.legal_runs.proofs.Legs.{leg_does}
+use Rattle.legal_runs.proofs.InOrder.{rising_below, rising_once, took_below}
+use Rattle.legal_runs.proofs.Rises.{Rises, pending_rises}
+use Rattle.legal_runs.proofs.Rising.{GoesOn, IsRising, RisingBlock, SendsOne, Starts, TakesOne, handled_ends_none, handled_rises}
+use Rattle.legal_runs.proofs.Rising.{legal_rises, said_ends_none, said_rises}
+pub use Rattle.legal_runs.proofs.Rising.{legal_numbered}
 use Rattle.legal_runs.proofs.Seated.{one_seat}
 use Rattle.audit.proofs.WalkFacts.{owner_is}
 use Rattle.audit.proofs.WalkSteps.{near}
@@ -44,27 +49,24 @@ module _ (i : Internet) (ok : Passes i) where
 
   -- Entries after which each owed body was sent one time fewer than it ended or is under way, and the others equally
   -- often.
-  pub record Keeps (stamp : ℕ) (owed : List ℕ → ℕ) (es : List Entry) : Type 0 where
+  pub record Keeps (owed : List ℕ → ℕ) (es : List Entry) : Type 0 where
     pub adds : (b : List ℕ) → (target b).net ≢ 0 → sent b es + owed b ≡ count (is_ended b) es + copies i b es
     pub right : Each (IsRight i) es
     pub hops_left : Each (HopsFine i) (pairs (cable_seats i) es)
     pub framed : Each (λ p. Framed p.frame.bytes) (pairs (cable_seats i) es)
-    pub ends_none : Each EndsNone es
-    pub numbered : AreNumbered stamp es
 
   -- No body is owed.
   abbrev pub nothing : List ℕ → ℕ
   nothing b = 0
 
-  keeps_none : (stamp : ℕ) → Keeps stamp nothing []
+  keeps_none : Keeps nothing []
   unfolding copies
-  keeps_none stamp = record { adds = λ b some. refl; right = tt; hops_left = tt; framed = tt; ends_none = tt; numbered = tt }
+  keeps_none = record { adds = λ b some. refl; right = tt; hops_left = tt; framed = tt }
 
   -- The entries of one datagram, followed by others.
-  keeps_more : (stamp : ℕ) (d : List ℕ) (hop : ℕ) (es fs : List Entry) → Does i any any stamp d hop es → Keeps
-      (stamp + stamps es) nothing fs
-      → Keeps stamp (λ b. one (same_bytes b d)) (es ++ fs)
-  keeps_more stamp d hop es fs does rest = record {
+  keeps_more : (d : List ℕ) (hop : ℕ) (es fs : List Entry) → Does i any any d hop es → Keeps nothing fs
+      → Keeps (λ b. one (same_bytes b d)) (es ++ fs)
+  keeps_more d hop es fs does rest = record {
     adds = λ b some.
         let mine = does.adds b some in
         let theirs = rest.adds b some in
@@ -76,13 +78,11 @@ module _ (i : Internet) (ok : Passes i) where
     right = each-append (IsRight i) es fs does.right rest.right;
     hops_left = each_pair (HopsFine i) es fs does.hops_left rest.hops_left;
     framed = each_pair (λ p. Framed p.frame.bytes) es fs does.framed rest.framed;
-    ends_none = each-append EndsNone es fs does.ends_none rest.ends_none;
-    numbered = numbered-append stamp es fs does.numbered rest.numbered;
   }
 
   -- A datagram that a station made.
   pub made_does : (N A : ℕ → Type 0) (stamp : ℕ) (l : Leg) → IsMade i l → ((s : ℕ) → N s) → ((c : ℕ) → A c)
-      → Does i N A stamp l.body l.hops (leg i stamp l)
+      → Does i N A l.body l.hops (leg i stamp l)
   made_does N A stamp l made to at =
       let fresh = made.fresh in
       leg_does i ok N A stamp l (whole l.body made.whole) (omega (arith, fresh)) made.seated made.goes (λ a r c e own apart h.
@@ -90,38 +90,36 @@ module _ (i : Internet) (ok : Passes i) where
       let far = near i ok r (target l.body).net c w.1 h in
       omega (arith, fresh, far)) (λ h. at l.cable) (λ a r e own apart. to r)
 
-  -- Each datagram that stations made was sent.
-  pub said_keeps : (stamp : ℕ) (ls : List Leg) → Each (IsMade i) ls → Keeps stamp nothing (said i stamp ls)
+  keeps_said : (stamp : ℕ) (l : Leg) (fs : List Entry) → IsMade i l → Keeps nothing fs
+      → Keeps nothing (Sent l.station l.body ∷ (leg i stamp l ++ fs))
   unfolding copies
-  said_keeps stamp [] made = keeps_none stamp
-  said_keeps stamp (l ∷ ls) made =
-      let es = leg i stamp l in
-      let fs = said i (stamp + stamps es) ls in
-      let rest = keeps_more stamp l.body l.hops es fs (made_does any any stamp l made.0 (λ s. tt) (λ c. tt))
-      (said_keeps (stamp + stamps es) ls made.1) in
+  keeps_said stamp l fs made more =
+      let rest = keeps_more l.body l.hops (leg i stamp l) fs (made_does any any stamp l made (λ s. tt) (λ c. tt)) more in
       record {
         adds = λ b some. let h = rest.adds b some in omega (arith, h);
         right = (tt, rest.right);
         hops_left = rest.hops_left;
         framed = rest.framed;
-        ends_none = (tt, rest.ends_none);
-        numbered = (tt, subst (λ n. AreNumbered n (es ++ fs)) (omega arith) rest.numbered);
       }
+
+  -- Each datagram that stations made was sent.
+  pub said_keeps : (n : ℕ) (ls : List Leg) (es : List Entry) → Said i n ls es → Each (IsMade i) ls → Keeps nothing es
+  said_keeps n ls es (Nothing m) made = keeps_none
+  said_keeps n ls es (Another m stamp l more fs le said) made =
+      keeps_said stamp l fs made.0 (said_keeps (stamp + stamps (leg i stamp l)) more fs said made.1)
 
   -- The body that is owed after a pair was taken, if the pair is a copy.
   abbrev pub owed_by : Pair → List ℕ → ℕ
   owed_by p b = one (carries i b p)
 
-  pub handled_keeps : (stamp : ℕ) (p : Pair) (ls : List Leg) → Framed p.frame.bytes → HopsFine i p → Each (IsMade i) ls
-      → Keeps stamp (owed_by p) (handled i stamp p ls)
-  handled_keeps stamp p ls framed fine made = by (is_copy i p) refl
+  handled_by : (stamp : ℕ) (p : Pair) (fs : List Entry) → Framed p.frame.bytes → HopsFine i p → Keeps nothing fs
+      → Keeps (owed_by p) (fate i stamp p ++ fs)
+  handled_by stamp p fs framed fine more = by (is_copy i p) refl
     where
-      by : (b : Bool) → is_copy i p ≡ b → Keeps stamp (owed_by p) (handled i stamp p ls)
+      by : (b : Bool) → is_copy i p ≡ b → Keeps (owed_by p) (fate i stamp p ++ fs)
       by true e =
-          let all = keeps_more stamp (body p.frame.bytes) (hops p.frame.bytes + 1) (fate i stamp p)
-          (said i (stamp + stamps (fate i stamp p)) ls)
-          (fate_does i ok any any stamp p framed e fine (λ c h at. tt) (λ s d a on. tt))
-          (said_keeps (stamp + stamps (fate i stamp p)) ls made) in
+          let all = keeps_more (body p.frame.bytes) (hops p.frame.bytes + 1) (fate i stamp p) fs
+          (fate_does i ok any any stamp p framed e fine (λ c h at. tt) (λ s d a on. tt)) more in
           record {
             adds = λ b some.
                 let h = all.adds b some in
@@ -130,27 +128,25 @@ module _ (i : Internet) (ok : Passes i) where
             right = all.right;
             hops_left = all.hops_left;
             framed = all.framed;
-            ends_none = all.ends_none;
-            numbered = all.numbered;
           }
       by false e =
           let none : fate i stamp p ≡ [] = ap (λ b. cond b (fate_by i stamp p.seat.station p
           (hand i p.seat.station (target p.frame.bytes).net)) []) e in
-          let same : stamp + 0 ≡ stamp = omega arith in
-          subst (λ es. Keeps stamp (owed_by p) (es ++ said i (stamp + stamps es) ls)) (sym none)
-          (subst (λ n. Keeps stamp (owed_by p) (said i n ls)) (sym same)
-          (let rest = said_keeps stamp ls made in
-          record {
+          subst (λ es. Keeps (owed_by p) (es ++ fs)) (sym none) (record {
             adds = λ b some.
-                let h = rest.adds b some in
+                let h = more.adds b some in
                 let owed = ap (λ v. one (v && same_bytes b (body p.frame.bytes))) e in
                 omega (arith, h, owed);
-            right = rest.right;
-            hops_left = rest.hops_left;
-            framed = rest.framed;
-            ends_none = rest.ends_none;
-            numbered = rest.numbered;
-          }))
+            right = more.right;
+            hops_left = more.hops_left;
+            framed = more.framed;
+          })
+
+  pub handled_keeps : (n : ℕ) (p : Pair) (ls : List Leg) (es : List Entry) → Handled i n p ls es → Framed p.frame.bytes → HopsFine i p
+      → Each (IsMade i) ls → Keeps (owed_by p) es
+  handled_keeps n p ls es handled framed fine made =
+      subst (Keeps (owed_by p)) (sym handled.whole) (handled_by handled.stamp p handled.rest framed fine
+      (said_keeps (handled.stamp + stamps (fate i handled.stamp p)) ls handled.rest handled.said made))
 
   -- The invariant of a run.
   pub record Run (t : List Entry) : Type 0 where
@@ -158,56 +154,56 @@ module _ (i : Internet) (ok : Passes i) where
     pub right : Each (IsRight i) t
     pub hops_left : Each (HopsFine i) (pairs (cable_seats i) t)
     pub framed : Each (λ p. Framed p.frame.bytes) (pairs (cable_seats i) t)
-    pub below : Each (EndsBelow (stamps t)) t
-    pub numbered : AreNumbered 0 t
 
-  -- Adds entries that end no pair.
-  pub run_more : (t es : List Entry) (owed : List ℕ → ℕ) → Keeps (stamps t) owed es
+  -- Adds entries that end no pair, with new stamps.
+  run_more : (t es : List Entry) (owed : List ℕ → ℕ) → Keeps owed es → Each EndsNone es → Rises (next_stamp t) es
+      → Each (EndsBelow (next_stamp t)) t
       → ((b : List ℕ) → (target b).net ≢ 0 → sent b t ≡ count (is_ended b) t + under_way i b t + owed b)
       → Each (IsRight i) t → Each (HopsFine i) (pairs (cable_seats i) t) → Each (λ p. Framed p.frame.bytes) (pairs (cable_seats i) t)
-      → Each (EndsBelow (stamps t)) t → AreNumbered 0 t → Run (t ++ es)
+      → Run (t ++ es)
   unfolding copies
-  run_more t es owed new balance right hops framed below numbered = record {
+  run_more t es owed keeps none new below balance right hops framed = record {
     balance = λ b some.
         let old = balance b some in
-        let more = new.adds b some in
+        let more = keeps.adds b some in
         let gone = count-append (is_sent b) t es in
         let ended = count-append (is_ended b) t es in
         let on : under_way i b (t ++ es) ≡ under_way i b t + copies i b es =
-        pending_more (cable_seats i) (one_seat i ok) (carries i b) t es below new.ends_none new.numbered in
+        pending_rises (cable_seats i) (one_seat i ok) (carries i b) t es (next_stamp t) below none new in
         omega (arith, old, more, gone, ended, on);
-    right = each-append (IsRight i) t es right new.right;
-    hops_left = each_pair (HopsFine i) t es hops new.hops_left;
-    framed = each_pair (λ p. Framed p.frame.bytes) t es framed new.framed;
-    below =
-        let many = count-append is_put t es in
-        each-append (EndsBelow (stamps (t ++ es))) t es
-        (each_more (EndsBelow (stamps t)) (EndsBelow (stamps (t ++ es))) t
-        (λ e h. below_more (stamps t) (stamps (t ++ es)) (omega (arith, many)) e h) below)
-        (each_more EndsNone (EndsBelow (stamps (t ++ es))) es (λ e h. none_below (stamps (t ++ es)) e h) new.ends_none);
-    numbered = numbered-append 0 t es numbered (subst (λ n. AreNumbered n es) (omega arith) new.numbered);
+    right = each-append (IsRight i) t es right keeps.right;
+    hops_left = each_pair (HopsFine i) t es hops keeps.hops_left;
+    framed = each_pair (λ p. Framed p.frame.bytes) t es framed keeps.framed;
   }
 
   -- The invariant of the empty transcript.
   none_yet : Run []
-  none_yet = record { balance = λ b some. refl; right = tt; hops_left = tt; framed = tt; below = tt; numbered = tt }
+  none_yet = record { balance = λ b some. refl; right = tt; hops_left = tt; framed = tt }
+
+  -- What is known of a pair of a run.
+  pub record Known (p : Pair) : Type 0 where
+    pub framed : Framed p.frame.bytes
+    pub fine : HopsFine i p
+
+  -- The pairs of a run, by their places among the pending ones.
+  pub known : (t : List Entry) (p : Pair) (k : ℕ) → Run t → At (pending (cable_seats i) t) k p → Known p
+  known t p k r at =
+      let w = filter_at (λ q. not (was_ended t q)) (pairs (cable_seats i) t) k p at in
+      record {
+        framed = each_at (λ q. Framed q.frame.bytes) (pairs (cable_seats i) t) w.0 p w.1 r.framed;
+        fine = each_at (HopsFine i) (pairs (cable_seats i) t) w.0 p w.1 r.hops_left;
+      }
 
   -- The invariant after a station took a frame.
-  run_took : (t : List Entry) (p : Pair) (k : ℕ) (ls : List Leg) → Run t → At (pending (cable_seats i) t) k p → Each (IsMade i) ls
-      → Run (t ++ Took p.frame.stamp p.seat.station ∷ handled i (stamps t) p ls)
-  run_took t p k ls r at made =
+  run_took : (t : List Entry) (p : Pair) (es : List Entry) → IsRising i t → Run t → Contains (pending (cable_seats i) t) p
+      → Keeps (owed_by p) es → Each EndsNone es → Rises (next_stamp t) es → Run (t ++ Took p.frame.stamp p.seat.station ∷ es)
+  run_took t p es rising r there keeps none new =
       let took = Took p.frame.stamp p.seat.station in
-      let w = filter_at (λ q. not (was_ended t q)) (pairs (cable_seats i) t) k p at in
-      let framed = each_at (λ q. Framed q.frame.bytes) (pairs (cable_seats i) t) w.0 p w.1 r.framed in
-      let fine = each_at (HopsFine i) (pairs (cable_seats i) t) w.0 p w.1 r.hops_left in
-      let stamp = each_at (λ q. q.frame.stamp < 0 + stamps t) (pairs (cable_seats i) t) w.0 p w.1
-      (stamps_below (cable_seats i) 0 t r.numbered) in
-      let once = numbered_once 0 t r.numbered in
-      let less = λ (b : List ℕ). pending_less (cable_seats i) (one_seat i ok) (carries i b) t p k once at in
-      let few : stamps (t ++ took ∷ []) ≡ stamps t = let h = count-append is_put t (took ∷ []) in omega (arith, h) in
-      let new = handled_keeps (stamps (t ++ took ∷ [])) p ls framed fine made in
-      let all : Run ((t ++ took ∷ []) ++ handled i (stamps (t ++ took ∷ [])) p ls) =
-      run_more (t ++ took ∷ []) (handled i (stamps (t ++ took ∷ [])) p ls) (owed_by p) new
+      let at = contained_at (pending (cable_seats i) t) p there in
+      let less = λ (b : List ℕ). pending_less (cable_seats i) (one_seat i ok) (carries i b) t p at.0 (rising_once i t rising) at.1 in
+      let all : Run ((t ++ took ∷ []) ++ es) =
+      run_more (t ++ took ∷ []) es (owed_by p) keeps none (subst (λ n. Rises n es) (sym (next_after t took)) new)
+      (took_below i t p rising there)
       (λ b some.
       let old = r.balance b some in
       let gone = count-append (is_sent b) t (took ∷ []) in
@@ -215,27 +211,23 @@ module _ (i : Internet) (ok : Passes i) where
       let on = less b in
       omega (arith, old, gone, ended, on))
       (each-append (IsRight i) t (took ∷ []) r.right (tt, tt)) (each_pair (HopsFine i) t (took ∷ []) r.hops_left tt)
-      (each_pair (λ q. Framed q.frame.bytes) t (took ∷ []) r.framed tt)
-      (each-append (EndsBelow (stamps (t ++ took ∷ []))) t (took ∷ [])
-      (each_more (EndsBelow (stamps t)) (EndsBelow (stamps (t ++ took ∷ []))) t
-      (λ e h. below_more (stamps t) (stamps (t ++ took ∷ [])) (omega (arith, few)) e h) r.below)
-      ((omega (arith, few, stamp)), tt))
-      (numbered-append 0 t (took ∷ []) r.numbered (tt, tt)) in
-      subst (λ n. Run (t ++ took ∷ handled i n p ls)) few
-      (subst Run (append_assoc t (took ∷ []) (handled i (stamps (t ++ took ∷ [])) p ls)) all)
+      (each_pair (λ q. Framed q.frame.bytes) t (took ∷ []) r.framed tt) in
+      subst Run (append_assoc t (took ∷ []) es) all
 
-  event : (t block : List Entry) → Block i t block → Run t → Run (t ++ block)
-  event t block (Sends l made own) r =
-      run_more t (said i (stamps t) (l ∷ [])) nothing (said_keeps (stamps t) (l ∷ []) (made, tt))
-      (λ b some. let h = r.balance b some in omega (arith, h)) r.right r.hops_left r.framed r.below r.numbered
-  event t block (Takes p ls there made its answers) r =
+  event : (t block : List Entry) → RisingBlock i t block → IsRising i t → Run t → Run (t ++ block)
+  event t block (SendsOne l es made own said) rising r =
+      run_more t es nothing (said_keeps (next_stamp t) (l ∷ []) es said (made, tt)) (said_ends_none i (next_stamp t) (l ∷ []) es said)
+      (said_rises i (next_stamp t) (l ∷ []) es said) (rising_below i t rising)
+      (λ b some. let h = r.balance b some in omega (arith, h)) r.right r.hops_left r.framed
+  event t block (TakesOne p ls es there made its answers handled) rising r =
       let at = contained_at (pending (cable_seats i) t) p there in
-      run_took t p at.0 ls r at.1 made
+      let q = known t p at.0 r at.1 in
+      run_took t p es rising r there (handled_keeps (next_stamp t) p ls es handled q.framed q.fine made)
+      (handled_ends_none i (next_stamp t) p ls es handled) (handled_rises i (next_stamp t) p ls es handled)
+
+  pub rising_run : (t : List Entry) → IsRising i t → Run t
+  rising_run t Starts = none_yet
+  rising_run t (GoesOn front block rising b) = event front block b rising (rising_run front rising)
 
   pub run_is : (t : List Entry) → IsLegal i t → Run t
-  run_is t Begins = none_yet
-  run_is t (Goes front block legal b) = event front block b (run_is front legal)
-
--- The frames of a legal transcript are numbered, and it holds no datagram.
-pub legal_numbered : (i : Internet) (t : List Entry) → Passes i → IsLegal i t → AreNumbered 0 t
-legal_numbered i t ok legal = (run_is i ok t legal).numbered
+  run_is t legal = rising_run t (legal_rises i t legal)

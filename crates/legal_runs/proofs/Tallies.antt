@@ -1,6 +1,6 @@
 -- Counts the lookups and forward requests that answers make.
 use Rattle.std.proofs.Common.{◌≡◌, ◌≢◌, ℕ, ◌+◌, ◌<◌, Bool, true, false, not, ◌&&◌, ◌==◌, List, [], ◌∷◌, ◌++◌, Some}
-use Rattle.std.proofs.Common.{length, inl, inr, refl, sym, ap, ◌∙◌, subst, arith, lt-ltb}
+use Rattle.std.proofs.Common.{append-nil, length, inl, inr, refl, sym, ap, ◌∙◌, subst, arith, lt-ltb}
 use Rattle.std.specs.List.{AllByRecursion as Each}
 use Rattle.std.proofs.lemmas.Bool.{and_left, and_right, ne_eqb}
 use Rattle.at_base.specs.Address.{same_address}
@@ -21,8 +21,8 @@ use Rattle.cable_model.specs.Transcript.{Entry, Sent, count, one, stamps}
 use Rattle.cable_model.proofs.Counting.{count-append}
 use Rattle.cable_model.proofs.Pairs.{pairs-append}
 use Rattle.legal_runs.specs.Answers.{Expands, IsForward, IsLookup, IsMade, is_other}
-use Rattle.legal_runs.specs.Legal.{said}
 use Rattle.legal_runs.specs.Legs.{Leg, is_copy, is_datagram, is_unicast, leg, leg_bytes}
+use Rattle.legal_runs.specs.Losses.{Another, Nothing, Said}
 use Rattle.legal_runs.specs.Lookups.{forwarded, is_asked, is_home, is_request, looks, seeks, waits}
 use Rattle.legal_runs.specs.Requests.{is_broadcast, is_forward, is_lookup, key_in, request, zone_of}
 use Rattle.legal_runs.specs.Stations.{cable_seat, cable_seats, has_address, is_router}
@@ -31,6 +31,7 @@ use Rattle.legal_runs.proofs.Frames.{body_stays, whole}
 use Rattle.legal_runs.proofs.Legs.{has_no_other, to_group}
 use Rattle.legal_runs.proofs.Listing.{forward_alone, lookup_alone, other_alone}
 use Rattle.legal_runs.proofs.Requested.{OnePair, of_no_lookup, of_none, of_unasked, via_one}
+use Rattle.legal_runs.proofs.Rising.{said_one}
 use Rattle.legal_runs.proofs.Runs.{any, made_does}
 use Rattle.legal_runs.proofs.Seated.{listed_some}
 
@@ -207,49 +208,52 @@ module _ (i : Internet) where
           no_wait = waits_none any l.body l.hops (leg i stamp l) of k (no_request l.body alone.0);
         }
 
-    one_leg : (k : List ℕ) (c stamp n : ℕ) (l : Leg) → is_request i l.body ≡ false → Tally k c n (leg i stamp l) → (m : ℕ) (ls : List Leg)
-        → Tally k c m (said i (stamp + stamps (leg i stamp l)) ls) → Tally k c (n + m) (said i stamp (l ∷ ls))
-    one_leg k c stamp n l e t m ls rest =
+    one_leg : (k : List ℕ) (c stamp n : ℕ) (l : Leg) → is_request i l.body ≡ false → Tally k c n (leg i stamp l) → (m : ℕ) (es : List Entry)
+        → Tally k c m es → Tally k c (n + m) (Sent l.station l.body ∷ (leg i stamp l ++ es))
+    one_leg k c stamp n l e t m es rest =
         let same : 0 + (n + m) ≡ n + m = omega arith in
-        subst (λ x. Tally k c x (said i stamp (l ∷ ls))) same
-        (tally-append k c 0 (n + m) (Sent l.station l.body ∷ []) (leg i stamp l ++ said i (stamp + stamps (leg i stamp l)) ls)
-        (silent k c l.station l.body e)
-        (tally-append k c n m (leg i stamp l) (said i (stamp + stamps (leg i stamp l)) ls) t rest))
+        subst (λ x. Tally k c x (Sent l.station l.body ∷ (leg i stamp l ++ es))) same
+        (tally-append k c 0 (n + m) (Sent l.station l.body ∷ []) (leg i stamp l ++ es) (silent k c l.station l.body e)
+        (tally-append k c n m (leg i stamp l) es t rest))
 
     none_said : (k : List ℕ) (c : ℕ) → Tally k c 0 []
     none_said k c = record { found = refl; unasked = refl; no_wait = refl }
 
     -- The answers to a broadcast request.
-    pub expanded : (k : List ℕ) (c stamp : ℕ) (key : List ℕ) (r : ℕ) (cs : List ℕ) (ls : List Leg)
+    pub expanded : (k : List ℕ) (c n : ℕ) (key : List ℕ) (r : ℕ) (cs : List ℕ) (ls : List Leg) (es : List Entry) → Said i n ls es
         → Each (IsMade i) ls → r < length i.routers
-        → Expands i key r cs ls → Tally k c (count (λ d. d == c && same_bytes k key) cs) (said i stamp ls)
-    expanded k c stamp key r [] [] made within h = none_said k c
-    expanded k c stamp key r [] (l ∷ ls) made within h = absurd h
-    expanded k c stamp key r (d ∷ cs) [] made within h = absurd h
-    expanded k c stamp key r (d ∷ cs) (l ∷ ls) made within h =
-        let rest = expanded k c (stamp + stamps (leg i stamp l)) key r cs ls made.1 within h.1 in
-        elim h.0 as (λ _. Tally k c (count (λ d. d == c && same_bytes k key) (d ∷ cs)) (said i stamp (l ∷ ls))) [
+        → Expands i key r cs ls → Tally k c (count (λ d. d == c && same_bytes k key) cs) es
+    expanded k c n key r [] ls es (Nothing m) made within h = none_said k c
+    expanded k c n key r [] ls es (Another m stamp l more fs le said) made within h = absurd h
+    expanded k c n key r (d ∷ cs) ls es (Nothing m) made within h = absurd h
+    expanded k c n key r (d ∷ cs) ls es (Another m stamp l more fs le said) made within h =
+        let own = leg i stamp l in
+        let rest = expanded k c (stamp + stamps own) key r cs more fs said made.1 within h.1 in
+        elim h.0 as (λ _. Tally k c (count (λ d. d == c && same_bytes k key) (d ∷ cs)) (Sent l.station l.body ∷ (own ++ fs))) [
           | inl a ↦
               one_leg k c stamp (one (d == c && same_bytes k key)) l (no_request l.body (lookup_alone (request l.body) a.kind).0)
-              (lookup_leg k c stamp key r d l made.0 within a) (count (λ d. d == c && same_bytes k key) cs) ls rest
+              (lookup_leg k c stamp key r d l made.0 within a) (count (λ d. d == c && same_bytes k key) cs) fs rest
           | inr b ↦
               one_leg k c stamp (one (d == c && same_bytes k key)) l (no_request l.body (forward_alone (request l.body) b.kind).0)
-              (forward_leg k c stamp key r d l made.0 within b) (count (λ d. d == c && same_bytes k key) cs) ls rest
+              (forward_leg k c stamp key r d l made.0 within b) (count (λ d. d == c && same_bytes k key) cs) fs rest
         ]
 
     -- The answer to a forward request.
-    pub looked_up : (k : List ℕ) (c stamp : ℕ) (key : List ℕ) (r d : ℕ) (l : Leg) → IsMade i l → r < length i.routers → IsLookup i key r d l
-        → Tally k c (one (d == c && same_bytes k key) + 0) (said i stamp (l ∷ []))
-    looked_up k c stamp key r d l made within h =
-        one_leg k c stamp (one (d == c && same_bytes k key)) l (no_request l.body (lookup_alone (request l.body) h.kind).0)
-        (lookup_leg k c stamp key r d l made within h) 0 [] (none_said k c)
+    pub looked_up : (k : List ℕ) (c n : ℕ) (key : List ℕ) (r d : ℕ) (l : Leg) (es : List Entry) → Said i n (l ∷ []) es → IsMade i l
+        → r < length i.routers → IsLookup i key r d l → Tally k c (one (d == c && same_bytes k key) + 0) es
+    looked_up k c n key r d l es said made within h =
+        let w = said_one i n l es said in
+        subst (Tally k c (one (d == c && same_bytes k key) + 0))
+        (ap (λ x. Sent l.station l.body ∷ x) (append-nil (leg i w.stamp l)) ∙ sym w.all)
+        (one_leg k c w.stamp (one (d == c && same_bytes k key)) l (no_request l.body (lookup_alone (request l.body) h.kind).0)
+        (lookup_leg k c w.stamp key r d l made within h) 0 [] (none_said k c))
 
     -- Answers that are no requests.
-    pub others_said : (k : List ℕ) (c stamp : ℕ) (ls : List Leg) → Each (IsMade i) ls → Each (λ l. is_other l.body ≡ true) ls
-        → Tally k c 0 (said i stamp ls)
-    others_said k c stamp [] made h = none_said k c
-    others_said k c stamp (l ∷ ls) made h =
+    pub others_said : (k : List ℕ) (c n : ℕ) (ls : List Leg) (es : List Entry) → Said i n ls es → Each (IsMade i) ls
+        → Each (λ l. is_other l.body ≡ true) ls → Tally k c 0 es
+    others_said k c n ls es (Nothing m) made h = none_said k c
+    others_said k c n ls es (Another m stamp l more fs le said) made h =
         let e = other_alone l.body h.0 in
         let none = no_request l.body e.0 in
-        one_leg k c stamp 0 l none (quiet any l.body l.hops (leg i stamp l) (leg_of stamp l made.0) k c e.2 e.1 none) 0 ls
-        (others_said k c (stamp + stamps (leg i stamp l)) ls made.1 h.1)
+        one_leg k c stamp 0 l none (quiet any l.body l.hops (leg i stamp l) (leg_of stamp l made.0) k c e.2 e.1 none) 0 fs
+        (others_said k c (stamp + stamps (leg i stamp l)) more fs said made.1 h.1)

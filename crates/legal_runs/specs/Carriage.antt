@@ -1,5 +1,5 @@
 -- Which routers carried a datagram.
-use Rattle.std.specs.Prelude.{◌≡◌, ℕ, ◌≤◌, Bool, true, false, List, [], ◌∷◌, ◌++◌, Option, Some, None, length, slice_get}
+use Rattle.std.specs.Prelude.{◌≡◌, ℕ, ◌≤◌, ◌==◌, Bool, true, false, cond, List, [], ◌∷◌, ◌++◌, Option, Some, None, length}
 use Rattle.ddp.specs.Bodies.{hops, target}
 use Rattle.table_image.specs.Internet.{Internet}
 use Rattle.audit.specs.Routing.{Hand, Here, On, Nowhere, hand}
@@ -7,10 +7,21 @@ use Rattle.audit.specs.Walks.{IsWalk}
 use Rattle.cable_model.specs.Transcript.{Entry, Frame, Sent, Put, Took, Reached, Dropped, Lost, Hold}
 use Rattle.legal_runs.specs.Stations.{is_on}
 
+-- A value that belongs to the frame with this stamp.
+pub record Stamped (X : Type 0) : Type 0 where
+  pub stamp : ℕ
+  pub value : X
+
+-- The first value that belongs to the frame with this stamp, if there is one. No two frames of a legal transcript have
+-- the same stamp.
+abbrev pub of_stamp : {X : Type 0} → ℕ → List (Stamped X) → Option X
+of_stamp stamp [] = None
+of_stamp stamp (s ∷ rest) = cond (s.stamp == stamp) (Some s.value) (of_stamp stamp rest)
+
 -- The routers that carried the datagram that is being handled, and those that carried each frame, by its stamp.
 pub record Chains : Type 0 where
   pub now : List ℕ
-  pub frames : List (List ℕ)
+  pub frames : List (Stamped (List ℕ))
 
 -- The chain of a frame, empty if no frame has the stamp.
 abbrev pub chain_in : Option (List ℕ) → List ℕ
@@ -21,8 +32,8 @@ chain_in (Some chain) = chain
 -- that of the frame followed by the station that took it.
 abbrev pub after : Entry → Chains → Chains
 after (Sent station body) w = record { now = []; frames = w.frames }
-after (Took stamp station) w = record { now = chain_in (slice_get w.frames stamp) ++ station ∷ []; frames = w.frames }
-after (Put frame) w = record { now = w.now; frames = w.frames ++ w.now ∷ [] }
+after (Took stamp station) w = record { now = chain_in (of_stamp stamp w.frames) ++ station ∷ []; frames = w.frames }
+after (Put frame) w = record { now = w.now; frames = w.frames ++ record { stamp = frame.stamp; value = w.now } ∷ [] }
 after (Reached cable station how body) w = w
 after (Dropped router cause body) w = w
 after (Lost stamp) w = w
@@ -60,10 +71,11 @@ IsOnSome i station (Some cable) = is_on i station cable ≡ true
 
 -- A station that takes a frame is on the cable of that frame; `cables` has the cables of the earlier frames, by their
 -- stamps.
-abbrev pub AreTakenThere : Internet → List ℕ → List Entry → Type 0
+abbrev pub AreTakenThere : Internet → List (Stamped ℕ) → List Entry → Type 0
 AreTakenThere i cables [] = Unit {0}
-AreTakenThere i cables (Put frame ∷ es) = AreTakenThere i (cables ++ frame.cable ∷ []) es
-AreTakenThere i cables (Took stamp station ∷ es) = IsOnSome i station (slice_get cables stamp) × AreTakenThere i cables es
+AreTakenThere i cables (Put frame ∷ es) =
+    AreTakenThere i (cables ++ record { stamp = frame.stamp; value = frame.cable } ∷ []) es
+AreTakenThere i cables (Took stamp station ∷ es) = IsOnSome i station (of_stamp stamp cables) × AreTakenThere i cables es
 AreTakenThere i cables (Sent station body ∷ es) = AreTakenThere i cables es
 AreTakenThere i cables (Reached cable station how body ∷ es) = AreTakenThere i cables es
 AreTakenThere i cables (Dropped router cause body ∷ es) = AreTakenThere i cables es

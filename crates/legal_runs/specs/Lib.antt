@@ -3,9 +3,14 @@ pub mod Legs
 pub mod Requests
 pub mod Answers
 pub mod Legal
+pub mod Losses
+pub mod LossyRuns
 pub mod Counts
 pub mod Carriage
 pub mod Lookups
+pub mod LossCounts
 pub mod Example
 pub mod LookupExample
+pub mod LossExample
 pub mod Illegal
+pub mod IllegalLosses

@@ -8,8 +8,8 @@ use Rattle.ddp.specs.Bodies.{body, target}
 use Rattle.table_image.specs.Internet.{Internet}
 use Rattle.audit.specs.Routing.{home}
 use Rattle.table_image.specs.Seats.{seats}
-use Rattle.cable_model.specs.Pending.{Pair, pairs, pending, was_ended}
-use Rattle.cable_model.specs.Transcript.{Entry, Sent, Put, count}
+use Rattle.cable_model.specs.Pending.{Pair, pairs, pending}
+use Rattle.cable_model.specs.Transcript.{Entry, Sent, Put, Took, count}
 use Rattle.legal_runs.specs.Answers.{ends_at}
 use Rattle.legal_runs.specs.Legs.{is_copy, is_unicast}
 use Rattle.legal_runs.specs.Requests.{request, is_broadcast, is_forward, is_lookup, key_in, listing, is_among, zone_of}
@@ -77,9 +77,18 @@ asked i k t = count (is_asked i k) t
 abbrev pub waiting : Internet → List ℕ → List Entry → ℕ
 waiting i k t = count (waits i k) (pending (cable_seats i) t)
 
+-- The entry says that this station took the frame with this stamp.
+abbrev pub is_taken : ℕ → ℕ → Entry → Bool
+is_taken stamp station (Took taken by) = taken == stamp && by == station
+is_taken stamp station _ = false
+
+-- One of the entries says that the pair's station took the pair's frame.
+abbrev pub was_taken : List Entry → Pair → Bool
+was_taken t p = list_any (is_taken p.frame.stamp p.seat.station) t
+
 -- How many broadcast requests with this key were taken by the router at which they end.
 abbrev pub taken : Internet → List ℕ → List Entry → ℕ
-taken i k t = count (λ p. was_ended t p && ends_so i k p) (pairs (cable_seats i) t)
+taken i k t = count (λ p. was_taken t p && ends_so i k p) (pairs (cable_seats i) t)
 
 -- How many lookups with this key were put on the cable.
 abbrev pub lookups : Internet → List ℕ → ℕ → List Entry → ℕ
