@@ -1,0 +1,12 @@
+pub mod Fates
+pub mod Echo
+pub mod Again
+pub mod WithMappings
+pub mod Nobody
+pub mod FullRing
+pub mod PlainEcho
+pub mod Mended
+pub mod Follows
+pub mod Owned
+pub mod Walks
+pub mod Refused

@@ -1,0 +1,9 @@
+pub mod Mapped
+pub mod Fates
+pub mod Resolved
+pub mod ResolvedRuns
+pub mod HeldCounts
+pub mod HeldChains
+pub mod Plain
+pub mod Example
+pub mod Illegal

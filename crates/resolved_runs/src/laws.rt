@@ -1,0 +1,117 @@
+//! Laws of transcripts in which stations resolve addresses, for use by other crates. The functions
+//! do nothing: each law is the function's ensures clause.
+
+ghost use Rattle.std.specs.Prelude.{◌≡◌, ◌++◌, ◌∷◌, [], List, drop, length, take, ℕ};
+ghost use Rattle.table_image.specs.Internet.{Internet};
+ghost use Rattle.cable_model.specs.Holdings.{still_held};
+ghost use Rattle.cable_model.specs.Pending.{Pair, pending};
+ghost use Rattle.legal_runs.specs.Counts.{reached, sent, under_way};
+ghost use Rattle.legal_runs.specs.Example.{echo, echo_reply, echo_request, framed, to_nobody};
+ghost use Rattle.legal_runs.specs.Example.{plain as plain_to};
+ghost use Rattle.legal_runs.specs.Legs.{fate, leg};
+ghost use Rattle.legal_runs.specs.LossCounts.{lost};
+ghost use Rattle.legal_runs.specs.LossyRuns.{IsLegalWithLosses};
+ghost use Rattle.legal_runs.specs.Stations.{cable_seats};
+ghost use Rattle.resolved_runs.specs.Example as example;
+ghost use Rattle.resolved_runs.specs.Example.{echo_again, full_ring, plain_echo, resolved_echo};
+ghost use Rattle.resolved_runs.specs.Example.{resolved_to_nobody, ring_released, unmapped};
+ghost use Rattle.resolved_runs.specs.Fates.{fate_with};
+ghost use Rattle.resolved_runs.specs.HeldCounts.{given_up, under_way_or_held};
+ghost use Rattle.resolved_runs.specs.Illegal.{answered_for_another, asked_again, asked_for_each};
+ghost use Rattle.resolved_runs.specs.Illegal.{given_up_put, held_though_mapped};
+ghost use Rattle.resolved_runs.specs.Illegal.{learnt_from_request, new_stamp, one_released};
+ghost use Rattle.resolved_runs.specs.Illegal.{put_twice, put_unmapped, reached_again};
+ghost use Rattle.resolved_runs.specs.Illegal.{second_given_up};
+ghost use Rattle.resolved_runs.specs.Plain.{plain};
+ghost use Rattle.resolved_runs.specs.ResolvedRuns.{IsLegalResolved};
+
+/// Where every hardware address is known, the fate of a datagram is that of a plain run.
+pub fn plain_legs_have_plain_fates()
+    ensures { (i : Internet) (stamp : ℕ) (p : Pair) → fate_with i (leg i stamp) p ≡ fate i stamp p }
+{}
+
+/// Where no station has a mapping, the echo over three cables is legal: each of its two datagrams
+/// is held by each of its three stations, and reaches its destination's cable once. A second echo
+/// needs no requests.
+pub fn the_resolved_echo_is_legal()
+    ensures legal { IsLegalResolved unmapped resolved_echo }
+    ensures entries { length resolved_echo ≡ 46 }
+    ensures asked { (sent (echo_request 0) resolved_echo ≡ 1)
+        × (reached (echo_request 0) 2 resolved_echo ≡ 1) }
+    ensures replied { (sent (echo_reply 0) resolved_echo ≡ 1)
+        × (reached (echo_reply 0) 0 resolved_echo ≡ 1) }
+    ensures done { (under_way_or_held unmapped (echo_request 0) resolved_echo ≡ 0)
+        × (under_way_or_held unmapped (echo_reply 0) resolved_echo ≡ 0) }
+    ensures again { IsLegalResolved unmapped (resolved_echo ++ echo_again) }
+    ensures entries_again { length (resolved_echo ++ echo_again) ≡ 62 }
+{}
+
+/// Where every neighbour is mapped, the plain echo is legal.
+pub fn the_mapped_echo_is_legal()
+    ensures { IsLegalResolved example.mapped echo }
+{}
+
+/// A datagram to an address that no station has is legal: the router on its cable holds it, and
+/// nothing is pending.
+pub fn the_absent_are_held()
+    ensures legal { IsLegalResolved unmapped resolved_to_nobody }
+    ensures entries { length resolved_to_nobody ≡ 12 }
+    ensures reached { reached (plain_to 0 10 9) 0 resolved_to_nobody ≡ 1 }
+    ensures held { length (still_held resolved_to_nobody) ≡ 1 }
+    ensures quiet { pending (cable_seats unmapped) resolved_to_nobody ≡ [] }
+{}
+
+/// Seventeen datagrams that a node sends before its router answers are legal: sixteen are held, the
+/// oldest is given up, and one request is pending. Its response releases the sixteen.
+pub fn a_full_ring_gives_up_its_oldest()
+    ensures legal { IsLegalResolved unmapped full_ring }
+    ensures entries { length full_ring ≡ 36 }
+    ensures counts { (sent (echo_request 0) full_ring ≡ 17)
+        × (under_way_or_held unmapped (echo_request 0) full_ring ≡ 16)
+        × (given_up unmapped (echo_request 0) full_ring ≡ 1) }
+    ensures held { length (still_held full_ring) ≡ 16 }
+    ensures pending { length (pending (cable_seats unmapped) full_ring) ≡ 1 }
+    ensures released { IsLegalResolved unmapped ring_released }
+    ensures none_held { still_held ring_released ≡ [] }
+{}
+
+/// The plain transcript of the echo is legal with losses: each frame stands where its datagram was
+/// held. That of a datagram for an absent station is as ever, and a plain transcript stays as it
+/// is. In that of the full ring as many copies are under way and lost as were held and given up.
+pub fn examples_have_plain_transcripts()
+    ensures echo { plain unmapped resolved_echo ≡ plain_echo }
+    ensures legal { IsLegalWithLosses unmapped plain_echo }
+    ensures nobody { plain unmapped resolved_to_nobody ≡ to_nobody }
+    ensures mapped { plain example.mapped echo ≡ echo }
+    ensures ring { (sent (echo_request 0) (plain unmapped full_ring) ≡ 17)
+        × (under_way unmapped (echo_request 0) (plain unmapped full_ring) ≡ 16)
+        × (lost unmapped (echo_request 0) (plain unmapped full_ring) ≡ 1) }
+{}
+
+/// Transcripts that are not legal: each has an entry that doesn't follow from those before it. They
+/// have a datagram that reaches its cable once more when it is released; a request for an address
+/// that was asked for, with a further datagram held or without; a response by a station that
+/// doesn't have the address; a response that releases one of two datagrams; a frame with another
+/// stamp than its holding; one that is put twice, or after its datagram was given up; a datagram
+/// that is held although its next station is mapped, or put although it isn't; another datagram
+/// given up than the oldest; and a mapping that is taken from a request.
+pub fn words_exclude_with_resolution()
+    ensures released { (¬ IsLegalResolved unmapped reached_again) × (¬ IsLegalResolved unmapped one_released)
+        × (¬ IsLegalResolved unmapped new_stamp) × (¬ IsLegalResolved unmapped put_twice) }
+    ensures asked { (¬ IsLegalResolved unmapped asked_for_each) × (¬ IsLegalResolved unmapped asked_again) }
+    ensures answered { ¬ IsLegalResolved example.mapped answered_for_another }
+    ensures known { (¬ IsLegalResolved example.mapped held_though_mapped) × (¬ IsLegalResolved unmapped put_unmapped)
+        × (¬ IsLegalResolved unmapped learnt_from_request) }
+    ensures shed { (¬ IsLegalResolved unmapped given_up_put) × (¬ IsLegalResolved unmapped second_given_up) }
+{}
+
+/// Four of the transcripts of `words_exclude_with_resolution`, which are no beginnings of the
+/// examples, are legal without their mistakes: the datagram reaches its cable once, both datagrams
+/// are released, one request is enough for them, and the printer doesn't answer.
+pub fn they_are_legal_without_mistakes()
+    ensures reached { IsLegalResolved unmapped (take 7 reached_again ++ drop 8 reached_again) }
+    ensures released { IsLegalResolved unmapped
+        (one_released ++ framed 2 0 2 1 (echo_request 0) ∷ []) }
+    ensures asked { IsLegalResolved unmapped (take 5 asked_for_each) }
+    ensures answered { IsLegalResolved example.mapped (take 9 answered_for_another) }
+{}

@@ -1,0 +1,10 @@
+//! Which transcripts of an internet with frozen tables are legal where stations resolve addresses.
+#![tactic(auto)]
+
+mod laws;
+
+pub use laws::{
+    a_full_ring_gives_up_its_oldest, examples_have_plain_transcripts, plain_legs_have_plain_fates,
+    the_absent_are_held, the_mapped_echo_is_legal, the_resolved_echo_is_legal,
+    they_are_legal_without_mistakes, words_exclude_with_resolution,
+};
