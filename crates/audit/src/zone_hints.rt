@@ -219,3 +219,20 @@ impl ZoneHints {
         }
     }
 }
+
+/// The index of the zone with the name, ignoring case, if there is one: by the hints, if they are
+/// made.
+pub(crate) fn find(
+    hints: Option<&ZoneHints>,
+    cable: usize,
+    zones: &[Name],
+    name: &Name,
+) -> Option<usize>
+    requires { has_double zones.now ≡ false }
+    ensures { result ≡ index_of (same_name name.now) zones.now }
+{
+    match hints {
+        Some(hints) => hints.find(cable, zones, name),
+        None => search(zones, name),
+    }
+}

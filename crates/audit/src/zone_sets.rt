@@ -7,7 +7,7 @@ ghost use Rattle.at_base.specs.Limits.{max_zones};
 ghost use Rattle.audit.specs.Found.{is_found, all_found};
 ghost use Rattle.audit.specs.ZoneLists.{has_double, are_among};
 
-use crate::zone_hints::ZoneHints;
+use crate::zone_hints::{ZoneHints, find};
 use at_base::Name;
 use at_base::limits::MAX_ZONES;
 use table_image::Image;
@@ -98,19 +98,21 @@ pub(crate) fn are_zones_of(
     if are_spelled_alike(names, zones) {
         return true;
     }
-    have_all(ready(hints, image), cable, zones, names)
+    if hints.is_none() {
+        make(hints, image);
+    }
+    have_all(hints.as_ref(), cable, zones, names)
 }
 
-/// The hints, which are made now if there are none yet.
-fn ready<'a>(hints: &'a mut Option<ZoneHints>, image: &Image) -> &'a ZoneHints {
-    match hints {
-        Some(hints) => hints,
-        None => hints.insert(ZoneHints::of(image)),
-    }
+/// Makes the hints. It is a function of its own, since each call of a function pays for the size of
+/// its locals.
+#[inline(never)]
+fn make(hints: &mut Option<ZoneHints>, image: &Image) {
+    *hints = Some(ZoneHints::of(image));
 }
 
 // Whether the names are those of a cable's zones, each once.
-fn have_all(hints: &ZoneHints, cable: usize, zones: &[Name], names: &[Name]) -> bool
+fn have_all(hints: Option<&ZoneHints>, cable: usize, zones: &[Name], names: &[Name]) -> bool
     requires once { has_double zones.now ≡ false }
     requires few { length zones.now ≤ max_zones }
     ensures { result
@@ -119,7 +121,7 @@ fn have_all(hints: &ZoneHints, cable: usize, zones: &[Name], names: &[Name]) -> 
 {
     let mut found = Found::none();
     for name in names {
-        match hints.find(cable, zones, name) {
+        match find(hints, cable, zones, name) {
             Some(k) => {
                 if found.has(k) {
                     return false;
