@@ -276,10 +276,18 @@ class Audit:
             if lost or node.zone.upper() not in folded(self.image.cables[node.cable][2]):
                 yield f"node {k}"
 
+    def mappings_true(self):
+        owners = [(f"router {r} port {p}", port) for r, router in enumerate(self.image.routers, 1) for p, port in enumerate(router.ports, 1)]
+        owners += [(f"node {k}", (node.cable, node.address, node.hardware, node.mappings)) for k, node in enumerate(self.image.nodes, 1)]
+        stations = {owner[:3] for _, owner in owners}
+        for place, (cable, _, _, mappings) in owners:
+            if any((cable, *mapping) not in stations for mapping in mappings):
+                yield place
+
     def line(self):
         """The verdict line."""
         rules = [self.cables_in_order, self.stations_addressed, self.rows_cover_cables, self.direct_rows_direct, self.distances_fit,
-                 self.next_routers_exist, self.distances_fall, self.zone_lists_agree, self.nodes_served]
+                 self.next_routers_exist, self.distances_fall, self.zone_lists_agree, self.nodes_served, self.mappings_true]
         for number, rule in enumerate(rules, 1):
             place = next(iter(rule()), None)
             if place is not None:

@@ -1,6 +1,7 @@
 -- A rule is kept if a test over the lists says so. The test can be computed for a given internet.
 use Rattle.std.proofs.Common.{◌≡◌, ◌≢◌, ℕ, zero, suc, Bool, true, false, ◌||◌, ◌&&◌, not, if◌then◌else◌, List, [], ◌∷◌, Some, None, refl}
 use Rattle.std.proofs.Common.{sym, ap, ◌∙◌, slice_get, nat_lt, ◌==◌, eqb-true}
+use Rattle.std.specs.List.{list_any}
 use Rattle.std.proofs.lemmas.Bool.{or_parts}
 use Rattle.at_base.specs.declared.error.Place.{Place}
 use Rattle.at_base.specs.declared.error.Place.TheVariants as place
@@ -10,7 +11,7 @@ use Rattle.table_image.specs.Rows.{is_direct}
 use Rattle.table_image.specs.declared.row.Row.{Row}
 use Rattle.table_image.specs.declared.router.Router.{Router}
 use Rattle.audit.specs.Rules.{end_before, bad_cable, c1, bad_port, bad_node, c2, at_row, cable_of, bad_range, lacks_row, c3, port_on}
-use Rattle.audit.specs.Rules.{bad_direct, c4, c5, next_router, is_no_other, c6, bad_step, c7, c8, c9, bad_service, breaks, Passes, Keeps}
+use Rattle.audit.specs.Rules.{bad_direct, c4, c5, next_router, is_no_other, c6, bad_step, c7, c8, c9, c10, bad_service, is_false, breaks, Passes, Keeps}
 use Rattle.audit.specs.ZoneLists.{bad_list, lacks_list}
 use Rattle.audit.proofs.WalkLists.{At}
 
@@ -79,6 +80,11 @@ breaks_eight i =
 
 abbrev pub breaks_nine : Internet → Bool
 breaks_nine i = any_at (λ k. bad_service i) i.nodes
+
+abbrev pub breaks_ten : Internet → Bool
+breaks_ten i =
+    any_at (λ r router. any_at (λ p port. list_any (is_false i port.cable) port.mappings) router.ports) i.routers
+    || any_at (λ k node. list_any (is_false i node.cable) node.mappings) i.nodes
 
 one_kept : (i : Internet) → breaks_one i ≡ false → (p : Place) → c1 i p ≡ false
 one_kept i none (place.Cable zero) = refl
@@ -183,6 +189,20 @@ nine_kept i none (place.Row r k) = refl
 nine_kept i none (place.Missing r k) = refl
 nine_kept i none (place.List r k) = refl
 
+ten_kept : (i : Internet) → breaks_ten i ≡ false → (p : Place) → c10 i p ≡ false
+ten_kept i none (place.Cable k) = refl
+ten_kept i none (place.Port zero p) = refl
+ten_kept i none (place.Port (suc r) zero) = refl
+ten_kept i none (place.Port (suc r) (suc p)) =
+    kept_in (λ (router : Router). router.ports) (λ r router p port. list_any (is_false i port.cable) port.mappings) i.routers
+    (or_parts _ _ none).0 r p
+ten_kept i none (place.Node zero) = refl
+ten_kept i none (place.Node (suc k)) =
+    kept_at (λ k node. list_any (is_false i node.cable) node.mappings) i.nodes (or_parts _ _ none).1 k
+ten_kept i none (place.Row r k) = refl
+ten_kept i none (place.Missing r k) = refl
+ten_kept i none (place.List r k) = refl
+
 -- all rules but C7 are kept
 pub record KeepsOthers (i : Internet) : Type 0 where
   pub one : breaks_one i ≡ false
@@ -193,6 +213,7 @@ pub record KeepsOthers (i : Internet) : Type 0 where
   pub six : breaks_six i ≡ false
   pub eight : breaks_eight i ≡ false
   pub nine : breaks_nine i ≡ false
+  pub ten : breaks_ten i ≡ false
 
 choose : (b x y : Bool) → (b ≡ true → x ≡ false) → (b ≡ false → y ≡ false) → (if b then x else y) ≡ false
 choose true x y f g = f refl
@@ -209,7 +230,8 @@ by_rule i kept rule p seven =
     choose (rule == 6) _ _ (λ _. six_kept i kept.six p) (λ _.
     choose (rule == 7) _ _ seven (λ _.
     choose (rule == 8) _ _ (λ _. eight_kept i kept.eight p) (λ _.
-    choose (rule == 9) _ _ (λ _. nine_kept i kept.nine p) (λ _. refl)))))))))
+    choose (rule == 9) _ _ (λ _. nine_kept i kept.nine p) (λ _.
+    choose (rule == 10) _ _ (λ _. ten_kept i kept.ten p) (λ _. refl))))))))))
 
 pub keeps_others : (i : Internet) → KeepsOthers i → (rule : ℕ) → rule ≢ 7 → Keeps i rule
 keeps_others i kept rule other p = by_rule i kept rule p (λ e. absurd (other (eqb-true rule 7 e)))

@@ -11,14 +11,14 @@ use Rattle.audit.proofs.ExamplePlaces.{keeps_others, passes}
 pub example_passes : Passes three_cables
 example_passes =
     passes three_cables
-    (record { one = refl; two = refl; three = refl; four = refl; five = refl; six = refl; eight = refl; nine = refl }) refl
+    (record { one = refl; two = refl; three = refl; four = refl; five = refl; six = refl; eight = refl; nine = refl; ten = refl }) refl
 
 pub example_walk : IsWalk three_cables 30 0 (1 ∷ []) 2
 example_walk = (1, addr 20 2, refl, refl)
 
 pub loop_keeps_others : (rule : ℕ) → rule ≢ 7 → Keeps pointing_at_each_other rule
 loop_keeps_others = keeps_others pointing_at_each_other
-    (record { one = refl; two = refl; three = refl; four = refl; five = refl; six = refl; eight = refl; nine = refl })
+    (record { one = refl; two = refl; three = refl; four = refl; five = refl; six = refl; eight = refl; nine = refl; ten = refl })
 
 first_hands_on : hand pointing_at_each_other 0 30 ≡ On 1 1 (addr 20 2)
 first_hands_on = refl

@@ -6,6 +6,7 @@ pub mod SeatPlaces
 pub mod SeatUnique
 pub mod ExamplePlaces
 pub mod ExampleWalks
+pub mod ExampleMappings
 pub mod CableOrder
 pub mod Filter
 pub mod Finding
@@ -16,6 +17,8 @@ pub mod RowOrder
 pub mod SideBySide
 pub mod ZonesAgree
 pub mod NodesServed
+pub mod Mapped
+pub mod MappingsTrue
 pub mod RowPlaces
 pub mod RuleOrder
 pub mod SameZones

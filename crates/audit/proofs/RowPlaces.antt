@@ -10,7 +10,7 @@ use Rattle.audit.specs.Firsts.{FirstNumber, FirstPlace}
 use Rattle.audit.specs.Rules.{lacks_row, row_breaks, lack_breaks, breaks_rows}
 use Rattle.audit.specs.declared.rule.Rule.{Rule}
 use Rattle.audit.specs.declared.rule.Rule.TheVariants.{CablesInOrder, StationsAddressed, RowsCoverCables, DirectRowsDirect, DistancesFit}
-use Rattle.audit.specs.declared.rule.Rule.TheVariants.{NextRoutersExist, DistancesFall, ZoneListsAgree, NodesServed}
+use Rattle.audit.specs.declared.rule.Rule.TheVariants.{NextRoutersExist, DistancesFall, ZoneListsAgree, NodesServed, MappingsTrue}
 use Rattle.audit.proofs.Firsts.{on_past}
 
 -- a place with the router or cable number 0 lacks no row
@@ -24,6 +24,7 @@ no_router NextRoutersExist i k = refl
 no_router DistancesFall i k = refl
 no_router ZoneListsAgree i k = refl
 no_router NodesServed i k = refl
+no_router MappingsTrue i k = refl
 
 no_cable : (rule : Rule) (i : Internet) (r : ℕ) → lack_breaks rule i (suc r) zero ≡ false
 no_cable CablesInOrder i r = refl
@@ -35,6 +36,7 @@ no_cable NextRoutersExist i r = refl
 no_cable DistancesFall i r = refl
 no_cable ZoneListsAgree i r = refl
 no_cable NodesServed i r = refl
+no_cable MappingsTrue i r = refl
 
 -- past the last router, no row is lacking
 past_lack : (rule : Rule) (i : Internet) (r k : ℕ) → length i.routers ≤ r → lack_breaks rule i (suc r) (suc k) ≡ false
@@ -47,6 +49,7 @@ past_lack NextRoutersExist i r k past = refl
 past_lack DistancesFall i r k past = refl
 past_lack ZoneListsAgree i r k past = refl
 past_lack NodesServed i r k past = refl
+past_lack MappingsTrue i r k past = refl
 
 -- no place of router r breaks the rule
 abbrev pub Keeps : Rule → Internet → ℕ → Type 0

@@ -1,15 +1,17 @@
 -- Two small internets: one that passes, and one whose routers send a datagram in a loop.
-use Rattle.std.specs.Prelude.{ℕ, true, List, [], ◌∷◌, Some, codes}
+use Rattle.std.specs.Prelude.{ℕ, true, List, [], ◌∷◌, Some, None, codes}
 use Rattle.at_base.specs.declared.address.Addr.{Addr}
 use Rattle.at_base.specs.declared.address.Hw.{Hw}
 use Rattle.rtmp.specs.declared.state.State.TheVariants.{Good}
 use Rattle.table_image.specs.Internet.{Internet}
 use Rattle.table_image.specs.declared.cable.Cable.{Cable}
+use Rattle.table_image.specs.declared.mapping.Mapping.{Mapping}
+use Rattle.table_image.specs.declared.node.Node.{Node}
 use Rattle.table_image.specs.declared.port.Port.{Port}
 use Rattle.table_image.specs.declared.row.Row.{Row}
 use Rattle.table_image.specs.declared.zone_list.ZoneList.{ZoneList}
 use Rattle.table_image.specs.declared.router.Router.{Router}
-use Rattle.table_image.specs.declared.version.Version.TheVariants.{V1}
+use Rattle.table_image.specs.declared.version.Version.TheVariants.{V1, V2}
 
 -- the address with this network and node number
 abbrev pub addr : ℕ → ℕ → Addr
@@ -104,3 +106,30 @@ same_addresses = beside (port 1 (addr 20 1) 3)
 -- an internet with two routers that have the same hardware address on a cable
 abbrev pub same_hardware_addresses : Internet
 same_hardware_addresses = beside (port 1 (addr 20 2) 2)
+
+-- a node on the cable in zone Red, without a router, with these mappings
+abbrev pub red_node : ℕ → Addr → ℕ → List Mapping → Node
+red_node cable address byte mappings =
+    record { cable = cable; address = address; hardware = hardware byte; zone = codes "Red"; router = None; names = []; mappings = mappings }
+
+-- an internet with the example's cables and two nodes, 10.7 on the first and 20.7 on the second; the first one has this
+-- mapping
+abbrev pub knowing : Mapping → Internet
+knowing m = record {
+  version = V2;
+  cables = example_cables;
+  routers = [];
+  nodes = red_node 0 (addr 10 7) 5 (m ∷ []) ∷ red_node 1 (addr 20 7) 6 [] ∷ [];
+}
+
+-- the first node's own mapping
+abbrev pub knows_itself : Mapping
+knows_itself = record { address = addr 10 7; hardware = hardware 5 }
+
+-- the first node's address with the other's hardware address
+abbrev pub wrong_hardware : Mapping
+wrong_hardware = record { address = addr 10 7; hardware = hardware 6 }
+
+-- both addresses of the node on the other cable
+abbrev pub other_cable : Mapping
+other_cable = record { address = addr 20 7; hardware = hardware 6 }

@@ -10,4 +10,5 @@ pub mod Seen
 pub mod Verdicts
 pub mod Walks
 pub mod Served
+pub mod Mapped
 pub mod Example

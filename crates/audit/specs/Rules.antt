@@ -9,6 +9,7 @@ use Rattle.at_base.specs.declared.address.Hw.{Hw}
 use Rattle.at_base.specs.declared.error.Place.{Place}
 use Rattle.at_base.specs.declared.error.Place.TheVariants as place
 use Rattle.table_image.specs.Internet.{Internet}
+use Rattle.table_image.specs.Seats.{Seat, seats}
 use Rattle.audit.specs.Places.{on, index_of}
 use Rattle.at_base.specs.Address.{same_address}
 use Rattle.audit.specs.Routing.{owner}
@@ -17,13 +18,14 @@ use Rattle.at_base.specs.Range.{is_between, is_range}
 use Rattle.rtmp.specs.States.{is_usable}
 use Rattle.table_image.specs.Rows.{is_direct}
 use Rattle.table_image.specs.declared.cable.Cable.{Cable}
+use Rattle.table_image.specs.declared.mapping.Mapping.{Mapping}
 use Rattle.table_image.specs.declared.port.Port.{Port}
 use Rattle.table_image.specs.declared.row.Row.{Row}
 use Rattle.table_image.specs.declared.router.Router.{Router}
 use Rattle.table_image.specs.declared.node.Node.{Node}
 use Rattle.audit.specs.declared.rule.Rule.{Rule}
 use Rattle.audit.specs.declared.rule.Rule.TheVariants.{CablesInOrder, StationsAddressed, RowsCoverCables, DirectRowsDirect, DistancesFit}
-use Rattle.audit.specs.declared.rule.Rule.TheVariants.{NextRoutersExist, DistancesFall, ZoneListsAgree, NodesServed}
+use Rattle.audit.specs.declared.rule.Rule.TheVariants.{NextRoutersExist, DistancesFall, ZoneListsAgree, NodesServed, MappingsTrue}
 
 -- ---- C1: cables are in order
 
@@ -174,6 +176,7 @@ row_breaks NextRoutersExist i r router row = not (is_direct row) && is_no_other 
 row_breaks DistancesFall i r router row = not (is_direct row) && bad_step i row (next_router i router row)
 row_breaks ZoneListsAgree i r router row = false
 row_breaks NodesServed i r router row = false
+row_breaks MappingsTrue i r router row = false
 
 -- a cable for which a router has no row breaks the rule, which only C3 says
 abbrev pub lack_breaks : Rule → Internet → ℕ → ℕ → Bool
@@ -235,6 +238,23 @@ abbrev pub c9 : Internet → Place → Bool
 c9 i (place.Node (suc k)) = on (slice_get i.nodes k) (bad_service i)
 c9 i _ = false
 
+-- ---- C10: mappings are true
+
+-- the seat is on the cable, and has the address and the hardware address of the mapping
+abbrev pub is_mapped : ℕ → Mapping → Seat → Bool
+is_mapped cable m s = s.cable == cable && same_address m.address s.address && same_hardware m.hardware s.hardware
+
+-- a mapping is false if no station on the cable has both its addresses
+abbrev pub is_false : Internet → ℕ → Mapping → Bool
+is_false i cable m = not (list_any (is_mapped cable m) (seats i))
+
+-- C10 is broken by a port and by a node with a mapping that is false on its cable
+abbrev pub c10 : Internet → Place → Bool
+c10 i (place.Port (suc r) (suc p)) =
+    on (slice_get i.routers r) (λ router. on (slice_get router.ports p) (λ port. list_any (is_false i port.cable) port.mappings))
+c10 i (place.Node (suc k)) = on (slice_get i.nodes k) (λ node. list_any (is_false i node.cable) node.mappings)
+c10 i _ = false
+
 -- ---- all rules
 
 -- the number of a rule, as in C3
@@ -248,6 +268,7 @@ number_of NextRoutersExist = 6
 number_of DistancesFall = 7
 number_of ZoneListsAgree = 8
 number_of NodesServed = 9
+number_of MappingsTrue = 10
 
 -- the place breaks the rule with this number
 abbrev pub breaks : Internet → ℕ → Place → Bool
@@ -261,6 +282,7 @@ breaks i rule p =
     else if rule == 7 then c7 i p
     else if rule == 8 then c8 i p
     else if rule == 9 then c9 i p
+    else if rule == 10 then c10 i p
     else false
 
 -- no place breaks the rule

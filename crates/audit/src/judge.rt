@@ -2,6 +2,7 @@
 
 ghost use Rattle.std.specs.Prelude.{None};
 ghost use Rattle.audit.specs.Firsts.{FirstPlace};
+ghost use Rattle.audit.specs.Mapped.{MappingsAreTrue};
 ghost use Rattle.audit.specs.Rules.{c1, c2, c6, c7};
 ghost use Rattle.audit.specs.Served.{NodesAreServed};
 ghost use Rattle.audit.specs.Verdicts.{Judges, OnYes};
@@ -9,6 +10,7 @@ ghost use Rattle.audit.specs.Walks.{WalksHome};
 ghost use Rattle.audit.specs.ZoneLists.{ZonesAgree};
 
 use crate::cables::bad_cable;
+use crate::mappings::bad_mapping;
 use crate::next::Hints;
 use crate::nodes::unserved_node;
 use crate::rows::bad_row;
@@ -52,6 +54,9 @@ pub fn audit(image: &Image) -> Verdict
     // If the verdict is yes, each node's router, if it has one, and each node's zone are on its
     // cable.
     ensures nodes { OnYes result (NodesAreServed image.now) }
+    // If the verdict is yes, each mapping of a port or a node is the address and the hardware
+    // address of one station on its cable.
+    ensures mappings { OnYes result (MappingsAreTrue image.now) }
 {
     if let Some(place) = bad_cable(image) {
         return Verdict::No(Rule::CablesInOrder.broken_at(place));
@@ -81,6 +86,9 @@ pub fn audit(image: &Image) -> Verdict
     }
     if let Some(place) = unserved_node(image, &hints) {
         return Verdict::No(Rule::NodesServed.broken_at(place));
+    }
+    if let Some(place) = bad_mapping(image) {
+        return Verdict::No(Rule::MappingsTrue.broken_at(place));
     }
     // Only for the prover: the contract of `routers` says that zone lists rise.
     let _routers = image.routers();

@@ -7,6 +7,8 @@ ghost use Rattle.table_image.specs.Bounds.{IsBounded};
 ghost use Rattle.audit.specs.Routing.{Nowhere, home, hand, distance};
 ghost use Rattle.audit.specs.Example.{three_cables, pointing_at_each_other};
 ghost use Rattle.audit.specs.Example.{same_addresses, same_hardware_addresses};
+ghost use Rattle.audit.specs.Example.{knowing, knows_itself, wrong_hardware, other_cable};
+ghost use Rattle.audit.specs.Mapped.{MappingsAreTrue};
 ghost use Rattle.audit.specs.Rules.{Keeps, Passes};
 ghost use Rattle.audit.specs.Served.{IsServed};
 ghost use Rattle.table_image.specs.declared.node.Node.{Node};
@@ -63,6 +65,12 @@ pub fn nodes_are_served()
         → Passes i → slice_get i.nodes k ≡ Some node → IsServed i node }
 {}
 
+/// Each mapping of a port or a node is the address and the hardware address of one station on its
+/// cable.
+pub fn mappings_are_true()
+    ensures { (i : Internet) → Passes i → MappingsAreTrue i }
+{}
+
 /// Each seat has an address of its cable, with a node number of 1 to 253, and the hardware address
 /// of one station, not of a group.
 pub fn seats_are_addressed()
@@ -89,10 +97,14 @@ pub fn loops_have_no_walk()
 
 /// Examples that the definitions in the laws exclude: a walk that returns to a router, a port on a
 /// cable where the router has none, two ports with the same address, and two ports on a cable with
-/// the same hardware address.
+/// the same hardware address; a mapping with another's hardware address, and the right mapping of a
+/// station on another cable. A mapping of the owner's own address is none of these.
 pub fn words_exclude()
     ensures routers { ¬ AreDifferent (0 ∷ 1 ∷ 0 ∷ []) }
     ensures ports { ¬ HasPort pointing_at_each_other 1 2 }
     ensures addresses { ¬ SeatsAreUnique same_addresses }
     ensures hardware { ¬ SeatsAreUnique same_hardware_addresses }
+    ensures mapping { ¬ MappingsAreTrue (knowing wrong_hardware) }
+    ensures cable { ¬ MappingsAreTrue (knowing other_cable) }
+    ensures own { Passes (knowing knows_itself) }
 {}

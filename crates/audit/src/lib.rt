@@ -1,5 +1,5 @@
 //! The audit of an internet's tables: the rules, the verdict, and what a yes says about the routes
-//! of datagrams, about zones and about nodes.
+//! of datagrams, about zones, about nodes and about mappings.
 #![tactic(auto)]
 
 mod bytes;
@@ -7,6 +7,7 @@ mod cables;
 mod judge;
 mod laws;
 mod lookups;
+mod mappings;
 mod next;
 mod nodes;
 mod places;
@@ -14,6 +15,7 @@ mod ranges;
 mod rows;
 mod rule;
 mod seen;
+mod station_hints;
 mod stations;
 mod summary;
 mod verdict;
@@ -24,9 +26,9 @@ mod zone_sets;
 pub use bytes::audit_bytes;
 pub use judge::audit;
 pub use laws::{
-    distances_fit, each_step, loops_have_no_walk, nodes_are_served, one_walk_home,
-    seats_are_addressed, seats_are_unique, the_example_passes, unlisted_is_nowhere, words_exclude,
-    zone_lists_agree,
+    distances_fit, each_step, loops_have_no_walk, mappings_are_true, nodes_are_served,
+    one_walk_home, seats_are_addressed, seats_are_unique, the_example_passes, unlisted_is_nowhere,
+    words_exclude, zone_lists_agree,
 };
 pub use rule::{MAX_DISTANCE, Rule};
 pub use verdict::{Summary, Verdict};

@@ -27,9 +27,12 @@ fn breaks(
     ensures { result ≡ row_breaks rule image.now r router.now row.now }
 {
     match rule {
-        // No row breaks a rule about cables, stations, zone lists or nodes.
-        Rule::CablesInOrder | Rule::StationsAddressed | Rule::ZoneListsAgree | Rule::NodesServed =>
-            false,
+        // No row breaks a rule about cables, stations, zone lists, nodes or mappings.
+        Rule::CablesInOrder
+        | Rule::StationsAddressed
+        | Rule::ZoneListsAgree
+        | Rule::NodesServed
+        | Rule::MappingsTrue => false,
         Rule::RowsCoverCables => breaks_ranges(image, router, k, row),
         Rule::DirectRowsDirect => breaks_direct(image, router, k, row),
         Rule::DistancesFit => MAX_DISTANCE < row.distance,
@@ -90,7 +93,8 @@ fn first_missing(image: &Image, rule: Rule, r: usize, router: &Router) -> Option
         | Rule::NextRoutersExist
         | Rule::DistancesFall
         | Rule::ZoneListsAgree
-        | Rule::NodesServed => None,
+        | Rule::NodesServed
+        | Rule::MappingsTrue => None,
     }
 }
 

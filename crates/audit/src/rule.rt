@@ -35,6 +35,9 @@ pub enum Rule {
     /// C9: the router of each node is a router on its cable, and the node's zone is one of its
     /// cable's.
     NodesServed,
+    /// C10: each mapping of a port or a node is the address and the hardware address of a station on
+    /// its cable.
+    MappingsTrue,
 }
 
 impl Rule {
@@ -52,6 +55,7 @@ impl Rule {
             Rule::DistancesFall => 7,
             Rule::ZoneListsAgree => 8,
             Rule::NodesServed => 9,
+            Rule::MappingsTrue => 10,
         }
     }
 

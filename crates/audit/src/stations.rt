@@ -22,7 +22,8 @@ pub(crate) fn same_address(a: Addr, b: Addr) -> bool
     a.net == b.net && a.node == b.node
 }
 
-fn same_hardware(a: &Hw, b: &Hw) -> bool
+/// Whether the hardware addresses are equal.
+pub(crate) fn same_hardware(a: &Hw, b: &Hw) -> bool
     ensures { result ≡ spec.same_hardware a.now b.now }
 {
     // The last byte first: it usually differs between hardware addresses of the same manufacturer.

@@ -1,9 +1,9 @@
 //! Shows the parts of an image with which a place is compared.
 
-use crate::item::{show_cable, show_no_zone, show_node, show_port, show_row};
+use crate::item::{show_cable, show_mapping, show_no_zone, show_node, show_port, show_row};
 use at_base::{Addr, Hw};
 use std::io;
-use table_image::{Image, Node, Router, Row, ZoneList};
+use table_image::{Image, Mapping, Node, Router, Row, ZoneList};
 
 /// Shows the stations before a station that have its address or its hardware address: the ports
 /// before port `until.1` of router `until.0`, and the first `nodes` nodes.
@@ -173,4 +173,61 @@ pub(crate) fn show_own_zone(rt: &impl Eprint, image: &Image, node: &Node) -> io:
         return Ok(());
     }
     show_no_zone(rt, node.cable as usize + 1, &node.zone)
+}
+
+/// Whether a port has the mapping's addresses, and is on the cable.
+fn has_port(image: &Image, cable: u8, mapping: &Mapping) -> bool {
+    for router in image.routers() {
+        let mut ports = router.ports.as_slice().iter();
+        if ports.any(|port| {
+            port.cable == cable
+                && port.address == mapping.address
+                && port.hardware == mapping.hardware
+        }) {
+            return true;
+        }
+    }
+    false
+}
+
+/// Whether a node has the mapping's addresses, and is on the cable.
+fn has_node(image: &Image, cable: u8, mapping: &Mapping) -> bool {
+    image.nodes().iter().any(|node| {
+        node.cable == cable && node.address == mapping.address && node.hardware == mapping.hardware
+    })
+}
+
+/// Whether a port or a node has the address or the hardware address.
+fn has_either(image: &Image, mapping: &Mapping) -> bool {
+    for router in image.routers() {
+        let mut ports = router.ports.as_slice().iter();
+        if ports.any(|port| port.address == mapping.address || port.hardware == mapping.hardware) {
+            return true;
+        }
+    }
+    image.nodes().iter().any(|node| node.address == mapping.address
+        || node.hardware == mapping.hardware)
+}
+
+/// Shows the first of the mappings that isn't of a station on the cable, and the stations that have
+/// its address or its hardware address.
+pub(crate) fn show_false_mapping(
+    rt: &impl Eprint,
+    image: &Image,
+    cable: u8,
+    mappings: &[Mapping],
+) -> io::Result<()> {
+    for mapping in mappings {
+        if has_port(image, cable, mapping) || has_node(image, cable, mapping) {
+            continue;
+        }
+        show_mapping(rt, mapping)?;
+        if !has_either(image, mapping) {
+            return eprintln!(rt; "  no station has either of these");
+        }
+        let until = (image.routers().len() + 1, 1);
+        let nodes = image.nodes().len();
+        return show_earlier_stations(rt, image, mapping.address, &mapping.hardware, until, nodes);
+    }
+    Ok(())
 }

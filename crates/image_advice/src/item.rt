@@ -3,7 +3,7 @@
 
 use at_base::{Hw, Name};
 use std::io;
-use table_image::{Cable, Node, Port, Row, ZoneList};
+use table_image::{Cable, Mapping, Node, Port, Row, ZoneList};
 
 /// The part with this number, counted from 1.
 pub(crate) fn at<T>(parts: &[T], number: u32) -> Option<&T> {
@@ -62,6 +62,12 @@ pub(crate) fn show_node(rt: &impl Eprint, number: usize, node: &Node) -> io::Res
     let cable = u32::from(node.cable) + 1;
     eprint!(rt; "  node {number}: {} on cable {cable}", node.address)?;
     show_hardware(rt, &node.hardware)
+}
+
+/// Prints a mapping: its address and its hardware address.
+pub(crate) fn show_mapping(rt: &impl Eprint, mapping: &Mapping) -> io::Result<()> {
+    eprint!(rt; "  mapping of {}", mapping.address)?;
+    show_hardware(rt, &mapping.hardware)
 }
 
 /// Prints a node with its address, its cable, its zone and its router.

@@ -1,8 +1,8 @@
 //! Shows the place that breaks a rule, and the parts with which it was compared.
 
 use crate::beside::{
-    show_cable_of_list, show_earlier_stations, show_home, show_next, show_overlaps,
-    show_own_router, show_own_zone, show_step,
+    show_cable_of_list, show_earlier_stations, show_false_mapping, show_home, show_next,
+    show_overlaps, show_own_router, show_own_zone, show_step,
 };
 use crate::item::{at, show_cable, show_list, show_node, show_port, show_row, show_service};
 use at_base::Place;
@@ -21,7 +21,7 @@ pub(crate) fn explain_place(
             show_cable_of(rt, image, k.saturating_sub(1))?;
             show_cable_of(rt, image, k)
         }
-        Place::Port(r, p) => explain_port(rt, image, r, p),
+        Place::Port(r, p) => explain_port(rt, image, rule, r, p),
         Place::Node(k) => explain_node(rt, image, rule, k),
         Place::Row(r, k) => explain_row(rt, image, rule, r, k),
         Place::Missing(r, k) => {
@@ -41,7 +41,7 @@ fn show_cable_of(rt: &impl Eprint, image: &Image, number: u32) -> io::Result<()>
     }
 }
 
-fn explain_port(rt: &impl Eprint, image: &Image, r: u32, p: u32) -> io::Result<()> {
+fn explain_port(rt: &impl Eprint, image: &Image, rule: u8, r: u32, p: u32) -> io::Result<()> {
     let Some(router) = at(image.routers(), r) else {
         return Ok(());
     };
@@ -50,6 +50,9 @@ fn explain_port(rt: &impl Eprint, image: &Image, r: u32, p: u32) -> io::Result<(
     };
     show_port(rt, r as usize, p as usize, port)?;
     show_cable_of(rt, image, u32::from(port.cable).saturating_add(1))?;
+    if rule == 10 {
+        return show_false_mapping(rt, image, port.cable, port.mappings.as_slice());
+    }
     let earlier = (p as usize).saturating_sub(1);
     for (index, other) in router.ports.as_slice().iter().take(earlier).enumerate() {
         if other.cable == port.cable {
@@ -69,6 +72,9 @@ fn explain_node(rt: &impl Eprint, image: &Image, rule: u8, k: u32) -> io::Result
     }
     show_node(rt, k as usize, node)?;
     show_cable_of(rt, image, u32::from(node.cable) + 1)?;
+    if rule == 10 {
+        return show_false_mapping(rt, image, node.cable, node.mappings.as_slice());
+    }
     let until = (image.routers().len() + 1, 1);
     let nodes = (k as usize).saturating_sub(1);
     show_earlier_stations(rt, image, node.address, &node.hardware, until, nodes)

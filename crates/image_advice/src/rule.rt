@@ -34,6 +34,10 @@ pub(crate) fn meaning(rule: u8) -> &'static str {
             "the router of a node that has one has a port of that address on the node's cable, \
              and the node's zone is one of that cable's zones."
         }
+        10 => {
+            "each mapping of a port or a node is the address and the hardware address \
+             of one station on its cable."
+        }
         _ => "this rule is broken.",
     }
 }
@@ -66,6 +70,11 @@ pub(crate) fn what_to_change(rule: u8) -> &'static str {
             "restart the node: it hears of its router anew, and asks for its zone; \
              if its router stays wrong, look for a station on that cable that sends routing \
              tables and is no router; if its zone does, choose one of that cable's zones."
+        }
+        10 => {
+            "restart the station: it forgets its mappings, and asks anew; \
+             if the mapping stays wrong, look for a station on that cable that answers for \
+             an address which is not its own."
         }
         _ => "see man atalk.",
     }

@@ -75,7 +75,7 @@ pub(crate) fn equal_verdicts(alloc: Global, mut words: Words<'_>, text: &mut Str
     Ok(())
 }
 
-const RULES: [Rule; 9] = [
+const RULES: [Rule; 10] = [
     Rule::CablesInOrder,
     Rule::StationsAddressed,
     Rule::RowsCoverCables,
@@ -85,6 +85,7 @@ const RULES: [Rule; 9] = [
     Rule::DistancesFall,
     Rule::ZoneListsAgree,
     Rule::NodesServed,
+    Rule::MappingsTrue,
 ];
 
 /// Appends the rules with their numbers, the pairs of rules that are equal, and the greatest
