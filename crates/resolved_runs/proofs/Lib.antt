@@ -10,3 +10,12 @@ pub mod Follows
 pub mod Owned
 pub mod Walks
 pub mod Refused
+pub mod Elements
+pub mod Told
+pub mod Plains
+pub mod Standing
+pub mod Truths
+pub mod Fits
+pub mod Steps
+pub mod ResolvedLegs
+pub mod Erased

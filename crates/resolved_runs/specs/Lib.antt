@@ -1,9 +1,12 @@
+pub mod Fitting
 pub mod Mapped
 pub mod Fates
 pub mod Resolved
 pub mod ResolvedRuns
 pub mod HeldCounts
+pub mod ResolvedLaws
 pub mod HeldChains
+pub mod AskedFor
 pub mod Plain
 pub mod Example
 pub mod Illegal

@@ -25,28 +25,30 @@ abbrev pub port_mappings : Option Port → List Mapping
 port_mappings None = []
 port_mappings (Some port) = port.mappings
 
--- The mappings that the image has of a station on a cable: those of the router's port there, or those of the node.
+-- The mappings of a router's port on the cable, or those of a node on it.
+abbrev pub given_to : ℕ → Option Router → Option Node → List Mapping
+given_to cable (Some router) other = port_mappings (find (λ p. p.cable == cable) router.ports)
+given_to cable None (Some node) = if node.cable == cable then node.mappings else []
+given_to cable None None = []
+
+-- The mappings that the image has of a station on a cable.
 abbrev pub given : Internet → ℕ → ℕ → List Mapping
-given i station cable = by (slice_get i.routers station) (node_of i station)
-  where
-    by : Option Router → Option Node → List Mapping
-    by (Some router) other = port_mappings (find (λ p. p.cable == cable) router.ports)
-    by None (Some node) = if node.cable == cable then node.mappings else []
-    by None None = []
+given i station cable = given_to cable (slice_get i.routers station) (node_of i station)
 
 -- The hardware address of the first mapping of the address.
 abbrev pub mapping_in : Addr → List Mapping → Option Hw
 mapping_in a [] = None
 mapping_in a (m ∷ ms) = cond (same_address a m.address) (Some m.hardware) (mapping_in a ms)
 
+-- The hardware address of a seat.
+abbrev pub hardware_of : Option Seat → Option Hw
+hardware_of None = None
+hardware_of (Some s) = Some s.hardware
+
 -- The station's own hardware address, if the address is its own on the cable.
 abbrev pub own_hardware : Internet → ℕ → ℕ → Addr → Option Hw
 own_hardware i station cable a =
-    of (find (λ s. s.station == station && s.cable == cable && same_address a s.address) (seats i))
-  where
-    of : Option Seat → Option Hw
-    of None = None
-    of (Some s) = Some s.hardware
+    hardware_of (find (λ s. s.station == station && s.cable == cable && same_address a s.address) (seats i))
 
 -- The frame that was put with this stamp.
 abbrev pub frame_of : ℕ → List Entry → Option Frame

@@ -114,10 +114,11 @@ resolving_by i t station cable p Request =
 resolving_by i t station cable p Response = released t station cable p
 resolving_by i t station cable p Probe = []
 
+-- The entries that follow the taking of what an AARP frame holds, after a transcript.
+abbrev pub resolving_of : Internet → List Entry → Pair → Option Packet → List Entry
+resolving_of i t p None = []
+resolving_of i t p (Some sent) = resolving_by i t p.seat.station p.frame.cable sent sent.function
+
 -- The entries that follow the taking of an AARP frame, after a transcript.
 abbrev pub resolving : Internet → List Entry → Pair → List Entry
-resolving i t p = by (packet_at p.frame.bytes)
-  where
-    by : Option Packet → List Entry
-    by None = []
-    by (Some sent) = resolving_by i t p.seat.station p.frame.cable sent sent.function
+resolving i t p = resolving_of i t p (packet_at p.frame.bytes)

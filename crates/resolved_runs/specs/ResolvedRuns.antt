@@ -11,15 +11,16 @@ use Rattle.resolved_runs.specs.Fates.{fate_with}
 use Rattle.resolved_runs.specs.Resolved.{resolved_leg, resolved_said, resolving}
 use Rattle.legal_runs.specs.Stations.{cable_seats}
 
--- The entries that follow the taking of a datagram, after a transcript: its fate, and the datagrams that the station sends
--- in answer.
+-- The fate of a datagram that was taken, after a transcript.
 abbrev pub resolved_fate : Internet → List Entry → Pair → List Entry
 resolved_fate i t p = fate_with i (resolved_leg i t) p
 
+-- The entries that follow the taking of a datagram, after a transcript: its fate, and the datagrams that the station sends
+-- in answer.
 abbrev pub resolved_handled : Internet → List Entry → Pair → List Leg → List Entry
 resolved_handled i t p answers = resolved_fate i t p ++ resolved_said i (t ++ resolved_fate i t p) answers
 
--- the entry of a pair that is taken
+-- The entry of a pair that is taken.
 abbrev pub taking : Pair → Entry
 taking p = Took p.frame.stamp p.seat.station
 

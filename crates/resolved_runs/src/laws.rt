@@ -3,8 +3,10 @@
 
 ghost use Rattle.std.specs.Prelude.{◌≡◌, ◌++◌, ◌∷◌, [], List, drop, length, take, ℕ};
 ghost use Rattle.table_image.specs.Internet.{Internet};
+ghost use Rattle.audit.specs.Rules.{Passes};
 ghost use Rattle.cable_model.specs.Holdings.{still_held};
 ghost use Rattle.cable_model.specs.Pending.{Pair, pending};
+ghost use Rattle.cable_model.specs.Transcript.{Entry};
 ghost use Rattle.legal_runs.specs.Counts.{reached, sent, under_way};
 ghost use Rattle.legal_runs.specs.Example.{echo, echo_reply, echo_request, framed, to_nobody};
 ghost use Rattle.legal_runs.specs.Example.{plain as plain_to};
@@ -16,6 +18,7 @@ ghost use Rattle.resolved_runs.specs.Example as example;
 ghost use Rattle.resolved_runs.specs.Example.{echo_again, full_ring, plain_echo, resolved_echo};
 ghost use Rattle.resolved_runs.specs.Example.{resolved_to_nobody, ring_released, unmapped};
 ghost use Rattle.resolved_runs.specs.Fates.{fate_with};
+ghost use Rattle.resolved_runs.specs.Fitting.{SeatsFit};
 ghost use Rattle.resolved_runs.specs.HeldCounts.{given_up, under_way_or_held};
 ghost use Rattle.resolved_runs.specs.Illegal.{answered_for_another, asked_again, asked_for_each};
 ghost use Rattle.resolved_runs.specs.Illegal.{given_up_put, held_though_mapped};
@@ -28,6 +31,12 @@ ghost use Rattle.resolved_runs.specs.ResolvedRuns.{IsLegalResolved};
 /// Where every hardware address is known, the fate of a datagram is that of a plain run.
 pub fn plain_legs_have_plain_fates()
     ensures { (i : Internet) (stamp : ℕ) (p : Pair) → fate_with i (leg i stamp) p ≡ fate i stamp p }
+{}
+
+/// Erasure: the plain transcript of a transcript that is legal with resolution is legal with losses.
+pub fn plain_transcripts_are_legal()
+    ensures { (i : Internet) (t : List Entry) → Passes i → SeatsFit i → IsLegalResolved i t
+        → IsLegalWithLosses i (plain i t) }
 {}
 
 /// Where no station has a mapping, the echo over three cables is legal: each of its two datagrams
