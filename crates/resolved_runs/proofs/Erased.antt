@@ -52,6 +52,7 @@ use Rattle.resolved_runs.proofs.Elements.{In, any_in, contained, each_in, in_lef
 use Rattle.resolved_runs.proofs.Fits.{EntryFits, Fits, FrameFits, hand_owner, owner_fits, packet_begins, packet_is, response_fits, target_fits}
 use Rattle.resolved_runs.proofs.Plains.{plain_more, plain_one, took_aarp, took_datagram}
 use Rattle.resolved_runs.proofs.ResolvedLegs.{IsReady, leg_done}
+use Rattle.resolved_runs.proofs.Stamped.{frame_is, hold_entry}
 use Rattle.resolved_runs.proofs.Standing.{held_in, pair_put, pending_in, pending_plain, put_releases}
 use Rattle.resolved_runs.proofs.Steps.{AreRising, Done, IsFor, all_released, done_none, done_then, done_told, holds_rising, one_aarp, one_done, rising_kept}
 use Rattle.resolved_runs.proofs.Steps.{one_dropped, one_reached, one_sent}
@@ -116,93 +117,6 @@ module _ (i : Internet) where
 
   plain_next : (t : List Entry) → next_stamp (plain i t) ≤ next_stamp t
   plain_next t = after_next 0 0 [] t (omega arith)
-
-  -- ---- Frames by their stamps
-
-  frame_of-append : (n : ℕ) (es fs : List Entry) → frame_of n (es ++ fs) ≡ option_or (frame_of n es) (frame_of n fs)
-  frame_of-append n [] fs = refl
-  frame_of-append n (Put f ∷ es) fs = by (f.stamp == n) (frame_of-append n es fs)
-    where
-      by : (b : Bool) → frame_of n (es ++ fs) ≡ option_or (frame_of n es) (frame_of n fs)
-          → cond b (Some f) (frame_of n (es ++ fs)) ≡ option_or (cond b (Some f) (frame_of n es)) (frame_of n fs)
-      by true rest = refl
-      by false rest = rest
-  frame_of-append n (Sent s b ∷ es) fs = frame_of-append n es fs
-  frame_of-append n (Took m s ∷ es) fs = frame_of-append n es fs
-  frame_of-append n (Reached c s w b ∷ es) fs = frame_of-append n es fs
-  frame_of-append n (Dropped r c b ∷ es) fs = frame_of-append n es fs
-  frame_of-append n (Lost m ∷ es) fs = frame_of-append n es fs
-  frame_of-append n (Hold h ∷ es) fs = frame_of-append n es fs
-
-  no_frame : (n : ℕ) (es : List Entry) → list_any (has_put n) es ≡ false → frame_of n es ≡ None
-  no_frame n [] h = refl
-  no_frame n (Put f ∷ es) h =
-      let p = or_parts (n == f.stamp) (list_any (has_put n) es) h in
-      ap (λ b. cond b (Some f) (frame_of n es)) (turn (f.stamp == n) refl p.0) ∙ no_frame n es p.1
-    where
-      turn : (b : Bool) → (f.stamp == n) ≡ b → (n == f.stamp) ≡ false → (f.stamp == n) ≡ false
-      turn true e g = absurd (true≢false (sym (eq-eqb n f.stamp (sym (eqb-true f.stamp n e))) ∙ g))
-      turn false e g = e
-  no_frame n (Sent s b ∷ es) h = no_frame n es h
-  no_frame n (Took m s ∷ es) h = no_frame n es h
-  no_frame n (Reached c s w b ∷ es) h = no_frame n es h
-  no_frame n (Dropped r c b ∷ es) h = no_frame n es h
-  no_frame n (Lost m ∷ es) h = no_frame n es h
-  no_frame n (Hold d ∷ es) h = no_frame n es h
-
-  -- A frame is the one with its stamp.
-  pub frame_is : (t : List Entry) (f : Frame) → IsTold i t → In t (Put f) → frame_of f.stamp t ≡ Some f
-  frame_is t f Nothing (k, e) = cc
-  frame_is t f (More u e told fact) there =
-      frame_of-append f.stamp u (e ∷ []) ∙ (elim (in_parts u (e ∷ []) (Put f) there) as
-      (λ _. option_or (frame_of f.stamp u) (frame_of f.stamp (e ∷ [])) ≡ Some f) [
-        | inl before ↦ ap (λ o. option_or o (frame_of f.stamp (e ∷ []))) (frame_is u f told before)
-        | inr this ↦
-            let same = in_one e (Put f) this in
-            ap (λ o. option_or o (frame_of f.stamp (e ∷ []))) (no_frame f.stamp u (here e fact same))
-            ∙ (ap (λ x. frame_of f.stamp (x ∷ [])) same ∙ ap (λ b. cond b (Some f) None) (eq-eqb f.stamp f.stamp refl))
-      ])
-    where
-      same_stamp : (g : Frame) → Put g ≡ Put f → g.stamp ≡ f.stamp
-      same_stamp g e = let one : g ≡ f = cc in ap (λ (x : Frame). x.stamp) one
-
-      fresh_none : (g : Frame) → next_stamp u ≤ g.stamp → Put g ≡ Put f → list_any (has_put f.stamp) u ≡ false
-      fresh_none g fresh e =
-          false_from_ne_true (list_any (has_put f.stamp) u) (λ h.
-          let lt = put_below u f.stamp h in
-          let same = same_stamp g e in
-          absurd (omega (arith, lt, fresh, same)))
-
-      here : (e : Entry) → Fact i u e → e ≡ Put f → list_any (has_put f.stamp) u ≡ false
-      here e (IsNew g k fresh) eq = fresh_none g fresh eq
-      here e (IsAarp g k fresh packet) eq = fresh_none g fresh eq
-      here e (IsReleased h s still found) eq =
-          subst (λ n. list_any (has_put n) u ≡ false) (same_stamp (released_frame h s.hardware) eq)
-          (false_from_ne_true (list_any (has_put h.stamp) u) (λ g.
-          true≢false (sym (put_releases h.stamp u g) ∙ (held_in u h still).1)))
-      here e (IsSent s b) eq = cc
-      here e (IsReached c s w b) eq = cc
-      here e (IsDropped r c b) eq = cc
-      here e (IsHeld h fresh) eq = cc
-      here e (IsLost h still) eq = cc
-      here e (IsTook p still) eq = cc
-
-  -- What was held has an entry.
-  hold_entry : (es : List Entry) (h : Holding) → In (holds es) h → In es (Hold h)
-  hold_entry [] h (k, e) = cc
-  hold_entry (e ∷ es) h there = elim (in_parts (holds_of e) (holds es) h there) as (λ _. In (e ∷ es) (Hold h)) [
-      | inl this ↦ (zero, ap Some (here e this))
-      | inr later ↦ let w = hold_entry es h later in (suc w.0, w.1)
-    ]
-    where
-      here : (e : Entry) → In (holds_of e) h → e ≡ Hold h
-      here (Hold d) g = ap Hold (in_one d h g)
-      here (Put f) (k, g) = cc
-      here (Sent s b) (k, g) = cc
-      here (Took n s) (k, g) = cc
-      here (Reached c s w b) (k, g) = cc
-      here (Dropped r c b) (k, g) = cc
-      here (Lost n) (k, g) = cc
 
   -- ---- Losses alone
 

@@ -18,4 +18,6 @@ pub mod Truths
 pub mod Fits
 pub mod Steps
 pub mod ResolvedLegs
+pub mod Stamped
 pub mod Erased
+pub mod CarriedOrHeld

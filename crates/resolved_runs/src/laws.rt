@@ -1,12 +1,13 @@
 //! Laws of transcripts in which stations resolve addresses, for use by other crates. The functions
 //! do nothing: each law is the function's ensures clause.
 
-ghost use Rattle.std.specs.Prelude.{◌≡◌, ◌++◌, ◌∷◌, [], List, drop, length, take, ℕ};
+ghost use Rattle.std.specs.Prelude.{◌≡◌, ◌++◌, ◌∷◌, [], List, drop, false, length, take, ℕ};
 ghost use Rattle.table_image.specs.Internet.{Internet};
 ghost use Rattle.audit.specs.Rules.{Passes};
 ghost use Rattle.cable_model.specs.Holdings.{still_held};
 ghost use Rattle.cable_model.specs.Pending.{Pair, pending};
 ghost use Rattle.cable_model.specs.Transcript.{Entry};
+ghost use Rattle.legal_runs.specs.Carriage.{AreByHand, AreTakenThere, none_yet};
 ghost use Rattle.legal_runs.specs.Counts.{reached, sent, under_way};
 ghost use Rattle.legal_runs.specs.Example.{echo, echo_reply, echo_request, framed, to_nobody};
 ghost use Rattle.legal_runs.specs.Example.{plain as plain_to};
@@ -19,6 +20,7 @@ ghost use Rattle.resolved_runs.specs.Example.{echo_again, full_ring, plain_echo,
 ghost use Rattle.resolved_runs.specs.Example.{resolved_to_nobody, ring_released, unmapped};
 ghost use Rattle.resolved_runs.specs.Fates.{fate_with};
 ghost use Rattle.resolved_runs.specs.Fitting.{SeatsFit};
+ghost use Rattle.resolved_runs.specs.HeldChains.{AreCarriedOrHeld};
 ghost use Rattle.resolved_runs.specs.HeldCounts.{given_up, under_way_or_held};
 ghost use Rattle.resolved_runs.specs.Illegal.{answered_for_another, asked_again, asked_for_each};
 ghost use Rattle.resolved_runs.specs.Illegal.{given_up_put, held_though_mapped};
@@ -37,6 +39,20 @@ pub fn plain_legs_have_plain_fates()
 pub fn plain_transcripts_are_legal()
     ensures { (i : Internet) (t : List Entry) → Passes i → SeatsFit i → IsLegalResolved i t
         → IsLegalWithLosses i (plain i t) }
+{}
+
+/// Carriage. A datagram that reached a cable was carried by no router, or by the routers of its only
+/// walk, at most 15. A station that puts a frame on a cable is on that cable, and the hop count of a
+/// datagram in the frame is the number of routers that have carried it. A station that takes a frame
+/// is on the frame's cable. In the plain transcript, a router that carries a datagram on puts it on
+/// the cable of the walk's step.
+pub fn carriage_with_resolution()
+    ensures carried { (i : Internet) (t : List Entry) → Passes i → SeatsFit i → IsLegalResolved i t
+        → AreCarriedOrHeld i none_yet t }
+    ensures taken { (i : Internet) (t : List Entry) → Passes i → SeatsFit i → IsLegalResolved i t
+        → AreTakenThere i [] t }
+    ensures handed { (i : Internet) (t : List Entry) → Passes i → SeatsFit i → IsLegalResolved i t
+        → AreByHand i false (plain i t) }
 {}
 
 /// Where no station has a mapping, the echo over three cables is legal: each of its two datagrams
