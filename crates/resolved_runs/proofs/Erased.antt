@@ -276,6 +276,7 @@ module _ (i : Internet) (ok : Passes i) (fit : SeatsFit i) where
           sent = response_by s asked;
           read = packet_is (response_by s asked) good;
           fits = good;
+          by = record { seat = s; there = w.0; station = refl; cable = on; address = refl; hardware = refl };
           on =
               any_in (λ (x : Seat). x.station == s.station && x.cable == p.frame.cable) (seats i) s w.0
               (ap (λ b. b && s.cable == p.frame.cable) (eq-eqb s.station s.station refl) ∙ eq-eqb s.cable p.frame.cable on);

@@ -21,3 +21,14 @@ pub mod ResolvedLegs
 pub mod Stamped
 pub mod Erased
 pub mod CarriedOrHeld
+pub mod Never
+pub mod HeldStamps
+pub mod PlainEntries
+pub mod PlainEnds
+pub mod PlainPairs
+pub mod Networks
+pub mod HeldPairs
+pub mod PlainCounts
+pub mod PlainLookups
+pub mod Balances
+pub mod Asked

@@ -52,7 +52,7 @@ module _ (i : Internet) (ok : Passes i) (fit : SeatsFit i) where
   -- ---- A datagram that is held
 
   -- What is let go is nothing, or a datagram that is held.
-  shed_is : (u : List Entry) (hs : List Holding) → ((h : Holding) → In hs h → Contains (still_held u) h)
+  pub shed_is : (u : List Entry) (hs : List Holding) → ((h : Holding) → In hs h → Contains (still_held u) h)
       → (let_go u (shed_of hs) ≡ []) ⊎ ((h : Holding) × Contains (still_held u) h × (let_go u (shed_of hs) ≡ Lost h.stamp ∷ []))
   shed_is u [] held = inl refl
   shed_is u (h ∷ hs) held = by (nat_lt (length hs) (max_held - 1))
@@ -94,6 +94,14 @@ module _ (i : Internet) (ok : Passes i) (fit : SeatsFit i) where
               sent = request_by x w.next;
               read = packet_is (request_by x w.next) good;
               fits = good;
+              by = record {
+                seat = x;
+                there = at;
+                station = eqb-true x.station station (and_parts (x.station == station) (x.cable == w.cable) found.1).0;
+                cable = eqb-true x.cable w.cable (and_parts (x.station == station) (x.cable == w.cable) found.1).1;
+                address = refl;
+                hardware = refl;
+              };
               on = any_in (λ (s : Seat). s.station == station && s.cable == w.cable) (seats i) x at found.1;
               answers = λ e. absurd (no_response e);
               rest = start.0;

@@ -78,7 +78,7 @@ put_pair ss (e ∷ es) f p (suc k, at) g = in_right (pairs_of ss e) (pairs ss es
 -- ---- What ends pairs
 
 -- An entry that ends a pair takes or loses its frame.
-ended_by : (es : List Entry) (p : Pair) → was_ended es p ≡ true
+pub ended_by : (es : List Entry) (p : Pair) → was_ended es p ≡ true
     → (list_any (has_took p.frame.stamp) es ≡ true) ⊎ (list_any (releases p.frame.stamp) es ≡ true)
 ended_by [] p h = cc
 ended_by (e ∷ es) p h = elim (or_cases (ends p e) (was_ended es p) h) as

@@ -5,7 +5,7 @@ use Rattle.at_base.specs.declared.address.Hw.{Hw}
 use Rattle.aarp.specs.declared.packet.Function.TheVariants.{Response}
 use Rattle.aarp.specs.declared.packet.Packet.{Packet}
 use Rattle.table_image.specs.Internet.{Internet}
-use Rattle.table_image.specs.Seats.{Seat, seat_at}
+use Rattle.table_image.specs.Seats.{Seat, seat_at, seats}
 use Rattle.station.specs.Resolution.{packet_at}
 use Rattle.station.specs.declared.heard.Kind.TheVariants.{Aarp, Ddp}
 use Rattle.station.specs.declared.output.DropCause.{DropCause}
@@ -14,6 +14,7 @@ use Rattle.cable_model.specs.Holdings.{released_frame, still_held}
 use Rattle.cable_model.specs.Pending.{Pair, pending}
 use Rattle.cable_model.specs.Transcript.{Entry, Frame, Holding, Sent, Put, Took, Reached, Dropped, Lost, Hold, next_stamp}
 use Rattle.legal_runs.specs.Stations.{cable_seats, is_on}
+use Rattle.resolved_runs.proofs.Elements.{In}
 
 -- The seat with the address on the cable has this hardware address.
 pub record IsSeated (i : Internet) (cable : ℕ) (a : Addr) (hw : Hw) : Type 0 where
@@ -30,12 +31,22 @@ pub record Fitting (p : Packet) : Type 0 where
   pub target_net : p.target.net < 65536
   pub target_node : p.target.node < 256
 
+-- The packet in the frame has the addresses of a seat of its sender, on its cable.
+pub record IsFrom (i : Internet) (f : Frame) (sent : Packet) : Type 0 where
+  pub seat : Seat
+  pub there : In (seats i) seat
+  pub station : seat.station ≡ f.sender
+  pub cable : seat.cable ≡ f.cable
+  pub address : sent.source ≡ seat.address
+  pub hardware : sent.source_hw ≡ seat.hardware
+
 -- The frame's bytes are those of an AARP packet, its sender is on its cable, and a response tells the truth about its
 -- source.
 pub record IsPacket (i : Internet) (f : Frame) : Type 0 where
   pub sent : Packet
   pub read : packet_at f.bytes ≡ Some sent
   pub fits : Fitting sent
+  pub by : IsFrom i f sent
   pub on : is_on i f.sender f.cable ≡ true
   pub answers : sent.function ≡ Response → IsSeated i f.cable sent.source sent.source_hw
   pub rest : List ℕ

@@ -14,6 +14,7 @@ ghost use Rattle.legal_runs.specs.Example.{plain as plain_to};
 ghost use Rattle.legal_runs.specs.Legs.{fate, leg};
 ghost use Rattle.legal_runs.specs.LossCounts.{lost};
 ghost use Rattle.legal_runs.specs.LossyRuns.{IsLegalWithLosses};
+ghost use Rattle.legal_runs.specs.Lookups.{NodesOnlyAsk};
 ghost use Rattle.legal_runs.specs.Stations.{cable_seats};
 ghost use Rattle.resolved_runs.specs.Example as example;
 ghost use Rattle.resolved_runs.specs.Example.{echo_again, full_ring, plain_echo, resolved_echo};
@@ -28,6 +29,8 @@ ghost use Rattle.resolved_runs.specs.Illegal.{learnt_from_request, new_stamp, on
 ghost use Rattle.resolved_runs.specs.Illegal.{put_twice, put_unmapped, reached_again};
 ghost use Rattle.resolved_runs.specs.Illegal.{second_given_up};
 ghost use Rattle.resolved_runs.specs.Plain.{plain};
+ghost use Rattle.resolved_runs.specs.ResolvedLaws.{HasHopsLeftResolved, IsConservedResolved};
+ghost use Rattle.resolved_runs.specs.ResolvedLaws.{IsLookedUpResolved};
 ghost use Rattle.resolved_runs.specs.ResolvedRuns.{IsLegalResolved};
 
 /// Where every hardware address is known, the fate of a datagram is that of a plain run.
@@ -39,6 +42,31 @@ pub fn plain_legs_have_plain_fates()
 pub fn plain_transcripts_are_legal()
     ensures { (i : Internet) (t : List Entry) → Passes i → SeatsFit i → IsLegalResolved i t
         → IsLegalWithLosses i (plain i t) }
+{}
+
+/// Conservation. A datagram to a listed network is under way or held for a router once, has reached
+/// its destination's cable once, or was given up once, and has reached no other cable. A datagram to
+/// a network that is neither listed nor 0 is under way or held once, was dropped once or was given up
+/// once. No datagram is dropped because of its hop count.
+pub fn conservation_with_resolution()
+    ensures { (i : Internet) (t : List Entry) → Passes i → SeatsFit i → IsLegalResolved i t
+        → IsConservedResolved i t }
+{}
+
+/// Hops left: the hop count of a datagram that is under way to a listed network, or held for the
+/// next router, leaves enough hops for the routers that remain on its path.
+pub fn hops_left_with_resolution()
+    ensures { (i : Internet) (t : List Entry) → Passes i → SeatsFit i → IsLegalResolved i t
+        → HasHopsLeftResolved i t }
+{}
+
+/// Lookups, provided that no node sends a forward request or a lookup. For each broadcast request
+/// that was taken, each cable that lists its zone has had one lookup, or a forward request to it is
+/// under way, held or was given up; no other cable has had any of these. Each broadcast request that
+/// was sent was taken, is pending, is held or was given up.
+pub fn lookups_with_resolution()
+    ensures { (i : Internet) (t : List Entry) (k : List ℕ)
+        → Passes i → SeatsFit i → IsLegalResolved i t → NodesOnlyAsk i t → IsLookedUpResolved i t k }
 {}
 
 /// Carriage. A datagram that reached a cable was carried by no router, or by the routers of its only
