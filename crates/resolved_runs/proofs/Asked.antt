@@ -3,7 +3,6 @@ use Rattle.std.proofs.Common.{◌≡◌, ◌≢◌, ◌⊎◌, inl, inr, ◌≤�
 use Rattle.std.proofs.Common.{◌||◌, ◌&&◌, ◌==◌, List, [], ◌∷◌, ◌++◌, Option, Some, None, Contains, refl, sym, ap, ◌∙◌, subst, arith, append_assoc}
 use Rattle.std.proofs.Common.{append-nil, is_some, filter, map, find, eqb-true, eq-eqb, ne_eqb, true≢false, slice_get}
 use Rattle.std.specs.List.{list_any, AllByRecursion as Each}
-use Rattle.std.specs.Option.{option_or}
 use Rattle.std.proofs.lemmas.Bool.{and_parts, cases_Bool, false_from_ne_true, or_cases, or_from, or_parts}
 use Rattle.aarp.specs.Packets.{packet, written}
 use Rattle.aarp.specs.declared.packet.Function.{Function}
@@ -37,7 +36,7 @@ use Rattle.legal_runs.specs.Stations.{cable_seat, cable_seats, is_on}
 use Rattle.legal_runs.proofs.Legs.{same_address_is, same_address_self, seat_there}
 use Rattle.legal_runs.proofs.Seated.{heard_alone}
 use Rattle.resolved_runs.specs.AskedFor.{Answered, AreAskedFor, Asks, IsAskedFor, Requested}
-use Rattle.resolved_runs.specs.Mapped.{frame_of, given, hardware_of, known, learnt_in, mapping_in, own_hardware}
+use Rattle.resolved_runs.specs.Mapped.{frame_of, hardware_of, own_hardware}
 use Rattle.resolved_runs.specs.Resolved.{answer_entries, held_at, held_by_port, released, request_by, request_bytes, request_of, resolving, resolving_by, resolving_of}
 use Rattle.resolved_runs.specs.Resolved.{response_by, shed_of, station_seats}
 use Rattle.resolved_runs.specs.ResolvedRuns.{taking}
@@ -129,13 +128,13 @@ module _ (i : Internet) where
       )
 
   -- Entries that hold nothing keep what is asked for, if they end none of the frames.
-  keeps_asked : (u es : List Entry) → AreAskedFor i u → holds es ≡ []
+  pub keeps_asked : (u es : List Entry) → AreAskedFor i u → holds es ≡ []
       → ((h : Holding) (s : PlaceOf) → Contains (still_held (u ++ es)) h → (q : IsAskedFor i u h s) → was_ended es q.pair ≡ false)
       → AreAskedFor i (u ++ es)
-  keeps_asked u es asked none open h s there found =
+  keeps_asked u es asked none never h s there found =
       let w = held_parts u es h there in
       elim w.0 as (λ _. IsAskedFor i (u ++ es) h s) [
-        | inl before ↦ let q = asked h s before found in again q (open h s there q)
+        | inl before ↦ let q = asked h s before found in again q (never h s there q)
         | inr this ↦ let k = subst (λ hs. In hs h) none this in absurd (nowhere k)
       ]
     where
@@ -203,7 +202,7 @@ module _ (i : Internet) where
           Answered sent read function (source ∙ sym next) sender (seat ∙ sym station)
 
   module _ (ok : Passes i) (fit : SeatsFit i) (u : List Entry) (station : ℕ) (w : Held) (told : IsTold i u) (asks : AreAskedFor i u)
-      (unknown : known i u station w.cable w.next ≡ None) (seated : is_on i station w.cable ≡ true) (next : Fits w.next) where
+      (unknown : own_hardware i station w.cable w.next ≡ None) (seated : is_on i station w.cable ≡ true) (next : Fits w.next) where
     -- The datagram that is held.
     abbrev new : Holding
     new = record { stamp = next_stamp u; cable = w.cable; station = station; next = w.next; bytes = w.bytes }
@@ -281,9 +280,7 @@ module _ (i : Internet) where
 
         never : (hw : Hw) → own_hardware i station w.cable w.next ≡ Some hw → ⊥
         never hw own =
-            let no : Some hw ≡ None =
-            sym (ap (λ o. option_or o (option_or (mapping_in w.next (given i station w.cable)) (learnt_in u station w.cable w.next u))) own)
-            ∙ unknown in
+            let no : Some hw ≡ None = sym own ∙ unknown in
             cc
 
     -- A request goes out, and is pending for the station.

@@ -136,7 +136,7 @@ module _ (i : Internet) (ok : Passes i) (fit : SeatsFit i) where
   ready : (l : Leg) → Framed (leg_bytes l) → Fits (target (leg_bytes l)) → ((a : Addr) → l.next ≡ next.Station a → Fits a) → IsReady l
   ready l framed fits next = record { inside = target_inside (leg_bytes l) framed; fits = fits; next = next }
 
-  made_ready : (l : Leg) → IsMade i l → IsReady l
+  pub made_ready : (l : Leg) → IsMade i l → IsReady l
   made_ready l made =
       let fresh = made.fresh in
       let few : l.hops ≤ 15 = omega (arith, fresh) in
@@ -153,7 +153,7 @@ module _ (i : Internet) (ok : Passes i) (fit : SeatsFit i) where
       by a e (OnCable f n m) = cc
       by a e (ToThese g lt f n m) = cc
 
-  all_ready : (ls : List Leg) → Each (IsMade i) ls → Each IsReady ls
+  pub all_ready : (ls : List Leg) → Each (IsMade i) ls → Each IsReady ls
   all_ready [] made = tt
   all_ready (l ∷ ls) made = (made_ready l made.0, all_ready ls made.1)
 
@@ -187,7 +187,7 @@ module _ (i : Internet) (ok : Passes i) (fit : SeatsFit i) where
   -- ---- Fates
 
   module _ (u : List Entry) (p : Pair) (told : IsTold i u) (framed : Framed p.frame.bytes) (fits : Fits (target p.frame.bytes)) where
-    passed_ready : (r c : ℕ) (whom : Next) → (hops p.frame.bytes == 15) ≡ false → ((a : Addr) → whom ≡ next.Station a → Fits a)
+    pub passed_ready : (r c : ℕ) (whom : Next) → (hops p.frame.bytes == 15) ≡ false → ((a : Addr) → whom ≡ next.Station a → Fits a)
         → IsReady (passed r p c whom)
     passed_ready r c whom more next =
         let top = hops_few p.frame.bytes in
@@ -217,7 +217,7 @@ module _ (i : Internet) (ok : Passes i) (fit : SeatsFit i) where
         by true e = one_dropped i u r HopLimit (body p.frame.bytes)
         by false e = leg_done i ok fit u (passed r p c whom) told (passed_ready r c whom e next)
 
-    final_fits : (a : Addr) → final (target p.frame.bytes) ≡ next.Station a → Fits a
+    pub final_fits : (a : Addr) → final (target p.frame.bytes) ≡ next.Station a → Fits a
     final_fits a e = by ((target p.frame.bytes).node == 255) e
       where
         by : (b : Bool) → cond b next.All (next.Station (target p.frame.bytes)) ≡ next.Station a → Fits a
@@ -351,7 +351,7 @@ module _ (i : Internet) (ok : Passes i) (fit : SeatsFit i) where
         (said_less i (next_stamp (plain i t)) (next_stamp t) (l ∷ []) w.0 (plain_next i t) w.1) w.2.plain_is))
 
     module _ (p : Pair) (there : Contains (pending (cable_seats i) t) p) where
-      put : In t (Put p.frame)
+      pub put : In t (Put p.frame)
       put = (pair_put (cable_seats i) t p (pending_in i (cable_seats i) t p there).0).0
 
       took_entry : (k : Kind) (ps : List Entry) → p.frame.kind ≡ k
@@ -360,12 +360,12 @@ module _ (i : Internet) (ok : Passes i) (fit : SeatsFit i) where
           one_done i t (taking p) ps (IsTook p there) tt
           (ap (plain_took p.frame.stamp p.seat.station) (frame_is i t p.frame e.told put) ∙ same) (omega (arith, none))
 
-      frame_fits : p.frame.kind ≡ Ddp → Fits (target p.frame.bytes)
+      pub frame_fits : p.frame.kind ≡ Ddp → Fits (target p.frame.bytes)
       frame_fits kind =
           let g : EntryFits (Put p.frame) = each_at EntryFits t put.0 (Put p.frame) put.1 e.fits in
           subst (λ k. FrameFits k p.frame.bytes) kind g
 
-      frame_framed : p.frame.kind ≡ Ddp → Framed p.frame.bytes
+      pub frame_framed : p.frame.kind ≡ Ddp → Framed p.frame.bytes
       frame_framed kind =
           let w = whole_is i (plain i t) e.legal in
           let at = contained_at (pending (cable_seats i) w.entries) p

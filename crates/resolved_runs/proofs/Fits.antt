@@ -33,7 +33,10 @@ use Rattle.station.specs.declared.heard.Kind.{Kind}
 use Rattle.station.specs.declared.heard.Kind.TheVariants.{Aarp, Ddp}
 use Rattle.cable_model.specs.Transcript.{Entry, Frame, Sent, Put, Took, Reached, Dropped, Lost, Hold}
 use Rattle.cable_model.proofs.Counting.{At}
-use Rattle.legal_runs.proofs.Legs.{SeatThere, seat_there}
+use Rattle.legal_runs.specs.Carriage.{cable_of_hand}
+use Rattle.legal_runs.specs.Stations.{is_on}
+use Rattle.legal_runs.proofs.Legs.{seat_there}
+use Rattle.legal_runs.proofs.Seated.{port_seated}
 use Rattle.resolved_runs.specs.Fitting.{SeatsFit}
 use Rattle.resolved_runs.specs.Resolved.{request_by, response_by}
 
@@ -215,3 +218,37 @@ hand_owner i r n s c a h = at (slice_get i.routers r) h
     at : (o : Option Router) → hand_at i o n ≡ On s c a → owner i c a ≡ Some s
     at None g = cc
     at (Some router) g = by router (row_for router.rows n) g
+
+-- A router that hands a datagram on over a cable is on it.
+pub hand_seated : (i : Internet) (r n c : ℕ) → cable_of_hand (hand i r n) ≡ Some c → is_on i r c ≡ true
+hand_seated i r n c h = at (slice_get i.routers r) refl h
+  where
+    on : (router : Router) (row : Row) (port : Port) → slice_get i.routers r ≡ Some router → slice_get router.ports row.port ≡ Some port
+        → port.cable ≡ c → is_on i r c ≡ true
+    on router row port known there same =
+        port_seated i r c (record { place = row.port; router = router; port = port; known = known; at = there; on = same })
+
+    to : (router : Router) (row : Row) (port : Port) (o : Option ℕ) → slice_get i.routers r ≡ Some router
+        → slice_get router.ports row.port ≡ Some port → cable_of_hand (hand_to o port.cable row.next) ≡ Some c → is_on i r c ≡ true
+    to router row port None known there e = cc
+    to router row port (Some s) known there e = let same : port.cable ≡ c = cc in on router row port known there same
+
+    over : (router : Router) (row : Row) (port : Port) (b : Bool) → slice_get i.routers r ≡ Some router
+        → slice_get router.ports row.port ≡ Some port
+        → cable_of_hand (cond b (Here port.cable) (hand_to (owner i port.cable row.next) port.cable row.next)) ≡ Some c → is_on i r c ≡ true
+    over router row port true known there e = let same : port.cable ≡ c = cc in on router row port known there same
+    over router row port false known there e = to router row port (owner i port.cable row.next) known there e
+
+    port_by : (router : Router) (row : Row) (o : Option Port) → slice_get i.routers r ≡ Some router → slice_get router.ports row.port ≡ o
+        → cable_of_hand (hand_over i row o) ≡ Some c → is_on i r c ≡ true
+    port_by router row None known there e = cc
+    port_by router row (Some port) known there e = over router row port (is_direct row) known there e
+
+    by : (router : Router) (o : Option Row) → slice_get i.routers r ≡ Some router → cable_of_hand (hand_by i router o) ≡ Some c
+        → is_on i r c ≡ true
+    by router None known e = cc
+    by router (Some row) known e = port_by router row (slice_get router.ports row.port) known refl e
+
+    at : (o : Option Router) → slice_get i.routers r ≡ o → cable_of_hand (hand_at i o n) ≡ Some c → is_on i r c ≡ true
+    at None known e = cc
+    at (Some router) known e = by router (row_for router.rows n) known e

@@ -32,3 +32,4 @@ pub mod PlainCounts
 pub mod PlainLookups
 pub mod Balances
 pub mod Asked
+pub mod AskedRuns

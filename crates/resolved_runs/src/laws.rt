@@ -16,6 +16,7 @@ ghost use Rattle.legal_runs.specs.LossCounts.{lost};
 ghost use Rattle.legal_runs.specs.LossyRuns.{IsLegalWithLosses};
 ghost use Rattle.legal_runs.specs.Lookups.{NodesOnlyAsk};
 ghost use Rattle.legal_runs.specs.Stations.{cable_seats};
+ghost use Rattle.resolved_runs.specs.AskedFor.{AreAskedFor, AreHeldOnce};
 ghost use Rattle.resolved_runs.specs.Example as example;
 ghost use Rattle.resolved_runs.specs.Example.{echo_again, full_ring, plain_echo, resolved_echo};
 ghost use Rattle.resolved_runs.specs.Example.{resolved_to_nobody, ring_released, unmapped};
@@ -67,6 +68,15 @@ pub fn hops_left_with_resolution()
 pub fn lookups_with_resolution()
     ensures { (i : Internet) (t : List Entry) (k : List ℕ)
         → Passes i → SeatsFit i → IsLegalResolved i t → NodesOnlyAsk i t → IsLookedUpResolved i t k }
+{}
+
+/// Asked for. Each datagram is held once; and for each one that is held for a station, a request for
+/// that station's address, or the station's response to the holder, is pending.
+pub fn held_datagrams_are_asked_for()
+    ensures once { (i : Internet) (t : List Entry) → Passes i → SeatsFit i → IsLegalResolved i t
+        → AreHeldOnce t }
+    ensures asked { (i : Internet) (t : List Entry) → Passes i → SeatsFit i → IsLegalResolved i t
+        → AreAskedFor i t }
 {}
 
 /// Carriage. A datagram that reached a cable was carried by no router, or by the routers of its only
