@@ -15,6 +15,7 @@ pub mod HintSteps
 pub mod Owners
 pub mod RowOrder
 pub mod SideBySide
+pub mod SpelledLists
 pub mod ZonesAgree
 pub mod NodesServed
 pub mod Mapped

@@ -9,6 +9,7 @@ use Rattle.table_image.specs.declared.zone_list.ZoneList.{ZoneList}
 use Rattle.table_image.specs.declared.router.Router.{Router}
 use Rattle.audit.specs.Places.{on, index_of}
 use Rattle.audit.specs.Firsts.{FirstPlace}
+use Rattle.audit.specs.GoodLists.{KeepsLists}
 use Rattle.audit.specs.Rules.{c8}
 use Rattle.audit.specs.ZoneLists.{has_double, same_zones, is_list_for, bad_list, lacks_list}
 use Rattle.audit.proofs.Firsts.{on_past, part_at}
@@ -76,10 +77,6 @@ good_list i s k router l at there kept =
     sym (part_at i.routers s router (λ (router : Router). router.lists) k l (λ router. bad_list i) (bad_list i l) at there refl) ∙ kept
 
 -- ---- the order
-
--- no place of router r breaks the rule
-abbrev pub KeepsLists : Internet → ℕ → Type 0
-KeepsLists i r = (k : ℕ) → (c8 i (place.List (suc r) (suc k)) ≡ false) × (c8 i (place.Missing (suc r) (suc k)) ≡ false)
 
 -- no router breaks the rule, where n is past the last one
 pub no_bad_list : (i : Internet) (n : ℕ) → length i.routers ≤ n → ((s : ℕ) → s < n → KeepsLists i s) → FirstPlace (c8 i) None

@@ -57,10 +57,10 @@ fn is_owner(image: &Image, cable: u8, mapping: &Mapping, owner: Owner) -> bool
     }
 }
 
-fn is_hinted(image: &Image, hints: &StationHints, cable: u8, mapping: &Mapping) -> bool
+fn is_hinted(image: &Image, hints: Option<&StationHints>, cable: u8, mapping: &Mapping) -> bool
     ensures { IsTrue result → IsTrue (list_any (is_mapped cable mapping.now) (seats image.now)) }
 {
-    match hints.owner(mapping.address) {
+    match hints.and_then(|hints| hints.owner(mapping.address)) {
         Some(owner) => is_owner(image, cable, mapping, owner),
         None => false,
     }
@@ -98,13 +98,18 @@ fn is_found(image: &Image, cable: u8, mapping: &Mapping) -> bool
     one_router_is(cable, mapping, image.routers()) || one_node_is(cable, mapping, image.nodes())
 }
 
-fn is_true(image: &Image, hints: &StationHints, cable: u8, mapping: &Mapping) -> bool
+fn is_true(image: &Image, hints: Option<&StationHints>, cable: u8, mapping: &Mapping) -> bool
     ensures { result ≡ list_any (is_mapped cable mapping.now) (seats image.now) }
 {
     is_hinted(image, hints, cable, mapping) || is_found(image, cable, mapping)
 }
 
-fn one_is_false(image: &Image, hints: &StationHints, cable: u8, mappings: &[Mapping]) -> bool
+fn one_is_false(
+    image: &Image,
+    hints: Option<&StationHints>,
+    cable: u8,
+    mappings: &[Mapping],
+) -> bool
     ensures { result ≡ list_any (is_false image.now cable) mappings.now }
 {
     mappings
@@ -112,7 +117,12 @@ fn one_is_false(image: &Image, hints: &StationHints, cable: u8, mappings: &[Mapp
         .any(|mapping| !is_true(image, hints, cable, mapping))
 }
 
-fn first_port(image: &Image, hints: &StationHints, r: usize, router: &Router) -> Option<usize>
+fn first_port(
+    image: &Image,
+    hints: Option<&StationHints>,
+    r: usize,
+    router: &Router,
+) -> Option<usize>
     requires { slice_get image.now.routers r ≡ Some router.now }
     ensures first { FirstNumber (λ p. c10 image.now (Place.Port (suc r) (suc p))) result }
     ensures low { IfSome result (λ p. p < length router.now.ports) }
@@ -125,7 +135,7 @@ fn first_port(image: &Image, hints: &StationHints, r: usize, router: &Router) ->
     None
 }
 
-fn bad_port(image: &Image, hints: &StationHints) -> Option<Place>
+fn bad_port(image: &Image, hints: Option<&StationHints>) -> Option<Place>
     ensures none { IfNone result ((r p : ℕ) → c10 image.now (Place.Port (suc r) (suc p)) ≡ false) }
     ensures found { IfSome result (λ place. FirstPlace (c10 image.now) (Some place)) }
 {
@@ -137,7 +147,7 @@ fn bad_port(image: &Image, hints: &StationHints) -> Option<Place>
     None
 }
 
-fn first_node(image: &Image, hints: &StationHints) -> Option<usize>
+fn first_node(image: &Image, hints: Option<&StationHints>) -> Option<usize>
     ensures first { FirstNumber (λ k. c10 image.now (Place.Node (suc k))) result }
     ensures low { IfSome result (λ k. k < 200) }
 {
@@ -149,13 +159,48 @@ fn first_node(image: &Image, hints: &StationHints) -> Option<usize>
     None
 }
 
+// Whether a port or a node has a mapping.
+fn has_mappings(image: &Image) -> bool {
+    let has_port = |router: &Router| {
+        router
+            .ports
+            .as_slice()
+            .iter()
+            .any(|port| !port.mappings.as_slice().is_empty())
+    };
+    image.routers().iter().any(has_port)
+        || image
+            .nodes()
+            .iter()
+            .any(|node| !node.mappings.as_slice().is_empty())
+}
+
+fn first_bad(image: &Image, hints: Option<&StationHints>) -> Option<Place>
+    ensures { FirstPlace (c10 image.now) result }
+{
+    match bad_port(image, hints) {
+        Some(place) => Some(place),
+        None => first_node(image, hints).map(|k| Place::Node(from_one(k))),
+    }
+}
+
+// It is a function of its own, since each call of a function pays for the size of its locals.
+#[inline(never)]
+fn first_bad_by_hints(image: &Image) -> Option<Place>
+    ensures { FirstPlace (c10 image.now) result }
+{
+    let hints = StationHints::of(image);
+    first_bad(image, Some(&hints))
+}
+
 /// The first port or node that breaks rule C10, if any.
 pub(crate) fn bad_mapping(image: &Image) -> Option<Place>
     ensures { FirstPlace (c10 image.now) result }
 {
-    let hints = StationHints::of(image);
-    match bad_port(image, &hints) {
-        Some(place) => Some(place),
-        None => first_node(image, &hints).map(|k| Place::Node(from_one(k))),
+    // Hints are made only where they are needed.
+    if has_mappings(image) {
+        first_bad_by_hints(image)
+    } else {
+        first_bad(image, None)
     }
 }

@@ -2,7 +2,7 @@
 
 use at_base::Addr;
 use at_base::limits::{MAX_NODES, MAX_PORTS, MAX_ROUTERS};
-use table_image::{Image, Node, Port, Router, Version};
+use table_image::{Image, Node, Port, Router};
 
 const MAX_OWNERS: usize = MAX_ROUTERS * MAX_PORTS + MAX_NODES;
 
@@ -68,7 +68,7 @@ impl StationHints {
         self.hints[..len].sort_unstable_by_key(|hint| hint.address);
     }
 
-    /// The hints for all stations of the image; none in version 1, which has no mappings.
+    /// The hints for all stations of the image.
     pub(crate) fn of(image: &Image) -> StationHints {
         let nobody = Hint {
             address: 0,
@@ -78,11 +78,9 @@ impl StationHints {
             hints: [nobody; 3400],
             len: 0,
         };
-        if image.version() == Version::V2 {
-            hints.add_routers(image.routers());
-            hints.add_nodes(image.nodes());
-            hints.sort();
-        }
+        hints.add_routers(image.routers());
+        hints.add_nodes(image.nodes());
+        hints.sort();
         hints
     }
 

@@ -2,7 +2,7 @@
 //! verified before it is used, so a wrong hint costs a search, and doesn't change the result.
 //!
 //! Names are found by their hashes. Where more than a few zones of a cable share one hash, as in an
-//! image that was made to be slow, they are found by the order of their names.
+//! image that was made to be slow, those are found by the order of their names.
 
 ghost use Rattle.std.specs.Prelude.{◌≡◌, ◌<◌, ◌≤◌, ◌+◌, ◌*◌, false, Some, IfSome, position};
 ghost use Rattle.at_base.specs.Text.{same_name};
@@ -10,6 +10,7 @@ ghost use Rattle.at_base.specs.Limits.{max_zones};
 ghost use Rattle.audit.specs.Places.{index_of};
 ghost use Rattle.audit.specs.ZoneLists.{has_double};
 
+use crate::name_order::{Words, ZoneWords};
 use at_base::Name;
 use at_base::limits::MAX_ZONES;
 use table_image::Image;
@@ -27,8 +28,9 @@ const FEW: usize = 4;
 const NONE: u8 = 255;
 
 /// For each cable and each hash of a name, the index of a zone of the cable whose name may have
-/// this hash; and for each zone of a cable, the index of another such zone. For each cable of which
-/// more than `FEW` zones have one hash, its zones in the order of their names.
+/// this hash, unless more than `FEW` have it; and for each zone of a cable, the index of another such
+/// zone. For each cable of which more than `FEW` zones have one hash, its zones in the order of their
+/// names.
 #[derive(Drop)]
 pub(crate) struct ZoneHints {
     first: [u8; 256 * HASHES],
@@ -57,10 +59,10 @@ fn hash(name: &Name) -> usize {
     (sum >> 7) as usize
 }
 
-fn first_slot(cable: usize, name: &Name) -> usize
+fn first_slot(cable: usize, hash: usize) -> usize
     ensures { result < 256 * 512 }
 {
-    cable % 256 * HASHES + hash(name) % HASHES
+    cable % 256 * HASHES + hash % HASHES
 }
 
 fn next_slot(cable: usize, zone: usize) -> usize
@@ -75,41 +77,6 @@ fn search(zones: &[Name], name: &Name) -> Option<usize>
     zones.iter().position(|zone| name.same(zone))
 }
 
-// Whether a name comes before another one, ignoring case.
-fn comes_before(name: &Name, other: &Name) -> bool {
-    let mut others = other.as_slice().iter();
-    for byte in name.as_slice() {
-        let Some(next) = others.next() else {
-            return false;
-        };
-        let (here, there) = (byte.to_ascii_lowercase(), next.to_ascii_lowercase());
-        if here != there {
-            return here < there;
-        }
-    }
-    others.next().is_some()
-}
-
-// The number of zones, of those with these indices, whose names come before the name, if the
-// indices are in the order of the names.
-fn place_in(order: &[u8], zones: &[Name], name: &Name) -> usize {
-    let mut low = 0;
-    let mut high = order.len();
-    // At most 255 zones are halved eight times.
-    for _ in 0..8 {
-        if low >= high {
-            return low;
-        }
-        let middle = low + (high - low) / 2;
-        let zone = order.get(middle).and_then(|k| zones.get(*k as usize));
-        match zone {
-            Some(zone) if comes_before(zone, name) => low = middle + 1,
-            _ => high = middle,
-        }
-    }
-    low
-}
-
 // The slot of the first zone of a cable in the order of names.
 fn order_slot(cable: usize) -> usize
     ensures { result + max_zones ≤ 256 * max_zones }
@@ -118,40 +85,48 @@ fn order_slot(cable: usize) -> usize
 }
 
 impl ZoneHints {
-    // Adds the zones of a cable. Returns whether more than `FEW` have one hash.
-    fn add_hashes(&mut self, cable: usize, zones: &[Name]) -> bool {
-        let mut depths = [0u8; 256];
-        let mut is_crowded = false;
+    // Adds the zones of a cable, and counts those of each hash.
+    fn add_hashes(&mut self, cable: usize, zones: &[Name]) -> [u8; HASHES] {
+        let mut counts = [0u8; HASHES];
         for (k, zone) in zones.iter().enumerate() {
-            let slot = first_slot(cable, zone);
-            let other = self.first[slot];
-            let depth = if other == NONE {
-                1
-            } else {
-                depths[other as usize].saturating_add(1)
-            };
-            depths[k % 256] = depth;
-            is_crowded |= depth as usize > FEW;
-            self.next[next_slot(cable, k)] = other;
+            let hash = hash(zone) % HASHES;
+            let slot = first_slot(cable, hash);
+            counts[hash] = counts[hash].saturating_add(1);
+            self.next[next_slot(cable, k)] = self.first[slot];
             self.first[slot] = (k % 256) as u8;
+        }
+        counts
+    }
+
+    // Takes out the hashes that more than `FEW` zones have. Returns whether there are any.
+    fn take_crowded(&mut self, cable: usize, counts: &[u8; HASHES]) -> bool {
+        let mut is_crowded = false;
+        for (hash, count) in counts.iter().enumerate() {
+            if *count as usize > FEW {
+                self.first[first_slot(cable, hash)] = NONE;
+                is_crowded = true;
+            }
         }
         is_crowded
     }
 
     // Puts the zones of a cable in the order of their names.
     fn add_order(&mut self, cable: usize, zones: &[Name]) {
+        let words = ZoneWords::of(zones);
         let start = order_slot(cable);
-        for (k, zone) in zones.iter().take(ZONES).enumerate() {
-            let place = place_in(&self.order[start..start + k], zones, zone);
+        for k in 0..zones.len().min(ZONES) {
+            let zone = (k % 256) as u8;
+            let place = words.place_in(&self.order[start..start + k], words.at(zone));
             for j in (place..k).rev() {
                 self.order[start + j + 1] = self.order[start + j];
             }
-            self.order[start + place.min(k)] = (k % 256) as u8;
+            self.order[start + place.min(k)] = zone;
         }
     }
 
     fn add_zones(&mut self, cable: usize, zones: &[Name]) {
-        if self.add_hashes(cable, zones) {
+        let counts = self.add_hashes(cable, zones);
+        if self.take_crowded(cable, &counts) {
             self.crowded[cable % 256] = true;
             self.add_order(cable, zones);
         }
@@ -176,7 +151,7 @@ impl ZoneHints {
         requires { has_double zones.now ≡ false }
         ensures { IfSome result (λ k. Some k ≡ index_of (same_name name.now) zones.now) }
     {
-        let mut hint = self.first[first_slot(cable, name)] as usize;
+        let mut hint = self.first[first_slot(cable, hash(name))] as usize;
         for _ in 0..FEW {
             let zone = zones.get(hint)?;
             if name.same(zone) {
@@ -187,17 +162,26 @@ impl ZoneHints {
         None
     }
 
+    /// Whether zones of the cable are found by the order of their names.
+    pub(crate) fn is_crowded(&self, cable: usize) -> bool {
+        self.crowded[cable % 256]
+    }
+
     // Looks where the name stands among those of the cable's zones.
-    fn ordered(&self, cable: usize, zones: &[Name], name: &Name) -> Option<usize>
+    fn ordered(
+        &self,
+        words: Option<&ZoneWords>,
+        cable: usize,
+        zones: &[Name],
+        name: &Name,
+    ) -> Option<usize>
         requires { has_double zones.now ≡ false }
         ensures { IfSome result (λ k. Some k ≡ index_of (same_name name.now) zones.now) }
     {
-        if !self.crowded[cable % 256] {
-            return None;
-        }
         let start = order_slot(cable);
         let order = &self.order[start..start + zones.len().min(ZONES)];
-        let hint = *order.get(place_in(order, zones, name))? as usize;
+        let place = words?.place_in(order, &Words::of(name));
+        let hint = *order.get(place)? as usize;
         let zone = zones.get(hint)?;
         if name.same(zone) {
             return Some(hint);
@@ -205,34 +189,24 @@ impl ZoneHints {
         None
     }
 
-    /// The 0-based index of the zone of a cable that has the name, ignoring case, if any.
-    pub(crate) fn find(&self, cable: usize, zones: &[Name], name: &Name) -> Option<usize>
+    /// The 0-based index of the zone of a cable that has the name, ignoring case, if any. The words
+    /// are those of the cable's zones, if it is crowded.
+    pub(crate) fn find(
+        &self,
+        words: Option<&ZoneWords>,
+        cable: usize,
+        zones: &[Name],
+        name: &Name,
+    ) -> Option<usize>
         requires { has_double zones.now ≡ false }
         ensures { result ≡ index_of (same_name name.now) zones.now }
     {
         if let Some(k) = self.hinted(cable, zones, name) {
             return Some(k);
         }
-        match self.ordered(cable, zones, name) {
+        match self.ordered(words, cable, zones, name) {
             Some(k) => Some(k),
             None => search(zones, name),
         }
-    }
-}
-
-/// The index of the zone with the name, ignoring case, if there is one: by the hints, if they are
-/// made.
-pub(crate) fn find(
-    hints: Option<&ZoneHints>,
-    cable: usize,
-    zones: &[Name],
-    name: &Name,
-) -> Option<usize>
-    requires { has_double zones.now ≡ false }
-    ensures { result ≡ index_of (same_name name.now) zones.now }
-{
-    match hints {
-        Some(hints) => hints.find(cable, zones, name),
-        None => search(zones, name),
     }
 }

@@ -9,7 +9,7 @@ ghost use Rattle.audit.specs.Firsts.{FirstNumber, FirstPlace};
 ghost use Rattle.audit.specs.Rules.{c1, c8};
 ghost use Rattle.audit.specs.ZoneLists as spec;
 ghost use Rattle.audit.specs.ZoneLists.{bad_list};
-ghost use Rattle.audit.specs.GoodLists.{AreGood, AreGoodBelow};
+ghost use Rattle.audit.specs.GoodLists.{AreGood, AreGoodBelow, KeepsList, KeepsLists};
 
 use crate::places::from_one;
 use crate::zone_hints::ZoneHints;
@@ -45,27 +45,19 @@ fn cable_of(image: &Image, hint: usize, list: &ZoneList) -> Option<usize>
 }
 
 // Whether a complete list for cable c is bad.
-fn is_bad_for(image: &Image, hints: &mut Option<ZoneHints>, c: usize, list: &ZoneList) -> bool
+fn is_bad_for(image: &Image, hints: &ZoneHints, c: usize, list: &ZoneList) -> bool
     requires cables { FirstPlace (c1 image.now) None }
     requires cable { index_of (spec.is_list_for list.now) image.now.cables ≡ Some c }
     requires complete { list.now.complete ≡ true }
     ensures { result ≡ bad_list image.now list.now }
 {
     match image.cables().get(c) {
-        Some(cable) => {
-            !are_zones_of(
-                image,
-                hints,
-                c,
-                cable.zones.as_slice(),
-                list.zones.as_slice(),
-            )
-        }
+        Some(cable) => { !are_zones_of(hints, c, cable.zones.as_slice(), list.zones.as_slice()) }
         None => true,
     }
 }
 
-fn is_bad(image: &Image, hints: &mut Option<ZoneHints>, k: usize, list: &ZoneList) -> bool
+fn is_bad(image: &Image, hints: &ZoneHints, k: usize, list: &ZoneList) -> bool
     requires { FirstPlace (c1 image.now) None }
     ensures { result ≡ bad_list image.now list.now }
 {
@@ -91,7 +83,7 @@ fn are_equal(a: &ZoneList, b: &ZoneList) -> bool
 // Whether list k is bad, where no list of the router before is.
 fn is_bad_after(
     image: &Image,
-    hints: &mut Option<ZoneHints>,
+    hints: &ZoneHints,
     before: &[ZoneList],
     k: usize,
     list: &ZoneList,
@@ -110,7 +102,7 @@ fn is_bad_after(
 
 fn first_list(
     image: &Image,
-    hints: &mut Option<ZoneHints>,
+    hints: &ZoneHints,
     before: &[ZoneList],
     r: usize,
     router: &Router,
@@ -172,16 +164,72 @@ fn lists_before(image: &Image, r: usize) -> &[ZoneList]
     }
 }
 
-/// The first zone list that is bad, or the first cable for which a router has no list, if any.
-pub(crate) fn bad_zone_list(image: &Image) -> Option<Place>
+// Whether the list has the range of the cable and its zones, in the same order and spelling.
+fn is_spelled_like(list: &ZoneList, cable: &Cable) -> bool
+    ensures complete { IsTrue result → list.now.complete ≡ true }
+    ensures range { IsTrue result → spec.is_list_for list.now cable.now ≡ true }
+    ensures zones { IsTrue result → list.now.zones ≡ cable.now.zones }
+{
+    list.complete
+        && is_for(list, cable)
+        && are_spelled_alike(list.zones.as_slice(), cable.zones.as_slice())
+}
+
+// Whether list k of router r is spelled like cable k.
+fn is_spelled_at(image: &Image, r: usize, router: &Router, k: usize, cable: &Cable) -> bool
+    requires cables { FirstPlace (c1 image.now) None }
+    requires at { slice_get image.now.routers r ≡ Some router.now }
+    requires cable { slice_get image.now.cables k ≡ Some cable.now }
+    ensures { IsTrue result → KeepsList image.now r k }
+{
+    match router.lists.as_slice().get(k) {
+        Some(list) => is_spelled_like(list, cable),
+        None => false,
+    }
+}
+
+// Whether each list of router r is spelled like the cable with its number, and each cable has one.
+fn are_spelled_like_cables(image: &Image, r: usize, router: &Router) -> bool
+    requires cables { FirstPlace (c1 image.now) None }
+    requires at { slice_get image.now.routers r ≡ Some router.now }
+    ensures { IsTrue result → KeepsLists image.now r }
+{
+    let cables = image.cables();
+    if router.lists.len() > cables.len() {
+        return false;
+    }
+    for (k, cable) in cables.iter().enumerate() {
+        if !is_spelled_at(image, r, router, k, cable) {
+            return false;
+        }
+    }
+    true
+}
+
+// Whether all lists of all routers are spelled like the cables, as most are.
+fn all_are_spelled_like_cables(image: &Image) -> bool
+    requires { FirstPlace (c1 image.now) None }
+    ensures { IsTrue result → FirstPlace (c8 image.now) None }
+{
+    for (r, router) in image.routers().iter().enumerate() {
+        if !are_spelled_like_cables(image, r, router) {
+            return false;
+        }
+    }
+    true
+}
+
+// The first bad list or missing one. It is a function of its own, since each call of a function pays
+// for the size of its locals.
+#[inline(never)]
+fn first_bad(image: &Image) -> Option<Place>
     requires { FirstPlace (c1 image.now) None }
     ensures { FirstPlace (c8 image.now) result }
 {
-    // Made only where a list isn't spelled as its cable.
-    let mut hints = None;
+    let hints = ZoneHints::of(image);
     for (r, router) in image.routers().iter().enumerate() {
         let before = lists_before(image, r);
-        if let Some(k) = first_list(image, &mut hints, before, r, router) {
+        if let Some(k) = first_list(image, &hints, before, r, router) {
             return Some(Place::List(from_one(r), from_one(k)));
         }
         if let Some(k) = first_missing(image, r, router) {
@@ -189,4 +237,15 @@ pub(crate) fn bad_zone_list(image: &Image) -> Option<Place>
         }
     }
     None
+}
+
+/// The first zone list that is bad, or the first cable for which a router has no list, if any.
+pub(crate) fn bad_zone_list(image: &Image) -> Option<Place>
+    requires { FirstPlace (c1 image.now) None }
+    ensures { FirstPlace (c8 image.now) result }
+{
+    if all_are_spelled_like_cables(image) {
+        return None;
+    }
+    first_bad(image)
 }

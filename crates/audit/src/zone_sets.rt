@@ -7,10 +7,10 @@ ghost use Rattle.at_base.specs.Limits.{max_zones};
 ghost use Rattle.audit.specs.Found.{is_found, all_found};
 ghost use Rattle.audit.specs.ZoneLists.{has_double, are_among};
 
-use crate::zone_hints::{ZoneHints, find};
+use crate::name_order::ZoneWords;
+use crate::zone_hints::ZoneHints;
 use at_base::Name;
 use at_base::limits::MAX_ZONES;
-use table_image::Image;
 
 // Goes on to the end after a false mark, so that many marks can be handled at once.
 fn fold_all(marks: &[bool]) -> bool
@@ -80,11 +80,42 @@ pub(crate) fn are_spelled_alike(names: &[Name], others: &[Name]) -> bool
     true
 }
 
-/// Whether the names are those of a cable's zones, each once, in any order and case. The hints are
-/// made if there are none yet and the spelling alone doesn't tell.
-pub(crate) fn are_zones_of(
-    image: &Image,
-    hints: &mut Option<ZoneHints>,
+/// Whether the names are those of a cable's zones, each once, in any order and case.
+pub(crate) fn are_zones_of(hints: &ZoneHints, cable: usize, zones: &[Name], names: &[Name]) -> bool
+    requires once { has_double zones.now ≡ false }
+    requires few { length zones.now ≤ max_zones }
+    ensures { result
+        ≡ (not (has_double names.now)
+        && (are_among names.now zones.now && are_among zones.now names.now)) }
+{
+    if are_spelled_alike(names, zones) {
+        return true;
+    }
+    if hints.is_crowded(cable) {
+        have_all_by_words(hints, cable, zones, names)
+    } else {
+        have_all(hints, None, cable, zones, names)
+    }
+}
+
+// Whether the names are those of a crowded cable's zones, each once. It is a function of its own,
+// since each call of a function pays for the size of its locals.
+#[inline(never)]
+fn have_all_by_words(hints: &ZoneHints, cable: usize, zones: &[Name], names: &[Name]) -> bool
+    requires once { has_double zones.now ≡ false }
+    requires few { length zones.now ≤ max_zones }
+    ensures { result
+        ≡ (not (has_double names.now)
+        && (are_among names.now zones.now && are_among zones.now names.now)) }
+{
+    let words = ZoneWords::of(zones);
+    have_all(hints, Some(&words), cable, zones, names)
+}
+
+// Whether the names are those of a cable's zones, each once.
+fn have_all(
+    hints: &ZoneHints,
+    words: Option<&ZoneWords>,
     cable: usize,
     zones: &[Name],
     names: &[Name],
@@ -95,33 +126,9 @@ pub(crate) fn are_zones_of(
         ≡ (not (has_double names.now)
         && (are_among names.now zones.now && are_among zones.now names.now)) }
 {
-    if are_spelled_alike(names, zones) {
-        return true;
-    }
-    if hints.is_none() {
-        make(hints, image);
-    }
-    have_all(hints.as_ref(), cable, zones, names)
-}
-
-/// Makes the hints. It is a function of its own, since each call of a function pays for the size of
-/// its locals.
-#[inline(never)]
-fn make(hints: &mut Option<ZoneHints>, image: &Image) {
-    *hints = Some(ZoneHints::of(image));
-}
-
-// Whether the names are those of a cable's zones, each once.
-fn have_all(hints: Option<&ZoneHints>, cable: usize, zones: &[Name], names: &[Name]) -> bool
-    requires once { has_double zones.now ≡ false }
-    requires few { length zones.now ≤ max_zones }
-    ensures { result
-        ≡ (not (has_double names.now)
-        && (are_among names.now zones.now && are_among zones.now names.now)) }
-{
     let mut found = Found::none();
     for name in names {
-        match find(hints, cable, zones, name) {
+        match hints.find(words, cable, zones, name) {
             Some(k) => {
                 if found.has(k) {
                     return false;

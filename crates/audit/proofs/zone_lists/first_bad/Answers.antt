@@ -1,7 +1,7 @@
 use Rattle.std.proofs.Common.{arith}
 use Rattle.audit.proofs.Firsts.{item_at, end_of}
 use Rattle.audit.proofs.ListPlaces.{no_bad_list}
-use Rattle.audit.proofs.zone_lists.bad_zone_list.Goals as goal
+use Rattle.audit.proofs.zone_lists.first_bad.Goals as goal
 
 pub from_one-requires-in-Some : goal.from_one-requires-in-Some
 from_one-requires-in-Some c =
