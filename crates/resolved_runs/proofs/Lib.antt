@@ -33,3 +33,7 @@ pub mod PlainLookups
 pub mod Balances
 pub mod Asked
 pub mod AskedRuns
+pub mod OwnCables
+pub mod Bearing
+pub mod Borne
+pub mod Heard

@@ -1,13 +1,12 @@
 -- What is known of datagrams that are held for stations: they are asked for; and where no frame is pending, every datagram
 -- was heard.
-use Rattle.std.specs.Prelude.{◌≡◌, ◌+◌, ℕ, Bool, ◌&&◌, ◌==◌, List, [], Some, None, Contains, is_some}
+use Rattle.std.specs.Prelude.{◌≡◌, ◌+◌, ℕ, Bool, ◌&&◌, ◌==◌, List, [], Some, Contains, is_some}
 use Rattle.at_base.specs.Text.{same_bytes}
 use Rattle.aarp.specs.declared.packet.Function.TheVariants.{Request, Response}
 use Rattle.aarp.specs.declared.packet.Packet.{Packet}
 use Rattle.ddp.specs.Bodies.{body, target}
 use Rattle.table_image.specs.Internet.{Internet}
 use Rattle.table_image.specs.Seats.{Seat, seat_at}
-use Rattle.audit.specs.Routing.{home}
 use Rattle.station.specs.Resolution.{packet_at}
 use Rattle.station.specs.declared.heard.Kind.TheVariants.{Aarp}
 use Rattle.cable_model.specs.Holdings.{holds, still_held}
@@ -54,14 +53,31 @@ brings station b p =
 abbrev pub heard : Internet → ℕ → List ℕ → List Entry → ℕ
 heard i station b t = count (λ p. was_taken t p && brings station b p) (pairs (cable_seats i) t)
 
+-- The pair is a frame to one station, with a datagram of this body.
+abbrev pub bears : List ℕ → Pair → Bool
+bears b p = is_datagram p.frame.kind && (is_unicast p.frame.to && same_bytes b (body p.frame.bytes))
+
+-- The datagram is held for a station, and has this body.
+abbrev pub is_kept_for_one : Internet → List ℕ → Holding → Bool
+is_kept_for_one i b h = is_some (seat_at i h.cable h.next) && same_bytes b (body h.bytes)
+
+-- How often the body is on its way from station to station: in pending frames to one station, or held for one.
+abbrev pub on_its_way : Internet → List ℕ → List Entry → ℕ
+on_its_way i b t = count (bears b) (pending (cable_seats i) t) + count (is_kept_for_one i b) (still_held t)
+
 -- How often the body was given up while it was held for a station.
 abbrev pub let_down : Internet → List ℕ → List Entry → ℕ
-let_down i b t = count (λ h. was_given_up t h && (is_some (seat_at i h.cable h.next) && same_bytes b (body h.bytes))) (holds t)
+let_down i b t = count (λ h. was_given_up t h && is_kept_for_one i b h) (holds t)
+
+-- Each body to a station's address was taken by that station, is on its way, or was given up, as often as it was sent.
+abbrev pub AreHeardOrOnTheirWay : Internet → List Entry → Type 0
+AreHeardOrOnTheirWay i t =
+    (b : List ℕ) (c : ℕ) (s : Seat) → seat_at i c (target b) ≡ Some s
+    → sent b t ≡ heard i s.station b t + on_its_way i b t + let_down i b t
 
 -- Where no frame is pending, each body to a station's address was taken by that station, or given up, as often as it was
 -- sent.
 abbrev pub AreHeard : Internet → List Entry → Type 0
 AreHeard i t =
-    pending (cable_seats i) t ≡ []
-    → (b : List ℕ) (c : ℕ) (s : Seat) → home i (target b).net ≡ Some c → seat_at i c (target b) ≡ Some s
+    pending (cable_seats i) t ≡ [] → (b : List ℕ) (c : ℕ) (s : Seat) → seat_at i c (target b) ≡ Some s
     → sent b t ≡ heard i s.station b t + let_down i b t

@@ -16,7 +16,8 @@ ghost use Rattle.legal_runs.specs.LossCounts.{lost};
 ghost use Rattle.legal_runs.specs.LossyRuns.{IsLegalWithLosses};
 ghost use Rattle.legal_runs.specs.Lookups.{NodesOnlyAsk};
 ghost use Rattle.legal_runs.specs.Stations.{cable_seats};
-ghost use Rattle.resolved_runs.specs.AskedFor.{AreAskedFor, AreHeldOnce};
+ghost use Rattle.resolved_runs.specs.AskedFor.{AreAskedFor, AreHeard, AreHeardOrOnTheirWay};
+ghost use Rattle.resolved_runs.specs.AskedFor.{AreHeldOnce};
 ghost use Rattle.resolved_runs.specs.Example as example;
 ghost use Rattle.resolved_runs.specs.Example.{echo_again, full_ring, plain_echo, resolved_echo};
 ghost use Rattle.resolved_runs.specs.Example.{resolved_to_nobody, ring_released, unmapped};
@@ -77,6 +78,16 @@ pub fn held_datagrams_are_asked_for()
         → AreHeldOnce t }
     ensures asked { (i : Internet) (t : List Entry) → Passes i → SeatsFit i → IsLegalResolved i t
         → AreAskedFor i t }
+{}
+
+/// Heard. Each body to a station's address was taken by that station, is on its way in frames or
+/// held, or was given up while it was held, as often as it was sent. So where no frame is pending,
+/// it was taken or given up as often as it was sent.
+pub fn datagrams_are_heard()
+    ensures always { (i : Internet) (t : List Entry) → Passes i → SeatsFit i → IsLegalResolved i t
+        → AreHeardOrOnTheirWay i t }
+    ensures at_rest { (i : Internet) (t : List Entry) → Passes i → SeatsFit i → IsLegalResolved i t
+        → AreHeard i t }
 {}
 
 /// Carriage. A datagram that reached a cable was carried by no router, or by the routers of its only
