@@ -3,11 +3,16 @@ import collections
 import struct
 
 ZONES = [b"Red", b"Blue", b"red", b"BLUE", b"Machine Room", b"a" * 32, b"~", b"Green"]
+FIRST_NODE = 60000  # the station that the first node is; the ports of router R, from 0, are stations from 16 R on
+
+
+def hardware(station):
+    return b"\x02\0\0\0" + struct.pack(">H", station)
 
 
 def addressed(place, net, node, station):
     """A cable's place, an address on it, and the hardware address of a station."""
-    return struct.pack(">BHB", place, net, node) + b"\x02\0\0\0" + struct.pack(">H", station)
+    return struct.pack(">BHB", place, net, node) + hardware(station)
 
 
 def texts(*names):
@@ -133,7 +138,8 @@ class Made:
         rows = [struct.pack(">HHBBHBB", *row) for row in rows]
         return b"".join(bytes([len(part)]) + b"".join(part) for part in (ports, rows, lists))
 
-    def node(self, number):
+    def some_node(self, number):
+        """A node, whose router and zone are perhaps not as they should be."""
         k = self.chance.randrange(len(self.cables))
         zone = self.chance.choice(self.zones[k])
         address = (self.within(k), 100 + number)
@@ -141,9 +147,11 @@ class Made:
         router = self.chance.choice(near) if near else None
         if self.chance.random() < 0.2:
             zone, router = self.spoil_node(zone, router, address)
-        names = self.names()
-        self.nodes.append((k, address, zone, router, names))
-        out = addressed(k, *address, 60000 + number) + texts(zone)
+        return k, address, zone, router, self.names()
+
+    def node(self, number):
+        k, address, zone, router, names = self.nodes[number]
+        out = addressed(k, *address, FIRST_NODE + number) + texts(zone)
         out += struct.pack(">BHB", 1, *router) if router else b"\0"
         named = b"".join(bytes([128 + e, e]) + texts(*name) for e, name in enumerate(names, 1))
         return out + bytes([len(names)]) + named + self.mappings(k)
@@ -214,35 +222,58 @@ class Made:
         lists = [self.lists() for _ in self.routers]
         for _ in range(self.chance.choice([0, 1, 1, 2]) if lists and self.spoiled else 0):
             self.spoil_lists(self.chance.choice(lists))
+        self.nodes = [self.some_node(number) for number in range(self.node_count())]
         out = [b"ATIM", bytes([self.version, len(self.cables)])]
         out += [struct.pack(">HH", *ends) + zone_list(names) for ends, names in zip(self.cables, self.zones)]
         out.append(bytes([len(self.routers)]))
         out += [self.router(r, rows[r], lists[r]) for r in range(len(self.routers))]
-        nodes = [self.node(number) for number in range(self.node_count())]
-        return b"".join(out) + bytes([len(nodes)]) + b"".join(nodes)
+        out.append(bytes([len(self.nodes)]))
+        out += [self.node(number) for number in range(len(self.nodes))]
+        return b"".join(out)
 
 
 class InVersion2:
-    """What makes the image of an internet one of version 2: ports and nodes know some of the routers' ports near them."""
+    """What makes the image of an internet one of version 2: ports and nodes know some of the stations of their cables."""
 
     version = 2
     most_zones = 255
 
     def mappings(self, cable):
         chance = self.chance
-        known = {}
-        for r, ports in enumerate(self.routers):
-            for p, (k, *address) in enumerate(ports):
-                if k == cable and chance.random() < 0.5:
-                    known[tuple(address)] = 16 * r + p
-        for _ in range(chance.choice([0, 0, 0, 1, 2])):
-            known[self.within(cable), chance.randint(1, 253)] = chance.randrange(65536)
+        known = {address: station for address, station in self.stations(cable) if chance.random() < 0.5}
+        if self.spoiled and chance.random() < 0.03:
+            self.spoil_mappings(known, cable)
         order = sorted(known)
-        if chance.random() < 0.01:
+        if self.spoiled and chance.random() < 0.01:
             chance.shuffle(order)
-        return struct.pack(">H", len(order)) + b"".join(
-            struct.pack(">HB", *address) + b"\x02\0\0\0" + struct.pack(">H", known[address]) for address in order
-        )
+        return struct.pack(">H", len(order)) + b"".join(struct.pack(">HB", *address) + hardware(known[address]) for address in order)
+
+    def stations(self, cable):
+        """The ports and the nodes on a cable, each as its address and its number as a station."""
+        ports = [(k, (net, node), 16 * r + p) for r, ports in enumerate(self.routers) for p, (k, net, node) in enumerate(ports)]
+        nodes = [(k, address, FIRST_NODE + number) for number, (k, address, *_) in enumerate(self.nodes)]
+        return [(address, station) for k, address, station in ports + nodes if k == cable]
+
+    def spoil_mappings(self, known, cable):
+        """Adds a mapping, mostly a false one: another's hardware address or nobody's, another's address or nobody's, or the
+        right pair of a station that is perhaps on another cable."""
+        chance = self.chance
+        everywhere = [station for k in range(len(self.cables)) for station in self.stations(k)]
+        if not everywhere:
+            return
+        address, station = chance.choice(self.stations(cable) or everywhere)
+        another = chance.choice(everywhere)
+        kind = chance.randrange(5)
+        if kind == 0:
+            known[address] = another[1]
+        elif kind == 1:
+            known[address] = chance.randrange(65536)
+        elif kind == 2:
+            known[another[0]] = station
+        elif kind == 3:
+            known[self.within(cable), chance.randint(1, 253)] = station
+        else:
+            known[another[0]] = another[1]
 
 
 class MadeInVersion2(InVersion2, Made):
