@@ -246,7 +246,8 @@ class InVersion2:
         order = sorted(known)
         if self.spoiled and chance.random() < 0.01:
             chance.shuffle(order)
-        return struct.pack(">H", len(order)) + b"".join(struct.pack(">HB", *address) + hardware(known[address]) for address in order)
+        spelled = [struct.pack(">HB", *address) + hardware(known[address]) for address in order]
+        return struct.pack(">H", len(spelled)) + b"".join(spelled)
 
     def stations(self, cable):
         """The ports and the nodes on a cable, each as its address and its number as a station."""
