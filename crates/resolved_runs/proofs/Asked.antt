@@ -1,17 +1,16 @@
 -- Datagrams that are held for stations are asked for.
-use Rattle.std.proofs.Common.{◌≡◌, ◌≢◌, ◌⊎◌, inl, inr, ◌≤◌, ◌<◌, ◌+◌, ◌-◌, ℕ, zero, suc, Bool, true, false, not, cond, if◌then◌else◌, nat_lt}
-use Rattle.std.proofs.Common.{◌||◌, ◌&&◌, ◌==◌, List, [], ◌∷◌, ◌++◌, Option, Some, None, Contains, refl, sym, ap, ◌∙◌, subst, arith, append_assoc}
-use Rattle.std.proofs.Common.{append-nil, is_some, filter, map, find, eqb-true, eq-eqb, ne_eqb, true≢false, slice_get}
+use Rattle.std.proofs.Common.{◌≡◌, ◌≢◌, ◌⊎◌, inl, inr, ◌≤◌, ◌<◌, ℕ, zero, suc, Bool, true, false, not, if◌then◌else◌}
+use Rattle.std.proofs.Common.{◌||◌, ◌&&◌, ◌==◌, List, [], ◌∷◌, ◌++◌, Option, Some, None, Contains, refl, sym, ap, ◌∙◌, subst, arith}
+use Rattle.std.proofs.Common.{filter, map, eqb-true, eq-eqb, ne_eqb, true≢false}
 use Rattle.std.specs.List.{list_any, AllByRecursion as Each}
-use Rattle.std.proofs.lemmas.Bool.{and_parts, cases_Bool, false_from_ne_true, or_cases, or_from, or_parts}
+use Rattle.std.proofs.lemmas.Bool.{and_parts, false_from_ne_true, or_cases, or_parts}
 use Rattle.aarp.specs.Packets.{packet, written}
 use Rattle.aarp.specs.declared.packet.Function.{Function}
 use Rattle.aarp.specs.declared.packet.Function.TheVariants.{Probe, Request, Response}
 use Rattle.aarp.specs.declared.packet.Packet.{Packet}
 use Rattle.at_base.specs.Address.{same_address}
-use Rattle.at_base.specs.Multicast.{all_hw, group_hw}
+use Rattle.at_base.specs.Multicast.{all_hw}
 use Rattle.at_base.specs.Spelling.{bytes_of}
-use Rattle.at_base.specs.declared.address.Addr.{Addr}
 use Rattle.at_base.specs.declared.address.Hw.{Hw}
 use Rattle.table_image.specs.Internet.{Internet}
 use Rattle.table_image.specs.Seats.{Seat as PlaceOf, seat_at, seats}
@@ -19,19 +18,17 @@ use Rattle.audit.specs.Rules.{Passes}
 use Rattle.audit.proofs.Finding.{any_at, any_from}
 use Rattle.audit.proofs.WalkLists.{find_found}
 use Rattle.station.specs.Resolution.{packet_at}
-use Rattle.station.specs.declared.heard.Kind.{Kind}
-use Rattle.station.specs.declared.heard.Kind.TheVariants.{Aarp, Ddp}
+use Rattle.station.specs.declared.heard.Kind.TheVariants.{Aarp}
 use Rattle.cable_model.specs.Books.{has_took}
-use Rattle.cable_model.specs.Holdings.{holds, holds_of, released_frame, releases, still_held, was_released}
+use Rattle.cable_model.specs.Holdings.{holds, holds_of, released_frame, releases, still_held}
 use Rattle.cable_model.specs.Outcomes.{Held}
 use Rattle.cable_model.specs.Outgoing.{asked, held_entries, let_go}
 use Rattle.cable_model.specs.Pending.{Pair, ends, is_heard, pairs, pairs_of, pending, was_ended}
 use Rattle.cable_model.specs.Transcript.{Entry, Frame, Holding, Sent, Put, Took, Reached, Dropped, Lost, Hold, has_put, is_put, next_stamp}
-use Rattle.cable_model.specs.Transcript.{stamp_after, stamp_from}
 use Rattle.cable_model.specs.declared.seat.Seat.{Seat}
 use Rattle.cable_model.proofs.Counting.{any-append, each_at}
 use Rattle.cable_model.proofs.Pairs.{pairs-append}
-use Rattle.cable_model.proofs.Stamps.{above_next, above_this, stamp_from_more, held_below, holds-append, next_after, put_below}
+use Rattle.cable_model.proofs.Stamps.{above_this, stamp_from_more, held_below, holds-append, next_after, put_below}
 use Rattle.legal_runs.specs.Stations.{cable_seat, cable_seats, is_on}
 use Rattle.legal_runs.proofs.Legs.{same_address_is, same_address_self, seat_there}
 use Rattle.legal_runs.proofs.Seated.{heard_alone}
@@ -49,7 +46,6 @@ use Rattle.resolved_runs.proofs.Stamped.{frame_is}
 use Rattle.resolved_runs.proofs.Steps.{is_still, still_more}
 use Rattle.resolved_runs.proofs.Told.{Fact, Fitting, IsAarp, IsDropped, IsHeld, IsLost, IsNew, IsPacket, IsReached, IsReleased, IsSent, IsTold}
 use Rattle.resolved_runs.proofs.Told.{IsTook, More, Nothing}
-use Rattle.resolved_runs.proofs.Truths.{packet_told}
 
 module _ (i : Internet) where
   -- ---- What ends has an earlier stamp

@@ -1,42 +1,40 @@
 -- After each block of a transcript that is legal with resolution, what is held for stations is asked for.
-use Rattle.std.proofs.Common.{◌≡◌, ◌<◌, ℕ, zero, suc, Bool, true, false, cond, ◌||◌, ◌&&◌, ◌==◌, List, [], ◌∷◌, ◌++◌, Option, Some, None, Contains}
-use Rattle.std.proofs.Common.{refl, sym, ap, ◌∙◌, subst, append_assoc, append-nil, is_some, eqb-true, eq-eqb, true≢false}
+use Rattle.std.proofs.Common.{◌≡◌, ℕ, Bool, true, false, cond, ◌||◌, ◌&&◌, ◌==◌, List, [], ◌∷◌, ◌++◌, Option, Some, None, Contains}
+use Rattle.std.proofs.Common.{refl, sym, ap, ◌∙◌, subst, append_assoc, append-nil, is_some, eqb-true}
 use Rattle.std.specs.List.{AllByRecursion as Each}
 use Rattle.std.specs.Option.{option_or}
 use Rattle.std.proofs.lemmas.Bool.{and_parts, false_from_ne_true}
 use Rattle.at_base.specs.Address.{same_address}
-use Rattle.at_base.specs.Multicast.{all_hw, group_hw}
+use Rattle.at_base.specs.Multicast.{all_hw}
 use Rattle.at_base.specs.declared.address.Addr.{Addr}
 use Rattle.at_base.specs.declared.address.Hw.{Hw}
 use Rattle.ddp.specs.Bodies.{body, hops, target}
 use Rattle.table_image.specs.Internet.{Internet}
-use Rattle.table_image.specs.Seats.{Seat as PlaceOf, seat_at}
+use Rattle.table_image.specs.Seats.{Seat as PlaceOf}
 use Rattle.audit.specs.Routing.{Hand, Here, On, Nowhere, hand, home}
 use Rattle.audit.specs.Rules.{Passes}
-use Rattle.station.specs.declared.heard.Kind.{Kind}
 use Rattle.station.specs.declared.heard.Kind.TheVariants.{Aarp, Ddp}
-use Rattle.station.specs.declared.output.DropCause.TheVariants.{HopLimit, NoRoute}
+use Rattle.station.specs.declared.output.DropCause.TheVariants.{HopLimit}
 use Rattle.station.specs.declared.output.Next.{Next}
 use Rattle.station.specs.declared.output.Next.TheVariants as next
 use Rattle.cable_model.specs.declared.entry.How.{How}
 use Rattle.cable_model.specs.declared.entry.How.TheVariants as how
 use Rattle.cable_model.specs.declared.resolve.Found.{Found}
-use Rattle.cable_model.specs.declared.resolve.Found.TheVariants.{At, Later}
-use Rattle.cable_model.specs.Holdings.{holds_of, still_held}
+use Rattle.cable_model.specs.Holdings.{holds_of}
 use Rattle.cable_model.specs.Outcomes.{framed, held_by, held_next, leg as leg_on, to_other, to_target}
 use Rattle.cable_model.specs.Outgoing.{held_entries}
-use Rattle.cable_model.specs.Pending.{Pair, ends, pending, was_ended}
-use Rattle.cable_model.specs.Transcript.{Entry, Frame, Holding, Sent, Put, Took, Reached, Dropped, Lost, Hold, next_stamp}
+use Rattle.cable_model.specs.Pending.{Pair, ends, pending}
+use Rattle.cable_model.specs.Transcript.{Entry, Frame, Holding, Sent, Put, Reached, Dropped, next_stamp}
 use Rattle.legal_runs.specs.Answers.{IsMade}
 use Rattle.legal_runs.specs.Carriage.{cable_of_hand}
 use Rattle.legal_runs.specs.Legs.{Leg, final, is_copy, leg, leg_bytes, passed, sender}
 use Rattle.legal_runs.specs.Stations.{cable_seats, has_address, is_on}
 use Rattle.legal_runs.proofs.Frames.{Framed}
 use Rattle.resolved_runs.specs.AskedFor.{AreAskedFor, IsAskedFor}
-use Rattle.resolved_runs.specs.Fates.{fate_with, fate_with_by}
+use Rattle.resolved_runs.specs.Fates.{fate_with_by}
 use Rattle.resolved_runs.specs.Fitting.{SeatsFit}
 use Rattle.resolved_runs.specs.Mapped.{found_by, frame_of, given, known, learnt_in, mapping_in, own_hardware, places_after}
-use Rattle.resolved_runs.specs.Resolved.{held_by_port, resolved_leg, resolved_said, resolving, waiting_entries}
+use Rattle.resolved_runs.specs.Resolved.{held_by_port, resolved_leg, resolved_said, waiting_entries}
 use Rattle.resolved_runs.specs.ResolvedRuns as resolved
 use Rattle.resolved_runs.specs.ResolvedRuns.{IsLegalResolved, ResolvedBlock, resolved_fate, resolved_handled, taking}
 use Rattle.resolved_runs.proofs.Asked.{held_asked, keeps_asked, quiet_asked, taken_asked}
@@ -47,7 +45,7 @@ use Rattle.resolved_runs.proofs.ResolvedLegs.{IsReady, leg_done}
 use Rattle.resolved_runs.proofs.Stamped.{frame_is}
 use Rattle.resolved_runs.proofs.Standing.{pair_put, pending_in}
 use Rattle.resolved_runs.proofs.Steps.{done_told}
-use Rattle.resolved_runs.proofs.Told.{Fact, IsReached, IsSent, IsTold, IsTook, More}
+use Rattle.resolved_runs.proofs.Told.{IsReached, IsSent, IsTold, IsTook, More}
 use Rattle.resolved_runs.proofs.Truths.{packet_told}
 
 module _ (i : Internet) (ok : Passes i) (fit : SeatsFit i) where

@@ -4,7 +4,7 @@ use Rattle.std.proofs.Common.{◌≡◌, ℕ, ◌+◌, Bool, true, false, not, �
 use Rattle.std.proofs.Common.{ap, append-nil, append_assoc, arith, cond, refl, subst, sym, ◌∙◌}
 use Rattle.std.specs.List.{AllByRecursion as Each}
 use Rattle.at_base.specs.Text.{same_bytes}
-use Rattle.ddp.specs.Bodies.{body, target}
+use Rattle.ddp.specs.Bodies.{target}
 use Rattle.table_image.specs.Internet.{Internet}
 use Rattle.table_image.specs.Seats.{Seat as PlaceOf, seat_at}
 use Rattle.audit.specs.Routing.{hand, home}

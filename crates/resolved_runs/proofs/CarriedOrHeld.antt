@@ -1,7 +1,7 @@
 -- Carriage where stations hold datagrams, from that of the plain transcript.
-use Rattle.std.proofs.Common.{◌≡◌, ◌≢◌, ◌≤◌, ◌<◌, ℕ, zero, suc, Bool, true, false, cond, ◌||◌, ◌&&◌, ◌==◌, List, [], ◌∷◌, ◌++◌, Option, Some, None}
-use Rattle.std.proofs.Common.{Contains, refl, sym, ap, ◌∙◌, subst, arith, append-nil, is_some, length, inl, inr, eqb-true, eq-eqb, ne_eqb, filter, map, true≢false}
-use Rattle.std.specs.List.{list_any, AllByRecursion as Each}
+use Rattle.std.proofs.Common.{◌≡◌, ◌≢◌, ◌≤◌, ◌<◌, ℕ, Bool, true, false, cond, ◌||◌, ◌&&◌, ◌==◌, List, [], ◌∷◌, ◌++◌, Option, Some, None}
+use Rattle.std.proofs.Common.{Contains, refl, sym, ap, ◌∙◌, subst, arith, append-nil, is_some, length, inl, inr, eqb-true, eq-eqb, ne_eqb, filter, true≢false}
+use Rattle.std.specs.List.{list_any}
 use Rattle.std.proofs.lemmas.Bool.{and_parts, or_parts}
 use Rattle.ddp.specs.Bodies.{hops, target}
 use Rattle.table_image.specs.Internet.{Internet}
@@ -13,25 +13,25 @@ use Rattle.station.specs.declared.heard.Kind.TheVariants.{Aarp, Ddp}
 use Rattle.cable_model.specs.Holdings.{holds, released_frame, still_held}
 use Rattle.cable_model.specs.Pending.{Pair, is_for, is_heard, pairs, pairs_of, pending}
 use Rattle.cable_model.specs.Transcript.{Entry, Frame, Holding, Sent, Put, Took, Reached, Dropped, Lost, Hold, above, has_put, is_put}
-use Rattle.cable_model.specs.Transcript.{next_stamp, stamp_after}
+use Rattle.cable_model.specs.Transcript.{next_stamp}
 use Rattle.cable_model.specs.declared.seat.Seat.{Seat}
-use Rattle.cable_model.proofs.Counting.{At, any-append, each_at, each_map}
-use Rattle.cable_model.proofs.Stamps.{above_more, above_this, held_below, next_after, put_below, stamp_from_more}
-use Rattle.legal_runs.specs.Carriage.{AreCarried, AreTakenThere, Chains, IsCarried, IsChain, IsOnSome, Stamped, after, chain_in, none_yet, of_stamp}
+use Rattle.cable_model.proofs.Counting.{any-append, each_at, each_map}
+use Rattle.cable_model.proofs.Stamps.{above_more, held_below, next_after, put_below, stamp_from_more}
+use Rattle.legal_runs.specs.Carriage.{AreCarried, AreTakenThere, Chains, IsChain, IsOnSome, Stamped, after, chain_in, none_yet, of_stamp}
 use Rattle.legal_runs.specs.LossyRuns.{IsLegalWithLosses}
-use Rattle.legal_runs.specs.Stations.{cable_seat, cable_seats, is_on}
+use Rattle.legal_runs.specs.Stations.{cable_seats, is_on}
 use Rattle.legal_runs.proofs.LossyLaws.{carried_with_losses}
 use Rattle.legal_runs.proofs.Requested.{HasPlace, placed}
 use Rattle.legal_runs.proofs.StampedLists.{FreshFrom, fresh_less, fresh_more, of_end, of_front}
 use Rattle.resolved_runs.specs.HeldChains.{AreCarriedOrHeld, HasHops, IsCarriedOrHeld, held_after, put_after, took_after, with_chain}
 use Rattle.resolved_runs.specs.Mapped.{frame_of}
-use Rattle.resolved_runs.specs.Plain.{hold_of, plain, plain_after, plain_entry, plain_hold, plain_how, plain_lost, plain_put, plain_took}
-use Rattle.resolved_runs.proofs.Elements.{In, any_in, each_in, in_left, in_one, in_parts, in_right, kept_in}
+use Rattle.resolved_runs.specs.Plain.{hold_of, plain, plain_entry, plain_hold, plain_how, plain_lost, plain_took}
+use Rattle.resolved_runs.proofs.Elements.{In, any_in, each_in, in_one, in_parts, kept_in}
 use Rattle.resolved_runs.proofs.Stamped.{frame_is, new_stamp}
 use Rattle.resolved_runs.proofs.Plains.{plain_one, put_aarp, put_direct, put_released, took_aarp, took_datagram}
 use Rattle.resolved_runs.proofs.Standing.{held_in, hold_none, hold_plain, pair_put, pending_in, put_plain}
 use Rattle.resolved_runs.proofs.Steps.{hold_found}
-use Rattle.resolved_runs.proofs.Told.{AreFacts, Fact, IsAarp, IsDropped, IsHeld, IsLost, IsNew, IsPacket, IsReached, IsReleased, IsSent, IsTold}
+use Rattle.resolved_runs.proofs.Told.{Fact, IsAarp, IsDropped, IsHeld, IsLost, IsNew, IsPacket, IsReached, IsReleased, IsSent, IsTold}
 use Rattle.resolved_runs.proofs.Told.{IsTook, More, Nothing}
 
 -- A value of another stamp.
@@ -83,16 +83,16 @@ module _ (i : Internet) where
     where
       plain_before : (f : Frame) → In (plain i (u ++ e ∷ [])) (Put f) → In (plain i u) (Put f)
       plain_before f there = elim (in_parts (plain i u) ps (Put f)
-        (subst (λ l. In l (Put f)) (plain_one i u e ∙ ap (λ l. plain i u ++ l) is) there)) as (λ _. In (plain i u) (Put f)) [
-          | inl h ↦ h
-          | inr h ↦ absurd (none f h)
-        ]
+          (subst (λ l. In l (Put f)) (plain_one i u e ∙ ap (λ l. plain i u ++ l) is) there)) as (λ _. In (plain i u) (Put f)) [
+            | inl h ↦ h
+            | inr h ↦ absurd (none f h)
+          ]
 
       entry_before : (f : Frame) → In (u ++ e ∷ []) (Put f) → In u (Put f)
       entry_before f there = elim (in_parts u (e ∷ []) (Put f) there) as (λ _. In u (Put f)) [
-          | inl h ↦ h
-          | inr h ↦ absurd (other f (in_one e (Put f) h))
-        ]
+        | inl h ↦ h
+        | inr h ↦ absurd (other f (in_one e (Put f) h))
+      ]
 
   grown : (u : List Entry) (e : Entry) → next_stamp u ≤ next_stamp (u ++ e ∷ [])
   grown u e = let n = next_after u e in let le = stamp_from_more (next_stamp u) (e ∷ []) in omega (arith, n, le)
@@ -108,14 +108,14 @@ module _ (i : Internet) where
   both_more u e f w v m is new next aarp on count = record {
     now = m.now;
     same = λ g there. elim (in_parts (plain i u) (Put f ∷ []) (Put g)
-      (subst (λ l. In l (Put g)) (plain_one i u e ∙ ap (λ l. plain i u ++ l) is) there)) as
-      (λ _. (c : List ℕ) × (of_stamp g.stamp (with_chain f.stamp w).frames ≡ Some c) × (of_stamp g.stamp (with_chain f.stamp v).frames ≡ Some c)
-      × (is_on i g.sender g.cable ≡ true) × (hops g.bytes ≡ length c)) [
-        | inl h ↦
-            let k = m.same g h in
-            (k.0, of_front w.frames _ g.stamp k.0 k.1, of_front v.frames _ g.stamp k.0 k.2, k.3, k.4)
-        | inr h ↦ this g (same_frame f g (in_one (Put f) (Put g) h))
-      ];
+        (subst (λ l. In l (Put g)) (plain_one i u e ∙ ap (λ l. plain i u ++ l) is) there)) as
+        (λ _. (c : List ℕ) × (of_stamp g.stamp (with_chain f.stamp w).frames ≡ Some c) × (of_stamp g.stamp (with_chain f.stamp v).frames ≡ Some c)
+        × (is_on i g.sender g.cable ≡ true) × (hops g.bytes ≡ length c)) [
+          | inl h ↦
+              let k = m.same g h in
+              (k.0, of_front w.frames _ g.stamp k.0 k.1, of_front v.frames _ g.stamp k.0 k.2, k.3, k.4)
+          | inr h ↦ this g (same_frame f g (in_one (Put f) (Put g) h))
+        ];
     fresh =
         subst (λ n. FreshFrom n (with_chain f.stamp w).frames) (sym next) (fresh_more (next_stamp u) f.stamp w.frames w.now m.fresh);
     plain_fresh =
@@ -172,9 +172,9 @@ module _ (i : Internet) where
       where
         old : (g : Frame) → In (u ++ Put f ∷ []) (Put g) → g.kind ≡ Aarp → In u (Put g)
         old g there k = elim (in_parts u (Put f ∷ []) (Put g) there) as (λ _. In u (Put g)) [
-            | inl h ↦ h
-            | inr h ↦ absurd (never (in_one (Put f) (Put g) h))
-          ]
+          | inl h ↦ h
+          | inr h ↦ absurd (never (in_one (Put f) (Put g) h))
+        ]
           where
             never : Put f ≡ Put g → ⊥
             never eq =
@@ -197,10 +197,10 @@ module _ (i : Internet) where
                 fresh = fresh_less (next_stamp u) (next_stamp (u ++ Put f ∷ [])) w.frames le m.fresh;
                 plain_fresh = fresh_less (next_stamp u) (next_stamp (u ++ Put f ∷ [])) v.frames le m.plain_fresh;
                 aarp = λ g there k. elim (in_parts u (Put f ∷ []) (Put g) there) as (λ _. of_stamp g.stamp w.frames ≡ None) [
-                    | inl h ↦ m.aarp g h k
-                    | inr h ↦ subst (λ (x : Frame). of_stamp x.stamp w.frames ≡ None) (same_frame f g (in_one (Put f) (Put g) h))
-                        (m.fresh f.stamp fresh)
-                  ];
+                  | inl h ↦ m.aarp g h k
+                  | inr h ↦ subst (λ (x : Frame). of_stamp x.stamp w.frames ≡ None) (same_frame f g (in_one (Put f) (Put g) h))
+                      (m.fresh f.stamp fresh)
+                ];
               })),
         )
       where
@@ -239,9 +239,9 @@ module _ (i : Internet) where
 
         old : (g : Frame) → In (u ++ Put (released_frame h s.hardware) ∷ []) (Put g) → g.kind ≡ Aarp → In u (Put g)
         old g there k = elim (in_parts u (Put (released_frame h s.hardware) ∷ []) (Put g) there) as (λ _. In u (Put g)) [
-            | inl a ↦ a
-            | inr a ↦ absurd (never (in_one (Put (released_frame h s.hardware)) (Put g) a))
-          ]
+          | inl a ↦ a
+          | inr a ↦ absurd (never (in_one (Put (released_frame h s.hardware)) (Put g) a))
+        ]
           where
             never : Put (released_frame h s.hardware) ≡ Put g → ⊥
             never eq =
@@ -254,9 +254,9 @@ module _ (i : Internet) where
       where
         old : (g : Frame) → In (u ++ Hold h ∷ []) (Put g) → In u (Put g)
         old g there = elim (in_parts u (Hold h ∷ []) (Put g) there) as (λ _. In u (Put g)) [
-            | inl a ↦ a
-            | inr a ↦ let eq = in_one (Hold h) (Put g) a in cc
-          ]
+          | inl a ↦ a
+          | inr a ↦ let eq = in_one (Hold h) (Put g) a in cc
+        ]
 
         apart : (g : Frame) → In u (Put g) → h.stamp ≢ g.stamp
         apart g there eq =
@@ -440,9 +440,9 @@ module _ (i : Internet) where
   cabled_same : (u : List Entry) (e : Entry) (cs : List (Stamped ℕ)) → Cabled u cs → is_put e ≡ false → Cabled (u ++ e ∷ []) cs
   cabled_same u e cs c none = record {
     same = λ f there. elim (in_parts u (e ∷ []) (Put f) there) as (λ _. of_stamp f.stamp cs ≡ Some f.cable) [
-        | inl h ↦ c.same f h
-        | inr h ↦ absurd (true≢false (sym (ap is_put (in_one e (Put f) h)) ∙ none))
-      ];
+      | inl h ↦ c.same f h
+      | inr h ↦ absurd (true≢false (sym (ap is_put (in_one e (Put f) h)) ∙ none))
+    ];
     none = λ n h. c.none n (or_parts (list_any (has_put n) u) (has_put n e || false) (sym (any-append (has_put n) u (e ∷ [])) ∙ h)).0;
   }
 

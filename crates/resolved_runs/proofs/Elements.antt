@@ -1,8 +1,7 @@
 -- Elements of lists, by their places.
 use Rattle.std.proofs.Common.{◌≡◌, ◌⊎◌, inl, inr, ℕ, zero, suc, Bool, true, false, cond, not, ◌||◌, List, [], ◌∷◌, ◌++◌, Some, Contains}
-use Rattle.std.proofs.Common.{ap, refl, subst, sym, ◌∙◌, filter, slice_get, map}
+use Rattle.std.proofs.Common.{ap, refl, ◌∙◌, filter, slice_get, map}
 use Rattle.std.specs.List.{list_any, AllByRecursion as Each}
-use Rattle.std.proofs.lemmas.Bool.{or_cases}
 use Rattle.std.proofs.lemmas.Option.{get_or_from_slice_get, slice_get_within}
 use Rattle.cable_model.proofs.Counting.{At, contained_at, filter_at}
 

@@ -1,7 +1,7 @@
 -- Addresses that fit the fields of AARP packets, and the packets that stations send.
-use Rattle.std.proofs.Common.{◌≡◌, ◌<◌, ◌+◌, ◌*◌, ℕ, zero, suc, Bool, true, false, ◌&&◌, List, [], ◌∷◌, ◌++◌, Some, IsTrue, slice_index, nat_lt}
-use Rattle.std.proofs.Common.{Option, None, Ok, cond, slice_get, refl, sym, ap, ◌∙◌, subst, arith, append-nil, length, eqb-true, ltb-true, option_map}
-use Rattle.std.specs.List.{list_all, AllByRecursion as Each}
+use Rattle.std.proofs.Common.{◌≡◌, ◌<◌, ℕ, zero, suc, Bool, true, false, List, [], ◌∷◌, ◌++◌, Some, IsTrue, slice_index, nat_lt}
+use Rattle.std.proofs.Common.{Option, None, Ok, cond, slice_get, refl, ap, ◌∙◌, subst, arith, append-nil, ltb-true, option_map}
+use Rattle.std.specs.List.{list_all}
 use Rattle.std.proofs.lemmas.Bool.{and_parts}
 use Rattle.at_base.specs.Packets.{address, packets, within}
 use Rattle.at_base.specs.declared.error.Field.TheVariants.{Function as FunctionField}
@@ -9,7 +9,6 @@ use Rattle.at_base.specs.Reading.{read, value_of}
 use Rattle.at_base.specs.Spelling.{IsValue, bytes_of}
 use Rattle.at_base.specs.declared.address.Addr.{Addr}
 use Rattle.at_base.proofs.Readers.{begins_read, spelled_begins}
-use Rattle.aarp.specs.Choosing.{nobody}
 use Rattle.aarp.specs.Packets.{function_number, function_of, packet, whole, written}
 use Rattle.aarp.specs.declared.packet.Function.{Function}
 use Rattle.aarp.specs.declared.packet.Function.TheVariants.{Probe, Request, Response}
@@ -23,7 +22,7 @@ use Rattle.table_image.specs.Seats.{Seat, seat_at, seats}
 use Rattle.table_image.specs.declared.port.Port.{Port}
 use Rattle.table_image.specs.declared.router.Router.{Router}
 use Rattle.table_image.specs.declared.row.Row.{Row}
-use Rattle.audit.specs.Routing.{Hand, Here, On, Nowhere, hand, hand_at, hand_by, hand_over, hand_to, owner, row_for}
+use Rattle.audit.specs.Routing.{Here, On, hand, hand_at, hand_by, hand_over, hand_to, owner, row_for}
 use Rattle.audit.specs.Rules.{Passes}
 use Rattle.audit.proofs.SeatUnique.{addressed}
 use Rattle.audit.proofs.WalkFacts.{between_is, owner_is}
@@ -31,7 +30,7 @@ use Rattle.audit.proofs.WalkSteps.{cable_good}
 use Rattle.station.specs.Resolution.{packet_at}
 use Rattle.station.specs.declared.heard.Kind.{Kind}
 use Rattle.station.specs.declared.heard.Kind.TheVariants.{Aarp, Ddp}
-use Rattle.cable_model.specs.Transcript.{Entry, Frame, Sent, Put, Took, Reached, Dropped, Lost, Hold}
+use Rattle.cable_model.specs.Transcript.{Entry, Sent, Put, Took, Reached, Dropped, Lost, Hold}
 use Rattle.cable_model.proofs.Counting.{At}
 use Rattle.legal_runs.specs.Carriage.{cable_of_hand}
 use Rattle.legal_runs.specs.Stations.{is_on}

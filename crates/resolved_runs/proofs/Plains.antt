@@ -1,5 +1,5 @@
 -- The plain transcript, entry by entry.
-use Rattle.std.proofs.Common.{◌≡◌, ℕ, List, [], ◌∷◌, ◌++◌, Option, Some, None, refl, sym, ap, ◌∙◌, append_assoc, append-nil, is_some, true}
+use Rattle.std.proofs.Common.{◌≡◌, ℕ, List, [], ◌∷◌, ◌++◌, Some, None, refl, sym, ap, ◌∙◌, append_assoc, append-nil, is_some, true}
 use Rattle.table_image.specs.Internet.{Internet}
 use Rattle.station.specs.declared.heard.Kind.{Kind}
 use Rattle.station.specs.declared.heard.Kind.TheVariants.{Aarp, Ddp}

@@ -1,8 +1,8 @@
 -- A leg with resolution stands for a plain leg.
-use Rattle.std.proofs.Common.{◌≡◌, ◌⊎◌, inl, inr, ◌≤◌, ◌<◌, ◌+◌, ◌-◌, ℕ, zero, suc, Bool, true, false, not, cond, if◌then◌else◌, nat_lt, ◌&&◌, ◌==◌}
-use Rattle.std.proofs.Common.{List, [], ◌∷◌, ◌++◌, Option, Some, None, Contains, refl, sym, ap, ◌∙◌, subst, arith, append-nil, is_some, filter, length}
-use Rattle.std.proofs.Common.{eqb-true, eq-eqb}
-use Rattle.std.specs.List.{list_any, AllByRecursion as Each}
+use Rattle.std.proofs.Common.{◌≡◌, ◌⊎◌, inl, inr, ◌≤◌, ◌-◌, ℕ, zero, suc, Bool, true, false, cond, if◌then◌else◌, nat_lt, ◌&&◌, ◌==◌}
+use Rattle.std.proofs.Common.{List, [], ◌∷◌, ◌++◌, Option, Some, None, Contains, refl, sym, ap, ◌∙◌, subst, arith, append-nil, is_some, length}
+use Rattle.std.proofs.Common.{eqb-true}
+use Rattle.std.specs.List.{list_any}
 use Rattle.std.proofs.lemmas.Bool.{and_parts}
 use Rattle.aarp.specs.Packets.{packet, written}
 use Rattle.aarp.specs.declared.packet.Function.TheVariants.{Request, Response}
@@ -20,26 +20,26 @@ use Rattle.audit.specs.Rules.{Passes}
 use Rattle.station.specs.declared.heard.Kind.TheVariants.{Aarp, Ddp}
 use Rattle.station.specs.declared.output.Next.{Next}
 use Rattle.station.specs.declared.output.Next.TheVariants as next
-use Rattle.cable_model.specs.Holdings.{is_open, released_frame, still_held}
+use Rattle.cable_model.specs.Holdings.{is_open, still_held}
 use Rattle.cable_model.specs.Outcomes.{Held, Sender, framed, held_by, held_next, leg as leg_on, to_other, to_target}
-use Rattle.cable_model.specs.Outgoing.{asked, held_entries, held_entry, if_open, let_go, losses}
-use Rattle.cable_model.specs.Transcript.{Entry, Frame, Holding, Put, Reached, Lost, Hold, next_stamp, stamps}
+use Rattle.cable_model.specs.Outgoing.{asked, held_entries, let_go, losses}
+use Rattle.cable_model.specs.Transcript.{Entry, Frame, Holding, Put, Reached, Lost, Hold, next_stamp}
 use Rattle.cable_model.specs.declared.entry.How.{How}
 use Rattle.cable_model.specs.declared.entry.How.TheVariants as how
 use Rattle.cable_model.specs.declared.resolve.Found.{Found}
-use Rattle.cable_model.specs.declared.resolve.Found.TheVariants.{At, Later, Nobody}
+use Rattle.cable_model.specs.declared.resolve.Found.TheVariants.{At, Later}
 use Rattle.cable_model.proofs.Stamps.{above_next, next_after}
 use Rattle.legal_runs.specs.Legs.{Leg, found_at, leg, leg_bytes, places_of, sender}
 use Rattle.legal_runs.proofs.Legs.{same_address_is}
 use Rattle.resolved_runs.specs.Fitting.{SeatsFit}
 use Rattle.resolved_runs.specs.Mapped.{found_by, known, places_after}
 use Rattle.resolved_runs.specs.Plain.{plain_hold, plain_how}
-use Rattle.resolved_runs.specs.Resolved.{held_at, held_by_port, request_by, request_bytes, request_of, resolved_leg, shed_of, station_seats}
+use Rattle.resolved_runs.specs.Resolved.{held_at, held_by_port, request_by, request_bytes, resolved_leg, shed_of, station_seats}
 use Rattle.resolved_runs.specs.Resolved.{waiting_entries}
 use Rattle.resolved_runs.proofs.Elements.{In, any_in, contained, kept_in}
 use Rattle.resolved_runs.proofs.Fits.{Fits, packet_begins, packet_is, request_fits}
 use Rattle.resolved_runs.proofs.Steps.{Done, done_none, done_then, done_told, one_aarp, one_held, one_lost, one_new, one_reached, still_more}
-use Rattle.resolved_runs.proofs.Told.{IsPacket, IsSeated, IsTold}
+use Rattle.resolved_runs.proofs.Told.{IsPacket, IsTold}
 use Rattle.resolved_runs.proofs.Truths.{known_true}
 
 -- What is needed of a leg: hops don't change its datagram's target, and its addresses fit.

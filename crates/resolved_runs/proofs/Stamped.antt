@@ -1,5 +1,5 @@
 -- Frames and held datagrams of a told transcript, by their stamps.
-use Rattle.std.proofs.Common.{◌≡◌, ◌≤◌, ◌<◌, ℕ, zero, suc, Bool, true, false, cond, ◌||◌, ◌==◌, List, [], ◌∷◌, ◌++◌, Some, None, refl, sym, ap}
+use Rattle.std.proofs.Common.{◌≡◌, ◌≤◌, ℕ, zero, suc, Bool, true, false, cond, ◌==◌, List, [], ◌∷◌, ◌++◌, Some, None, refl, sym, ap}
 use Rattle.std.proofs.Common.{◌∙◌, subst, arith, eqb-true, eq-eqb, true≢false, inl, inr}
 use Rattle.std.specs.List.{list_any}
 use Rattle.std.specs.Option.{option_or}
@@ -90,9 +90,9 @@ module _ (i : Internet) where
   pub hold_entry : (es : List Entry) (h : Holding) → In (holds es) h → In es (Hold h)
   hold_entry [] h (k, e) = cc
   hold_entry (e ∷ es) h there = elim (in_parts (holds_of e) (holds es) h there) as (λ _. In (e ∷ es) (Hold h)) [
-      | inl this ↦ (zero, ap Some (here e this))
-      | inr later ↦ let w = hold_entry es h later in (suc w.0, w.1)
-    ]
+    | inl this ↦ (zero, ap Some (here e this))
+    | inr later ↦ let w = hold_entry es h later in (suc w.0, w.1)
+  ]
     where
       here : (e : Entry) → In (holds_of e) h → e ≡ Hold h
       here (Hold d) g = ap Hold (in_one d h g)

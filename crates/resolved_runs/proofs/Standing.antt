@@ -1,10 +1,10 @@
 -- What is pending or held in a transcript that is told is pending in its plain transcript.
-use Rattle.std.proofs.Common.{◌≡◌, ◌⊎◌, inl, inr, ℕ, zero, suc, ◌<◌, ◌≤◌, Bool, true, false, not, ◌||◌, ◌&&◌, ◌==◌, cond, List, [], ◌∷◌, ◌++◌, Option}
-use Rattle.std.proofs.Common.{Some, None, Contains, refl, sym, ap, ◌∙◌, subst, arith, filter, find, map, true≢false, eq-eqb, eqb-true, ne_eqb, is_some}
-use Rattle.std.specs.List.{list_any, AllByRecursion as Each}
-use Rattle.std.proofs.lemmas.Bool.{and_parts, false_from_ne_true, or_cases, or_from, or_parts}
+use Rattle.std.proofs.Common.{◌≡◌, ◌⊎◌, inl, inr, ℕ, zero, suc, ◌<◌, ◌≤◌, Bool, true, false, not, ◌||◌, ◌==◌, cond, List, [], ◌∷◌, ◌++◌, Option}
+use Rattle.std.proofs.Common.{Some, None, Contains, refl, sym, ap, ◌∙◌, subst, arith, map, true≢false, eq-eqb, eqb-true, ne_eqb, is_some}
+use Rattle.std.specs.List.{list_any}
+use Rattle.std.proofs.lemmas.Bool.{and_parts, false_from_ne_true, or_cases}
 use Rattle.table_image.specs.Internet.{Internet}
-use Rattle.table_image.specs.Seats.{Seat as PlaceOf, seat_at, seats}
+use Rattle.table_image.specs.Seats.{Seat as PlaceOf, seat_at}
 use Rattle.audit.specs.Rules.{Passes}
 use Rattle.audit.proofs.WalkLists.{find_none}
 use Rattle.station.specs.declared.heard.Kind.{Kind}
@@ -14,8 +14,8 @@ use Rattle.cable_model.specs.Holdings.{has_number, holds, holds_of, released_fra
 use Rattle.cable_model.specs.Pending.{Pair, ends, pairs, pairs_of, pending, was_ended}
 use Rattle.cable_model.specs.Transcript.{Entry, Frame, Holding, Sent, Put, Took, Reached, Dropped, Lost, Hold, has_put, next_stamp}
 use Rattle.cable_model.specs.declared.seat.Seat.{Seat}
-use Rattle.cable_model.proofs.Counting.{any-append, each_at, each_more}
-use Rattle.cable_model.proofs.Stamps.{held_below, put_below}
+use Rattle.cable_model.proofs.Counting.{any-append, each_at}
+use Rattle.cable_model.proofs.Stamps.{held_below}
 use Rattle.legal_runs.specs.Stations.{cable_seat, cable_seats}
 use Rattle.legal_runs.proofs.Legs.{seat_there}
 use Rattle.legal_runs.proofs.Seated.{heard_alone}
@@ -47,10 +47,10 @@ hold_none t n le =
 pub pair_put : (ss : List Seat) (es : List Entry) (p : Pair) → In (pairs ss es) p → In es (Put p.frame) × In (pairs_of ss (Put p.frame)) p
 pair_put ss [] p (k, e) = cc
 pair_put ss (e ∷ es) p h = elim (in_parts (pairs_of ss e) (pairs ss es) p h) as
-  (λ _. In (e ∷ es) (Put p.frame) × In (pairs_of ss (Put p.frame)) p) [
-    | inl this ↦ here e this
-    | inr later ↦ let w = pair_put ss es p later in ((suc w.0.0, w.0.1), w.1)
-  ]
+    (λ _. In (e ∷ es) (Put p.frame) × In (pairs_of ss (Put p.frame)) p) [
+      | inl this ↦ here e this
+      | inr later ↦ let w = pair_put ss es p later in ((suc w.0.0, w.0.1), w.1)
+    ]
   where
     of_frame : (f : Frame) (xs : List Seat) → In (map (λ (s : Seat). record { frame = f; seat = s }) xs) p → p.frame ≡ f
     of_frame f [] (k, e) = cc
@@ -82,14 +82,14 @@ pub ended_by : (es : List Entry) (p : Pair) → was_ended es p ≡ true
     → (list_any (has_took p.frame.stamp) es ≡ true) ⊎ (list_any (releases p.frame.stamp) es ≡ true)
 ended_by [] p h = cc
 ended_by (e ∷ es) p h = elim (or_cases (ends p e) (was_ended es p) h) as
-  (λ _. (list_any (has_took p.frame.stamp) (e ∷ es) ≡ true) ⊎ (list_any (releases p.frame.stamp) (e ∷ es) ≡ true)) [
-    | inl this ↦ here e this
-    | inr later ↦ elim (ended_by es p later) as
-        (λ _. (list_any (has_took p.frame.stamp) (e ∷ es) ≡ true) ⊎ (list_any (releases p.frame.stamp) (e ∷ es) ≡ true)) [
-          | inl took ↦ inl (last (has_took p.frame.stamp e) took)
-          | inr lost ↦ inr (last (releases p.frame.stamp e) lost)
-        ]
-  ]
+    (λ _. (list_any (has_took p.frame.stamp) (e ∷ es) ≡ true) ⊎ (list_any (releases p.frame.stamp) (e ∷ es) ≡ true)) [
+      | inl this ↦ here e this
+      | inr later ↦ elim (ended_by es p later) as
+          (λ _. (list_any (has_took p.frame.stamp) (e ∷ es) ≡ true) ⊎ (list_any (releases p.frame.stamp) (e ∷ es) ≡ true)) [
+            | inl took ↦ inl (last (has_took p.frame.stamp e) took)
+            | inr lost ↦ inr (last (releases p.frame.stamp e) lost)
+          ]
+    ]
   where
     last : (a : Bool) {b : Bool} → b ≡ true → (a || b) ≡ true
     last true h = refl
@@ -116,9 +116,9 @@ ended_by (e ∷ es) p h = elim (or_cases (ends p e) (was_ended es p) h) as
 pub put_releases : (n : ℕ) (es : List Entry) → list_any (has_put n) es ≡ true → list_any (releases n) es ≡ true
 put_releases n [] h = cc
 put_releases n (e ∷ es) h = elim (or_cases (has_put n e) (list_any (has_put n) es) h) as (λ _. (releases n e || list_any (releases n) es) ≡ true) [
-    | inl this ↦ ap (λ a. a || list_any (releases n) es) (here e this)
-    | inr later ↦ last (releases n e) (put_releases n es later)
-  ]
+  | inl this ↦ ap (λ a. a || list_any (releases n) es) (here e this)
+  | inr later ↦ last (releases n e) (put_releases n es later)
+]
   where
     last : (a : Bool) {b : Bool} → b ≡ true → (a || b) ≡ true
     last true h = refl
@@ -184,10 +184,10 @@ module _ (i : Internet) where
   pub plain_ended : (u es : List Entry) (p : Pair) → was_ended (plain_after i u es) p ≡ true → was_ended es p ≡ true
   plain_ended u [] p h = h
   plain_ended u (e ∷ es) p h = elim (or_cases (was_ended (plain_entry i u e) p) (was_ended (plain_after i (u ++ e ∷ []) es) p)
-    (sym (any-append (ends p) (plain_entry i u e) (plain_after i (u ++ e ∷ []) es)) ∙ h)) as (λ _. (ends p e || was_ended es p) ≡ true) [
-      | inl this ↦ ap (λ a. a || was_ended es p) (one_ends u e p this)
-      | inr later ↦ last (ends p e) (plain_ended (u ++ e ∷ []) es p later)
-    ]
+      (sym (any-append (ends p) (plain_entry i u e) (plain_after i (u ++ e ∷ []) es)) ∙ h)) as (λ _. (ends p e || was_ended es p) ≡ true) [
+        | inl this ↦ ap (λ a. a || was_ended es p) (one_ends u e p this)
+        | inr later ↦ last (ends p e) (plain_ended (u ++ e ∷ []) es p later)
+      ]
     where
       last : (a : Bool) {b : Bool} → b ≡ true → (a || b) ≡ true
       last true h = refl
@@ -200,10 +200,10 @@ module _ (i : Internet) where
       → In (plain_after i u es) (Put (released_frame h s.hardware))
   hold_plain u [] h s (k, e) found = cc
   hold_plain u (e ∷ es) h s there found = elim (in_parts (holds_of e) (holds es) h there) as
-    (λ _. In (plain_after i u (e ∷ es)) (Put (released_frame h s.hardware))) [
-      | inl this ↦ in_left (plain_entry i u e) (plain_after i (u ++ e ∷ []) es) _ (here e this)
-      | inr later ↦ in_right (plain_entry i u e) (plain_after i (u ++ e ∷ []) es) _ (hold_plain (u ++ e ∷ []) es h s later found)
-    ]
+      (λ _. In (plain_after i u (e ∷ es)) (Put (released_frame h s.hardware))) [
+        | inl this ↦ in_left (plain_entry i u e) (plain_after i (u ++ e ∷ []) es) _ (here e this)
+        | inr later ↦ in_right (plain_entry i u e) (plain_after i (u ++ e ∷ []) es) _ (hold_plain (u ++ e ∷ []) es h s later found)
+      ]
     where
       same : (d : Holding) → d ≡ h → In (plain_hold d (seat_at i d.cable d.next)) (Put (released_frame h s.hardware))
       same d eq =

@@ -1,36 +1,30 @@
 -- Entries of a transcript with resolution, beside the plain entries that they stand for.
-use Rattle.std.proofs.Common.{◌≡◌, ◌≤◌, ◌<◌, ◌+◌, ℕ, zero, suc, Bool, true, false, not, cond, ◌||◌, ◌==◌, List, [], ◌∷◌, ◌++◌, Option, Some, None, Contains}
-use Rattle.std.proofs.Common.{refl, sym, ap, ◌∙◌, subst, arith, append_assoc, append-nil, is_some, find, filter, map, eqb-true, eq-eqb, true≢false, ne_eqb}
-use Rattle.std.specs.List.{list_any, AllByRecursion as Each}
-use Rattle.std.proofs.lemmas.Bool.{false_from_ne_true, or_parts}
-use Rattle.at_base.specs.Multicast.{all_hw}
-use Rattle.at_base.specs.declared.address.Addr.{Addr}
+use Rattle.std.proofs.Common.{◌≡◌, ◌≤◌, ◌<◌, ◌+◌, ℕ, zero, suc, Bool, true, false, not, cond, ◌||◌, List, [], ◌∷◌, ◌++◌, Option, Some, None, Contains}
+use Rattle.std.proofs.Common.{refl, sym, ap, ◌∙◌, subst, arith, append_assoc, append-nil, is_some, filter, map, eqb-true, eq-eqb, ne_eqb}
+use Rattle.std.specs.List.{AllByRecursion as Each}
 use Rattle.at_base.specs.declared.address.Hw.{Hw}
-use Rattle.ddp.specs.Bodies.{body, target}
+use Rattle.ddp.specs.Bodies.{target}
 use Rattle.table_image.specs.Internet.{Internet}
 use Rattle.table_image.specs.Seats.{Seat, seat_at}
 use Rattle.audit.specs.Rules.{Passes}
 use Rattle.audit.proofs.WalkLists.{find_at, find_found}
-use Rattle.station.specs.declared.heard.Kind.{Kind}
 use Rattle.station.specs.declared.heard.Kind.TheVariants.{Aarp, Ddp}
 use Rattle.station.specs.declared.output.DropCause.{DropCause}
 use Rattle.cable_model.specs.declared.entry.How.{How}
 use Rattle.cable_model.specs.Holdings.{has_number, holds, released_frame, releases, still_held, was_released}
-use Rattle.cable_model.specs.Pending.{Pair, pending}
-use Rattle.cable_model.specs.Transcript.{Entry, Frame, Holding, Sent, Put, Took, Reached, Dropped, Lost, Hold, above, has_put, is_put, next_stamp, one}
-use Rattle.cable_model.specs.Transcript.{count, stamp_after, stamp_from, stamps}
+use Rattle.cable_model.specs.Transcript.{Entry, Frame, Holding, Sent, Put, Took, Reached, Dropped, Lost, Hold, is_put, next_stamp}
+use Rattle.cable_model.specs.Transcript.{stamp_after, stamps}
 use Rattle.cable_model.proofs.Counting.{any-append, count-append, each-append, each_at}
 use Rattle.cable_model.proofs.Left.{each_filter}
-use Rattle.cable_model.proofs.Stamps.{above_more, above_this, held_below, holds-append, next_after, put_below, stamp_from-append, stamp_from_more}
+use Rattle.cable_model.proofs.Stamps.{above_more, above_this, held_below, holds-append, next_after, stamp_from-append, stamp_from_more}
 use Rattle.legal_runs.specs.Losses.{Ends, Keeps, Loses, WithLosses}
-use Rattle.legal_runs.specs.Stations.{cable_seat, cable_seats}
-use Rattle.resolved_runs.specs.Mapped.{frame_of}
-use Rattle.resolved_runs.specs.Plain.{hold_of, plain, plain_after, plain_entry, plain_hold, plain_how, plain_lost, plain_put, plain_took}
-use Rattle.resolved_runs.proofs.Elements.{In, any_in, contained, in_kept, in_left, in_list, in_one, in_parts}
+use Rattle.legal_runs.specs.Stations.{cable_seat}
+use Rattle.resolved_runs.specs.Plain.{hold_of, plain, plain_after, plain_entry, plain_hold, plain_how, plain_lost}
+use Rattle.resolved_runs.proofs.Elements.{In, any_in, contained, in_kept, in_left}
 use Rattle.resolved_runs.proofs.Fits.{EntryFits, Fits, FrameFits}
-use Rattle.resolved_runs.proofs.Plains.{plain_after-append, plain_more, plain_one, put_aarp, put_direct, put_released, took_aarp, took_datagram}
-use Rattle.resolved_runs.proofs.Standing.{held_in, held_plain, hold_none, is_pending, pair_put, pending_in}
-use Rattle.resolved_runs.proofs.Told.{AreFacts, Fact, IsAarp, IsDropped, IsHeld, IsLost, IsNew, IsPacket, IsReached, IsReleased, IsSeated, IsSent}
+use Rattle.resolved_runs.proofs.Plains.{plain_after-append, plain_more, put_aarp, put_direct, put_released}
+use Rattle.resolved_runs.proofs.Standing.{held_in, held_plain, hold_none}
+use Rattle.resolved_runs.proofs.Told.{AreFacts, Fact, IsAarp, IsDropped, IsHeld, IsLost, IsNew, IsPacket, IsReached, IsReleased, IsSent}
 use Rattle.resolved_runs.proofs.Told.{IsTold, IsTook, More, Nothing, facts-append, told_more}
 
 -- ---- Losses among entries

@@ -1,9 +1,7 @@
 -- What a station knows of hardware addresses is true.
-use Rattle.std.proofs.Common.{◌≡◌, ◌⊎◌, inl, inr, ◌<◌, ℕ, zero, suc, Bool, true, false, not, ◌&&◌, ◌||◌, ◌==◌, cond, if◌then◌else◌, nat_lt, ◌-◌, List, [], ◌∷◌}
-use Rattle.std.proofs.Common.{◌++◌, Option, Some, None, refl, sym, ap, ◌∙◌, subst, arith, find, length, slice_get, eqb-true, eq-eqb, true≢false}
-use Rattle.std.specs.List.{list_any, AllByRecursion as Each}
+use Rattle.std.proofs.Common.{◌≡◌, ◌⊎◌, inl, inr, ℕ, zero, suc, Bool, true, false, ◌&&◌, ◌==◌, cond, if◌then◌else◌, nat_lt, ◌-◌, List, [], ◌∷◌}
+use Rattle.std.proofs.Common.{Option, Some, None, refl, sym, ap, ◌∙◌, subst, find, length, slice_get, eqb-true, eq-eqb}
 use Rattle.std.specs.Option.{option_or}
-use Rattle.std.proofs.lemmas.Bool.{and_parts}
 use Rattle.at_base.specs.Address.{same_address}
 use Rattle.at_base.specs.declared.address.Addr.{Addr}
 use Rattle.at_base.specs.declared.address.Hw.{Hw}
@@ -31,7 +29,7 @@ use Rattle.legal_runs.specs.Stations.{node_of}
 use Rattle.legal_runs.proofs.Legs.{same_address_is, same_address_self, seat_there}
 use Rattle.resolved_runs.specs.Mapped.{answers_for, frame_of, given, given_to, hardware_of, known, learnt_in, mapping_in, own_hardware}
 use Rattle.resolved_runs.specs.Mapped.{port_mappings, response_on}
-use Rattle.resolved_runs.proofs.Elements.{In, in_left, in_one, in_parts}
+use Rattle.resolved_runs.proofs.Elements.{In, in_one, in_parts}
 use Rattle.resolved_runs.proofs.Told.{Fact, IsAarp, IsDropped, IsHeld, IsLost, IsNew, IsPacket, IsReached, IsReleased, IsSeated, IsSent, IsTold}
 use Rattle.resolved_runs.proofs.Told.{IsTook, More, Nothing}
 
@@ -59,9 +57,9 @@ frame_put (Hold d ∷ es) n f k = let w = frame_put es n f k in ((suc w.0.0, w.0
 pub packet_told : (i : Internet) (t : List Entry) (f : Frame) → IsTold i t → In t (Put f) → f.kind ≡ Aarp → IsPacket i f
 packet_told i t f Nothing (k, e) kind = cc
 packet_told i t f (More u e told fact) there kind = elim (in_parts u (e ∷ []) (Put f) there) as (λ _. IsPacket i f) [
-    | inl before ↦ packet_told i u f told before kind
-    | inr this ↦ here e fact (in_one e (Put f) this)
-  ]
+  | inl before ↦ packet_told i u f told before kind
+  | inr this ↦ here e fact (in_one e (Put f) this)
+]
   where
     same_frame : (f g : Frame) → Put f ≡ Put g → f ≡ g
     same_frame f g e = cc
@@ -247,10 +245,10 @@ module _ (i : Internet) (ok : Passes i) where
     learnt_true : (station : ℕ) (es : List Entry) → learnt_in t station cable a es ≡ Some hw → IsSeated i cable a hw
     learnt_true station [] h = cc
     learnt_true station (Took n by ∷ es) h = elim (first (if by == station then answers_for a (response_on cable (frame_of n t)) else None)
-      (learnt_in t station cable a es) h) as (λ _. IsSeated i cable a hw) [
-        | inl here ↦ from_took n (by == station) here
-        | inr later ↦ learnt_true station es later
-      ]
+        (learnt_in t station cable a es) h) as (λ _. IsSeated i cable a hw) [
+          | inl here ↦ from_took n (by == station) here
+          | inr later ↦ learnt_true station es later
+        ]
     learnt_true station (Sent s b ∷ es) h = learnt_true station es h
     learnt_true station (Put f ∷ es) h = learnt_true station es h
     learnt_true station (Reached c s w b ∷ es) h = learnt_true station es h
@@ -261,11 +259,11 @@ module _ (i : Internet) (ok : Passes i) where
     -- What a station knows is the hardware address of the seat with the address.
     pub known_true : (station : ℕ) → known i t station cable a ≡ Some hw → IsSeated i cable a hw
     known_true station h = elim (first (own_hardware i station cable a)
-      (option_or (mapping_in a (given i station cable)) (learnt_in t station cable a t)) h) as (λ _. IsSeated i cable a hw) [
-        | inl own ↦ own_true station cable a hw own
-        | inr more ↦ elim (first (mapping_in a (given i station cable)) (learnt_in t station cable a t) more) as
-            (λ _. IsSeated i cable a hw) [
-              | inl mapped ↦ given_true station cable a hw mapped
-              | inr learnt ↦ learnt_true station t learnt
-            ]
-      ]
+        (option_or (mapping_in a (given i station cable)) (learnt_in t station cable a t)) h) as (λ _. IsSeated i cable a hw) [
+          | inl own ↦ own_true station cable a hw own
+          | inr more ↦ elim (first (mapping_in a (given i station cable)) (learnt_in t station cable a t) more) as
+              (λ _. IsSeated i cable a hw) [
+                | inl mapped ↦ given_true station cable a hw mapped
+                | inr learnt ↦ learnt_true station t learnt
+              ]
+        ]
