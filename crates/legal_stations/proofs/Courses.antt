@@ -12,7 +12,9 @@ use Rattle.cable_model.specs.Pending.{Pair}
 use Rattle.ddp.specs.Bodies.{target}
 use Rattle.image_stations.specs.Holders.{HoldsRouter}
 use Rattle.legal_runs.specs.Answers.{ends_at}
-use Rattle.legal_runs.specs.Legs.{fate as fate_in, fate_by, is_copy, is_datagram, is_unicast}
+use Rattle.legal_runs.specs.Legs.{is_copy, is_datagram, is_unicast}
+use Rattle.resolved_runs.specs.Fates.{fate_with, fate_with_by}
+use Rattle.legal_stations.specs.Fated.{NoFate}
 use Rattle.legal_runs.specs.Stations.{has_address, is_router}
 use Rattle.legal_runs.proofs.Legs.{same_address_is, seat_home}
 use Rattle.legal_runs.proofs.Passing.{copy_end, keeps}
@@ -131,21 +133,21 @@ module _ (i : Internet) (ok : Passes i) (p : Pair) (h : Holding) (holds : HoldsR
   abbrev pub the_course : Course
   the_course = course h.ports h.routes p.seat.port (link_of p.frame.to) x.d.hops x.d.target
 
-  pub course_comes : (stamp : ℕ) → Outcome i ok p h holds a x stamp the_course (fate_in i stamp p) (ends_at i p)
-  course_comes stamp =
-      subst (λ b. Outcome i ok p h holds a x stamp the_course
-      (cond b (fate_by i stamp r p (hand i r to.net)) []) (ends_at i p)) (sym copy_is)
+  pub course_comes : Outcome i ok p h holds a x the_course (λ leg. fate_with i leg p) (ends_at i p)
+  course_comes =
+      subst (λ b. Outcome i ok p h holds a x the_course
+      (λ leg. cond b (fate_with_by i leg r p (hand i r to.net)) []) (ends_at i p)) (sym copy_is)
       (by at_once refl)
     where
       by : (b : Bool) → at_once ≡ b
-          → Outcome i ok p h holds a x stamp
+          → Outcome i ok p h holds a x
           (cond b (record { step = None; ending = heard_as p.seat.port (link_of p.frame.to) x.d.target })
           (course_by h.ports (hand_in h.routes x.d.target.net) x.d.hops x.d.target))
-          (cond (not b) (fate_by i stamp r p (hand i r to.net)) []) (ends_at i p)
+          (λ leg. cond (not b) (fate_with_by i leg r p (hand i r to.net)) []) (ends_at i p)
       by true e =
           let w = once_ends (link_of p.frame.to) refl e in
-          record { fate_is = refl; ends = w.0; on = w.1 }
+          record { fate_is = NoFate (λ leg. refl); ends = w.0; on = w.1 }
       by false e =
-          subst (λ own. Outcome i ok p h holds a x stamp (course_by h.ports (hand_in h.routes x.d.target.net) x.d.hops x.d.target)
-          (fate_by i stamp r p (hand i r to.net)) own) (sym (copy_end i p (copy_is ∙ ap not e)))
-          (handed i ok p h holds a x stamp)
+          subst (λ own. Outcome i ok p h holds a x (course_by h.ports (hand_in h.routes x.d.target.net) x.d.hops x.d.target)
+          (λ leg. fate_with_by i leg r p (hand i r to.net)) own) (sym (copy_end i p (copy_is ∙ ap not e)))
+          (handed i ok p h holds a x)

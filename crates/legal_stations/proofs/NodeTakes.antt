@@ -25,7 +25,7 @@ use Rattle.image_stations.specs.Holders.{HoldsNode}
 use Rattle.legal_stations.proofs.Requested.{requested}
 use Rattle.legal_runs.specs.Answers.{Others, ends_at}
 use Rattle.legal_runs.specs.Legal.{Block, IsLegal}
-use Rattle.legal_runs.specs.Legs.{fate as fate_in, fate_by, is_datagram, is_unicast, places_of}
+use Rattle.legal_runs.specs.Legs.{is_datagram, is_unicast, places_of}
 use Rattle.legal_runs.specs.Stations.{cable_seats, has_address, is_router}
 use Rattle.nbp.specs.Registered.{answers}
 use Rattle.nbp.specs.declared.packet.Function.{Function}
@@ -35,14 +35,16 @@ use Rattle.station.specs.Lawful.{AreLawful, IsGood}
 use Rattle.station.specs.declared.output.Output.{Output}
 use Rattle.station.specs.declared.way.Way.{Way}
 use Rattle.table_image.specs.Internet.{Internet}
-use Rattle.legal_stations.proofs.Arrivals.{arrives}
+use Rattle.legal_stations.proofs.Arrivals.{Arrives, arrives}
 use Rattle.legal_stations.proofs.Asked.{Answered, unended}
 use Rattle.legal_stations.proofs.Datagrams.{Inside, inside}
 use Rattle.legal_stations.proofs.Leaving.{AsksNothing, Leaves, MayGo, legs_other, replies_leave, replies_quiet}
 use Rattle.legal_stations.proofs.Making.{each_of}
 use Rattle.legal_stations.proofs.NodeNames.{quiet_replies}
 use Rattle.legal_stations.proofs.NodeWays.{reply_goes}
-use Rattle.legal_stations.proofs.RouterTakes.{block_is}
+use Rattle.legal_stations.proofs.RouterTakes.{TakesSo, block_is}
+use Rattle.legal_stations.specs.Fated.{IsFate, NoFate}
+use Rattle.resolved_runs.specs.Fates.{fate_with, fate_with_by}
 use Rattle.legal_stations.proofs.RouterWays.{Replies, replies_are}
 
 -- ---- Frames that a node hears
@@ -74,11 +76,11 @@ module _ (i : Internet) (ok : Passes i) (p : Pair) (k n : ℕ) (far : p.seat.sta
   no_router = le-ltb s (length i.routers) (omega (arith, far))
 
   -- A node passes nothing on.
-  no_fate : (stamp : ℕ) → fate_in i stamp p ≡ []
-  no_fate stamp =
-      ap (λ b. cond b (fate_by i stamp s p (hand i s (target p.frame.bytes).net)) [])
+  no_fate : IsFate i s (λ leg. fate_with i leg p) []
+  no_fate =
+      NoFate (λ leg. ap (λ b. cond b (fate_with_by i leg s p (hand i s (target p.frame.bytes).net)) [])
       (none (is_datagram p.frame.kind) (is_unicast p.frame.to) (is_router i s) ((target p.frame.bytes).net == 0)
-      (has_address i s p.seat.cable (target p.frame.bytes)) no_router)
+      (has_address i s p.seat.cable (target p.frame.bytes)) no_router))
     where
       none : (k u r z o : Bool) → r ≡ false → (k && u && r && not z && not o) ≡ false
       none true true false z o e = refl
@@ -206,14 +208,11 @@ module _ (i : Internet) (ok : Passes i) (p : Pair) (k n : ℕ) (far : p.seat.sta
         by true = record { answer = served_answer; port = refl; zone = refl; router = refl; names = refl }
         by false = record { answer = λ good. answered [] tt tt; port = refl; zone = refl; router = refl; names = refl }
 
-pub node_takes : (i : Internet) (t : List Entry) (p : Pair) (k n : ℕ) (old new : NodeHolding) (added : List Output)
-    → Passes i → IsLegal i t → Contains (pending (cable_seats i) t) p → p.seat.station ≡ length i.routers + k
-    → HoldsNode i k old → Hears old (heard_by p) added new → AreLawful n added
-    → Block i t (Took p.frame.stamp p.seat.station
-    ∷ all_entries (places_of i) (cable_seats i) p.seat.station (stamps t) added)
-    × HoldsNode i k new
-node_takes i t p k n old new added ok legal there far holds hears lawful =
-    let a = arrives i ok t p legal there in
+-- What a node puts out for a pair that it takes, and that it still holds the image's contents.
+pub node_outputs : (i : Internet) (p : Pair) (k n : ℕ) (old new : NodeHolding) (added : List Output)
+    → (ok : Passes i) → Arrives i ok p → p.seat.station ≡ length i.routers + k
+    → HoldsNode i k old → Hears old (heard_by p) added new → AreLawful n added → TakesSo i p added × HoldsNode i k new
+node_outputs i p k n old new added ok a far holds hears lawful =
     let x = inside p.frame.bytes a.framed a.fine.is_body in
     let so = heard_so old new p added hears in
     let is : heard_datagram old (link_of p.frame.to) (Some x.d) ≡ heard old (heard_by p) =
@@ -221,8 +220,13 @@ node_takes i t p k n old new added ok legal there far holds hears lawful =
     let w : IsHeard i ok p k n far old holds x (heard old (heard_by p)) =
     subst (IsHeard i ok p k n far old holds x) is (datagram_heard i ok p k n far old holds x) in
     let good = each_of (IsGood n) added lawful.each in (
-      block_is i t p added [] added there refl (sym (no_fate i ok p k n far old holds (stamps t)))
-          (subst (Answered i p) (sym so.outputs) (w.answer (subst (Each (IsGood n)) so.outputs good))),
+      record {
+        front = [];
+        made = added;
+        outputs = refl;
+        fate = no_fate i ok p k n far old holds;
+        answered = subst (Answered i p) (sym so.outputs) (w.answer (subst (Each (IsGood n)) so.outputs good));
+      },
       record {
         node = holds.node;
         known = holds.known;
@@ -232,3 +236,13 @@ node_takes i t p k n old new added ok legal there far holds hears lawful =
         names = so.names ∙ (w.names ∙ holds.names);
       },
     )
+
+pub node_takes : (i : Internet) (t : List Entry) (p : Pair) (k n : ℕ) (old new : NodeHolding) (added : List Output)
+    → Passes i → IsLegal i t → Contains (pending (cable_seats i) t) p → p.seat.station ≡ length i.routers + k
+    → HoldsNode i k old → Hears old (heard_by p) added new → AreLawful n added
+    → Block i t (Took p.frame.stamp p.seat.station
+    ∷ all_entries (places_of i) (cable_seats i) p.seat.station (stamps t) added)
+    × HoldsNode i k new
+node_takes i t p k n old new added ok legal there far holds hears lawful =
+    let w = node_outputs i p k n old new added ok (arrives i ok t p legal there) far holds hears lawful in
+    (block_is i t p added there w.0, w.1)
