@@ -13,18 +13,21 @@ use Rattle.audit.proofs.WalkLists.{at_append, at_map}
 use Rattle.cable_model.specs.Outcomes.{framed, leg as leg_on, to_other, to_target}
 use Rattle.cable_model.specs.Pending.{Pair, is_heard, pairs, pairs_of, pending, was_ended}
 use Rattle.at_base.specs.Multicast.{all_hw, group_hw, is_all}
-use Rattle.cable_model.specs.Transcript.{Entry, Dropped, Frame, Hold, Lost, Put, Reached, Sent, Took, stamps}
+use Rattle.cable_model.specs.Transcript.{Entry, Dropped, Frame, Hold, Lost, Put, Reached, Sent, Took, next_stamp, stamps}
 use Rattle.cable_model.specs.declared.entry.How.TheVariants as how
 use Rattle.cable_model.specs.declared.seat.Seat.{Seat}
 use Rattle.cable_model.proofs.Counting.{At, contained_at, each-append, each_at, filter_at}
 use Rattle.ddp.specs.Bodies.{body, hops, target}
 use Rattle.legal_runs.specs.Answers.{ByRouter, Goes, IsBody, IsMade, OnCable, Straight, ToThem, ToThese}
-use Rattle.legal_runs.specs.Legal.{Begins, Block, Goes as GoesOn, IsLegal, Sends, Takes, said}
+use Rattle.legal_runs.specs.Legal.{IsLegal}
+use Rattle.legal_runs.specs.Losses.{Another, Nothing as NoneSaid, Said}
 use Rattle.legal_runs.specs.Legs.{Leg, fate, fate_by, final, found_at, is_copy, is_unicast, leg, leg_bytes, passed, places_of, sender}
 use Rattle.legal_runs.specs.Stations.{cable_seat, cable_seats, has_address}
 use Rattle.legal_runs.proofs.Frames.{Framed, body_stays, hops_are, target_inside, target_stays, whole}
 use Rattle.legal_runs.proofs.Passing.{copy_parts}
-use Rattle.legal_runs.proofs.Runs.{run_is}
+use Rattle.legal_runs.proofs.Lossy.{lossy_pending, whole_is}
+use Rattle.legal_runs.proofs.Rising.{GoesOn, IsRising, RisingBlock, SendsOne, Starts, TakesOne, legal_rises}
+use Rattle.legal_runs.proofs.Runs.{rising_run}
 use Rattle.legal_runs.proofs.Seated.{home_is, listed_some}
 use Rattle.std.specs.Prelude.{Contains}
 use Rattle.station.specs.declared.heard.Kind.TheVariants.{Ddp}
@@ -32,6 +35,11 @@ use Rattle.station.specs.declared.output.DropCause.TheVariants.{HopLimit}
 use Rattle.station.specs.declared.output.Next.{Next}
 use Rattle.station.specs.declared.output.Next.TheVariants as next
 use Rattle.table_image.specs.Internet.{Internet}
+use Rattle.resolved_runs.specs.Fitting.{SeatsFit}
+use Rattle.resolved_runs.specs.Plain.{plain}
+use Rattle.resolved_runs.specs.ResolvedRuns.{IsLegalResolved}
+use Rattle.resolved_runs.proofs.Erased.{erases}
+use Rattle.resolved_runs.proofs.Standing.{pending_plain}
 
 -- The frame has a datagram with a whole body; a datagram in a frame to one station isn't for network 0.
 pub record IsFine (f : Frame) : Type 0 where
@@ -130,14 +138,14 @@ module _ (i : Internet) (ok : Passes i) where
         ]
     leg_fine (next.Group g) lt = (put_fine (group_hw g) (λ u. absurd (true≢false (sym u ∙ group_is g lt))), tt)
 
-  said_fine : (stamp : ℕ) (ls : List Leg) → Each (IsMade i) ls → Each AreFine (said i stamp ls)
-  said_fine stamp [] made = tt
-  said_fine stamp (l ∷ ls) made =
+  said_fine : (n : ℕ) (ls : List Leg) (es : List Entry) → Said i n ls es → Each (IsMade i) ls → Each AreFine es
+  said_fine n ls es (NoneSaid m) made = tt
+  said_fine n ls es (Another m stamp l more fs le rest) made =
       let fresh = made.0.fresh in (
         tt,
-        each-append AreFine (leg i stamp l) (said i (stamp + stamps (leg i stamp l)) ls)
+        each-append AreFine (leg i stamp l) fs
             (leg_fine stamp l made.0.whole (omega (arith, fresh)) l.next (goes_next l made.0.goes))
-            (said_fine (stamp + stamps (leg i stamp l)) ls made.1),
+            (said_fine (stamp + stamps (leg i stamp l)) more fs rest made.1),
       )
 
   -- ---- Frames of fates
@@ -199,11 +207,11 @@ module _ (i : Internet) (ok : Passes i) where
     pub at : At (seats i) place seat
     pub seat_is : p.seat ≡ cable_seat i seat
 
-  arrives_by : (t : List Entry) (p : Pair) → IsLegal i t → Each AreFine t → Contains (pending (cable_seats i) t) p → Arrives p
-  arrives_by t p legal fine there =
+  arrives_by : (t : List Entry) (p : Pair) → IsRising i t → Each AreFine t → Contains (pending (cable_seats i) t) p → Arrives p
+  arrives_by t p rising fine there =
       let k = contained_at (pending (cable_seats i) t) p there in
       let w = filter_at (λ q. not (was_ended t q)) (pairs (cable_seats i) t) k.0 p k.1 in
-      let framed = each_at (λ q. Framed q.frame.bytes) (pairs (cable_seats i) t) w.0 p w.1 (run_is i ok t legal).framed in
+      let framed = each_at (λ q. Framed q.frame.bytes) (pairs (cable_seats i) t) w.0 p w.1 (rising_run i ok t rising).framed in
       let from = pair_from (cable_seats i) t w.0 p w.1 in
       let mine = each_at AreFine t from.0.0 (Put p.frame) from.0.1 fine in
       let s = at_map (cable_seat i) (seats i) from.1.0 p.seat from.1.1 in
@@ -216,19 +224,31 @@ module _ (i : Internet) (ok : Passes i) where
         seat_is = s.2;
       }
 
-  all_fine : (t : List Entry) → IsLegal i t → Each AreFine t
-  all_fine t Begins = tt
-  all_fine t (GoesOn front block legal b) = let before = all_fine front legal in each-append AreFine front block before (by before b)
+  all_fine : (t : List Entry) → IsRising i t → Each AreFine t
+  all_fine t Starts = tt
+  all_fine t (GoesOn front block rising b) = let before = all_fine front rising in each-append AreFine front block before (by before b)
     where
-      by : {es : List Entry} → Each AreFine front → Block i front es → Each AreFine es
-      by before (Sends l made own) = said_fine (stamps front) (l ∷ []) (made, tt)
-      by before (Takes p ls there made its answers) =
-          let a = arrives_by front p legal before there in (
+      by : {es : List Entry} → Each AreFine front → RisingBlock i front es → Each AreFine es
+      by before (SendsOne l es made own said) = said_fine (next_stamp front) (l ∷ []) es said (made, tt)
+      by before (TakesOne p ls es there made its answers handled) =
+          let a = arrives_by front p rising before there in (
             tt,
-            each-append AreFine (fate i (stamps front) p) (said i (stamps front + stamps (fate i (stamps front) p)) ls)
-                (fate_fine (stamps front) p a.framed a.fine.is_body)
-                (said_fine (stamps front + stamps (fate i (stamps front) p)) ls made),
+            subst (Each AreFine) (sym handled.whole)
+                (each-append AreFine (fate i handled.stamp p) handled.rest (fate_fine handled.stamp p a.framed a.fine.is_body)
+                (said_fine (handled.stamp + stamps (fate i handled.stamp p)) ls handled.rest handled.said made)),
           )
 
+  arrives_rising : (t : List Entry) (p : Pair) → IsRising i t → Contains (pending (cable_seats i) t) p → Arrives p
+  arrives_rising t p rising there = arrives_by t p rising (all_fine t rising) there
+
   pub arrives : (t : List Entry) (p : Pair) → IsLegal i t → Contains (pending (cable_seats i) t) p → Arrives p
-  arrives t p legal there = arrives_by t p legal (all_fine t legal) there
+  arrives t p legal there = arrives_rising t p (legal_rises i t legal) there
+
+  -- The same where addresses are resolved.
+  pub arrives_resolved : (t : List Entry) (p : Pair) → SeatsFit i → IsLegalResolved i t → Contains (pending (cable_seats i) t) p
+      → p.frame.kind ≡ Ddp → Arrives p
+  arrives_resolved t p fit legal there kind =
+      let e = erases i ok fit t legal in
+      let w = whole_is i (plain i t) e.legal in
+      arrives_rising w.entries p w.rising
+      (lossy_pending (cable_seats i) w.entries (plain i t) p w.lossy (pending_plain i t p e.told there kind))
