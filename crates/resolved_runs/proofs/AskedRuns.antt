@@ -37,9 +37,12 @@ use Rattle.resolved_runs.specs.Mapped.{found_by, frame_of, given, known, learnt_
 use Rattle.resolved_runs.specs.Resolved.{held_by_port, resolved_leg, resolved_said, waiting_entries}
 use Rattle.resolved_runs.specs.ResolvedRuns as resolved
 use Rattle.resolved_runs.specs.ResolvedRuns.{IsLegalResolved, ResolvedBlock, resolved_fate, resolved_handled, taking}
-use Rattle.resolved_runs.proofs.Asked.{held_asked, keeps_asked, quiet_asked, taken_asked}
+use Rattle.resolved_runs.proofs.Asked.{keeps_asked, quiet_asked}
+use Rattle.resolved_runs.proofs.AskedHeld.{held_asked}
+use Rattle.resolved_runs.proofs.AskedTaken.{taken_asked}
 use Rattle.resolved_runs.proofs.Elements.{In, in_list}
-use Rattle.resolved_runs.proofs.Erased.{Erases, all_ready, erases, fate_done, final_fits, frame_fits, frame_framed, made_ready, passed_ready, put}
+use Rattle.resolved_runs.proofs.Erased.{Erases, erases, frame_fits, frame_framed, put}
+use Rattle.resolved_runs.proofs.ResolvedSaid.{all_ready, fate_done, final_fits, made_ready, passed_ready}
 use Rattle.resolved_runs.proofs.Fits.{Fits, hand_owner, hand_seated, owner_fits}
 use Rattle.resolved_runs.proofs.ResolvedLegs.{IsReady, leg_done}
 use Rattle.resolved_runs.proofs.Stamped.{frame_is}

@@ -19,8 +19,12 @@ pub mod Fits
 pub mod Steps
 pub mod ResolvedLegs
 pub mod Stamped
+pub mod PlainStamps
+pub mod ResolvedSaid
+pub mod Resolving
 pub mod Erased
 pub mod CarriedOrHeld
+pub mod TakenThere
 pub mod Never
 pub mod HeldStamps
 pub mod PlainEntries
@@ -32,6 +36,8 @@ pub mod PlainCounts
 pub mod PlainLookups
 pub mod Balances
 pub mod Asked
+pub mod AskedHeld
+pub mod AskedTaken
 pub mod AskedRuns
 pub mod OwnCables
 pub mod Bearing

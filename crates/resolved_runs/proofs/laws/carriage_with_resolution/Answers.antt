@@ -1,7 +1,8 @@
 use Rattle.resolved_runs.proofs.laws.carriage_with_resolution.Goals as goal
 use Rattle.legal_runs.proofs.LossyLaws.{handed_with_losses}
 use Rattle.resolved_runs.specs.Plain.{plain}
-use Rattle.resolved_runs.proofs.CarriedOrHeld.{carried_or_held, taken_there}
+use Rattle.resolved_runs.proofs.CarriedOrHeld.{carried_or_held}
+use Rattle.resolved_runs.proofs.TakenThere.{taken_there}
 use Rattle.resolved_runs.proofs.Erased.{erases}
 
 pub returns : goal.returns
