@@ -1,50 +1,26 @@
 -- What is held for a station stays asked for while entries that hold nothing follow.
-use Rattle.std.proofs.Common.{◌≡◌, ◌≢◌, ◌⊎◌, inl, inr, ◌≤◌, ◌<◌, ℕ, zero, suc, Bool, true, false, not, if◌then◌else◌}
-use Rattle.std.proofs.Common.{◌||◌, ◌&&◌, ◌==◌, List, [], ◌∷◌, ◌++◌, Option, Some, None, Contains, refl, sym, ap, ◌∙◌, subst, arith}
-use Rattle.std.proofs.Common.{filter, map, eqb-true, eq-eqb, ne_eqb, true≢false}
-use Rattle.std.specs.List.{list_any, AllByRecursion as Each}
-use Rattle.std.proofs.lemmas.Bool.{and_parts, false_from_ne_true, or_cases, or_parts}
-use Rattle.aarp.specs.Packets.{packet, written}
-use Rattle.aarp.specs.declared.packet.Function.{Function}
-use Rattle.aarp.specs.declared.packet.Function.TheVariants.{Probe, Request, Response}
-use Rattle.aarp.specs.declared.packet.Packet.{Packet}
-use Rattle.at_base.specs.Address.{same_address}
-use Rattle.at_base.specs.Multicast.{all_hw}
-use Rattle.at_base.specs.Spelling.{bytes_of}
-use Rattle.at_base.specs.declared.address.Hw.{Hw}
+use Rattle.std.proofs.Common.{◌≡◌, ◌⊎◌, inl, inr, ◌≤◌, ◌<◌, ℕ, Bool, true, false}
+use Rattle.std.proofs.Common.{◌||◌, ◌==◌, List, [], ◌∷◌, ◌++◌, Contains, refl, sym, ap, ◌∙◌, subst, arith}
+use Rattle.std.proofs.Common.{eqb-true}
+use Rattle.std.specs.List.{list_any}
+use Rattle.std.proofs.lemmas.Bool.{false_from_ne_true, or_cases, or_parts}
+use Rattle.aarp.specs.Packets.{packet}
 use Rattle.table_image.specs.Internet.{Internet}
-use Rattle.table_image.specs.Seats.{Seat as PlaceOf, seat_at, seats}
-use Rattle.audit.specs.Rules.{Passes}
-use Rattle.audit.proofs.Finding.{any_at, any_from}
-use Rattle.audit.proofs.WalkLists.{find_found}
-use Rattle.station.specs.Resolution.{packet_at}
-use Rattle.station.specs.declared.heard.Kind.TheVariants.{Aarp}
+use Rattle.table_image.specs.Seats.{Seat as PlaceOf}
 use Rattle.cable_model.specs.Books.{has_took}
 use Rattle.cable_model.specs.Holdings.{holds, holds_of, released_frame, releases, still_held}
-use Rattle.cable_model.specs.Outcomes.{Held}
-use Rattle.cable_model.specs.Outgoing.{asked, held_entries, let_go}
-use Rattle.cable_model.specs.Pending.{Pair, ends, is_heard, pairs, pairs_of, pending, was_ended}
-use Rattle.cable_model.specs.Transcript.{Entry, Frame, Holding, Sent, Put, Took, Reached, Dropped, Lost, Hold, has_put, is_put, next_stamp}
-use Rattle.cable_model.specs.declared.seat.Seat.{Seat}
+use Rattle.cable_model.specs.Outgoing.{asked}
+use Rattle.cable_model.specs.Pending.{Pair, ends, pairs, pending, was_ended}
+use Rattle.cable_model.specs.Transcript.{Entry, Frame, Holding, Put, next_stamp}
 use Rattle.cable_model.proofs.Counting.{any-append, each_at}
 use Rattle.cable_model.proofs.Pairs.{pairs-append}
 use Rattle.cable_model.proofs.Stamps.{above_this, stamp_from_more, held_below, holds-append, next_after, put_below}
-use Rattle.legal_runs.specs.Stations.{cable_seat, cable_seats, is_on}
-use Rattle.legal_runs.proofs.Legs.{same_address_is, same_address_self, seat_there}
-use Rattle.legal_runs.proofs.Seated.{heard_alone}
-use Rattle.resolved_runs.specs.AskedFor.{Answered, AreAskedFor, Asks, IsAskedFor, Requested}
-use Rattle.resolved_runs.specs.Mapped.{frame_of, hardware_of, own_hardware}
-use Rattle.resolved_runs.specs.Resolved.{answer_entries, held_at, held_by_port, released, request_by, request_bytes, request_of, resolving, resolving_by, resolving_of}
-use Rattle.resolved_runs.specs.Resolved.{response_by, shed_of, station_seats}
-use Rattle.resolved_runs.specs.ResolvedRuns.{taking}
-use Rattle.resolved_runs.proofs.Elements.{In, any_in, contained, in_kept, in_left, in_list, in_map, in_one, in_parts, in_right, kept_in}
-use Rattle.resolved_runs.specs.Fitting.{SeatsFit}
-use Rattle.resolved_runs.proofs.Fits.{Fits, packet_is, request_fits, response_fits}
-use Rattle.resolved_runs.proofs.ResolvedLegs.{shed_is}
-use Rattle.resolved_runs.proofs.Standing.{put_releases, ended_by, held_in, is_pending, pair_put, pending_in, put_pair, took_put}
-use Rattle.resolved_runs.proofs.Stamped.{frame_is}
-use Rattle.resolved_runs.proofs.Steps.{is_still, still_more}
-use Rattle.resolved_runs.proofs.Told.{Fact, Fitting, IsAarp, IsDropped, IsHeld, IsLost, IsNew, IsPacket, IsReached, IsReleased, IsSent, IsTold}
+use Rattle.legal_runs.specs.Stations.{cable_seats}
+use Rattle.resolved_runs.specs.AskedFor.{AreAskedFor, IsAskedFor}
+use Rattle.resolved_runs.proofs.Elements.{In, in_left, in_parts}
+use Rattle.resolved_runs.proofs.Standing.{ended_by, held_in, is_pending, pending_in, took_put}
+use Rattle.resolved_runs.proofs.Steps.{is_still}
+use Rattle.resolved_runs.proofs.Told.{Fact, IsAarp, IsDropped, IsHeld, IsLost, IsNew, IsReached, IsReleased, IsSent, IsTold}
 use Rattle.resolved_runs.proofs.Told.{IsTook, More, Nothing}
 
 module _ (i : Internet) where

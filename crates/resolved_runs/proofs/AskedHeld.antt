@@ -1,13 +1,10 @@
 -- A datagram that is held for a station is asked for, and those that were held before still are.
 use Rattle.std.proofs.Common.{◌≡◌, ◌≢◌, ◌⊎◌, inl, inr, ◌≤◌, ◌<◌, ℕ, zero, suc, Bool, true, false, not, if◌then◌else◌}
 use Rattle.std.proofs.Common.{◌||◌, ◌&&◌, ◌==◌, List, [], ◌∷◌, ◌++◌, Option, Some, None, Contains, refl, sym, ap, ◌∙◌, subst, arith}
-use Rattle.std.proofs.Common.{filter, map, eqb-true, eq-eqb, ne_eqb, true≢false}
-use Rattle.std.specs.List.{list_any, AllByRecursion as Each}
-use Rattle.std.proofs.lemmas.Bool.{and_parts, false_from_ne_true, or_cases, or_parts}
+use Rattle.std.proofs.Common.{filter, eqb-true, eq-eqb, ne_eqb, true≢false}
+use Rattle.std.specs.List.{list_any}
+use Rattle.std.proofs.lemmas.Bool.{and_parts}
 use Rattle.aarp.specs.Packets.{packet, written}
-use Rattle.aarp.specs.declared.packet.Function.{Function}
-use Rattle.aarp.specs.declared.packet.Function.TheVariants.{Probe, Request, Response}
-use Rattle.aarp.specs.declared.packet.Packet.{Packet}
 use Rattle.at_base.specs.Address.{same_address}
 use Rattle.at_base.specs.Multicast.{all_hw}
 use Rattle.at_base.specs.Spelling.{bytes_of}
@@ -17,36 +14,28 @@ use Rattle.table_image.specs.Seats.{Seat as PlaceOf, seat_at, seats}
 use Rattle.audit.specs.Rules.{Passes}
 use Rattle.audit.proofs.Finding.{any_at, any_from}
 use Rattle.audit.proofs.WalkLists.{find_found}
-use Rattle.station.specs.Resolution.{packet_at}
 use Rattle.station.specs.declared.heard.Kind.TheVariants.{Aarp}
-use Rattle.cable_model.specs.Books.{has_took}
-use Rattle.cable_model.specs.Holdings.{holds, holds_of, released_frame, releases, still_held}
+use Rattle.cable_model.specs.Holdings.{holds, still_held}
 use Rattle.cable_model.specs.Outcomes.{Held}
 use Rattle.cable_model.specs.Outgoing.{asked, held_entries, let_go}
-use Rattle.cable_model.specs.Pending.{Pair, ends, is_heard, pairs, pairs_of, pending, was_ended}
-use Rattle.cable_model.specs.Transcript.{Entry, Frame, Holding, Sent, Put, Took, Reached, Dropped, Lost, Hold, has_put, is_put, next_stamp}
+use Rattle.cable_model.specs.Pending.{Pair, ends, is_heard, pairs_of, was_ended}
+use Rattle.cable_model.specs.Transcript.{Entry, Frame, Holding, Put, Lost, Hold, has_put, next_stamp}
 use Rattle.cable_model.specs.declared.seat.Seat.{Seat}
 use Rattle.cable_model.proofs.Counting.{any-append, each_at}
-use Rattle.cable_model.proofs.Pairs.{pairs-append}
-use Rattle.cable_model.proofs.Stamps.{above_this, stamp_from_more, held_below, holds-append, next_after, put_below}
+use Rattle.cable_model.proofs.Stamps.{held_below, holds-append}
 use Rattle.legal_runs.specs.Stations.{cable_seat, cable_seats, is_on}
 use Rattle.legal_runs.proofs.Legs.{same_address_is, same_address_self, seat_there}
-use Rattle.legal_runs.proofs.Seated.{heard_alone}
 use Rattle.resolved_runs.specs.AskedFor.{Answered, AreAskedFor, Asks, IsAskedFor, Requested}
-use Rattle.resolved_runs.specs.Mapped.{frame_of, hardware_of, own_hardware}
-use Rattle.resolved_runs.specs.Resolved.{answer_entries, held_at, held_by_port, released, request_by, request_bytes, request_of, resolving, resolving_by, resolving_of}
-use Rattle.resolved_runs.specs.Resolved.{response_by, shed_of, station_seats}
-use Rattle.resolved_runs.specs.ResolvedRuns.{taking}
-use Rattle.resolved_runs.proofs.Elements.{In, any_in, contained, in_kept, in_left, in_list, in_map, in_one, in_parts, in_right, kept_in}
+use Rattle.resolved_runs.specs.Mapped.{hardware_of, own_hardware}
+use Rattle.resolved_runs.specs.Resolved.{held_at, held_by_port, request_by, request_bytes, request_of}
+use Rattle.resolved_runs.specs.Resolved.{shed_of, station_seats}
+use Rattle.resolved_runs.proofs.Elements.{In, any_in, contained, in_kept, in_map, in_one, in_right, kept_in}
 use Rattle.resolved_runs.specs.Fitting.{SeatsFit}
-use Rattle.resolved_runs.proofs.Fits.{Fits, packet_is, request_fits, response_fits}
+use Rattle.resolved_runs.proofs.Fits.{Fits, packet_is, request_fits}
 use Rattle.resolved_runs.proofs.ResolvedLegs.{shed_is}
-use Rattle.resolved_runs.proofs.Standing.{put_releases, ended_by, held_in, is_pending, pair_put, pending_in, put_pair, took_put}
-use Rattle.resolved_runs.proofs.Stamped.{frame_is}
-use Rattle.resolved_runs.proofs.Steps.{is_still, still_more}
-use Rattle.resolved_runs.proofs.Told.{Fact, Fitting, IsAarp, IsDropped, IsHeld, IsLost, IsNew, IsPacket, IsReached, IsReleased, IsSent, IsTold}
-use Rattle.resolved_runs.proofs.Told.{IsTook, More, Nothing}
-use Rattle.resolved_runs.proofs.Asked.{held_parts, not_ended, released_below, stays}
+use Rattle.resolved_runs.proofs.Standing.{put_releases, held_in, is_pending, pair_put, pending_in, put_pair}
+use Rattle.resolved_runs.proofs.Told.{IsTold}
+use Rattle.resolved_runs.proofs.Asked.{held_parts, not_ended, stays}
 
 module _ (i : Internet) where
   -- The frame of a pair isn't that of a datagram that is still held.

@@ -1,63 +1,37 @@
 -- What stations say, and the fates of datagrams, with resolution, stand for plain ones.
-use Rattle.std.proofs.Common.{◌≡◌, ◌≢◌, ◌≤◌, ◌+◌, ℕ, zero, Bool, true, false, not, cond, ◌||◌, ◌&&◌, ◌==◌, List, [], ◌∷◌, ◌++◌, Option}
-use Rattle.std.proofs.Common.{Some, None, Contains, refl, sym, ap, ◌∙◌, subst, arith, append_assoc, append-nil, filter, eqb-true, eq-eqb, is_some}
+use Rattle.std.proofs.Common.{◌≡◌, ◌≢◌, ◌≤◌, ◌+◌, ℕ, Bool, true, false, cond, ◌||◌, ◌==◌, List, [], ◌∷◌, ◌++◌}
+use Rattle.std.proofs.Common.{refl, sym, ap, ◌∙◌, subst, arith, append_assoc}
 use Rattle.std.specs.List.{AllByRecursion as Each}
-use Rattle.std.proofs.lemmas.Bool.{and_parts, eqb-false}
-use Rattle.aarp.specs.Packets.{packet, written}
-use Rattle.aarp.specs.declared.packet.Function.{Function}
-use Rattle.aarp.specs.declared.packet.Function.TheVariants.{Probe, Request, Response}
-use Rattle.aarp.specs.declared.packet.Packet.{Packet}
-use Rattle.at_base.specs.Address.{same_address}
-use Rattle.at_base.specs.Spelling.{bytes_of}
+use Rattle.std.proofs.lemmas.Bool.{eqb-false}
 use Rattle.at_base.specs.declared.address.Addr.{Addr}
 use Rattle.ddp.specs.Bodies.{body, hops, target}
 use Rattle.table_image.specs.Internet.{Internet}
-use Rattle.table_image.specs.Seats.{Seat, seat_at, seats}
 use Rattle.audit.specs.Routing.{Hand, Here, On, Nowhere, hand}
 use Rattle.audit.specs.Rules.{Passes}
-use Rattle.station.specs.declared.heard.Kind.{Kind}
-use Rattle.station.specs.declared.heard.Kind.TheVariants.{Aarp, Ddp}
 use Rattle.station.specs.declared.output.DropCause.TheVariants.{HopLimit, NoRoute}
 use Rattle.station.specs.declared.output.Next.{Next}
 use Rattle.station.specs.declared.output.Next.TheVariants as next
 use Rattle.cable_model.specs.declared.entry.How.TheVariants as how
-use Rattle.cable_model.specs.Holdings.{holds, still_held, was_released}
-use Rattle.cable_model.specs.Pending.{Pair, pending}
-use Rattle.cable_model.specs.Transcript.{Entry, Frame, Holding, Sent, Put, Took, Reached, Dropped, Lost, Hold, above, next_stamp}
-use Rattle.cable_model.specs.Transcript.{stamp_after, stamp_from, stamps}
-use Rattle.cable_model.proofs.Counting.{contained_at, each-append, each_at}
-use Rattle.cable_model.proofs.Stamps.{above_more, next_after, stamp_from-append}
-use Rattle.legal_runs.specs.Answers.{Answers, ByRouter, Goes as Ways, IsMade, IsOwn, OnCable, Straight, ToThem, ToThese}
+use Rattle.cable_model.specs.Holdings.{holds}
+use Rattle.cable_model.specs.Pending.{Pair}
+use Rattle.cable_model.specs.Transcript.{Entry, Sent, Reached, Dropped, next_stamp}
+use Rattle.cable_model.specs.Transcript.{stamps}
+use Rattle.cable_model.proofs.Stamps.{next_after}
+use Rattle.legal_runs.specs.Answers.{ByRouter, Goes as Ways, IsMade, OnCable, Straight, ToThem, ToThese}
 use Rattle.legal_runs.specs.Legs.{Leg, fate, fate_by, final, is_copy, leg, leg_bytes, passed}
-use Rattle.legal_runs.specs.Losses.{Another, Ends, Keeps, Loses, Nothing as NoneSaid, Said, WithLosses}
-use Rattle.legal_runs.specs.LossyRuns.{Begins, Goes, IsLegalWithLosses, Loses as LosesOne, LossyBlock, Sends, Takes}
-use Rattle.legal_runs.specs.Stations.{cable_seats, has_address}
+use Rattle.legal_runs.specs.Losses.{Another, Nothing as NoneSaid, Said}
+use Rattle.legal_runs.specs.Stations.{has_address}
 use Rattle.legal_runs.proofs.Frames.{Framed, target_inside, target_stays, whole, whole_inside}
-use Rattle.legal_runs.proofs.Legs.{same_address_is}
-use Rattle.legal_runs.proofs.Lossy.{lossy_pending, whole_is}
-use Rattle.legal_runs.proofs.Rises.{stamp_from_less}
-use Rattle.legal_runs.proofs.Runs.{known as known_pair, rising_run}
 use Rattle.resolved_runs.specs.Fates.{fate_with_by}
 use Rattle.resolved_runs.specs.Fitting.{SeatsFit}
-use Rattle.resolved_runs.specs.Plain.{plain, plain_after, plain_entry}
-use Rattle.resolved_runs.specs.Resolved.{answer_entries, held_at, resolved_leg, resolved_said, resolving, resolving_by, resolving_of, response_by}
-use Rattle.resolved_runs.specs.Resolved.{station_seats}
-use Rattle.resolved_runs.specs.ResolvedRuns as resolved
-use Rattle.resolved_runs.specs.ResolvedRuns.{IsLegalResolved, ResolvedBlock, resolved_fate, resolved_handled, taking}
-use Rattle.resolved_runs.specs.Mapped.{frame_of}
-use Rattle.resolved_runs.specs.Plain.{hold_of, plain_hold, plain_lost, plain_put, plain_took}
-use Rattle.resolved_runs.proofs.Elements.{In, any_in, contained, each_in, kept_in}
-use Rattle.resolved_runs.proofs.Fits.{EntryFits, Fits, FrameFits, hand_owner, owner_fits, packet_begins, packet_is, response_fits, target_fits}
-use Rattle.resolved_runs.proofs.Plains.{plain_more, plain_one, took_aarp, took_datagram}
+use Rattle.resolved_runs.specs.Resolved.{resolved_leg, resolved_said}
+use Rattle.resolved_runs.specs.ResolvedRuns.{resolved_fate}
+use Rattle.resolved_runs.proofs.Fits.{Fits, hand_owner, owner_fits, target_fits}
 use Rattle.resolved_runs.proofs.ResolvedLegs.{IsReady, leg_done}
-use Rattle.resolved_runs.proofs.Stamped.{frame_is, hold_entry}
-use Rattle.resolved_runs.proofs.Standing.{held_in, pair_put, pending_in, pending_plain}
-use Rattle.resolved_runs.proofs.Steps.{Done, IsFor, all_released, done_none, done_then, done_told, holds_rising, one_aarp, one_done, rising_kept}
+use Rattle.resolved_runs.proofs.Steps.{Done, done_none, done_then, done_told}
 use Rattle.resolved_runs.proofs.Steps.{one_dropped, one_reached, one_sent}
-use Rattle.resolved_runs.proofs.Told.{Fitting, IsPacket, IsTold}
-use Rattle.resolved_runs.proofs.Told.{IsTook, Nothing}
-use Rattle.resolved_runs.proofs.Truths.{packet_told, seat_is}
-use Rattle.resolved_runs.proofs.PlainStamps.{lossy_more, plain_next, said_less}
+use Rattle.resolved_runs.proofs.Told.{IsTold}
+use Rattle.resolved_runs.proofs.PlainStamps.{said_less}
 
 module _ (i : Internet) (ok : Passes i) (fit : SeatsFit i) where
   -- ---- Legs that are ready

@@ -1,37 +1,24 @@
 -- A station that takes a frame is on its cable, also where stations hold datagrams.
-use Rattle.std.proofs.Common.{◌≡◌, ◌≢◌, ◌≤◌, ◌<◌, ℕ, Bool, true, false, cond, ◌||◌, ◌&&◌, ◌==◌, List, [], ◌∷◌, ◌++◌, Option, Some, None}
-use Rattle.std.proofs.Common.{Contains, refl, sym, ap, ◌∙◌, subst, arith, append-nil, is_some, length, inl, inr, eqb-true, eq-eqb, ne_eqb, filter, true≢false}
+use Rattle.std.proofs.Common.{◌≡◌, ℕ, true, false, ◌||◌, ◌&&◌, ◌==◌, List, [], ◌∷◌, ◌++◌, Some, None}
+use Rattle.std.proofs.Common.{refl, sym, ap, ◌∙◌, subst, inl, inr, eqb-true, eq-eqb, filter, true≢false}
 use Rattle.std.specs.List.{list_any}
 use Rattle.std.proofs.lemmas.Bool.{and_parts, or_parts}
-use Rattle.ddp.specs.Bodies.{hops, target}
 use Rattle.table_image.specs.Internet.{Internet}
-use Rattle.table_image.specs.Seats.{Seat as PlaceOf, seat_at, seats}
-use Rattle.audit.specs.Rules.{Passes}
+use Rattle.table_image.specs.Seats.{Seat as PlaceOf, seats}
 use Rattle.audit.proofs.Finding.{any_from}
-use Rattle.station.specs.declared.heard.Kind.{Kind}
-use Rattle.station.specs.declared.heard.Kind.TheVariants.{Aarp, Ddp}
-use Rattle.cable_model.specs.Holdings.{holds, released_frame, still_held}
-use Rattle.cable_model.specs.Pending.{Pair, is_for, is_heard, pairs, pairs_of, pending}
-use Rattle.cable_model.specs.Transcript.{Entry, Frame, Holding, Sent, Put, Took, Reached, Dropped, Lost, Hold, above, has_put, is_put}
-use Rattle.cable_model.specs.Transcript.{next_stamp}
+use Rattle.cable_model.specs.Holdings.{released_frame}
+use Rattle.cable_model.specs.Pending.{Pair, is_for, is_heard, pairs, pairs_of}
+use Rattle.cable_model.specs.Transcript.{Entry, Frame, Sent, Put, Took, Reached, Dropped, Lost, Hold, has_put, is_put}
 use Rattle.cable_model.specs.declared.seat.Seat.{Seat}
 use Rattle.cable_model.proofs.Counting.{any-append, each_at, each_map}
-use Rattle.cable_model.proofs.Stamps.{above_more, held_below, next_after, put_below, stamp_from_more}
-use Rattle.legal_runs.specs.Carriage.{AreCarried, AreTakenThere, Chains, IsChain, IsOnSome, Stamped, after, chain_in, none_yet, of_stamp}
-use Rattle.legal_runs.specs.LossyRuns.{IsLegalWithLosses}
+use Rattle.legal_runs.specs.Carriage.{AreTakenThere, IsOnSome, Stamped, of_stamp}
 use Rattle.legal_runs.specs.Stations.{cable_seats, is_on}
-use Rattle.legal_runs.proofs.LossyLaws.{carried_with_losses}
 use Rattle.legal_runs.proofs.Requested.{HasPlace, placed}
-use Rattle.legal_runs.proofs.StampedLists.{FreshFrom, fresh_less, fresh_more, of_end, of_front}
-use Rattle.resolved_runs.specs.HeldChains.{AreCarriedOrHeld, HasHops, IsCarriedOrHeld, held_after, put_after, took_after, with_chain}
-use Rattle.resolved_runs.specs.Mapped.{frame_of}
-use Rattle.resolved_runs.specs.Plain.{hold_of, plain, plain_entry, plain_hold, plain_how, plain_lost, plain_took}
-use Rattle.resolved_runs.proofs.Elements.{In, any_in, each_in, in_one, in_parts, kept_in}
-use Rattle.resolved_runs.proofs.Stamped.{frame_is, new_stamp}
-use Rattle.resolved_runs.proofs.Plains.{plain_one, put_aarp, put_direct, put_released, took_aarp, took_datagram}
-use Rattle.resolved_runs.proofs.Standing.{held_in, hold_none, hold_plain, pair_put, pending_in, put_plain}
-use Rattle.resolved_runs.proofs.Steps.{hold_found}
-use Rattle.resolved_runs.proofs.Told.{Fact, IsAarp, IsDropped, IsHeld, IsLost, IsNew, IsPacket, IsReached, IsReleased, IsSent, IsTold}
+use Rattle.legal_runs.proofs.StampedLists.{of_end, of_front}
+use Rattle.resolved_runs.proofs.Elements.{In, each_in, in_one, in_parts, kept_in}
+use Rattle.resolved_runs.proofs.Stamped.{new_stamp}
+use Rattle.resolved_runs.proofs.Standing.{pair_put, pending_in}
+use Rattle.resolved_runs.proofs.Told.{Fact, IsAarp, IsDropped, IsHeld, IsLost, IsNew, IsReached, IsReleased, IsSent, IsTold}
 use Rattle.resolved_runs.proofs.Told.{IsTook, More, Nothing}
 use Rattle.resolved_runs.proofs.CarriedOrHeld.{of_apart}
 
