@@ -10,6 +10,7 @@ pub mod Follows
 pub mod Owned
 pub mod Walks
 pub mod Refused
+pub mod Excluded
 pub mod Elements
 pub mod Told
 pub mod Plains

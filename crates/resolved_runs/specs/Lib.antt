@@ -10,3 +10,4 @@ pub mod AskedFor
 pub mod Plain
 pub mod Example
 pub mod Illegal
+pub mod Excluded

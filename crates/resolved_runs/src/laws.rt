@@ -11,6 +11,7 @@ ghost use Rattle.legal_runs.specs.Carriage.{AreByHand, AreTakenThere, none_yet};
 ghost use Rattle.legal_runs.specs.Counts.{reached, sent, under_way};
 ghost use Rattle.legal_runs.specs.Example.{echo, echo_reply, echo_request, framed, to_nobody};
 ghost use Rattle.legal_runs.specs.Example.{plain as plain_to};
+ghost use Rattle.legal_runs.specs.Illegal.{many_hops};
 ghost use Rattle.legal_runs.specs.Legs.{fate, leg};
 ghost use Rattle.legal_runs.specs.LossCounts.{lost};
 ghost use Rattle.legal_runs.specs.LossyRuns.{IsLegalWithLosses};
@@ -21,6 +22,17 @@ ghost use Rattle.resolved_runs.specs.AskedFor.{AreHeldOnce};
 ghost use Rattle.resolved_runs.specs.Example as example;
 ghost use Rattle.resolved_runs.specs.Example.{echo_again, full_ring, plain_echo, resolved_echo};
 ghost use Rattle.resolved_runs.specs.Example.{resolved_to_nobody, ring_released, unmapped};
+ghost use Rattle.resolved_runs.specs.Excluded.{another_told, asked_by_another, asked_for_another};
+ghost use Rattle.resolved_runs.specs.Excluded.{asked_from_afar, asked_in_a_datagram, blue_key};
+ghost use Rattle.resolved_runs.specs.Excluded.{forward_held_and_put, forward_held_elsewhere};
+ghost use Rattle.resolved_runs.specs.Excluded.{given_up_and_held, given_up_and_reached};
+ghost use Rattle.resolved_runs.specs.Excluded.{heard_and_held, heard_by_all, held_and_dropped};
+ghost use Rattle.resolved_runs.specs.Excluded.{held_and_elsewhere, held_and_put, held_back};
+ghost use Rattle.resolved_runs.specs.Excluded.{held_with_hops, not_forwarded, one_held, one_stamp};
+ghost use Rattle.resolved_runs.specs.Excluded.{own_held, released_from_afar, released_with_hops};
+ghost use Rattle.resolved_runs.specs.Excluded.{request_held_and_put, request_taken_from_afar};
+ghost use Rattle.resolved_runs.specs.Excluded.{unlisted_and_dropped, unlisted_and_reached};
+ghost use Rattle.resolved_runs.specs.Excluded.{unlisted_out_of_hops, vanished};
 ghost use Rattle.resolved_runs.specs.Fates.{fate_with};
 ghost use Rattle.resolved_runs.specs.Fitting.{SeatsFit};
 ghost use Rattle.resolved_runs.specs.HeldChains.{AreCarriedOrHeld};
@@ -188,4 +200,46 @@ pub fn they_are_legal_without_mistakes()
         (one_released ++ framed 2 0 2 1 (echo_request 0) ∷ []) }
     ensures asked { IsLegalResolved unmapped (take 5 asked_for_each) }
     ensures answered { IsLegalResolved example.mapped (take 9 answered_for_another) }
+{}
+
+/// Transcripts that break the laws with resolution, so that each part of these excludes something.
+/// They have a datagram that vanished; one that is held, and is in a frame, reached another cable or
+/// was dropped; one that was given up, and is held or reached its cable; one to an unlisted network
+/// that is held and was dropped, or reached a cable; one dropped because of its hop count, and one
+/// held with too many hops for the routers that remain; a cable reached, a request put, or one taken
+/// by a station that isn't on the cable; one released with another hop count than it was held with;
+/// one held on another cable than that of the walk's step; a request for names that is held and in a
+/// frame; a forward request that is missing, that is held and in a frame, or that is held for a
+/// cable that doesn't list the zone; two datagrams held with one stamp; one that is held and isn't
+/// asked for, but another address is, or another station asks, or the request is a datagram, or the
+/// answer tells another address; one that was heard and is held, one heard in a frame to all, and
+/// one held where no frame is pending.
+pub fn laws_exclude_with_resolution()
+    ensures counted { (¬ IsConservedResolved unmapped vanished)
+        × (¬ IsConservedResolved unmapped held_and_put)
+        × (¬ IsConservedResolved unmapped given_up_and_held)
+        × (¬ IsConservedResolved unmapped given_up_and_reached) }
+    ensures elsewhere { ¬ IsConservedResolved unmapped held_and_elsewhere }
+    ensures kept { ¬ IsConservedResolved unmapped held_and_dropped }
+    ensures unlisted { (¬ IsConservedResolved unmapped unlisted_and_dropped)
+        × (¬ IsConservedResolved unmapped unlisted_and_reached)
+        × (¬ IsConservedResolved unmapped unlisted_out_of_hops) }
+    ensures hops { (¬ HasHopsLeftResolved unmapped many_hops)
+        × (¬ HasHopsLeftResolved unmapped held_with_hops) }
+    ensures carried { (¬ AreCarriedOrHeld unmapped none_yet released_from_afar)
+        × (¬ AreCarriedOrHeld unmapped none_yet asked_from_afar)
+        × (¬ AreCarriedOrHeld unmapped none_yet released_with_hops) }
+    ensures taken { ¬ AreTakenThere unmapped [] request_taken_from_afar }
+    ensures handed { ¬ AreByHand unmapped false (plain unmapped held_back) }
+    ensures requested { ¬ IsLookedUpResolved unmapped request_held_and_put blue_key }
+    ensures looked { (¬ IsLookedUpResolved unmapped not_forwarded blue_key)
+        × (¬ IsLookedUpResolved unmapped forward_held_and_put blue_key)
+        × (¬ IsLookedUpResolved unmapped forward_held_elsewhere blue_key) }
+    ensures once { ¬ AreHeldOnce one_stamp }
+    ensures asked { (¬ AreAskedFor unmapped one_held) × (¬ AreAskedFor unmapped asked_for_another)
+        × (¬ AreAskedFor unmapped asked_by_another) × (¬ AreAskedFor unmapped asked_in_a_datagram)
+        × (¬ AreAskedFor unmapped another_told) }
+    ensures heard { (¬ AreHeardOrOnTheirWay unmapped heard_and_held)
+        × (¬ AreHeardOrOnTheirWay unmapped heard_by_all) }
+    ensures at_rest { ¬ AreHeard unmapped own_held }
 {}

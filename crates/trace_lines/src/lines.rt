@@ -87,7 +87,7 @@ impl Lines {
     /// Cables are counted from 1. HEX is in upper case. The hop count in HEX is 0 except in `put` and
     /// `hold`.
     ///
-    /// Error: out of memory; then the text may end with a part of the line.
+    /// Error: out of memory; then the text may end with the line, or with a part of it.
     pub fn append(
         &mut self,
         text: &mut Vec<u8>,
