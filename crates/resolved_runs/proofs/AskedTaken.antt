@@ -79,7 +79,8 @@ module _ (i : Internet) where
           answers sent (filter (λ (s : PlaceOf). same_address sent.target s.address) (station_seats i p.seat.station p.frame.cable))
       functions sent Response =
           releases_all sent.source_hw (filter (λ (h : Holding). same_address sent.source h.next) (held_at t p.seat.station p.frame.cable))
-      functions sent Probe = tt
+      functions sent Probe =
+          answers sent (filter (λ (s : PlaceOf). same_address sent.target s.address) (station_seats i p.seat.station p.frame.cable))
 
       by : (o : Option Packet) → ArePuts (resolving_of i t p o)
       by None = tt

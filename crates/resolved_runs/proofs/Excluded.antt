@@ -14,7 +14,7 @@ use Rattle.station.specs.Resolution.{packet_at}
 use Rattle.station.specs.declared.heard.Kind.TheVariants.{Aarp, Ddp}
 use Rattle.cable_model.specs.Holdings.{still_held}
 use Rattle.cable_model.specs.Pending.{Pair, pending}
-use Rattle.cable_model.specs.Transcript.{Entry, Holding}
+use Rattle.cable_model.specs.Transcript.{ArePutOnce, Entry, Holding}
 use Rattle.legal_runs.specs.Carriage.{AreByHand, AreTakenThere, none_yet}
 use Rattle.legal_runs.specs.Example.{echo_request, plain as plain_to}
 use Rattle.legal_runs.specs.Illegal.{many_hops, to_unlisted}
@@ -25,9 +25,9 @@ use Rattle.resolved_runs.specs.AskedFor.{AreAskedFor, AreHeard, AreHeardOrOnThei
 use Rattle.resolved_runs.specs.Example.{asking, packet_bytes, telling, unmapped}
 use Rattle.resolved_runs.specs.Excluded.{another_told, asked_by_another, asked_for_another, asked_from_afar, asked_in_a_datagram}
 use Rattle.resolved_runs.specs.Excluded.{blue_key, forward_held_and_put, forward_held_elsewhere, given_up_and_held}
-use Rattle.resolved_runs.specs.Excluded.{given_up_and_reached, heard_and_held, heard_by_all, held_and_dropped, held_and_elsewhere}
+use Rattle.resolved_runs.specs.Excluded.{given_up_and_reached, heard_and_held, heard_by_all, held_and_dropped, held_and_elsewhere, held_twice}
 use Rattle.resolved_runs.specs.Excluded.{held_and_put, held_back, held_with_hops, not_forwarded, one_held, one_stamp, own_held}
-use Rattle.resolved_runs.specs.Excluded.{released_from_afar, released_with_hops, request_held_and_put, request_taken_from_afar}
+use Rattle.resolved_runs.specs.Excluded.{released_from_afar, released_twice, released_with_hops, request_held_and_put, request_taken_from_afar}
 use Rattle.resolved_runs.specs.Excluded.{unlisted_and_dropped, unlisted_and_reached, unlisted_out_of_hops, vanished}
 use Rattle.resolved_runs.specs.HeldChains.{AreCarriedOrHeld}
 use Rattle.resolved_runs.specs.Plain.{plain}
@@ -52,6 +52,9 @@ two_one e = cc
 
 too_many : 15 ≤ 14 → ⊥
 too_many e = absurd (omega (arith, e))
+
+two_at_most : 2 ≤ 1 → ⊥
+two_at_most e = absurd (omega (arith, e))
 
 -- ---- Conservation
 
@@ -247,10 +250,11 @@ not_another_told = never_asked another_told tells_other (0, omega arith, refl) r
     never kind (Answered sent read is source from to) =
         other_node (ap (λ a. a.node) (ap (λ p. p.source) (some_same told sent read) ∙ source))
 
--- The two datagrams that are held with one stamp have other lengths.
 pub not_once : AreHeldOnce one_stamp → ⊥
-not_once law =
-    other (ap (λ h. length h.bytes) (law waits (holding (plain_to 0 10 1)) (0, omega arith, refl) (1, omega arith, refl) refl))
-  where
-    other : ◌≡◌ {A = ℕ} (length (echo_request 0)) (length (plain_to 0 10 1)) → ⊥
-    other e = cc
+not_once law = two_at_most (law 0)
+
+pub not_twice : AreHeldOnce held_twice → ⊥
+not_twice law = two_at_most (law 0)
+
+pub not_released_twice : ArePutOnce released_twice → ⊥
+not_released_twice law = two_at_most (law 0)

@@ -10,9 +10,9 @@ use Rattle.cable_model.specs.Books.{has_took}
 use Rattle.cable_model.specs.declared.seat.Seat.{Seat as CableSeat}
 use Rattle.cable_model.specs.Holdings.{holds, releases, still_held}
 use Rattle.cable_model.specs.Pending.{Pair, pairs}
-use Rattle.cable_model.specs.Transcript.{Entry, Holding, Sent, Put, Took, Reached, Dropped, Lost, Hold, count, has_put, one}
+use Rattle.cable_model.specs.Transcript.{ArePutOnce, Entry, Holding, Sent, Put, Took, Reached, Dropped, Lost, Hold, count, has_put, one}
 use Rattle.cable_model.specs.Transcript.{next_stamp}
-use Rattle.cable_model.proofs.Counting.{At, count_none, each_at, each_more}
+use Rattle.cable_model.proofs.Counting.{At, count_any_none, count_none, each_at, each_more}
 use Rattle.cable_model.proofs.Counting.{count-append}
 use Rattle.cable_model.proofs.Stamps.{held_below, holds-append, put_below, stamp_from-append, stamp_from_more}
 use Rattle.legal_runs.specs.Legs.{is_datagram}
@@ -265,3 +265,17 @@ module _ (i : Internet) where
       by e (IsDropped r c b) few = omega (arith, few)
       by e (IsLost d there) few = omega (arith, few)
       by e (IsTook p there) few = omega (arith, few)
+
+  -- No two frames were put with the same stamp.
+  pub put_once : (t : List Entry) → IsTold i t → ArePutOnce t
+  put_once t Nothing n = omega arith
+  put_once t (More u e told fact) n =
+      let sum = count-append (has_put n) u (e ∷ []) in
+      let one_more = by (has_put n e) refl (put_once u told n) in
+      omega (arith, sum, one_more)
+    where
+      by : (b : Bool) → has_put n e ≡ b → count (has_put n) u ≤ 1 → count (has_put n) u + (one b + 0) ≤ 1
+      by false x few = omega (arith, few)
+      by true x few =
+          let none = count_any_none (has_put n) u (fresh u e fact n x) in
+          omega (arith, none)

@@ -11,6 +11,7 @@ pub mod Owned
 pub mod Walks
 pub mod Refused
 pub mod Excluded
+pub mod NotLost
 pub mod Elements
 pub mod Told
 pub mod Plains

@@ -19,7 +19,7 @@ use Rattle.cable_model.specs.Transcript.{Entry, Holding, Hold, next_stamp}
 use Rattle.cable_model.proofs.Counting.{each_at}
 use Rattle.legal_runs.proofs.Legs.{same_address_is}
 use Rattle.resolved_runs.specs.Fitting.{SeatsFit}
-use Rattle.resolved_runs.specs.Resolved.{answer_entries, held_at, resolving, resolving_by, resolving_of, response_by}
+use Rattle.resolved_runs.specs.Resolved.{answered as station_answers, answer_entries, held_at, resolving, resolving_by, resolving_of, response_by}
 use Rattle.resolved_runs.specs.Resolved.{station_seats}
 use Rattle.resolved_runs.proofs.Elements.{In, any_in, contained, each_in, kept_in}
 use Rattle.resolved_runs.proofs.Fits.{EntryFits, packet_begins, packet_is, response_fits}
@@ -86,12 +86,15 @@ module _ (i : Internet) (ok : Passes i) (fit : SeatsFit i) where
           fits = (each_at EntryFits u at.0 (Hold h) at.1 fits).1;
         }
 
-    by_function : (sent : Packet) (g : Function) → sent ≡ packet_is_told.sent → sent.function ≡ g
-        → Done i u (resolving_by i u p.seat.station p.frame.cable sent g) []
-    by_function sent Request same e =
+    answers_done : (sent : Packet) → sent ≡ packet_is_told.sent → Done i u (station_answers i u p.seat.station p.frame.cable sent) []
+    answers_done sent same =
         answered sent (filter (λ (s : Seat). same_address sent.target s.address) (station_seats i p.seat.station p.frame.cable)) same
         (λ s there. (kept_in (λ (s : Seat). same_address sent.target s.address) (station_seats i p.seat.station p.frame.cable) s there).0)
-    by_function sent Probe same e = done_none i u
+
+    by_function : (sent : Packet) (g : Function) → sent ≡ packet_is_told.sent → sent.function ≡ g
+        → Done i u (resolving_by i u p.seat.station p.frame.cable sent g) []
+    by_function sent Request same e = answers_done sent same
+    by_function sent Probe same e = answers_done sent same
     by_function sent Response same e =
         let hs : List Holding = filter (λ (h : Holding). same_address sent.source h.next) (held_at u p.seat.station p.frame.cable) in
         all_released i u sent.source_hw hs told (each_in (IsFor i u sent.source_hw) hs (is_for sent same e))

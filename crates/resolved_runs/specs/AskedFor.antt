@@ -1,6 +1,6 @@
 -- What is known of datagrams that are held for stations: they are asked for; and where no frame is pending, every datagram
 -- was heard.
-use Rattle.std.specs.Prelude.{◌≡◌, ◌+◌, ℕ, Bool, ◌&&◌, ◌==◌, List, [], Some, Contains, is_some}
+use Rattle.std.specs.Prelude.{◌≡◌, ◌≤◌, ◌+◌, ℕ, Bool, ◌&&◌, ◌==◌, List, [], Some, Contains, is_some}
 use Rattle.at_base.specs.Text.{same_bytes}
 use Rattle.aarp.specs.declared.packet.Function.TheVariants.{Request, Response}
 use Rattle.aarp.specs.declared.packet.Packet.{Packet}
@@ -38,9 +38,9 @@ pub record IsAskedFor (i : Internet) (t : List Entry) (h : Holding) (s : Seat) :
 abbrev pub AreAskedFor : Internet → List Entry → Type 0
 AreAskedFor i t = (h : Holding) (s : Seat) → Contains (still_held t) h → seat_at i h.cable h.next ≡ Some s → IsAskedFor i t h s
 
--- No two datagrams were held with one stamp: each is held once.
+-- Each datagram is held once: no two Hold entries have one stamp.
 abbrev pub AreHeldOnce : List Entry → Type 0
-AreHeldOnce t = (g h : Holding) → Contains (holds t) g → Contains (holds t) h → g.stamp ≡ h.stamp → g ≡ h
+AreHeldOnce t = (stamp : ℕ) → count (λ h. h.stamp == stamp) (holds t) ≤ 1
 
 -- ---- Heard
 

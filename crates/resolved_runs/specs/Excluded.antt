@@ -121,6 +121,16 @@ forward_held_elsewhere = Sent 1 red_forward ∷ held 0 1 1 20 1 red_forward ∷ 
 abbrev pub one_stamp : List Entry
 one_stamp = one_held ++ held 0 0 2 10 1 (plain 0 10 1) ∷ []
 
+-- The node sends a datagram to its router twice, and one Hold stands twice.
+abbrev pub held_twice : List Entry
+held_twice =
+    Sent 2 (plain 0 10 1) ∷ Reached 0 2 how.Held (plain 0 10 1) ∷ held 0 0 2 10 1 (plain 0 10 1) ∷ asking 1 0 2 5 10 7 1
+    ∷ Sent 2 (plain 0 10 1) ∷ Reached 0 2 how.Held (plain 0 10 1) ∷ held 0 0 2 10 1 (plain 0 10 1) ∷ []
+
+-- A datagram that was released is put twice.
+abbrev pub released_twice : List Entry
+released_twice = take 7 resolved_echo ++ framed 0 0 2 1 (echo_request 0) ∷ []
+
 -- The node holds a datagram, and asks for another address.
 abbrev pub asked_for_another : List Entry
 asked_for_another = one_held ++ asking 1 0 2 5 10 7 9 ∷ []

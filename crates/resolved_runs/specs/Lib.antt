@@ -7,6 +7,7 @@ pub mod HeldCounts
 pub mod ResolvedLaws
 pub mod HeldChains
 pub mod AskedFor
+pub mod Lossless
 pub mod Plain
 pub mod Example
 pub mod Illegal

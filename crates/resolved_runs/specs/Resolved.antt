@@ -107,12 +107,17 @@ abbrev pub released : List Entry → ℕ → ℕ → Packet → List Entry
 released t station cable answer =
     map (λ h. Put (released_frame h answer.source_hw)) (filter (λ h. same_address answer.source h.next) (held_at t station cable))
 
--- The entries that follow the taking of an AARP packet, after a transcript.
-abbrev pub resolving_by : Internet → List Entry → ℕ → ℕ → Packet → Function → List Entry
-resolving_by i t station cable p Request =
+-- The station's response, if the packet is for its address on the cable.
+abbrev pub answered : Internet → List Entry → ℕ → ℕ → Packet → List Entry
+answered i t station cable p =
     answer_entries t cable p (filter (λ s. same_address p.target s.address) (station_seats i station cable))
+
+-- The entries that follow the taking of an AARP packet, after a transcript. A probe is answered as a request is, though no
+-- station whose address stays the same sends one.
+abbrev pub resolving_by : Internet → List Entry → ℕ → ℕ → Packet → Function → List Entry
+resolving_by i t station cable p Request = answered i t station cable p
+resolving_by i t station cable p Probe = answered i t station cable p
 resolving_by i t station cable p Response = released t station cable p
-resolving_by i t station cable p Probe = []
 
 -- The entries that follow the taking of what an AARP frame holds, after a transcript.
 abbrev pub resolving_of : Internet → List Entry → Pair → Option Packet → List Entry

@@ -6,7 +6,7 @@ ghost use Rattle.table_image.specs.Internet.{Internet};
 ghost use Rattle.audit.specs.Rules.{Passes};
 ghost use Rattle.cable_model.specs.Holdings.{still_held};
 ghost use Rattle.cable_model.specs.Pending.{Pair, pending};
-ghost use Rattle.cable_model.specs.Transcript.{Entry};
+ghost use Rattle.cable_model.specs.Transcript.{ArePutOnce, Entry, count};
 ghost use Rattle.legal_runs.specs.Carriage.{AreByHand, AreTakenThere, none_yet};
 ghost use Rattle.legal_runs.specs.Counts.{reached, sent, under_way};
 ghost use Rattle.legal_runs.specs.Example.{echo, echo_reply, echo_request, framed, to_nobody};
@@ -29,7 +29,8 @@ ghost use Rattle.resolved_runs.specs.Excluded.{given_up_and_held, given_up_and_r
 ghost use Rattle.resolved_runs.specs.Excluded.{heard_and_held, heard_by_all, held_and_dropped};
 ghost use Rattle.resolved_runs.specs.Excluded.{held_and_elsewhere, held_and_put, held_back};
 ghost use Rattle.resolved_runs.specs.Excluded.{held_with_hops, not_forwarded, one_held, one_stamp};
-ghost use Rattle.resolved_runs.specs.Excluded.{own_held, released_from_afar, released_with_hops};
+ghost use Rattle.resolved_runs.specs.Excluded.{held_twice, own_held, released_from_afar};
+ghost use Rattle.resolved_runs.specs.Excluded.{released_twice, released_with_hops};
 ghost use Rattle.resolved_runs.specs.Excluded.{request_held_and_put, request_taken_from_afar};
 ghost use Rattle.resolved_runs.specs.Excluded.{unlisted_and_dropped, unlisted_and_reached};
 ghost use Rattle.resolved_runs.specs.Excluded.{unlisted_out_of_hops, vanished};
@@ -42,6 +43,7 @@ ghost use Rattle.resolved_runs.specs.Illegal.{given_up_put, held_though_mapped};
 ghost use Rattle.resolved_runs.specs.Illegal.{learnt_from_request, new_stamp, one_released};
 ghost use Rattle.resolved_runs.specs.Illegal.{put_twice, put_unmapped, reached_again};
 ghost use Rattle.resolved_runs.specs.Illegal.{second_given_up};
+ghost use Rattle.resolved_runs.specs.Lossless.{IsNothingGivenUp, is_loss};
 ghost use Rattle.resolved_runs.specs.Plain.{plain};
 ghost use Rattle.resolved_runs.specs.ResolvedLaws.{HasHopsLeftResolved, IsConservedResolved};
 ghost use Rattle.resolved_runs.specs.ResolvedLaws.{IsLookedUpResolved};
@@ -83,13 +85,22 @@ pub fn lookups_with_resolution()
         → Passes i → SeatsFit i → IsLegalResolved i t → NodesOnlyAsk i t → IsLookedUpResolved i t k }
 {}
 
-/// Asked for. Each datagram is held once; and for each one that is held for a station, a request for
-/// that station's address, or the station's response to the holder, is pending.
+/// Asked for. Each datagram is held once and released at most once; and for each one that is held
+/// for a station, a request for that station's address, or the station's response to the holder, is
+/// pending.
 pub fn held_datagrams_are_asked_for()
     ensures once { (i : Internet) (t : List Entry) → Passes i → SeatsFit i → IsLegalResolved i t
         → AreHeldOnce t }
+    ensures put_once { (i : Internet) (t : List Entry) → Passes i → SeatsFit i → IsLegalResolved i t
+        → ArePutOnce t }
     ensures asked { (i : Internet) (t : List Entry) → Passes i → SeatsFit i → IsLegalResolved i t
         → AreAskedFor i t }
+{}
+
+/// Where no entry is a loss, nothing was given up: then the counts of the laws with resolution are
+/// those without.
+pub fn nothing_is_given_up_without_losses()
+    ensures { (i : Internet) (t : List Entry) → count is_loss t ≡ 0 → IsNothingGivenUp i t }
 {}
 
 /// Heard. Each body to a station's address was taken by that station, is on its way in frames or
@@ -210,7 +221,8 @@ pub fn they_are_legal_without_mistakes()
 /// by a station that isn't on the cable; one released with another hop count than it was held with;
 /// one held on another cable than that of the walk's step; a request for names that is held and in a
 /// frame; a forward request that is missing, that is held and in a frame, or that is held for a
-/// cable that doesn't list the zone; two datagrams held with one stamp; one that is held and isn't
+/// cable that doesn't list the zone; two datagrams held with one stamp, one held twice, and one
+/// released twice; one that is held and isn't
 /// asked for, but another address is, or another station asks, or the request is a datagram, or the
 /// answer tells another address; one that was heard and is held, one heard in a frame to all, and
 /// one held where no frame is pending.
@@ -235,7 +247,8 @@ pub fn laws_exclude_with_resolution()
     ensures looked { (¬ IsLookedUpResolved unmapped not_forwarded blue_key)
         × (¬ IsLookedUpResolved unmapped forward_held_and_put blue_key)
         × (¬ IsLookedUpResolved unmapped forward_held_elsewhere blue_key) }
-    ensures once { ¬ AreHeldOnce one_stamp }
+    ensures once { (¬ AreHeldOnce one_stamp) × (¬ AreHeldOnce held_twice) }
+    ensures put_once { ¬ ArePutOnce released_twice }
     ensures asked { (¬ AreAskedFor unmapped one_held) × (¬ AreAskedFor unmapped asked_for_another)
         × (¬ AreAskedFor unmapped asked_by_another) × (¬ AreAskedFor unmapped asked_in_a_datagram)
         × (¬ AreAskedFor unmapped another_told) }
