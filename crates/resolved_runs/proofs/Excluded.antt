@@ -1,5 +1,5 @@
 -- Transcripts that break the laws with resolution.
-use Rattle.std.proofs.Common.{◌≡◌, ◌≤◌, ℕ, Option, Some, None, List, [], ◌∷◌, length, ap, arith, refl, sym, subst, ◌∙◌, Contains}
+use Rattle.std.proofs.Common.{◌≡◌, ◌≤◌, ℕ, Option, Some, None, List, [], ◌∷◌, ap, arith, refl, sym, subst, ◌∙◌, Contains}
 use Rattle.std.proofs.Common.{false, true≢false, zero, suc}
 use Rattle.at_base.specs.Packets.{address, text}
 use Rattle.aarp.specs.declared.packet.Function.TheVariants.{Request, Response}

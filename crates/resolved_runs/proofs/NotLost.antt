@@ -1,5 +1,5 @@
 -- Where nothing was lost, nothing was given up.
-use Rattle.std.proofs.Common.{◌≡◌, ℕ, Bool, true, false, ◌&&◌, List, [], ◌∷◌, ap, refl, sym, ◌∙◌, arith}
+use Rattle.std.proofs.Common.{◌≡◌, ℕ, Bool, false, ◌&&◌, List, [], ◌∷◌, refl, arith}
 use Rattle.std.specs.List.{list_any}
 use Rattle.table_image.specs.Internet.{Internet}
 use Rattle.cable_model.specs.Holdings.{holds}
