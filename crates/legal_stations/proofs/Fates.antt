@@ -1,6 +1,6 @@
 -- The fate of a datagram that a router takes, by the image's tables.
 use Rattle.std.proofs.Common.{◌≡◌, ℕ, ◌+◌, Bool, true, false, not, ◌&&◌, ◌||◌, ◌==◌, cond, if◌then◌else◌, List, []}
-use Rattle.std.proofs.Common.{◌∷◌, ◌++◌, Option, Some, None, refl, sym, ap, ◌∙◌, subst, append-nil, true≢false, slice_index}
+use Rattle.std.proofs.Common.{◌∷◌, Option, Some, None, refl, sym, ap, ◌∙◌, subst, true≢false, slice_index}
 use Rattle.at_base.specs.declared.address.Addr.{Addr}
 use Rattle.at_base.specs.declared.address.Hw.{Hw}
 use Rattle.audit.specs.Routing.{Hand, Here, On, hand, home}
@@ -18,10 +18,10 @@ use Rattle.image_stations.specs.Holders.{HoldsRouter}
 use Rattle.legal_runs.specs.Answers.{keeps_by}
 use Rattle.legal_runs.specs.Legs.{Leg, is_unicast, passed}
 use Rattle.resolved_runs.specs.Fates.{fate_with_by}
-use Rattle.legal_stations.specs.Fated.{DroppedHere, IsFate, KeptHere, NoFate, PassedOn}
+use Rattle.legal_stations.specs.Fated.{DroppedHere, IsFate, KeptHere, PassedOn}
 use Rattle.station.specs.declared.output.DropCause.{DropCause}
 use Rattle.station.specs.declared.output.Output.TheVariants.{Dropped, Passed}
-use Rattle.legal_runs.specs.Stations.{cable_seats, has_address}
+use Rattle.legal_runs.specs.Stations.{has_address}
 use Rattle.legal_runs.proofs.Frames.{inside_is, set_again}
 use Rattle.router.specs.Forwarding.{arrived, bytes_in, course_by, ended, fate, goes, handed_on, is_own, onward}
 use Rattle.router.specs.Holding.{Holding, hand as hand_in, own_at}

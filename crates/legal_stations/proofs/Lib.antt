@@ -18,7 +18,9 @@ pub mod RouterWays
 pub mod Asked
 pub mod Served
 pub mod RouterTakes
+pub mod Resolver
 pub mod NodeSeats
 pub mod NodeWays
 pub mod NodeNames
 pub mod NodeTakes
+pub mod Resolves

@@ -1,3 +1,4 @@
 pub mod Made
 pub mod Agreeing
 pub mod Fated
+pub mod Resolver
