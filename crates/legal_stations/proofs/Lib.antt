@@ -24,3 +24,4 @@ pub mod NodeWays
 pub mod NodeNames
 pub mod NodeTakes
 pub mod Resolves
+pub mod Responding

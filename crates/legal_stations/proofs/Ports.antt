@@ -92,6 +92,7 @@ module _ (i : Internet) (ok : Passes i) (r : ℕ) (router : Router) (known : At 
     pub at : At router.ports place port
     pub cable : s.cable ≡ port.cable
     pub address : s.address ≡ port.address
+    pub hardware : s.hardware ≡ port.hardware
     pub number : (cable_seat i s).port ≡ place
 
   pub port_of : (k : ℕ) (s : PlaceOf) → At (seats i) k s → s.station ≡ r → PortOf s
@@ -108,6 +109,7 @@ module _ (i : Internet) (ok : Passes i) (r : ℕ) (router : Router) (known : At 
               at = there;
               cable = w.cable;
               address = w.address;
+              hardware = w.hardware;
               number = ap (λ n. port_on (slice_get i.routers n) s.cable) mine
                   ∙ (ap (port_on (slice_get i.routers r)) w.cable ∙ port_number w.p w.port there);
             }

@@ -204,18 +204,18 @@ module _ {X : Type 0} (places : X → Places) (Holds : X → ℕ → Addr → �
   said_goes t (Dropped cause bytes ∷ os) x y es ks leaves k g = absurd leaves.0
   said_goes t (Wire port to bytes ∷ os) x y es ks leaves k g = absurd leaves.0
 
+  -- An output that isn't put on a cable as a datagram has one entry.
+  pub one_goes : (t : List Entry) (e : Entry) (x y : X) (es more : List Entry) (asks : List (List ℕ)) → Knows x t → IsCalm t e
+      → es ≡ e ∷ more → IsHeldBy Holds station (t ++ e ∷ []) [] x more asks y → (es ≡ e ∷ []) × Knows y (t ++ es)
+  one_goes t e x y es more asks k calm is h =
+      let alone : es ≡ e ∷ [] = is ∙ ap (λ l. e ∷ l) h.0 in (
+        alone,
+        subst (λ l. Knows y (t ++ l)) (sym alone) (subst (λ z. Knows z (t ++ e ∷ [])) (sym h.2) (resolver.stays x t e k calm)),
+      )
+
   -- ---- The fate of the datagram that the station took
 
   module _ (p : Pair) where
-    -- An output that is kept or dropped has one entry.
-    one_goes : (t : List Entry) (e : Entry) (x y : X) (es more : List Entry) (asks : List (List ℕ)) → Knows x t → IsCalm t e
-        → es ≡ e ∷ more → IsHeldBy Holds station (t ++ e ∷ []) [] x more asks y → (es ≡ e ∷ []) × Knows y (t ++ es)
-    one_goes t e x y es more asks k calm is h =
-        let alone : es ≡ e ∷ [] = is ∙ ap (λ l. e ∷ l) h.0 in (
-          alone,
-          subst (λ l. Knows y (t ++ l)) (sym alone) (subst (λ z. Knows z (t ++ e ∷ [])) (sym h.2) (resolver.stays x t e k calm)),
-        )
-
     -- The fate, and then the datagrams that the station made.
     rest : (t : List Entry) (made : List Output) (x z y : X) (first others : List Entry) (ks : List (List ℕ)) (es : List Entry)
         → first ≡ resolved_fate i t p → Knows z (t ++ first) → Each (Leaves i station) made

@@ -1,20 +1,25 @@
 -- A station takes or sends a datagram over a resolver that knows what the station knows: a block of a transcript with
 -- resolution.
-use Rattle.std.proofs.Common.{◌≡◌, ℕ, ◌+◌, List, [], ◌∷◌, ◌++◌, ◌∙◌, length, ap, sym, subst, append-nil, append_assoc}
+use Rattle.std.proofs.Common.{◌≡◌, ℕ, ◌+◌, List, [], ◌∷◌, ◌++◌, ◌∙◌, length, ap, arith, refl, sym, subst, append-nil, append_assoc}
+use Rattle.std.proofs.Common.{Option, Some, None}
 use Rattle.std.specs.Prelude.{Contains}
 use Rattle.at_base.specs.declared.address.Addr.{Addr}
 use Rattle.audit.specs.Rules.{Passes}
 use Rattle.table_image.specs.Bounds.{IsBounded}
 use Rattle.table_image.specs.Internet.{Internet}
 use Rattle.station.specs.Lawful.{AreLawful}
-use Rattle.station.specs.declared.heard.Kind.TheVariants.{Ddp}
+use Rattle.aarp.specs.declared.packet.Function.{Function}
+use Rattle.aarp.specs.declared.packet.Function.TheVariants.{Probe, Request, Response}
+use Rattle.aarp.specs.declared.packet.Packet.{Packet}
+use Rattle.station.specs.Resolution.{if_response, packet_at, response_of}
+use Rattle.station.specs.declared.heard.Kind.TheVariants.{Aarp, Ddp}
 use Rattle.station.specs.declared.output.Output.{Output}
 use Rattle.cable_model.specs.declared.resolve.HeldBy.{HeldBy}
 use Rattle.cable_model.specs.Logs.{Adds, Cabling, transcript}
-use Rattle.cable_model.specs.Outcomes.{Places, heard_by, sent_entries}
+use Rattle.cable_model.specs.Outcomes.{Places, framed, heard_by, sender_by, sent_entries}
 use Rattle.cable_model.specs.Outgoing.{GoOut, IsSent}
 use Rattle.cable_model.specs.Pending.{Pair, pending}
-use Rattle.cable_model.specs.Transcript.{Entry, Sent}
+use Rattle.cable_model.specs.Transcript.{Entry, Sent, next_stamp}
 use Rattle.end_node.specs.Answers as node_answers
 use Rattle.end_node.specs.Holding.{NodeHolding}
 use Rattle.image_stations.specs.Holders.{HoldsNode, HoldsRouter}
@@ -22,16 +27,18 @@ use Rattle.legal_runs.specs.Answers.{IsMade, IsOwn}
 use Rattle.legal_runs.specs.Legs.{Leg}
 use Rattle.legal_runs.specs.Stations.{cable_seats}
 use Rattle.resolved_runs.specs.Fitting.{SeatsFit}
-use Rattle.resolved_runs.specs.Resolved.{resolved_leg, resolved_said}
-use Rattle.resolved_runs.specs.ResolvedRuns.{IsLegalResolved, ResolvedBlock, Sends, Takes, taking}
+use Rattle.resolved_runs.specs.Resolved.{resolved_leg, resolved_said, resolving_by, resolving_of}
+use Rattle.resolved_runs.specs.ResolvedRuns.{IsLegalResolved, ResolvedBlock, Resolves, Sends, Takes, taking}
 use Rattle.router.specs.Answers.{Hears}
 use Rattle.router.specs.Holding.{Holding}
 use Rattle.legal_stations.specs.Made.{legs}
 use Rattle.legal_stations.specs.Resolver.{IsResolver}
+use Rattle.legal_stations.specs.Responding.{Responds, Silent, Tells, response, response_to}
+use Rattle.legal_stations.specs.Responding.{response_of as responding_of}
 use Rattle.legal_stations.proofs.Arrivals.{arrives_resolved}
 use Rattle.legal_stations.proofs.Leaving.{legs_here, legs_made}
 use Rattle.legal_stations.proofs.NodeTakes.{node_outputs}
-use Rattle.legal_stations.proofs.Resolver.{fate_goes, leg_over, sent_goes}
+use Rattle.legal_stations.proofs.Resolver.{fate_goes, leg_over, one_goes, sent_goes}
 use Rattle.legal_stations.proofs.RouterTakes.{TakesSo, router_outputs}
 
 module _ {X : Type 0} (places : X → Places) (Holds : X → ℕ → Addr → ℕ → HeldBy → X → Type 0) (Knows : X → List Entry → Type 0)
@@ -92,3 +99,50 @@ sending_resolves places Holds Knows i old new l x y made own resolver knows sent
     w.0 ∙ (ap (λ m. Sent l.station l.body ∷ resolved_leg i (t ++ Sent l.station l.body ∷ []) m) same
     ∙ ap (λ a. Sent l.station l.body ∷ a) (sym (append-nil (resolved_leg i (t ++ Sent l.station l.body ∷ []) l)))) in
     (es, subst (ResolvedBlock i t) (sym is) (Sends l made own), sent.entries, w.1)
+
+-- ---- AARP frames
+
+-- What isn't a response is followed by the station's response.
+resolving_is : (i : Internet) (t : List Entry) (p : Pair) (o : Option Packet) → response_of Aarp o ≡ None
+    → resolving_of i t p o ≡ responding_of i t p o
+resolving_is i t p None quiet = refl
+resolving_is i t p (Some sent) quiet = by sent.function refl
+  where
+    by : (f : Function) → sent.function ≡ f
+        → resolving_by i t p.seat.station p.frame.cable sent sent.function ≡ response_to i t p sent sent.function
+    by Request e = rw e refl
+    by Probe e = rw e refl
+    by Response e = let none = sym (ap (if_response sent) e) ∙ quiet in cc
+
+module _ {X : Type 0} (places : X → Places) (Holds : X → ℕ → Addr → ℕ → HeldBy → X → Type 0) (Knows : X → List Entry → Type 0)
+    (i : Internet) (p : Pair) (resolver : IsResolver places Holds i p.seat.station Knows) where
+  -- The entries of a response.
+  pub response_goes : (t : List Entry) (added : List Output) (x y : X) (es : List Entry) (ks : List (List ℕ)) → Responds i p added
+      → Knows x t → GoOut places Holds (cable_seats i) p.seat.station t added x es ks y → (es ≡ response i t p) × Knows y (t ++ es)
+  response_goes t added x y es ks (Silent none) k g = (
+    g.0 ∙ sym (none t),
+    subst (Knows y) (sym (append-nil t) ∙ ap (λ l. t ++ l) (sym g.0)) (subst (λ z. Knows z t) (sym g.2) k),
+  )
+  response_goes t added x y es ks (Tells q to bytes on is) k g =
+      let e = framed (sender_by (cable_seats i) p.seat.station (next_stamp t) q) to Aarp bytes in
+      let o = one_goes places Holds i p.seat.station Knows resolver t e x g.4 g.0 g.5.more g.5.asks k (omega arith) g.5.entries
+      g.5.held in
+      let alone : es ≡ g.0 = g.7 ∙ (ap (λ l. g.0 ++ l) g.6.0 ∙ append-nil g.0) in (
+        alone ∙ (o.0 ∙ (ap (λ c. framed (record { stamp = next_stamp t; cable = c; station = p.seat.station }) to Aarp bytes ∷ []) on
+            ∙ sym (is t))),
+        subst (λ l. Knows y (t ++ l)) (sym alone) (subst (λ z. Knows z (t ++ g.0)) (sym g.6.2) o.1),
+      )
+
+  -- A station takes an AARP frame that holds no response: a block of a transcript with resolution.
+  pub frame_resolves : (t : List Entry) (added : List Output) (x y : X) (es : List Entry) (ks : List (List ℕ))
+      → Contains (pending (cable_seats i) t) p → p.frame.kind ≡ Aarp → response_of Aarp (packet_at p.frame.bytes) ≡ None
+      → Responds i p added → Knows x (t ++ taking p ∷ [])
+      → GoOut places Holds (cable_seats i) p.seat.station (t ++ taking p ∷ []) added x es ks y
+      → ResolvedBlock i t (taking p ∷ es) × Knows y (t ++ taking p ∷ es)
+  frame_resolves t added x y es ks there kind quiet responds knows out =
+      let u = t ++ taking p ∷ [] in
+      let w = response_goes u added x y es ks responds knows out in (
+        subst (λ a. ResolvedBlock i t (taking p ∷ a)) (resolving_is i u p (packet_at p.frame.bytes) quiet ∙ sym w.0)
+            (Resolves p there kind),
+        subst (Knows y) (append_assoc t (taking p ∷ []) es) w.1,
+      )

@@ -85,21 +85,24 @@ module _ (i : Internet) where
       same_frame : (f g : Frame) → Put f ≡ Put g → f ≡ g
       same_frame f g e = cc
 
-  -- A pair's station is on the cable of its frame.
-  pair_on : (t : List Entry) (p : Pair) → In (pairs (cable_seats i) t) p → is_on i p.seat.station p.frame.cable ≡ true
-  pair_on t p there =
-      let place = each_at (HasPlace i) (pairs (cable_seats i) t) there.0 p there.1 (placed i t) in
+  -- The seat of a pair is on the cable of its frame.
+  pub pair_cable : (t : List Entry) (p : Pair) → In (pairs (cable_seats i) t) p → p.seat.cable ≡ p.frame.cable
+  pair_cable t p there =
       let g = (pair_put (cable_seats i) t p there).1 in
       let heard = each_at (λ q. is_heard q.frame q.seat ≡ true) (pairs_of (cable_seats i) (Put p.frame)) g.0 p g.1
       (each_map (λ q. is_heard q.frame q.seat ≡ true) (λ (s : Seat). record { frame = p.frame; seat = s }) _
       (each_in (λ s. is_heard p.frame s ≡ true) (filter (is_heard p.frame) (cable_seats i))
       (λ s h. (kept_in (is_heard p.frame) (cable_seats i) s h).1))) in
-      let same : p.seat.cable ≡ p.frame.cable =
-      eqb-true _ _ (and_parts (p.seat.cable == p.frame.cable) (is_for p.frame.to p.frame.sender p.seat) heard).0 in
+      eqb-true _ _ (and_parts (p.seat.cable == p.frame.cable) (is_for p.frame.to p.frame.sender p.seat) heard).0
+
+  -- A pair's station is on the cable of its frame.
+  pair_on : (t : List Entry) (p : Pair) → In (pairs (cable_seats i) t) p → is_on i p.seat.station p.frame.cable ≡ true
+  pair_on t p there =
+      let place = each_at (HasPlace i) (pairs (cable_seats i) t) there.0 p there.1 (placed i t) in
       let s = place.1 in
       any_from (λ (x : PlaceOf). x.station == p.seat.station && x.cable == p.frame.cable) (seats i) place.0 s place.2
       (ap (λ b. b && s.cable == p.frame.cable) (eq-eqb s.station p.seat.station (ap (λ (x : Seat). x.station) (sym place.3)))
-      ∙ eq-eqb s.cable p.frame.cable (ap (λ (x : Seat). x.cable) (sym place.3) ∙ same))
+      ∙ eq-eqb s.cable p.frame.cable (ap (λ (x : Seat). x.cable) (sym place.3) ∙ pair_cable t p there))
 
   all_taken : (u : List Entry) → IsTold i u → AreTakenThere i [] u × Cabled u (cables_of u [])
   all_taken u Nothing = (tt, record { same = λ f there. let no = there.1 in cc; none = λ n h. refl })
