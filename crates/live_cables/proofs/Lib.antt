@@ -14,4 +14,5 @@ pub mod Whole
 pub mod Idle
 pub mod Heard
 mod NoRoom
+mod Still
 mod Parts

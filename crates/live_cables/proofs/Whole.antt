@@ -193,15 +193,21 @@ few_at_first : (seats : List Seat) → AreFew (map (λ (s : Seat). record { know
 few_at_first [] = tt
 few_at_first (s ∷ seats) = (omega arith, few_at_first seats)
 
+pub whole_settled : (most : ℕ) (c : Cabling) (k : Knowing) (seats : List Seat) (own : List (Option Addr)) (maps : List Mappings)
+    → c.seats ≡ seats → c.limit ≡ most → c.rooms ≡ held_rooms → k.seats ≡ seats → k.own ≡ own → k.maps ≡ maps
+    → length own ≡ length seats → length maps ≡ length seats → AreFew maps → IsWhole most c k
+whole_settled most c k seats own maps cs limit rooms ks is_own is_maps as_own as_maps few =
+    let many = ap length (sym cs) in (
+      ks ∙ sym cs,
+      ap length is_own ∙ (as_own ∙ many),
+      ap length is_maps ∙ (as_maps ∙ many),
+      rooms,
+      subst AreFew (sym is_maps) few,
+      sym limit,
+    )
+
 pub whole_first : (most : ℕ) (c : Cabling) (k : Knowing) (seats : List Seat) → c.seats ≡ seats → c.limit ≡ most
     → c.rooms ≡ held_rooms → k.seats ≡ seats → k.own ≡ map (λ (s : Seat). None) seats
     → k.maps ≡ map (λ (s : Seat). record { known = []; held = [] }) seats → IsWhole most c k
 whole_first most c k seats cs limit rooms ks own maps =
-    let many = ap length (sym cs) in (
-      ks ∙ sym cs,
-      ap length own ∙ (length-map seats _ ∙ many),
-      ap length maps ∙ (length-map seats _ ∙ many),
-      rooms,
-      subst AreFew (sym maps) (few_at_first seats),
-      sym limit,
-    )
+    whole_settled most c k seats _ _ cs limit rooms ks own maps (length-map seats _) (length-map seats _) (few_at_first seats)

@@ -6,15 +6,17 @@ use Rattle.at_base.specs.Range.{Span}
 use Rattle.at_base.specs.declared.address.Addr.{Addr}
 use Rattle.cable_model.specs.Logs.{Cabling, transcript, pending_on}
 use Rattle.cable_model.specs.Outcomes.{heard_by}
+use Rattle.cable_model.specs.Outgoing.{IsSent}
 use Rattle.cable_model.specs.Pending.{Pair}
 use Rattle.cable_model.specs.Transcript.{Entry, Took, count}
-use Rattle.live_cables.specs.Finding.{Knowing, held_at as held_in}
-use Rattle.live_cables.specs.Holding.{AreShed, with_tick}
+use Rattle.live_cables.specs.Finding.{Knowing, held_at as held_in, places_of}
+use Rattle.live_cables.specs.Holding.{AreShed, Holds, with_tick}
 use Rattle.live_cables.specs.Playing.{IsPlayed, are_lost, is_took}
 use Rattle.live_cables.specs.Putting.{AreAsked, AreGiven}
 use Rattle.live_cables.specs.Steps.{HasNoRoom, Loses, are_gone, losses_since}
 use Rattle.live_cables.specs.Taking.{IsTakenIn}
 use Rattle.station.specs.Hearing.{Hearing}
+use Rattle.station.specs.declared.output.Next.{Next}
 use Rattle.station.specs.declared.output.Output.{Output}
 
 -- The state of live cables: the cables; for each seat its settled address, if it has one, and its mappings; the ranges
@@ -143,3 +145,17 @@ PassesInPart seat old new =
     × (Loses (losses_since old.losing (length old.cabling.lines) asked) asked new.cabling
     ⊎ ShedsInPart seat old asked new.cabling)))
     × (new.maps ≡ with_tick old.maps seat) × Stays old new
+
+-- A station sent a datagram that it made over a cable, resolving addresses by its own mappings, and no frame was lost.
+abbrev pub IsSentOver : ℕ → ℕ → Next → List ℕ → Wires → Wires → Type 0
+IsSentOver station cable next bytes old new =
+    (after : Knowing)
+    × IsSent places_of Holds old.cabling new.cabling cable station next bytes (knowing old station) after
+    × (new.maps ≡ after.maps) × Stays old new
+
+-- A station took a frame, as in `TakesIn`, and no frame was lost.
+abbrev pub TakesStill : ℕ → ℕ → ℕ → (Hearing → List Output → Type 0) → Wires → Wires → Type 0
+TakesStill stamp station ports Hears old new =
+    (after : Knowing)
+    × IsTakenIn stamp station ports Hears (old.cabling, knowing old station) (new.cabling, after)
+    × (new.maps ≡ after.maps) × Stays old new

@@ -2,6 +2,7 @@
 #![tactic(auto)]
 
 mod answer;
+mod beginning;
 mod giving;
 mod holding;
 mod laws;

@@ -1,24 +1,23 @@
 //! Live cables.
 
-ghost use Rattle.std.specs.Prelude.{◌≡◌, ◌⊎◌, ◌↔◌, ◌==◌, ◌&&◌, ◌+◌, ◌≤◌, [], IfErr, IfOk, IfNone, IfSome};
-ghost use Rattle.std.specs.Prelude.{drop, false, length, map, nat_lt, slice_set, true, IsOkUnless, IsTrue, None};
-ghost use Rattle.std.specs.Prelude.{OnErr, OnOk, ℕ};
+ghost use Rattle.std.specs.Prelude.{◌≡◌, ◌⊎◌, ◌↔◌, ◌==◌, ◌&&◌, ◌+◌, ◌<◌, ◌≤◌, [], IfErr, IfOk, IfNone, IfSome};
+ghost use Rattle.std.specs.Prelude.{drop, false, length, nat_lt, slice_set, true, IsTrue, OnErr, OnOk, ℕ};
 ghost use Rattle.std.specs.List.{list_any};
 ghost use Rattle.aarp.specs.Mapping as mapping_spec;
 ghost use Rattle.aarp.specs.Mapping.{to_ask};
+ghost use Rattle.at_base.specs.declared.error.What.TheVariants.{Cable, Station};
 ghost use Rattle.cable_model.specs.Books.{HasOneSeat};
 ghost use Rattle.cable_model.specs.Logs as logs_spec;
 ghost use Rattle.cable_model.specs.Logs.{bytes_at, pending_on};
-ghost use Rattle.cable_model.specs.Outcomes.{AreSeatsOf, IsLeast, is_named};
-ghost use Rattle.cable_model.specs.Rooms.{held_rooms};
+ghost use Rattle.cable_model.specs.Outcomes.{AreSeatsOf, IsLeast, has_cable, is_named, is_seated};
 ghost use Rattle.cable_model.specs.Transcript.{ArePutOnce};
 ghost use Rattle.live_cables.specs.Finding.{held_at};
 ghost use Rattle.live_cables.specs.Holding.{AreFew};
-ghost use Rattle.live_cables.specs.Living.{GivesInPart, GivesOut, IsTakenBy, PassesFor, PassesInPart};
-ghost use Rattle.live_cables.specs.Living.{Plays, PlaysOn, TakesIn, happened};
+ghost use Rattle.live_cables.specs.Living.{GivesInPart, GivesOut, IsSentOver, IsTakenBy, PassesFor, PassesInPart};
+ghost use Rattle.live_cables.specs.Living.{Plays, PlaysOn, TakesIn, TakesStill, happened};
 ghost use Rattle.live_cables.specs.Putting.{first_room};
 ghost use Rattle.live_cables.specs.Steps.{HasNoRoom};
-ghost use Rattle.station.specs.Lawful.{AreLawful};
+ghost use Rattle.station.specs.Lawful.{AreLawful, IsNext};
 
 use crate::giving::give_all;
 use crate::holding::shed_all;
@@ -27,22 +26,22 @@ use crate::neighbours::Neighbours;
 use crate::passing::ask_all;
 use crate::taking::take;
 use aarp::{Addresses, Mapper};
-use at_base::{Addr, Error, Range};
-use cable_model::{Cables, Entry, Rooms, Seat};
-use station::{Outputs, Station as Taker};
+use at_base::{Addr, Bytes, Error};
+use cable_model::{Cables, Entry, Rooms};
+use station::{Next, Outputs, Station as Taker};
 use std::alloc::Global;
 use std::marker::Model;
 
 /// Cables on which stations find each other by AARP, and where frames may be lost.
 #[derive(Drop)]
 pub struct LiveCables {
-    cables: Cables,
-    near: Neighbours,
+    pub(crate) cables: Cables,
+    pub(crate) near: Neighbours,
     // Whether each cable loses the frames that are put on it in this tick.
-    losing: Vec<bool>,
+    pub(crate) losing: Vec<bool>,
     // The greatest number of entries.
-    limit: u32,
-    alloc: Global,
+    pub(crate) limit: u32,
+    pub(crate) alloc: Global,
 }
 
 impl Model for LiveCables {
@@ -77,42 +76,6 @@ fn recall_once(cables: &Cables)
 }
 
 impl LiveCables {
-    /// Cables with these seats and ranges, with an empty transcript and room for at most `limit`
-    /// entries. No address is settled or known, and no cable loses frames. The caller must ensure
-    /// that a station has at most one seat on a cable. Error: `Memory`.
-    pub fn new(
-        alloc: Global,
-        seats: &[Seat],
-        ranges: &[Range],
-        limit: u32,
-    ) -> Result<LiveCables, Error>
-        requires { HasOneSeat seats.now }
-        ensures ok { IfOk result (λ live. live ≡ record {
-          cabling = record {
-            seats = seats.now;
-            limit = limit;
-            rooms = held_rooms;
-            lines = [];
-            kept = [];
-            spare = 0;
-          };
-          own = map (λ s. None) seats.now;
-          maps = map (λ s. record { known = []; held = [] }) seats.now;
-          ranges = ranges.now;
-          losing = [];
-        }) }
-        ensures refused { IsOkUnless result Error.Memory }
-    {
-        let cables = Cables::new(alloc, seats, limit, Rooms::HELD)?;
-        Ok(LiveCables {
-            cables,
-            near: Neighbours::new(alloc, seats, ranges)?,
-            losing: Vec::new(alloc),
-            limit,
-            alloc,
-        })
-    }
-
     /// The transcript, in order. Allocates nothing.
     pub fn transcript(&self) -> &[Entry]
         ensures value { result.now ≡ self.now.cabling.lines }
@@ -205,6 +168,36 @@ impl LiveCables {
         lose_from(&mut self.cables, &self.losing, from)
     }
 
+    /// A station sends a datagram that it made over one of its cables. It is held if the hardware
+    /// address of its next station isn't known, and an AARP request is sent for the address. The
+    /// caller must ensure that no cable loses frames.
+    ///
+    /// Errors, in this order: `NoSuch(Cable)` if the cable has no seat; `NoSuch(Station)` if the
+    /// station has no seat on it; `TooLong` above 599 bytes; `Full` if there is room for fewer than
+    /// 5 entries; `Memory`. After an error nothing has changed.
+    pub fn send(&mut self, station: u16, cable: u8, next: Next, bytes: Bytes) -> Result<(), Error>
+        requires next { IsNext next }
+        requires none_lost { self.old.losing ≡ [] }
+        ensures sent { OnOk result (IsSentOver station cable next bytes self.old self.new) }
+        ensures no_cable { (result ≡ Err (Error.NoSuch Cable))
+            ↔ (has_cable self.old.cabling.seats cable ≡ false) }
+        ensures no_station { (result ≡ Err (Error.NoSuch Station))
+            ↔ ((has_cable self.old.cabling.seats cable ≡ true)
+            × (is_seated self.old.cabling.seats cable station ≡ false)) }
+        ensures long { (result ≡ Err Error.TooLong)
+            ↔ ((is_seated self.old.cabling.seats cable station ≡ true) × (599 < length bytes)) }
+        ensures full { (result ≡ Err Error.Full)
+            ↔ ((is_seated self.old.cabling.seats cable station ≡ true) × (length bytes ≤ 599)
+            × HasNoRoom 5 self.old.cabling) }
+        ensures refused { IfErr result (λ e. (e ≡ Error.NoSuch Cable) ⊎ (e ≡ Error.NoSuch Station)
+            ⊎ (e ≡ Error.TooLong) ⊎ (e ≡ Error.Full) ⊎ (e ≡ Error.Memory)) }
+        ensures kept { OnErr result (self.new ≡ self.old) }
+    {
+        self.near.face(station);
+        self.cables
+            .send(station, cable, next, bytes, &mut self.near)
+    }
+
     /// Whether the limit leaves no room for so many further entries. Allocates nothing.
     fn has_no_room(&self, more: usize) -> bool
         requires { more ≤ 1285 }
@@ -241,6 +234,14 @@ impl LiveCables {
         ensures stopped { OnErr result (((self.new ≡ self.old) × (taker.new ≡ taker.old))
             ⊎ TakesIn stamp station (S.ports_of taker.old)
             (λ h added. S.hears taker.old h added taker.new) self.old self.new) }
+        ensures still_taken { self.old.losing ≡ [] → OnOk result
+            (TakesStill stamp station (S.ports_of taker.old)
+            (λ h added. S.hears taker.old h added taker.new) self.old self.new) }
+        ensures still_full { self.old.losing ≡ [] → (result ≡ Err Error.Full)
+            ↔ ((list_any (is_named stamp station) (pending_on self.old.cabling) ≡ true)
+            × HasNoRoom 1285 self.old.cabling) }
+        ensures still_kept { self.old.losing ≡ []
+            → OnErr result ((self.new ≡ self.old) × (taker.new ≡ taker.old)) }
         ensures ports_stay { S.ports_of taker.new ≡ S.ports_of taker.old }
         ensures not_pending { (result ≡ Err Error.NotPending) ↔ (list_any (is_named stamp station)
             (pending_on self.old.cabling) ≡ false) }

@@ -1,7 +1,7 @@
 //! Frames that are lost because they were put on cables that lose frames.
 
 ghost use Rattle.std.specs.Prelude.{◌≡◌, ◌⊎◌, ◌↔◌, ◌≤◌, ◌++◌, ◌∷◌, [], IfErr, IfNone, IfSome};
-ghost use Rattle.std.specs.Prelude.{IsTrue, List, OnErr, OnOk, drop, length, take, true};
+ghost use Rattle.std.specs.Prelude.{IsOk, IsTrue, List, OnErr, OnOk, drop, false, length, take, true};
 ghost use Rattle.std.specs.List.{list_any};
 ghost use Rattle.cable_model.specs.Outcomes.{has_stamp};
 ghost use Rattle.cable_model.specs.declared.entry.Entry.{Entry as Line};
@@ -124,6 +124,8 @@ fn lose_between(cables: &mut Cables, losing: &[bool], from: usize, end: usize) -
 pub fn lose_from(cables: &mut Cables, losing: &[bool], from: usize) -> Result<(), Error>
     ensures loses { Loses (losses_since losing.now from cables.old) cables.old cables.new }
     ensures rooms { cables.new.rooms ≡ cables.old.rooms }
+    ensures still { list_any (λ loses. loses) losing.now ≡ false
+        → IsOk result × (cables.new ≡ cables.old) }
     ensures gone { OnOk result
         (IsTrue (are_gone (losses_since losing.now from cables.old) cables.new)) }
     ensures full { (result ≡ Err Error.Full) → HasNoRoom 1 cables.new }

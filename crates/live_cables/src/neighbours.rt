@@ -1,6 +1,6 @@
 //! What a station knows of the other stations on its cables.
 
-ghost use Rattle.std.specs.Prelude.{◌≡◌, ◌==◌, ◌≤◌, ◌++◌, [], IfOk, IsOkUnless, None, OnErr, OnOk, length, map, slice_get, slice_set, true};
+ghost use Rattle.std.specs.Prelude.{◌≡◌, ◌==◌, ◌≤◌, IfOk, IsOkUnless, OnErr, length, slice_get, slice_set, true};
 ghost use Rattle.std.specs.List.{list_any};
 ghost use Rattle.aarp.specs.Mapping as mapping_spec;
 ghost use Rattle.aarp.specs.Mapping.{forgotten, learnt, to_ask};
@@ -27,13 +27,13 @@ const NOBODY: Hw = Hw([0; 6]);
 /// and the station that looks up and holds.
 #[derive(Drop)]
 pub struct Neighbours {
-    station: u16,
-    seats: Seats,
-    own: Vec<Option<Addr>>,
+    pub(crate) station: u16,
+    pub(crate) seats: Seats,
+    pub(crate) own: Vec<Option<Addr>>,
     // The mappings of each seat, in the order of the seats.
-    mappers: Vec<Mapper>,
-    ranges: Vec<Range>,
-    alloc: Global,
+    pub(crate) mappers: Vec<Mapper>,
+    pub(crate) ranges: Vec<Range>,
+    pub(crate) alloc: Global,
 }
 
 impl Model for Neighbours {
@@ -121,35 +121,6 @@ fn request(hw: Hw, own: Addr, addr: Addr) -> Packet
     }
 }
 
-/// Adds empty mappings for each of these seats. Error: `Memory`.
-fn add_mappers(alloc: Global, mappers: &mut Vec<Mapper>, seats: &[Seat]) -> Result<(), Error>
-    ensures ok { OnOk result (mappers.new.items
-        ≡ mappers.old.items ++ map (λ s. record { known = []; held = [] }) seats.now) }
-    ensures refused { IsOkUnless result Error.Memory }
-{
-    match seats {
-        [] => Ok(()),
-        [_, rest @ ..] => {
-            mappers.push(Mapper::new(alloc)?)?;
-            add_mappers(alloc, mappers, rest)
-        }
-    }
-}
-
-/// Adds an unsettled address for each of these seats. Error: `Memory`.
-fn add_unsettled(own: &mut Vec<Option<Addr>>, seats: &[Seat]) -> Result<(), Error>
-    ensures ok { OnOk result (own.new.items ≡ own.old.items ++ map (λ s. None) seats.now) }
-    ensures refused { IsOkUnless result Error.Memory }
-{
-    match seats {
-        [] => Ok(()),
-        [_, rest @ ..] => {
-            own.push(None)?;
-            add_unsettled(own, rest)
-        }
-    }
-}
-
 /// Holds a datagram at a seat. Returns whether it is the first one for its address, and the stamp
 /// of the one that is let go if 16 are held.
 fn hold_at(
@@ -177,31 +148,6 @@ fn hold_at(
 }
 
 impl Neighbours {
-    /// Nothing is settled or known. Error: `Memory`.
-    pub fn new(alloc: Global, seats: &[Seat], ranges: &[Range]) -> Result<Neighbours, Error>
-        ensures ok { IfOk result (λ n. n ≡ record {
-          station = 0;
-          seats = seats.now;
-          own = map (λ s. None) seats.now;
-          maps = map (λ s. record { known = []; held = [] }) seats.now;
-          ranges = ranges.now;
-        }) }
-        ensures refused { IsOkUnless result Error.Memory }
-    {
-        let mut own = Vec::new(alloc);
-        add_unsettled(&mut own, seats)?;
-        let mut mappers = Vec::new(alloc);
-        add_mappers(alloc, &mut mappers, seats)?;
-        Ok(Neighbours {
-            station: 0,
-            seats: Seats::of(alloc, seats)?,
-            own,
-            mappers,
-            ranges: Vec::from_slice(alloc, ranges)?,
-            alloc,
-        })
-    }
-
     /// From now on this station looks up and holds.
     pub fn face(&mut self, station: u16)
         ensures { self.new ≡ record self.old { station = station } }

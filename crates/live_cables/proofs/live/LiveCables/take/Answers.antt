@@ -8,6 +8,7 @@ use Rattle.live_cables.proofs.Exact.{takes_in}
 use Rattle.live_cables.proofs.Idle.{plays_none}
 use Rattle.live_cables.proofs.Knows.{knows_is}
 use Rattle.live_cables.proofs.NoRoom.{crowded, not_crowded}
+use Rattle.live_cables.proofs.Still.{full_when, no_error, none_loses, on_no_error, takes_still}
 use Rattle.live_cables.proofs.Whole.{faced, is_knowing, stays_known, stays_taken, whole_taken, wires}
 use Rattle.live_cables.specs.Living.{Wires}
 use Rattle.live_cables.proofs.live.LiveCables.take.Goals as goal
@@ -26,6 +27,10 @@ returns-then-is_full_for-clause-not_pending g c = (
 pub returns-then-is_full_for-clause-full : goal.returns-then-is_full_for-clause-full
 returns-then-is_full_for-clause-full g c = λ e. (crowded _ _ _ (sym c.is_full_for.ensures ∙ c.if-is_full_for.true)).0
 
+pub returns-then-is_full_for-clause-still_full : goal.returns-then-is_full_for-clause-still_full
+returns-then-is_full_for-clause-still_full g c =
+    let full = crowded _ _ _ (sym c.is_full_for.ensures ∙ c.if-is_full_for.true) in λ none. (λ e. (full.1, full.0), λ h. refl)
+
 -- ---- A take that is refused
 
 pub returns-in-Err-clause-no_room : goal.returns-in-Err-clause-no_room
@@ -41,6 +46,13 @@ returns-in-Err-clause-plays g c =
 
 pub returns-in-Err-clause-not_pending : goal.returns-in-Err-clause-not_pending
 returns-in-Err-clause-not_pending g c = rw (← c.self.view_is) c.in-Err.ensures.not_pending
+
+pub returns-in-Err-clause-still_full : goal.returns-in-Err-clause-still_full
+returns-in-Err-clause-still_full g c =
+    let free = subst (λ (w : Wires). (nat_lt w.cabling.limit (length w.cabling.lines + 1285)
+    && list_any (is_named c.args.stamp c.args.station) (pending_on w.cabling)) ≡ false) (sym c.self.view_is)
+    (sym c.is_full_for.ensures ∙ c.if-is_full_for.false) in
+    rw (← c.self.view_is) (λ none. full_when _ _ _ _ c.in-Err.ensures.not_pending c.in-Err.ensures.full free)
 
 -- ---- A take
 
@@ -119,5 +131,35 @@ returns-clause-taken g c =
     none)
     (is_knowing c.self.inside.cables c.self.inside.near c.face.new.self c.self.inside.losing.items c.args.station c.face.ensures
     c.self.invariant.0) c.in-Ok.ensures.taken c.lose_from.ensures.loses refl
+    (stays_taken c.args.stamp c.args.station _ _ c.self.inside.cables c.take.new.cables c.lose_from.new.cables c.self.inside.near
+    c.face.new.self c.take.new.near c.self.inside.losing.items c.args.station c.face.ensures c.in-Ok.ensures.taken)))
+
+-- ---- A take where no cable loses frames
+
+pub returns-clause-still_kept : goal.returns-clause-still_kept
+returns-clause-still_kept g c =
+    rw (← c.self.view_is)
+    (λ none. on_no_error c.lose_from.result _ (c.lose_from.ensures.still (none_loses _ _ c.deref.ensures.value none)).0)
+
+pub returns-clause-still_full : goal.returns-clause-still_full
+returns-clause-still_full g c =
+    let free = subst (λ (w : Wires). (nat_lt w.cabling.limit (length w.cabling.lines + 1285)
+    && list_any (is_named c.args.stamp c.args.station) (pending_on w.cabling)) ≡ false) (sym c.self.view_is)
+    (sym c.is_full_for.ensures ∙ c.if-is_full_for.false) in
+    rw (← c.self.view_is)
+    (λ none. (
+      λ e. absurd (no_error c.lose_from.result _ (c.lose_from.ensures.still (none_loses _ _ c.deref.ensures.value none)).0 e),
+      λ h. absurd (not_crowded _ _ _ free h.0 h.1),
+    ))
+
+pub returns-clause-still_taken : goal.returns-clause-still_taken
+returns-clause-still_taken g c =
+    rw (← c.self.view_is)
+    (λ none. on_ok c.lose_from.result _
+    (takes_still (wires c.self.inside.cables c.self.inside.near c.self.inside.losing.items)
+    (wires c.lose_from.new.cables c.take.new.near c.self.inside.losing.items) c.args.stamp c.args.station _ _ c.face.new.self
+    c.take.new.cables c.take.new.near
+    (is_knowing c.self.inside.cables c.self.inside.near c.face.new.self c.self.inside.losing.items c.args.station c.face.ensures
+    c.self.invariant.0) c.in-Ok.ensures.taken (c.lose_from.ensures.still (none_loses _ _ c.deref.ensures.value none)).1 refl
     (stays_taken c.args.stamp c.args.station _ _ c.self.inside.cables c.take.new.cables c.lose_from.new.cables c.self.inside.near
     c.face.new.self c.take.new.near c.self.inside.losing.items c.args.station c.face.ensures c.in-Ok.ensures.taken)))

@@ -1,5 +1,5 @@
 use Rattle.std.proofs.Common.{length}
-use Rattle.live_cables.proofs.neighbours.+add_mappers.Given as goal
+use Rattle.live_cables.proofs.beginning.+add_mappers.Given as goal
 
 abbrev pub decreases-add_mappers : goal.decreases-add_mappers
 decreases-add_mappers l = length l.seats.now
