@@ -1,0 +1,5 @@
+use Rattle.std.proofs.Common.{length}
+use Rattle.image_cables.proofs.mappers.+put_nodes.Given as goal
+
+abbrev pub decreases-put_nodes : goal.decreases-put_nodes
+decreases-put_nodes l = length l.nodes.now

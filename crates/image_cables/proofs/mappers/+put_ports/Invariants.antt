@@ -1,0 +1,5 @@
+use Rattle.std.proofs.Common.{length}
+use Rattle.image_cables.proofs.mappers.+put_ports.Given as goal
+
+abbrev pub decreases-put_ports : goal.decreases-put_ports
+decreases-put_ports l = length l.ports.now
