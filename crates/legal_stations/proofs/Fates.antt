@@ -39,7 +39,7 @@ use Rattle.legal_stations.proofs.Arrivals.{Arrives}
 use Rattle.legal_stations.proofs.Datagrams.{Inside}
 use Rattle.legal_stations.proofs.Hands.{hands_agree}
 use Rattle.legal_stations.specs.Agreeing.{BothHere, BothNowhere, BothOn}
-use Rattle.legal_stations.proofs.Ports.{cable_is, has_at, port_of}
+use Rattle.legal_stations.proofs.Ports.{cable_is, has_at, port_of, seated}
 
 -- A frame is to the station's own address if and only if it is to one station.
 pub own_unicast : (to : Hw) → is_own (link_of to) ≡ is_unicast to
@@ -113,7 +113,8 @@ module _ (i : Internet) (ok : Passes i) (p : Pair) (h : Holding) (holds : HoldsR
       → IsFate i r (λ leg. leg (passed r p port.cable whom)) (Passed q whom (onward x.d) ∷ [])
   pass_is q port at whom =
       subst (λ bytes. IsFate i r (λ leg. leg (passed r p port.cable whom)) (Passed q whom bytes ∷ [])) (sym onward_is)
-      (PassedOn q (passed r p port.cable whom) refl (cable_is i ok r holds.router holds.known q port at) (λ leg. refl))
+      (PassedOn q (passed r p port.cable whom) refl (cable_is i ok r holds.router holds.known q port at)
+      (seated i ok r holds.router holds.known q port at) (λ leg. refl))
 
   -- A datagram that is dropped.
   drop_is : (cause : DropCause) → IsFate i r (λ leg. entry.Dropped r cause (body p.frame.bytes) ∷ []) (Dropped cause (bytes_in x.d) ∷ [])

@@ -27,7 +27,7 @@ use Rattle.cable_model.specs.Transcript.{Entry, Reached, Sent, next_stamp}
 use Rattle.cable_model.proofs.Stamps.{next_after}
 use Rattle.legal_runs.specs.Answers.{IsBody}
 use Rattle.legal_runs.specs.Legs.{Leg, leg_bytes}
-use Rattle.legal_runs.specs.Stations.{cable_seats}
+use Rattle.legal_runs.specs.Stations.{cable_seats, is_on}
 use Rattle.legal_runs.proofs.Frames.{no_hops, whole}
 use Rattle.resolved_runs.specs.Fates.{fate_with}
 use Rattle.resolved_runs.specs.Mapped.{places_after}
@@ -41,26 +41,38 @@ use Rattle.legal_stations.proofs.Leaving.{Leaves}
 
 -- ---- Places that find the same
 
--- Two answers to all lookups agree.
-pub record Agree (x y : Places) : Type 0 where
-  pub finds : (cable : ℕ) (a : Addr) → x.finds cable a ≡ y.finds cable a
+-- Two answers to all lookups on a cable agree.
+pub record Agree (cable : ℕ) (x y : Places) : Type 0 where
+  pub finds : (a : Addr) → x.finds cable a ≡ y.finds cable a
   pub lists : (net : ℕ) → x.lists net ≡ y.lists net
 
 -- A leg depends on what lookups find alone.
-leg_same : (x y : Places) → Agree x y → (s : Sender) (n : Next) (bytes : List ℕ) → leg_on x s n bytes ≡ leg_on y s n bytes
-leg_same x y same s (next.Station a) bytes =
-    ap (λ f. cond (same_address (target bytes) a) (to_target s bytes f) (to_other s bytes f)) (same.finds s.cable a)
-leg_same x y same s next.All bytes =
+leg_same : (x y : Places) (s : Sender) → Agree s.cable x y → (n : Next) (bytes : List ℕ) → leg_on x s n bytes ≡ leg_on y s n bytes
+leg_same x y s same (next.Station a) bytes =
+    ap (λ f. cond (same_address (target bytes) a) (to_target s bytes f) (to_other s bytes f)) (same.finds a)
+leg_same x y s same next.All bytes =
     ap (λ b. cond b (Reached s.cable s.station how.All (body bytes) ∷ framed s all_hw Ddp bytes ∷ [])
     (framed s all_hw Ddp bytes ∷ []))
     (same.lists (target bytes).net)
-leg_same x y same s (next.Group g) bytes = refl
+leg_same x y s same (next.Group g) bytes = refl
 
-held_same : (x y : Places) → Agree x y → (cable : ℕ) (n : Next) (bytes : List ℕ)
+held_same : (x y : Places) (cable : ℕ) → Agree cable x y → (n : Next) (bytes : List ℕ)
     → held_next x cable n bytes ≡ held_next y cable n bytes
-held_same x y same cable (next.Station a) bytes = ap (λ f. held_by f cable a bytes) (same.finds cable a)
-held_same x y same cable next.All bytes = refl
-held_same x y same cable (next.Group g) bytes = refl
+held_same x y cable same (next.Station a) bytes = ap (λ f. held_by f cable a bytes) (same.finds a)
+held_same x y cable same next.All bytes = refl
+held_same x y cable same (next.Group g) bytes = refl
+
+-- What is held for the next station of a datagram on a cable is held for that cable.
+pub held_on : (places : Places) (P : ℕ → Type 0) (cable : ℕ) (n : Next) (bytes : List ℕ) → P cable
+    → Each (λ (w : Held). P w.cable) (held_next places cable n bytes)
+held_on places P cable (next.Station a) bytes p = by (places.finds cable a)
+  where
+    by : (f : Found) → Each (λ (w : Held). P w.cable) (held_by f cable a bytes)
+    by Later = (p, tt)
+    by (At hw) = tt
+    by Nobody = tt
+held_on places P cable next.All bytes p = tt
+held_on places P cable (next.Group g) bytes p = tt
 
 -- ---- Calm entries
 
@@ -97,8 +109,9 @@ leg_calm places t s (next.Group g) bytes e = (omega (arith, e), tt)
 
 module _ {X : Type 0} (places : X → Places) (Holds : X → ℕ → Addr → ℕ → HeldBy → X → Type 0) (i : Internet) (station : ℕ)
     (Knows : X → List Entry → Type 0) (resolver : IsResolver places Holds i station Knows) where
-  agree : (x : X) (t : List Entry) → Knows x t → Agree (places x) (places_after i t station)
-  agree x t k = record { finds = resolver.finds x t k; lists = resolver.lists x t k }
+  agree : (x : X) (t : List Entry) (cable : ℕ) → Knows x t → is_on i station cable ≡ true
+      → Agree cable (places x) (places_after i t station)
+  agree x t cable k seated = record { finds = λ a. resolver.finds x t k cable a seated; lists = resolver.lists x t k }
 
   stay_all : (x : X) (t es : List Entry) → Knows x t → AreCalm t es → Knows x (t ++ es)
   stay_all x t [] k calm = subst (Knows x) (sym (append-nil t)) k
@@ -107,12 +120,12 @@ module _ {X : Type 0} (places : X → Places) (Holds : X → ℕ → Addr → �
 
   -- A datagram that is held, if there is one.
   waits : (t : List Entry) (ws : List Held) (x y : X) (more : List Entry) (asks : List (List ℕ)) → Knows x t
-      → IsHeldBy Holds station t ws x more asks y
+      → Each (λ (w : Held). is_on i station w.cable ≡ true) ws → IsHeldBy Holds station t ws x more asks y
       → (more ≡ waiting_entries i t station ws) × Knows y (t ++ more)
-  waits t [] x y more asks k h =
+  waits t [] x y more asks k seated h =
       (h.0, subst (Knows y) (sym (append-nil t) ∙ ap (λ es. t ++ es) (sym h.0)) (subst (λ z. Knows z t) (sym h.2) k))
-  waits t (w ∷ ws) x y more asks k h =
-      let r = resolver.holds x y t w h.0 k h.1 in (
+  waits t (w ∷ ws) x y more asks k seated h =
+      let r = resolver.holds x y t w h.0 k seated.0 h.1 in (
         h.2 ∙ ap (held_entries t station w) r.0,
         subst (λ es. Knows y (t ++ es)) (sym h.2) r.1,
       )
@@ -127,24 +140,25 @@ module _ {X : Type 0} (places : X → Places) (Holds : X → ℕ → Addr → �
 
   -- A datagram that the station puts on a cable has these entries.
   goes : (t : List Entry) (stamp cable : ℕ) (n : Next) (bytes : List ℕ) (x y : X) (more : List Entry) (asks : List (List ℕ))
-      → stamp ≡ next_stamp t → Knows x t
+      → stamp ≡ next_stamp t → Knows x t → is_on i station cable ≡ true
       → IsHeldBy Holds station (t ++ leg_on (places x) (record { stamp = stamp; cable = cable; station = station }) n bytes)
       (held_next (places x) cable n bytes) x more asks y
       → (leg_on (places x) (record { stamp = stamp; cable = cable; station = station }) n bytes ++ more
       ≡ out station t cable n bytes)
       × Knows y (t ++ (leg_on (places x) (record { stamp = stamp; cable = cable; station = station }) n bytes ++ more))
-  goes t stamp cable n bytes x y more asks e k h =
+  goes t stamp cable n bytes x y more asks e k seated h =
       let there = places_after i t station in
       let mine : List Entry = leg_on (places x) (record { stamp = stamp; cable = cable; station = station }) n bytes in
       let said : List Entry = leg_on there (record { stamp = next_stamp t; cable = cable; station = station }) n bytes in
       let same : mine ≡ said =
-      leg_same (places x) there (agree x t k) (record { stamp = stamp; cable = cable; station = station }) n bytes
+      leg_same (places x) there (record { stamp = stamp; cable = cable; station = station }) (agree x t cable k seated) n bytes
       ∙ ap (λ m. leg_on there (record { stamp = m; cable = cable; station = station }) n bytes) e in
       let calm = leg_calm there t (record { stamp = next_stamp t; cable = cable; station = station }) n bytes refl in
       let h' = subst (λ ws. IsHeldBy Holds station (t ++ said) ws x more asks y)
-      (held_same (places x) there (agree x t k) cable n bytes)
+      (held_same (places x) there cable (agree x t cable k seated) n bytes)
       (subst (λ es. IsHeldBy Holds station (t ++ es) (held_next (places x) cable n bytes) x more asks y) same h) in
-      let w = waits (t ++ said) (held_next there cable n bytes) x y more asks (stay_all x t said k calm) h' in (
+      let w = waits (t ++ said) (held_next there cable n bytes) x y more asks (stay_all x t said k calm)
+      (held_on there (λ c. is_on i station c ≡ true) cable n bytes seated) h' in (
         ap (λ es. es ++ more) same ∙ ap (λ es. said ++ es) w.0,
         subst (Knows y) (append_assoc t said more ∙ ap (λ es. t ++ (es ++ more)) (sym same)) w.1,
       )
@@ -162,18 +176,18 @@ module _ {X : Type 0} (places : X → Places) (Holds : X → ℕ → Addr → �
 
   -- A datagram that the station made has the entries of its leg.
   pub sent_goes : (t : List Entry) (cable : ℕ) (to : Next) (bytes : List ℕ) (x y : X) (more : List Entry) (asks : List (List ℕ))
-      → IsBody bytes → Knows x t
+      → IsBody bytes → Knows x t → is_on i station cable ≡ true
       → IsHeldBy Holds station (t ++ sent t (places x) cable to bytes) (held_next (places x) cable to bytes) x more asks y
       → (sent t (places x) cable to bytes ++ more
       ≡ Sent station bytes ∷ resolved_leg i (t ++ Sent station bytes ∷ []) (leg_over cable to bytes))
       × Knows y (t ++ (sent t (places x) cable to bytes ++ more))
-  sent_goes t cable to bytes x y more asks is k h =
+  sent_goes t cable to bytes x y more asks is k seated h =
       let first = Sent station (body bytes) in
       let u = t ++ first ∷ [] in
       let mine : List Entry = leg_on (places x) (record { stamp = next_stamp t; cable = cable; station = station }) to bytes in
       let held = subst (λ v. IsHeldBy Holds station v (held_next (places x) cable to bytes) x more asks y)
       (sym (append_assoc t (first ∷ []) mine)) h in
-      let w = goes u (next_stamp t) cable to bytes x y more asks (sym (next_after t first)) (resolver.stays x t first k tt) held in
+      let w = goes u (next_stamp t) cable to bytes x y more asks (sym (next_after t first)) (resolver.stays x t first k tt) seated held in
       let own : body bytes ≡ bytes = (whole bytes is).same in
       let spelled : with_hops 0 bytes ≡ bytes = no_hops bytes (whole bytes is) in (
         ap (λ l. first ∷ l) w.0
@@ -192,7 +206,8 @@ module _ {X : Type 0} (places : X → Places) (Holds : X → ℕ → Addr → �
       let rest = g.1 in
       let z = g.4 in
       let l = leg_by i station port to bytes in
-      let here = sent_goes t (cable_of (cable_seats i) station port) to bytes x z g.5.more g.5.asks leaves.0.whole k g.5.held in
+      let here = sent_goes t (cable_of (cable_seats i) station port) to bytes x z g.5.more g.5.asks leaves.0.whole k leaves.0.seated
+      g.5.held in
       let is = g.5.entries ∙ here.0 in
       let more = said_goes (t ++ first) os z y rest g.3 leaves.1 (subst (λ a. Knows z (t ++ a)) (sym g.5.entries) here.1) g.6 in (
         g.7 ∙ (ap (λ a. a ++ rest) is ∙ ap (λ a. Sent station bytes ∷ (resolved_leg i (t ++ Sent station bytes ∷ []) l ++ a))
@@ -246,9 +261,10 @@ module _ {X : Type 0} (places : X → Places) (Holds : X → ℕ → Addr → �
     fate_goes t front made x y es ks (DroppedHere cause bytes is) leaves k g =
         let o = one_goes t (entry.Dropped station cause (body bytes)) x g.4 g.0 g.5.more g.5.asks k tt g.5.entries g.5.held in
         rest t made x g.4 y g.0 g.1 g.3 es (o.0 ∙ sym (is (resolved_leg i t))) o.1 leaves g.6 g.7
-    fate_goes t front made x y es ks (PassedOn q l here on is) leaves k g =
+    fate_goes t front made x y es ks (PassedOn q l here on seated is) leaves k g =
         let cable = cable_of (cable_seats i) station q in
-        let o = goes t (next_stamp t) cable l.next (leg_bytes l) x g.4 g.5.more g.5.asks refl k g.5.held in
+        let o = goes t (next_stamp t) cable l.next (leg_bytes l) x g.4 g.5.more g.5.asks refl k
+        (ap (is_on i station) on ∙ seated) g.5.held in
         let own = ap (λ c. out station t c l.next (leg_bytes l)) on ∙ ap (λ s. out s t l.cable l.next (leg_bytes l)) (sym here) in
         rest t made x g.4 y g.0 g.1 g.3 es (g.5.entries ∙ (o.0 ∙ (own ∙ sym (is (resolved_leg i t)))))
         (subst (λ a. Knows g.4 (t ++ a)) (sym g.5.entries) o.1) leaves g.6 g.7

@@ -91,7 +91,7 @@ pub sending_resolves : {X : Type 0} (places : X → Places) (Holds : X → ℕ �
 sending_resolves places Holds Knows i old new l x y made own resolver knows sent =
     let t = transcript old in
     let w = sent_goes places Holds i l.station Knows resolver t l.cable l.next l.body x y sent.more sent.asks made.whole knows
-    sent.held in
+    made.seated sent.held in
     let es = sent_entries (places x) old l.cable l.station l.next l.body ++ sent.more in
     let same : leg_over places Holds i l.station Knows resolver l.cable l.next l.body ≡ l =
     ap (λ n. record { station = l.station; cable = l.cable; next = l.next; body = l.body; hops = n }) (sym made.fresh) in

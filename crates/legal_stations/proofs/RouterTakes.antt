@@ -37,7 +37,7 @@ fate_entries : (i : Internet) (p : Pair) (stamp : ℕ) (front : List Output)
 fate_entries i p stamp front (NoFate is) = sym (is (leg i stamp)) ∙ same_fate i stamp p
 fate_entries i p stamp front (KeptHere q bytes is) = sym (is (leg i stamp)) ∙ same_fate i stamp p
 fate_entries i p stamp front (DroppedHere cause bytes is) = sym (is (leg i stamp)) ∙ same_fate i stamp p
-fate_entries i p stamp front (PassedOn q l mine on is) =
+fate_entries i p stamp front (PassedOn q l mine on seated is) =
     append-nil (leg_on (places_of i) (sender_by (cable_seats i) p.seat.station stamp q) l.next (leg_bytes l))
     ∙ (ap (λ c. leg_on (places_of i) (record { stamp = stamp; cable = c; station = p.seat.station }) l.next (leg_bytes l)) on
     ∙ (ap (λ s. leg_on (places_of i) (record { stamp = stamp; cable = l.cable; station = s }) l.next (leg_bytes l)) (sym mine)

@@ -1,11 +1,11 @@
 -- The outputs of a station for the datagram of a pair that it took.
-use Rattle.std.specs.Prelude.{◌≡◌, ℕ, List, [], ◌∷◌}
+use Rattle.std.specs.Prelude.{◌≡◌, ℕ, true, List, [], ◌∷◌}
 use Rattle.cable_model.specs.Outcomes.{cable_of}
 use Rattle.cable_model.specs.Transcript.{Entry, Reached, Dropped}
 use Rattle.cable_model.specs.declared.entry.How.TheVariants.{Own}
 use Rattle.ddp.specs.Bodies.{body}
 use Rattle.legal_runs.specs.Legs.{Leg, leg_bytes}
-use Rattle.legal_runs.specs.Stations.{cable_seats}
+use Rattle.legal_runs.specs.Stations.{cable_seats, is_on}
 use Rattle.station.specs.declared.output.DropCause.{DropCause}
 use Rattle.station.specs.declared.output.Output.{Output}
 use Rattle.station.specs.declared.output.Output.TheVariants as output
@@ -20,5 +20,6 @@ pub data IsFate (i : Internet) (s : ℕ) (fate : (Leg → List Entry) → List E
       → IsFate i s fate (output.Kept q bytes ∷ [])
   DroppedHere : (cause : DropCause) (bytes : List ℕ) → ((leg : Leg → List Entry) → fate leg ≡ Dropped s cause (body bytes) ∷ [])
       → IsFate i s fate (output.Dropped cause bytes ∷ [])
-  PassedOn : (q : ℕ) (l : Leg) → l.station ≡ s → cable_of (cable_seats i) s q ≡ l.cable → ((leg : Leg → List Entry) → fate leg ≡ leg l)
+  PassedOn : (q : ℕ) (l : Leg) → l.station ≡ s → cable_of (cable_seats i) s q ≡ l.cable → is_on i s l.cable ≡ true
+      → ((leg : Leg → List Entry) → fate leg ≡ leg l)
       → IsFate i s fate (output.Passed q l.next (leg_bytes l) ∷ [])
