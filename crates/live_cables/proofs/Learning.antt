@@ -14,12 +14,12 @@ use Rattle.live_cables.proofs.Knows.{few_known, map-set}
 
 -- ---- Elements that are set
 
-set_again : {X : Type 0} (xs : List X) (i : ℕ) (y z : X) → slice_set (slice_set xs i y) i z ≡ slice_set xs i z
+pub set_again : {X : Type 0} (xs : List X) (i : ℕ) (y z : X) → slice_set (slice_set xs i y) i z ≡ slice_set xs i z
 set_again [] i y z = refl
 set_again (x ∷ xs) zero y z = refl
 set_again (x ∷ xs) (suc i) y z = ap (λ l. x ∷ l) (set_again xs i y z)
 
-get_set : {X : Type 0} (xs : List X) (i : ℕ) (x y : X) → slice_get xs i ≡ Some x → slice_get (slice_set xs i y) i ≡ Some y
+pub get_set : {X : Type 0} (xs : List X) (i : ℕ) (x y : X) → slice_get xs i ≡ Some x → slice_get (slice_set xs i y) i ≡ Some y
 get_set [] i x y e = absurd cc
 get_set (z ∷ zs) zero x y e = refl
 get_set (z ∷ zs) (suc i) x y e = get_set zs i x y e

@@ -53,7 +53,7 @@ named : (stamp station : ℕ) (p : Pair) → p.frame.stamp ≡ stamp → p.seat.
 named stamp station p e s =
     ap (λ b. b && station == p.seat.station) (eq-eqb stamp p.frame.stamp (sym e)) ∙ eq-eqb station p.seat.station (sym s)
 
-same_pair : (seats : List Seat) → HasOneSeat seats → (t : List Entry) → ArePutOnce t → (p q : Pair) → Contains (pending seats t) p
+pub same_pair : (seats : List Seat) → HasOneSeat seats → (t : List Entry) → ArePutOnce t → (p q : Pair) → Contains (pending seats t) p
     → Contains (pending seats t) q → q.frame.stamp ≡ p.frame.stamp → q.seat.station ≡ p.seat.station → q ≡ p
 same_pair seats one_seat t once p q hp hq e s =
     let here = contained_at (pending seats t) p hp in
