@@ -3,6 +3,7 @@
 #![tactic(auto)]
 
 mod building;
+mod hardware;
 mod mappers;
 mod ranges;
 

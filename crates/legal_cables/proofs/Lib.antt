@@ -20,3 +20,4 @@ pub mod Answering
 pub mod Taking
 pub mod Stations
 pub mod Beginning
+pub mod Members

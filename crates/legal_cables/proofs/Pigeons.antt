@@ -72,20 +72,20 @@ any_below (suc n) k lt = by (k == n) refl (any_below n k)
     by true e rest = refl
     by false e rest = rest (below_other n k lt e)
 
-module _ (i : Internet) (ok : Passes i) (bounded : IsBounded i) where
-  -- A seat's station is a router or a node.
-  station_below : (k : ℕ) (q : PlaceOf) → At (seats i) k q → q.station < length i.routers + length i.nodes
-  station_below k q at = elim (sits i k q at) as (λ _. q.station < length i.routers + length i.nodes) [
-    | AtPort w ↦
-        let station = w.station in
-        let within = at_within i.routers w.r w.router w.known in
-        omega (arith, station, within)
-    | AtNode j far w ↦
-        let station = w.station in
-        let within = at_within i.nodes j w.node w.known in
-        omega (arith, station, within)
-  ]
+-- A seat's station is a router or a node.
+pub station_below : (i : Internet) (k : ℕ) (q : PlaceOf) → At (seats i) k q → q.station < length i.routers + length i.nodes
+station_below i k q at = elim (sits i k q at) as (λ _. q.station < length i.routers + length i.nodes) [
+  | AtPort w ↦
+      let station = w.station in
+      let within = at_within i.routers w.r w.router w.known in
+      omega (arith, station, within)
+  | AtNode j far w ↦
+      let station = w.station in
+      let within = at_within i.nodes j w.node w.known in
+      omega (arith, station, within)
+]
 
+module _ (i : Internet) (ok : Passes i) (bounded : IsBounded i) where
   -- The seats on a cable.
   abbrev pub seats_on : ℕ → List PlaceOf
   seats_on c = filter (λ q. q.cable == c) (seats i)
@@ -111,4 +111,4 @@ module _ (i : Internet) (ok : Passes i) (bounded : IsBounded i) where
       each : (q : PlaceOf) → In (seats_on c) q → list_any (λ n. q.station == n) (below (length i.routers + length i.nodes)) ≡ true
       each q there =
           let w = (kept_in (λ (q : PlaceOf). q.cable == c) (seats i) q there).0 in
-          any_below (length i.routers + length i.nodes) q.station (station_below w.0 q w.1)
+          any_below (length i.routers + length i.nodes) q.station (station_below i w.0 q w.1)
