@@ -200,7 +200,10 @@ class Made:
             self.cables[k] = tuple(ends)
         elif kind == 1:
             names = chance.choice(self.zones)
-            names.append(chance.choice(names).swapcase())
+            doubled = chance.choice(names).swapcase()
+            # An image has no count for a 256th zone.
+            del names[254:]
+            names.append(doubled)
         elif kind == 2 and rows:
             ports = chance.choice(self.routers)
             p = chance.randrange(len(ports))
