@@ -1,5 +1,5 @@
 -- Which events only ask, and when a run is at rest.
-use Rattle.std.proofs.Common.{◌≡◌, ℕ, true, false, refl, subst, true≢false}
+use Rattle.std.proofs.Common.{◌≡◌, ℕ, false, refl, subst, true≢false}
 use Rattle.audit.specs.Example.{addr, three_cables}
 use Rattle.at_base.specs.Packets.{address, text}
 use Rattle.ddp.specs.Bodies.{body}

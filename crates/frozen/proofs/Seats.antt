@@ -8,7 +8,6 @@ use Rattle.std.proofs.lemmas.Option.{none-some, slice_get_cases}
 use Rattle.std.specs.Option.{unwrap_or}
 use Rattle.at_base.specs.declared.address.Addr.{Addr}
 use Rattle.audit.proofs.Finding.{any_at, any_from}
-use Rattle.audit.proofs.SeatPlaces.{AtNode, AtPort, sits}
 use Rattle.audit.proofs.WalkLists.{At, at_map, at_within, find_at}
 use Rattle.audit.specs.Rules.{Passes}
 use Rattle.table_image.specs.Seats.{Seat as PlaceOf, port_seat, seats}
@@ -27,7 +26,7 @@ use Rattle.station.specs.declared.member.Member.{Member}
 use Rattle.station.specs.declared.member.Member.TheVariants as member
 use Rattle.image_stations.specs.declared.whereabouts.Spot.{Spot}
 use Rattle.legal_stations.proofs.Arrivals.{arrives}
-use Rattle.legal_stations.proofs.NodeSeats.{node_seat, past_end, seat_of_node}
+use Rattle.legal_stations.proofs.NodeSeats.{node_seat, past_end, seat_of_node, station_within}
 use Rattle.legal_stations.proofs.Ports.{port_number, port_of, seat_of_port}
 use Rattle.legal_runs.specs.Stations.{cable_seat, cable_seats, is_on, port_on}
 use Rattle.router.specs.Holding.{Holding}
@@ -39,19 +38,6 @@ there : {X : Type 0} (xs : List X) (k : ℕ) → k < length xs → (x : X) × At
 there xs k below = elim ((slice_get_cases xs k).1) [
   | inl h ↦ (h.0, h.2)
   | inr h ↦ let far = h.0 in absurd (omega (arith, far, below))
-]
-
--- The station of a seat of an internet is one of its routers and nodes.
-pub station_within : (i : Internet) (k : ℕ) (s : PlaceOf) → At (seats i) k s → s.station < length i.routers + length i.nodes
-station_within i k s at = elim (sits i k s at) [
-  | AtPort w ↦
-      let here = w.station in
-      let below = at_within i.routers w.r w.router w.known in
-      omega (arith, here, below)
-  | AtNode j far w ↦
-      let here = w.station in
-      let below = at_within i.nodes j w.node w.known in
-      omega (arith, here, below)
 ]
 
 -- A station that has an address is one of the internet's routers and nodes.

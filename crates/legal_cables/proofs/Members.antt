@@ -1,5 +1,5 @@
 -- Stations of either kind over live cables.
-use Rattle.std.proofs.Common.{◌≡◌, ℕ, ◌+◌, ◌<◌, List, ◌++◌, Contains, length, sym, ap, subst}
+use Rattle.std.proofs.Common.{ℕ, ◌+◌, ◌<◌, List, Contains, length, sym, ap, subst}
 use Rattle.audit.specs.Rules.{Passes}
 use Rattle.table_image.specs.Bounds.{IsBounded}
 use Rattle.table_image.specs.Internet.{Internet}
@@ -9,6 +9,7 @@ use Rattle.end_node.specs.Answers.{Hears as NodeHears}
 use Rattle.end_node.specs.Holding.{NodeHolding}
 use Rattle.image_stations.specs.Holders.{HoldsStation}
 use Rattle.legal_runs.specs.Stations.{cable_seats}
+use Rattle.legal_stations.proofs.NodeSeats.{station_within}
 use Rattle.legal_stations.proofs.Responding.{taken_at}
 use Rattle.live_cables.specs.Living.{TakesStill, Wires, happened}
 use Rattle.resolved_runs.specs.Fitting.{SeatsFit}
@@ -19,7 +20,6 @@ use Rattle.station.specs.Members.{EitherHears}
 use Rattle.station.specs.declared.member.Member.{Member}
 use Rattle.station.specs.declared.member.Member.TheVariants as member
 use Rattle.legal_cables.specs.Keeping.{AreKept, Resolves}
-use Rattle.legal_cables.proofs.Pigeons.{station_below}
 use Rattle.legal_cables.proofs.Stations.{node_takes, router_takes}
 
 -- A station that takes a frame makes a block of a transcript with resolution, and still holds the image's contents.
@@ -44,4 +44,4 @@ pub taker_within : (i : Internet) (t : List Entry) (p : Pair) → Contains (pend
     → p.seat.station < length i.routers + length i.nodes
 taker_within i t p there =
     let w = taken_at i t p there in
-    subst (λ s. s < length i.routers + length i.nodes) (sym (ap (λ s. s.station) w.is)) (station_below i w.place w.seat w.at)
+    subst (λ s. s < length i.routers + length i.nodes) (sym (ap (λ s. s.station) w.is)) (station_within i w.place w.seat w.at)

@@ -4,15 +4,14 @@ use Rattle.std.proofs.Common.{◌∙◌, arith, filter, length, eqb-true, eq-eqb
 use Rattle.std.specs.List.{list_any}
 use Rattle.std.proofs.lemmas.Bool.{and_parts}
 use Rattle.at_base.specs.Limits.{max_nodes, max_routers}
-use Rattle.audit.proofs.SeatPlaces.{AtNode, AtPort, sits}
 use Rattle.audit.proofs.SeatUnique.{unique}
-use Rattle.audit.proofs.WalkLists.{at_within}
 use Rattle.audit.specs.Rules.{Passes}
 use Rattle.table_image.specs.Bounds.{IsBounded}
 use Rattle.table_image.specs.Internet.{Internet}
 use Rattle.table_image.specs.Seats.{Seat as PlaceOf, seats}
 use Rattle.cable_model.specs.Transcript.{count, one}
-use Rattle.cable_model.proofs.Counting.{At, count-filter, count_le, count_one}
+use Rattle.cable_model.proofs.Counting.{count-filter, count_le, count_one}
+use Rattle.legal_stations.proofs.NodeSeats.{station_within}
 use Rattle.resolved_runs.proofs.Elements.{In, kept_in}
 
 -- The elements that pass and those that don't are all.
@@ -72,19 +71,6 @@ any_below (suc n) k lt = by (k == n) refl (any_below n k)
     by true e rest = refl
     by false e rest = rest (below_other n k lt e)
 
--- A seat's station is a router or a node.
-pub station_below : (i : Internet) (k : ℕ) (q : PlaceOf) → At (seats i) k q → q.station < length i.routers + length i.nodes
-station_below i k q at = elim (sits i k q at) as (λ _. q.station < length i.routers + length i.nodes) [
-  | AtPort w ↦
-      let station = w.station in
-      let within = at_within i.routers w.r w.router w.known in
-      omega (arith, station, within)
-  | AtNode j far w ↦
-      let station = w.station in
-      let within = at_within i.nodes j w.node w.known in
-      omega (arith, station, within)
-]
-
 module _ (i : Internet) (ok : Passes i) (bounded : IsBounded i) where
   -- The seats on a cable.
   abbrev pub seats_on : ℕ → List PlaceOf
@@ -111,4 +97,4 @@ module _ (i : Internet) (ok : Passes i) (bounded : IsBounded i) where
       each : (q : PlaceOf) → In (seats_on c) q → list_any (λ n. q.station == n) (below (length i.routers + length i.nodes)) ≡ true
       each q there =
           let w = (kept_in (λ (q : PlaceOf). q.cable == c) (seats i) q there).0 in
-          any_below (length i.routers + length i.nodes) q.station (station_below i w.0 q w.1)
+          any_below (length i.routers + length i.nodes) q.station (station_within i w.0 q w.1)

@@ -25,3 +25,4 @@ pub mod NodeNames
 pub mod NodeTakes
 pub mod Resolves
 pub mod Responding
+pub mod Unasked

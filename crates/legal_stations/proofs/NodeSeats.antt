@@ -1,5 +1,5 @@
--- The seat of a node.
-use Rattle.std.proofs.Common.{◌≡◌, ℕ, zero, suc, ◌+◌, Bool, true, ◌&&◌, ◌==◌, List, [], ◌∷◌, Some, None, length, refl, sym, ap, ◌∙◌}
+-- The seat of a node, and the stations of seats.
+use Rattle.std.proofs.Common.{◌≡◌, ℕ, zero, suc, ◌+◌, ◌<◌, Bool, true, ◌&&◌, ◌==◌, List, [], ◌∷◌, Some, None, length, refl, sym, ap, ◌∙◌}
 use Rattle.std.proofs.Common.{subst, arith, slice_get, eqb-true, eq-eqb}
 use Rattle.std.proofs.lemmas.Bool.{and_from, and_parts}
 use Rattle.audit.specs.Rules.{Passes}
@@ -23,6 +23,19 @@ past_end [] k = refl
 past_end (x ∷ xs) k =
     let n : suc (length xs + k) ≡ suc (length xs) + k = omega arith in
     subst (λ m. slice_get (x ∷ xs) m ≡ None) n (past_end xs k)
+
+-- The station of a seat of an internet is one of its routers and nodes.
+pub station_within : (i : Internet) (k : ℕ) (s : PlaceOf) → At (seats i) k s → s.station < length i.routers + length i.nodes
+station_within i k s at = elim (sits i k s at) as (λ _. s.station < length i.routers + length i.nodes) [
+  | AtPort w ↦
+      let here = w.station in
+      let below = at_within i.routers w.r w.router w.known in
+      omega (arith, here, below)
+  | AtNode j far w ↦
+      let here = w.station in
+      let below = at_within i.nodes j w.node w.known in
+      omega (arith, here, below)
+]
 
 -- The seat of a station that is a node.
 abbrev pub node_seat : ℕ → Node → PlaceOf
