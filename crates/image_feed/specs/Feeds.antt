@@ -48,6 +48,7 @@ pub record Refuses (e : Error) (all : List ℕ) : Type 0 where
   pub found : (more : List ℕ) → AreBytes more → RefusesFirst (all ++ more) e
   pub flawed : (more : List ℕ) → IsFlawed e (all ++ more)
 
+-- A feed to which all these bytes were fed has this refusal: want of memory, or that of their first flaw.
 abbrev pub IsRefused : Error → List ℕ → Type 0
 IsRefused e all = (e ≡ Memory) ⊎ Refuses e all
 
