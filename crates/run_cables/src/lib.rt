@@ -1,0 +1,6 @@
+//! The cables of a run over frozen tables, of an image of either version.
+#![tactic(auto)]
+
+mod wiring;
+
+pub use wiring::Wiring;
