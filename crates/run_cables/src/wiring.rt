@@ -83,6 +83,16 @@ impl Wiring {
         }
     }
 
+    /// The number of entries for which a sending needs room.
+    pub fn send_room(&self) -> usize
+        ensures { result ≡ send_room self.now }
+    {
+        match self {
+            Wiring::Known(_) => Rooms::KNOWN.send.lines,
+            Wiring::Asking(_) => Rooms::HELD.send.lines,
+        }
+    }
+
     /// The lowest pending stamp, and the lowest station for which it is pending. Allocates nothing.
     pub fn first(&self) -> Option<(u32, u16)>
         ensures some { IfSome result (λ pair. IsLeast (pending_for self.now) pair.0 pair.1) }
@@ -125,6 +135,7 @@ impl Wiring {
         ensures sent { OnOk result
             (IsSentOn (places_of places.now) station cable next bytes self.old self.new) }
         ensures still { AreStill self.new }
+        ensures limit { (cabling_of self.new).limit ≡ (cabling_of self.old).limit }
         ensures full { (result ≡ Err Error.Full) ↔ ((cabling_of self.old).limit
             < length (cabling_of self.old).lines + send_room self.old) }
         ensures refused { IfErr result (λ e. (e ≡ Error.Full) ⊎ (e ≡ Error.Memory)) }
@@ -158,6 +169,7 @@ impl Wiring {
             (S.ports_of taker.old) (λ h added. S.hears taker.old h added taker.new)
             self.old self.new) }
         ensures still { AreStill self.new }
+        ensures limit { (cabling_of self.new).limit ≡ (cabling_of self.old).limit }
         ensures ports_stay { S.ports_of taker.new ≡ S.ports_of taker.old }
         ensures not_pending { (result ≡ Err Error.NotPending)
             ↔ (list_any (is_named stamp station) (pending_for self.old) ≡ false) }
