@@ -19,14 +19,14 @@ use Rattle.router.specs.Holding.{Holding}
 use Rattle.station.specs.Members.{EitherHears}
 use Rattle.station.specs.declared.member.Member.{Member}
 use Rattle.station.specs.declared.member.Member.TheVariants as member
-use Rattle.legal_cables.specs.Keeping.{AreKept, Resolves}
+use Rattle.legal_cables.specs.Keeping.{AreKept, Resolves, ResolvesTake}
 use Rattle.legal_cables.proofs.Stations.{node_takes, router_takes}
 
 -- A station that takes a frame makes a block of a transcript with resolution, and still holds the image's contents.
 pub station_takes : (i : Internet) → Passes i → IsBounded i → SeatsFit i → (old new : Wires) (stamp station ports : ℕ)
     → IsLegalResolved i (happened old) → AreKept i old → (m g : Member Holding NodeHolding) → HoldsStation i station m
     → TakesStill stamp station ports (λ x added. EitherHears RouterHears NodeHears m x added g) old new
-    → Resolves i old new × HoldsStation i station g
+    → ResolvesTake i old new stamp station × HoldsStation i station g
 station_takes i ok bounded fit old new stamp station ports legal kept (member.Router h) (member.Router g) holds w =
     router_takes i ok bounded fit old new stamp station ports legal kept h g holds w
 station_takes i ok bounded fit old new stamp station ports legal kept (member.Node h) (member.Node g) holds w =

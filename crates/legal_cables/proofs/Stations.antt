@@ -24,7 +24,7 @@ use Rattle.resolved_runs.specs.ResolvedRuns.{IsLegalResolved}
 use Rattle.resolved_runs.proofs.Erased.{erases}
 use Rattle.router.specs.Answers as router_answers
 use Rattle.router.specs.Holding.{Holding}
-use Rattle.legal_cables.specs.Keeping.{AreKept, Resolves}
+use Rattle.legal_cables.specs.Keeping.{AreKept, Resolves, ResolvesTake}
 use Rattle.legal_cables.proofs.Resolving.{Knows, resolver}
 use Rattle.legal_cables.proofs.Steady.{node_steady, router_steady}
 use Rattle.legal_cables.proofs.Taking.{finish, keeps_for, knows, out, pair, silent, telling, there}
@@ -45,11 +45,11 @@ module _ (i : Internet) (ok : Passes i) (bounded : IsBounded i) (fit : SeatsFit 
     back : HoldsRouter i p.seat.station g → HoldsRouter i station g
     back x = subst (λ s. HoldsRouter i s g) w.1.took.of_station x
 
-    pub router_takes : Resolves i old new × HoldsRouter i station g
+    pub router_takes : ResolvesTake i old new stamp station × HoldsRouter i station g
     router_takes = by p.frame.kind (response_of p.frame.kind (packet_at p.frame.bytes)) refl refl
       where
         by : (k : Kind) (o : Option Packet) → p.frame.kind ≡ k → response_of p.frame.kind (packet_at p.frame.bytes) ≡ o
-            → Resolves i old new × HoldsRouter i station g
+            → ResolvesTake i old new stamp station × HoldsRouter i station g
         by Ddp o kind is =
             let none : response_of p.frame.kind (packet_at p.frame.bytes) ≡ None =
             ap (λ k. response_of k (packet_at p.frame.bytes)) kind in
@@ -87,11 +87,11 @@ module _ (i : Internet) (ok : Passes i) (bounded : IsBounded i) (fit : SeatsFit 
     far_there : q.seat.station ≡ length i.routers + k
     far_there = w.1.took.of_station ∙ far
 
-    pub node_takes : Resolves i old new × HoldsNode i k g
+    pub node_takes : ResolvesTake i old new stamp station × HoldsNode i k g
     node_takes = by q.frame.kind (response_of q.frame.kind (packet_at q.frame.bytes)) refl refl
       where
         by : (y : Kind) (o : Option Packet) → q.frame.kind ≡ y → response_of q.frame.kind (packet_at q.frame.bytes) ≡ o
-            → Resolves i old new × HoldsNode i k g
+            → ResolvesTake i old new stamp station × HoldsNode i k g
         by Ddp o kind is =
             let none : response_of q.frame.kind (packet_at q.frame.bytes) ≡ None =
             ap (λ y. response_of y (packet_at q.frame.bytes)) kind in
@@ -131,4 +131,4 @@ node_sends i ok fit old new l legal kept made own (after, sent, maps, stays) =
       keeps = keeps_for i old 0 l.station (happened old) kept;
       booked = told_booked i (happened old) told;
     }) sent in
-    finish i old new b.0 after kept b.1 b.2 stays maps b.3.keeps
+    (finish i old new b.0 after kept b.1 b.2 stays maps b.3.keeps).0

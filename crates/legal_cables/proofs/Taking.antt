@@ -23,7 +23,7 @@ use Rattle.resolved_runs.specs.ResolvedRuns.{IsLegalResolved, ResolvedBlock, tak
 use Rattle.resolved_runs.proofs.Erased.{erases}
 use Rattle.resolved_runs.proofs.HeldStamps.{put_once}
 use Rattle.resolved_runs.proofs.Told.{IsTold as IsToldSo}
-use Rattle.legal_cables.specs.Keeping.{AreKept, IsKept, Keeps, Resolves}
+use Rattle.legal_cables.specs.Keeping.{AreKept, IsKept, Keeps, Resolves, ResolvesTake}
 use Rattle.legal_cables.proofs.Answering.{answer_heard, nothing_said, this_said}
 use Rattle.legal_cables.proofs.Freed.{answer, freed_block}
 use Rattle.legal_cables.proofs.Releasing.{adds_then}
@@ -37,23 +37,26 @@ keeps_for i w s r t k = record { seats_are = k.seats_are; own = k.own; ranges = 
 -- Cables with these entries and mappings keep what a station's knowledge does.
 pub finish : (i : Internet) (old new : Wires) (block : List Entry) (k : Knowing) → AreKept i old
     → ResolvedBlock i (happened old) block → Adds old.cabling new.cabling block → Stays old new → new.maps ≡ k.maps
-    → Keeps i k (happened old ++ block) → Resolves i old new
-finish i old new block k kept legal adds stays maps keeps = record {
-  block = block;
-  legal = legal;
-  adds = adds;
-  keeps = record {
-    seats_are = adds.seats ∙ kept.seats_are;
-    own = stays.own ∙ kept.own;
-    ranges = stays.ranges ∙ kept.ranges;
-    each = λ n q at.
-        let e = keeps.each n q at in (
-          e.0,
-          ap (λ ms. slice_get ms n) maps ∙ e.1,
-          subst (λ t. IsKept i t q.station q.cable e.0) (sym adds.added) e.2,
-        );
-  };
-}
+    → Keeps i k (happened old ++ block) → (r : Resolves i old new) × (r.block ≡ block)
+finish i old new block k kept legal adds stays maps keeps = (
+  record {
+    block = block;
+    legal = legal;
+    adds = adds;
+    keeps = record {
+      seats_are = adds.seats ∙ kept.seats_are;
+      own = stays.own ∙ kept.own;
+      ranges = stays.ranges ∙ kept.ranges;
+      each = λ n q at.
+          let e = keeps.each n q at in (
+            e.0,
+            ap (λ ms. slice_get ms n) maps ∙ e.1,
+            subst (λ t. IsKept i t q.station q.cable e.0) (sym adds.added) e.2,
+          );
+    };
+  },
+  refl,
+)
 
 module _ (i : Internet) (ok : Passes i) (bounded : IsBounded i) (fit : SeatsFit i) (old new : Wires) (stamp station ports : ℕ)
     (Hears : Hearing → List Output → Type 0) (legal : IsLegalResolved i (happened old)) (kept : AreKept i old)
@@ -104,7 +107,7 @@ module _ (i : Internet) (ok : Passes i) (bounded : IsBounded i) (fit : SeatsFit 
 
   -- Nothing more is told.
   pub silent : response ≡ None → ResolvedBlock i t (taking pair ∷ w.1.took.told)
-      → Knows i pair.seat.station w.1.after (t ++ taking pair ∷ w.1.took.told) → Resolves i old new
+      → Knows i pair.seat.station w.1.after (t ++ taking pair ∷ w.1.took.told) → ResolvesTake i old new stamp station
   silent none block knows_then =
       let told : IsTold old.cabling.seats station None (w.1.taken, w.1.after.maps) (new.cabling, w.0.maps) =
       subst (λ o. IsTold old.cabling.seats station o (w.1.taken, w.1.after.maps) (new.cabling, w.0.maps))
@@ -114,10 +117,11 @@ module _ (i : Internet) (ok : Passes i) (bounded : IsBounded i) (fit : SeatsFit 
       let all : Adds old.cabling new.cabling (taking pair ∷ w.1.took.told) =
       subst (Adds old.cabling new.cabling) (append-nil (taking pair ∷ w.1.took.told))
       (adds_then old.cabling w.1.taken new.cabling (taking pair ∷ w.1.took.told) [] entries told.0) in
-      finish i old new (taking pair ∷ w.1.took.told) w.1.after kept block all w.3 (w.2 ∙ told.1) knows_then.keeps
+      let f = finish i old new (taking pair ∷ w.1.took.told) w.1.after kept block all w.3 (w.2 ∙ told.1) knows_then.keeps in
+      record { all = f.0; rest = w.1.took.told; first = f.1 ∙ ap (λ e. e ∷ w.1.took.told) (sym entry_is) }
 
   -- A response is told.
-  pub telling : (sent : Packet) → response ≡ Some sent → Resolves i old new
+  pub telling : (sent : Packet) → response ≡ Some sent → ResolvesTake i old new stamp station
   telling sent is =
       let quiet : outputs ≡ [] = w.1.took.quiet (subst (λ (o : Option Packet). IsSome o) (sym is) refl) in
       let none = subst (λ os. GoOut places_of Holds (cable_seats i) pair.seat.station (t ++ taking pair ∷ []) os (knowing old station)
@@ -139,5 +143,6 @@ module _ (i : Internet) (ok : Passes i) (bounded : IsBounded i) (fit : SeatsFit 
       (answer i ok bounded t told_t pair there sent is) (w.1.taken, w.1.after.maps) (new.cabling, w.0.maps)) kept.seats_are told)) in
       let b = freed_block i ok bounded t told_t pair there sent is (knowing old station) w.0.maps w.1.taken new.cabling
       (keeps_for i old 0 station t kept) entries.added learnt in
-      finish i old new (taking pair ∷ b.0) (record (knowing old station) { maps = w.0.maps }) kept b.1
-      (adds_then old.cabling w.1.taken new.cabling (taking pair ∷ []) b.0 entries b.2) w.3 w.2 b.3
+      let f = finish i old new (taking pair ∷ b.0) (record (knowing old station) { maps = w.0.maps }) kept b.1
+      (adds_then old.cabling w.1.taken new.cabling (taking pair ∷ []) b.0 entries b.2) w.3 w.2 b.3 in
+      record { all = f.0; rest = b.0; first = f.1 ∙ ap (λ e. e ∷ b.0) (sym entry_is) }

@@ -1,6 +1,6 @@
 -- What live cables keep for the stations of an image: each seat knows the hardware addresses, and holds the datagrams, that its
 -- station knows and holds on its cable after a transcript.
-use Rattle.std.specs.Prelude.{◌≡◌, ◌≤◌, ℕ, List, Some, None, map, slice_get}
+use Rattle.std.specs.Prelude.{◌≡◌, ◌≤◌, ◌∷◌, ℕ, List, Some, None, map, slice_get}
 use Rattle.std.specs.Option.{option_or}
 use Rattle.aarp.specs.Mapping.{Mappings, mapping_of}
 use Rattle.at_base.specs.Address.{same_address}
@@ -8,7 +8,7 @@ use Rattle.at_base.specs.declared.address.Addr.{Addr}
 use Rattle.table_image.specs.Internet.{Internet}
 use Rattle.table_image.specs.Seats.{Seat as PlaceOf, seats}
 use Rattle.cable_model.specs.Logs.{Adds}
-use Rattle.cable_model.specs.Transcript.{Entry, Holding, count}
+use Rattle.cable_model.specs.Transcript.{Entry, Holding, Took, count}
 use Rattle.legal_runs.specs.Stations.{cable_seats}
 use Rattle.live_cables.specs.Finding.{Knowing}
 use Rattle.live_cables.specs.Holding.{datagram}
@@ -44,3 +44,9 @@ pub record Resolves (i : Internet) (old new : Wires) : Type 0 where
   pub legal : ResolvedBlock i (happened old) block
   pub adds : Adds old.cabling new.cabling block
   pub keeps : AreKept i new
+
+-- The entries that were added are such a block, and the first of them is the taking of this frame by this station.
+pub record ResolvesTake (i : Internet) (old new : Wires) (stamp station : ℕ) : Type 0 where
+  pub all : Resolves i old new
+  pub rest : List Entry
+  pub first : all.block ≡ Took stamp station ∷ rest

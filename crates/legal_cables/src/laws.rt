@@ -7,7 +7,7 @@ ghost use Rattle.end_node.specs.Answers as answers_spec;
 ghost use Rattle.end_node.specs.Holding.{NodeHolding};
 ghost use Rattle.image_cables.specs.Settled.{cable_ranges, seat_addresses, seat_maps};
 ghost use Rattle.image_stations.specs.Holders.{HoldsNode, HoldsRouter};
-ghost use Rattle.legal_cables.specs.Keeping.{AreKept, Resolves};
+ghost use Rattle.legal_cables.specs.Keeping.{AreKept, Resolves, ResolvesTake};
 ghost use Rattle.legal_runs.specs.Answers.{IsMade, IsOwn};
 ghost use Rattle.legal_runs.specs.Legs.{Leg};
 ghost use Rattle.legal_runs.specs.Stations.{cable_seats};
@@ -30,14 +30,14 @@ pub fn fresh_cables_keep()
 
 /// If a router with the image's tables takes a frame over cables that keep what their legal
 /// transcript says, and no frame is lost, the entries that follow are a block of a legal transcript
-/// with resolution, the cables keep what their transcript says then, and the router still holds the
+/// with resolution, which begins with the taking, the cables keep what their transcript says then, and the router still holds the
 /// image's tables.
 pub fn routers_takes_resolve()
     ensures { (i : Internet) (old new : Wires) (stamp station ports : ℕ) (h g : Holding)
         → Passes i → IsBounded i → SeatsFit i → IsLegalResolved i (happened old) → AreKept i old
         → HoldsRouter i station h
         → TakesStill stamp station ports (λ x added. Hears h x added g) old new
-        → Resolves i old new × HoldsRouter i station g }
+        → ResolvesTake i old new stamp station × HoldsRouter i station g }
 {}
 
 /// The same of a node with the image's contents.
@@ -46,7 +46,7 @@ pub fn nodes_takes_resolve()
         → Passes i → IsBounded i → SeatsFit i → IsLegalResolved i (happened old) → AreKept i old
         → station ≡ length i.routers + k → HoldsNode i k h
         → TakesStill stamp station ports (λ x added. answers_spec.Hears h x added g) old new
-        → Resolves i old new × HoldsNode i k g }
+        → ResolvesTake i old new stamp station × HoldsNode i k g }
 {}
 
 /// If a node sends a datagram on its own initiative over such cables, and no frame is lost, the
