@@ -1,4 +1,4 @@
-"""What is compared: traces of scripts, plays of internet files, and the transcripts of plays."""
+"""What is compared: traces of scripts, plays of internet files, and the transcripts of both."""
 import itertools
 import os
 import random
@@ -120,6 +120,31 @@ class Traces(Runs):
         return line.decode() if first == "refused" else first
 
 
+def kind_of_entry(line):
+    """The first word of an entry's line, and which packet or how."""
+    words = line.split(b" ")
+    first, frame = words[0].decode(), words[-1]
+    if first == "put":
+        functions = {b"0001": "request", b"0002": "response", b"0003": "probe"}
+        return f"{first} {functions.get(frame[12:16], 'AARP') if frame.startswith(b'0001809B') else 'datagram'}"
+    return f"{first} {words[4].decode()}" if first == "reached" else first
+
+
+class Transcripts(Traces):
+    """Transcripts of scripts over images, some with little room."""
+
+    def compared(self, files, seconds):
+        with open(files[1], "rb") as script:
+            chance = random.Random(script.read())
+        room = [str(chance.randrange(3000))] if chance.random() < 0.3 else []
+        judged = answer([*self.words.judge.split(), "frozen", *files, *room], seconds)
+        ours = answer([*self.words.runs.split(), *files, *room], seconds)
+        return difference(ours, judged), judged, ending(judged)
+
+    def kind_of(self, line):
+        return line.decode() if line.startswith(b"refused") else kind_of_entry(line)
+
+
 class Plays(Runs):
     """Plays of internet files, and the images that are left."""
 
@@ -176,10 +201,4 @@ class Worlds(Runs):
         return difference(ours, judged), judged, "played" if judged[0] == 0 else ending(judged)
 
     def kind_of(self, line):
-        """The first word, and which packet or how."""
-        words = line.split(b" ")
-        first, frame = words[0].decode(), words[-1]
-        if first == "put":
-            functions = {b"0001": "request", b"0002": "response", b"0003": "probe"}
-            return f"{first} {functions.get(frame[12:16], 'AARP') if frame.startswith(b'0001809B') else 'datagram'}"
-        return f"{first} {words[4].decode()}" if first == "reached" else first
+        return kind_of_entry(line)

@@ -236,14 +236,18 @@ class Made:
 
 
 class InVersion2:
-    """What makes the image of an internet one of version 2: ports and nodes know some of the stations of their cables."""
+    """What makes the image of an internet one of version 2: ports and nodes know none, some or all of the stations of their
+    cables."""
 
     version = 2
     most_zones = 255
+    share = None
 
     def mappings(self, cable):
         chance = self.chance
-        known = {address: station for address, station in self.stations(cable) if chance.random() < 0.5}
+        if self.share is None:
+            self.share = chance.choice((0, 0.5, 1))
+        known = {address: station for address, station in self.stations(cable) if chance.random() < self.share}
         if self.spoiled and chance.random() < 0.03:
             self.spoil_mappings(known, cable)
         order = sorted(known)

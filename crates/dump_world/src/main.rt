@@ -2,11 +2,10 @@
 //! for each entry. `scripts/compare-runs` compares the lines with those of another program.
 #![tactic(auto)]
 
-mod lines;
-
 use at_base::Error;
+use cable_model::Entry;
+use dump_lines::{number_of, put_entry};
 use internet_file::read;
-use lines::put_entry;
 use rtmp::{RouteTable, Routes};
 use std::alloc::Global;
 use std::io::{Read, Write, writer};
@@ -25,10 +24,18 @@ fn play<T: RouteTable>(world: &mut World<T>) -> Result<(), Error> {
     Ok(())
 }
 
+/// The bytes that an entry of a world names, and no bytes if it names none.
+fn bytes_of<'a, T: RouteTable>(world: &'a World<T>, entry: &Entry) -> &'a [u8] {
+    match number_of(entry) {
+        Some(number) => world.bytes(number),
+        None => &[],
+    }
+}
+
 /// Prints the transcript of a world.
 fn print<T: RouteTable, W: Write>(world: &World<T>, output: &mut Output<W>) -> Result<(), Error> {
     for entry in world.transcript() {
-        put_entry(&mut output.text, world, entry)?;
+        put_entry(&mut output.text, entry, bytes_of(world, entry))?;
         output.pass_on()?;
     }
     output.flush()

@@ -5,4 +5,5 @@ pub mod Refused
 pub mod Asked
 pub mod Asking
 pub mod Promised
+pub mod AtRest
 mod Examples

@@ -1,79 +1,119 @@
 -- Consequences for a run over frozen tables.
-use Rattle.std.proofs.Common.{Bool, Err, List, None, Ok, Option, Result, Some, ap, arith, false, length, refl, sym, true, ℕ, ◌∙◌, ◌≡◌}
+use Rattle.std.proofs.Common.{Err, List, None, Ok, Option, Result, Some, length, refl, sym, ℕ, ◌∙◌, ◌≡◌}
 use Rattle.at_base.specs.declared.error.Error.{Error}
-use Rattle.audit.specs.Routing.{home}
-use Rattle.cable_model.specs.Logs.{transcript}
-use Rattle.cable_model.specs.Pending.{Pair, pending}
-use Rattle.cable_model.specs.Transcript.{count}
-use Rattle.ddp.specs.Bodies.{target}
+use Rattle.audit.specs.Rules.{Passes}
+use Rattle.cable_model.specs.Logs.{transcript as said}
 use Rattle.events.specs.declared.event.Event.{Event}
 use Rattle.events.specs.declared.event.Event.TheVariants.{Send, Request, Take}
 use Rattle.frozen.specs.Events.{Another, Happened, Happens, Nothing, Sends, Takes, header_for}
 use Rattle.frozen.specs.Orders.{ask_data, ask_order, send_order}
-use Rattle.frozen.specs.Promises.{AreAllCarried, HasHops, HaveOnlyAsked, IsAtRest, IsEachOnce, LooksUp}
-use Rattle.frozen.specs.Runs.{IsFrozen, Running}
+use Rattle.frozen.specs.Promises.{AreAllAskedFor, AreAllCarried, AreAllHeard, AreAskedForOn, AreCarriedOn, AreHeardOn, HasHops, HasHopsOn}
+use Rattle.frozen.specs.Promises.{HaveOnlyAsked}
+use Rattle.frozen.specs.Promises.{IsEachOnce, IsEachOnceOn, IsLookedUpOn, LooksUp}
+use Rattle.frozen.specs.Runs.{IsFrozen, IsLegalOn, Running}
 use Rattle.frozen.specs.declared.order.Order.{Order}
 use Rattle.image_stations.specs.Finding.{station_at}
+use Rattle.legal_runs.specs.Legal.{IsLegal}
+use Rattle.resolved_runs.specs.Fitting.{SeatsFit}
+use Rattle.resolved_runs.specs.ResolvedRuns.{IsLegalResolved}
+use Rattle.table_image.specs.declared.version.Version.TheVariants.{V1, V2}
 use Rattle.legal_runs.proofs.Carried.{are_carried}
 use Rattle.legal_runs.proofs.Conserved.{conserved, hops_are_left}
 use Rattle.legal_runs.proofs.LookedUp.{are_looked_up}
 use Rattle.legal_runs.proofs.Handing.{are_by_hand}
 use Rattle.legal_runs.proofs.Takers.{are_taken_there}
-use Rattle.legal_runs.specs.Counts.{carries, reached, sent}
-use Rattle.legal_runs.specs.Lookups.{asked, forwarded, lookups, taken, waits}
-use Rattle.legal_runs.specs.Requests.{is_among, listing, zone_of}
-use Rattle.legal_runs.specs.Stations.{cable_seats}
+use Rattle.legal_runs.proofs.LossyLaws.{handed_with_losses}
+use Rattle.legal_runs.specs.Lookups.{NodesOnlyAsk}
+use Rattle.resolved_runs.proofs.AskedRuns.{asked_for}
+use Rattle.resolved_runs.proofs.Balances.{conserved_resolved, hops_resolved, looked_up_resolved}
+use Rattle.resolved_runs.proofs.CarriedOrHeld.{carried_or_held}
+use Rattle.resolved_runs.proofs.Erased.{erases}
+use Rattle.resolved_runs.proofs.Heard.{heard_always, heard_resolved}
+use Rattle.resolved_runs.proofs.HeldStamps.{held_once, put_once}
+use Rattle.resolved_runs.proofs.TakenThere.{taken_there}
+use Rattle.resolved_runs.specs.Plain.{plain}
+use Rattle.run_cables.specs.Wired.{happened}
+use Rattle.run_cables.specs.declared.wiring.Wiring.{Wiring}
+use Rattle.run_cables.specs.declared.wiring.Wiring.TheVariants.{Asking, Known}
+use Rattle.table_image.specs.Internet.{Internet}
+
+-- ---- Each promise, by the two kinds of cables
+
+each_once_on : (i : Internet) (w : Wiring) → Passes i → IsLegalOn i w → IsEachOnceOn i w
+each_once_on i (Known c) ok legal = conserved i (said c) ok legal.1
+each_once_on i (Asking w) ok legal =
+    let e = erases i ok legal.1 (said w.cabling) legal.2 in
+    conserved_resolved i (said w.cabling) ok e.told e.legal
+
+has_hops_on : (i : Internet) (w : Wiring) → Passes i → IsLegalOn i w → HasHopsOn i w
+has_hops_on i (Known c) ok legal = hops_are_left i (said c) ok legal.1
+has_hops_on i (Asking w) ok legal =
+    let e = erases i ok legal.1 (said w.cabling) legal.2 in
+    hops_resolved i (said w.cabling) ok e.told e.legal
+
+all_carried_on : (i : Internet) (w : Wiring) → Passes i → IsLegalOn i w → AreCarriedOn i w
+all_carried_on i (Known c) ok legal =
+    (are_carried i (said c) ok legal.1, are_taken_there i (said c) ok legal.1, are_by_hand i ok (said c) legal.1)
+all_carried_on i (Asking w) ok legal =
+    let t = said w.cabling in
+    let e = erases i ok legal.1 t legal.2 in
+    (carried_or_held i ok t e.told e.legal, taken_there i t e.told, handed_with_losses i (plain i t) ok e.legal)
+
+looks_up_on : (i : Internet) (w : Wiring) → Passes i → IsLegalOn i w → NodesOnlyAsk i (happened w) → (k : List ℕ) → IsLookedUpOn i w k
+looks_up_on i (Known c) ok legal only k = are_looked_up i (said c) k ok legal.1 only
+looks_up_on i (Asking w) ok legal only k =
+    let e = erases i ok legal.1 (said w.cabling) legal.2 in
+    looked_up_resolved i (said w.cabling) ok e.told e.legal k only
+
+asked_for_on : (i : Internet) (w : Wiring) → Passes i → IsLegalOn i w → AreAskedForOn i w
+asked_for_on i (Known c) ok legal = tt
+asked_for_on i (Asking w) ok legal =
+    let t = said w.cabling in
+    let e = erases i ok legal.1 t legal.2 in
+    (held_once i t e.told, put_once i t e.told, asked_for i ok legal.1 t legal.2)
+
+heard_on : (i : Internet) (w : Wiring) → Passes i → IsLegalOn i w → AreHeardOn i w
+heard_on i (Known c) ok legal = tt
+heard_on i (Asking w) ok legal =
+    let t = said w.cabling in
+    let e = erases i ok legal.1 t legal.2 in
+    (heard_always i t ok e.told e.legal, heard_resolved i t ok e.told e.legal (asked_for i ok legal.1 t legal.2))
 
 pub each_once : (r : Running) → IsFrozen r → IsEachOnce r
-each_once r f = conserved r.internet (transcript r.cabling) f.passes f.legal
+each_once r f = each_once_on r.internet r.wiring f.passes f.legal
 
 pub has_hops : (r : Running) → IsFrozen r → HasHops r
-has_hops r f = hops_are_left r.internet (transcript r.cabling) f.passes f.legal
+has_hops r f = has_hops_on r.internet r.wiring f.passes f.legal
 
 pub all_carried : (r : Running) → IsFrozen r → AreAllCarried r
-all_carried r f = (
-  are_carried r.internet (transcript r.cabling) f.passes f.legal,
-  are_taken_there r.internet (transcript r.cabling) f.passes f.legal,
-  are_by_hand r.internet f.passes (transcript r.cabling) f.legal,
-)
+all_carried r f = all_carried_on r.internet r.wiring f.passes f.legal
 
 pub looks_up : (r : Running) → IsFrozen r → HaveOnlyAsked r → LooksUp r
-looks_up r f only = (only, λ k. are_looked_up r.internet (transcript r.cabling) k f.passes f.legal only)
+looks_up r f only = (only, looks_up_on r.internet r.wiring f.passes f.legal only)
 
--- ---- If nothing is pending
+pub all_asked_for : (r : Running) → IsFrozen r → AreAllAskedFor r
+all_asked_for r f = asked_for_on r.internet r.wiring f.passes f.legal
 
-module _ (r : Running) (frozen : IsFrozen r) (rest : IsAtRest r) where
-  -- No pending pair passes a test.
-  none_left : (f : Pair → Bool) → count f (pending (cable_seats r.internet) (transcript r.cabling)) ≡ 0
-  none_left f = ap (λ seats. count f (pending seats (transcript r.cabling))) (sym frozen.seats) ∙ ap (count f) rest
+pub all_heard : (r : Running) → IsFrozen r → AreAllHeard r
+all_heard r f = heard_on r.internet r.wiring f.passes f.legal
 
-pub at_rest_arrived : (r : Running) (b : List ℕ) (c : ℕ) → IsFrozen r → IsAtRest r → home r.internet (target b).net ≡ Some c
-    → sent b (transcript r.cabling) ≡ reached b c (transcript r.cabling)
-at_rest_arrived r b c frozen rest is =
-    let counted = ((each_once r frozen).listed b c is).counted in
-    let none = none_left r frozen rest (carries r.internet b) in
-    omega (arith, counted, none)
+-- ---- By the image's version
 
-pub at_rest_taken : (r : Running) (k : List ℕ) → IsFrozen r → IsAtRest r → HaveOnlyAsked r
-    → asked r.internet k (transcript r.cabling) ≡ taken r.internet k (transcript r.cabling)
-at_rest_taken r k frozen rest only =
-    let counted = ((looks_up r frozen only).1 k).asked_is in
-    let none = none_left r frozen rest (waits r.internet k) in
-    omega (arith, counted, none)
+-- The transcript of a run over an image of version 1 is legal.
+pub legal_known : (i : Internet) (w : Wiring) → IsLegalOn i w → i.version ≡ V1 → IsLegal i (happened w)
+legal_known i (Known c) legal v = legal.1
+legal_known i (Asking w) legal v = absurd (two_is_one (sym legal.0 ∙ v))
+  where
+    two_is_one : V2 ≡ V1 → ⊥
+    two_is_one e = cc
 
-pub at_rest_looked_up : (r : Running) (k : List ℕ) (c : ℕ) → IsFrozen r → IsAtRest r → HaveOnlyAsked r
-    → is_among c (listing r.internet (zone_of k)) ≡ true
-    → lookups r.internet k c (transcript r.cabling) ≡ taken r.internet k (transcript r.cabling)
-at_rest_looked_up r k c frozen rest only is =
-    let counted = ((looks_up r frozen only).1 k).listed c is in
-    let none = none_left r frozen rest (forwarded r.internet k c) in
-    omega (arith, counted, none)
-
-pub not_looked_up : (r : Running) (k : List ℕ) (c : ℕ) → IsFrozen r → HaveOnlyAsked r
-    → is_among c (listing r.internet (zone_of k)) ≡ false → lookups r.internet k c (transcript r.cabling) ≡ 0
-not_looked_up r k c frozen only is =
-    let counted = ((looks_up r frozen only).1 k).others c is in
-    omega (arith, counted)
+-- The transcript of a run over an image of version 2 is legal with resolution.
+pub legal_resolved : (i : Internet) (w : Wiring) → IsLegalOn i w → i.version ≡ V2 → SeatsFit i × IsLegalResolved i (happened w)
+legal_resolved i (Known c) legal v = absurd (one_is_two (sym legal.0 ∙ v))
+  where
+    one_is_two : V1 ≡ V2 → ⊥
+    one_is_two e = cc
+legal_resolved i (Asking w) legal v = (legal.1, legal.2)
 
 -- ---- The internet stays the same
 

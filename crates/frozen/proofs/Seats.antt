@@ -13,19 +13,18 @@ use Rattle.audit.specs.Rules.{Passes}
 use Rattle.table_image.specs.Seats.{Seat as PlaceOf, port_seat, seats}
 use Rattle.cable_model.proofs.Counting.{contained_at, map_at}
 use Rattle.cable_model.proofs.Finds.{contains_at}
-use Rattle.cable_model.specs.Logs.{transcript}
 use Rattle.cable_model.specs.Pending.{pending}
 use Rattle.cable_model.specs.Outcomes.{AreSeatsOf, has_cable, is_seated}
 use Rattle.cable_model.specs.declared.seat.Seat.{Seat}
 use Rattle.end_node.specs.Holding.{NodeHolding}
 use Rattle.frozen.specs.Events.{IsNext}
-use Rattle.frozen.specs.Runs.{IsFrozen, Running, ports_of}
+use Rattle.frozen.specs.Runs.{IsFrozen, Running, ports_of, transcript}
 use Rattle.image_stations.specs.Finding.{is_at, spot_of, station_at}
 use Rattle.image_stations.specs.Holders.{HoldStations, HoldsNode, HoldsRouter, choice_on}
 use Rattle.station.specs.declared.member.Member.{Member}
 use Rattle.station.specs.declared.member.Member.TheVariants as member
 use Rattle.image_stations.specs.declared.whereabouts.Spot.{Spot}
-use Rattle.legal_stations.proofs.Arrivals.{arrives}
+use Rattle.legal_cables.proofs.Members.{taker_within}
 use Rattle.legal_stations.proofs.NodeSeats.{node_seat, past_end, seat_of_node, station_within}
 use Rattle.legal_stations.proofs.Ports.{port_number, port_of, seat_of_port}
 use Rattle.legal_runs.specs.Stations.{cable_seat, cable_seats, is_on, port_on}
@@ -128,11 +127,10 @@ seated_cable i s c h =
 pub next_within : (r : Running) → IsFrozen r → (stamp s : ℕ) → IsNext r stamp s → s < length r.stations
 next_within r frozen stamp s least =
     let i = r.internet in
-    let t = transcript r.cabling in
+    let t = transcript r in
     let p = least.there.0 in
     let there : Contains (pending (cable_seats i) t) p = subst (λ l. Contains (pending l t) p) frozen.seats least.there.1 in
-    let a = arrives i frozen.passes t p frozen.legal there in
-    let station : a.seat.station ≡ s = ap (λ (y : Seat). y.station) (sym a.seat_is) ∙ least.there.3 in
-    let within = station_within i a.place a.seat a.at in
+    let within = taker_within i t p there in
+    let station : p.seat.station ≡ s = least.there.3 in
     let number = frozen.holders.number in
     omega (arith, station, within, number)

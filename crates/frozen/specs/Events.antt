@@ -8,17 +8,16 @@ use Rattle.at_base.specs.declared.error.Fault.{Fault}
 use Rattle.at_base.specs.declared.error.What.TheVariants as what
 use Rattle.audit.specs.Rules.{Passes}
 use Rattle.audit.specs.Verdicts.{IsFirst}
-use Rattle.cable_model.specs.Logs.{Adds, transcript}
-use Rattle.cable_model.specs.Outcomes.{IsLeast, sent_entries}
-use Rattle.cable_model.specs.Pending.{pending}
+use Rattle.cable_model.specs.Outcomes.{IsLeast}
 use Rattle.ddp.specs.declared.header.Header.{Header}
 use Rattle.frozen.specs.Orders.{ask_data, ask_order, bytes_for, send_order}
-use Rattle.frozen.specs.Runs.{Running, TakenBy, take_refusal}
+use Rattle.frozen.specs.Runs.{Running, TakenBy, cabling, take_refusal}
 use Rattle.events.specs.declared.event.Event.{Event}
 use Rattle.events.specs.declared.event.Event.TheVariants.{Send, Request, Take}
 use Rattle.frozen.specs.declared.order.Order.{Order}
 use Rattle.image_stations.specs.Finding.{station_at}
 use Rattle.legal_runs.specs.Legs.{places_of}
+use Rattle.run_cables.specs.Wired.{IsSentOn, pending_for, send_room}
 use Rattle.table_image.specs.Internet.{Internet}
 
 -- The header of a datagram whose source isn't set yet.
@@ -36,8 +35,7 @@ header_for target target_socket source_socket kind summed = record {
 pub record SentBy (old : Running) (o : Order) (payload : List ℕ) (new : Running) : Type 0 where
   pub internet : new.internet ≡ old.internet
   pub stations : new.stations ≡ old.stations
-  pub entries :
-      Adds old.cabling new.cabling (sent_entries (places_of old.internet) old.cabling o.cable o.station o.next (bytes_for o payload))
+  pub sent : IsSentOn (places_of old.internet) o.station o.cable o.next (bytes_for o payload) old.wiring new.wiring
 
 -- There is an order, and a node sent a datagram with this data by it.
 abbrev pub Sends : Running → Result Order Error → List ℕ → Running → Type 0
@@ -59,7 +57,7 @@ Happens old (Take stamp station) new = Takes old stamp (station_at old.internet 
 -- Why an order isn't carried out: the error in place of an order, or too little room for the entries that may follow.
 abbrev pub order_refusal : Running → Result Order Error → Option Error
 order_refusal r (Err e) = Some e
-order_refusal r (Ok o) = cond (nat_lt r.cabling.limit (length r.cabling.lines + 3)) (Some Full) None
+order_refusal r (Ok o) = cond (nat_lt (cabling r).limit (length (cabling r).lines + send_room r.wiring)) (Some Full) None
 
 -- Why a take is refused: no such station, or the first error of `take_refusal`.
 abbrev pub taking_refusal : Running → ℕ → Option ℕ → Option Error
@@ -96,7 +94,7 @@ pub record Stopped (old : Running) (es : List Event) (k : ℕ) (e : Error) (new 
 
 -- The lowest pending stamp, and the lowest station for which it is pending.
 abbrev pub IsNext : Running → ℕ → ℕ → Type 0
-IsNext r stamp s = IsLeast (pending r.cabling.seats (transcript r.cabling)) stamp s
+IsNext r stamp s = IsLeast (pending_for r.wiring) stamp s
 
 -- n times, the frame with the lowest pending stamp was taken by the lowest station for which it was pending.
 pub data Drained : Running → ℕ → Running → Type 0 where
@@ -109,7 +107,7 @@ pub record DrainsTo (old : Running) (most : ℕ) (none_left : Bool) (new : Runni
   pub number : ℕ
   pub few : number ≤ most
   pub drained : Drained old number new
-  pub left : none_left ≡ (length (pending new.cabling.seats (transcript new.cabling)) == 0)
+  pub left : none_left ≡ (length (pending_for new.wiring) == 0)
   pub all : none_left ≡ false → number ≡ most
 
 -- Fewer than `most` frames were taken, and the next take has this error.

@@ -9,6 +9,7 @@ use Rattle.events.specs.declared.event.Event.TheVariants.{Send}
 use Rattle.frozen.specs.Runs.{Running}
 use Rattle.legal_runs.specs.Example.{plain}
 use Rattle.legal_runs.specs.Stations.{cable_seats}
+use Rattle.run_cables.specs.declared.wiring.Wiring.TheVariants.{Known}
 use Rattle.station.specs.declared.heard.Kind.TheVariants.{Ddp}
 use Rattle.station.specs.declared.output.DropCause.TheVariants.{NoRoute}
 
@@ -21,14 +22,14 @@ abbrev pub run_of : List Line → Running
 run_of lines = record {
   internet = three_cables;
   stations = [];
-  cabling = record {
+  wiring = Known (record {
     seats = cable_seats three_cables;
     limit = 4;
     rooms = known_rooms;
     lines = lines;
     kept = plain 0 50 9 ∷ [];
     spare = 0;
-  };
+  });
 }
 
 -- Its router hasn't taken the datagram yet.

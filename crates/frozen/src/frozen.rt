@@ -5,20 +5,21 @@ ghost use Rattle.std.specs.Prelude.{nat_lt, not, take, true, false};
 ghost use Rattle.std.specs.Prelude.{IfErr, IfOk, OnErr, OnOk};
 ghost use Rattle.std.specs.List.{AllByRecursion as Each};
 ghost use Rattle.audit.specs.Rules.{Passes};
-ghost use Rattle.cable_model.specs.Rooms.{known_rooms};
-ghost use Rattle.cable_model.specs.Logs.{bytes_at, pending_on};
+ghost use Rattle.cable_model.specs.Logs.{bytes_at};
 ghost use Rattle.ddp.specs.Bodies.{body};
 ghost use Rattle.ddp.specs.Datagram.{datagram_of};
 ghost use Rattle.frozen.specs.Events.{DrainStops, DrainsTo, Happened, Happens, IsRefused};
 ghost use Rattle.frozen.specs.Events.{IsUnstarted, Sends, SentBy, Stopped, order_refusal, refusal};
 ghost use Rattle.frozen.specs.Orders as spec;
 ghost use Rattle.frozen.specs.Orders.{IsFair, bytes_for};
-ghost use Rattle.frozen.specs.Promises.{AreAllCarried, HasHops, HaveOnlyAsked, IsEachOnce};
-ghost use Rattle.frozen.specs.Promises.{LooksUp, OnlyAsks, is_routers_request};
+ghost use Rattle.frozen.specs.Promises.{AreAllAskedFor, AreAllCarried, AreAllHeard, HasHops};
+ghost use Rattle.frozen.specs.Promises.{HaveOnlyAsked, IsEachOnce, LooksUp, OnlyAsks};
+ghost use Rattle.frozen.specs.Promises.{is_routers_request};
 ghost use Rattle.frozen.specs.Runs.{IsFrozen, TakenBy, take_refusal};
 ghost use Rattle.image_stations.specs.Holders.{AreFresh};
 ghost use Rattle.legal_runs.specs.Requests as requests_spec;
-ghost use Rattle.legal_runs.specs.Stations.{cable_seats};
+ghost use Rattle.run_cables.specs.Wired.{AreFresh as AreFreshCables};
+ghost use Rattle.run_cables.specs.Wired.{cabling_of, pending_for, send_room};
 ghost use Rattle.station.specs.Lawful.{IsNext};
 ghost use Rattle.at_base.specs.Limits.{max_data};
 
@@ -27,38 +28,45 @@ use crate::orders::{ask_data, ask_order, send_order};
 use crate::steps;
 use at_base::{Addr, Error, What};
 use audit::{Verdict, audit};
-use cable_model::{Cables, Entry, Rooms};
+use cable_model::Entry;
 use ddp::Header;
 use end_node::EndNode;
 use events::Event;
-use image_stations::{Whereabouts, seats_of, stations_of};
+use image_stations::{Whereabouts, stations_of};
 use nbp::Tuple;
 use router::Router;
 use rtmp::RouteTable;
+use run_cables::Wiring;
 use station::{Member, slices_have_bytes};
 use std::alloc::Global;
 use std::marker::Model;
 use table_image::Image;
 
 /// A run over the frozen tables of an internet that passes the audit: the contents of its stations,
-/// and the transcript of its cables. Four clauses of each call that starts or continues a run hold
+/// and the transcript of its cables. Six clauses of each call that starts or continues a run hold
 /// of the run after the call, also if the call returns an error. Each datagram to a listed network
 /// is under way once or has reached its destination's cable once (`conserved`); it has enough hops
 /// left (`hops`); at most fifteen routers carried it (`carried`); and, as long as no node sends a
 /// forward request or a lookup, each request for names that was taken has had one lookup, or has a
 /// forward request under way, on exactly the cables that list its zone (`looked_up`).
+///
+/// Over an image of version 2, stations know the hardware addresses that the image maps, ask for
+/// others, and hold datagrams meanwhile, at most sixteen at a port. There a datagram may also be
+/// held for a router, or have been given up where sixteen others were held. What is held for a
+/// station is asked for (`asked_for`); and where no frame is pending, each datagram to a station's
+/// address was taken by that station, or given up, as often as it was sent (`heard`).
 #[derive(Drop)]
 pub struct Frozen<T: RouteTable> {
     places: Whereabouts,
     stations: Vec<Member<Router<T>, EndNode>>,
-    cables: Cables,
+    wiring: Wiring,
     limit: u32,
     alloc: Global,
 }
 
 impl<T: RouteTable> Model for Frozen<T> {
-    ghost use Rattle.cable_model.specs.Rooms.{known_rooms};
     ghost use Rattle.frozen.specs.Runs.{IsFrozen, Running};
+    ghost use Rattle.run_cables.specs.Wired.{AreStill, cabling_of};
     ghost use Rattle.std.specs.Prelude.{◌≡◌};
 
     ghost Value = { Running };
@@ -66,14 +74,14 @@ impl<T: RouteTable> Model for Frozen<T> {
     ghost view = { λ f. record {
       internet = f.places;
       stations = f.stations.items;
-      cabling = f.cables;
+      wiring = f.wiring;
     } };
 
     ghost invariant = { λ f. IsFrozen (record {
       internet = f.places;
       stations = f.stations.items;
-      cabling = f.cables;
-    }) × (f.limit ≡ f.cables.limit) × (f.cables.rooms ≡ known_rooms) };
+      wiring = f.wiring;
+    }) × (f.limit ≡ (cabling_of f.wiring).limit) × AreStill f.wiring };
 }
 
 impl<T: RouteTable> Frozen<T> {
@@ -82,20 +90,16 @@ impl<T: RouteTable> Frozen<T> {
     ///
     /// Errors: `NotAudited` with the audit's fault if the image fails the audit; `Memory`.
     pub fn start(alloc: Global, image: Image, limit: u32) -> Result<Frozen<T>, Error>
-        ensures started { IfOk result (λ run. (run.internet ≡ image) × (run.cabling ≡ record {
-          seats = cable_seats image;
-          limit = limit;
-          rooms = known_rooms;
-          lines = [];
-          kept = [];
-          spare = 0;
-        })) }
+        ensures started { IfOk result (λ run. (run.internet ≡ image)
+            × AreFreshCables image limit run.wiring) }
         // Its stations have received nothing yet.
         ensures fresh { IfOk result (λ run. AreFresh run.stations) }
         ensures passes { OnOk result (Passes image) }
         ensures conserved { IfOk result IsEachOnce }
         ensures hops { IfOk result HasHops }
         ensures carried { IfOk result AreAllCarried }
+        ensures asked_for { IfOk result AreAllAskedFor }
+        ensures heard { IfOk result AreAllHeard }
         ensures looked_up { IfOk result LooksUp }
         ensures refused { IfErr result (IsUnstarted image) }
     {
@@ -105,14 +109,13 @@ impl<T: RouteTable> Frozen<T> {
         }
         // Only the prover needs this read: it shows that the image is within its limits.
         let _cables = image.cables();
-        let seats = seats_of(alloc, &image)?;
-        let cables = Cables::new(alloc, seats.as_slice(), limit, Rooms::KNOWN)?;
+        let wiring = Wiring::of(alloc, &image, limit)?;
         let stations = stations_of(alloc, &image)?;
         let places = Whereabouts::of(alloc, image)?;
         Ok(Frozen {
             places,
             stations,
-            cables,
+            wiring,
             limit,
             alloc,
         })
@@ -120,23 +123,23 @@ impl<T: RouteTable> Frozen<T> {
 
     /// The transcript, in order. Allocates nothing.
     pub fn transcript(&self) -> &[Entry]
-        ensures { result.now ≡ self.now.cabling.lines }
+        ensures { result.now ≡ (cabling_of self.now.wiring).lines }
     {
-        self.cables.transcript()
+        self.wiring.transcript()
     }
 
     /// The bytes with a number that entries name; empty for any other number. Allocates nothing.
     pub fn bytes(&self, number: u32) -> &[u8]
-        ensures { result.now ≡ bytes_at self.now.cabling.kept number }
+        ensures { result.now ≡ bytes_at (cabling_of self.now.wiring).kept number }
     {
-        self.cables.bytes(number)
+        self.wiring.bytes(number)
     }
 
     /// The number of pending pairs of a frame and a station. Allocates nothing.
     pub fn pending_count(&self) -> usize
-        ensures { result ≡ length (pending_on self.now.cabling) }
+        ensures { result ≡ length (pending_for self.now.wiring) }
     {
-        self.cables.pending_count()
+        self.wiring.pending_count()
     }
 
     /// The image of the internet. Allocates nothing.
@@ -151,9 +154,9 @@ impl<T: RouteTable> Frozen<T> {
     fn has_room(&self, more: usize) -> bool
         requires { more ≤ 1000 }
         ensures { result
-            ≡ not (nat_lt self.now.cabling.limit (length self.now.cabling.lines + more)) }
+            ≡ not (nat_lt (cabling_of self.now.wiring).limit (length (cabling_of self.now.wiring).lines + more)) }
     {
-        self.cables.transcript().len() + more <= self.limit as usize
+        self.wiring.transcript().len() + more <= self.limit as usize
     }
 
     /// A node sends a datagram with this data, by the order.
@@ -171,17 +174,18 @@ impl<T: RouteTable> Frozen<T> {
             → is_routers_request (body (bytes_for order.now payload.now)) ≡ false
             → HaveOnlyAsked self.new }
         ensures full { (result ≡ Err Error.Full)
-            ↔ (self.old.cabling.limit < length self.old.cabling.lines + 3) }
+            ↔ ((cabling_of self.old.wiring).limit
+            < length (cabling_of self.old.wiring).lines + send_room self.old.wiring) }
         ensures refused { IfErr result (λ e. (e ≡ Error.Full) ⊎ (e ≡ Error.Memory)) }
         ensures kept { OnErr result (self.new ≡ self.old) }
     {
-        if !self.has_room(Rooms::KNOWN.send.lines) {
+        if !self.has_room(self.wiring.send_room()) {
             return Err(Error::Full);
         }
         match ddp::write(self.alloc, &order.header, payload) {
             Ok(bytes) => {
                 slices_have_bytes(bytes.as_slice());
-                steps::send(&mut self.cables, &self.places, order, bytes)
+                self.wiring.send(&self.places, order.station, order.cable, order.next, bytes)
             }
             Err(_) => Err(Error::Memory),
         }
@@ -203,7 +207,7 @@ impl<T: RouteTable> Frozen<T> {
             Ok(order) => order,
             Err(error) => return Err(error),
         };
-        if !self.has_room(Rooms::KNOWN.send.lines) {
+        if !self.has_room(self.wiring.send_room()) {
             return Err(Error::Full);
         }
         let data = match ask_data(self.alloc, self.places.image(), node, id, name) {
@@ -226,7 +230,7 @@ impl<T: RouteTable> Frozen<T> {
         ensures kept { OnErr result (self.new ≡ self.old) }
     {
         steps::take(
-            &mut self.cables,
+            &mut self.wiring,
             &mut self.stations,
             &self.places,
             stamp,
@@ -240,14 +244,17 @@ impl<T: RouteTable> Frozen<T> {
     /// for a datagram to network 0, `NoSuch(Station)` if it isn't for node 255; otherwise
     /// `NoRouter` if no router is named and the node has none, and `NoSuch(Router)` if the named
     /// one has no port with that address on the node's cable; `TooLong` above 586 bytes of data;
-    /// `Full` if there is room for fewer than 3 entries; `Memory`. Errors of `Take`:
-    /// `NoSuch(Station)` if no station has the address; `NotPending`; `Full` if there is room for
-    /// fewer than 771 entries; `Memory`. After an error nothing has changed.
+    /// `Full` if there is room for fewer than 3 entries, or 5 over an image of version 2; `Memory`.
+    /// Errors of `Take`: `NoSuch(Station)` if no station has the address; `NotPending`; `Full` if
+    /// there is room for fewer than 771 entries, or 1,285 over an image of version 2; `Memory`.
+    /// After an error nothing has changed.
     pub fn event(&mut self, event: &Event) -> Result<(), Error>
         ensures happens { OnOk result (Happens self.old event.now self.new) }
         ensures conserved { IsEachOnce self.new }
         ensures hops { HasHops self.new }
         ensures carried { AreAllCarried self.new }
+        ensures asked_for { AreAllAskedFor self.new }
+        ensures heard { AreAllHeard self.new }
         ensures looked_up { LooksUp self.old → OnlyAsks self.old.internet event.now
             → LooksUp self.new }
         ensures ok { OnOk result (refusal self.old event.now ≡ None) }
@@ -298,6 +305,8 @@ impl<T: RouteTable> Frozen<T> {
         ensures conserved { IsEachOnce self.new }
         ensures hops { HasHops self.new }
         ensures carried { AreAllCarried self.new }
+        ensures asked_for { AreAllAskedFor self.new }
+        ensures heard { AreAllHeard self.new }
         ensures looked_up { LooksUp self.old → Each (OnlyAsks self.old.internet) events.now
             → LooksUp self.new }
         ensures stopped { IfErr result (λ stop. Stopped self.old events.now stop.0 stop.1 self.new) }
@@ -322,13 +331,15 @@ impl<T: RouteTable> Frozen<T> {
         ensures conserved { IsEachOnce self.new }
         ensures hops { HasHops self.new }
         ensures carried { AreAllCarried self.new }
+        ensures asked_for { AreAllAskedFor self.new }
+        ensures heard { AreAllHeard self.new }
         ensures looked_up { LooksUp self.old → LooksUp self.new }
         ensures stopped { IfErr result (λ e. DrainStops self.old most e self.new) }
     {
         // Only the prover needs this read: the run's invariant holds also if nothing is taken.
         let _ = &self.places;
         for _turn in 0..most {
-            match self.cables.first() {
+            match self.wiring.first() {
                 None => return Ok(true),
                 Some((stamp, station)) => match self.take(stamp, station) {
                     Ok(()) => {}
@@ -336,6 +347,6 @@ impl<T: RouteTable> Frozen<T> {
                 },
             }
         }
-        Ok(self.cables.pending_count() == 0)
+        Ok(self.wiring.pending_count() == 0)
     }
 }

@@ -1,40 +1,77 @@
 //! Laws that hold of every run over an internet that passes the audit. The functions do nothing:
 //! each law is the function's ensures clause.
 
-ghost use Rattle.std.specs.Prelude.{◌≡◌, ◌≢◌, [], List, Some, ℕ, false, true};
+ghost use Rattle.std.specs.Prelude.{◌≡◌, ◌≢◌, [], Contains, List, None, Some, ℕ, ◌+◌, false, true};
 ghost use Rattle.audit.specs.Example.{three_cables};
 ghost use Rattle.audit.specs.Routing.{home};
 ghost use Rattle.audit.specs.Rules.{Passes};
-ghost use Rattle.cable_model.specs.Logs.{transcript};
+ghost use Rattle.cable_model.specs.Holdings.{still_held};
+ghost use Rattle.cable_model.specs.Transcript.{ArePutOnce, Holding};
 ghost use Rattle.ddp.specs.Bodies.{target};
 ghost use Rattle.frozen.specs.Examples.{ended, run_of, sends, underway};
-ghost use Rattle.frozen.specs.Promises.{AreAllCarried, HaveOnlyAsked, IsAtRest, IsEachOnce};
-ghost use Rattle.frozen.specs.Promises.{OnlyAsks};
-ghost use Rattle.frozen.specs.Runs.{IsFrozen, Running};
+ghost use Rattle.frozen.specs.Promises.{AreAllCarried, AreTaken, HasArrived, HaveHadALookup};
+ghost use Rattle.frozen.specs.Promises.{HaveOnlyAsked, IsAtRest, IsEachOnce, OnlyAsks};
+ghost use Rattle.frozen.specs.Runs.{IsFrozen, Running, RunsOver, transcript};
 ghost use Rattle.legal_runs.specs.Carriage.{AreByHand, AreCarried, AreTakenThere, none_yet};
 ghost use Rattle.legal_runs.specs.Counts.{HasHopsLeft, IsConserved, reached, sent};
+ghost use Rattle.legal_runs.specs.Legal.{IsLegal};
 ghost use Rattle.legal_runs.specs.LookupExample.{blue};
-ghost use Rattle.legal_runs.specs.Lookups.{IsLookedUp, NodesOnlyAsk, asked, lookups, taken};
+ghost use Rattle.legal_runs.specs.Lookups.{IsLookedUp, lookups};
 ghost use Rattle.legal_runs.specs.Requests.{is_among, listing, zone_of};
+ghost use Rattle.resolved_runs.specs.AskedFor.{AreAskedFor, AreHeardOrOnTheirWay, AreHeldOnce};
+ghost use Rattle.resolved_runs.specs.AskedFor.{heard, let_down};
+ghost use Rattle.resolved_runs.specs.HeldChains.{AreCarriedOrHeld};
+ghost use Rattle.resolved_runs.specs.Plain.{plain};
+ghost use Rattle.resolved_runs.specs.ResolvedLaws.{HasHopsLeftResolved, IsConservedResolved};
+ghost use Rattle.resolved_runs.specs.ResolvedLaws.{IsLookedUpResolved};
+ghost use Rattle.resolved_runs.specs.ResolvedRuns.{IsLegalResolved};
+ghost use Rattle.table_image.specs.Seats.{Seat, seat_at};
+ghost use Rattle.table_image.specs.declared.version.Version.TheVariants.{V1, V2};
 
-/// In every run over frozen tables (`Frozen::image` returns the proof of that): each datagram to a
-/// listed network is under way once or has reached its destination's cable once; it has enough hops
-/// left; it was carried by at most fifteen routers, each of which shares a cable with the next, over
-/// the cables of its walk's steps; a station that takes a frame is on the frame's cable; and, if no
-/// node sends a forward request or a lookup, each request for names that was taken has had one
-/// lookup, or has a forward request under way, on exactly the cables that list its zone.
+/// In every run over frozen tables of an image of version 1 (`Frozen::image` returns the proof that
+/// the tables are frozen), the transcript is legal. Each datagram to a listed network is under way
+/// once or has reached its destination's cable once; it has enough hops left; it was carried by at
+/// most fifteen routers, each of which shares a cable with the next, over the cables of its walk's
+/// steps; a station that takes a frame is on the frame's cable; and, if no node sends a forward
+/// request or a lookup, each request for names that was taken has had one lookup, or has a forward
+/// request under way, on exactly the cables that list its zone.
 pub fn promises_hold()
-    ensures conservation { (r : Running) → IsFrozen r → IsConserved r.internet (transcript r.cabling) }
-    ensures hops { (r : Running) → IsFrozen r → HasHopsLeft r.internet (transcript r.cabling) }
-    ensures carriage { (r : Running) → IsFrozen r
-        → AreCarried r.internet none_yet (transcript r.cabling) }
-    ensures takers { (r : Running) → IsFrozen r
-        → AreTakenThere r.internet [] (transcript r.cabling) }
-    ensures handed { (r : Running) → IsFrozen r
-        → AreByHand r.internet false (transcript r.cabling) }
-    ensures lookups { (r : Running) (k : List ℕ) → IsFrozen r
-        → NodesOnlyAsk r.internet (transcript r.cabling)
-        → IsLookedUp r.internet (transcript r.cabling) k }
+    ensures legal { (r : Running) → RunsOver V1 r → IsLegal r.internet (transcript r) }
+    ensures conservation { (r : Running) → RunsOver V1 r → IsConserved r.internet (transcript r) }
+    ensures hops { (r : Running) → RunsOver V1 r → HasHopsLeft r.internet (transcript r) }
+    ensures carriage { (r : Running) → RunsOver V1 r
+        → AreCarried r.internet none_yet (transcript r) }
+    ensures takers { (r : Running) → RunsOver V1 r
+        → AreTakenThere r.internet [] (transcript r) }
+    ensures handed { (r : Running) → RunsOver V1 r → AreByHand r.internet false (transcript r) }
+    ensures lookups { (r : Running) (k : List ℕ) → RunsOver V1 r → HaveOnlyAsked r
+        → IsLookedUp r.internet (transcript r) k }
+{}
+
+/// In every run over frozen tables of an image of version 2, the transcript is legal with
+/// resolution, and the same holds, but that a datagram may also be held, or have been given up where
+/// sixteen others were held. Each datagram is held once and put once; each one that is held for a
+/// station is asked for; and each one to a station's address was taken by that station, is on its
+/// way to it, or was given up.
+pub fn promises_hold_with_resolution()
+    ensures legal { (r : Running) → RunsOver V2 r → IsLegalResolved r.internet (transcript r) }
+    ensures conservation { (r : Running) → RunsOver V2 r
+        → IsConservedResolved r.internet (transcript r) }
+    ensures hops { (r : Running) → RunsOver V2 r
+        → HasHopsLeftResolved r.internet (transcript r) }
+    ensures carriage { (r : Running) → RunsOver V2 r
+        → AreCarriedOrHeld r.internet none_yet (transcript r) }
+    ensures takers { (r : Running) → RunsOver V2 r
+        → AreTakenThere r.internet [] (transcript r) }
+    ensures handed { (r : Running) → RunsOver V2 r
+        → AreByHand r.internet false (plain r.internet (transcript r)) }
+    ensures lookups { (r : Running) (k : List ℕ) → RunsOver V2 r → HaveOnlyAsked r
+        → IsLookedUpResolved r.internet (transcript r) k }
+    ensures held_once { (r : Running) → RunsOver V2 r → AreHeldOnce (transcript r) }
+    ensures put_once { (r : Running) → RunsOver V2 r → ArePutOnce (transcript r) }
+    ensures asked_for { (r : Running) → RunsOver V2 r → AreAskedFor r.internet (transcript r) }
+    ensures heard { (r : Running) → RunsOver V2 r
+        → AreHeardOrOnTheirWay r.internet (transcript r) }
 {}
 
 /// The main result, in one place. A run over frozen tables starts only if the image passes the
@@ -43,25 +80,38 @@ pub fn promises_hold()
 /// frame is pending, each datagram to a listed network has reached its cable as often as it was
 /// sent. If also no node sent a forward request or a lookup, each broadcast request was taken and
 /// has had one lookup on each cable that lists its zone, and none on any other cable.
+///
+/// Over an image of version 2, a datagram may also be held for a router meanwhile; and what was
+/// given up where sixteen others were held counts beside what arrived, was taken or was looked up.
 pub fn the_headline()
     ensures audited { (r : Running) → IsFrozen r → Passes r.internet }
     ensures each_once { (r : Running) → IsFrozen r → IsEachOnce r }
     ensures carried { (r : Running) → IsFrozen r → AreAllCarried r }
     ensures arrived { (r : Running) (b : List ℕ) (c : ℕ) → IsFrozen r → IsAtRest r
-        → home r.internet (target b).net ≡ Some c
-        → sent b (transcript r.cabling) ≡ reached b c (transcript r.cabling) }
+        → home r.internet (target b).net ≡ Some c → HasArrived r b c }
     ensures nowhere_else { (r : Running) (b : List ℕ) (c d : ℕ) → IsFrozen r
-        → home r.internet (target b).net ≡ Some c → d ≢ c
-        → reached b d (transcript r.cabling) ≡ 0 }
+        → home r.internet (target b).net ≡ Some c → d ≢ c → reached b d (transcript r) ≡ 0 }
     ensures taken { (r : Running) (k : List ℕ) → IsFrozen r → IsAtRest r → HaveOnlyAsked r
-        → asked r.internet k (transcript r.cabling) ≡ taken r.internet k (transcript r.cabling) }
+        → AreTaken r k }
     ensures looked_up { (r : Running) (k : List ℕ) (c : ℕ) → IsFrozen r → IsAtRest r
         → HaveOnlyAsked r → is_among c (listing r.internet (zone_of k)) ≡ true
-        → lookups r.internet k c (transcript r.cabling)
-        ≡ taken r.internet k (transcript r.cabling) }
+        → HaveHadALookup r k c }
     ensures not_looked_up { (r : Running) (k : List ℕ) (c : ℕ) → IsFrozen r
         → HaveOnlyAsked r → is_among c (listing r.internet (zone_of k)) ≡ false
-        → lookups r.internet k c (transcript r.cabling) ≡ 0 }
+        → lookups r.internet k c (transcript r) ≡ 0 }
+{}
+
+/// What asking for addresses promises, in one place. If no frame is pending in a run over an image
+/// of version 2, nothing is held for a station any more, and each datagram to a station's address
+/// was taken by that station as often as it was sent, but for what was given up.
+pub fn every_datagram_is_heard()
+    ensures none_held { (r : Running) (h : Holding) → RunsOver V2 r → IsAtRest r
+        → Contains (still_held (transcript r)) h
+        → seat_at r.internet h.cable h.next ≡ None }
+    ensures heard { (r : Running) (b : List ℕ) (c : ℕ) (s : Seat) → RunsOver V2 r → IsAtRest r
+        → seat_at r.internet c (target b) ≡ Some s
+        → sent b (transcript r)
+        ≡ heard r.internet s.station b (transcript r) + let_down r.internet b (transcript r) }
 {}
 
 /// What the conditions of `the_headline` mean. A broadcast request is one that a node may send; a

@@ -1,33 +1,32 @@
 -- The lines of entries, one part after the other.
 use Rattle.std.proofs.Common.{◌≡◌, ℕ, ◌+◌, ◌-◌, ◌≤◌, ◌<◌, List, [], ◌∷◌, ◌++◌, Some, ap, drop, get_or, length, map}
 use Rattle.std.proofs.Common.{slice_get, sym, subst, take, refl, ◌∙◌, arith}
-use Rattle.std.proofs.lemmas.Grind.{flat_map-append}
-use Rattle.std.proofs.lemmas.List.{append_assoc, append-nil, drop-map, get_or_default, length-drop, map-append, take_all}
+use Rattle.std.proofs.lemmas.List.{append_assoc, drop-map, get_or_default, length-drop, map-append, take_all}
 use Rattle.std.proofs.lemmas.Option.{slice_get_read}
 use Rattle.cable_model.specs.Transcript.{Entry}
 use Rattle.cable_model.specs.declared.entry.Entry.{Entry as Line}
 use Rattle.frozen.proofs.Refused.{take_one}
-use Rattle.frozen_trace.specs.Traces.{cables_of}
-use Rattle.trace_lines.specs.Lines.{Printed, cable_of, line, lines}
+use Rattle.trace_lines.specs.Lines.{Printed, line, lines, with_cable, with_cables}
 use Rattle.trace_lines.specs.Stations.{Addresses}
+
+-- The cables of entries, followed by those of more entries.
+pub cables_append : (c : List ℕ) (xs ys : List Entry) → with_cables c (xs ++ ys) ≡ with_cables (with_cables c xs) ys
+cables_append c [] ys = refl
+cables_append c (e ∷ xs) ys = cables_append (with_cable c e) xs ys
 
 -- The lines of entries, followed by those of more entries.
 pub lines_append : (i : Addresses) (c : List ℕ) (xs ys : List Entry)
-    → lines i c (xs ++ ys) ≡ lines i c xs ++ lines i (c ++ cables_of xs) ys
-lines_append i c [] ys = ap (λ (d : List ℕ). lines i d ys) (sym (append-nil c))
+    → lines i c (xs ++ ys) ≡ lines i c xs ++ lines i (with_cables c xs) ys
+lines_append i c [] ys = refl
 lines_append i c (e ∷ xs) ys =
-    let d : List ℕ = c ++ cable_of e in
-    ap (λ (z : List ℕ). line i c e ++ 10 ∷ z)
-    (lines_append i d xs ys ∙ ap (λ (k : List ℕ). lines i d xs ++ lines i k ys) (append_assoc c (cable_of e) (cables_of xs)))
-    ∙ sym (append_assoc (line i c e) (10 ∷ lines i d xs) (lines i (c ++ cables_of (e ∷ xs)) ys))
+    let d : List ℕ = with_cable c e in
+    ap (λ (z : List ℕ). line i c e ++ 10 ∷ z) (lines_append i d xs ys)
+    ∙ sym (append_assoc (line i c e) (10 ∷ lines i d xs) (lines i (with_cables d xs) ys))
 
 -- The lines of entries, followed by that of one more entry.
 pub lines_one : (i : Addresses) (c : List ℕ) (xs : List Entry) (e : Entry)
-    → lines i c (xs ++ e ∷ []) ≡ lines i c xs ++ (line i (c ++ cables_of xs) e ++ 10 ∷ [])
+    → lines i c (xs ++ e ∷ []) ≡ lines i c xs ++ (line i (with_cables c xs) e ++ 10 ∷ [])
 lines_one i c xs e = lines_append i c xs (e ∷ [])
-
-pub cables_one : (xs : List Entry) (e : Entry) → cables_of (xs ++ e ∷ []) ≡ cables_of xs ++ cable_of e
-cables_one xs e = flat_map-append cable_of xs (e ∷ []) ∙ ap (λ (z : List ℕ). cables_of xs ++ z) (append-nil (cable_of e))
 
 -- The element at an index.
 pub there : {X : Type 0} (xs : List X) (k : ℕ) (d : X) → k < length xs → slice_get xs k ≡ Some (get_or xs k d)

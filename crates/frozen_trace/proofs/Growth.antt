@@ -2,50 +2,55 @@
 use Rattle.std.proofs.Common.{◌≡◌, ◌≢◌, ℕ, ◌+◌, ◌<◌, ◌≤◌, List, [], ◌++◌, Option, Some, None, Result, Ok, Err, inl, inr}
 use Rattle.std.proofs.Common.{true, false, ◌==◌, drop, length, slice_get, take, ap, ap₂, sym, subst, refl, ◌∙◌, arith}
 use Rattle.std.proofs.Math.Seq.{drop-append_seam, take-append_seam}
-use Rattle.std.proofs.lemmas.Grind.{flat_map-append}
 use Rattle.std.proofs.lemmas.List.{append_assoc, append-nil, length-append, length-map}
 use Rattle.at_base.specs.declared.error.Error.{Error}
 use Rattle.at_base.specs.declared.error.Error.TheVariants.{Memory}
 use Rattle.cable_model.specs.Logs.{entry_at, transcript}
-use Rattle.cable_model.specs.Pending.{pending}
 use Rattle.frozen.proofs.Refused.{take_one}
 use Rattle.cable_model.specs.Transcript.{Entry}
 use Rattle.cable_model.specs.declared.entry.Entry.{Entry as Line}
 use Rattle.events.specs.declared.event.Event.{Event}
 use Rattle.events.specs.declared.event.Event.TheVariants as event
 use Rattle.frozen.specs.Events.{DrainStops, Drained, DrainsTo, Happens, IsRefused, Sends, Taken, Takes, Undrained, header_for, refusal}
-use Rattle.frozen.specs.Orders.{ask_data, ask_order, send_order}
-use Rattle.frozen.specs.Runs.{Running, TakenBy}
+use Rattle.frozen.specs.Orders.{ask_data, ask_order, bytes_for, send_order}
+use Rattle.frozen.specs.Runs.{Running, TakenBy, cabling}
 use Rattle.frozen.specs.declared.order.Order.{Order}
 use Rattle.image_stations.specs.Finding.{station_at}
-use Rattle.frozen_trace.proofs.EntryLines.{lines_append, printed}
+use Rattle.frozen_trace.proofs.Grown.{sent_grown, taken_grown}
+use Rattle.legal_runs.specs.Legs.{places_of}
+use Rattle.run_cables.specs.Wired.{pending_for}
+use Rattle.frozen_trace.proofs.EntryLines.{cables_append, lines_append, printed}
 use Rattle.frozen_trace.specs.Traces.{Plays, Played, PlaysAll, Refusing, added, all_printed, cables_of, refused_line, told}
 use Rattle.script.specs.declared.step.Step.{Step}
 use Rattle.script.specs.declared.step.Step.TheVariants as step
-use Rattle.trace_lines.specs.Lines.{Printed, cable_of, lines}
+use Rattle.trace_lines.specs.Lines.{Printed, lines, with_cables}
 use Rattle.trace_lines.specs.Stations.{addresses_of}
 
 -- The internet stays the same, and these entries come after the earlier ones.
 pub record Grows (a b : Running) (more : List Entry) : Type 0 where
   pub internet : b.internet ≡ a.internet
-  pub said : transcript b.cabling ≡ transcript a.cabling ++ more
+  pub said : transcript (cabling b) ≡ transcript (cabling a) ++ more
 
 pub grows_none : (a : Running) → Grows a a []
-grows_none a = record { internet = refl; said = sym (append-nil (transcript a.cabling)) }
+grows_none a = record { internet = refl; said = sym (append-nil (transcript (cabling a))) }
 
 pub grows_then : (a b c : Running) (m n : List Entry) → Grows a b m → Grows b c n → Grows a c (m ++ n)
 grows_then a b c m n x y = record {
   internet = y.internet ∙ x.internet;
-  said = y.said ∙ ap (λ (t : List Entry). t ++ n) x.said ∙ append_assoc (transcript a.cabling) m n;
+  said = y.said ∙ ap (λ (t : List Entry). t ++ n) x.said ∙ append_assoc (transcript (cabling a)) m n;
 }
 
 sends_grow : (old new : Running) (r : Result Order Error) (payload : List ℕ) → Sends old r payload new
     → (m : List Entry) × Grows old new m
 sends_grow old new (Err e) payload s = absurd s
-sends_grow old new (Ok o) payload s = (_, record { internet = s.internet; said = s.entries.added })
+sends_grow old new (Ok o) payload s =
+    let w = sent_grown (places_of old.internet) o.station o.cable o.next (bytes_for o payload) old.wiring new.wiring s.sent in
+    (w.0, record { internet = s.internet; said = w.1 })
 
 pub taken_grows : (old new : Running) (stamp s : ℕ) → TakenBy old stamp s new → (m : List Entry) × Grows old new m
-taken_grows old new stamp s t = (_, record { internet = t.internet; said = t.taken.taken.entries.added })
+taken_grows old new stamp s t =
+    let w = taken_grown (places_of old.internet) stamp s _ _ old.wiring new.wiring t.taken.taken in
+    (w.0, record { internet = t.internet; said = w.1 })
 
 takes_grow : (old new : Running) (stamp : ℕ) (s : Option ℕ) → Takes old stamp s new → (m : List Entry) × Grows old new m
 takes_grow old new stamp None t = absurd t
@@ -89,36 +94,36 @@ undrained a b n z (Taken o between e j stamp s before next ok taken) = absurd (n
     not_one : (j : ℕ) → j + 1 ≡ 0 → ⊥
     not_one j z = omega arith
 
-pub entries_number : (a : Running) → length (transcript a.cabling) ≡ length a.cabling.lines
-entries_number a = length-map a.cabling.lines (entry_at a.cabling.kept)
+pub entries_number : (a : Running) → length (transcript (cabling a)) ≡ length (cabling a).lines
+entries_number a = length-map (cabling a).lines (entry_at (cabling a).kept)
 
 pub added_are : (a b : Running) (m : List Entry) → Grows a b m → added a b ≡ m
 added_are a b m x =
-    ap (λ (l : List Entry). drop (length a.cabling.lines) l) x.said
-    ∙ ap (λ (n : ℕ). drop n (transcript a.cabling ++ m)) (sym (entries_number a)) ∙ drop-append_seam (transcript a.cabling) m
+    ap (λ (l : List Entry). drop (length (cabling a).lines) l) x.said
+    ∙ ap (λ (n : ℕ). drop n (transcript (cabling a) ++ m)) (sym (entries_number a)) ∙ drop-append_seam (transcript (cabling a)) m
 
 pub first_are : (a b : Running) (m : List Entry) → Grows a b m
-    → take (length a.cabling.lines) (transcript b.cabling) ≡ transcript a.cabling
+    → take (length (cabling a).lines) (transcript (cabling b)) ≡ transcript (cabling a)
 first_are a b m x =
-    ap (λ (l : List Entry). take (length a.cabling.lines) l) x.said
-    ∙ ap (λ (n : ℕ). take n (transcript a.cabling ++ m)) (sym (entries_number a)) ∙ take-append_seam (transcript a.cabling) m
+    ap (λ (l : List Entry). take (length (cabling a).lines) l) x.said
+    ∙ ap (λ (n : ℕ). take n (transcript (cabling a) ++ m)) (sym (entries_number a)) ∙ take-append_seam (transcript (cabling a)) m
 
 -- A run doesn't have fewer entries than before.
-pub no_fewer : (a b : Running) (m : List Entry) → Grows a b m → length a.cabling.lines ≤ length b.cabling.lines
+pub no_fewer : (a b : Running) (m : List Entry) → Grows a b m → length (cabling a).lines ≤ length (cabling b).lines
 no_fewer a b m x =
-    let one : length (transcript b.cabling) ≡ length (transcript a.cabling) + length m =
-    ap length x.said ∙ length-append (transcript a.cabling) m in
-    subst (λ n. n ≤ length b.cabling.lines) (entries_number a)
-    (subst (λ n. length (transcript a.cabling) ≤ n) (entries_number b)
-    (subst (λ n. length (transcript a.cabling) ≤ n) (sym one) (omega arith)))
+    let one : length (transcript (cabling b)) ≡ length (transcript (cabling a)) + length m =
+    ap length x.said ∙ length-append (transcript (cabling a)) m in
+    subst (λ n. n ≤ length (cabling b).lines) (entries_number a)
+    (subst (λ n. length (transcript (cabling a)) ≤ n) (entries_number b)
+    (subst (λ n. length (transcript (cabling a)) ≤ n) (sym one) (omega arith)))
 
 -- The lines of one growth, followed by those of another.
 pub told_then : (a b c : Running) (m n : List Entry) → Grows a b m → Grows b c n → told a c ≡ told a b ++ told b c
 told_then a b c m n x y =
-    let ca : List ℕ = cables_of (transcript a.cabling) in
-    let cb : List ℕ = cables_of (transcript b.cabling) in
-    let known : cb ≡ ca ++ cables_of m =
-    ap cables_of x.said ∙ flat_map-append cable_of (transcript a.cabling) m in
+    let ca : List ℕ = cables_of (transcript (cabling a)) in
+    let cb : List ℕ = cables_of (transcript (cabling b)) in
+    let known : cb ≡ with_cables ca m =
+    ap cables_of x.said ∙ cables_append [] (transcript (cabling a)) m in
     ap (lines (addresses_of a.internet) ca) (added_are a c (m ++ n) (grows_then a b c m n x y))
     ∙ lines_append (addresses_of a.internet) ca m n
     ∙ ap (λ (k : List ℕ). lines (addresses_of a.internet) ca m ++ lines (addresses_of a.internet) k n) (sym known)
@@ -127,26 +132,26 @@ told_then a b c m n x y =
     ∙ ap (λ (l : List Entry). told a b ++ lines (addresses_of b.internet) cb l) (sym (added_are b c n y))
 
 pub told_none : (a : Running) → told a a ≡ []
-told_none a = ap (lines (addresses_of a.internet) (cables_of (transcript a.cabling))) (added_are a a [] (grows_none a))
+told_none a = ap (lines (addresses_of a.internet) (cables_of (transcript (cabling a)))) (added_are a a [] (grows_none a))
 
 -- The lines of a growth, printed after all earlier entries.
 pub record Prints (a b : Running) (known : Printed) (before : List Line) : Type 0 where
-  pub inside : length before ≤ length b.cabling.lines
-  pub frames : known ≡ printed (addresses_of b.internet) (cables_of (take (length before) (transcript b.cabling)))
-  pub told_is : lines known.addresses known.cables (drop (length before) (transcript b.cabling)) ≡ told a b
+  pub inside : length before ≤ length (cabling b).lines
+  pub frames : known ≡ printed (addresses_of b.internet) (cables_of (take (length before) (transcript (cabling b))))
+  pub told_is : lines known.addresses known.cables (drop (length before) (transcript (cabling b))) ≡ told a b
 
 pub prints : (a b : Running) (m : List Entry) (known : Printed) (before : List Line) → Grows a b m
-    → known ≡ all_printed a → before ≡ a.cabling.lines → Prints a b known before
+    → known ≡ all_printed a → before ≡ (cabling a).lines → Prints a b known before
 prints a b m known before x k l = record {
-  inside = subst (λ (t : List Line). length t ≤ length b.cabling.lines) (sym l) (no_fewer a b m x);
+  inside = subst (λ (t : List Line). length t ≤ length (cabling b).lines) (sym l) (no_fewer a b m x);
   frames =
       k
       ∙ ap₂ printed (ap addresses_of (sym x.internet)) (ap cables_of (sym (first_are a b m x))
-      ∙ ap (λ (t : List Line). cables_of (take (length t) (transcript b.cabling))) (sym l));
+      ∙ ap (λ (t : List Line). cables_of (take (length t) (transcript (cabling b)))) (sym l));
   told_is =
-      ap (λ (p : Printed). lines p.addresses p.cables (drop (length before) (transcript b.cabling))) k
-      ∙ ap (λ (t : List Line). lines (addresses_of a.internet) (cables_of (transcript a.cabling))
-      (drop (length t) (transcript b.cabling))) l;
+      ap (λ (p : Printed). lines p.addresses p.cables (drop (length before) (transcript (cabling b)))) k
+      ∙ ap (λ (t : List Line). lines (addresses_of a.internet) (cables_of (transcript (cabling a)))
+      (drop (length t) (transcript (cabling b)))) l;
 }
 
 -- An event with an error other than Memory.
@@ -184,7 +189,7 @@ drain_out a b c k most more before one = record {
 
 -- As many takes as the step says.
 pub drain_full : (a b : Running) (k most : ℕ) → k ≡ most → Drained a k b
-    → DrainsTo a most (length (pending b.cabling.seats (transcript b.cabling)) == 0) b
+    → DrainsTo a most (length (pending_for b.wiring) == 0) b
 drain_full a b k most full before = record {
   number = k;
   few = subst (λ n. k ≤ n) full (omega arith);

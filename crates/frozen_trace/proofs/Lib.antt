@@ -1,2 +1,3 @@
 pub mod EntryLines
+pub mod Grown
 pub mod Growth

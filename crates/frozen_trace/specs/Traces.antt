@@ -1,7 +1,6 @@
 -- The effects of a script's steps on a run over frozen tables, and the text that is printed.
 use Rattle.std.specs.Prelude.{◌≡◌, ◌≢◌, ℕ, Bool, true, false, List, [], ◌∷◌, ◌++◌, None, Some, codes, drop, length}
 use Rattle.std.specs.Fmt.{decimal}
-use Rattle.std.specs.List.{flat_map}
 use Rattle.at_base.specs.ErrorNumber.{number_of}
 use Rattle.at_base.specs.declared.error.Error.{Error}
 use Rattle.at_base.specs.declared.error.Error.TheVariants.{Memory}
@@ -9,36 +8,34 @@ use Rattle.at_base.specs.declared.error.Fault.{Fault}
 use Rattle.audit.specs.Rules.{Passes}
 use Rattle.audit.specs.Verdicts.{IsFirst, verdict_line}
 use Rattle.audit.specs.declared.verdict.Verdict.TheVariants.{No}
-use Rattle.cable_model.specs.Rooms.{known_rooms}
 use Rattle.cable_model.specs.Logs.{transcript}
-use Rattle.cable_model.specs.Pending.{pending}
 use Rattle.cable_model.specs.Transcript.{Entry}
 use Rattle.events.specs.declared.event.Event.{Event}
 use Rattle.frozen.specs.Events.{DrainStops, DrainsTo, Happens, refusal}
-use Rattle.frozen.specs.Runs.{IsFrozen, Running}
+use Rattle.frozen.specs.Runs.{IsFrozen, Running, cabling}
 use Rattle.image_stations.specs.Holders.{AreFresh}
-use Rattle.legal_runs.specs.Stations.{cable_seats}
+use Rattle.run_cables.specs.Wired.{AreFresh as AreFreshCables, pending_for}
 use Rattle.script.specs.declared.step.Step.{Step}
 use Rattle.script.specs.declared.step.Step.TheVariants as step
 use Rattle.table_image.specs.Internet.{Internet}
-use Rattle.trace_lines.specs.Lines.{Printed, cable_of, lines}
+use Rattle.trace_lines.specs.Lines.{Printed, lines, with_cables}
 use Rattle.trace_lines.specs.Stations.{addresses_of}
 
--- The cables of the frames that were put, one for each frame.
+-- The cables of the stamps that entries take, by rising stamps.
 abbrev pub cables_of : List Entry → List ℕ
-cables_of entries = flat_map cable_of entries
+cables_of entries = with_cables [] entries
 
 -- The state of a printer that has printed all entries of a run.
 abbrev pub all_printed : Running → Printed
-all_printed r = record { addresses = addresses_of r.internet; cables = cables_of (transcript r.cabling) }
+all_printed r = record { addresses = addresses_of r.internet; cables = cables_of (transcript (cabling r)) }
 
 -- The entries of a run that an earlier state of it didn't have.
 abbrev pub added : Running → Running → List Entry
-added old new = drop (length old.cabling.lines) (transcript new.cabling)
+added old new = drop (length (cabling old).lines) (transcript (cabling new))
 
 -- The lines of the entries that were added.
 abbrev pub told : Running → Running → List ℕ
-told old new = lines (addresses_of old.internet) (cables_of (transcript old.cabling)) (added old new)
+told old new = lines (addresses_of old.internet) (cables_of (transcript (cabling old))) (added old new)
 
 -- The line of a step that has an error.
 abbrev pub refused_line : Error → List ℕ
@@ -46,7 +43,7 @@ refused_line e = codes "refused " ++ decimal (number_of e) ++ 10 ∷ []
 
 -- The last line: how many pairs of a frame and a station are pending.
 abbrev pub pending_line : Running → List ℕ
-pending_line r = codes "pending " ++ decimal (length (pending r.cabling.seats (transcript r.cabling))) ++ 10 ∷ []
+pending_line r = codes "pending " ++ decimal (length (pending_for r.wiring)) ++ 10 ∷ []
 
 -- The effect of a step on a run, and the text that is printed: an event is carried out, or has an error other than
 -- Memory and changes nothing; or frames are taken, as many as the step says unless nothing is pending any more, or up
@@ -74,14 +71,7 @@ pub record IsTrace (i : Internet) (steps : List Step) (text : List ℕ) : Type 0
   pub begun : Running
   pub ended : Running
   pub internet : begun.internet ≡ i
-  pub cabling : begun.cabling ≡ record {
-    seats = cable_seats i;
-    limit = 4000000;
-    rooms = known_rooms;
-    lines = [];
-    kept = [];
-    spare = 0;
-  }
+  pub cables : AreFreshCables i 4000000 begun.wiring
   pub fresh : AreFresh begun.stations
   pub begun_frozen : IsFrozen begun
   pub ended_frozen : IsFrozen ended

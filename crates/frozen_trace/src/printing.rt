@@ -5,9 +5,10 @@ ghost use Rattle.std.specs.Prelude.{OnOk};
 ghost use Rattle.cable_model.specs.Logs as logs_spec;
 ghost use Rattle.cable_model.specs.Logs.{entry_at};
 ghost use Rattle.text.specs.Going.{Goes};
+ghost use Rattle.frozen.specs.Runs.{cabling};
 ghost use Rattle.frozen_trace.specs.Traces.{all_printed, cables_of, pending_line, refused_line};
 ghost use Rattle.trace_lines.specs.Lines as lines_spec;
-ghost use Rattle.trace_lines.specs.Lines.{IsNamed, cable_of};
+ghost use Rattle.trace_lines.specs.Lines.{IsNamed, with_cable, with_cables};
 ghost use Rattle.trace_lines.specs.Stations.{addresses_of};
 ghost use Rattle.text.specs.Writing.{Prints};
 
@@ -26,7 +27,7 @@ const MAX_LINE: usize = 32;
 
 /// The bytes of the number that an entry of a run names, and no bytes if it names no number.
 fn bytes_of<'a, T: RouteTable>(run: &'a Frozen<T>, entry: &Entry) -> &'a [u8]
-    ensures { IsNamed run.now.cabling.kept entry.now result.now }
+    ensures { IsNamed (cabling run.now).kept entry.now result.now }
 {
     match entry {
         Entry::Sent { bytes, .. }
@@ -46,11 +47,11 @@ fn print_entry<T: RouteTable, W: Write>(
     output: &mut Output<W>,
 ) -> Result<(), Error>
     ensures gone { OnOk result (Goes (W.contents output.old.writer) output.old.text.items
-        (lines_spec.line lines.old.addresses lines.old.cables (entry_at run.now.cabling.kept entry.now) ++ 10 ∷ [])
+        (lines_spec.line lines.old.addresses lines.old.cables (entry_at (cabling run.now).kept entry.now) ++ 10 ∷ [])
         (W.contents output.new.writer) output.new.text.items) }
     ensures further { OnOk result (lines.new ≡ record {
       addresses = lines.old.addresses;
-      cables = lines.old.cables ++ cable_of (entry_at run.now.cabling.kept entry.now);
+      cables = with_cable lines.old.cables (entry_at (cabling run.now).kept entry.now);
     }) }
     ensures prints { Prints output.old.faults output.new.faults result }
 {
@@ -68,12 +69,12 @@ fn print_entries<T: RouteTable, W: Write>(
 ) -> Result<(), Error>
     ensures gone { OnOk result (Goes (W.contents output.old.writer) output.old.text.items
         (lines_spec.lines lines.old.addresses lines.old.cables
-        (map (entry_at run.now.cabling.kept) entries.now))
+        (map (entry_at (cabling run.now).kept) entries.now))
         (W.contents output.new.writer) output.new.text.items) }
     ensures further { OnOk result (lines.new ≡ record {
       addresses = lines.old.addresses;
-      cables = lines.old.cables
-          ++ cables_of (map (entry_at run.now.cabling.kept) entries.now);
+      cables = with_cables lines.old.cables
+          (map (entry_at (cabling run.now).kept) entries.now);
     }) }
     ensures prints { Prints output.old.faults output.new.faults result }
 {
@@ -90,13 +91,13 @@ pub fn print_from<T: RouteTable, W: Write>(
     lines: &mut Lines,
     output: &mut Output<W>,
 ) -> Result<(), Error>
-    requires inside { from ≤ length run.now.cabling.lines }
+    requires inside { from ≤ length (cabling run.now).lines }
     requires known { lines.old ≡ record {
       addresses = addresses_of run.now.internet;
-      cables = cables_of (take from (logs_spec.transcript run.now.cabling));
+      cables = cables_of (take from (logs_spec.transcript (cabling run.now)));
     } }
     ensures gone { OnOk result (Goes (W.contents output.old.writer) output.old.text.items
-        (lines_spec.lines lines.old.addresses lines.old.cables (drop from (logs_spec.transcript run.now.cabling)))
+        (lines_spec.lines lines.old.addresses lines.old.cables (drop from (logs_spec.transcript (cabling run.now))))
         (W.contents output.new.writer) output.new.text.items) }
     ensures known { OnOk result (lines.new ≡ all_printed run.now) }
     ensures prints { Prints output.old.faults output.new.faults result }

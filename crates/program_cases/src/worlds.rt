@@ -3,6 +3,7 @@
 use at_base::{Addr, Error};
 use cable_model::{Entry, Kind};
 use case_words::{Answer, Stop, Words, put_hw, put_line, put_text};
+use dump_lines::number_of;
 use end_node::{Datagram, EndNode};
 use internet_file::read;
 use rtmp::RouteTable;
@@ -79,15 +80,6 @@ impl<T: RouteTable> Begun<T> {
     }
 }
 
-fn put_bytes<T: RouteTable>(
-    text: &mut String,
-    world: &World<T>,
-    number: u32,
-) -> Result<(), AllocError> {
-    text.push(' ')?;
-    put_line(text, world.bytes(number))
-}
-
 fn kind_word(kind: Kind) -> &'static str {
     match kind {
         Kind::Ddp => "ddp",
@@ -95,63 +87,58 @@ fn kind_word(kind: Kind) -> &'static str {
     }
 }
 
-/// Appends an entry as text, with its bytes. Cables and stations count from 0.
-fn put_entry<T: RouteTable>(
-    text: &mut String,
-    world: &World<T>,
-    entry: &Entry,
-) -> Result<(), AllocError> {
+/// Appends the words of an entry, without its bytes. Cables and stations count from 0.
+fn put_words(text: &mut String, entry: &Entry) -> Result<(), AllocError> {
     match *entry {
-        Entry::Sent { station, bytes } => {
-            write!(text, "sent station {station}")?;
-            put_bytes(text, world, bytes)
-        }
+        Entry::Sent { station, .. } => write!(text, "sent station {station}"),
         Entry::Put {
             stamp,
             cable,
             sender,
             to,
             kind,
-            bytes,
+            ..
         } => {
             write!(text, "put {stamp} cable {cable} station {sender} to ")?;
             put_hw(text, to)?;
             let kind = kind_word(kind);
-            write!(text, " {kind}")?;
-            put_bytes(text, world, bytes)
+            write!(text, " {kind}")
         }
-        Entry::Took { stamp, station } => writeln!(text, "took {stamp} station {station}"),
+        Entry::Took { stamp, station } => write!(text, "took {stamp} station {station}"),
         Entry::Reached {
             cable,
             station,
             how,
-            bytes,
-        } => {
-            write!(text, "reached cable {cable} station {station} {how:?}")?;
-            put_bytes(text, world, bytes)
-        }
-        Entry::Dropped {
-            router,
-            cause,
-            bytes,
-        } => {
-            write!(text, "dropped station {router} {cause:?}")?;
-            put_bytes(text, world, bytes)
-        }
-        Entry::Lost { stamp } => writeln!(text, "lost {stamp}"),
+            ..
+        } => write!(text, "reached cable {cable} station {station} {how:?}"),
+        Entry::Dropped { router, cause, .. } => write!(text, "dropped station {router} {cause:?}"),
+        Entry::Lost { stamp } => write!(text, "lost {stamp}"),
         Entry::Hold {
             stamp,
             cable,
             station,
             next,
-            bytes,
-        } => {
-            write!(
-                text,
-                "hold {stamp} cable {cable} station {station} next {next}"
-            )?;
-            put_bytes(text, world, bytes)
+            ..
+        } => write!(
+            text,
+            "hold {stamp} cable {cable} station {station} next {next}"
+        ),
+    }
+}
+
+/// Appends an entry as text, with its bytes.
+fn put_entry<T: RouteTable>(
+    text: &mut String,
+    world: &World<T>,
+    entry: &Entry,
+) -> Result<(), AllocError> {
+    put_words(text, entry)?;
+    match number_of(entry) {
+        Some(number) => {
+            text.push(' ')?;
+            put_line(text, world.bytes(number))
         }
+        None => text.push('\n'),
     }
 }
 

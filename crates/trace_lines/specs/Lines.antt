@@ -1,5 +1,5 @@
 -- The printed lines of a transcript's entries.
-use Rattle.std.specs.Prelude.{◌≡◌, ℕ, ◌+◌, List, [], ◌∷◌, ◌++◌, Option, Some, None, codes, slice_get, slice_index}
+use Rattle.std.specs.Prelude.{◌≡◌, ℕ, ◌+◌, List, [], ◌∷◌, ◌++◌, Option, Some, None, codes, length, nat_lt, slice_get, slice_index}
 use Rattle.std.specs.Prelude.{if◌then◌else◌}
 use Rattle.std.specs.Fmt.{decimal}
 use Rattle.at_base.specs.Texts.{address_text}
@@ -37,13 +37,20 @@ abbrev pub cause_text : DropCause → List ℕ
 cause_text cause.NoRoute = codes "NoRoute"
 cause_text cause.HopLimit = codes "HopLimit"
 
--- The cable of an entry that put a frame, as a list of one element, and the empty list for other entries.
-abbrev pub cable_of : Entry → List ℕ
-cable_of (Put f) = f.cable ∷ []
-cable_of _ = []
+-- The cables of the stamps so far, by rising stamps, and that of one more entry: a frame and a held datagram take a stamp, but for
+-- the frame of a held datagram, which has the stamp of the datagram.
+abbrev pub with_cable : List ℕ → Entry → List ℕ
+with_cable cables (Put f) = if nat_lt f.stamp (length cables) then cables else cables ++ f.cable ∷ []
+with_cable cables (Hold h) = cables ++ h.cable ∷ []
+with_cable cables _ = cables
 
--- The address of a station on the cable of the frame with this stamp, if the frames so far were put on these cables, in
--- the order of their stamps; 0.0 if there is no such frame.
+-- The cables of the stamps so far, and those of more entries.
+abbrev pub with_cables : List ℕ → List Entry → List ℕ
+with_cables cables [] = cables
+with_cables cables (e ∷ es) = with_cables (with_cable cables e) es
+
+-- The address of a station on the cable of the frame with this stamp, if the stamps so far have these cables; 0.0 if there is
+-- no such frame.
 abbrev pub at_frame : Addresses → List ℕ → ℕ → ℕ → Addr
 at_frame a cables station stamp = on_its (slice_get cables stamp)
   where
@@ -51,8 +58,8 @@ at_frame a cables station stamp = on_its (slice_get cables stamp)
     on_its None = record { net = 0; node = 0 }
     on_its (Some cable) = address_on a station cable
 
--- The line of an entry, without its line feed, if the frames so far were put on these cables; the printed number of a
--- cable is its index plus 1.
+-- The line of an entry, without its line feed, if the stamps so far have these cables; the printed number of a cable is its
+-- index plus 1.
 abbrev pub line : Addresses → List ℕ → Entry → List ℕ
 line a cables (Sent station body) = codes "sent " ++ address_text (address_of a station) ++ codes " " ++ hex_text body
 line a cables (Put f) =
@@ -69,12 +76,12 @@ line a cables (Hold h) =
     codes "hold " ++ decimal h.stamp ++ codes " cable " ++ decimal (h.cable + 1) ++ codes " "
     ++ address_text (address_on a h.station h.cable) ++ codes " to " ++ address_text h.next ++ codes " " ++ hex_text h.bytes
 
--- The lines of entries, each with a line feed at its end, if the frames before them were put on these cables.
+-- The lines of entries, each with a line feed at its end, if the stamps before them have these cables.
 abbrev pub lines : Addresses → List ℕ → List Entry → List ℕ
 lines a cables [] = []
-lines a cables (e ∷ es) = line a cables e ++ 10 ∷ lines a (cables ++ cable_of e) es
+lines a cables (e ∷ es) = line a cables e ++ 10 ∷ lines a (with_cable cables e) es
 
--- The state of a printer of entries: the addresses of an internet's stations, and the cables of the frames that it printed.
+-- The state of a printer of entries: the addresses of an internet's stations, and the cables of the stamps that it printed.
 pub record Printed : Type 0 where
   pub addresses : Addresses
   pub cables : List ℕ

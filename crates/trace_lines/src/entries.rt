@@ -223,7 +223,7 @@ fn put_hold(
     put_hex(text, bytes)
 }
 
-/// Appends the line of an entry. `cables` has the cable of each frame so far, by its stamp.
+/// Appends the line of an entry. `cables` has the cable of each stamp so far.
 pub(crate) fn put_entry(
     text: &mut Vec<u8>,
     stations: &Stations,

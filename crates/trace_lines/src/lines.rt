@@ -2,7 +2,7 @@
 
 ghost use Rattle.std.specs.Prelude.{◌≡◌, ◌++◌, ◌∷◌, List, ℕ, [], IfOk, OnErr, OnOk};
 ghost use Rattle.cable_model.specs.Logs.{entry_at};
-ghost use Rattle.trace_lines.specs.Lines.{cable_of, line, IsNamed};
+ghost use Rattle.trace_lines.specs.Lines.{line, with_cable, IsNamed};
 ghost use Rattle.trace_lines.specs.Said.{entry_with};
 ghost use Rattle.trace_lines.specs.Stations.{addresses_of};
 
@@ -13,7 +13,7 @@ use std::alloc::{AllocError, Global};
 use std::marker::Model;
 use table_image::Image;
 
-/// Prints the entries of a transcript over an image, in order. It keeps the cable of each frame,
+/// Prints the entries of a transcript over an image, in order. It keeps the cable of each stamp,
 /// because a taken frame is printed with the station's address on that cable.
 #[derive(Drop)]
 pub struct Lines {
@@ -44,14 +44,21 @@ fn put_line(
     text.extend_from_slice(b"\n")
 }
 
-/// Appends the cable on which an entry put a frame, if it did.
+/// Appends the cable of an entry that takes a stamp: a held datagram, and a frame that none was.
 fn note_cable(cables: &mut Vec<u8>, entry: &Entry) -> Result<(), AllocError>
     ensures ok { OnOk result ((kept : List (List ℕ)) → cables.new.items
-        ≡ cables.old.items ++ cable_of (entry_at kept entry.now)) }
+        ≡ with_cable cables.old.items (entry_at kept entry.now)) }
     ensures stays { OnErr result (cables.new.items ≡ cables.old.items) }
 {
     match *entry {
-        Entry::Put { cable, .. } => {
+        Entry::Put { stamp, cable, .. } => {
+            if (stamp as usize) < cables.len() {
+                return Ok(());
+            }
+            cables.push(cable)?;
+            Ok(())
+        }
+        Entry::Hold { cable, .. } => {
             cables.push(cable)?;
             Ok(())
         }
@@ -99,7 +106,7 @@ impl Lines {
             (entry_at kept entry.now) ++ 10 ∷ []) }
         ensures further { OnOk result ((kept : List (List ℕ)) → self.new ≡ record {
           addresses = self.old.addresses;
-          cables = self.old.cables ++ cable_of (entry_at kept entry.now);
+          cables = with_cable self.old.cables (entry_at kept entry.now);
         }) }
         ensures stays { OnErr result (self.new ≡ self.old) }
     {

@@ -2,12 +2,7 @@ use Rattle.std.proofs.Common.{refl}
 use Rattle.std.proofs.lemmas.Option.{slice_get_read}
 use Rattle.std.proofs.lemmas.Result.{on_ok_weaker}
 use Rattle.std.specs.Prelude.{length}
-use Rattle.cable_model.proofs.AtOnce.{taken_at_once}
-use Rattle.image_stations.proofs.Answering.{always_answered}
 use Rattle.frozen.proofs.steps.take.Goals as goal
-
-pub take-requires-clause-known : goal.take-requires-clause-known
-take-requires-clause-known g c = λ known. always_answered c.args.places.now
 
 pub take-requires-clause-seats : goal.take-requires-clause-seats
 take-requires-clause-seats g c =
@@ -24,6 +19,6 @@ returns-clause-ok g c =
           c.requires.there c.index_mut-taker.ensures.value;
       after = c.take.new.taker;
       changed = refl;
-      taken = (taken_at_once _ _ _ _ _ _ _ _ _ _ (always_answered c.args.places.now) taken).0;
+      taken = taken;
     })
-    c.take.ensures.ok
+    c.take.ensures.taken

@@ -1,19 +1,18 @@
 use Rattle.std.proofs.Common.{◌++◌, [], ◌∷◌, List, ℕ, ap, get_or, map, refl, sym, subst, take, ◌∙◌}
-use Rattle.std.proofs.lemmas.List.{append_assoc, append-nil}
 use Rattle.cable_model.specs.Logs.{entry_at}
 use Rattle.cable_model.specs.Transcript.{Entry}
 use Rattle.cable_model.specs.declared.entry.Entry.TheVariants as named
-use Rattle.frozen_trace.proofs.EntryLines.{cables_one, lines_one, one_further, printed, there}
+use Rattle.frozen_trace.proofs.EntryLines.{cables_append, lines_one, one_further, printed, there}
 use Rattle.text.proofs.Going.{goes_none, goes_then}
 use Rattle.text.specs.Going.{Goes}
-use Rattle.frozen_trace.specs.Traces.{cables_of}
-use Rattle.trace_lines.specs.Lines.{Printed, cable_of, line, lines as lines_of}
+use Rattle.trace_lines.specs.Lines.{Printed, line, lines as lines_of, with_cable, with_cables}
+use Rattle.frozen.specs.Runs.{cabling}
 use Rattle.frozen_trace.proofs.printing.print_entries.Goals as goal
 
 pub loop-entry-init : goal.loop-entry-init
 loop-entry-init g c = (
   goes_none (g.W.Write.contents c.args.output.now.writer) c.args.output.now.text.items,
-  ap (λ (k : List ℕ). printed c.args.lines.now.addresses k) (sym (append-nil c.args.lines.now.cables)),
+  refl,
   refl,
 )
 
@@ -24,7 +23,7 @@ loop-entry-preserved g c =
     let e = get_or es k (named.Sent 0 0) in
     let i = c.args.lines.now.addresses in
     let known = c.args.lines.now.cables in
-    let f = entry_at c.args.run.now.cabling.kept in
+    let f = entry_at (cabling c.args.run.now).kept in
     let before : List Entry = map f (take k es) in
     let more = one_further f es k e (there es k (named.Sent 0 0) c.loop-entry-test.true) in
     let held = c.loop-entry.invariant in
@@ -37,8 +36,7 @@ loop-entry-preserved g c =
           (g.W.Write.contents c.print_entry.new.output.writer) c.print_entry.new.output.text.items)
           (sym (ap (lines_of i known) more ∙ lines_one i known before (f e))) one,
       c.in_ok-print_entry.ensures.further
-          ∙ ap (λ (l : Printed). printed l.addresses (l.cables ++ cable_of (f e))) held.1
-          ∙ ap (printed i) (append_assoc known (cables_of before) (cable_of (f e))
-          ∙ ap (λ (l : List ℕ). known ++ l) (sym (ap cables_of more ∙ cables_one before (f e)))),
+          ∙ ap (λ (l : Printed). printed l.addresses (with_cable l.cables (f e))) held.1
+          ∙ ap (printed i) (sym (ap (with_cables known) more ∙ cables_append known before (f e ∷ []))),
       c.in_ok-print_entry.ensures.prints.stays ∙ held.2,
     )

@@ -12,6 +12,7 @@ use Rattle.frozen.specs.Runs.{Running}
 use Rattle.frozen.specs.declared.order.Order.{Order}
 use Rattle.ddp.specs.Datagram.{datagram_of}
 use Rattle.legal_runs.specs.Requests.{is_forward, is_lookup, packet_in, request}
+use Rattle.run_cables.specs.Wired.{cabling_of, send_room}
 use Rattle.table_image.specs.Internet.{Internet}
 use Rattle.frozen.proofs.frozen.Frozen.ask.Goals as goal
 
@@ -41,7 +42,8 @@ returns-clause-refused g c =
     subst (λ (r : Running). ◌≡◌ {A = Result Order Error} (ask_order r.internet c.args.node c.args.via) (Ok c.in-Ok.order)) c.self.view_is
     (sym c.ask_order.ensures.value ∙ c.in-Ok.is) in
     subst (λ o. IfErr c.carry_out.result (IsRefused (order_refusal c.args.self.now o))) (sym order)
-    (room_refused c.carry_out.result c.args.self.now.cabling.limit (length c.args.self.now.cabling.lines + 3) c.carry_out.ensures.refused
+    (room_refused c.carry_out.result (cabling_of c.args.self.now.wiring).limit
+    (length (cabling_of c.args.self.now.wiring).lines + send_room c.args.self.now.wiring) c.carry_out.ensures.refused
     c.carry_out.ensures.full)
 
 pub returns-clause-asks : goal.returns-clause-asks
@@ -67,4 +69,5 @@ returns-clause-ok g c =
     subst (λ (r : Running). ◌≡◌ {A = Result Order Error} (ask_order r.internet c.args.node c.args.via) (Ok c.in-Ok.order)) c.self.view_is
     (sym c.ask_order.ensures.value ∙ c.in-Ok.is) in
     subst (λ o. OnOk c.carry_out.result (order_refusal c.args.self.now o ≡ None)) (sym order)
-    (room_ok c.carry_out.result c.args.self.now.cabling.limit (length c.args.self.now.cabling.lines + 3) c.carry_out.ensures.full)
+    (room_ok c.carry_out.result (cabling_of c.args.self.now.wiring).limit
+    (length (cabling_of c.args.self.now.wiring).lines + send_room c.args.self.now.wiring) c.carry_out.ensures.full)

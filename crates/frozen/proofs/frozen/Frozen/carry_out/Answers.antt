@@ -1,8 +1,6 @@
 use Rattle.std.proofs.Common.{◌≡◌, true, ap, sym, subst, ◌∙◌, refl, IsTrue}
 use Rattle.std.proofs.lemmas.Result.{on_ok_weaker}
-use Rattle.cable_model.specs.Rooms.{known_rooms}
-use Rattle.cable_model.specs.Logs.{Adds, Cabling}
-use Rattle.cable_model.specs.Outcomes.{has_cable, is_seated, sent_entries}
+use Rattle.cable_model.specs.Outcomes.{has_cable, is_seated}
 use Rattle.ddp.specs.Datagram.{datagram_of}
 use Rattle.frozen.proofs.Asked.{request_of}
 use Rattle.frozen.proofs.Asking.{sent_asks}
@@ -18,6 +16,7 @@ use Rattle.legal_runs.specs.Legs.{places_of}
 use Rattle.legal_stations.proofs.Making.{IsSent}
 use Rattle.legal_runs.proofs.Frames.{whole}
 use Rattle.legal_runs.specs.Requests.{request}
+use Rattle.run_cables.specs.Wired.{IsSentOn}
 use Rattle.station.specs.Lawful.{are_bytes}
 use Rattle.frozen.proofs.frozen.Frozen.carry_out.Goals as goal
 
@@ -43,43 +42,39 @@ invariant_of-self g c =
     let fair = subst (λ (r : Running). IsFair r.internet o) (sym c.self.view_is) c.requires.fair in
     let each = subst (λ b. IsTrue (are_bytes b)) c.as_slice.ensures c.slices_have_bytes.ensures in
     let sent : IsSent o.header payload = sent_whole o.header payload c.in-Ok.bytes c.in-Ok.ensures.written each in
-    let old : Running = record { internet = i; stations = c.self.inside.stations.items; cabling = c.self.inside.cables } in
-    let new : Running = record { internet = i; stations = c.self.inside.stations.items; cabling = c.send.new.cables } in
-    of_both c.send.result
-    (Adds c.self.inside.cables c.send.new.cables
-    (sent_entries (places_of i) c.self.inside.cables o.cable o.station o.next c.in-Ok.bytes))
-    (c.send.new.cables ≡ c.self.inside.cables)
-    (IsFrozen new × (c.self.inside.limit ≡ c.send.new.cables.limit) × (c.send.new.cables.rooms ≡ known_rooms))
-    c.send.ensures.ok c.send.ensures.kept
-    (λ adds. (
-      sent_keeps old new o payload c.self.invariant.0 fair sent (record {
-        internet = refl;
-        stations = refl;
-        entries = subst (λ b. Adds c.self.inside.cables c.send.new.cables
-            (sent_entries (places_of i) c.self.inside.cables o.cable o.station o.next b)) c.in-Ok.ensures.written.1 adds;
-      }),
-      c.self.invariant.1 ∙ sym adds.limit,
-      adds.rooms ∙ c.self.invariant.2,
-    ))
-    (λ same. (
-      subst IsFrozen (ap (λ k. record { internet = i; stations = c.self.inside.stations.items; cabling = k }) (sym same))
-          c.self.invariant.0,
-      c.self.invariant.1 ∙ ap (λ (k : Cabling). k.limit) (sym same),
-      ap (λ (k : Cabling). k.rooms) same ∙ c.self.invariant.2,
-    ))
+    let old : Running = record { internet = i; stations = c.self.inside.stations.items; wiring = c.self.inside.wiring } in
+    let new : Running = record { internet = i; stations = c.self.inside.stations.items; wiring = c.send.new.self } in (
+      of_both c.send.result
+          (IsSentOn (places_of i) o.station o.cable o.next c.in-Ok.bytes c.self.inside.wiring c.send.new.self)
+          (c.send.new.self ≡ c.self.inside.wiring)
+          (IsFrozen new)
+          c.send.ensures.sent c.send.ensures.kept
+          (λ went. sent_keeps old new o payload c.self.invariant.0 fair sent (record {
+            internet = refl;
+            stations = refl;
+            sent =
+                subst (λ b. IsSentOn (places_of i) o.station o.cable o.next b c.self.inside.wiring c.send.new.self)
+                c.in-Ok.ensures.written.1 went;
+          }))
+          (λ same. subst IsFrozen (ap (λ k. record { internet = i; stations = c.self.inside.stations.items; wiring = k }) (sym same))
+          c.self.invariant.0),
+      c.self.invariant.1 ∙ sym c.send.ensures.limit,
+      c.send.ensures.still,
+    )
 
 pub returns-in-Ok-clause-sent : goal.returns-in-Ok-clause-sent
 returns-in-Ok-clause-sent g c =
     let o = c.args.order.now in
     let i = c.self.inside.places in
-    let new : Running = record { internet = i; stations = c.self.inside.stations.items; cabling = c.send.new.cables } in
+    let new : Running = record { internet = i; stations = c.self.inside.stations.items; wiring = c.send.new.self } in
     on_ok_weaker c.send.result
-    (λ adds. subst (λ (r : Running). SentBy r o c.args.payload.now new) c.self.view_is (record {
+    (λ went. subst (λ (r : Running). SentBy r o c.args.payload.now new) c.self.view_is (record {
       internet = refl;
       stations = refl;
-      entries = subst (λ b. Adds c.self.inside.cables c.send.new.cables
-          (sent_entries (places_of i) c.self.inside.cables o.cable o.station o.next b)) c.in-Ok.ensures.written.1 adds;
-    })) c.send.ensures.ok
+      sent =
+          subst (λ b. IsSentOn (places_of i) o.station o.cable o.next b c.self.inside.wiring c.send.new.self)
+          c.in-Ok.ensures.written.1 went;
+    })) c.send.ensures.sent
 
 pub returns-in-Ok-clause-request : goal.returns-in-Ok-clause-request
 returns-in-Ok-clause-request g c =
@@ -89,8 +84,8 @@ returns-in-Ok-clause-request g c =
     let sent : IsSent o.header payload = sent_whole o.header payload c.in-Ok.bytes c.in-Ok.ensures.written each in
     let bytes = bytes_for o payload in
     on_ok_weaker c.send.result
-    (λ adds. ap request (whole bytes sent.is_body).same
-    ∙ request_of bytes (datagram_of o.header payload) (c.in-Ok.ensures.written.0, refl)) c.send.ensures.ok
+    (λ went. ap request (whole bytes sent.is_body).same
+    ∙ request_of bytes (datagram_of o.header payload) (c.in-Ok.ensures.written.0, refl)) c.send.ensures.sent
 
 pub returns-in-Ok-clause-frozen : goal.returns-in-Ok-clause-frozen
 returns-in-Ok-clause-frozen g c = (invariant_of-self g c).0
@@ -99,20 +94,24 @@ pub returns-in-Ok-clause-asks : goal.returns-in-Ok-clause-asks
 returns-in-Ok-clause-asks g c = λ only asks.
     let o = c.args.order.now in
     let i = c.self.inside.places in
-    let old : Running = record { internet = i; stations = c.self.inside.stations.items; cabling = c.self.inside.cables } in
-    let new : Running = record { internet = i; stations = c.self.inside.stations.items; cabling = c.send.new.cables } in
+    let payload = c.args.payload.now in
+    let fair = subst (λ (r : Running). IsFair r.internet o) (sym c.self.view_is) c.requires.fair in
+    let each = subst (λ b. IsTrue (are_bytes b)) c.as_slice.ensures c.slices_have_bytes.ensures in
+    let sent : IsSent o.header payload = sent_whole o.header payload c.in-Ok.bytes c.in-Ok.ensures.written each in
+    let old : Running = record { internet = i; stations = c.self.inside.stations.items; wiring = c.self.inside.wiring } in
+    let new : Running = record { internet = i; stations = c.self.inside.stations.items; wiring = c.send.new.self } in
     let before : HaveOnlyAsked old = subst HaveOnlyAsked (sym c.self.view_is) only in
     of_both c.send.result
-    (Adds c.self.inside.cables c.send.new.cables
-    (sent_entries (places_of i) c.self.inside.cables o.cable o.station o.next c.in-Ok.bytes))
-    (c.send.new.cables ≡ c.self.inside.cables)
+    (IsSentOn (places_of i) o.station o.cable o.next c.in-Ok.bytes c.self.inside.wiring c.send.new.self)
+    (c.send.new.self ≡ c.self.inside.wiring)
     (HaveOnlyAsked new)
-    c.send.ensures.ok c.send.ensures.kept
-    (λ adds. sent_asks old new o c.args.payload.now (record {
+    c.send.ensures.sent c.send.ensures.kept
+    (λ went. sent_asks old new o payload c.self.invariant.0 fair sent (record {
       internet = refl;
       stations = refl;
-      entries = subst (λ b. Adds c.self.inside.cables c.send.new.cables
-          (sent_entries (places_of i) c.self.inside.cables o.cable o.station o.next b)) c.in-Ok.ensures.written.1 adds;
+      sent =
+          subst (λ b. IsSentOn (places_of i) o.station o.cable o.next b c.self.inside.wiring c.send.new.self)
+          c.in-Ok.ensures.written.1 went;
     }) before asks)
     (λ same. subst HaveOnlyAsked
-    (ap (λ k. record { internet = i; stations = c.self.inside.stations.items; cabling = k }) (sym same)) before)
+    (ap (λ k. record { internet = i; stations = c.self.inside.stations.items; wiring = k }) (sym same)) before)

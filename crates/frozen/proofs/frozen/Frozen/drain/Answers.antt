@@ -1,5 +1,5 @@
 use Rattle.std.proofs.Common.{◌<◌, length, sym, subst}
-use Rattle.frozen.proofs.Promised.{all_carried, each_once, has_hops, looks_up}
+use Rattle.frozen.proofs.Promised.{all_asked_for, all_carried, all_heard, each_once, has_hops, looks_up}
 use Rattle.frozen.proofs.Seats.{next_within}
 use Rattle.frozen.specs.Events.{DrainStops, IsNext, Taken, Undrained}
 use Rattle.frozen.specs.Runs.{IsFrozen, Running}
@@ -12,6 +12,8 @@ loop-turn-init g c =
       each_once c.args.self.now frozen,
       has_hops c.args.self.now frozen,
       all_carried c.args.self.now frozen,
+      all_asked_for c.args.self.now frozen,
+      all_heard c.args.self.now frozen,
       λ up. up,
     )
 
@@ -45,7 +47,9 @@ loop-turn-preserved g c =
       each_once new frozen,
       has_hops new frozen,
       all_carried new frozen,
-      λ up. looks_up new frozen (c.take.ensures.asks (c.loop-turn.invariant.4 up).0),
+      all_asked_for new frozen,
+      all_heard new frozen,
+      λ up. looks_up new frozen (c.take.ensures.asks (c.loop-turn.invariant.6 up).0),
     )
 
 pub returns-in-Err-clause-conserved : goal.returns-in-Err-clause-conserved
@@ -59,4 +63,10 @@ returns-in-Err-clause-carried g c = all_carried c.take.new.self c.take.ensures.f
 
 pub returns-in-Err-clause-looked_up : goal.returns-in-Err-clause-looked_up
 returns-in-Err-clause-looked_up g c = λ up.
-    looks_up c.take.new.self c.take.ensures.frozen (c.take.ensures.asks (c.loop-turn.invariant.4 up).0)
+    looks_up c.take.new.self c.take.ensures.frozen (c.take.ensures.asks (c.loop-turn.invariant.6 up).0)
+
+pub returns-in-Err-clause-asked_for : goal.returns-in-Err-clause-asked_for
+returns-in-Err-clause-asked_for g c = all_asked_for c.take.new.self c.take.ensures.frozen
+
+pub returns-in-Err-clause-heard : goal.returns-in-Err-clause-heard
+returns-in-Err-clause-heard g c = all_heard c.take.new.self c.take.ensures.frozen

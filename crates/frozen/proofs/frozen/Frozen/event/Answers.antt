@@ -3,7 +3,7 @@ use Rattle.at_base.specs.declared.error.Error.{Error}
 use Rattle.ddp.specs.Bodies.{body}
 use Rattle.ddp.specs.declared.header.Header.{Header}
 use Rattle.frozen.proofs.Fair.{send_fair}
-use Rattle.frozen.proofs.Promised.{all_carried, each_once, has_hops, looks_up}
+use Rattle.frozen.proofs.Promised.{all_asked_for, all_carried, all_heard, each_once, has_hops, looks_up}
 use Rattle.frozen.proofs.Seats.{found_within}
 use Rattle.frozen.specs.Events.{header_for}
 use Rattle.frozen.specs.Orders.{IsFair, bytes_for, send_order}
@@ -90,3 +90,33 @@ returns-in-None-clause-hops g c = has_hops c.args.self.now (subst IsFrozen c.sel
 
 pub returns-in-None-clause-carried : goal.returns-in-None-clause-carried
 returns-in-None-clause-carried g c = all_carried c.args.self.now (subst IsFrozen c.self-in-Take.view_is c.self-in-Take.invariant.0)
+
+pub returns-in-Ok-clause-asked_for : goal.returns-in-Ok-clause-asked_for
+returns-in-Ok-clause-asked_for g c = all_asked_for c.carry_out.new.self c.carry_out.ensures.frozen
+
+pub returns-in-Ok-clause-heard : goal.returns-in-Ok-clause-heard
+returns-in-Ok-clause-heard g c = all_heard c.carry_out.new.self c.carry_out.ensures.frozen
+
+pub returns-in-Err-clause-asked_for : goal.returns-in-Err-clause-asked_for
+returns-in-Err-clause-asked_for g c = all_asked_for c.args.self.now (subst IsFrozen c.self.view_is c.self.invariant.0)
+
+pub returns-in-Err-clause-heard : goal.returns-in-Err-clause-heard
+returns-in-Err-clause-heard g c = all_heard c.args.self.now (subst IsFrozen c.self.view_is c.self.invariant.0)
+
+pub returns-in-Request-clause-asked_for : goal.returns-in-Request-clause-asked_for
+returns-in-Request-clause-asked_for g c = all_asked_for c.ask.new.self c.ask.ensures.frozen
+
+pub returns-in-Request-clause-heard : goal.returns-in-Request-clause-heard
+returns-in-Request-clause-heard g c = all_heard c.ask.new.self c.ask.ensures.frozen
+
+pub returns-in-Some-clause-asked_for : goal.returns-in-Some-clause-asked_for
+returns-in-Some-clause-asked_for g c = all_asked_for c.take.new.self c.take.ensures.frozen
+
+pub returns-in-Some-clause-heard : goal.returns-in-Some-clause-heard
+returns-in-Some-clause-heard g c = all_heard c.take.new.self c.take.ensures.frozen
+
+pub returns-in-None-clause-asked_for : goal.returns-in-None-clause-asked_for
+returns-in-None-clause-asked_for g c = all_asked_for c.args.self.now (subst IsFrozen c.self-in-Take.view_is c.self-in-Take.invariant.0)
+
+pub returns-in-None-clause-heard : goal.returns-in-None-clause-heard
+returns-in-None-clause-heard g c = all_heard c.args.self.now (subst IsFrozen c.self-in-Take.view_is c.self-in-Take.invariant.0)

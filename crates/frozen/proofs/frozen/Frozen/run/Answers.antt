@@ -1,7 +1,7 @@
 use Rattle.std.proofs.Common.{◌+◌, length, take, ap, sym, subst, refl}
 use Rattle.std.proofs.lemmas.Option.{slice_get_read}
 use Rattle.cable_model.proofs.Counting.{each_at}
-use Rattle.frozen.proofs.Promised.{all_carried, each_once, has_hops, internet_stays}
+use Rattle.frozen.proofs.Promised.{all_asked_for, all_carried, all_heard, each_once, has_hops, internet_stays}
 use Rattle.frozen.proofs.Refused.{take_one}
 use Rattle.frozen.specs.Events.{Another, Happened, Nothing, Stopped}
 use Rattle.frozen.specs.Promises.{LooksUp, OnlyAsks}
@@ -17,6 +17,8 @@ loop-event-init g c =
       each_once c.args.self.now frozen,
       has_hops c.args.self.now frozen,
       all_carried c.args.self.now frozen,
+      all_asked_for c.args.self.now frozen,
+      all_heard c.args.self.now frozen,
       λ up only. up,
     )
 
@@ -45,12 +47,14 @@ loop-event-preserved g c =
       c.event.ensures.conserved,
       c.event.ensures.hops,
       c.event.ensures.carried,
+      c.event.ensures.asked_for,
+      c.event.ensures.heard,
       λ up only.
           let here : OnlyAsks c.args.self.now.internet e = each_at (OnlyAsks c.args.self.now.internet) es k e at only in
-          c.event.ensures.looked_up (c.loop-event.invariant.5 up only)
+          c.event.ensures.looked_up (c.loop-event.invariant.7 up only)
           (subst (λ (i : Internet). OnlyAsks i e)
           (sym (internet_stays c.args.self.now c.loop-event.self (take k es) c.loop-event.invariant.1)) here),
     )
 
 pub returns-in-Err-clause-looked_up : goal.returns-in-Err-clause-looked_up
-returns-in-Err-clause-looked_up g c = λ up only. subst LooksUp (sym c.in-Err.ensures.kept) (c.loop-event.invariant.5 up only)
+returns-in-Err-clause-looked_up g c = λ up only. subst LooksUp (sym c.in-Err.ensures.kept) (c.loop-event.invariant.7 up only)

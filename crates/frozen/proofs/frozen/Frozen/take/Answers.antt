@@ -1,10 +1,7 @@
 use Rattle.std.proofs.Common.{◌≡◌, ap, sym, subst, length, ◌+◌, ◌∙◌, IfErr, refl, ◌⊎◌, Some, None}
 use Rattle.std.specs.List.{list_any}
 use Rattle.at_base.specs.declared.error.Error.TheVariants.{Memory}
-use Rattle.cable_model.specs.Rooms.{known_rooms}
-use Rattle.cable_model.specs.Logs.{Cabling, transcript}
 use Rattle.cable_model.specs.Outcomes.{AreSeatsOf, is_named}
-use Rattle.cable_model.specs.Pending.{pending}
 use Rattle.frozen.proofs.Asking.{took_asks}
 use Rattle.frozen.proofs.Keeps.{took_keeps}
 use Rattle.frozen.proofs.Refused.{both_err, of_both, refused_so}
@@ -12,6 +9,7 @@ use Rattle.frozen.proofs.Seats.{seats_of_station}
 use Rattle.frozen.specs.Promises.{HaveOnlyAsked}
 use Rattle.frozen.specs.Runs.{IsFrozen, Running, TakenFrom, ports_of, take_refusal}
 use Rattle.legal_runs.specs.Legs.{places_of}
+use Rattle.run_cables.specs.Wired.{cabling_of, pending_for, take_room}
 use Rattle.frozen.proofs.frozen.Frozen.take.Goals as goal
 
 pub take-requires-clause-seated : goal.take-requires-clause-seated
@@ -22,36 +20,32 @@ take-requires-clause-seated g c =
 
 pub invariant_of-self : goal.invariant_of-self
 invariant_of-self g c =
-    let old : Running =
-    record { internet = c.self.inside.places; stations = c.self.inside.stations.items; cabling = c.self.inside.cables } in
-    let new : Running = record { internet = c.self.inside.places; stations = c.take.new.stations.items; cabling = c.take.new.cables } in
-    of_both c.take.result
-    (TakenFrom (places_of c.self.inside.places) c.self.inside.stations.items c.self.inside.cables c.args.stamp c.args.station
-    c.take.new.stations.items c.take.new.cables)
-    ((c.take.new.cables ≡ c.self.inside.cables) × (c.take.new.stations.items ≡ c.self.inside.stations.items))
-    (IsFrozen new × (c.self.inside.limit ≡ c.take.new.cables.limit) × (c.take.new.cables.rooms ≡ known_rooms))
-    c.take.ensures.ok (both_err c.take.result (c.take.new.cables ≡ c.self.inside.cables)
-    (c.take.new.stations.items ≡ c.self.inside.stations.items) c.take.ensures.kept c.take.ensures.stations_stay)
-    (λ taken. (
-      took_keeps old new c.args.stamp c.args.station c.self.invariant.0 (record { internet = refl; taken = taken }),
-      c.self.invariant.1 ∙ sym taken.taken.entries.limit,
-      taken.taken.entries.rooms ∙ c.self.invariant.2,
-    ))
-    (λ same. (
-      subst IsFrozen (ap (λ s. record { internet = c.self.inside.places; stations = s; cabling = c.self.inside.cables }) (sym same.1)
-          ∙ ap (λ k. record { internet = c.self.inside.places; stations = c.take.new.stations.items; cabling = k }) (sym same.0))
-          c.self.invariant.0,
-      c.self.invariant.1 ∙ ap (λ (k : Cabling). k.limit) (sym same.0),
-      ap (λ (k : Cabling). k.rooms) same.0 ∙ c.self.invariant.2,
-    ))
+    let i = c.self.inside.places in
+    let old : Running = record { internet = i; stations = c.self.inside.stations.items; wiring = c.self.inside.wiring } in
+    let new : Running = record { internet = i; stations = c.take.new.stations.items; wiring = c.take.new.wiring } in (
+      of_both c.take.result
+          (TakenFrom (places_of i) c.self.inside.stations.items c.self.inside.wiring c.args.stamp c.args.station
+          c.take.new.stations.items c.take.new.wiring)
+          ((c.take.new.wiring ≡ c.self.inside.wiring) × (c.take.new.stations.items ≡ c.self.inside.stations.items))
+          (IsFrozen new)
+          c.take.ensures.ok (both_err c.take.result (c.take.new.wiring ≡ c.self.inside.wiring)
+          (c.take.new.stations.items ≡ c.self.inside.stations.items) c.take.ensures.kept c.take.ensures.stations_stay)
+          (λ taken. took_keeps old new c.args.stamp c.args.station c.self.invariant.0 (record { internet = refl; taken = taken }))
+          (λ same. subst IsFrozen
+          (ap (λ s. record { internet = i; stations = s; wiring = c.self.inside.wiring }) (sym same.1)
+          ∙ ap (λ k. record { internet = i; stations = c.take.new.stations.items; wiring = k }) (sym same.0))
+          c.self.invariant.0),
+      c.self.invariant.1 ∙ sym c.take.ensures.limit,
+      c.take.ensures.still,
+    )
 
 pub returns-clause-refused : goal.returns-clause-refused
 returns-clause-refused g c =
     subst (λ (r : Running). IfErr c.take.result (λ e. (take_refusal r c.args.stamp c.args.station ≡ Some e)
     ⊎ ((e ≡ Memory) × (take_refusal r c.args.stamp c.args.station ≡ None)))) c.self.view_is
     (refused_so c.take.result
-    (list_any (is_named c.args.stamp c.args.station) (pending c.self.inside.cables.seats (transcript c.self.inside.cables)))
-    c.self.inside.cables.limit (length c.self.inside.cables.lines + 771) c.take.ensures.refused c.take.ensures.not_pending
+    (list_any (is_named c.args.stamp c.args.station) (pending_for c.self.inside.wiring))
+    (cabling_of c.self.inside.wiring).limit (length (cabling_of c.self.inside.wiring).lines + take_room c.self.inside.wiring) c.take.ensures.refused c.take.ensures.not_pending
     c.take.ensures.full)
 
 pub returns-clause-frozen : goal.returns-clause-frozen
@@ -60,17 +54,17 @@ returns-clause-frozen g c = (invariant_of-self g c).0
 pub returns-clause-asks : goal.returns-clause-asks
 returns-clause-asks g c = λ only.
     let old : Running =
-    record { internet = c.self.inside.places; stations = c.self.inside.stations.items; cabling = c.self.inside.cables } in
-    let new : Running = record { internet = c.self.inside.places; stations = c.take.new.stations.items; cabling = c.take.new.cables } in
+    record { internet = c.self.inside.places; stations = c.self.inside.stations.items; wiring = c.self.inside.wiring } in
+    let new : Running = record { internet = c.self.inside.places; stations = c.take.new.stations.items; wiring = c.take.new.wiring } in
     let before : HaveOnlyAsked old = subst HaveOnlyAsked (sym c.self.view_is) only in
     of_both c.take.result
-    (TakenFrom (places_of c.self.inside.places) c.self.inside.stations.items c.self.inside.cables c.args.stamp c.args.station
-    c.take.new.stations.items c.take.new.cables)
-    ((c.take.new.cables ≡ c.self.inside.cables) × (c.take.new.stations.items ≡ c.self.inside.stations.items))
+    (TakenFrom (places_of c.self.inside.places) c.self.inside.stations.items c.self.inside.wiring c.args.stamp c.args.station
+    c.take.new.stations.items c.take.new.wiring)
+    ((c.take.new.wiring ≡ c.self.inside.wiring) × (c.take.new.stations.items ≡ c.self.inside.stations.items))
     (HaveOnlyAsked new)
-    c.take.ensures.ok (both_err c.take.result (c.take.new.cables ≡ c.self.inside.cables)
+    c.take.ensures.ok (both_err c.take.result (c.take.new.wiring ≡ c.self.inside.wiring)
     (c.take.new.stations.items ≡ c.self.inside.stations.items) c.take.ensures.kept c.take.ensures.stations_stay)
     (λ taken. took_asks old new c.args.stamp c.args.station c.self.invariant.0 (record { internet = refl; taken = taken }) before)
     (λ same. subst HaveOnlyAsked
-    (ap (λ k. record { internet = c.self.inside.places; stations = c.self.inside.stations.items; cabling = k }) (sym same.0)
-    ∙ ap (λ s. record { internet = c.self.inside.places; stations = s; cabling = c.take.new.cables }) (sym same.1)) before)
+    (ap (λ k. record { internet = c.self.inside.places; stations = c.self.inside.stations.items; wiring = k }) (sym same.0)
+    ∙ ap (λ s. record { internet = c.self.inside.places; stations = s; wiring = c.take.new.wiring }) (sym same.1)) before)

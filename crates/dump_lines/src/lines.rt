@@ -1,11 +1,9 @@
-//! The lines of a world's entries, with numbers for stations.
+//! The lines of entries.
 
 use at_base::{Addr, Hw};
 use cable_model::{DropCause, Entry, How};
-use rtmp::RouteTable;
 use std::alloc::AllocError;
 use text::{put_decimal, put_hex};
-use world::World;
 
 /// Appends a word and a number, counted from 1.
 fn put_number(text: &mut Vec<u8>, word: &[u8], index: u16) -> Result<(), AllocError> {
@@ -146,44 +144,54 @@ fn put_dropped(
     put_body(text, bytes)
 }
 
-/// Appends the line of an entry of a world.
-pub fn put_entry<T: RouteTable>(
-    text: &mut Vec<u8>,
-    world: &World<T>,
-    entry: &Entry,
-) -> Result<(), AllocError> {
+/// The number of the bytes that an entry names, if it names any.
+#[must_use]
+pub fn number_of(entry: &Entry) -> Option<u32> {
     match *entry {
-        Entry::Sent { station, bytes } => {
+        Entry::Sent { bytes, .. }
+        | Entry::Put { bytes, .. }
+        | Entry::Reached { bytes, .. }
+        | Entry::Dropped { bytes, .. }
+        | Entry::Hold { bytes, .. } => Some(bytes),
+        Entry::Took { .. } | Entry::Lost { .. } => None,
+    }
+}
+
+/// Appends the line of an entry. `bytes` are those of the number that the entry names.
+///
+/// Error: out of memory; then the text may end with a part of the line.
+pub fn put_entry(text: &mut Vec<u8>, entry: &Entry, bytes: &[u8]) -> Result<(), AllocError> {
+    match *entry {
+        Entry::Sent { station, .. } => {
             put_number(text, b"sent ", station)?;
-            put_body(text, world.bytes(bytes))
+            put_body(text, bytes)
         }
         Entry::Put {
             stamp,
             cable,
             sender,
             to,
-            bytes,
             ..
-        } => put_frame(text, stamp, cable, sender, &to, world.bytes(bytes)),
+        } => put_frame(text, stamp, cable, sender, &to, bytes),
         Entry::Took { stamp, station } => put_took(text, stamp, station),
         Entry::Reached {
             cable,
             station,
             how: reached,
-            bytes,
-        } => put_reached(text, cable, station, reached, world.bytes(bytes)),
+            ..
+        } => put_reached(text, cable, station, reached, bytes),
         Entry::Dropped {
             router,
             cause: why,
-            bytes,
-        } => put_dropped(text, router, why, world.bytes(bytes)),
+            ..
+        } => put_dropped(text, router, why, bytes),
         Entry::Lost { stamp } => put_lost(text, stamp),
         Entry::Hold {
             stamp,
             cable,
             station,
             next,
-            bytes,
-        } => put_hold(text, stamp, cable, station, next, world.bytes(bytes)),
+            ..
+        } => put_hold(text, stamp, cable, station, next, bytes),
     }
 }
