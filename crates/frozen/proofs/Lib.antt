@@ -1,5 +1,6 @@
 pub mod Seats
 pub mod Keeps
+pub mod Grown
 pub mod Fair
 pub mod Refused
 pub mod Asked

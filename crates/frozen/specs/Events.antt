@@ -11,13 +11,13 @@ use Rattle.audit.specs.Verdicts.{IsFirst}
 use Rattle.cable_model.specs.Outcomes.{IsLeast}
 use Rattle.ddp.specs.declared.header.Header.{Header}
 use Rattle.frozen.specs.Orders.{ask_data, ask_order, bytes_for, send_order}
-use Rattle.frozen.specs.Runs.{Running, TakenBy, cabling, take_refusal}
+use Rattle.frozen.specs.Runs.{Running, TakenBy, cabling, pending_in, take_refusal}
 use Rattle.events.specs.declared.event.Event.{Event}
 use Rattle.events.specs.declared.event.Event.TheVariants.{Send, Request, Take}
 use Rattle.frozen.specs.declared.order.Order.{Order}
 use Rattle.image_stations.specs.Finding.{station_at}
 use Rattle.legal_runs.specs.Legs.{places_of}
-use Rattle.run_cables.specs.Wired.{IsSentOn, pending_for, send_room}
+use Rattle.run_cables.specs.Wired.{IsSentOn, send_room}
 use Rattle.table_image.specs.Internet.{Internet}
 
 -- The header of a datagram whose source isn't set yet.
@@ -94,7 +94,7 @@ pub record Stopped (old : Running) (es : List Event) (k : ℕ) (e : Error) (new 
 
 -- The lowest pending stamp, and the lowest station for which it is pending.
 abbrev pub IsNext : Running → ℕ → ℕ → Type 0
-IsNext r stamp s = IsLeast (pending_for r.wiring) stamp s
+IsNext r stamp s = IsLeast (pending_in r) stamp s
 
 -- n times, the frame with the lowest pending stamp was taken by the lowest station for which it was pending.
 pub data Drained : Running → ℕ → Running → Type 0 where
@@ -107,7 +107,7 @@ pub record DrainsTo (old : Running) (most : ℕ) (none_left : Bool) (new : Runni
   pub number : ℕ
   pub few : number ≤ most
   pub drained : Drained old number new
-  pub left : none_left ≡ (length (pending_for new.wiring) == 0)
+  pub left : none_left ≡ (length (pending_in new) == 0)
   pub all : none_left ≡ false → number ≡ most
 
 -- Fewer than `most` frames were taken, and the next take has this error.

@@ -8,7 +8,7 @@ use Rattle.events.specs.declared.event.Event.{Event}
 use Rattle.events.specs.declared.event.Event.TheVariants.{Send, Request, Take}
 use Rattle.frozen.specs.Events.{header_for}
 use Rattle.frozen.specs.Orders.{bytes_for, send_order}
-use Rattle.frozen.specs.Runs.{Running, transcript}
+use Rattle.frozen.specs.Runs.{Running, pending_in, transcript}
 use Rattle.frozen.specs.declared.order.Order.{Order}
 use Rattle.legal_runs.specs.Carriage.{AreByHand, AreCarried, AreTakenThere, none_yet}
 use Rattle.legal_runs.specs.Counts.{HasHopsLeft, IsConserved, reached, sent}
@@ -19,7 +19,6 @@ use Rattle.resolved_runs.specs.HeldChains.{AreCarriedOrHeld}
 use Rattle.resolved_runs.specs.HeldCounts.{given_up, given_up_forwards, given_up_requests}
 use Rattle.resolved_runs.specs.Plain.{plain}
 use Rattle.resolved_runs.specs.ResolvedLaws.{HasHopsLeftResolved, IsConservedResolved, IsLookedUpResolved}
-use Rattle.run_cables.specs.Wired.{pending_for}
 use Rattle.run_cables.specs.declared.wiring.Wiring.{Wiring}
 use Rattle.run_cables.specs.declared.wiring.Wiring.TheVariants.{Asking, Known}
 use Rattle.table_image.specs.Internet.{Internet}
@@ -96,7 +95,7 @@ AreAllHeard r = AreHeardOn r.internet r.wiring
 
 -- Nothing is pending: each frame was taken by each station that it was for.
 abbrev pub IsAtRest : Running → Type 0
-IsAtRest r = pending_for r.wiring ≡ []
+IsAtRest r = pending_in r ≡ []
 
 -- How often the body was given up while it was held for a router: never where every hardware address is known.
 abbrev pub shed : Internet → Wiring → List ℕ → ℕ

@@ -6,6 +6,7 @@ use Rattle.at_base.specs.declared.error.Error.TheVariants.{Full, NotPending}
 use Rattle.audit.specs.Rules.{Passes}
 use Rattle.cable_model.specs.Logs.{Cabling, transcript as said}
 use Rattle.cable_model.specs.Outcomes.{Places, is_named}
+use Rattle.cable_model.specs.Pending.{Pair}
 use Rattle.cable_model.specs.Transcript.{Entry}
 use Rattle.end_node.specs.Answers.{Hears as NodeHears}
 use Rattle.end_node.specs.Holding.{NodeHolding}
@@ -20,7 +21,7 @@ use Rattle.resolved_runs.specs.Fitting.{SeatsFit}
 use Rattle.resolved_runs.specs.ResolvedRuns.{IsLegalResolved}
 use Rattle.router.specs.Answers.{Hears as RouterHears}
 use Rattle.router.specs.Holding.{Holding}
-use Rattle.run_cables.specs.Wired.{IsTakenOn, cabling_of, happened, pending_for, take_room}
+use Rattle.run_cables.specs.Wired.{AreFresh, IsTakenOn, cabling_of, happened, pending_for, take_room}
 use Rattle.run_cables.specs.declared.wiring.Wiring.{Wiring}
 use Rattle.run_cables.specs.declared.wiring.Wiring.TheVariants.{Asking, Known}
 use Rattle.table_image.specs.Bounds.{IsBounded}
@@ -42,6 +43,14 @@ cabling r = cabling_of r.wiring
 -- The transcript of a run.
 abbrev pub transcript : Running → List Entry
 transcript r = happened r.wiring
+
+-- The pairs that are pending in a run.
+abbrev pub pending_in : Running → List Pair
+pending_in r = pending_for r.wiring
+
+-- A run over an internet in which nothing has happened, with room for so many entries.
+abbrev pub HasBegun : Internet → ℕ → Running → Type 0
+HasBegun i limit r = (r.internet ≡ i) × AreFresh i limit r.wiring
 
 -- The transcript is legal: over an image of version 1 as where every hardware address is known, and over one of version 2 with
 -- resolution; then the cables keep what it says.
@@ -85,5 +94,5 @@ pub record TakenBy (old : Running) (stamp s : ℕ) (new : Running) : Type 0 wher
 -- fewer entries than a take may need: 771 over an image of version 1, and 1,285 over one of version 2.
 abbrev pub take_refusal : Running → ℕ → ℕ → Option Error
 take_refusal r stamp s =
-    cond (list_any (is_named stamp s) (pending_for r.wiring))
+    cond (list_any (is_named stamp s) (pending_in r))
     (cond (nat_lt (cabling r).limit (length (cabling r).lines + take_room r.wiring)) (Some Full) None) (Some NotPending)

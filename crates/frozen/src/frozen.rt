@@ -15,11 +15,10 @@ ghost use Rattle.frozen.specs.Orders.{IsFair, bytes_for};
 ghost use Rattle.frozen.specs.Promises.{AreAllAskedFor, AreAllCarried, AreAllHeard, HasHops};
 ghost use Rattle.frozen.specs.Promises.{HaveOnlyAsked, IsEachOnce, LooksUp, OnlyAsks};
 ghost use Rattle.frozen.specs.Promises.{is_routers_request};
-ghost use Rattle.frozen.specs.Runs.{IsFrozen, TakenBy, take_refusal};
+ghost use Rattle.frozen.specs.Runs.{HasBegun, IsFrozen, TakenBy, pending_in, take_refusal};
 ghost use Rattle.image_stations.specs.Holders.{AreFresh};
 ghost use Rattle.legal_runs.specs.Requests as requests_spec;
-ghost use Rattle.run_cables.specs.Wired.{AreFresh as AreFreshCables};
-ghost use Rattle.run_cables.specs.Wired.{cabling_of, pending_for, send_room};
+ghost use Rattle.run_cables.specs.Wired.{cabling_of, send_room};
 ghost use Rattle.station.specs.Lawful.{IsNext};
 ghost use Rattle.at_base.specs.Limits.{max_data};
 
@@ -90,8 +89,7 @@ impl<T: RouteTable> Frozen<T> {
     ///
     /// Errors: `NotAudited` with the audit's fault if the image fails the audit; `Memory`.
     pub fn start(alloc: Global, image: Image, limit: u32) -> Result<Frozen<T>, Error>
-        ensures started { IfOk result (λ run. (run.internet ≡ image)
-            × AreFreshCables image limit run.wiring) }
+        ensures started { IfOk result (HasBegun image limit) }
         // Its stations have received nothing yet.
         ensures fresh { IfOk result (λ run. AreFresh run.stations) }
         ensures passes { OnOk result (Passes image) }
@@ -137,7 +135,7 @@ impl<T: RouteTable> Frozen<T> {
 
     /// The number of pending pairs of a frame and a station. Allocates nothing.
     pub fn pending_count(&self) -> usize
-        ensures { result ≡ length (pending_for self.now.wiring) }
+        ensures { result ≡ length (pending_in self.now) }
     {
         self.wiring.pending_count()
     }

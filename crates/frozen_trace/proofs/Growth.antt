@@ -13,12 +13,11 @@ use Rattle.events.specs.declared.event.Event.{Event}
 use Rattle.events.specs.declared.event.Event.TheVariants as event
 use Rattle.frozen.specs.Events.{DrainStops, Drained, DrainsTo, Happens, IsRefused, Sends, Taken, Takes, Undrained, header_for, refusal}
 use Rattle.frozen.specs.Orders.{ask_data, ask_order, bytes_for, send_order}
-use Rattle.frozen.specs.Runs.{Running, TakenBy, cabling}
+use Rattle.frozen.specs.Runs.{Running, TakenBy, cabling, pending_in}
 use Rattle.frozen.specs.declared.order.Order.{Order}
 use Rattle.image_stations.specs.Finding.{station_at}
-use Rattle.frozen_trace.proofs.Grown.{sent_grown, taken_grown}
+use Rattle.frozen.proofs.Grown.{sent_grown, taken_grown}
 use Rattle.legal_runs.specs.Legs.{places_of}
-use Rattle.run_cables.specs.Wired.{pending_for}
 use Rattle.frozen_trace.proofs.EntryLines.{cables_append, lines_append, printed}
 use Rattle.frozen_trace.specs.Traces.{Plays, Played, PlaysAll, Refusing, added, all_printed, cables_of, refused_line, told}
 use Rattle.script.specs.declared.step.Step.{Step}
@@ -189,7 +188,7 @@ drain_out a b c k most more before one = record {
 
 -- As many takes as the step says.
 pub drain_full : (a b : Running) (k most : ℕ) → k ≡ most → Drained a k b
-    → DrainsTo a most (length (pending_for b.wiring) == 0) b
+    → DrainsTo a most (length (pending_in b) == 0) b
 drain_full a b k most full before = record {
   number = k;
   few = subst (λ n. k ≤ n) full (omega arith);

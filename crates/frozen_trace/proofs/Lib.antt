@@ -1,3 +1,2 @@
 pub mod EntryLines
-pub mod Grown
 pub mod Growth

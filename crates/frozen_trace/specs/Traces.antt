@@ -12,9 +12,8 @@ use Rattle.cable_model.specs.Logs.{transcript}
 use Rattle.cable_model.specs.Transcript.{Entry}
 use Rattle.events.specs.declared.event.Event.{Event}
 use Rattle.frozen.specs.Events.{DrainStops, DrainsTo, Happens, refusal}
-use Rattle.frozen.specs.Runs.{IsFrozen, Running, cabling}
+use Rattle.frozen.specs.Runs.{HasBegun, IsFrozen, Running, cabling, pending_in}
 use Rattle.image_stations.specs.Holders.{AreFresh}
-use Rattle.run_cables.specs.Wired.{AreFresh as AreFreshCables, pending_for}
 use Rattle.script.specs.declared.step.Step.{Step}
 use Rattle.script.specs.declared.step.Step.TheVariants as step
 use Rattle.table_image.specs.Internet.{Internet}
@@ -43,7 +42,7 @@ refused_line e = codes "refused " ++ decimal (number_of e) ++ 10 ∷ []
 
 -- The last line: how many pairs of a frame and a station are pending.
 abbrev pub pending_line : Running → List ℕ
-pending_line r = codes "pending " ++ decimal (length (pending_for r.wiring)) ++ 10 ∷ []
+pending_line r = codes "pending " ++ decimal (length (pending_in r)) ++ 10 ∷ []
 
 -- The effect of a step on a run, and the text that is printed: an event is carried out, or has an error other than
 -- Memory and changes nothing; or frames are taken, as many as the step says unless nothing is pending any more, or up
@@ -70,8 +69,7 @@ pub data PlaysAll : Running → List Step → List ℕ → Running → Type 0 wh
 pub record IsTrace (i : Internet) (steps : List Step) (text : List ℕ) : Type 0 where
   pub begun : Running
   pub ended : Running
-  pub internet : begun.internet ≡ i
-  pub cables : AreFreshCables i 4000000 begun.wiring
+  pub has_begun : HasBegun i 4000000 begun
   pub fresh : AreFresh begun.stations
   pub begun_frozen : IsFrozen begun
   pub ended_frozen : IsFrozen ended

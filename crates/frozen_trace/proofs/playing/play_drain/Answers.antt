@@ -2,7 +2,7 @@ use Rattle.std.proofs.Common.{◌==◌, ◌++◌, Bool, List, ℕ, ap, length, r
 use Rattle.frozen.specs.Events.{DrainsTo, Undrained}
 use Rattle.text.proofs.Going.{goes_none, goes_then, on_both, on_ok}
 use Rattle.frozen_trace.proofs.Growth.{drain_full, drain_on, drain_out, drain_stops, drained_grows, prints, told_none, told_then}
-use Rattle.run_cables.specs.Wired.{pending_for}
+use Rattle.frozen.specs.Runs.{pending_in}
 use Rattle.text.specs.Going.{Goes}
 use Rattle.frozen_trace.specs.Traces.{Draining, Stopping, all_printed, refused_line, told}
 use Rattle.frozen_trace.proofs.playing.play_drain.Goals as goal
@@ -95,7 +95,7 @@ returns-clause-played g c =
     let new = c.loop-turn.run in
     let held = c.loop-turn.invariant in (
       told run new,
-      Draining run new c.args.most (length (pending_for new.wiring) == 0)
+      Draining run new c.args.most (length (pending_in new) == 0)
           (drain_full run new c.loop-turn._turn c.args.most
           (omega (arith, c.loop-turn-test.false, c.loop-turn.auto._turn-end)) held.0),
       held.1,

@@ -48,8 +48,7 @@ returns-in_ok-trace_run-in-Ok-clause-printed g c =
         record {
           begun = c.in-Ok.run';
           ended = ended;
-          internet = c.in-Ok.ensures.started.0;
-          cables = c.in-Ok.ensures.started.1;
+          has_begun = c.in-Ok.ensures.started;
           fresh = c.in-Ok.ensures.fresh;
           begun_frozen = told.frozen.0;
           ended_frozen = told.frozen.1;
