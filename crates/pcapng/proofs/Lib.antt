@@ -1,0 +1,4 @@
+pub mod Laid
+pub mod Values
+pub mod Shape
+pub mod Again

@@ -1,0 +1,4 @@
+pub mod Fields
+pub mod Frames
+pub mod Blocks
+pub mod Captures
