@@ -34,7 +34,8 @@ install: atalk
 	install -d $(DESTDIR)$(PREFIX)/bin $(DESTDIR)$(PREFIX)/share/man/man1 $(DESTDIR)$(PREFIX)/share/man/man5
 	install -m 755 atalk $(DESTDIR)$(PREFIX)/bin/atalk
 	install -m 644 docs/man/atalk.1 $(DESTDIR)$(PREFIX)/share/man/man1/atalk.1
-	install -m 644 docs/man/atalk-image.5 docs/man/atalk-internet.5 docs/man/atalk-script.5 $(DESTDIR)$(PREFIX)/share/man/man5
+	install -m 644 docs/man/atalk-image.5 docs/man/atalk-internet.5 docs/man/atalk-script.5 docs/man/atalk-tables.5 \
+		$(DESTDIR)$(PREFIX)/share/man/man5
 
 dist:
 	@scripts/build -q

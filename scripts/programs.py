@@ -6,14 +6,20 @@ import subprocess
 TOP = os.path.join(os.path.dirname(os.path.realpath(__file__)), "..")
 
 
-def arguments(doc, number):
-    """A parser of the arguments that each comparison has: the judge, the program, how many cases (NUMBER, if not given), and
-    the seed that they depend on."""
+def options(doc, number):
+    """A parser of the arguments that each comparison has: the program, how many cases (NUMBER, if not given), and the seed
+    that they depend on."""
     given = argparse.ArgumentParser(description=doc.split("\n")[0])
-    given.add_argument("judge", metavar="JUDGE")
     given.add_argument("-p", dest="program", metavar="PROGRAM", default=os.path.join(TOP, "atalk"))
     given.add_argument("-n", dest="number", metavar="N", type=int, default=number)
     given.add_argument("-s", dest="seed", metavar="SEED", type=int, default=1)
+    return given
+
+
+def arguments(doc, number):
+    """The same with the judge, for a comparison with another program."""
+    given = options(doc, number)
+    given.add_argument("judge", metavar="JUDGE")
     return given
 
 

@@ -3,11 +3,20 @@
 
 use at_base::{Error, Part};
 use command_line::{Outcome, Source};
-use file_advice::explain_entry;
+use file_advice::{explain_entry, explain_tables};
 use image_advice::{explain_flaw, explain_kind, explain_no, explain_no_of_bytes};
 use std::io;
 use std::io::ErrorKind;
 use table_image::Image;
+
+/// A kind of file that people write in TOML.
+#[derive(Clone, Copy)]
+pub enum FileKind {
+    /// An internet file, for a play.
+    Internet,
+    /// A tables file, of which an image is made.
+    Tables,
+}
 
 /// Facts about a run of the program besides its outcome.
 #[derive(Drop)]
@@ -16,7 +25,7 @@ pub struct Evidence<'a> {
     pub source: Option<Source<'a>>,
     /// Why a read failed.
     pub fault: Option<ErrorKind>,
-    /// The bytes of a play's image, or the text of an invalid internet file.
+    /// The bytes of the image of a play or of a tables file, or the text of an invalid file.
     pub bytes: Option<Vec<u8>>,
     /// The image that was read.
     pub image: Option<Image>,
@@ -24,6 +33,8 @@ pub struct Evidence<'a> {
     pub flawed: Option<u8>,
     /// The file for the image, if it couldn't be written.
     pub unwritten: Option<&'a str>,
+    /// What an invalid file was read as.
+    pub file: FileKind,
 }
 
 /// Prints that the input is read from the terminal.
@@ -80,7 +91,8 @@ fn explain_source(rt: &impl Eprint, evidence: &Evidence<'_>) -> io::Result<()> {
     }
 }
 
-/// Explains the fault of an internet file and its place, if the text of the file was kept.
+/// Explains the fault of an internet file or a tables file and its place, if the text of the file
+/// was kept.
 fn explain_file(
     rt: &(impl Eprint + AllocGlobal),
     part: Part,
@@ -90,7 +102,10 @@ fn explain_file(
     match &evidence.bytes {
         Some(text) => {
             explain_source(rt, evidence)?;
-            explain_entry(rt, text.as_slice(), part, index)
+            match evidence.file {
+                FileKind::Internet => explain_entry(rt, text.as_slice(), part, index),
+                FileKind::Tables => explain_tables(rt, text.as_slice(), part, index),
+            }
         }
         None => Ok(()),
     }

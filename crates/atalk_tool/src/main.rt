@@ -1,11 +1,13 @@
-//! The program `atalk`: audits an image of an internet's tables, runs scripts over it, and plays
-//! internet files, whose final tables it writes as an image.
+//! The program `atalk`: audits an image of an internet's tables, runs scripts over it, shows and
+//! draws it, makes one of a tables file, and plays internet files, whose final tables it writes as
+//! an image.
 #![tactic(auto)]
 
 mod explain;
 mod performed;
 mod run;
 mod run_play;
+mod run_tables;
 mod streams;
 mod watching;
 

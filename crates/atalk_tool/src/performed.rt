@@ -2,7 +2,7 @@
 
 ghost use Rattle.std.specs.Prelude.{◌≡◌, Some};
 
-use crate::explain::Evidence;
+use crate::explain::{Evidence, FileKind};
 use command_line::{Outcome, Source};
 use std::io;
 
@@ -27,6 +27,7 @@ impl<'a> Performed<'a> {
                 image: None,
                 flawed: None,
                 unwritten: None,
+                file: FileKind::Internet,
             },
         }
     }
@@ -45,6 +46,7 @@ impl<'a> Performed<'a> {
                 image: None,
                 flawed: None,
                 unwritten: None,
+                file: FileKind::Internet,
             },
         }
     }
@@ -63,6 +65,7 @@ impl<'a> Performed<'a> {
                 image: None,
                 flawed: None,
                 unwritten: None,
+                file: FileKind::Internet,
             },
         }
     }

@@ -4,9 +4,10 @@ ghost use Rattle.std.specs.Prelude.{◌≡◌, Bool, Err, Some, if◌then◌else
 ghost use Rattle.clap.specs.Words.{kind_of};
 ghost use Rattle.command_line.specs.Exits.{exit_at};
 
-use crate::explain::{Evidence, explain, prompt};
+use crate::explain::{Evidence, FileKind, explain, prompt};
 use crate::performed::Performed;
 use crate::run_play::{PlayJob, play_source};
+use crate::run_tables::{MakeJob, Printed, draw_source, make_source, print_source};
 use at_base::Error;
 use clap::error::ErrorKind as ParseError;
 use command_line::{Job, Outcome, Source, exit_of, read_arguments};
@@ -62,6 +63,7 @@ fn audit_reader<'a, R: Print + AllocGlobal, S: Read + Drop>(
             image,
             flawed,
             unwritten: None,
+            file: FileKind::Internet,
         },
     }
 }
@@ -115,6 +117,7 @@ fn evidence_of<'a, I: Drop, S: Drop>(
             image: None,
             flawed: None,
             unwritten: None,
+            file: FileKind::Internet,
         }
     } else {
         Evidence {
@@ -124,6 +127,7 @@ fn evidence_of<'a, I: Drop, S: Drop>(
             image: image.image,
             flawed: image.flawed,
             unwritten: None,
+            file: FileKind::Internet,
         }
     }
 }
@@ -242,6 +246,18 @@ fn run_arguments<R: Files + Input + Print + Eprint + AllocGlobal>(
                 version,
             };
             let performed = play_source(rt, job, terminals);
+            answer(rt, &performed, terminals)
+        }
+        Ok(Job::Make(source, image)) => {
+            let performed = make_source(rt, MakeJob { source, image }, terminals);
+            answer(rt, &performed, terminals)
+        }
+        Ok(Job::Show(source)) => {
+            let performed = print_source(rt, source, Printed::Tables, terminals);
+            answer(rt, &performed, terminals)
+        }
+        Ok(Job::Draw(source, to)) => {
+            let performed = draw_source(rt, source, to, terminals);
             answer(rt, &performed, terminals)
         }
         Err(error) => answer(rt, &print_answer(rt, &error), terminals),

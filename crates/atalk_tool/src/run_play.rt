@@ -2,7 +2,7 @@
 
 ghost use Rattle.std.specs.Prelude.{◌≡◌, ◌==◌, None, if◌then◌else◌};
 
-use crate::explain::{Evidence, prompt};
+use crate::explain::{Evidence, FileKind, prompt};
 use crate::performed::Performed;
 use crate::run::Terminals;
 use crate::watching::Watching;
@@ -25,7 +25,7 @@ pub struct PlayJob<'a> {
 }
 
 /// The file for the image, if a write to it failed.
-fn unwritten<'a, I>(image: &Output<I>, path: Option<&'a str>) -> Option<&'a str>
+pub fn unwritten<'a, I>(image: &Output<I>, path: Option<&'a str>) -> Option<&'a str>
     ensures { result ≡ (if image.now.faults == 0 then None else path.entry) }
 {
     if image.faults == 0 { None } else { path }
@@ -63,6 +63,7 @@ fn play_reader<'a, R: Print + Eprint + AllocGlobal, S: Read + Drop, I: Write + D
             image: None,
             flawed: None,
             unwritten: unwritten(&image, job.image),
+            file: FileKind::Internet,
         },
     }
 }

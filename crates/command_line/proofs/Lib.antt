@@ -1,3 +1,4 @@
 mod CommandLine
 mod Operands
 mod PlayLine
+mod TablesLine

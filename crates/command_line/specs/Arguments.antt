@@ -1,12 +1,12 @@
 -- The command line, as a parse sees it.
 use Rattle.std.specs.Prelude.{◌≡◌, ◌≢◌, ◌⊎◌, ◌==◌, Bool, true, false, not, List, [], ◌∷◌, Option, Some, None, codes, option_map}
-use Rattle.std.specs.Prelude.{if◌then◌else◌}
+use Rattle.std.specs.Prelude.{cond, if◌then◌else◌}
 use Rattle.std.specs.Str.{bytes_eq}
 use Rattle.clap.specs.Walk.{Rule}
 use Rattle.clap.specs.Words.{App, Row, Text, first_of, new_app, new_rule, with_rule, with_subcommand}
 use Rattle.clap.specs.declared.builder.ArgAction.TheVariants.{Set, SetTrue}
 use Rattle.command_line.specs.declared.arguments.Job.{Job}
-use Rattle.command_line.specs.declared.arguments.Job.TheVariants.{Audit, Trace, Play}
+use Rattle.command_line.specs.declared.arguments.Job.TheVariants.{Audit, Draw, Make, Play, Show, Trace}
 use Rattle.command_line.specs.declared.arguments.Source.{Source}
 use Rattle.command_line.specs.declared.arguments.Source.TheVariants.{StandardInput, File}
 use Rattle.table_image.specs.declared.version.Version.{Version}
@@ -40,13 +40,33 @@ v2_flag = record (new_rule (codes "V2")) { long = Some (codes "v2"); action = So
 abbrev pub play_app : App
 play_app = with_rule (with_rule (with_rule (new_app (codes "play")) (operand (codes "FILE"))) out_option) v2_flag
 
+-- The command `make FILE`, with `--image OUT`.
+abbrev pub make_app : App
+make_app = with_rule (with_rule (new_app (codes "make")) (operand (codes "FILE"))) out_option
+
+-- The command `show IMAGE`.
+abbrev pub show_app : App
+show_app = with_rule (new_app (codes "show")) (operand (codes "IMAGE"))
+
+-- The option `--to NET`.
+abbrev pub to_option : Rule
+to_option = record (new_rule (codes "NET")) { long = Some (codes "to"); action = Some Set }
+
+-- The command `draw IMAGE`, with `--to NET`.
+abbrev pub draw_app : App
+draw_app = with_rule (with_rule (new_app (codes "draw")) (operand (codes "IMAGE"))) to_option
+
 -- The program `atalk`, with its commands for images.
 abbrev pub images_app : App
 images_app = with_subcommand (with_subcommand bare_app audit_app.top) trace_app.top
 
+-- The program `atalk`, with its commands for images and for internet files.
+abbrev pub plays_app : App
+plays_app = with_subcommand images_app play_app.top
+
 -- The program `atalk`, with its commands.
 abbrev pub atalk_app : App
-atalk_app = with_subcommand images_app play_app.top
+atalk_app = with_subcommand (with_subcommand (with_subcommand plays_app make_app.top) show_app.top) draw_app.top
 
 -- The source of a text: standard input for `-` or without a text, and otherwise the file with that name.
 abbrev pub Names : Option Text → Source → Type 0
@@ -75,17 +95,52 @@ Plays file out version (Play source image asked) =
     Names file source × (option_map (λ path. path.now) image ≡ out) × (asked ≡ version)
 Plays file out version _ = ⊥
 
--- The job of a command with these operands: of `trace` or `play` if it is that command, and otherwise of `audit`.
-abbrev pub IsMeantBy : Bool → Bool → List Row → Job → Type 0
-IsMeantBy true _ rows job = Traces (first_of (codes "IMAGE") rows) (first_of (codes "SCRIPT") rows) job
-IsMeantBy false true rows job =
+-- The job is to make an image of the source in the first text, which is written to the file in the second text, if there
+-- is one.
+abbrev pub Makes : Option Text → Option Text → Job → Type 0
+Makes file out (Make source image) = Names file source × (option_map (λ path. path.now) image ≡ out)
+Makes file out _ = ⊥
+
+-- The job is to show the tables of the image in this text.
+abbrev pub Shows : Option Text → Job → Type 0
+Shows image (Show source) = Names image source
+Shows image _ = ⊥
+
+-- The job is to draw the image in the first text, with the ways to the network in the second text, if there is one.
+abbrev pub Draws : Option Text → Option Text → Job → Type 0
+Draws image net (Draw source to) = Names image source × (option_map (λ word. word.now) to ≡ net)
+Draws image net _ = ⊥
+
+-- A command of the program.
+pub data Asked : Type 0 where
+  ToAudit : Asked
+  ToTrace : Asked
+  ToPlay : Asked
+  ToMake : Asked
+  ToShow : Asked
+  ToDraw : Asked
+
+-- The command with this name: `audit` where it is none of the others.
+abbrev pub asked : Text → Asked
+asked name =
+    cond (bytes_eq name (codes "trace")) ToTrace (cond (bytes_eq name (codes "play")) ToPlay
+    (cond (bytes_eq name (codes "make")) ToMake (cond (bytes_eq name (codes "show")) ToShow
+    (cond (bytes_eq name (codes "draw")) ToDraw ToAudit))))
+
+-- The job of a command with these operands.
+abbrev pub IsMeantBy : Asked → List Row → Job → Type 0
+IsMeantBy ToAudit rows job = Audits (first_of (codes "FILE") rows) job
+IsMeantBy ToTrace rows job = Traces (first_of (codes "IMAGE") rows) (first_of (codes "SCRIPT") rows) job
+IsMeantBy ToPlay rows job =
     Plays (first_of (codes "FILE") rows) (first_of (codes "OUT") rows) (version_by (first_of (codes "V2") rows)) job
-IsMeantBy false false rows job = Audits (first_of (codes "FILE") rows) job
+IsMeantBy ToMake rows job = Makes (first_of (codes "FILE") rows) (first_of (codes "OUT") rows) job
+IsMeantBy ToShow rows job = Shows (first_of (codes "IMAGE") rows) job
+IsMeantBy ToDraw rows job = Draws (first_of (codes "IMAGE") rows) (first_of (codes "NET") rows) job
 
 -- The job of the command that was matched, with its operands; without a command, an audit of standard input.
 abbrev pub IsMeant : Option (Text × List Row) → Job → Type 0
 IsMeant None job = Audits None job
-IsMeant (Some met) job = IsMeantBy (bytes_eq met.0 (codes "trace")) (bytes_eq met.0 (codes "play")) met.1 job
+IsMeant (Some met) job = IsMeantBy (asked met.0) met.1 job
 
 -- The argument is no flag: it has at most one byte, or doesn't begin with a dash.
 abbrev pub is_operand : Text → Bool

@@ -1,23 +1,20 @@
-//! The command line: reads the arguments, and has the help text.
+//! Reads the arguments of the command line.
 
 ghost use Rattle.std.specs.Prelude.{◌≡◌, ◌≢◌, ◌⊎◌, ◌≤◌, ◌∷◌};
 ghost use Rattle.std.specs.Prelude.{List, ℕ, [], None, false, true, codes, length, map};
 ghost use Rattle.std.specs.Prelude.{IfOk, IfErr, IsErrAnd, IsTrue, Some, option_map};
-ghost use Rattle.std.specs.Str.{bytes_eq};
-ghost use Rattle.clap.specs.Words.{FailsBy, app_of, fault_of, first_of, found_of, kind_of, rows_of};
-ghost use Rattle.clap.specs.Words.{rule_of, subcommand_of, subcommand_rows_of, takes};
-ghost use Rattle.clap.specs.declared.Command.TheViews.{out-Command as fields_of};
+ghost use Rattle.clap.specs.Words.{FailsBy, fault_of, first_of, found_of, kind_of, rows_of};
+ghost use Rattle.clap.specs.Words.{subcommand_of, subcommand_rows_of, takes};
 ghost use Rattle.clap.specs.declared.error.ErrorKind.TheVariants.{DisplayHelp, DisplayVersion};
 ghost use Rattle.clap.specs.declared.error.ErrorKind.TheVariants.{OutOfMemory};
-ghost use Rattle.command_line.specs.Arguments.{Audits, IsMeant, IsMeantBy, Names, Place, Plays};
-ghost use Rattle.command_line.specs.Arguments.{Traces, atalk_app, audit_app, images_app};
-ghost use Rattle.command_line.specs.Arguments.{is_operand, out_option, play_app, play_to_words};
-ghost use Rattle.command_line.specs.Arguments.{play_words, trace_app, v2_flag, version_at};
+ghost use Rattle.command_line.specs.Arguments.{Audits, Draws, IsMeant, IsMeantBy, Makes, Names};
+ghost use Rattle.command_line.specs.Arguments.{Place, Plays, Shows, Traces, asked, atalk_app};
+ghost use Rattle.command_line.specs.Arguments.{is_operand, play_to_words, play_words, version_at};
 ghost use Rattle.command_line.specs.Arguments.{version_by};
-ghost use Rattle.command_line.specs.Arguments as spec;
 
-use clap::{Arg, ArgAction, ArgMatches, Command, Error};
-use std::alloc::{AllocError, Global};
+use crate::syntax::atalk_command;
+use clap::{ArgMatches, Error};
+use std::alloc::Global;
 use std::convert::AsStr;
 use table_image::Version;
 
@@ -38,145 +35,13 @@ pub enum Job<'a> {
     /// The play of an internet file, the file for its image, if one is wanted, and the version of
     /// the image, if one is asked for.
     Play(Source<'a>, Option<&'a str>, Option<Version>),
-}
-
-const ABOUT: &str =
-    "Plays AppleTalk internets, audits images of them, frozen at one moment, and runs \
-    scripts over these.";
-
-const AFTER_HELP: &str = "Without a command, atalk audits the image on standard input.
-
-Exit status:
-  0  yes: the tables keep every rule; or a run was made
-  1  no: the line printed names the first rule that is broken, and where
-  2  the input is refused, for the reason that its number gives; or a usage error
-  3  out of memory, or reading or writing failed
-
-A refusal prints `refused: N` on standard error:
-  11  more happens in a play than there is room for
-  12  the input is no image
-  13  the input is no internet file
-  14  out of memory
-  15  the input can't be opened or read
-  16  the answer can't be written
-  17  the script has a bad line
-Where standard error is a terminal, a no and a refusal are explained there.
-
-Examples:
-  atalk audit three-cables.image
-  atalk trace three-cables.image echo.script
-  atalk play two-routers.toml --image two-routers.image
-
-More: man atalk, man atalk-image, man atalk-script, man atalk-internet";
-
-const AUDIT: &str =
-    "Judges an image and prints one line: yes with a summary, or no with the first fault";
-
-const TRACE: &str = "Runs a script over an image that passes the audit, and prints what happens";
-
-const PLAY: &str =
-    "Plays an internet file to its last tick, and prints what its nodes received and \
-    the verdict on the tables";
-
-const IMAGE: &str = "The image; - is standard input";
-
-const SCRIPT: &str = "The script; - is standard input";
-
-const INTERNET: &str = "The internet file; - is standard input";
-
-const OUT: &str = "Where the image of the tables goes";
-
-const VERSION_2: &str =
-    "Writes the image in version 2, with each station's mappings; without it the image is of \
-    version 1 where that can hold the tables, else of version 2";
-
-/// A required operand.
-fn operand<'a>(alloc: Global, name: &'a str, help: &'a str) -> Arg<'a>
-    ensures rule { rule_of result ≡ spec.operand name.entry.now }
-    ensures local { result.global ≡ false }
-{
-    Arg::new(alloc, name)
-        .help(help)
-        .required(true)
-        .action(ArgAction::Set)
-}
-
-/// `atalk audit FILE`.
-fn audit_command<'a>(alloc: Global) -> Result<Command<'a>, AllocError>
-    ensures app { IfOk result (λ command. app_of command ≡ audit_app) }
-    ensures local { IfOk result (λ command. (fields_of command).has_globals ≡ false) }
-{
-    Command::new(alloc, "audit")
-        .about(AUDIT)
-        .after_help(AFTER_HELP)
-        .arg(operand(alloc, "FILE", IMAGE))
-}
-
-/// `atalk trace IMAGE SCRIPT`.
-fn trace_command<'a>(alloc: Global) -> Result<Command<'a>, AllocError>
-    ensures app { IfOk result (λ command. app_of command ≡ trace_app) }
-    ensures local { IfOk result (λ command. (fields_of command).has_globals ≡ false) }
-{
-    Command::new(alloc, "trace")
-        .about(TRACE)
-        .after_help(AFTER_HELP)
-        .arg(operand(alloc, "IMAGE", IMAGE))?
-        .arg(operand(alloc, "SCRIPT", SCRIPT))
-}
-
-/// `--image OUT`.
-fn image_option<'a>(alloc: Global) -> Arg<'a>
-    ensures rule { rule_of result ≡ out_option }
-    ensures local { result.global ≡ false }
-{
-    Arg::new(alloc, "OUT")
-        .long("image")
-        .help(OUT)
-        .action(ArgAction::Set)
-}
-
-/// `--v2`.
-fn version_option<'a>(alloc: Global) -> Arg<'a>
-    ensures rule { rule_of result ≡ v2_flag }
-    ensures local { result.global ≡ false }
-{
-    Arg::new(alloc, "V2")
-        .long("v2")
-        .help(VERSION_2)
-        .action(ArgAction::SetTrue)
-}
-
-/// `atalk play FILE`, with `--image OUT` and `--v2`.
-fn play_command<'a>(alloc: Global) -> Result<Command<'a>, AllocError>
-    ensures app { IfOk result (λ command. app_of command ≡ play_app) }
-    ensures local { IfOk result (λ command. (fields_of command).has_globals ≡ false) }
-{
-    Command::new(alloc, "play")
-        .about(PLAY)
-        .after_help(AFTER_HELP)
-        .arg(operand(alloc, "FILE", INTERNET))?
-        .arg(image_option(alloc))?
-        .arg(version_option(alloc))
-}
-
-/// `atalk`, with its commands for images.
-fn image_commands<'a>(alloc: Global) -> Result<Command<'a>, AllocError>
-    ensures { IfOk result (λ command. app_of command ≡ images_app) }
-{
-    Command::new(alloc, "atalk")
-        .version("0.9")
-        .about(ABOUT)
-        .after_help(AFTER_HELP)
-        .disable_help_subcommand(true)
-        .subcommand(audit_command(alloc)?)?
-        .subcommand(trace_command(alloc)?)
-}
-
-/// `atalk`, with its commands.
-fn atalk_command<'a>(alloc: Global) -> Result<Command<'a>, AllocError>
-    ensures { IfOk result (λ command. app_of command ≡ atalk_app) }
-{
-    image_commands(alloc)?.subcommand(play_command(alloc)?)
+    /// The audit of what a tables file says, and the file for its image, if one is wanted.
+    Make(Source<'a>, Option<&'a str>),
+    /// The tables file of an image.
+    Show(Source<'a>),
+    /// The drawing of an image, and the word for the network to which the ways are drawn, if one is
+    /// asked for.
+    Draw(Source<'a>, Option<&'a str>),
 }
 
 /// Reads the arguments. The first one is the program's own name.
@@ -228,6 +93,49 @@ pub fn read_arguments<'a, S: AsStr>(alloc: Global, arguments: &'a [S]) -> Result
         → map S.text arguments.entry.now ≡ name ∷ codes "play" ∷ play_to_words place file out
         → IsTrue (is_operand file) → IsTrue (is_operand out)
         → IfErr result (λ e. kind_of e ≡ OutOfMemory) }
+    // `make FILE` makes an image of FILE that isn't written, and `make FILE --image OUT` one that is
+    // written to OUT. The only error is out of memory.
+    ensures make { (name file : List ℕ)
+        → map S.text arguments.entry.now ≡ name ∷ codes "make" ∷ file ∷ []
+        → IsTrue (is_operand file) → IfOk result (Makes (Some file) None) }
+    ensures make_err { (name file : List ℕ)
+        → map S.text arguments.entry.now ≡ name ∷ codes "make" ∷ file ∷ []
+        → IsTrue (is_operand file) → IfErr result (λ e. kind_of e ≡ OutOfMemory) }
+    ensures make_to { (name file out : List ℕ)
+        → map S.text arguments.entry.now
+        ≡ name ∷ codes "make" ∷ file ∷ codes "--image" ∷ out ∷ []
+        → IsTrue (is_operand file) → IsTrue (is_operand out)
+        → IfOk result (Makes (Some file) (Some out)) }
+    ensures make_to_err { (name file out : List ℕ)
+        → map S.text arguments.entry.now
+        ≡ name ∷ codes "make" ∷ file ∷ codes "--image" ∷ out ∷ []
+        → IsTrue (is_operand file) → IsTrue (is_operand out)
+        → IfErr result (λ e. kind_of e ≡ OutOfMemory) }
+    // `show IMAGE` shows the tables of IMAGE; the only error is out of memory.
+    ensures show { (name image : List ℕ)
+        → map S.text arguments.entry.now ≡ name ∷ codes "show" ∷ image ∷ []
+        → IsTrue (is_operand image) → IfOk result (Shows (Some image)) }
+    ensures show_err { (name image : List ℕ)
+        → map S.text arguments.entry.now ≡ name ∷ codes "show" ∷ image ∷ []
+        → IsTrue (is_operand image) → IfErr result (λ e. kind_of e ≡ OutOfMemory) }
+    // `draw IMAGE` draws IMAGE, and `draw IMAGE --to NET` also the ways to NET. The only error is
+    // out of memory.
+    ensures draw { (name image : List ℕ)
+        → map S.text arguments.entry.now ≡ name ∷ codes "draw" ∷ image ∷ []
+        → IsTrue (is_operand image) → IfOk result (Draws (Some image) None) }
+    ensures draw_err { (name image : List ℕ)
+        → map S.text arguments.entry.now ≡ name ∷ codes "draw" ∷ image ∷ []
+        → IsTrue (is_operand image) → IfErr result (λ e. kind_of e ≡ OutOfMemory) }
+    ensures draw_to { (name image net : List ℕ)
+        → map S.text arguments.entry.now
+        ≡ name ∷ codes "draw" ∷ image ∷ codes "--to" ∷ net ∷ []
+        → IsTrue (is_operand image) → IsTrue (is_operand net)
+        → IfOk result (Draws (Some image) (Some net)) }
+    ensures draw_to_err { (name image net : List ℕ)
+        → map S.text arguments.entry.now
+        ≡ name ∷ codes "draw" ∷ image ∷ codes "--to" ∷ net ∷ []
+        → IsTrue (is_operand image) → IsTrue (is_operand net)
+        → IfErr result (λ e. kind_of e ≡ OutOfMemory) }
     // `--help`, `-h`, `--version` and `-V` return the errors `DisplayHelp` and `DisplayVersion`.
     ensures help { (name : List ℕ) → map S.text arguments.entry.now ≡ name ∷ codes "--help" ∷ []
         → IsErrAnd result (λ e. (kind_of e ≡ DisplayHelp) ⊎ (kind_of e ≡ OutOfMemory)) }
@@ -255,19 +163,24 @@ fn job_of<'a>(matches: &ArgMatches<'a>) -> Job<'a>
     }
 }
 
-/// The job of a command: a trace, a play, or otherwise an audit.
+/// The job of a command: an audit where its name is none of the others.
 fn job_named<'a>(name: &str, operands: &ArgMatches<'a>) -> Job<'a>
-    ensures { IsMeantBy (bytes_eq name.now (codes "trace")) (bytes_eq name.now (codes "play"))
-        (rows_of (found_of operands.now)) result }
+    ensures { IsMeantBy (asked name.now) (rows_of (found_of operands.now)) result }
 {
     if name == "trace" {
         Job::Trace(source_in(operands, "IMAGE"), source_in(operands, "SCRIPT"))
     } else if name == "play" {
         Job::Play(
             source_in(operands, "FILE"),
-            path_in(operands, "OUT"),
+            word_in(operands, "OUT"),
             version_in(operands, "V2"),
         )
+    } else if name == "make" {
+        Job::Make(source_in(operands, "FILE"), word_in(operands, "OUT"))
+    } else if name == "show" {
+        Job::Show(source_in(operands, "IMAGE"))
+    } else if name == "draw" {
+        Job::Draw(source_in(operands, "IMAGE"), word_in(operands, "NET"))
     } else {
         Job::Audit(source_in(operands, "FILE"))
     }
@@ -280,9 +193,9 @@ fn source_in<'a>(operands: &ArgMatches<'a>, name: &str) -> Source<'a>
     source_of(operands.get_str(name).unwrap_or("-"))
 }
 
-/// The path in the option with this name, if the option is used.
-fn path_in<'a>(operands: &ArgMatches<'a>, name: &str) -> Option<&'a str>
-    ensures { option_map (λ path. path.now) result
+/// The word in the option with this name, if the option is used.
+fn word_in<'a>(operands: &ArgMatches<'a>, name: &str) -> Option<&'a str>
+    ensures { option_map (λ word. word.now) result
         ≡ first_of name.now (rows_of (found_of operands.now)) }
 {
     operands.get_str(name)

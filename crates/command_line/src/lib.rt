@@ -5,6 +5,7 @@
 mod arguments;
 mod exit;
 mod exit_status;
+mod syntax;
 
 pub use arguments::{Job, Source, read_arguments};
 pub use exit::{Exit, Outcome, exit_of};

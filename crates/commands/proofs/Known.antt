@@ -7,7 +7,8 @@ use Rattle.internet_file.specs.Files.{IsFile, IsFileRefused, Planned}
 use Rattle.script.specs.Scripts.{IsBadAt, IsScript}
 use Rattle.script.specs.declared.step.Step.{Step}
 use Rattle.table_image.specs.Reading.{RefusesFirst}
-use Rattle.commands.specs.Streams.{First, IsImageRefused, IsPlayRefused, IsScriptRefused}
+use Rattle.tables_file.specs.Files.{AreRefused}
+use Rattle.commands.specs.Streams.{AreTablesRefused, First, IsImageRefused, IsPlayRefused, IsScriptRefused}
 
 -- A property of the bytes that were read is a property of the reader's bytes.
 pub of_read : (P : List ℕ → Type 0) (told : Option (List ℕ)) (bytes : List ℕ) → IfSome told (λ bs. bytes ≡ bs) → P bytes
@@ -106,3 +107,7 @@ pub play_named : (e : Error) (text : List ℕ)
 play_named e text (inl fault) = inr (inr (inr (text, fault)))
 play_named e text (inr (file, inl full)) = inr (inl full)
 play_named e text (inr (file, inr memory)) = inr (inr (inl memory))
+
+-- What a tables file is refused for.
+pub tables_named : (e : Error) (text : List ℕ) → AreRefused text e → AreTablesRefused e
+tables_named e text refused = inr (inr (text, refused))

@@ -11,6 +11,7 @@ use Rattle.table_image.specs.Internet.{Internet}
 use Rattle.table_image.specs.Reading.{IsFirstFlaw, RefusesFirst, refusal}
 use Rattle.table_image.specs.Spelling.{image_spelling}
 use Rattle.table_image.specs.declared.flaw.Flaw.{Flaw}
+use Rattle.tables_file.specs.Files.{AreRefused}
 use Rattle.commands.specs.declared.input.TheConstants.{READS}
 
 -- ---- Inputs: what is left of one, its failed reads before and after the call, the reason of the last, the number of its
@@ -83,6 +84,10 @@ IsScriptRefused e = (e ≡ ReadFault) ⊎ (e ≡ Memory) ⊎ ((text : List ℕ) 
 -- What playing an internet file may be refused for: a failed read, no room, no memory, or the first fault of some text.
 abbrev pub IsPlayRefused : Error → Type 0
 IsPlayRefused e = (e ≡ ReadFault) ⊎ (e ≡ Full) ⊎ (e ≡ Memory) ⊎ ((text : List ℕ) × IsFileRefused text e)
+
+-- What reading a tables file may be refused for: a failed read, no memory, or the first fault of some text.
+abbrev pub AreTablesRefused : Error → Type 0
+AreTablesRefused e = (e ≡ ReadFault) ⊎ (e ≡ Memory) ⊎ ((text : List ℕ) × AreRefused text e)
 
 -- ---- Errors, by the bytes of the inputs where they are known
 

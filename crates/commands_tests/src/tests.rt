@@ -1,12 +1,14 @@
 //! Commands with readers that fail, are interrupted or return a few bytes at a time, and with
 //! writers that fail or buffer bytes; and the reports of each tick. Each test passes whichever
 //! single allocation fails: on `Memory` it calls again. The program's output for images, scripts
-//! and internet files is compared by the cases of `program_cases`.
+//! and internet files is compared by the cases of `program_cases`, and what is made of tables files
+//! and printed of images by those of `tables_cases`.
 
 mod fakes;
 mod plays;
 mod progress;
 mod reading;
+mod tables;
 mod tracing;
 
 use at_base::{Cause, Error};

@@ -1,9 +1,10 @@
 //! Checks cables.
 
-use crate::check::{at, integer, list_at, table_with};
+use crate::check::{at, list_at, table_with};
 use crate::fault::Fault;
 use crate::key::Key;
 use crate::must::Must;
+use crate::value::ends_of;
 use at_base::{Range, is_zone_name};
 use toml::{Table, Value};
 
@@ -44,19 +45,8 @@ fn check_zones(table: &Table, key: Key) -> Result<(), Fault> {
 
 /// The range in a cable's entry, if it is valid.
 pub(crate) fn range_of(cable: &Value) -> Option<Range> {
-    match cable
-        .as_table()?
-        .get(Key::Range.name())?
-        .as_array()?
-        .as_slice()
-    {
-        [first, last] => {
-            let start = u16::try_from(integer(first, 1, 65279)?).ok()?;
-            let end = u16::try_from(integer(last, 1, 65279)?).ok()?;
-            Range::new(start, end).ok()
-        }
-        _ => None,
-    }
+    let (start, end) = ends_of(cable.as_table()?.get(Key::Range.name())?, 1, 65279)?;
+    Range::new(start, end).ok()
 }
 
 /// Checks a cable.

@@ -1,13 +1,16 @@
 //! Checks the keys of a table and their values.
 
-use crate::fault::Fault;
+use crate::fault::{Fault, Holder};
+use crate::internet_fault::InternetFault;
 use crate::key::Key;
 use crate::must::Must;
-use at_base::Text32;
+use crate::shape::Shape;
+use crate::value::{address_of, are_digits, integer};
+use at_base::{Addr, Text32};
 use toml::{Table, Value};
 
 /// Whether the key is one of these.
-fn is_among(key: &str, named: &[Key]) -> bool {
+pub(crate) fn is_among(key: &str, named: &[Key]) -> bool {
     for name in named {
         if key == name.name() {
             return true;
@@ -16,13 +19,19 @@ fn is_among(key: &str, named: &[Key]) -> bool {
     false
 }
 
+/// The fault of a key that isn't one of a table's, whose keys are shown if its shape is given.
+pub(crate) fn strange_key(key: &str, shape: Option<Shape>) -> Fault {
+    Fault::Unknown {
+        key: Text32::new(key.as_bytes()).ok(),
+        shape,
+    }
+}
+
 /// Checks that the table has only these keys.
 pub(crate) fn has_only(table: &Table, named: &[Key]) -> Result<(), Fault> {
     for key in table.keys() {
         if !is_among(key.as_str(), named) {
-            return Err(Fault::Unknown {
-                key: Text32::new(key.as_str().as_bytes()).ok(),
-            });
+            return Err(strange_key(key.as_str(), None));
         }
     }
     Ok(())
@@ -62,16 +71,6 @@ pub(crate) fn at<'a>(table: &'a Table, key: Key) -> Result<&'a Value, Fault> {
     }
 }
 
-/// The integer of a value, if it is within these bounds.
-pub(crate) fn integer(value: &Value, low: u32, high: u32) -> Option<u32> {
-    let number = u32::try_from(value.as_integer()?).ok()?;
-    if low <= number && number <= high {
-        Some(number)
-    } else {
-        None
-    }
-}
-
 /// The integer at the key, within these bounds.
 pub(crate) fn integer_at(table: &Table, key: Key, low: u32, high: u32) -> Result<u32, Fault> {
     match integer(at(table, key)?, low, high) {
@@ -84,30 +83,54 @@ pub(crate) fn integer_at(table: &Table, key: Key, low: u32, high: u32) -> Result
 pub(crate) fn tick_at(table: &Table, key: Key, ticks: u32) -> Result<u32, Fault> {
     match integer(at(table, key)?, 1, ticks) {
         Some(tick) => Ok(tick),
-        None => Err(Fault::NoTick { key, ticks }),
+        None => Err(Fault::Internet(InternetFault::NoTick { key, ticks })),
     }
 }
 
-/// The number of a cable or a node at the key; there may be no such cable or node.
-pub(crate) fn number_at(table: &Table, key: Key) -> Result<u32, Fault> {
+/// The number of a cable, a node or a port at the key; there may be none with this number.
+pub(crate) fn number_at(table: &Table, key: Key, must: Must) -> Result<u32, Fault> {
     match integer(at(table, key)?, 1, u32::MAX) {
         Some(number) => Ok(number),
-        None => Err(Fault::Wrong {
-            key,
-            must: Must::Number,
-        }),
+        None => Err(Fault::Wrong { key, must }),
     }
 }
 
-/// The entry with this number, counted from 1.
+/// The entry with this number, counted from 1, among those that the holder has.
 pub(crate) fn entry_of<'a>(
     entries: &'a [Value],
+    holder: Holder,
     what: Key,
     number: u32,
 ) -> Result<&'a Value, Fault> {
     match entries.get((number as usize).saturating_sub(1)) {
         Some(entry) => Ok(entry),
-        None => Err(Fault::Absent(what, number, entries.len())),
+        None => Err(Fault::Absent {
+            what,
+            number,
+            holder,
+            count: entries.len(),
+        }),
+    }
+}
+
+/// Checks that the value at the key is a hardware address.
+pub(crate) fn check_hardware(table: &Table, key: Key) -> Result<(), Fault> {
+    let must = Must::Hardware;
+    if are_digits(text_at(table, key, 12, 12, must)?) {
+        Ok(())
+    } else {
+        Err(Fault::Wrong { key, must })
+    }
+}
+
+/// The address at the key.
+pub(crate) fn address_at(table: &Table, key: Key) -> Result<Addr, Fault> {
+    match address_of(at(table, key)?) {
+        Some(address) => Ok(address),
+        None => Err(Fault::Wrong {
+            key,
+            must: Must::Address,
+        }),
     }
 }
 
@@ -143,4 +166,29 @@ pub(crate) fn list_at<'a>(
         }
     }
     Err(Fault::Wrong { key, must })
+}
+
+/// Checks that each of these keys of the top level has a list, if it has a value.
+pub(crate) fn check_lists(table: &Table, keys: &[Key]) -> Result<(), Fault> {
+    for key in keys {
+        if let Some(value) = table.get(key.name())
+            && !value.is_array()
+        {
+            return Err(Fault::Wrong {
+                key: *key,
+                must: Must::Tables,
+            });
+        }
+    }
+    Ok(())
+}
+
+/// The values of the list at the key; none if there is no list.
+pub(crate) fn entries_at(table: &Table, key: Key) -> &[Value] {
+    if let Some(value) = table.get(key.name())
+        && let Some(entries) = value.as_array()
+    {
+        return entries.as_slice();
+    }
+    &[]
 }

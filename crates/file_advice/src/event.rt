@@ -1,23 +1,25 @@
 //! Checks losses and actions.
 
 use crate::check::{
-    at, entry_of, has_all, has_only, integer_at, number_at, table_of, table_with, text_at, tick_at,
+    address_at, entry_of, has_all, has_only, integer_at, number_at, table_of, table_with, text_at,
+    tick_at,
 };
-use crate::fault::Fault;
+use crate::fault::{Fault, Holder};
+use crate::internet_fault::InternetFault;
 use crate::key::Key;
 use crate::must::Must;
-use crate::station::{address_of, are_digits};
+use crate::value::are_digits;
 use toml::{Table, Value};
 
 /// Checks a loss.
 pub(crate) fn check_loss(loss: &Value, ticks: u32, cables: &[Value]) -> Result<(), Fault> {
     let table = table_with(loss, &[Key::Cable, Key::First, Key::Last])?;
-    let cable = number_at(table, Key::Cable)?;
+    let cable = number_at(table, Key::Cable, Must::Number)?;
     let first = tick_at(table, Key::First, ticks)?;
     let last = tick_at(table, Key::Last, ticks)?;
-    entry_of(cables, Key::Cable, cable)?;
+    entry_of(cables, Holder::File, Key::Cable, cable)?;
     if first > last {
-        return Err(Fault::Reversed { first, last });
+        return Err(Fault::Internet(InternetFault::Reversed { first, last }));
     }
     Ok(())
 }
@@ -87,19 +89,14 @@ fn word_in(table: &Table) -> Word {
 fn check_common(action: &Value, named: &[Key], ticks: u32) -> Result<(), Fault> {
     let table = table_with(action, named)?;
     tick_at(table, Key::At, ticks)?;
-    number_at(table, Key::Node)?;
+    number_at(table, Key::Node, Must::Number)?;
     Ok(())
 }
 
 /// Checks an action that sends.
 fn check_send(action: &Value, table: &Table, ticks: u32) -> Result<(), Fault> {
     check_common(action, &SEND_KEYS, ticks)?;
-    if address_of(at(table, Key::To)?).is_none() {
-        return Err(Fault::Wrong {
-            key: Key::To,
-            must: Must::Address,
-        });
-    }
+    address_at(table, Key::To)?;
     integer_at(table, Key::Socket, 0, 255)?;
     integer_at(table, Key::Source, 0, 255)?;
     integer_at(table, Key::Type, 0, 255)?;
@@ -129,7 +126,7 @@ fn check_neither(action: &Value, ticks: u32) -> Result<(), Fault> {
     has_only(table, &ACTION_KEYS)?;
     has_all(table, &[Key::At, Key::Node, Key::Do])?;
     tick_at(table, Key::At, ticks)?;
-    number_at(table, Key::Node)?;
+    number_at(table, Key::Node, Must::Number)?;
     Err(Fault::Wrong {
         key: Key::Do,
         must: Must::Word,
@@ -144,7 +141,7 @@ pub(crate) fn check_action(action: &Value, ticks: u32, nodes: &[Value]) -> Resul
         Word::Lookup => check_lookup(action, table, ticks)?,
         Word::Neither => check_neither(action, ticks)?,
     }
-    let node = number_at(table, Key::Node)?;
-    entry_of(nodes, Key::Node, node)?;
+    let node = number_at(table, Key::Node, Must::Number)?;
+    entry_of(nodes, Holder::File, Key::Node, node)?;
     Ok(())
 }

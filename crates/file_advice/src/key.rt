@@ -1,6 +1,6 @@
-//! The keys of internet files.
+//! The keys of internet files and tables files.
 
-/// A key of the format.
+/// A key of the formats.
 #[derive(Clone, Copy, Debug, PartialEq, Eq)]
 pub(crate) enum Key {
     Ticks,
@@ -27,6 +27,16 @@ pub(crate) enum Key {
     Source,
     Hex,
     Id,
+    Version,
+    Row,
+    List,
+    Address,
+    Mapping,
+    Distance,
+    Next,
+    State,
+    Complete,
+    Enumerator,
 }
 
 impl Key {
@@ -57,6 +67,16 @@ impl Key {
             Key::Source => "source",
             Key::Hex => "hex",
             Key::Id => "id",
+            Key::Version => "version",
+            Key::Row => "row",
+            Key::List => "list",
+            Key::Address => "address",
+            Key::Mapping => "mapping",
+            Key::Distance => "distance",
+            Key::Next => "next",
+            Key::State => "state",
+            Key::Complete => "complete",
+            Key::Enumerator => "enumerator",
         }
     }
 }

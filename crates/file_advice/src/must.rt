@@ -1,4 +1,4 @@
-//! The values that the keys of an internet file require.
+//! The values that the keys of internet files and tables files require.
 
 /// The requirement on the value at a key, or on a value of a list.
 #[derive(Clone, Copy, Debug, PartialEq, Eq)]
@@ -18,6 +18,13 @@ pub(crate) enum Must {
     Digits,
     Pattern,
     Text,
+    Version,
+    Ends,
+    ZoneList,
+    TableList,
+    PortNumber,
+    State,
+    Truth,
 }
 
 impl Must {
@@ -41,6 +48,16 @@ impl Must {
             Must::Digits => "a text of an even number of hexadecimal digits",
             Must::Pattern => "a text of 1 to 32 bytes",
             Must::Text => "a text of at most 32 bytes",
+            Must::Version => "1, or 2 for mappings and for 65 to 255 zones of a range",
+            Must::Ends => {
+                "a list of the first and the last network, each 0 to 65535; one network alone is \
+                both, as [30, 30]"
+            }
+            Must::ZoneList => "a list of names of zones",
+            Must::TableList => "a list of tables",
+            Must::PortNumber => "the number of one of the router's ports, counted from 1",
+            Must::State => "\"Good\", \"Suspect\", \"Bad\" or \"Last\"",
+            Must::Truth => "true or false",
         }
     }
 }

@@ -2,54 +2,18 @@
 
 use crate::cable::{check_zone, range_of};
 use crate::check::{
-    entry_of, has_all, has_only, integer, integer_at, list_at, number_at, table_of, table_with,
-    text_at,
+    check_hardware, entry_of, has_all, has_only, integer_at, list_at, number_at, table_of,
+    table_with, text_at,
 };
-use crate::fault::Fault;
+use crate::fault::{Fault, Holder};
+use crate::internet_fault::InternetFault;
 use crate::key::Key;
 use crate::must::Must;
-use at_base::{Addr, Range, is_entity};
+use crate::placed::Placed;
+use crate::value::{address_of, integer};
+use at_base::{Range, is_entity};
 use nbp::matches;
-use text::address;
-use text::hex::nibble;
 use toml::{Table, Value};
-
-/// A fault of an entry, and its place.
-#[derive(Clone, Copy, Debug)]
-pub(crate) struct Placed {
-    /// The table within the entry, if the fault is in one: its name, and its number from 1.
-    pub(crate) within: Option<(Key, usize)>,
-    pub(crate) fault: Fault,
-}
-
-impl From<Fault> for Placed {
-    fn from(fault: Fault) -> Placed {
-        Placed {
-            within: None,
-            fault,
-        }
-    }
-}
-
-/// Whether each byte is a hexadecimal digit.
-pub(crate) fn are_digits(text: &[u8]) -> bool {
-    text.iter().all(|digit| nibble(*digit).is_some())
-}
-
-/// Checks that the value at the key is a hardware address.
-fn check_hardware(table: &Table, key: Key) -> Result<(), Fault> {
-    let must = Must::Hardware;
-    if are_digits(text_at(table, key, 12, 12, must)?) {
-        Ok(())
-    } else {
-        Err(Fault::Wrong { key, must })
-    }
-}
-
-/// The address of a value.
-pub(crate) fn address_of(value: &Value) -> Option<Addr> {
-    address(value.as_str()?.as_bytes())
-}
 
 /// The addresses to try. They may be on another cable.
 fn tries_at<'a>(table: &'a Table, key: Key) -> Result<&'a [Value], Fault> {
@@ -75,7 +39,7 @@ struct Place<'a> {
 
 /// The cable and the addresses to try. The hardware address is checked too.
 fn place_in(table: &Table) -> Result<Place<'_>, Fault> {
-    let cable = number_at(table, Key::Cable)?;
+    let cable = number_at(table, Key::Cable, Must::Number)?;
     check_hardware(table, Key::Hardware)?;
     let tries = tries_at(table, Key::Try)?;
     Ok(Place { cable, tries })
@@ -84,13 +48,13 @@ fn place_in(table: &Table) -> Result<Place<'_>, Fault> {
 /// Checks that the cable exists, and that its stations may have the addresses.
 fn check_place(place: Place<'_>, cables: &[Value]) -> Result<(), Fault> {
     let cable = place.cable;
-    let Some(range) = range_of(entry_of(cables, Key::Cable, cable)?) else {
+    let Some(range) = range_of(entry_of(cables, Holder::File, Key::Cable, cable)?) else {
         return Ok(());
     };
     for value in place.tries {
         if let Some(address) = address_of(value) {
             if !range.holds(address.net) || address.node < 1 || 253 < address.node {
-                return Err(Fault::Elsewhere(address, cable, range));
+                return Err(Fault::Internet(InternetFault::Elsewhere(address, cable, range)));
             }
         }
     }
@@ -118,11 +82,11 @@ fn check_apart(ports: &[Value], index: usize, port: &Value, cables: &[Value]) ->
     for (later, other) in ports.iter().enumerate() {
         if let Some((second, other)) = cable_of(other, cables) {
             if index < later && range.overlaps(&other) {
-                return Err(Fault::Meeting {
+                return Err(Fault::Internet(InternetFault::Meeting {
                     ports: (index + 1, later + 1),
                     cables: (cable, second),
                     ranges: (range, other),
-                });
+                }));
             }
         }
     }
@@ -135,10 +99,7 @@ pub(crate) fn check_router(router: &Value, cables: &[Value]) -> Result<(), Place
     let ports = list_at(table, Key::Port, 1, 16, Must::Ports)?;
     for (index, port) in ports.iter().enumerate() {
         if let Err(fault) = check_port(port, cables) {
-            return Err(Placed {
-                within: Some((Key::Port, index + 1)),
-                fault,
-            });
+            return Err(Placed::from(fault).in_table(Key::Port, index + 1));
         }
     }
     for (index, port) in ports.iter().enumerate() {
@@ -189,14 +150,13 @@ fn check_names(table: &Table) -> Result<(), Placed> {
         match name_of(name) {
             Ok((object, kind)) => {
                 if is_taken(&names[..index], object, kind) {
-                    return Err(Placed::from(Fault::Repeated { number: index + 1 }));
+                    return Err(Placed::from(Fault::Internet(InternetFault::Repeated {
+                        number: index + 1,
+                    })));
                 }
             }
             Err(fault) => {
-                return Err(Placed {
-                    within: Some((Key::Name, index + 1)),
-                    fault,
-                });
+                return Err(Placed::from(fault).in_table(Key::Name, index + 1));
             }
         }
     }

@@ -1,16 +1,14 @@
 -- The contents of the stations of a sound plan are a valid image.
 use Rattle.std.proofs.Common.{◌≡◌, ℕ, zero, suc, ◌+◌, ◌-◌, ◌≤◌, Bool, true, false, ◌&&◌, ◌||◌, IsTrue, List, [], ◌∷◌, ◌++◌, length, map}
-use Rattle.std.proofs.Common.{nat_le, nat_lt, refl, ap, arith, subst, lt-ltb, true≢false, drop, slice_get, slice_index_or, take, IfSome, Ok}
-use Rattle.std.specs.List.{list_all, list_any, AllByRecursion as Each}
+use Rattle.std.proofs.Common.{nat_le, nat_lt, refl, ap, arith, subst, lt-ltb, true≢false, drop, slice_get, slice_index_or, take, IfSome}
+use Rattle.std.specs.List.{list_all, list_any}
 use Rattle.std.proofs.lemmas.Bool.{and_parts, and_from, leb-true}
 use Rattle.aarp.specs.Mapping.{Mappings}
 use Rattle.at_base.specs.Range.{is_between}
-use Rattle.at_base.specs.Grammar.{Grammar, one}
-use Rattle.at_base.specs.Spelling.{IsValue, ListPasses, bytes_of}
+use Rattle.at_base.specs.Grammar.{one}
 use Rattle.freeze.proofs.Eaches.{others}
-use Rattle.freeze.proofs.Values.{counted_value}
 use Rattle.freeze.specs.Frozen.{cables_by, frozen_nodes, frozen_routers, has_long_list}
-use Rattle.freeze.specs.Valid.{AreFew, AreNodes, AreRouters, HavePorts, IsNotInV1, is_node_on, is_on}
+use Rattle.freeze.specs.Valid.{AreFew, AreRouters, HavePorts, IsNotInV1, is_node_on, is_on}
 use Rattle.station.specs.declared.member.Member.{Member}
 use Rattle.station.specs.declared.member.Member.TheVariants as member
 use Rattle.internet_file.specs.Sound.{is_node, is_port, is_router, is_seated, may_try_on}
@@ -23,11 +21,7 @@ use Rattle.at_base.specs.declared.address.Addr.{Addr}
 use Rattle.live_node.specs.Living.{LivingNode}
 use Rattle.live_router.specs.Living.{Living}
 use Rattle.planned_stations.specs.Planning.{ports_of}
-use Rattle.table_image.proofs.CheckedImages.{image_checks}
-use Rattle.table_image.specs.Flaws.{Wrong}
-use Rattle.table_image.specs.Internet.{Internet}
-use Rattle.at_base.specs.Limits.{max_cables, max_mappings, max_nodes, max_routers}
-use Rattle.table_image.specs.Spelling.{cable_spelling, counted, image_spelling, node_spelling, router_spelling}
+use Rattle.at_base.specs.Limits.{max_mappings}
 use Rattle.table_image.specs.declared.router.Router.{Router as ImageRouter}
 use Rattle.table_image.specs.declared.version.Version.{Version}
 use Rattle.table_image.specs.declared.version.Version.TheVariants.{V1, V2}
@@ -159,40 +153,6 @@ one_by_one v (x ∷ xs) r (y ∷ ys) m seats more old mid new some is any is_m f
     let each = and_parts (is_on count x) (list_all (is_on count) xs) on in
     let neither = neither_in v (has_long_list y) (list_any has_long_list ys) short in
     there count each.1 ports.1 neither.1 (few full) (here count each.0 ports.0 neither.0 full values)
-
--- ---- The image
-
-passes : {B : Type 0} (g : Grammar Wrong true B) (low : ℕ) (xs : List B) → Each (λ x. IsValue g x) xs
-    → ListPasses (λ low. IsValue g) (λ x. 0) low xs
-passes g low [] h = tt
-passes g low (x ∷ xs) h = (h.0, passes g 0 xs h.1)
-
--- Valid parts are a valid image if there are at most 200 of each.
-pub image_value : (i : Internet) → length i.cables ≤ 200 → length i.routers ≤ 200 → length i.nodes ≤ 200
-    → Each (λ c. IsValue (cable_spelling i.version) c) i.cables → AreRouters i.version (length i.cables) i.routers
-    → AreNodes i.version (length i.cables) i.nodes → IsValue image_spelling i
-image_value i few_c few_r few_n cables routers nodes =
-    let v = i.version in
-    let count = length i.cables in
-    let gc = counted one max_cables (λ low. cable_spelling v) (λ c. 0) in
-    let gr = counted one max_routers (λ low. router_spelling v count) (λ r. 0) in
-    let gn = counted one max_nodes (λ low. node_spelling v count) (λ n. 0) in
-    let a = 5 + length (bytes_of gc i.cables) in
-    let b = a + length (bytes_of gr i.routers) in
-    let c = b + length (bytes_of gn i.nodes) in
-    (image_checks i a b (Ok c) (
-      counted_value one max_cables (λ low. cable_spelling v) (λ c. 0) i.cables few_c (omega arith)
-          (passes (cable_spelling v) 0 i.cables cables),
-      refl,
-    ) (
-      counted_value one max_routers (λ low. router_spelling v count) (λ r. 0) i.routers few_r (omega arith)
-          (passes (router_spelling v count) 0 i.routers routers),
-      refl,
-    ) (
-      counted_value one max_nodes (λ low. node_spelling v count) (λ n. 0) i.nodes few_n (omega arith)
-          (passes (node_spelling v count) 0 i.nodes nodes),
-      refl,
-    )).0
 
 -- A number that equals another is within its bounds.
 pub less : {a b c d : ℕ} → a ≡ b → b ≤ c → c ≤ d → a ≤ d

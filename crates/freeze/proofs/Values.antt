@@ -1,5 +1,5 @@
 -- The parts for the contents of routers and nodes are valid parts of an image.
-use Rattle.std.proofs.Common.{◌≡◌, ℕ, suc, ◌+◌, ◌*◌, ◌^◌, ◌<◌, ◌≤◌, false, true, ◌&&◌, List, [], ◌∷◌, length, map, Ok}
+use Rattle.std.proofs.Common.{◌≡◌, ℕ, suc, ◌+◌, ◌<◌, ◌≤◌, false, true, ◌&&◌, List, [], ◌∷◌, length, map}
 use Rattle.std.proofs.Common.{refl, sym, ap, subst, arith, nat_lt, nat_le, leb-true, ltb-true, IsTrue, Option, slice_get, drop}
 use Rattle.std.specs.List.{list_all, All, AllByRecursion as Each}
 use Rattle.std.proofs.lemmas.Bool.{and_parts}
@@ -8,9 +8,9 @@ use Rattle.std.proofs.Math.Nat.{le-max_left, le-max_right}
 use Rattle.aarp.specs.Choosing.{Choice}
 use Rattle.aarp.specs.Mapping.{AddressesRise, FitsMapping as FitsKnown, Mappings}
 use Rattle.at_base.specs.Address.{address_number}
-use Rattle.at_base.specs.Grammar.{Grammar, Size, one, two}
-use Rattle.at_base.specs.Spelling.{IsValue, ListPasses, bytes_of, list_bytes}
-use Rattle.at_base.specs.Text.{IsName, is_name}
+use Rattle.at_base.specs.Grammar.{one}
+use Rattle.at_base.specs.Spelling.{IsValue, ListPasses}
+use Rattle.at_base.specs.Text.{IsName}
 use Rattle.at_base.specs.declared.address.Addr.{Addr}
 use Rattle.at_base.specs.declared.address.Hw.{Hw}
 use Rattle.end_node.specs.Holding.{NodeHolding}
@@ -24,17 +24,14 @@ use Rattle.nbp.specs.declared.names.Named.{Named}
 use Rattle.router.specs.Holding.{Holding}
 use Rattle.rtmp.specs.Routes.{IsRouteMap, are_above as rows_above, is_row}
 use Rattle.rtmp.specs.declared.row.Row.{Row}
-use Rattle.table_image.proofs.Checked.{FitsMapping, FitsPort, FitsRow, counted_checks, entity_passes, mapping_passes, name_length}
-use Rattle.table_image.proofs.Checked.{row_passes, text_value}
-use Rattle.table_image.proofs.CheckedParts.{FitsName, FitsNode, cable_checks, list_checks, name_kind, node_checks, port_checks}
-use Rattle.table_image.proofs.CheckedParts.{router_checks}
-use Rattle.table_image.specs.Checking.{Checks}
-use Rattle.table_image.specs.Counts.{count_len}
-use Rattle.table_image.specs.Flaws.{Wrong}
-use Rattle.at_base.specs.Limits.{max_mappings, max_names, max_ports, max_rows, max_lists, max_zones}
-use Rattle.table_image.specs.Spelling.{cable_spelling, counted, mapping_spelling, mappings_spelling, name_spelling, node_spelling}
+use Rattle.image_parts.proofs.Values.{cable_value as valid_cable, mapping_value, mappings_value as valid_mappings, name_value}
+use Rattle.image_parts.proofs.Values.{list_value, node_value as valid_node, port_value, router_value as valid_router, row_value}
+use Rattle.table_image.proofs.Checked.{FitsMapping, FitsPort, FitsRow}
+use Rattle.table_image.proofs.CheckedParts.{FitsName, FitsNode}
+use Rattle.at_base.specs.Limits.{max_mappings, max_zones}
+use Rattle.table_image.specs.Spelling.{cable_spelling, mapping_spelling, mappings_spelling, name_spelling, node_spelling}
 use Rattle.table_image.specs.Spelling.{own_router_spelling, port_spelling, router_spelling}
-use Rattle.table_image.specs.Spelling.{row_spelling, zone_list_spelling, zone_spelling, zones_spelling}
+use Rattle.table_image.specs.Spelling.{row_spelling, zone_list_spelling}
 use Rattle.table_image.specs.Versions.{zone_limit}
 use Rattle.table_image.specs.declared.cable.Cable.{Cable}
 use Rattle.table_image.specs.declared.version.Version.{Version}
@@ -43,47 +40,10 @@ use Rattle.zip_zones.proofs.Tables.{known_ends}
 use Rattle.zip_zones.specs.Zones.{IsZoneMap, Known, are_above as lists_above, are_distinct, is_known, most_names}
 use Rattle.at_base.specs.Range.{is_range}
 
--- ---- Values, checked
-
--- The end of the bytes of a value that begin at an offset.
-abbrev ends : {A : Type 0} → Grammar Wrong true A → A → ℕ → ℕ
-ends g y at = at + length (bytes_of g y)
-
--- A valid value passes its check.
-checked : {A : Type 0} (g : Grammar Wrong true A) (y : A) (at : ℕ) → IsValue g y → Checks g y at (Ok (ends g y at))
-checked g y at h = (h, refl)
-
--- Items that pass are a valid list with a count.
-pub counted_value : {B : Type 0} (size : Size) (limit : ℕ) (item : ℕ → Grammar Wrong true B) (next : B → ℕ) (xs : List B)
-    → length xs ≤ limit → limit < 2 ^ (8 * count_len size)
-    → ListPasses (λ low. IsValue (item low)) next 0 xs → IsValue (counted size limit item next) xs
-counted_value size limit item next xs few small h =
-    (counted_checks size limit item next xs 0 (Ok (0 + count_len size + length (list_bytes (λ low. bytes_of (item low)) next 0 xs))) few small
-    (h, refl)).0
-
--- ---- Zones
-
-zones_pass : (low : ℕ) (zones : List (List ℕ)) → Each IsName zones → ListPasses (λ low. IsValue zone_spelling) (λ name. 0) low zones
-zones_pass low [] h = tt
-zones_pass low (z ∷ zs) h =
-    let len = name_length z h.0 in (text_value is_name z h.0 len.0 len.1, zones_pass 0 zs h.1)
-
-limit_fits : (v : Version) → zone_limit v < 2 ^ (8 * count_len one)
-limit_fits V1 = omega arith
-limit_fits V2 = omega arith
-
-pub zones_value : (v : Version) (zones : List (List ℕ)) → length zones ≤ zone_limit v → Each IsName zones
-    → IsValue (zones_spelling v) zones
-unfolding zones_spelling
-zones_value v zones few h =
-    counted_value one (zone_limit v) (λ low. zone_spelling) (λ name. 0) zones few (limit_fits v) (zones_pass 0 zones h)
-
 -- ---- Cables
 
 pub cable_value : (v : Version) (c : Cable) → length c.zones ≤ zone_limit v → FitsCable c → IsValue (cable_spelling v) c
-cable_value v c few fits =
-    (cable_checks v c 0 (Ok (ends (zones_spelling v) c.zones (0 + 4))) fits.start fits.end
-    (checked (zones_spelling v) c.zones (0 + 4) (zones_value v c.zones few fits.zones))).0
+cable_value v c few fits = valid_cable v c fits.start fits.end few fits.zones
 
 -- ---- Mappings
 
@@ -92,17 +52,16 @@ mappings_pass : (low : ℕ) (known : List (Addr × Hw)) → AddressesRise low kn
 mappings_pass low [] rise fits = tt
 mappings_pass low (m ∷ ms) rise fits =
     let fit : FitsMapping (frozen_mapping m) = record { net = fits.0.net; node = fits.0.node; hardware = fits.0.hardware } in (
-      (mapping_passes low (frozen_mapping m) 0 fit rise.0).0,
+      mapping_value low (frozen_mapping m) fit rise.0,
       mappings_pass (address_number m.0 + 1) ms rise.1 fits.1,
     )
 
 -- Rising mappings are valid mappings of an image of version 2.
 pub mappings_value : (known : List (Addr × Hw)) → length known ≤ max_mappings → AddressesRise 0 known → Each FitsKnown known
     → IsValue (mappings_spelling V2) (map frozen_mapping known)
-unfolding mappings_spelling
 mappings_value known few rise fits =
-    counted_value two max_mappings mapping_spelling (λ m. address_number m.address + 1) (map frozen_mapping known)
-    (subst (λ n. n ≤ max_mappings) (sym (length-map known)) few) (omega arith) (mappings_pass 0 known rise fits)
+    valid_mappings V2 (map frozen_mapping known) (subst (λ n. n ≤ max_mappings) (sym (length-map known)) few)
+    (mappings_pass 0 known rise fits)
   where
     length-map : (xs : List (Addr × Hw)) → length (map frozen_mapping xs) ≡ length xs
     length-map [] = refl
@@ -110,24 +69,22 @@ mappings_value known few rise fits =
 
 -- No mappings are valid mappings of an image.
 pub no_mappings_value : (v : Version) → IsValue (mappings_spelling v) []
-unfolding mappings_spelling
-no_mappings_value V1 = refl
-no_mappings_value V2 = counted_value two max_mappings mapping_spelling (λ m. address_number m.address + 1) [] (omega arith) (omega arith) tt
+no_mappings_value V1 = valid_mappings V1 [] (omega arith) tt
+no_mappings_value V2 = valid_mappings V2 [] (omega arith) tt
 
 -- ---- Ports
 
-ports_pass : (v : Version) (count low : ℕ) (cables : List ℕ) (choices : List Choice) (seats : List Mappings)
+ports_values : (v : Version) (count : ℕ) (cables : List ℕ) (choices : List Choice) (seats : List Mappings)
     → IsTrue (list_all (λ c. nat_lt c count) cables) → Each FitsPort (frozen_ports v cables choices seats)
     → HaveMappings v (frozen_ports v cables choices seats)
-    → ListPasses (λ low. IsValue (port_spelling v count)) (λ p. 0) low (frozen_ports v cables choices seats)
-ports_pass v count low [] choices seats below fits known = tt
-ports_pass v count low (c ∷ cs) [] seats below fits known = tt
-ports_pass v count low (c ∷ cs) (x ∷ xs) seats below fits known =
+    → Each (λ p. IsValue (port_spelling v count) p) (frozen_ports v cables choices seats)
+ports_values v count [] choices seats below fits known = tt
+ports_values v count (c ∷ cs) [] seats below fits known = tt
+ports_values v count (c ∷ cs) (x ∷ xs) seats below fits known =
     let parts = and_parts (nat_lt c count) (list_all (λ c. nat_lt c count) cs) below in
     let port = frozen_port v c x (slice_get seats 0) in (
-      (port_checks v count port 0 (Ok (ends (mappings_spelling v) port.mappings (0 + 10))) fits.0 (ltb-true c count parts.0)
-          (checked (mappings_spelling v) port.mappings (0 + 10) known.0)).0,
-      ports_pass v count 0 cs xs (drop 1 seats) parts.1 fits.1 known.1,
+      port_value v count port fits.0 (ltb-true c count parts.0) known.0,
+      ports_values v count cs xs (drop 1 seats) parts.1 fits.1 known.1,
     )
 
 -- There are as many ports as cables, if each port has a cable.
@@ -157,7 +114,7 @@ rows_pass ports low above (r ∷ rs) le rise each there fits =
     let good = and_parts (is_row r) (list_all is_row rs) each in
     let bounds = row_ends r good.0 in
     let seated = and_parts (nat_lt r.port ports) (list_all (λ r. nat_lt r.port ports) rs) there in (
-      (row_passes ports low (frozen_row r) 0 fits.0 (omega (arith, le, first)) bounds.1 (ltb-true r.port ports seated.0)).0,
+      row_value ports low (frozen_row r) fits.0 (omega (arith, le, first)) bounds.1 (ltb-true r.port ports seated.0),
       rows_pass ports (r.range.start + 1) r.range.end rs (omega (arith, bounds.0)) order.1 good.1 seated.1 fits.1,
     )
 
@@ -201,10 +158,8 @@ lists_pass v low above (k ∷ ks) le rise each few fits =
     let order = and_parts (nat_lt above k.range.start) (lists_above k.range.end ks) rise in
     let first = ltb-true above k.range.start order.0 in
     let good = and_parts (is_known k) (list_all is_known ks) each in
-    let bounds = known_ends k good.0 in
-    let zones = zones_value v k.names few.0 fits.0.zones in (
-      (list_checks v low (frozen_list k) 0 (Ok (ends (zones_spelling v) k.names (0 + 5))) fits.0.start fits.0.end (omega (arith, le, first))
-          (checked (zones_spelling v) k.names (0 + 5) zones)).0,
+    let bounds = known_ends k good.0 in (
+      list_value v low (frozen_list k) fits.0.start fits.0.end (omega (arith, le, first)) few.0 fits.0.zones,
       lists_pass v (k.range.start + 1) k.range.end ks (omega (arith, bounds.1)) order.1 good.1 few.1 fits.1,
     )
 
@@ -221,18 +176,12 @@ router_value v count cables h seats few seated routes zones short fits_ports kno
     let many = ports_length v cables h.ports seats same in
     let x = frozen_router v cables h seats in
     let there = subst (λ n. IsTrue (list_all (λ r. nat_lt r.port n) h.routes)) (sym many) seated in
-    let ports = counted_value one max_ports (λ low. port_spelling v count) (λ p. 0) x.ports (subst (λ n. n ≤ 16) (sym many) few) (omega arith)
-    (ports_pass v count 0 cables h.ports seats below fits_ports known) in
-    let rows = counted_value one max_rows (row_spelling (length x.ports)) (λ r. r.start + 1) x.rows
-    (subst (λ n. n ≤ 200) (sym (length-map frozen_row h.routes)) routes.few) (omega arith)
-    (rows_pass (length x.ports) 0 0 h.routes (omega arith) routes.apart routes.each there fits_rows) in
-    let lists = counted_value one max_lists (zone_list_spelling v) (λ l. l.start + 1) x.lists
-    (subst (λ n. n ≤ 200) (sym (length-map frozen_list h.zones)) zones.few) (omega arith)
-    (lists_pass v 0 0 h.zones (omega arith) zones.apart zones.each (short_lists v h.zones zones.each short) fits_lists) in
-    let a = ends (counted one max_ports (λ low. port_spelling v count) (λ p. 0)) x.ports 0 in
-    let b = ends (counted one max_rows (row_spelling (length x.ports)) (λ r. r.start + 1)) x.rows a in
-    let c = ends (counted one max_lists (zone_list_spelling v) (λ l. l.start + 1)) x.lists b in
-    (router_checks v count x 0 a b (Ok c) (ports, refl) (rows, refl) (lists, refl)).0
+    valid_router v count x (subst (λ n. n ≤ 16) (sym many) few)
+    (subst (λ n. n ≤ 200) (sym (length-map frozen_row h.routes)) routes.few)
+    (subst (λ n. n ≤ 200) (sym (length-map frozen_list h.zones)) zones.few)
+    (ports_values v count cables h.ports seats below fits_ports known)
+    (rows_pass (length x.ports) 0 0 h.routes (omega arith) routes.apart routes.each there fits_rows)
+    (lists_pass v 0 0 h.zones (omega arith) zones.apart zones.each (short_lists v h.zones zones.each short) fits_lists)
   where
     length-map : {X Y : Type 0} (f : X → Y) (xs : List X) → length (map f xs) ≡ length xs
     length-map f [] = refl
@@ -246,15 +195,6 @@ named_head n names each = each 0 n (omega arith)
 named_tail : (n : Named) (names : List Named) → All IsNamed (n ∷ names) → All IsNamed names
 named_tail n names each = λ k d lt. each (suc k) d (omega arith)
 
-name_value : (low : ℕ) (n : Named) → IsNamed n → FitsName (frozen_name n) → low ≤ n.enumerator
-    → IsValue (name_spelling low) (frozen_name n)
-name_value low n h fits le =
-    let o = 0 + 2 + 1 + length n.object in
-    let k = o + 1 + length n.kind in
-    (name_kind low (frozen_name n) 0 o (Ok k) fits h.socket_low h.socket_high h.enumerator le
-    (entity_passes n.object (0 + 2) o h.object.test h.object.some h.object.few refl)
-    (entity_passes n.kind o k h.kind.test h.kind.some h.kind.few refl)).0
-
 names_pass : (low above : ℕ) (names : List Named) → low ≤ above + 1 → IsTrue (names_above above names) → All IsNamed names
     → Each FitsName (map frozen_name names)
     → ListPasses (λ low. IsValue (name_spelling low)) (λ n. n.enumerator + 1) low (map frozen_name names)
@@ -262,7 +202,8 @@ names_pass low above [] le rise each small = tt
 names_pass low above (n ∷ ns) le rise each small =
     let order = and_parts (nat_lt above n.enumerator) (names_above n.enumerator ns) rise in
     let first = ltb-true above n.enumerator order.0 in (
-      name_value low n (named_head n ns each) small.0 (omega (arith, le, first)),
+      (let h = named_head n ns each in
+          name_value low (frozen_name n) small.0 h.socket_low h.socket_high h.enumerator (omega (arith, le, first)) h.object h.kind),
       names_pass (n.enumerator + 1) n.enumerator ns (omega arith) order.1 (named_tail n ns each) small.1,
     )
 
@@ -273,16 +214,8 @@ pub node_value : (v : Version) (count cable : ℕ) (h : NodeHolding) (seat : Opt
     → IsValue (node_spelling v count) (frozen_node v cable h seat)
 node_value v count cable h seat there fits zone router names small known =
     let x = frozen_node v cable h seat in
-    let len = name_length h.zone zone in
-    let named = counted_value one max_names name_spelling (λ n. n.enumerator + 1) x.names
-    (subst (λ n. n ≤ 32) (sym (length-map h.names)) names.few) (omega arith)
-    (names_pass 0 0 h.names (omega arith) names.rising names.each small) in
-    let a = ends zone_spelling x.zone (0 + 10) in
-    let b = ends own_router_spelling x.router a in
-    let c = ends (counted one max_names name_spelling (λ n. n.enumerator + 1)) x.names b in
-    let d = ends (mappings_spelling v) x.mappings c in
-    (node_checks v count x 0 a b c (Ok d) fits there (text_value is_name h.zone zone len.0 len.1, refl) (router, refl) (named, refl)
-    (known, refl)).0
+    valid_node v count x fits there zone router (subst (λ n. n ≤ 32) (sym (length-map h.names)) names.few)
+    (names_pass 0 0 h.names (omega arith) names.rising names.each small) known
   where
     length-map : (xs : List Named) → length (map frozen_name xs) ≡ length xs
     length-map [] = refl

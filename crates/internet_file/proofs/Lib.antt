@@ -1,5 +1,2 @@
-pub mod Lists
-pub mod Turns
 pub mod Registered
-pub mod Given
 pub mod Soundness

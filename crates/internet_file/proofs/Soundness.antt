@@ -12,18 +12,19 @@ use Rattle.at_base.specs.declared.error.Part.TheVariants.{Lose, Action as Action
 use Rattle.text.specs.Words.{given}
 use Rattle.internet_file.specs.Actions.{action_of, doing, loss_of}
 use Rattle.internet_file.specs.Cables.{cable_of, zones}
-use Rattle.internet_file.specs.Entries.{all, at, entry}
-use Rattle.internet_file.specs.Files.{Planned, actions_in, cables_in, entries_at, losses_in, nodes_in, routers_in}
+use Rattle.file_entries.specs.Entries.{all, at, entry}
+use Rattle.file_entries.specs.Entries.{entries_at}
+use Rattle.internet_file.specs.Files.{Planned, actions_in, cables_in, losses_in, nodes_in, routers_in}
 use Rattle.internet_file.specs.Sound.{IsSound, is_action, is_cable, is_loss, is_node, is_port, is_router, may_try, may_try_on}
-use Rattle.internet_file.specs.Stations.{are_apart, cable_at, names_in, node_keys, node_of, port_in, port_of, ports, router_of, tries}
-use Rattle.internet_file.specs.Values.{any_address, hardware, list, list_within, number, one_of, range, span_of, try_of, within, zone}
+use Rattle.internet_file.specs.Stations.{are_apart, cable_at, names_in, node_keys, node_of, port_in, port_of, ports, router_of, tries, try_of}
+use Rattle.file_entries.specs.Values.{any_address, hardware, list, list_within, number, one_of, range, span_of, within, zone}
 use Rattle.internet_file.specs.declared.action.Action.{Action}
 use Rattle.internet_file.specs.declared.cable.Cable.{Cable}
 use Rattle.internet_file.specs.declared.loss.Loss.{Loss}
 use Rattle.internet_file.specs.declared.node.Node.{Node}
 use Rattle.internet_file.specs.declared.port.Port.{Port}
 use Rattle.internet_file.specs.declared.router.Router.{Router}
-use Rattle.internet_file.proofs.Given.{all_is, cond_is, each_all, given_is, joined, part_all, part_is, some_is}
+use Rattle.file_entries.proofs.Given.{all_is, cond_is, each_all, given_is, joined, part_all, part_is, some_is}
 
 -- ---- Numbers
 
@@ -64,7 +65,7 @@ span_is (a ∷ b ∷ c ∷ ds) s e = absurd cc
 zones_are : (d : Data) (names : List (List ℕ)) → zones d ≡ Some names → is_between 1 max_zones (length names) ≡ true
 zones_are d names e =
     let items = given_is (list_within 1 max_zones d) (all zone) names e in
-    let read = each_all zone (λ name. true) (λ d name e. refl) items.0 names (all_is zone items.0 names items.2) in
+    let read = each_all 1 (λ k. zone) (λ name. true) (λ k d name e. refl) items.0 names (all_is (λ k. zone) items.0 names items.2) in
     subst (λ n. is_between 1 max_zones n ≡ true) (sym read.1) (within_is 1 max_zones d items.0 items.1)
 
 cable_is : (d : Data) (c : Cable) → cable_of d ≡ Some c → is_cable c ≡ true
@@ -92,8 +93,8 @@ tries_are : (cables : List Cable) (k : ℕ) (d : Data) (addresses : List Addr) �
 tries_are cables k d addresses e =
     let cable = given_is (cable_at cables k) _ addresses e in
     let items = given_is (list_within 0 16 d) _ addresses cable.2 in
-    rw (cable.1) (each_all (try_of cable.0.range) (may_try cable.0.range) (try_is cable.0.range) items.0 addresses
-    (all_is (try_of cable.0.range) items.0 addresses items.2)).0
+    rw (cable.1) (each_all 1 (λ k. try_of cable.0.range) (may_try cable.0.range) (λ k. try_is cable.0.range) items.0 addresses
+    (all_is (λ k. try_of cable.0.range) items.0 addresses items.2)).0
 
 in_is : (cables : List Cable) (ms : Members) (p : Port) → port_in cables ms ≡ Some p → is_port cables p ≡ true
 in_is cables ms p e =
@@ -119,8 +120,8 @@ of_ports cables d ps e =
     let items = given_is (list_within 1 16 d) _ ps e in
     let read = given_is (all (port_of cables) items.0) _ ps items.2 in
     let c = cond_is (are_apart cables read.0) read.0 ps read.2 in
-    let passed = each_all (port_of cables) (is_port cables) (port_is cables) items.0 read.0
-    (all_is (port_of cables) items.0 read.0 read.1) in
+    let passed = each_all 1 (λ k. port_of cables) (is_port cables) (λ k. port_is cables) items.0 read.0
+    (all_is (λ k. port_of cables) items.0 read.0 read.1) in
     let count = subst (λ n. is_between 1 16 n ≡ true) (sym passed.1) (within_is 1 16 d items.0 items.1) in
     subst (λ (x : List Port). is_router cables (record { port = x }) ≡ true) c.1
     (joined (is_between 1 16 (length read.0) && list_all (is_port cables) read.0) (are_apart cables read.0)
@@ -169,17 +170,17 @@ pub sound : (ms : Members) (p : Planned) → cables_in ms ≡ Ok p.cables → ro
     → actions_in p.ticks p.nodes ms ≡ Ok p.actions → IsSound p
 unfolding cables_in routers_in nodes_in losses_in actions_in
 sound ms p c r n l a =
-    let cables = part_all 200 CablePart cable_of is_cable cable_is (entries_at (codes "cable") ms) p.cables c in
-    let routers = part_all 200 RouterPart (router_of p.cables) (is_router p.cables) (router_is p.cables)
+    let cables = part_all 200 CablePart (λ k. cable_of) is_cable (λ k. cable_is) (entries_at (codes "cable") ms) p.cables c in
+    let routers = part_all 200 RouterPart (λ k. router_of p.cables) (is_router p.cables) (λ k. router_is p.cables)
     (entries_at (codes "router") ms) p.routers r in
-    let nodes = part_all 200 NodePart (node_of p.cables) (is_node p.cables) (node_is p.cables)
+    let nodes = part_all 200 NodePart (λ k. node_of p.cables) (is_node p.cables) (λ k. node_is p.cables)
     (entries_at (codes "node") ms) p.nodes n in
-    let losses = each_all (loss_of p.ticks p.cables) (is_loss p.cables) (loss_is p.ticks p.cables)
+    let losses = each_all 1 (λ k. loss_of p.ticks p.cables) (is_loss p.cables) (λ k. loss_is p.ticks p.cables)
     (entries_at (codes "lose") ms) p.losses
-    (part_is Lose (loss_of p.ticks p.cables) (entries_at (codes "lose") ms) p.losses l) in
-    let actions = each_all (action_of p.ticks p.nodes) (is_action p.nodes) (action_is p.ticks p.nodes)
+    (part_is Lose (λ k. loss_of p.ticks p.cables) (entries_at (codes "lose") ms) p.losses l) in
+    let actions = each_all 1 (λ k. action_of p.ticks p.nodes) (is_action p.nodes) (λ k. action_is p.ticks p.nodes)
     (entries_at (codes "action") ms) p.actions
-    (part_is ActionPart (action_of p.ticks p.nodes) (entries_at (codes "action") ms) p.actions a) in
+    (part_is ActionPart (λ k. action_of p.ticks p.nodes) (entries_at (codes "action") ms) p.actions a) in
     record {
       few_cables = cables.1;
       few_routers = routers.1;

@@ -3,8 +3,8 @@ use Rattle.std.specs.Prelude.{ℕ, cond, List, [], ◌∷◌, Option, Some, None
 use Rattle.toml.specs.Data.{Data, Members, as_str, as_table}
 use Rattle.at_base.specs.Text.{same_bytes}
 use Rattle.text.specs.Words.{given}
-use Rattle.internet_file.specs.Entries.{at, entry, has_only}
-use Rattle.internet_file.specs.Values.{any_address, hex, number, one_of, short}
+use Rattle.file_entries.specs.Entries.{at, entry, has_only}
+use Rattle.file_entries.specs.Values.{any_address, hex, number, one_of, short}
 use Rattle.internet_file.specs.declared.action.Action.{Action}
 use Rattle.internet_file.specs.declared.action.Do.{Do}
 use Rattle.internet_file.specs.declared.action.Do.TheVariants.{Send, Lookup}

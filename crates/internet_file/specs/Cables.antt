@@ -2,8 +2,8 @@
 use Rattle.std.specs.Prelude.{ℕ, List, [], ◌∷◌, Option, Some, codes}
 use Rattle.toml.specs.Data.{Data}
 use Rattle.text.specs.Words.{given}
-use Rattle.internet_file.specs.Entries.{all, at, entry}
-use Rattle.internet_file.specs.Values.{list_within, range, zone}
+use Rattle.file_entries.specs.Entries.{all, at, entry}
+use Rattle.file_entries.specs.Values.{list_within, range, zone}
 use Rattle.internet_file.specs.declared.cable.Cable.{Cable}
 use Rattle.at_base.specs.Limits.{max_zones}
 

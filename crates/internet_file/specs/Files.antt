@@ -1,17 +1,17 @@
 -- Internet files: a network, and what happens in it in each tick.
-use Rattle.std.specs.Prelude.{◌≡◌, ◌⊎◌, ℕ, Bool, ◌&&◌, cond, List, [], ◌∷◌, Option, Some, None, Result, Ok, Err, IsUtf8}
-use Rattle.std.specs.Prelude.{codes, is_some, unwrap_or}
+use Rattle.std.specs.Prelude.{ℕ, Bool, ◌&&◌, cond, List, [], ◌∷◌, Option, Some, None, Result, Ok, Err}
+use Rattle.std.specs.Prelude.{codes}
 use Rattle.toml.specs.Data.{Data, Members}
-use Rattle.toml.specs.Parse.{parse_document}
 use Rattle.at_base.specs.declared.error.Error.{Error}
-use Rattle.at_base.specs.declared.error.Error.TheVariants.{BadFile, Memory}
-use Rattle.at_base.specs.declared.error.Part.TheVariants.{Text, Top, Cable as CablePart, Router as RouterPart, Node as NodePart}
+use Rattle.at_base.specs.declared.error.Error.TheVariants.{BadFile}
+use Rattle.at_base.specs.declared.error.Part.TheVariants.{Top, Cable as CablePart, Router as RouterPart, Node as NodePart}
 use Rattle.at_base.specs.declared.error.Part.TheVariants.{Lose, Action as ActionPart}
 use Rattle.internet_file.specs.Actions.{action_of, loss_of}
 use Rattle.internet_file.specs.Cables.{cable_of}
-use Rattle.internet_file.specs.Entries.{after, at, has_only, list_at, part, part_up_to}
+use Rattle.file_entries.specs.Documents.{IsRead, IsRefused}
+use Rattle.file_entries.specs.Entries.{after, at, entries_at, has_only, is_listed, part, part_up_to}
 use Rattle.internet_file.specs.Stations.{node_of, router_of}
-use Rattle.internet_file.specs.Values.{number}
+use Rattle.file_entries.specs.Values.{number}
 use Rattle.internet_file.specs.declared.action.Action.{Action}
 use Rattle.internet_file.specs.declared.cable.Cable.{Cable}
 use Rattle.internet_file.specs.declared.loss.Loss.{Loss}
@@ -33,10 +33,6 @@ abbrev pub top_keys : List (List ℕ)
 top_keys =
     codes "ticks" ∷ codes "cable" ∷ codes "router" ∷ codes "node" ∷ codes "lose" ∷ codes "action" ∷ []
 
--- The value at a key of the top level is a list, or the key is absent.
-abbrev pub is_listed : List ℕ → Members → Bool
-is_listed key ms = is_some (list_at key ms)
-
 -- The top level has only the keys of a file, and its tables are lists.
 abbrev pub is_top : Members → Bool
 is_top ms =
@@ -51,29 +47,25 @@ ticks_of ms = of (cond (is_top ms) (at (codes "ticks") (number 1 100000) ms) Non
     of (Some ticks) = Ok ticks
     of None = Err (BadFile Top 0)
 
--- The entries at a key of the top level.
-abbrev pub entries_at : List ℕ → Members → List Data
-entries_at key ms = unwrap_or (list_at key ms) []
-
 -- The cables of a file, or the error of the first invalid one.
 unfoldable pub cables_in : Members → Result (List Cable) Error
-cables_in ms = part_up_to max_cables CablePart cable_of (entries_at (codes "cable") ms)
+cables_in ms = part_up_to max_cables CablePart (λ k. cable_of) (entries_at (codes "cable") ms)
 
 -- The routers of a file with these cables, or the error of the first invalid one.
 unfoldable pub routers_in : List Cable → Members → Result (List Router) Error
-routers_in cables ms = part_up_to max_routers RouterPart (router_of cables) (entries_at (codes "router") ms)
+routers_in cables ms = part_up_to max_routers RouterPart (λ k. router_of cables) (entries_at (codes "router") ms)
 
 -- The nodes of a file with these cables, or the error of the first invalid one.
 unfoldable pub nodes_in : List Cable → Members → Result (List Node) Error
-nodes_in cables ms = part_up_to max_nodes NodePart (node_of cables) (entries_at (codes "node") ms)
+nodes_in cables ms = part_up_to max_nodes NodePart (λ k. node_of cables) (entries_at (codes "node") ms)
 
 -- The losses of a file with this many ticks and these cables, or the error of the first invalid one.
 unfoldable pub losses_in : ℕ → List Cable → Members → Result (List Loss) Error
-losses_in ticks cables ms = part Lose (loss_of ticks cables) (entries_at (codes "lose") ms)
+losses_in ticks cables ms = part Lose (λ k. loss_of ticks cables) (entries_at (codes "lose") ms)
 
 -- The actions of a file with this many ticks and these nodes, or the error of the first invalid one.
 unfoldable pub actions_in : ℕ → List Node → Members → Result (List Action) Error
-actions_in ticks nodes ms = part ActionPart (action_of ticks nodes) (entries_at (codes "action") ms)
+actions_in ticks nodes ms = part ActionPart (λ k. action_of ticks nodes) (entries_at (codes "action") ms)
 
 -- The plan in a document, or the error of its first fault.
 abbrev pub file : Members → Result Planned Error
@@ -90,17 +82,10 @@ file ms =
       actions = actions;
     })))))))
 
--- The text is the TOML document with these members.
-abbrev pub IsDocument : List ℕ → Members → Type 0
-IsDocument text ms = IsUtf8 text × (parse_document text ≡ Some ms)
-
 -- The text is a file with this plan.
 abbrev pub IsFile : List ℕ → Planned → Type 0
-IsFile text plan = (ms : Members) × IsDocument text ms × (file ms ≡ Ok plan)
+IsFile text plan = IsRead file text plan
 
 -- The error is that of a text that isn't TOML, or that of the document's first fault, or Memory.
 abbrev pub IsFileRefused : List ℕ → Error → Type 0
-IsFileRefused text e =
-    ((e ≡ BadFile Text 0) × ((ms : Members) → IsDocument text ms → ⊥))
-    ⊎ ((ms : Members) × IsDocument text ms × (file ms ≡ Err e))
-    ⊎ (e ≡ Memory)
+IsFileRefused text e = IsRefused file text e

@@ -3,13 +3,13 @@ use Rattle.std.specs.Prelude.{ℕ, ◌-◌, Bool, true, false, not, ◌&&◌, co
 use Rattle.std.specs.Prelude.{nat_lt, slice_get}
 use Rattle.std.specs.List.{list_all}
 use Rattle.toml.specs.Data.{Data, Members}
-use Rattle.at_base.specs.Range.{overlaps}
+use Rattle.at_base.specs.Range.{Span, is_between, overlaps}
 use Rattle.at_base.specs.declared.address.Addr.{Addr}
 use Rattle.nbp.specs.Registered.{free_from, is_registrable, is_taken, with_name}
 use Rattle.nbp.specs.declared.names.Named.{Named}
 use Rattle.text.specs.Words.{given}
-use Rattle.internet_file.specs.Entries.{all, at, entry, list_at}
-use Rattle.internet_file.specs.Values.{hardware, list_within, number, one_of, short, try_of, zone}
+use Rattle.file_entries.specs.Entries.{all, at, entry, list_at}
+use Rattle.file_entries.specs.Values.{any_address, hardware, list_within, number, one_of, short, zone}
 use Rattle.internet_file.specs.declared.cable.Cable.{Cable}
 use Rattle.internet_file.specs.declared.node.Node.{Node}
 use Rattle.internet_file.specs.declared.port.Port.{Port}
@@ -20,6 +20,11 @@ use Rattle.at_base.specs.Limits.{max_names, max_ports}
 -- The cable with this number, from 1.
 abbrev pub cable_at : List Cable → ℕ → Option Cable
 cable_at cables k = slice_get cables (k - 1)
+
+-- An address that a station may try on a cable: its network is one of the cable's, and its node is 1 to 253.
+abbrev pub try_of : Span → Data → Option Addr
+try_of range d =
+    given (any_address d) (λ a. cond (is_between range.start range.end a.net && is_between 1 253 a.node) (Some a) None)
 
 -- A list of at most 16 addresses to try on the cable with this number.
 abbrev pub tries : List Cable → ℕ → Data → Option (List Addr)

@@ -6,15 +6,15 @@ ghost use Rattle.toml.specs.View.{table_view};
 ghost use Rattle.at_base.specs.Text.{same_bytes};
 ghost use Rattle.text.specs.Words.{given};
 ghost use Rattle.internet_file.specs.Actions.{action_of, doing, looking_up, sending};
-ghost use Rattle.internet_file.specs.Entries.{at};
-ghost use Rattle.internet_file.specs.Values as spec;
+ghost use Rattle.file_entries.specs.Entries.{at};
+ghost use Rattle.file_entries.specs.Values as spec;
 
-use crate::bytes::hex;
-use crate::entries::Reader;
-use crate::fields::{address_at, byte_at, number_at, one_at, short_at};
-use crate::key::{get, has_only};
 use crate::node::Node;
 use at_base::{Addr, Bytes, Error, Text32};
+use file_entries::bytes::hex;
+use file_entries::entries::Reader;
+use file_entries::fields::{address_at, byte_at, number_at, one_at, short_at};
+use file_entries::key::{get, has_only};
 use std::alloc::Global;
 use toml::{Table, Value};
 
@@ -159,9 +159,14 @@ pub(crate) struct Actions<'a> {
 impl<'a> Reader for Actions<'a> {
     type Entry = Action;
 
-    ghost meaning = { λ r d. action_of r.ticks r.nodes.now d };
+    ghost meaning = { λ r _ d. action_of r.ticks r.nodes.now d };
 
-    fn read_one(&self, alloc: Global, value: &Value) -> Result<Option<Action>, Error> {
+    fn read_one(
+        &self,
+        alloc: Global,
+        _number: usize,
+        value: &Value,
+    ) -> Result<Option<Action>, Error> {
         let Some(table) = value.as_table() else {
             return Ok(None);
         };

@@ -4,15 +4,15 @@ ghost use Rattle.std.specs.Prelude.{◌≡◌, IfOk, IsOkUnless};
 ghost use Rattle.toml.specs.View.{table_view};
 ghost use Rattle.internet_file.specs.Cables as cables_spec;
 ghost use Rattle.internet_file.specs.Cables.{cable_of};
-ghost use Rattle.internet_file.specs.Entries.{at};
-ghost use Rattle.internet_file.specs.Values as values_spec;
+ghost use Rattle.file_entries.specs.Entries.{at};
+ghost use Rattle.file_entries.specs.Values as values_spec;
 
-use crate::entries::{Reader, all};
-use crate::fields::range_at;
-use crate::key::{entry, get};
-use crate::value::{list_within, zone};
 use at_base::limits::MAX_ZONES;
 use at_base::{Error, Listed, Name, Range};
+use file_entries::entries::{Reader, all};
+use file_entries::fields::range_at;
+use file_entries::key::{entry, get};
+use file_entries::value::{list_within, zone};
 use std::alloc::Global;
 use toml::{Table, Value};
 
@@ -32,9 +32,14 @@ struct Zones;
 impl Reader for Zones {
     type Entry = Name;
 
-    ghost meaning = { λ _ d. values_spec.zone d };
+    ghost meaning = { λ _ _ d. values_spec.zone d };
 
-    fn read_one(&self, _alloc: Global, value: &Value) -> Result<Option<Name>, Error> {
+    fn read_one(
+        &self,
+        _alloc: Global,
+        _number: usize,
+        value: &Value,
+    ) -> Result<Option<Name>, Error> {
         Ok(zone(value))
     }
 }
@@ -60,9 +65,14 @@ pub(crate) struct Cables;
 impl Reader for Cables {
     type Entry = Cable;
 
-    ghost meaning = { λ _ d. cable_of d };
+    ghost meaning = { λ _ _ d. cable_of d };
 
-    fn read_one(&self, alloc: Global, value: &Value) -> Result<Option<Cable>, Error> {
+    fn read_one(
+        &self,
+        alloc: Global,
+        _number: usize,
+        value: &Value,
+    ) -> Result<Option<Cable>, Error> {
         let Some(table) = entry(&["range", "zones"], value) else {
             return Ok(None);
         };

@@ -2,11 +2,7 @@
 #![tactic(auto)]
 
 mod action;
-mod bytes;
 mod cable;
-mod entries;
-mod fields;
-mod key;
 mod loss;
 mod names;
 mod node;
@@ -17,7 +13,6 @@ mod reading;
 mod router;
 mod service;
 mod top;
-mod value;
 
 pub use action::{Action, Do};
 pub use cable::Cable;

@@ -5,10 +5,10 @@ ghost use Rattle.toml.specs.View.{view};
 ghost use Rattle.internet_file.specs.Actions.{loss_of};
 
 use crate::cable::Cable;
-use crate::entries::Reader;
-use crate::fields::{number_at, one_at};
-use crate::key::entry;
 use at_base::Error;
+use file_entries::entries::Reader;
+use file_entries::fields::{number_at, one_at};
+use file_entries::key::entry;
 use std::alloc::Global;
 use toml::Value;
 
@@ -44,9 +44,14 @@ pub(crate) struct Losses<'a> {
 impl<'a> Reader for Losses<'a> {
     type Entry = Loss;
 
-    ghost meaning = { λ r d. loss_of r.ticks r.cables.now d };
+    ghost meaning = { λ r _ d. loss_of r.ticks r.cables.now d };
 
-    fn read_one(&self, _alloc: Global, value: &Value) -> Result<Option<Loss>, Error> {
+    fn read_one(
+        &self,
+        _alloc: Global,
+        _number: usize,
+        value: &Value,
+    ) -> Result<Option<Loss>, Error> {
         Ok(read_loss(self.ticks, self.cables, value))
     }
 }

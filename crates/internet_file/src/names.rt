@@ -4,9 +4,9 @@ ghost use Rattle.std.specs.Prelude.{◌≡◌, ◌≤◌, [], true, map, IfOk, I
 ghost use Rattle.toml.specs.View.{table_view, view};
 ghost use Rattle.internet_file.specs.Stations.{may_register, names_in, registered, with_service};
 
-use crate::key::list_at;
 use crate::service::{Service, service_of};
 use at_base::Error;
+use file_entries::key::list_at;
 use nbp::Names;
 use std::alloc::Global;
 use toml::{Table, Value};

@@ -3,12 +3,12 @@
 ghost use Rattle.internet_file.specs.Stations.{node_of};
 
 use crate::cable::Cable;
-use crate::entries::Reader;
-use crate::fields::zone_at;
-use crate::key::entry;
 use crate::names::names_at;
 use crate::port::port_at;
 use at_base::{Addr, Error, Hw, Listed, Name};
+use file_entries::entries::Reader;
+use file_entries::fields::zone_at;
+use file_entries::key::entry;
 use nbp::Names;
 use std::alloc::Global;
 use toml::Value;
@@ -37,9 +37,14 @@ pub(crate) struct Nodes<'a> {
 impl<'a> Reader for Nodes<'a> {
     type Entry = Node;
 
-    ghost meaning = { λ r d. node_of r.cables.now d };
+    ghost meaning = { λ r _ d. node_of r.cables.now d };
 
-    fn read_one(&self, alloc: Global, value: &Value) -> Result<Option<Node>, Error> {
+    fn read_one(
+        &self,
+        alloc: Global,
+        _number: usize,
+        value: &Value,
+    ) -> Result<Option<Node>, Error> {
         let Some(table) = entry(&["cable", "hardware", "try", "zone", "name"], value) else {
             return Ok(None);
         };

@@ -6,13 +6,13 @@ ghost use Rattle.internet_file.specs.Files.{actions_in, cables_in, losses_in, no
 
 use crate::action::{Action, Actions};
 use crate::cable::{Cable, Cables};
-use crate::entries::{part, part_up_to};
 use crate::loss::{Loss, Losses};
 use crate::node::{Node, Nodes};
 use crate::router::{Router, Routers};
-use crate::top::entries_at;
 use at_base::limits::{MAX_CABLES, MAX_NODES, MAX_ROUTERS};
 use at_base::{Error, Listed, Part};
+use file_entries::entries::{part, part_up_to};
+use file_entries::key::entries_at;
 use std::alloc::Global;
 use toml::Table;
 

@@ -1,18 +1,18 @@
 //! Ports: routers and nodes on cables.
 
 ghost use Rattle.std.specs.Prelude.{◌≡◌, ◌≤◌, IfOk, IsOkUnless};
-ghost use Rattle.toml.specs.View.{table_view};
-ghost use Rattle.internet_file.specs.Entries.{at};
+ghost use Rattle.toml.specs.View.{table_view, view};
+ghost use Rattle.file_entries.specs.Entries.{at};
 ghost use Rattle.internet_file.specs.Stations as spec;
 ghost use Rattle.internet_file.specs.Stations.{port_in, port_of};
-ghost use Rattle.internet_file.specs.Values.{try_of};
+ghost use Rattle.internet_file.specs.Stations.{try_of};
 
 use crate::cable::Cable;
-use crate::entries::{Reader, all};
-use crate::fields::{hardware_at, one_at};
-use crate::key::{entry, get};
-use crate::value::{list_within, try_address};
 use at_base::{Addr, Error, Hw, Listed, Range};
+use file_entries::entries::{Reader, all};
+use file_entries::fields::{hardware_at, one_at};
+use file_entries::key::{entry, get};
+use file_entries::value::{any_address, list_within};
 use std::alloc::Global;
 use toml::{Table, Value};
 
@@ -27,6 +27,19 @@ pub struct Port {
     pub tries: Listed<Addr>,
 }
 
+/// An address that a station may try on a cable with this range: node 1 to 253 of one of its
+/// networks.
+fn try_address(range: &Range, value: &Value) -> Option<Addr>
+    ensures { result ≡ spec.try_of range.now (view value.now) }
+{
+    let address = any_address(value)?;
+    if range.holds(address.net) && 1 <= address.node && address.node <= 253 {
+        Some(address)
+    } else {
+        None
+    }
+}
+
 /// Reads the addresses to try on a cable with this range.
 #[derive(Clone, Copy)]
 struct Tries {
@@ -36,9 +49,14 @@ struct Tries {
 impl Reader for Tries {
     type Entry = Addr;
 
-    ghost meaning = { λ r d. try_of r.range d };
+    ghost meaning = { λ r _ d. try_of r.range d };
 
-    fn read_one(&self, _alloc: Global, value: &Value) -> Result<Option<Addr>, Error> {
+    fn read_one(
+        &self,
+        _alloc: Global,
+        _number: usize,
+        value: &Value,
+    ) -> Result<Option<Addr>, Error> {
         Ok(try_address(&self.range, value))
     }
 }
@@ -99,9 +117,14 @@ pub(crate) struct Ports<'a> {
 impl<'a> Reader for Ports<'a> {
     type Entry = Port;
 
-    ghost meaning = { λ r d. port_of r.cables.now d };
+    ghost meaning = { λ r _ d. port_of r.cables.now d };
 
-    fn read_one(&self, alloc: Global, value: &Value) -> Result<Option<Port>, Error> {
+    fn read_one(
+        &self,
+        alloc: Global,
+        _number: usize,
+        value: &Value,
+    ) -> Result<Option<Port>, Error> {
         let Some(table) = entry(&["cable", "hardware", "try"], value) else {
             return Ok(None);
         };

@@ -3,17 +3,17 @@
 ghost use Rattle.std.specs.Prelude.{◌≡◌, not, option_copied, IfOk, IsOkUnless};
 ghost use Rattle.std.specs.List.{list_all};
 ghost use Rattle.toml.specs.View.{table_view};
-ghost use Rattle.internet_file.specs.Entries.{at};
+ghost use Rattle.file_entries.specs.Entries.{at};
 ghost use Rattle.internet_file.specs.Stations as spec;
 ghost use Rattle.internet_file.specs.Stations.{router_of};
 
 use crate::cable::Cable;
-use crate::entries::{Reader, all};
-use crate::key::{entry, get};
 use crate::port::{Port, Ports};
-use crate::value::list_within;
 use at_base::limits::MAX_PORTS;
 use at_base::{Error, Listed};
+use file_entries::entries::{Reader, all};
+use file_entries::key::{entry, get};
+use file_entries::value::list_within;
 use std::alloc::Global;
 use toml::{Table, Value};
 
@@ -93,9 +93,14 @@ pub(crate) struct Routers<'a> {
 impl<'a> Reader for Routers<'a> {
     type Entry = Router;
 
-    ghost meaning = { λ r d. router_of r.cables.now d };
+    ghost meaning = { λ r _ d. router_of r.cables.now d };
 
-    fn read_one(&self, alloc: Global, value: &Value) -> Result<Option<Router>, Error> {
+    fn read_one(
+        &self,
+        alloc: Global,
+        _number: usize,
+        value: &Value,
+    ) -> Result<Option<Router>, Error> {
         let Some(table) = entry(&["port"], value) else {
             return Ok(None);
         };

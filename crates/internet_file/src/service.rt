@@ -4,9 +4,9 @@ ghost use Rattle.std.specs.Prelude.{◌≡◌, ◌≤◌, IfSome};
 ghost use Rattle.toml.specs.View.{view};
 ghost use Rattle.internet_file.specs.Stations as spec;
 
-use crate::fields::{number_at, short_at};
-use crate::key::entry;
 use at_base::Text32;
+use file_entries::fields::{number_at, short_at};
+use file_entries::key::entry;
 use toml::Value;
 
 /// A service that a node registers.

@@ -1,22 +1,15 @@
 //! The top level of a file.
 
-ghost use Rattle.std.specs.Prelude.{◌≡◌, map, Ok, Err};
-ghost use Rattle.toml.specs.View.{table_view, view};
+ghost use Rattle.std.specs.Prelude.{◌≡◌, Ok, Err};
+ghost use Rattle.toml.specs.View.{table_view};
 ghost use Rattle.at_base.specs.declared.error.Part.TheVariants.{Top};
 ghost use Rattle.internet_file.specs.Files as spec;
 ghost use Rattle.internet_file.specs.Files.{ticks_of};
 
-use crate::fields::number_at;
-use crate::key::{has_only, list_at};
 use at_base::{Error, Part};
-use toml::{Table, Value};
-
-/// Whether the value at the key is a list, or the key is absent.
-fn is_listed(table: &Table, key: &str) -> bool
-    ensures { result ≡ spec.is_listed key.now (table_view table.now) }
-{
-    list_at(table, key).is_some()
-}
+use file_entries::fields::number_at;
+use file_entries::key::{has_only, is_listed};
+use toml::Table;
 
 /// Whether the top level has only the keys of a file, and its tables are lists.
 fn is_top(table: &Table) -> bool
@@ -43,14 +36,4 @@ pub(crate) fn ticks(table: &Table) -> Result<u32, Error>
         }
     }
     Err(Error::BadFile(Part::Top, 0))
-}
-
-/// The entries at a key of the top level.
-pub(crate) fn entries_at<'a>(table: &'a Table, key: &str) -> &'a [Value]
-    ensures { map view result.now ≡ spec.entries_at key.now (table_view table.now) }
-{
-    match list_at(table, key) {
-        Some(values) => values,
-        None => &[],
-    }
 }

@@ -9,35 +9,36 @@ use Rattle.at_base.specs.declared.error.Part.TheVariants.{Text, Top, Cable as Ca
 use Rattle.at_base.specs.declared.error.Part.TheVariants.{Lose, Action as ActionPart}
 use Rattle.internet_file.specs.Actions.{action_of, loss_of}
 use Rattle.internet_file.specs.Cables.{cable_of}
-use Rattle.internet_file.specs.Entries.{after, at, each, numbered, part, part_up_to}
-use Rattle.internet_file.specs.Files.{IsFileRefused, Planned, actions_in, cables_in, entries_at, file, is_top, losses_in, nodes_in}
+use Rattle.file_entries.specs.Entries.{after, at, each, entries_at, numbered, part, part_up_to}
+use Rattle.internet_file.specs.Files.{IsFileRefused, Planned, actions_in, cables_in, file, is_top, losses_in, nodes_in}
 use Rattle.internet_file.specs.Files.{routers_in, ticks_of}
 use Rattle.internet_file.specs.Stations.{node_of, router_of}
-use Rattle.internet_file.specs.Values.{number}
+use Rattle.file_entries.specs.Values.{number}
 
 -- The error is none of these.
 abbrev pub IsOther : Error → Type 0
 IsOther e = (e ≢ ReadFault) × (e ≢ WriteFault) × (e ≢ Full)
 
-abbrev IsBad : {T : Type 0} → Result T Error → Type 0
+-- The result, if it is an error, is none of these.
+abbrev pub IsBad : {T : Type 0} → Result T Error → Type 0
 IsBad r = IfErr r IsOther
 
-bad_entry : (p : Part) (k : ℕ) → IsOther (BadFile p k)
+pub bad_entry : (p : Part) (k : ℕ) → IsOther (BadFile p k)
 bad_entry p k = (λ same. absurd cc, λ same. absurd cc, λ same. absurd cc)
 
-after_bad : {T U : Type 0} (r : Result T Error) (f : T → Result U Error) → IsBad r → ((x : T) → IsBad (f x)) → IsBad (after r f)
+pub after_bad : {T U : Type 0} (r : Result T Error) (f : T → Result U Error) → IsBad r → ((x : T) → IsBad (f x)) → IsBad (after r f)
 after_bad (Ok x) f first rest = rest x
 after_bad (Err e) f first rest = first
 
-numbered_bad : {T : Type 0} (p : Part) (r : Result (List T) ℕ) → IsBad (numbered p r)
+pub numbered_bad : {T : Type 0} (p : Part) (r : Result (List T) ℕ) → IsBad (numbered p r)
 numbered_bad p (Ok xs) = tt
 numbered_bad p (Err k) = bad_entry p _
 
-limit_bad : {T : Type 0} (p : Part) (k : ℕ) (xs : List T) (few : Bool) → IsBad (cond few (Ok xs) (Err (BadFile p k)))
+pub limit_bad : {T : Type 0} (p : Part) (k : ℕ) (xs : List T) (few : Bool) → IsBad (cond few (Ok xs) (Err (BadFile p k)))
 limit_bad p k xs true = tt
 limit_bad p k xs false = bad_entry p k
 
-part_bad : {T : Type 0} (limit : ℕ) (p : Part) (f : Data → Option T) (ds : List Data) → IsBad (part_up_to limit p f ds)
+pub part_bad : {T : Type 0} (limit : ℕ) (p : Part) (f : ℕ → Data → Option T) (ds : List Data) → IsBad (part_up_to limit p f ds)
 part_bad limit p f ds =
     after_bad (part p f (take limit ds)) _ (numbered_bad p (each f (take limit ds)))
     (λ xs. limit_bad p _ xs (nat_le (length ds) limit))
@@ -54,13 +55,13 @@ file_bad : (ms : Members) → IsBad (file ms)
 unfolding cables_in routers_in nodes_in losses_in actions_in
 file_bad ms =
     after_bad (ticks_of ms) _ (ticks_bad ms) (λ ticks.
-    after_bad (cables_in ms) _ (part_bad 200 CablePart cable_of (entries_at (codes "cable") ms)) (λ cables.
-    after_bad (routers_in cables ms) _ (part_bad 200 RouterPart (router_of cables) (entries_at (codes "router") ms)) (λ routers.
-    after_bad (nodes_in cables ms) _ (part_bad 200 NodePart (node_of cables) (entries_at (codes "node") ms)) (λ nodes.
+    after_bad (cables_in ms) _ (part_bad 200 CablePart (λ k. cable_of) (entries_at (codes "cable") ms)) (λ cables.
+    after_bad (routers_in cables ms) _ (part_bad 200 RouterPart (λ k. router_of cables) (entries_at (codes "router") ms)) (λ routers.
+    after_bad (nodes_in cables ms) _ (part_bad 200 NodePart (λ k. node_of cables) (entries_at (codes "node") ms)) (λ nodes.
     after_bad (losses_in ticks cables ms) _
-    (numbered_bad Lose (each (loss_of ticks cables) (entries_at (codes "lose") ms))) (λ losses.
+    (numbered_bad Lose (each (λ k. loss_of ticks cables) (entries_at (codes "lose") ms))) (λ losses.
     after_bad (actions_in ticks nodes ms) _
-    (numbered_bad ActionPart (each (action_of ticks nodes) (entries_at (codes "action") ms))) (λ actions. tt))))))
+    (numbered_bad ActionPart (each (λ k. action_of ticks nodes) (entries_at (codes "action") ms))) (λ actions. tt))))))
 
 pub other_fault : (text : List ℕ) (e : Error) → IsFileRefused text e → IsOther e
 other_fault text e (inl (is, none)) = subst IsOther (sym is) (bad_entry Text 0)

@@ -1,4 +1,4 @@
-//! The end of a play: the audit of its tables, and the bytes of the image.
+//! The end of a play, and of what is made of tables: the audit of an image, and its bytes.
 
 ghost use Rattle.std.specs.Prelude.{◌≡◌, ◌++◌, ◌∷◌, [], IfOk, IsOkUnless, OnOk};
 ghost use Rattle.at_base.specs.Spelling.{Spells};
@@ -23,7 +23,8 @@ fn put_verdict(alloc: Global, text: &mut Vec<u8>, verdict: &Verdict) -> Result<(
     Ok(())
 }
 
-/// Audits the image, and appends the line of the verdict to the lines. Error: `Memory`.
+/// Audits an image, appends the line of the verdict to the lines, and writes the image. Error:
+/// `Memory`.
 pub fn judge(alloc: Global, mut lines: Vec<u8>, image: &Image) -> Result<Played, Error>
     ensures judged { IfOk result (λ p. (v : Verdict) × Judges image.now v × (p.yes ≡ is_yes v)
         × (p.lines.items ≡ lines.items ++ verdict_line v ++ 10 ∷ [])) }

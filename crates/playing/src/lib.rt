@@ -9,6 +9,7 @@ mod reading;
 mod received;
 mod refused;
 
+pub use judging::judge;
 pub use playing::{Played, play_text};
 pub use progress::{Progress, Silent};
 pub use received::put_received;

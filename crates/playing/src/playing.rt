@@ -23,7 +23,7 @@ use std::alloc::Global;
 use table_image::{Image, Version};
 use world::World;
 
-/// The result of a play.
+/// The result of a play, or of an image that was judged.
 #[derive(Drop)]
 pub struct Played {
     /// The printed lines: the actions that had an error, the datagrams that the nodes received, and

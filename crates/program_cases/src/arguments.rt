@@ -16,6 +16,17 @@ fn put_source(text: &mut String, source: Source<'_>) -> Result<(), AllocError> {
     }
 }
 
+/// Appends the word of an option, if it is given.
+fn put_word(text: &mut String, what: &str, word: Option<&str>) -> Result<(), AllocError> {
+    match word {
+        Some(word) => {
+            write!(text, " {what} ")?;
+            put_text(text, word.as_bytes())
+        }
+        None => Ok(()),
+    }
+}
+
 fn put_job(text: &mut String, job: Job<'_>) -> Result<(), AllocError> {
     match job {
         Job::Audit(image) => {
@@ -30,14 +41,25 @@ fn put_job(text: &mut String, job: Job<'_>) -> Result<(), AllocError> {
         Job::Play(file, to, version) => {
             write!(text, "play")?;
             put_source(text, file)?;
-            if let Some(to) = to {
-                write!(text, " image to ")?;
-                put_text(text, to.as_bytes())?;
-            }
+            put_word(text, "image to", to)?;
             if let Some(version) = version {
                 let number = version.number();
                 write!(text, " version {number}")?;
             }
+        }
+        Job::Make(file, to) => {
+            write!(text, "make")?;
+            put_source(text, file)?;
+            put_word(text, "image to", to)?;
+        }
+        Job::Show(image) => {
+            write!(text, "show")?;
+            put_source(text, image)?;
+        }
+        Job::Draw(image, to) => {
+            write!(text, "draw")?;
+            put_source(text, image)?;
+            put_word(text, "ways to", to)?;
         }
     }
     writeln!(text)

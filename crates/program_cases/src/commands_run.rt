@@ -1,4 +1,4 @@
-//! The output of the three commands.
+//! The output of `audit`, `trace` and `play`.
 
 use at_base::Error;
 use case_words::{Answer, Stop, Words, put_line};

@@ -1,4 +1,5 @@
-//! Cases of the program: internet files, worlds, plays, and the output of the three commands.
+//! Cases of the program: arguments, internet files, worlds, plays, and the output of `audit`, `trace`
+//! and `play`.
 #![tactic(auto)]
 
 mod arguments;

@@ -1,4 +1,4 @@
-//! The three commands, with a mishap at each call of their streams in turn.
+//! `audit`, `trace` and `play`, with a mishap at each call of their streams in turn.
 
 use crate::mishaps::{Kept, Mishap, Pieces, Turn};
 use at_base::Error;

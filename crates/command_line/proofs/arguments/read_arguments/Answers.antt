@@ -8,6 +8,8 @@ use Rattle.command_line.proofs.CommandLine.{simple, simple_and_free, none_entere
 use Rattle.command_line.proofs.CommandLine.{help_asked, help_short_asked, version_asked, version_short_asked}
 use Rattle.command_line.proofs.CommandLine.{audit_meant, audit_taken, trace_meant, trace_taken}
 use Rattle.command_line.proofs.PlayLine.{play_meant, play_taken, play_to_meant, play_to_taken}
+use Rattle.command_line.proofs.TablesLine.{draw_meant, draw_taken, draw_to_meant, draw_to_taken, make_meant, make_taken, make_to_meant}
+use Rattle.command_line.proofs.TablesLine.{make_to_taken, show_meant, show_taken}
 use Rattle.command_line.proofs.arguments.read_arguments.Goals as goal
 
 -- If only one kind of error is possible, an error has that kind or is out of memory.
@@ -168,3 +170,65 @@ returns-in_err-matches-clause-taken g c = λ passes.
     let texts = map g.S.AsStr.text c.args.arguments.now in
     let memory = c.in_err-matches.ensures.passes (ap (λ (a : App). takes a texts) c.in_ok-atalk_command.ensures ∙ passes) in
     search rules
+
+pub returns-in_err-matches-clause-make_err : goal.returns-in_err-matches-clause-make_err
+returns-in_err-matches-clause-make_err g c = λ name file named operand.
+    let memory = c.in_err-matches.ensures.passes (ap₂ takes c.in_ok-atalk_command.ensures named ∙ make_taken name file operand) in
+    search rules
+
+pub returns-clause-make : goal.returns-clause-make
+returns-clause-make g c = λ name file named operand.
+    let app = c.in_ok-atalk_command.ensures in
+    let met = (c.in_ok-matches.ensures.matches (ap is_simple app ∙ simple)).1 ∙ ap₂ subcommand_of app named in
+    make_meant name file c.job_of.result operand
+    (subst (λ (rows : Option (Text × List Row)). IsMeant rows c.job_of.result) met c.job_of.ensures.meant)
+
+pub returns-in_err-matches-clause-show_err : goal.returns-in_err-matches-clause-show_err
+returns-in_err-matches-clause-show_err g c = λ name image named operand.
+    let memory = c.in_err-matches.ensures.passes (ap₂ takes c.in_ok-atalk_command.ensures named ∙ show_taken name image operand) in
+    search rules
+
+pub returns-clause-show : goal.returns-clause-show
+returns-clause-show g c = λ name image named operand.
+    let app = c.in_ok-atalk_command.ensures in
+    let met = (c.in_ok-matches.ensures.matches (ap is_simple app ∙ simple)).1 ∙ ap₂ subcommand_of app named in
+    show_meant name image c.job_of.result operand
+    (subst (λ (rows : Option (Text × List Row)). IsMeant rows c.job_of.result) met c.job_of.ensures.meant)
+
+pub returns-in_err-matches-clause-draw_err : goal.returns-in_err-matches-clause-draw_err
+returns-in_err-matches-clause-draw_err g c = λ name image named operand.
+    let memory = c.in_err-matches.ensures.passes (ap₂ takes c.in_ok-atalk_command.ensures named ∙ draw_taken name image operand) in
+    search rules
+
+pub returns-clause-draw : goal.returns-clause-draw
+returns-clause-draw g c = λ name image named operand.
+    let app = c.in_ok-atalk_command.ensures in
+    let met = (c.in_ok-matches.ensures.matches (ap is_simple app ∙ simple)).1 ∙ ap₂ subcommand_of app named in
+    draw_meant name image c.job_of.result operand
+    (subst (λ (rows : Option (Text × List Row)). IsMeant rows c.job_of.result) met c.job_of.ensures.meant)
+
+pub returns-in_err-matches-clause-make_to_err : goal.returns-in_err-matches-clause-make_to_err
+returns-in_err-matches-clause-make_to_err g c = λ name file out named first second.
+    let memory =
+    c.in_err-matches.ensures.passes (ap₂ takes c.in_ok-atalk_command.ensures named ∙ make_to_taken name file out first second) in
+    search rules
+
+pub returns-clause-make_to : goal.returns-clause-make_to
+returns-clause-make_to g c = λ name file out named first second.
+    let app = c.in_ok-atalk_command.ensures in
+    let met = (c.in_ok-matches.ensures.matches (ap is_simple app ∙ simple)).1 ∙ ap₂ subcommand_of app named in
+    make_to_meant name file out c.job_of.result first second
+    (subst (λ (rows : Option (Text × List Row)). IsMeant rows c.job_of.result) met c.job_of.ensures.meant)
+
+pub returns-in_err-matches-clause-draw_to_err : goal.returns-in_err-matches-clause-draw_to_err
+returns-in_err-matches-clause-draw_to_err g c = λ name image net named first second.
+    let memory =
+    c.in_err-matches.ensures.passes (ap₂ takes c.in_ok-atalk_command.ensures named ∙ draw_to_taken name image net first second) in
+    search rules
+
+pub returns-clause-draw_to : goal.returns-clause-draw_to
+returns-clause-draw_to g c = λ name image net named first second.
+    let app = c.in_ok-atalk_command.ensures in
+    let met = (c.in_ok-matches.ensures.matches (ap is_simple app ∙ simple)).1 ∙ ap₂ subcommand_of app named in
+    draw_to_meant name image net c.job_of.result first second
+    (subst (λ (rows : Option (Text × List Row)). IsMeant rows c.job_of.result) met c.job_of.ensures.meant)

@@ -4,7 +4,8 @@ use Rattle.std.specs.Result.{OkIff}
 use Rattle.at_base.specs.declared.error.Error.{Error}
 use Rattle.at_base.specs.declared.error.Error.TheVariants.{Memory}
 use Rattle.at_base.specs.Spelling.{IsValue}
-use Rattle.freeze.proofs.Valid.{few_nodes, few_routers, image_value, length-map, less, neither_in}
+use Rattle.freeze.proofs.Valid.{few_nodes, few_routers, length-map, less, neither_in}
+use Rattle.image_parts.proofs.Values.{image_value}
 use Rattle.freeze.specs.Frozen.{frozen_of, has_long_list, is_long, seats_after}
 use Rattle.freeze.specs.Valid.{AreNodes, AreRouters}
 use Rattle.table_image.specs.Internet.{internet}

@@ -1,0 +1,179 @@
+//! Tables files: makes the image of one, and prints that of an image, or its drawing.
+
+ghost use Rattle.std.specs.Prelude.{◌≡◌};
+
+use crate::explain::{Evidence, FileKind, prompt};
+use crate::performed::Performed;
+use crate::run::Terminals;
+use crate::run_play::unwritten;
+use at_base::Error;
+use clap::error::ErrorKind as ParseError;
+use command_line::{Outcome, Source};
+use commands::{draw_image, make_bytes, show_image};
+use std::fs::File;
+use std::io;
+use std::io::{Read, Write, writer};
+use std::rt::Files;
+use text::Output;
+use text::number::number;
+
+/// A tables file, and the file for its image, if one is wanted.
+#[derive(Clone, Copy)]
+pub struct MakeJob<'a> {
+    pub source: Source<'a>,
+    pub image: Option<&'a str>,
+}
+
+/// What is printed of an image.
+#[derive(Clone, Copy)]
+pub enum Printed {
+    /// Its tables file.
+    Tables,
+    /// Its drawing, with the ways to a network, if one is asked for.
+    Drawing(Option<u16>),
+}
+
+/// Makes the image of the tables file that the reader has, and prints the line of its verdict on
+/// standard output; the image goes to a writer.
+fn make_reader<'a, R: Print + AllocGlobal, S: Read + Drop, I: Write + Drop>(
+    rt: &R,
+    job: MakeJob<'a>,
+    reader: S,
+    image: I,
+) -> Performed<'a> {
+    let mut input = commands::Input::new(reader);
+    let mut output = Output::new(rt.alloc(), writer(rt));
+    let mut image = Output::new(rt.alloc(), image);
+    let answer = make_bytes(rt.alloc(), &mut input, &mut output, &mut image);
+    let commands::Input { fault, kept, .. } = input;
+    Performed {
+        outcome: Outcome::Answered(answer),
+        evidence: Evidence {
+            source: Some(job.source),
+            fault,
+            bytes: kept,
+            image: None,
+            flawed: None,
+            unwritten: unwritten(&image, job.image),
+            file: FileKind::Tables,
+        },
+    }
+}
+
+/// Makes the image of the tables file that the reader has. The file for the image is created before
+/// anything is read.
+fn make_into<'a, R: Files + Print + AllocGlobal, S: Read + Drop>(
+    rt: &R,
+    job: MakeJob<'a>,
+    reader: S,
+) -> Performed<'a> {
+    match job.image {
+        None => make_reader(rt, job, reader, io::sink()),
+        Some(path) => match File::create(rt, path) {
+            Ok(file) => make_reader(rt, job, reader, file),
+            Err(error) => Performed::not_created(path, error.kind()),
+        },
+    }
+}
+
+/// Makes the image of a tables file. If it is read from a terminal, a prompt is printed there.
+pub fn make_source<'a, R: Files + Input + Print + Eprint + AllocGlobal>(
+    rt: &R,
+    job: MakeJob<'a>,
+    terminals: Terminals,
+) -> Performed<'a> {
+    match job.source {
+        Source::StandardInput => {
+            if terminals.input && terminals.errors {
+                prompt(rt, "a tables file");
+            }
+            make_into(rt, job, rt.reader())
+        }
+        Source::File(path) => match File::open(rt, path) {
+            Ok(file) => make_into(rt, job, file),
+            Err(error) => Performed::not_opened(job.source, error.kind()),
+        },
+    }
+}
+
+/// What came of printing: the program's answer is a yes wherever it was printed.
+fn answered(printed: Result<(), Error>) -> Result<bool, Error> {
+    match printed {
+        Ok(()) => Ok(true),
+        Err(error) => Err(error),
+    }
+}
+
+/// Prints the tables file of the image that the reader has, or its drawing, on standard output.
+fn print_reader<'a, R: Print + AllocGlobal, S: Read + Drop>(
+    rt: &R,
+    source: Source<'a>,
+    printed: Printed,
+    reader: S,
+) -> Performed<'a> {
+    let mut input = commands::Input::new(reader);
+    let mut output = Output::new(rt.alloc(), writer(rt));
+    let answer = match printed {
+        Printed::Tables => show_image(rt.alloc(), &mut input, &mut output),
+        Printed::Drawing(to) => draw_image(rt.alloc(), &mut input, &mut output, to),
+    };
+    let commands::Input { fault, flawed, .. } = input;
+    Performed {
+        outcome: Outcome::Answered(answered(answer)),
+        evidence: Evidence {
+            source: Some(source),
+            fault,
+            bytes: None,
+            image: None,
+            flawed,
+            unwritten: None,
+            file: FileKind::Internet,
+        },
+    }
+}
+
+/// Prints the tables file of an image, or its drawing. If the image is read from a terminal, a
+/// prompt is printed there.
+pub fn print_source<'a, R: Files + Input + Print + Eprint + AllocGlobal>(
+    rt: &R,
+    source: Source<'a>,
+    printed: Printed,
+    terminals: Terminals,
+) -> Performed<'a> {
+    match source {
+        Source::StandardInput => {
+            if terminals.input && terminals.errors {
+                prompt(rt, "an image");
+            }
+            print_reader(rt, source, printed, rt.reader())
+        }
+        Source::File(path) => match File::open(rt, path) {
+            Ok(file) => print_reader(rt, source, printed, file),
+            Err(error) => Performed::not_opened(source, error.kind()),
+        },
+    }
+}
+
+/// The word for a network isn't one: a usage error.
+fn refuse_network<'a>(rt: &impl Eprint, word: &str) -> Performed<'a>
+    ensures { result.outcome ≡ Outcome.NoJob ParseError.InvalidValue true }
+{
+    let _ = eprintln!(rt; "error: --to {word:?} names no network: a number from 0 to 65535 does");
+    Performed::without_source(Outcome::NoJob(ParseError::InvalidValue, true))
+}
+
+/// Prints the drawing of an image, with the ways to the network that a word names, if there is one.
+pub fn draw_source<'a, R: Files + Input + Print + Eprint + AllocGlobal>(
+    rt: &R,
+    source: Source<'a>,
+    to: Option<&'a str>,
+    terminals: Terminals,
+) -> Performed<'a> {
+    let Some(word) = to else {
+        return print_source(rt, source, Printed::Drawing(None), terminals);
+    };
+    match number(65_535, word.as_bytes()) {
+        Some(net) => print_source(rt, source, Printed::Drawing(Some(net as u16)), terminals),
+        None => refuse_network(rt, word),
+    }
+}

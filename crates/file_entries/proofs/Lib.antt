@@ -1,0 +1,4 @@
+pub mod Lists
+pub mod Turns
+pub mod Given
+pub mod Bounds

@@ -1,9 +1,0 @@
-use Rattle.std.proofs.Common.{◌∙◌, bytes_eq, map}
-use Rattle.std.specs.List.{list_any}
-use Rattle.internet_file.proofs.Lists.{all_keys}
-use Rattle.internet_file.proofs.key.has_only.Goals as goal
-
-pub returns : goal.returns
-returns c =
-    c.are_among.ensures
-    ∙ all_keys (λ k. list_any (bytes_eq k) (map (λ n. n.now) c.args.named.now)) c.args.table.now.entries

@@ -1,8 +1,0 @@
-use Rattle.std.proofs.Common.{ap, map, Some}
-use Rattle.toml.specs.View.{view}
-use Rattle.internet_file.proofs.Lists.{values_of_items}
-use Rattle.internet_file.proofs.value.list.Goals as goal
-
-pub returns-in-Some-clause-some : goal.returns-in-Some-clause-some
-returns-in-Some-clause-some c =
-    rw (← c.in-Some.ensures, c.as_slice.ensures.value) (ap Some (values_of_items (map view c.in-Some.values.now.items)))

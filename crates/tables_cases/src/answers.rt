@@ -1,0 +1,64 @@
+//! What is answered of an image.
+
+use audit::audit;
+use case_words::{Answer, Stop, put_line};
+use drawing::print_drawing;
+use std::alloc::{AllocError, Global};
+use table_image::{Image, write};
+use tables_text::print_tables;
+use text::Output;
+
+/// Room for a text in a case.
+const ROOM: usize = 200_000;
+
+/// Appends ASCII text.
+fn put_ascii(text: &mut String, bytes: &[u8]) -> Result<(), AllocError> {
+    for byte in bytes {
+        text.push(*byte as char)?;
+    }
+    Ok(())
+}
+
+/// The tables file of an image.
+fn shown(alloc: Global, image: &Image) -> Result<Vec<u8>, Stop> {
+    let mut output = Output::new(alloc, Vec::with_capacity(alloc, ROOM)?);
+    print_tables(&mut output, image)?;
+    output.flush()?;
+    Ok(output.writer)
+}
+
+/// Appends the drawing of an image, with its verdict and the ways to a network, if one is asked for.
+pub(crate) fn draw(alloc: Global, image: &Image, to: Option<u16>, text: &mut String) -> Answer {
+    let mut output = Output::new(alloc, Vec::with_capacity(alloc, ROOM)?);
+    print_drawing(&mut output, image, &audit(image), to)?;
+    output.flush()?;
+    put_ascii(text, output.writer.as_slice())?;
+    Ok(())
+}
+
+/// Whether the tables file of an image says the same image.
+fn is_again(alloc: Global, image: &Image) -> Result<bool, Stop> {
+    let again = tables_file::read(alloc, shown(alloc, image)?.as_slice())?;
+    Ok(write(alloc, &again)?.as_slice() == write(alloc, image)?.as_slice())
+}
+
+/// Answers the question about the image that a word names.
+pub(crate) fn answer(alloc: Global, image: &Image, question: &str, text: &mut String) -> Answer {
+    match question {
+        "make" => {
+            let line = audit(image).line(alloc)?;
+            writeln!(text, "{line}")?;
+        }
+        "image" => put_line(text, write(alloc, image)?.as_slice())?,
+        "show" => put_ascii(text, shown(alloc, image)?.as_slice())?,
+        _ => {
+            let same = if is_again(alloc, image)? {
+                "same"
+            } else {
+                "other"
+            };
+            writeln!(text, "{same}")?;
+        }
+    }
+    Ok(())
+}
