@@ -1,6 +1,6 @@
 //! Tables files: makes the image of one, and prints that of an image, or its drawing.
 
-ghost use Rattle.std.specs.Prelude.{◌≡◌};
+ghost use Rattle.std.specs.Prelude.{◌≡◌, true};
 
 use crate::explain::{Evidence, FileKind, prompt};
 use crate::performed::Performed;
