@@ -1,10 +1,13 @@
 //! Explains a result to a person at a terminal. All of this runs after the result was printed, and
 //! writes only to standard error; if a write fails, nothing more is printed.
 
+ghost use Rattle.std.specs.Prelude.{◌≡◌};
+
 use at_base::{Error, Part};
 use command_line::{Outcome, Source};
 use file_advice::{explain_entry, explain_tables};
 use image_advice::{explain_flaw, explain_kind, explain_no, explain_no_of_bytes};
+use reply_advice::Replies;
 use std::io;
 use std::io::ErrorKind;
 use table_image::Image;
@@ -31,10 +34,30 @@ pub struct Evidence<'a> {
     pub image: Option<Image>,
     /// The byte at the first flaw of an image.
     pub flawed: Option<u8>,
-    /// The file for the image, if it couldn't be written.
+    /// The file for the image or the capture, if it couldn't be written.
     pub unwritten: Option<&'a str>,
     /// What an invalid file was read as.
     pub file: FileKind,
+    /// The replies that the printed lines tell of, if they are to be explained.
+    pub replies: Option<Replies>,
+}
+
+impl<'a> Evidence<'a> {
+    /// A source, if there is one, and nothing else.
+    pub fn of(source: Option<Source<'a>>) -> Evidence<'a>
+        ensures { result.source ≡ source.entry }
+    {
+        Evidence {
+            source,
+            fault: None,
+            bytes: None,
+            image: None,
+            flawed: None,
+            unwritten: None,
+            file: FileKind::Internet,
+            replies: None,
+        }
+    }
 }
 
 /// Prints that the input is read from the terminal.
@@ -44,7 +67,7 @@ pub fn prompt(rt: &impl Eprint, what: &str) {
     );
 }
 
-/// Explains a failed audit or an error on standard error.
+/// Explains on standard error what was received, and a failed audit or an error.
 pub fn explain(rt: &(impl Eprint + AllocGlobal), outcome: &Outcome, evidence: &Evidence<'_>) {
     let _ = explain_outcome(rt, outcome, evidence);
 }
@@ -55,8 +78,11 @@ fn explain_outcome(
     evidence: &Evidence<'_>,
 ) -> io::Result<()> {
     match outcome {
-        Outcome::Answered(Ok(true)) => Ok(()),
-        Outcome::Answered(Ok(false)) => explain_answer(rt, evidence),
+        Outcome::Answered(Ok(true)) => explain_replies(rt, evidence),
+        Outcome::Answered(Ok(false)) => {
+            explain_replies(rt, evidence)?;
+            explain_answer(rt, evidence)
+        }
         Outcome::Answered(Err(error)) => explain_error(rt, error, evidence),
         Outcome::NotOpened(kind) => {
             explain_source(rt, evidence)?;
@@ -72,15 +98,32 @@ fn explain_outcome(
     }
 }
 
+/// Says in words which replies were received, if the printed lines were listened to.
+fn explain_replies(rt: &(impl Eprint + AllocGlobal), evidence: &Evidence<'_>) -> io::Result<()> {
+    let Some(replies) = &evidence.replies else {
+        return Ok(());
+    };
+    let mut text = Vec::new(rt.alloc());
+    replies.write(&mut text)?;
+    match str::from_utf8(text.as_slice()) {
+        Ok(text) => eprint!(rt; "{text}"),
+        Err(_) => Ok(()),
+    }
+}
+
 /// Explains a no, if the image is there.
 fn explain_answer(rt: &(impl Eprint + AllocGlobal), evidence: &Evidence<'_>) -> io::Result<()> {
     if let Some(image) = &evidence.image {
         return explain_no(rt, image);
     }
-    match &evidence.bytes {
-        Some(bytes) => explain_no_of_bytes(rt, bytes.as_slice()),
-        None => Ok(()),
+    let Some(bytes) = &evidence.bytes else {
+        return Ok(());
+    };
+    if let FileKind::Tables = evidence.file {
+        // What was written down may be wrong where the router is right.
+        eprintln!(rt; "Compare the place that is named here with your notes first.")?;
     }
+    explain_no_of_bytes(rt, bytes.as_slice())
 }
 
 /// Prints the program's name and that of the input.
@@ -137,7 +180,7 @@ fn explain_error(
             "atalk: more than 4000000 things happened in the play; plan fewer ticks or stations"
         ),
         Error::WriteFault => match evidence.unwritten {
-            Some(path) => eprintln!(rt; "atalk: the image cannot be written to {path:?}"),
+            Some(path) => eprintln!(rt; "atalk: {path:?} cannot be written"),
             None => eprintln!(rt; "atalk: the answer cannot be written to standard output"),
         },
         Error::Memory => eprintln!(rt; "atalk: out of memory"),

@@ -4,6 +4,7 @@
 #![tactic(auto)]
 
 mod explain;
+mod listening;
 mod performed;
 mod run;
 mod run_play;

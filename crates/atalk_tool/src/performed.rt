@@ -2,7 +2,7 @@
 
 ghost use Rattle.std.specs.Prelude.{◌≡◌, Some};
 
-use crate::explain::{Evidence, FileKind};
+use crate::explain::Evidence;
 use command_line::{Outcome, Source};
 use std::io;
 
@@ -20,15 +20,7 @@ impl<'a> Performed<'a> {
     {
         Performed {
             outcome,
-            evidence: Evidence {
-                source: None,
-                fault: None,
-                bytes: None,
-                image: None,
-                flawed: None,
-                unwritten: None,
-                file: FileKind::Internet,
-            },
+            evidence: Evidence::of(None),
         }
     }
 
@@ -39,34 +31,18 @@ impl<'a> Performed<'a> {
     {
         Performed {
             outcome: Outcome::NotOpened(kind),
-            evidence: Evidence {
-                source: Some(source),
-                fault: None,
-                bytes: None,
-                image: None,
-                flawed: None,
-                unwritten: None,
-                file: FileKind::Internet,
-            },
+            evidence: Evidence::of(Some(source)),
         }
     }
 
-    /// A run that couldn't create the file for the image.
+    /// A run that couldn't create the file for the image or the capture.
     pub fn not_created(path: &'a str, kind: io::ErrorKind) -> Performed<'a>
         ensures outcome { result.outcome ≡ Outcome.NotCreated kind }
         ensures source { result.evidence.source ≡ Some (Source.File path.entry) }
     {
         Performed {
             outcome: Outcome::NotCreated(kind),
-            evidence: Evidence {
-                source: Some(Source::File(path)),
-                fault: None,
-                bytes: None,
-                image: None,
-                flawed: None,
-                unwritten: None,
-                file: FileKind::Internet,
-            },
+            evidence: Evidence::of(Some(Source::File(path))),
         }
     }
 }

@@ -4,17 +4,18 @@ ghost use Rattle.std.specs.Prelude.{◌≡◌, Bool, Err, Some, if◌then◌else
 ghost use Rattle.clap.specs.Words.{kind_of};
 ghost use Rattle.command_line.specs.Exits.{exit_at};
 
-use crate::explain::{Evidence, FileKind, explain, prompt};
+use crate::explain::{Evidence, explain, prompt};
+use crate::listening::Listening;
 use crate::performed::Performed;
-use crate::run_play::{PlayJob, play_source};
+use crate::run_play::{PlayJob, play_source, unwritten};
 use crate::run_tables::{MakeJob, Printed, draw_source, make_source, print_source};
 use at_base::Error;
 use clap::error::ErrorKind as ParseError;
 use command_line::{Job, Outcome, Source, exit_of, read_arguments};
-use commands::{audit_file, run_frozen};
+use commands::{audit_file, capture_run, run_frozen};
 use std::fs::File;
 use std::io;
-use std::io::{Read, writer};
+use std::io::{Read, Write, writer};
 use std::rt::{Env, Files};
 use text::Output;
 
@@ -27,11 +28,13 @@ pub struct Terminals {
     pub errors: bool,
 }
 
-/// The sources of the image and the script of a trace.
+/// The sources of the image and the script of a trace, and the file for its capture, if one is
+/// wanted.
 #[derive(Clone, Copy)]
 struct Sources<'a> {
     image: Source<'a>,
     script: Source<'a>,
+    capture: Option<&'a str>,
 }
 
 /// The arguments, the program's own name first.
@@ -57,13 +60,10 @@ fn audit_reader<'a, R: Print + AllocGlobal, S: Read + Drop>(
     Performed {
         outcome: Outcome::Answered(answer),
         evidence: Evidence {
-            source: Some(source),
             fault,
-            bytes: None,
             image,
             flawed,
-            unwritten: None,
-            file: FileKind::Internet,
+            ..Evidence::of(Some(source))
         },
     }
 }
@@ -111,23 +111,15 @@ fn evidence_of<'a, I: Drop, S: Drop>(
     };
     if by_script {
         Evidence {
-            source: Some(sources.script),
             fault: script.fault,
-            bytes: None,
-            image: None,
-            flawed: None,
-            unwritten: None,
-            file: FileKind::Internet,
+            ..Evidence::of(Some(sources.script))
         }
     } else {
         Evidence {
-            source: Some(sources.image),
             fault: image.fault,
-            bytes: None,
             image: image.image,
             flawed: image.flawed,
-            unwritten: None,
-            file: FileKind::Internet,
+            ..Evidence::of(Some(sources.image))
         }
     }
 }
@@ -139,15 +131,71 @@ fn trace_readers<'a, R: Print + AllocGlobal, I: Read + Drop, S: Read + Drop>(
     sources: Sources<'a>,
     image: I,
     script: S,
+    terminals: Terminals,
 ) -> Performed<'a> {
     let mut image = commands::Input::new(image);
     let mut script = commands::Input::new(script);
-    let mut output = Output::new(rt.alloc(), writer(rt));
+    let listening = Listening::new(rt.alloc(), writer(rt), terminals.errors);
+    let mut output = Output::new(rt.alloc(), listening);
     let answer = run_frozen(rt.alloc(), &mut image, &mut script, &mut output);
     let evidence = evidence_of(sources, &answer, image, script);
     Performed {
         outcome: Outcome::Answered(answer),
-        evidence,
+        evidence: Evidence {
+            replies: output.writer.replies,
+            ..evidence
+        },
+    }
+}
+
+/// Runs the script that one reader has over the image that the other has, prints the trace on
+/// standard output, and writes the capture.
+fn capture_readers<'a, R: Print + AllocGlobal, I: Read + Drop, S: Read + Drop, C: Write + Drop>(
+    rt: &R,
+    sources: Sources<'a>,
+    image: I,
+    script: S,
+    capture: C,
+    terminals: Terminals,
+) -> Performed<'a> {
+    let mut image = commands::Input::new(image);
+    let mut script = commands::Input::new(script);
+    let listening = Listening::new(rt.alloc(), writer(rt), terminals.errors);
+    let mut output = Output::new(rt.alloc(), listening);
+    let mut capture = Output::new(rt.alloc(), capture);
+    let answer = capture_run(
+        rt.alloc(),
+        &mut image,
+        &mut script,
+        &mut output,
+        &mut capture,
+    );
+    let evidence = evidence_of(sources, &answer, image, script);
+    Performed {
+        outcome: Outcome::Answered(answer),
+        evidence: Evidence {
+            unwritten: unwritten(&capture, sources.capture),
+            replies: output.writer.replies,
+            ..evidence
+        },
+    }
+}
+
+/// Runs a script over an image, both of which are open. The file for the capture is created before
+/// either is read.
+fn trace_opened<'a, R: Files + Print + AllocGlobal, I: Read + Drop, S: Read + Drop>(
+    rt: &R,
+    sources: Sources<'a>,
+    image: I,
+    script: S,
+    terminals: Terminals,
+) -> Performed<'a> {
+    match sources.capture {
+        None => trace_readers(rt, sources, image, script, terminals),
+        Some(path) => match File::create(rt, path) {
+            Ok(file) => capture_readers(rt, sources, image, script, file, terminals),
+            Err(error) => Performed::not_created(path, error.kind()),
+        },
     }
 }
 
@@ -156,11 +204,12 @@ fn trace_image<'a, R: Files + Input + Print + AllocGlobal, I: Read + Drop>(
     rt: &R,
     sources: Sources<'a>,
     image: I,
+    terminals: Terminals,
 ) -> Performed<'a> {
     match sources.script {
-        Source::StandardInput => trace_readers(rt, sources, image, rt.reader()),
+        Source::StandardInput => trace_opened(rt, sources, image, rt.reader(), terminals),
         Source::File(path) => match File::open(rt, path) {
-            Ok(file) => trace_readers(rt, sources, image, file),
+            Ok(file) => trace_opened(rt, sources, image, file, terminals),
             Err(error) => Performed::not_opened(sources.script, error.kind()),
         },
     }
@@ -170,11 +219,12 @@ fn trace_image<'a, R: Files + Input + Print + AllocGlobal, I: Read + Drop>(
 fn trace_sources<'a, R: Files + Input + Print + AllocGlobal>(
     rt: &R,
     sources: Sources<'a>,
+    terminals: Terminals,
 ) -> Performed<'a> {
     match sources.image {
-        Source::StandardInput => trace_image(rt, sources, rt.reader()),
+        Source::StandardInput => trace_image(rt, sources, rt.reader(), terminals),
         Source::File(path) => match File::open(rt, path) {
-            Ok(file) => trace_image(rt, sources, file),
+            Ok(file) => trace_image(rt, sources, file, terminals),
             Err(error) => Performed::not_opened(sources.image, error.kind()),
         },
     }
@@ -235,15 +285,21 @@ fn run_arguments<R: Files + Input + Print + Eprint + AllocGlobal>(
             let performed = audit_source(rt, source, terminals);
             answer(rt, &performed, terminals)
         }
-        Ok(Job::Trace(image, script)) => {
-            let performed = trace_sources(rt, Sources { image, script });
+        Ok(Job::Trace(image, script, capture)) => {
+            let sources = Sources {
+                image,
+                script,
+                capture,
+            };
+            let performed = trace_sources(rt, sources, terminals);
             answer(rt, &performed, terminals)
         }
-        Ok(Job::Play(source, image, version)) => {
+        Ok(Job::Play(source, image, version, capture)) => {
             let job = PlayJob {
                 source,
                 image,
                 version,
+                capture,
             };
             let performed = play_source(rt, job, terminals);
             answer(rt, &performed, terminals)

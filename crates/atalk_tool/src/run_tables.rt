@@ -49,13 +49,11 @@ fn make_reader<'a, R: Print + AllocGlobal, S: Read + Drop, I: Write + Drop>(
     Performed {
         outcome: Outcome::Answered(answer),
         evidence: Evidence {
-            source: Some(job.source),
             fault,
             bytes: kept,
-            image: None,
-            flawed: None,
             unwritten: unwritten(&image, job.image),
             file: FileKind::Tables,
+            ..Evidence::of(Some(job.source))
         },
     }
 }
@@ -121,13 +119,9 @@ fn print_reader<'a, R: Print + AllocGlobal, S: Read + Drop>(
     Performed {
         outcome: Outcome::Answered(answered(answer)),
         evidence: Evidence {
-            source: Some(source),
             fault,
-            bytes: None,
-            image: None,
             flawed,
-            unwritten: None,
-            file: FileKind::Internet,
+            ..Evidence::of(Some(source))
         },
     }
 }

@@ -98,7 +98,7 @@ audit_taken name file operand =
     ∙ file_passes file
 
 -- The command `trace`, as a parse has it.
-abbrev trace_shape : Shape
+abbrev pub trace_shape : Shape
 trace_shape = slice_index_or (built atalk_app).subs 1 trace_app.top
 
 abbrev image_end : Text → Held × Step → Walk
@@ -148,13 +148,27 @@ script_of_values : (image script : Text) → first_of (codes "SCRIPT") (trace_ro
 unfolding clap_on_literals
 script_of_values image script = refl
 
+no_capture_of_values : (image script : Text) → first_of (codes "CAPTURE") (trace_rows image script) ≡ None
+unfolding clap_on_literals
+no_capture_of_values image script = refl
+
+-- The job of the command `trace` with these matches.
+pub trace_of_rows : (rows : List Row) (image script capture : Option Text) (job : Job) → first_of (codes "IMAGE") rows ≡ image
+    → first_of (codes "SCRIPT") rows ≡ script → first_of (codes "CAPTURE") rows ≡ capture
+    → IsMeant (Some (codes "trace", rows)) job → Traces image script capture job
+trace_of_rows rows image script capture job is_image is_script is_capture meant =
+    subst (λ (text : Option Text). Traces image script text job) is_capture
+    (subst (λ (text : Option Text). Traces image text (first_of (codes "CAPTURE") rows) job) is_script
+    (subst (λ (text : Option Text). Traces text (first_of (codes "SCRIPT") rows) (first_of (codes "CAPTURE") rows) job) is_image meant))
+
 -- `trace IMAGE SCRIPT` is a trace of them.
 pub trace_meant : (name image script : Text) (job : Job) → is_operand image ≡ true → is_operand script ≡ true
-    → IsMeant (subcommand_of atalk_app (name ∷ codes "trace" ∷ image ∷ script ∷ [])) job → Traces (Some image) (Some script) job
+    → IsMeant (subcommand_of atalk_app (name ∷ codes "trace" ∷ image ∷ script ∷ [])) job
+    → Traces (Some image) (Some script) None job
 trace_meant name image script job first second meant =
-    subst (λ (text : Option Text). Traces (Some image) text job) (script_of_values image script)
-    (subst (λ (text : Option Text). Traces text (first_of (codes "SCRIPT") (trace_rows image script)) job) (image_of_values image script)
-    (subst (λ (met : Option (Text × List Row)). IsMeant met job) (trace_entered name image script first second) meant))
+    trace_of_rows (trace_rows image script) (Some image) (Some script) None job (image_of_values image script)
+    (script_of_values image script) (no_capture_of_values image script)
+    (subst (λ (met : Option (Text × List Row)). IsMeant met job) (trace_entered name image script first second) meant)
 
 -- The arguments pass, by what `trace` does with the first one and by whether that passes.
 abbrev trace_passes : Text → Text → Bool → Held × Step → Bool

@@ -1,3 +1,4 @@
+mod CaptureLine
 mod CommandLine
 mod Operands
 mod PlayLine

@@ -14,24 +14,24 @@ use Rattle.command_line.proofs.Operands.{walk_by, whole_line}
 use Rattle.table_image.specs.declared.version.Version.{Version}
 
 -- The command `play`, as a parse has it, and its walk before the first argument.
-abbrev play_shape : Shape
+abbrev pub play_shape : Shape
 play_shape = slice_index_or (built atalk_app).subs 2 play_app.top
 
-abbrev start : Walk
+abbrev pub start : Walk
 start = walk_from nothing_held
 
 -- ---- The walk after each argument
 
-abbrev after_file : Text → Walk → Walk
+abbrev pub after_file : Text → Walk → Walk
 after_file file w = walk_by play_shape w file (w.held, value)
 
 abbrev after_flag : Walk → Walk
 after_flag w = walked play_shape.rules [] w (codes "--v2")
 
-abbrev after_image : Walk → Walk
+abbrev pub after_image : Walk → Walk
 after_image w = walked play_shape.rules [] w (codes "--image")
 
-abbrev after_out : Text → Walk → Walk
+abbrev pub after_out : Text → Walk → Walk
 after_out out w = walk_by play_shape w out (as_value play_shape (codes "OUT") out w.held)
 
 -- ---- Plays whose image isn't written
@@ -105,24 +105,34 @@ played_version BeforeFile file = refl
 played_version AfterFile file = refl
 played_version AtEnd file = refl
 
+played_capture : (place : Place) (file : Text) → first_of (codes "CAPTURE") (rows_at_end play_shape (play_end place file)) ≡ None
+unfolding clap_on_literals
+played_capture Nowhere file = refl
+played_capture BeforeFile file = refl
+played_capture AfterFile file = refl
+played_capture AtEnd file = refl
+
 -- The job of the command `play` with these matches.
-play_of_rows : (rows : List Row) (file out : Option Text) (version : Option Version) (job : Job) → first_of (codes "FILE") rows ≡ file
-    → first_of (codes "OUT") rows ≡ out → version_by (first_of (codes "V2") rows) ≡ version
-    → IsMeant (Some (codes "play", rows)) job → Plays file out version job
-play_of_rows rows file out version job is_file is_out is_version meant =
-    subst (λ (v : Option Version). Plays file out v job) is_version
-    (subst (λ (text : Option Text). Plays file text (version_by (first_of (codes "V2") rows)) job) is_out
-    (subst (λ (text : Option Text). Plays text (first_of (codes "OUT") rows) (version_by (first_of (codes "V2") rows)) job) is_file meant))
+pub play_of_rows : (rows : List Row) (file out : Option Text) (version : Option Version) (capture : Option Text) (job : Job)
+    → first_of (codes "FILE") rows ≡ file → first_of (codes "OUT") rows ≡ out → version_by (first_of (codes "V2") rows) ≡ version
+    → first_of (codes "CAPTURE") rows ≡ capture → IsMeant (Some (codes "play", rows)) job → Plays file out version capture job
+play_of_rows rows file out version capture job is_file is_out is_version is_capture meant =
+    let asked = version_by (first_of (codes "V2") rows) in
+    let captured = first_of (codes "CAPTURE") rows in
+    subst (λ (text : Option Text). Plays file out version text job) is_capture
+    (subst (λ (v : Option Version). Plays file out v captured job) is_version
+    (subst (λ (text : Option Text). Plays file text asked captured job) is_out
+    (subst (λ (text : Option Text). Plays text (first_of (codes "OUT") rows) asked captured job) is_file meant)))
 
 -- `play FILE` is a play of FILE whose image isn't written.
 pub play_meant : (place : Place) (name file : Text) (job : Job) → is_operand file ≡ true
     → IsMeant (subcommand_of atalk_app (name ∷ codes "play" ∷ play_words place file)) job
-    → Plays (Some file) None (version_at place) job
+    → Plays (Some file) None (version_at place) None job
 play_meant place name file job operand meant =
     let line = whole_line play_shape (play_words place file) (play_end place file) (play_leads place file operand) (play_ends_well place file) in
     let rows = play_entered place name file ∙ ap (λ (rows : List Row). Some (codes "play", rows)) line.1 in
-    play_of_rows (rows_at_end play_shape (play_end place file)) (Some file) None (version_at place) job (played_file place file)
-    (played_out place file) (played_version place file)
+    play_of_rows (rows_at_end play_shape (play_end place file)) (Some file) None (version_at place) None job
+    (played_file place file) (played_out place file) (played_version place file) (played_capture place file)
     (subst (λ (met : Option (Text × List Row)). IsMeant met job) rows meant)
 
 -- `play FILE` has no fault.
@@ -217,17 +227,25 @@ played_to_version BeforeFile file out = refl
 played_to_version AfterFile file out = refl
 played_to_version AtEnd file out = refl
 
+played_to_capture : (place : Place) (file out : Text)
+    → first_of (codes "CAPTURE") (rows_at_end play_shape (play_to_end place file out)) ≡ None
+unfolding clap_on_literals
+played_to_capture Nowhere file out = refl
+played_to_capture BeforeFile file out = refl
+played_to_capture AfterFile file out = refl
+played_to_capture AtEnd file out = refl
+
 -- `play FILE --image OUT` is a play of FILE whose image is written to OUT.
 pub play_to_meant : (place : Place) (name file out : Text) (job : Job) → is_operand file ≡ true → is_operand out ≡ true
     → IsMeant (subcommand_of atalk_app (name ∷ codes "play" ∷ play_to_words place file out)) job
-    → Plays (Some file) (Some out) (version_at place) job
+    → Plays (Some file) (Some out) (version_at place) None job
 play_to_meant place name file out job first second meant =
     let end = play_to_end place file out in
     let line = whole_line play_shape (play_to_words place file out) end (play_to_leads place file out first second)
     (play_to_ends_well place file out) in
     let rows = play_to_entered place name file out ∙ ap (λ (rows : List Row). Some (codes "play", rows)) line.1 in
-    play_of_rows (rows_at_end play_shape end) (Some file) (Some out) (version_at place) job (played_to_file place file out)
-    (played_to_out place file out) (played_to_version place file out)
+    play_of_rows (rows_at_end play_shape end) (Some file) (Some out) (version_at place) None job (played_to_file place file out)
+    (played_to_out place file out) (played_to_version place file out) (played_to_capture place file out)
     (subst (λ (met : Option (Text × List Row)). IsMeant met job) rows meant)
 
 -- `play FILE --image OUT` has no fault.

@@ -1,5 +1,5 @@
 -- The command line, as a parse sees it.
-use Rattle.std.specs.Prelude.{◌≡◌, ◌≢◌, ◌⊎◌, ◌==◌, Bool, true, false, not, List, [], ◌∷◌, Option, Some, None, codes, option_map}
+use Rattle.std.specs.Prelude.{◌≡◌, ◌≢◌, ◌⊎◌, ◌==◌, Bool, true, not, List, [], ◌∷◌, Option, Some, None, codes, option_map}
 use Rattle.std.specs.Prelude.{cond, if◌then◌else◌}
 use Rattle.std.specs.Str.{bytes_eq}
 use Rattle.clap.specs.Walk.{Rule}
@@ -24,9 +24,14 @@ audit_app = with_rule (new_app (codes "audit")) (operand (codes "FILE"))
 abbrev pub bare_app : App
 bare_app = let app = new_app (codes "atalk") in record app { top = record app.top { has_version = true; disable_help_subcommand = true } }
 
--- The command `trace IMAGE SCRIPT`.
+-- The option `--capture OUT`.
+abbrev pub capture_option : Rule
+capture_option = record (new_rule (codes "CAPTURE")) { long = Some (codes "capture"); action = Some Set }
+
+-- The command `trace IMAGE SCRIPT`, with `--capture OUT`.
 abbrev pub trace_app : App
-trace_app = with_rule (with_rule (new_app (codes "trace")) (operand (codes "IMAGE"))) (operand (codes "SCRIPT"))
+trace_app =
+    with_rule (with_rule (with_rule (new_app (codes "trace")) (operand (codes "IMAGE"))) (operand (codes "SCRIPT"))) capture_option
 
 -- The option `--image OUT`.
 abbrev pub out_option : Rule
@@ -37,8 +42,12 @@ abbrev pub v2_flag : Rule
 v2_flag = record (new_rule (codes "V2")) { long = Some (codes "v2"); action = Some SetTrue }
 
 -- The command `play FILE`, with `--image OUT` and `--v2`.
+abbrev pub tables_play_app : App
+tables_play_app = with_rule (with_rule (with_rule (new_app (codes "play")) (operand (codes "FILE"))) out_option) v2_flag
+
+-- The same with `--capture OUT`.
 abbrev pub play_app : App
-play_app = with_rule (with_rule (with_rule (new_app (codes "play")) (operand (codes "FILE"))) out_option) v2_flag
+play_app = with_rule tables_play_app capture_option
 
 -- The command `make FILE`, with `--image OUT`.
 abbrev pub make_app : App
@@ -78,10 +87,12 @@ abbrev pub Audits : Option Text → Job → Type 0
 Audits text (Audit source) = Names text source
 Audits text _ = ⊥
 
--- The job is a trace of the image and the script in these texts.
-abbrev pub Traces : Option Text → Option Text → Job → Type 0
-Traces image script (Trace i s) = Names image i × Names script s
-Traces image script _ = ⊥
+-- The job is a trace of the image and the script in the first two texts, whose capture is written to the file in the third
+-- text, if there is one.
+abbrev pub Traces : Option Text → Option Text → Option Text → Job → Type 0
+Traces image script capture (Trace i s c) =
+    Names image i × Names script s × (option_map (λ path. path.now) c ≡ capture)
+Traces image script capture _ = ⊥
 
 -- The version that is asked for by this value of `--v2`: version 2 if it is given.
 abbrev pub version_by : Option Text → Option Version
@@ -89,11 +100,12 @@ version_by None = None
 version_by (Some text) = if bytes_eq text (codes "true") then Some V2 else None
 
 -- The job is a play of the source in the first text, whose image is written to the file in the second text, if there is
--- one, and has this version, if one is asked for.
-abbrev pub Plays : Option Text → Option Text → Option Version → Job → Type 0
-Plays file out version (Play source image asked) =
+-- one, and has this version, if one is asked for; its capture is written to the file in the third text, if there is one.
+abbrev pub Plays : Option Text → Option Text → Option Version → Option Text → Job → Type 0
+Plays file out version capture (Play source image asked c) =
     Names file source × (option_map (λ path. path.now) image ≡ out) × (asked ≡ version)
-Plays file out version _ = ⊥
+    × (option_map (λ path. path.now) c ≡ capture)
+Plays file out version capture _ = ⊥
 
 -- The job is to make an image of the source in the first text, which is written to the file in the second text, if there
 -- is one.
@@ -130,9 +142,11 @@ asked name =
 -- The job of a command with these operands.
 abbrev pub IsMeantBy : Asked → List Row → Job → Type 0
 IsMeantBy ToAudit rows job = Audits (first_of (codes "FILE") rows) job
-IsMeantBy ToTrace rows job = Traces (first_of (codes "IMAGE") rows) (first_of (codes "SCRIPT") rows) job
+IsMeantBy ToTrace rows job =
+    Traces (first_of (codes "IMAGE") rows) (first_of (codes "SCRIPT") rows) (first_of (codes "CAPTURE") rows) job
 IsMeantBy ToPlay rows job =
-    Plays (first_of (codes "FILE") rows) (first_of (codes "OUT") rows) (version_by (first_of (codes "V2") rows)) job
+    Plays (first_of (codes "FILE") rows) (first_of (codes "OUT") rows) (version_by (first_of (codes "V2") rows))
+    (first_of (codes "CAPTURE") rows) job
 IsMeantBy ToMake rows job = Makes (first_of (codes "FILE") rows) (first_of (codes "OUT") rows) job
 IsMeantBy ToShow rows job = Shows (first_of (codes "IMAGE") rows) job
 IsMeantBy ToDraw rows job = Draws (first_of (codes "IMAGE") rows) (first_of (codes "NET") rows) job
@@ -175,3 +189,15 @@ play_to_words Nowhere file out = file ∷ codes "--image" ∷ out ∷ []
 play_to_words BeforeFile file out = codes "--v2" ∷ file ∷ codes "--image" ∷ out ∷ []
 play_to_words AfterFile file out = file ∷ codes "--v2" ∷ codes "--image" ∷ out ∷ []
 play_to_words AtEnd file out = file ∷ codes "--image" ∷ out ∷ codes "--v2" ∷ []
+
+-- The words of a trace whose capture is written to a file.
+abbrev pub trace_to_words : Text → Text → Text → List Text
+trace_to_words image script out = image ∷ script ∷ codes "--capture" ∷ out ∷ []
+
+-- The words of a play of a file whose capture is written to a file.
+abbrev pub capture_words : Text → Text → List Text
+capture_words file capture = file ∷ codes "--capture" ∷ capture ∷ []
+
+-- The words of a play of a file whose image is written to a file, and whose capture to another.
+abbrev pub capture_to_words : Text → Text → Text → List Text
+capture_to_words file out capture = file ∷ codes "--image" ∷ out ∷ codes "--capture" ∷ capture ∷ []

@@ -9,7 +9,8 @@ ghost use Rattle.clap.specs.declared.error.ErrorKind.TheVariants.{DisplayHelp, D
 ghost use Rattle.clap.specs.declared.error.ErrorKind.TheVariants.{OutOfMemory};
 ghost use Rattle.command_line.specs.Arguments.{Audits, Draws, IsMeant, IsMeantBy, Makes, Names};
 ghost use Rattle.command_line.specs.Arguments.{Place, Plays, Shows, Traces, asked, atalk_app};
-ghost use Rattle.command_line.specs.Arguments.{is_operand, play_to_words, play_words, version_at};
+ghost use Rattle.command_line.specs.Arguments.{capture_to_words, capture_words, is_operand};
+ghost use Rattle.command_line.specs.Arguments.{play_to_words, play_words, trace_to_words, version_at};
 ghost use Rattle.command_line.specs.Arguments.{version_by};
 
 use crate::syntax::atalk_command;
@@ -30,11 +31,12 @@ pub enum Source<'a> {
 pub enum Job<'a> {
     /// The audit of an image.
     Audit(Source<'a>),
-    /// The run of a script over an image: the image, then the script.
-    Trace(Source<'a>, Source<'a>),
-    /// The play of an internet file, the file for its image, if one is wanted, and the version of
-    /// the image, if one is asked for.
-    Play(Source<'a>, Option<&'a str>, Option<Version>),
+    /// The run of a script over an image: the image, then the script, and the file for its capture,
+    /// if one is wanted.
+    Trace(Source<'a>, Source<'a>, Option<&'a str>),
+    /// The play of an internet file, the file for its image, if one is wanted, the version of the
+    /// image, if one is asked for, and the file for its capture, if one is wanted.
+    Play(Source<'a>, Option<&'a str>, Option<Version>, Option<&'a str>),
     /// The audit of what a tables file says, and the file for its image, if one is wanted.
     Make(Source<'a>, Option<&'a str>),
     /// The tables file of an image.
@@ -71,27 +73,55 @@ pub fn read_arguments<'a, S: AsStr>(alloc: Global, arguments: &'a [S]) -> Result
     ensures trace { (name image script : List ℕ)
         → map S.text arguments.entry.now ≡ name ∷ codes "trace" ∷ image ∷ script ∷ []
         → IsTrue (is_operand image) → IsTrue (is_operand script)
-        → IfOk result (Traces (Some image) (Some script)) }
+        → IfOk result (Traces (Some image) (Some script) None) }
     ensures trace_err { (name image script : List ℕ)
         → map S.text arguments.entry.now ≡ name ∷ codes "trace" ∷ image ∷ script ∷ []
         → IsTrue (is_operand image) → IsTrue (is_operand script)
+        → IfErr result (λ e. kind_of e ≡ OutOfMemory) }
+    // `trace IMAGE SCRIPT --capture OUT` is one whose capture is written to OUT; the only error is
+    // out of memory.
+    ensures trace_to { (name image script out : List ℕ)
+        → map S.text arguments.entry.now ≡ name ∷ codes "trace" ∷ trace_to_words image script out
+        → IsTrue (is_operand image) → IsTrue (is_operand script) → IsTrue (is_operand out)
+        → IfOk result (Traces (Some image) (Some script) (Some out)) }
+    ensures trace_to_err { (name image script out : List ℕ)
+        → map S.text arguments.entry.now ≡ name ∷ codes "trace" ∷ trace_to_words image script out
+        → IsTrue (is_operand image) → IsTrue (is_operand script) → IsTrue (is_operand out)
         → IfErr result (λ e. kind_of e ≡ OutOfMemory) }
     // `play FILE` is a play of FILE whose image isn't written, and `play FILE --image OUT` is one
     // whose image is written to OUT. With `--v2`, before FILE, right after it or at the end, the
     // image is asked for in version 2. The only error is out of memory.
     ensures play { (name file : List ℕ) (place : Place)
         → map S.text arguments.entry.now ≡ name ∷ codes "play" ∷ play_words place file
-        → IsTrue (is_operand file) → IfOk result (Plays (Some file) None (version_at place)) }
+        → IsTrue (is_operand file) → IfOk result (Plays (Some file) None (version_at place) None) }
     ensures play_err { (name file : List ℕ) (place : Place)
         → map S.text arguments.entry.now ≡ name ∷ codes "play" ∷ play_words place file
         → IsTrue (is_operand file) → IfErr result (λ e. kind_of e ≡ OutOfMemory) }
     ensures play_to { (name file out : List ℕ) (place : Place)
         → map S.text arguments.entry.now ≡ name ∷ codes "play" ∷ play_to_words place file out
         → IsTrue (is_operand file) → IsTrue (is_operand out)
-        → IfOk result (Plays (Some file) (Some out) (version_at place)) }
+        → IfOk result (Plays (Some file) (Some out) (version_at place) None) }
     ensures play_to_err { (name file out : List ℕ) (place : Place)
         → map S.text arguments.entry.now ≡ name ∷ codes "play" ∷ play_to_words place file out
         → IsTrue (is_operand file) → IsTrue (is_operand out)
+        → IfErr result (λ e. kind_of e ≡ OutOfMemory) }
+    // `play FILE --capture CAPTURE` is a play whose capture is written to CAPTURE, and `play FILE
+    // --image OUT --capture CAPTURE` one whose image is written too. The only error is out of memory.
+    ensures capture { (name file capture : List ℕ)
+        → map S.text arguments.entry.now ≡ name ∷ codes "play" ∷ capture_words file capture
+        → IsTrue (is_operand file) → IsTrue (is_operand capture)
+        → IfOk result (Plays (Some file) None None (Some capture)) }
+    ensures capture_err { (name file capture : List ℕ)
+        → map S.text arguments.entry.now ≡ name ∷ codes "play" ∷ capture_words file capture
+        → IsTrue (is_operand file) → IsTrue (is_operand capture)
+        → IfErr result (λ e. kind_of e ≡ OutOfMemory) }
+    ensures capture_to { (name file out capture : List ℕ)
+        → map S.text arguments.entry.now ≡ name ∷ codes "play" ∷ capture_to_words file out capture
+        → IsTrue (is_operand file) → IsTrue (is_operand out) → IsTrue (is_operand capture)
+        → IfOk result (Plays (Some file) (Some out) None (Some capture)) }
+    ensures capture_to_err { (name file out capture : List ℕ)
+        → map S.text arguments.entry.now ≡ name ∷ codes "play" ∷ capture_to_words file out capture
+        → IsTrue (is_operand file) → IsTrue (is_operand out) → IsTrue (is_operand capture)
         → IfErr result (λ e. kind_of e ≡ OutOfMemory) }
     // `make FILE` makes an image of FILE that isn't written, and `make FILE --image OUT` one that is
     // written to OUT. The only error is out of memory.
@@ -168,12 +198,17 @@ fn job_named<'a>(name: &str, operands: &ArgMatches<'a>) -> Job<'a>
     ensures { IsMeantBy (asked name.now) (rows_of (found_of operands.now)) result }
 {
     if name == "trace" {
-        Job::Trace(source_in(operands, "IMAGE"), source_in(operands, "SCRIPT"))
+        Job::Trace(
+            source_in(operands, "IMAGE"),
+            source_in(operands, "SCRIPT"),
+            word_in(operands, "CAPTURE"),
+        )
     } else if name == "play" {
         Job::Play(
             source_in(operands, "FILE"),
             word_in(operands, "OUT"),
             version_in(operands, "V2"),
+            word_in(operands, "CAPTURE"),
         )
     } else if name == "make" {
         Job::Make(source_in(operands, "FILE"), word_in(operands, "OUT"))

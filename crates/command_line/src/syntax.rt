@@ -5,7 +5,8 @@ ghost use Rattle.clap.specs.Words.{app_of, rule_of};
 ghost use Rattle.clap.specs.declared.Command.TheViews.{out-Command as fields_of};
 ghost use Rattle.command_line.specs.Arguments.{atalk_app, audit_app, draw_app, images_app};
 ghost use Rattle.command_line.specs.Arguments.{make_app, out_option, play_app, plays_app};
-ghost use Rattle.command_line.specs.Arguments.{show_app, to_option, trace_app, v2_flag};
+ghost use Rattle.command_line.specs.Arguments.{show_app, tables_play_app, to_option, trace_app};
+ghost use Rattle.command_line.specs.Arguments.{v2_flag};
 ghost use Rattle.command_line.specs.Arguments as spec;
 
 use clap::{Arg, ArgAction, Command};
@@ -37,6 +38,7 @@ Examples:
   atalk audit three-cables.image
   atalk trace three-cables.image echo.script
   atalk play two-routers.toml --image two-routers.image
+  atalk play two-routers.toml --capture two-routers.pcapng
   atalk make museum.toml --image museum.image
   atalk draw museum.image | dot -Tsvg > museum.svg
 
@@ -70,6 +72,9 @@ const INTERNET: &str = "The internet file; - is standard input";
 
 const OUT: &str = "Where the image of the tables goes";
 
+const CAPTURE: &str =
+    "Where a capture of what is put on the cables goes, in pcapng, which Wireshark reads";
+
 const VERSION_2: &str =
     "Writes the image in version 2, with each station's mappings; without it the image is of \
     version 1 where that can hold the tables, else of version 2";
@@ -96,7 +101,18 @@ fn audit_command<'a>(alloc: Global) -> Result<Command<'a>, AllocError>
         .arg(operand(alloc, "FILE", IMAGE))
 }
 
-/// `atalk trace IMAGE SCRIPT`.
+/// `--capture OUT`.
+fn capture_option<'a>(alloc: Global) -> Arg<'a>
+    ensures rule { rule_of result ≡ spec.capture_option }
+    ensures local { result.global ≡ false }
+{
+    Arg::new(alloc, "CAPTURE")
+        .long("capture")
+        .help(CAPTURE)
+        .action(ArgAction::Set)
+}
+
+/// `atalk trace IMAGE SCRIPT`, with `--capture OUT`.
 fn trace_command<'a>(alloc: Global) -> Result<Command<'a>, AllocError>
     ensures app { IfOk result (λ command. app_of command ≡ trace_app) }
     ensures local { IfOk result (λ command. (fields_of command).has_globals ≡ false) }
@@ -105,7 +121,8 @@ fn trace_command<'a>(alloc: Global) -> Result<Command<'a>, AllocError>
         .about(TRACE)
         .after_help(AFTER_HELP)
         .arg(operand(alloc, "IMAGE", IMAGE))?
-        .arg(operand(alloc, "SCRIPT", SCRIPT))
+        .arg(operand(alloc, "SCRIPT", SCRIPT))?
+        .arg(capture_option(alloc))
 }
 
 /// `--image OUT`.
@@ -131,8 +148,8 @@ fn version_option<'a>(alloc: Global) -> Arg<'a>
 }
 
 /// `atalk play FILE`, with `--image OUT` and `--v2`.
-fn play_command<'a>(alloc: Global) -> Result<Command<'a>, AllocError>
-    ensures app { IfOk result (λ command. app_of command ≡ play_app) }
+fn tables_play_command<'a>(alloc: Global) -> Result<Command<'a>, AllocError>
+    ensures app { IfOk result (λ command. app_of command ≡ tables_play_app) }
     ensures local { IfOk result (λ command. (fields_of command).has_globals ≡ false) }
 {
     Command::new(alloc, "play")
@@ -141,6 +158,14 @@ fn play_command<'a>(alloc: Global) -> Result<Command<'a>, AllocError>
         .arg(operand(alloc, "FILE", INTERNET))?
         .arg(image_option(alloc))?
         .arg(version_option(alloc))
+}
+
+/// `atalk play FILE`, with `--image OUT`, `--v2` and `--capture OUT`.
+fn play_command<'a>(alloc: Global) -> Result<Command<'a>, AllocError>
+    ensures app { IfOk result (λ command. app_of command ≡ play_app) }
+    ensures local { IfOk result (λ command. (fields_of command).has_globals ≡ false) }
+{
+    tables_play_command(alloc)?.arg(capture_option(alloc))
 }
 
 /// `atalk make FILE`, with `--image OUT`.

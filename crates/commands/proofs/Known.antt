@@ -1,12 +1,19 @@
 -- Facts about input that was read to its end.
-use Rattle.std.proofs.Common.{◌≡◌, ◌≢◌, ◌⊎◌, ℕ, List, Option, Some, None, Result, Ok, Err, IfErr, IfOk, IfSome, OnOk, ap, inl, inr, subst, sym, ◌∙◌}
+use Rattle.std.proofs.Common.{◌≡◌, ◌≢◌, ◌⊎◌, ◌++◌, ℕ, Bool, List, Option, Some, None, Result, Ok, Err, IfErr, IfOk, IfSome, IsOkUnless, OnOk, ap, inl, inr, subst, sym, ◌∙◌}
 use Rattle.std.specs.Prelude.{IsErrAnd}
+use Rattle.std.specs.Io.KnownBytes.{Appends}
+use Rattle.at_base.specs.Spelling.{Spells}
 use Rattle.at_base.specs.declared.error.Error.{Error}
 use Rattle.at_base.specs.declared.error.Error.TheVariants.{BadScript, Full, Memory, ReadFault, WriteFault}
 use Rattle.internet_file.specs.Files.{IsFile, IsFileRefused, Planned}
+use Rattle.playing.specs.Captured.{world_capture}
+use Rattle.playing.specs.Plays.{IsPlay}
 use Rattle.script.specs.Scripts.{IsBadAt, IsScript}
 use Rattle.script.specs.declared.step.Step.{Step}
+use Rattle.table_image.specs.Internet.{Internet}
 use Rattle.table_image.specs.Reading.{RefusesFirst}
+use Rattle.table_image.specs.Spelling.{image_spelling}
+use Rattle.table_image.specs.declared.version.Version.{Version}
 use Rattle.tables_file.specs.Files.{AreRefused}
 use Rattle.commands.specs.Streams.{AreTablesRefused, First, IsImageRefused, IsPlayRefused, IsScriptRefused}
 
@@ -111,3 +118,21 @@ play_named e text (inr (file, inr memory)) = inr (inr (inl memory))
 -- What a tables file is refused for.
 pub tables_named : (e : Error) (text : List ℕ) → AreRefused text e → AreTablesRefused e
 tables_named e text refused = inr (inr (text, refused))
+
+-- The error is one that a play of the text may have.
+abbrev pub IsRefused : List ℕ → Error → Type 0
+IsRefused text e =
+    (e ≡ ReadFault) ⊎ IsFileRefused text e
+    ⊎ (((plan : Planned) × IsFile text plan) × ((e ≡ Full) ⊎ (e ≡ Memory) ⊎ (e ≡ WriteFault)))
+
+-- Writing the result of a play has no error but that of a writer.
+pub play_handed : (text : List ℕ) (r : Result Bool Error) → ((plan : Planned) × IsFile text plan) → IsOkUnless r WriteFault
+    → IfErr r (IsRefused text)
+play_handed text (Ok answer) file refused = tt
+play_handed text (Err e) file refused = inr (inr (file, inr (inr refused)))
+
+-- These are the lines, the result and the bytes of the image of a play of the text, and its capture was written.
+abbrev pub CapturedOf : Option Version → List ℕ → List ℕ → Bool → List ℕ → Option (List ℕ) → Option (List ℕ) → List ℕ → Type 0
+CapturedOf version text lines answer bytes before after left =
+    (i : Internet) × (play : IsPlay version text lines answer i) × Spells image_spelling bytes i
+    × Appends before after (left ++ world_capture play.world play.lived)

@@ -4,6 +4,7 @@
 #![tactic(auto)]
 
 mod auditing;
+mod capturing;
 mod handing;
 mod image_input;
 mod input;
@@ -14,6 +15,7 @@ mod sources;
 mod tracing;
 
 pub use auditing::audit_file;
+pub use capturing::{capture_play, capture_run};
 pub use image_input::{read_from, read_image};
 pub use input::{Input, READS, append};
 pub use make_file::make_bytes;

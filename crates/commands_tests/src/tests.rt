@@ -4,6 +4,7 @@
 //! and internet files is compared by the cases of `program_cases`, and what is made of tables files
 //! and printed of images by those of `tables_cases`.
 
+mod capturing;
 mod fakes;
 mod plays;
 mod progress;

@@ -1,2 +1,4 @@
 pub mod EntryLines
 pub mod Growth
+pub mod Told
+pub mod Traced

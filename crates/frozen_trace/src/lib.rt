@@ -2,8 +2,11 @@
 //! adds.
 #![tactic(auto)]
 
+mod capturing;
 mod playing;
 mod printing;
+mod scenery;
 mod trace;
 
+pub use capturing::trace_and_capture;
 pub use trace::trace_script;

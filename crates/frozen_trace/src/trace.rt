@@ -1,7 +1,9 @@
 //! The trace of a script.
 
-ghost use Rattle.std.specs.Prelude.{◌≡◌, ◌++◌, [], List, ℕ, IfOk, OnOk};
+ghost use Rattle.std.specs.Prelude.{◌≡◌, ◌++◌, ◌∷◌, [], List, ℕ, IfOk, OnOk};
 ghost use Rattle.std.specs.Io.KnownBytes.{Appends};
+ghost use Rattle.audit.specs.Verdicts.{verdict_line};
+ghost use Rattle.audit.specs.declared.verdict.Verdict.TheVariants as VerdictValue;
 ghost use Rattle.frozen_trace.specs.Traces.{IsPrinted, PlaysAll, all_printed, pending_line};
 ghost use Rattle.frozen.specs.Runs.{IsFrozen};
 ghost use Rattle.trace_lines.specs.Stations.{addresses_of};
@@ -9,7 +11,7 @@ ghost use Rattle.text.specs.Writing.{Prints};
 
 use crate::playing::play;
 use crate::printing::print_pending;
-use at_base::Error;
+use at_base::{Error, Fault};
 use audit::Verdict;
 use frozen::Frozen;
 use rtmp::RouteTable;
@@ -21,7 +23,7 @@ use text::Output;
 use trace_lines::Lines;
 
 /// The greatest number of entries in a run.
-const LIMIT: u32 = 4_000_000;
+pub(crate) const LIMIT: u32 = 4_000_000;
 
 /// Carries out a script over the frozen tables of an image, and prints its trace: the lines of the
 /// entries that each step adds, `refused N` for each step that has an error, and finally `pending
@@ -67,17 +69,31 @@ fn trace_image<T: RouteTable, W: Write>(
             Ok(true)
         }
         Err(Error::NotAudited(fault)) => {
-            let line = Verdict::No(fault).line(alloc)?;
-            output.flush()?;
-            output.write_line(line.as_bytes())?;
+            print_no(alloc, fault, output)?;
             Ok(false)
         }
         Err(_) => Err(Error::Memory),
     }
 }
 
+/// Prints the line of a no.
+pub(crate) fn print_no<W: Write>(
+    alloc: Global,
+    fault: Fault,
+    output: &mut Output<W>,
+) -> Result<(), Error>
+    ensures printed { OnOk result (Appends (W.contents output.old.writer)
+        (W.contents output.new.writer)
+        (output.old.text.items ++ (verdict_line (VerdictValue.No fault) ++ 10 ∷ []))) }
+    ensures prints { Prints output.old.faults output.new.faults result }
+{
+    let line = Verdict::No(fault).line(alloc)?;
+    output.flush()?;
+    output.write_line(line.as_bytes())
+}
+
 /// Carries out a script over a run, and prints its trace.
-fn trace_run<T: RouteTable, W: Write>(
+pub(crate) fn trace_run<T: RouteTable, W: Write>(
     alloc: Global,
     run: &mut Frozen<T>,
     steps: &[Step],

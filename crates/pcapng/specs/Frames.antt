@@ -4,6 +4,7 @@ use Rattle.std.specs.Prelude.{ℕ, ◌+◌, ◌-◌, true, ◌==◌, List, [], �
 use Rattle.at_base.specs.declared.address.Hw.{Hw}
 use Rattle.at_base.specs.Grammar.{Grammar, done, field, number, run, one, two}
 use Rattle.pcapng.specs.Fields.{Wrong, any, only_bytes, other, size}
+use Rattle.pcapng.specs.declared.frames.TheConstants.{MAX_BYTES}
 use Rattle.station.specs.declared.heard.Kind.{Kind}
 use Rattle.station.specs.declared.heard.Kind.TheVariants.{Aarp, Ddp}
 
@@ -14,9 +15,9 @@ pub record Frame : Type 0 where
   pub kind : Kind
   pub packet : List ℕ
 
--- the most bytes of a packet in a frame: a frame's length is at most 1,500, and counts the headers of 8 bytes
+-- the most bytes of a packet in a frame
 abbrev pub max_bytes : ℕ
-max_bytes = 1492
+max_bytes = MAX_BYTES
 
 -- the test of a frame's length: at least the headers, and at most 1,500
 abbrev pub wrong_length : ℕ → Option Wrong

@@ -11,6 +11,10 @@ use crate::packet::Packet;
 use station::Kind;
 use std::alloc::AllocError;
 
+/// The most bytes of a packet in a frame: a frame's length is at most 1,500, and counts the headers of
+/// 8 bytes.
+pub const MAX_BYTES: usize = 1_492;
+
 /// The length of the addresses, the length and the headers in front of a packet.
 pub(crate) const FRONT: u32 = 22;
 

@@ -9,6 +9,7 @@ mod names;
 mod packet;
 mod printing;
 
+pub use frames::MAX_BYTES;
 pub use laws::{frame_is_read, interface_is_read, packet_is_read, section_is_read};
 pub use packet::{Packet, recall_fits};
 pub use printing::{print_interface, print_packet, print_section};

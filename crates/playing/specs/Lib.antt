@@ -1,3 +1,4 @@
 pub mod Lives
 pub mod Plays
 pub mod Lines
+pub mod Captured

@@ -1,5 +1,5 @@
 -- The history of a world: it starts as its plan says, and its ticks follow one after the other.
-use Rattle.std.specs.Prelude.{◌≡◌, ◌+◌, ◌<◌, true, [], Option, Some, None}
+use Rattle.std.specs.Prelude.{◌≡◌, ℕ, ◌+◌, ◌-◌, ◌<◌, true, List, [], ◌∷◌, ◌++◌, Option, Some, None, length}
 use Rattle.at_base.specs.declared.error.Error.TheVariants.{Full}
 use Rattle.internet_file.specs.Files.{Planned}
 use Rattle.live_cables.specs.Steps.{HasNoRoom}
@@ -20,6 +20,16 @@ pub data Lives : Worldly → Type 0 where
   -- A tick finished with the effect of a tick.
   Passed : (old new : Worldly) → Lives old → new.plan ≡ old.plan → new.now ≡ old.now + 1
       → TicksOn old.plan new.now old.wires new.wires → IsTick old new → Lives new
+
+-- How many entries each tick of a world's history added to the transcript.
+abbrev pub counts : (w : Worldly) → Lives w → List ℕ
+counts w (Begun v begun scheduled early none wires) = []
+counts w (Passed old new lived plan now ticks does) =
+    counts old lived ++ (length new.wires.cabling.lines - length old.wires.cabling.lines) ∷ []
+
+-- The world has a history, whose ticks added so many entries.
+abbrev pub HasLived : Worldly → List ℕ → Type 0
+HasLived w ns = (lived : Lives w) × (ns ≡ counts w lived)
 
 -- A plan for whose play the transcript has no room: the ticks before one of its ticks finished, and that tick was stopped
 -- by Full, with the steps before the one that has no room done. Fewer than 1,285 of the 4,000,000 entries are free then, as

@@ -1,6 +1,7 @@
 //! A play: from the text of an internet file to its printed lines and the image.
 #![tactic(auto)]
 
+mod ending;
 mod judging;
 mod playing;
 mod printing;
@@ -8,9 +9,10 @@ mod progress;
 mod reading;
 mod received;
 mod refused;
+mod ticking;
 
 pub use judging::judge;
-pub use playing::{Played, play_text};
+pub use playing::{Played, play_and_capture, play_text};
 pub use progress::{Progress, Silent};
 pub use received::put_received;
 pub use refused::put_refused;

@@ -33,12 +33,13 @@ fn put_job(text: &mut String, job: Job<'_>) -> Result<(), AllocError> {
             write!(text, "audit")?;
             put_source(text, image)?;
         }
-        Job::Trace(image, script) => {
+        Job::Trace(image, script, capture) => {
             write!(text, "trace")?;
             put_source(text, image)?;
             put_source(text, script)?;
+            put_word(text, "capture to", capture)?;
         }
-        Job::Play(file, to, version) => {
+        Job::Play(file, to, version, capture) => {
             write!(text, "play")?;
             put_source(text, file)?;
             put_word(text, "image to", to)?;
@@ -46,6 +47,7 @@ fn put_job(text: &mut String, job: Job<'_>) -> Result<(), AllocError> {
                 let number = version.number();
                 write!(text, " version {number}")?;
             }
+            put_word(text, "capture to", capture)?;
         }
         Job::Make(file, to) => {
             write!(text, "make")?;

@@ -7,6 +7,7 @@ mod of_at_base;
 mod of_atp;
 mod of_audit;
 mod of_cable_model;
+mod of_captures;
 mod of_ddp;
 mod of_drawing;
 mod of_echo;

@@ -7,6 +7,8 @@ use Rattle.command_line.specs.Arguments.{IsMeant, atalk_app}
 use Rattle.command_line.proofs.CommandLine.{simple, simple_and_free, none_entered, none_taken}
 use Rattle.command_line.proofs.CommandLine.{help_asked, help_short_asked, version_asked, version_short_asked}
 use Rattle.command_line.proofs.CommandLine.{audit_meant, audit_taken, trace_meant, trace_taken}
+use Rattle.command_line.proofs.CaptureLine.{capture_meant, capture_taken, capture_to_meant, capture_to_taken, trace_to_meant}
+use Rattle.command_line.proofs.CaptureLine.{trace_to_taken}
 use Rattle.command_line.proofs.PlayLine.{play_meant, play_taken, play_to_meant, play_to_taken}
 use Rattle.command_line.proofs.TablesLine.{draw_meant, draw_taken, draw_to_meant, draw_to_taken, make_meant, make_taken, make_to_meant}
 use Rattle.command_line.proofs.TablesLine.{make_to_taken, show_meant, show_taken}
@@ -231,4 +233,43 @@ returns-clause-draw_to g c = λ name image net named first second.
     let app = c.in_ok-atalk_command.ensures in
     let met = (c.in_ok-matches.ensures.matches (ap is_simple app ∙ simple)).1 ∙ ap₂ subcommand_of app named in
     draw_to_meant name image net c.job_of.result first second
+    (subst (λ (rows : Option (Text × List Row)). IsMeant rows c.job_of.result) met c.job_of.ensures.meant)
+
+pub returns-in_err-matches-clause-trace_to_err : goal.returns-in_err-matches-clause-trace_to_err
+returns-in_err-matches-clause-trace_to_err g c = λ name image script out named first second third.
+    let memory =
+    c.in_err-matches.ensures.passes (ap₂ takes c.in_ok-atalk_command.ensures named ∙ trace_to_taken name image script out first second third) in
+    search rules
+
+pub returns-clause-trace_to : goal.returns-clause-trace_to
+returns-clause-trace_to g c = λ name image script out named first second third.
+    let app = c.in_ok-atalk_command.ensures in
+    let met = (c.in_ok-matches.ensures.matches (ap is_simple app ∙ simple)).1 ∙ ap₂ subcommand_of app named in
+    trace_to_meant name image script out c.job_of.result first second third
+    (subst (λ (rows : Option (Text × List Row)). IsMeant rows c.job_of.result) met c.job_of.ensures.meant)
+
+pub returns-in_err-matches-clause-capture_err : goal.returns-in_err-matches-clause-capture_err
+returns-in_err-matches-clause-capture_err g c = λ name file capture named first second.
+    let memory =
+    c.in_err-matches.ensures.passes (ap₂ takes c.in_ok-atalk_command.ensures named ∙ capture_taken name file capture first second) in
+    search rules
+
+pub returns-clause-capture : goal.returns-clause-capture
+returns-clause-capture g c = λ name file capture named first second.
+    let app = c.in_ok-atalk_command.ensures in
+    let met = (c.in_ok-matches.ensures.matches (ap is_simple app ∙ simple)).1 ∙ ap₂ subcommand_of app named in
+    capture_meant name file capture c.job_of.result first second
+    (subst (λ (rows : Option (Text × List Row)). IsMeant rows c.job_of.result) met c.job_of.ensures.meant)
+
+pub returns-in_err-matches-clause-capture_to_err : goal.returns-in_err-matches-clause-capture_to_err
+returns-in_err-matches-clause-capture_to_err g c = λ name file out capture named first second third.
+    let memory =
+    c.in_err-matches.ensures.passes (ap₂ takes c.in_ok-atalk_command.ensures named ∙ capture_to_taken name file out capture first second third) in
+    search rules
+
+pub returns-clause-capture_to : goal.returns-clause-capture_to
+returns-clause-capture_to g c = λ name file out capture named first second third.
+    let app = c.in_ok-atalk_command.ensures in
+    let met = (c.in_ok-matches.ensures.matches (ap is_simple app ∙ simple)).1 ∙ ap₂ subcommand_of app named in
+    capture_to_meant name file out capture c.job_of.result first second third
     (subst (λ (rows : Option (Text × List Row)). IsMeant rows c.job_of.result) met c.job_of.ensures.meant)

@@ -1,28 +1,16 @@
-use Rattle.std.proofs.Common.{◌≡◌, ◌⊎◌, List, ℕ, Bool, Result, Ok, Err, IfErr, IsOkUnless, inl, inr}
+use Rattle.std.proofs.Common.{◌≡◌, ◌⊎◌, List, ℕ, Ok, Err, inl, inr}
 use Rattle.std.proofs.lemmas.Result.{IfErr-weaker}
 use Rattle.at_base.specs.declared.error.Error.{Error}
 use Rattle.at_base.specs.declared.error.Error.TheVariants.{Full, Memory, ReadFault, WriteFault}
 use Rattle.internet_file.specs.Files.{IsFile, IsFileRefused, Planned}
 use Rattle.commands.specs.Streams.{IsPlayRefused}
-use Rattle.commands.proofs.Known.{map_some}
+use Rattle.commands.proofs.Known.{IsRefused, map_some, play_handed}
 use Rattle.commands.proofs.play_file.play_bytes.Goals as goal
 
 -- A consequence of either of two facts.
 either : {A B C : Type 0} → A ⊎ B → (A → C) → (B → C) → C
 either (inl a) f g = f a
 either (inr b) f g = g b
-
--- The error is one that a play of the text may have.
-abbrev IsRefused : List ℕ → Error → Type 0
-IsRefused text e =
-    (e ≡ ReadFault) ⊎ IsFileRefused text e
-    ⊎ (((plan : Planned) × IsFile text plan) × ((e ≡ Full) ⊎ (e ≡ Memory) ⊎ (e ≡ WriteFault)))
-
--- Writing the result of a play has no error but that of a writer.
-handed : (text : List ℕ) (r : Result Bool Error) → ((plan : Planned) × IsFile text plan) → IsOkUnless r WriteFault
-    → IfErr r (IsRefused text)
-handed text (Ok answer) file refused = tt
-handed text (Err e) file refused = inr (inr (file, inr (inr refused)))
 
 -- A text whose play has an error isn't written.
 unplayed : (text : List ℕ) (e : Error) → (e ≡ ReadFault) ⊎ IsFileRefused text e
@@ -43,7 +31,7 @@ returns-in-Err-clause-named g c = inl c.in-Err.ensures.named
 pub returns-in-Ok-clause-refused : goal.returns-in-Ok-clause-refused
 returns-in-Ok-clause-refused g c =
     map_some _ _ (g.R.Read.remaining c.args.input.now.reader) c.in-Ok.ensures.played
-    (λ text p. handed text c.hand_over.result (p.1.world.plan, p.1.file) c.hand_over.ensures.hands.refused)
+    (λ text p. play_handed text c.hand_over.result (p.1.world.plan, p.1.file) c.hand_over.ensures.hands.refused)
 
 pub returns-in-Err-clause-refused : goal.returns-in-Err-clause-refused
 returns-in-Err-clause-refused g c =

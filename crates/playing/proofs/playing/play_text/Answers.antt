@@ -1,39 +1,28 @@
-use Rattle.std.proofs.Common.{◌≡◌, ℕ, List, ◌++◌, ◌∷◌, [], ◌∙◌, ap, length, subst, sym, Result, Ok, Err, IfOk}
-use Rattle.internet_file.specs.Files.{IsFile}
-use Rattle.audit.specs.Verdicts.{verdict_line}
-use Rattle.playing.specs.Lines.{refused_lines}
-use Rattle.playing.specs.Plays.{all_received}
+use Rattle.std.proofs.Common.{◌≡◌, ap, inr, Err}
+use Rattle.at_base.specs.declared.error.Error.TheVariants.{Full}
+use Rattle.playing.proofs.Ends.{Ran, both, outgrows, play_of}
 use Rattle.playing.proofs.playing.play_text.Goals as goal
-
--- a list with two more after it, whose first one is known
-joined : (all first known v end : List ℕ) → all ≡ (first ++ v) ++ end → first ≡ known → all ≡ (known ++ v) ++ end
-joined all first known v end e f = e ∙ ap (λ l. (l ++ v) ++ end) f
 
 pub returns-in-Ok-end-clause-played : goal.returns-in-Ok-end-clause-played
 returns-in-Ok-end-clause-played g c =
-    let w = c.in-Ok-play_plan.world in
+    let has = c.in-Ok.ensures in
+    let w = c.in-Ok.lived.world in
+    let ran : Ran c.args.text.now w has.lived.0 = record { file = has.file; keeps = has.keeps; whole = has.whole; going = has.going } in
     both c.judge.result c.judge.ensures.judged c.judge.ensures.spelled
     (λ p judged spelled. (
       c.in-Ok-end.field-0.image,
-      record {
-        world = w;
-        file = subst (IsFile c.args.text.now) (sym c.in-Ok-play_plan.ensures.plan) c.in-Ok.ensures.plan;
-        lived = c.in-Ok-play_plan.ensures.lived;
-        keeps = c.recall_lived.ensures;
-        whole = c.in-Ok-play_plan.ensures.whole;
-        going = c.in-Ok-play_plan.ensures.going;
-        frozen = c.in-Ok-end.ensures.frozen;
-        verdict = judged.0;
-        judged = judged.1;
-        answer = judged.2;
-        printed =
-            joined p.lines.items c.in-Ok-end.field-0.lines.items (refused_lines w.refused ++ all_received w 1 (length w.plan.nodes))
-            (verdict_line judged.0) (10 ∷ []) judged.3 c.in-Ok-end.ensures.lines;
-      },
+      play_of c.args.version c.args.text.now w has.lived.0 c.in-Ok-end.field-0.lines.items p.lines.items p.yes
+          c.in-Ok-end.field-0.image ran c.in-Ok-end.ensures.lines c.in-Ok-end.ensures.frozen judged,
       spelled,
     ))
-  where
-    -- what follows of a result for which two facts hold
-    both : {T E : Type 0} {P Q R : T → Type 0} (r : Result T E) → IfOk r P → IfOk r Q → ((x : T) → P x → Q x → R x) → IfOk r R
-    both (Ok x) p q f = f x p q
-    both (Err e) p q f = tt
+
+pub returns-in-Err-end-clause-refused : goal.returns-in-Err-end-clause-refused
+returns-in-Err-end-clause-refused g c = inr ((c.in-Ok.lived.world.plan, c.in-Ok.ensures.file), c.in-Err-end.ensures.refused)
+
+pub returns-in-Err-end-clause-full : goal.returns-in-Err-end-clause-full
+returns-in-Err-end-clause-full g c = λ is.
+    let has = c.in-Ok.ensures in
+    let w = c.in-Ok.lived.world in
+    let ran : Ran c.args.text.now w has.lived.0 = record { file = has.file; keeps = has.keeps; whole = has.whole; going = has.going } in
+    let error : c.in-Err-end.error ≡ Full = cc is in
+    (w.plan, has.file, inr (outgrows c.args.version c.args.text.now w has.lived.0 ran (c.in-Err-end.ensures.full (ap Err error))))
